@@ -1,0 +1,26 @@
+-- Programs as they are read: each node with the mark of where it stood.
+use Rattle.std.specs.Prelude.{ℕ, List}
+use Rattle.asp_model.specs.Term.{Head, Tree, Trees, node, none, more}
+
+pub record MarkShape : Type 0 where
+  pub at : ℕ
+  pub parentheses : ℕ
+  pub left : ℕ
+  pub names : List ℕ
+
+mutual
+  pub data Marked : Type 0 where
+    marked : (head : Head) (mark : MarkShape) (children : MarkedList) → Marked
+
+  pub data MarkedList : Type 0 where
+    no_marked : MarkedList
+    and_marked : (first : Marked) (others : MarkedList) → MarkedList
+
+abbrev mutual
+  -- the term without its marks
+  pub plain : Marked → Tree
+  plain (marked h m ts) = node h (plain_below ts)
+
+  pub plain_below : MarkedList → Trees
+  plain_below no_marked = none
+  plain_below (and_marked t ts) = more (plain t) (plain_below ts)

@@ -1,0 +1,44 @@
+-- The end of a run as data.
+use Rattle.std.specs.Prelude.{ℕ, Bool, true, false, List, map, cond}
+use Rattle.std.specs.List.{list_any}
+use Rattle.asp_model.specs.Names.{Name}
+use Rattle.asp_model.specs.Contraction.{LineShape}
+use Rattle.asp_model.specs.Configuration.{Configuration, Activity, requests_of}
+use Rattle.asp_model.specs.Plan.{StatusShape, Faulted}
+use Rattle.asp_model.specs.Status.{VerdictShape, End, Blocked, Budget, status_of, verdict_of}
+
+pub record ActivityReportShape : Type 0 where
+  pub name : Name
+  pub count : ℕ
+  pub status : StatusShape
+  pub senders : List Name
+  pub lines : List LineShape
+
+-- the activities in ascending order of names
+pub record OutcomeShape : Type 0 where
+  pub verdict : VerdictShape
+  pub activities : List ActivityReportShape
+
+abbrev pub activity_report : Configuration → Name × Activity → ActivityReportShape
+activity_report c x = record {
+  name = x.0;
+  count = x.1.reductions;
+  status = status_of c x.0;
+  senders = map (λ r. r.sender) (requests_of c x.0);
+  lines = x.1.lines;
+}
+
+abbrev pub outcome_of : Configuration → OutcomeShape
+outcome_of c = record { verdict = verdict_of c; activities = map (activity_report c) c.activities }
+
+abbrev pub is_faulted : StatusShape → Bool
+is_faulted (Faulted fault) = true
+is_faulted s = false
+
+-- the exit status: 0 at an end without faults, 1 at an end with one, 4 where blocked, 5 where the budget ran out
+abbrev pub exit_status : OutcomeShape → ℕ
+exit_status o = elim o.verdict [
+  | End ↦ cond (list_any (λ a. is_faulted a.status) o.activities) 1 0
+  | Blocked ↦ 4
+  | Budget ↦ 5
+]

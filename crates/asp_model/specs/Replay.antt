@@ -1,0 +1,72 @@
+-- Sender lists and counts of a run, and the run of one thread under them.
+use Rattle.std.specs.Prelude.{◌≡◌, ℕ, zero, suc, ◌+◌, nat_lt, true, false, ◌||◌, List, [], ◌∷◌, Option, Some, None, length, map, max}
+use Rattle.std.specs.List.{starts_with}
+use Rattle.std.specs.FinMap.{find, put}
+use Rattle.asp_model.specs.Names.{Name, name_cmp, same_name}
+use Rattle.asp_model.specs.Term.{Tree}
+use Rattle.asp_model.specs.Configuration.{Activity, Configuration, start, requests_of}
+use Rattle.asp_model.specs.Step.{ListsShape, step, names_or_none}
+
+-- for each activity the number of its reductions
+abbrev pub CountsShape : Type 0
+CountsShape = List (Name × ℕ)
+
+abbrev pub lists_of : Configuration → ListsShape
+lists_of c = map (λ x. (x.0, map (λ r. r.sender) (requests_of c x.0))) c.activities
+
+abbrev pub counts_of : Configuration → CountsShape
+counts_of c = map (λ x. (x.0, x.1.reductions)) c.activities
+
+abbrev pub senders_in : ListsShape → Name → List Name
+senders_in lists n = names_or_none (find name_cmp n lists)
+
+abbrev pub zero_or : Option ℕ → ℕ
+zero_or None = 0
+zero_or (Some k) = k
+
+-- an activity without an entry has the count 0
+abbrev pub count_in : CountsShape → Name → ℕ
+count_in counts n = zero_or (find name_cmp n counts)
+
+abbrev pub total : CountsShape → ℕ
+total [] = 0
+total (x ∷ xs) = x.1 + total xs
+
+-- for each name, one of the two lists begins with the other
+abbrev pub AreCompatible : ListsShape → ListsShape → Type 0
+AreCompatible lists others = (n : Name) → (starts_with same_name (senders_in lists n) (senders_in others n) || starts_with same_name (senders_in others n) (senders_in lists n)) ≡ true
+
+abbrev pub longer : List Name → List Name → List Name
+longer ns ms = elim (nat_lt (length ns) (length ms)) [ true ↦ ms | false ↦ ns ]
+
+-- for each name the longer list
+abbrev pub joined_lists : ListsShape → ListsShape → ListsShape
+joined_lists lists [] = lists
+joined_lists lists (x ∷ xs) = joined_lists (put name_cmp x.0 (longer (senders_in lists x.0) x.1) lists) xs
+
+-- for each name the greater count
+abbrev pub joined_counts : CountsShape → CountsShape → CountsShape
+joined_counts counts [] = counts
+joined_counts counts (x ∷ xs) = joined_counts (put name_cmp x.0 (max (count_in counts x.0) x.1) counts) xs
+
+-- a step of the least-named of these activities that is below its count and can step
+abbrev pub least_step : Option ListsShape → (Name → ℕ) → Configuration → List (Name × Activity) → Option Configuration
+least_step lists count c [] = None
+least_step lists count c (x ∷ xs) = elim (nat_lt x.1.reductions (count x.0)) [
+  | false ↦ least_step lists count c xs
+  | true ↦ elim (step lists c x.0) [ None ↦ least_step lists count c xs | Some d ↦ Some d ]
+]
+
+-- at most n such steps, until none qualifies
+abbrev pub steps_from : ℕ → Option ListsShape → (Name → ℕ) → Configuration → Configuration
+steps_from zero lists count c = c
+steps_from (suc n) lists count c = elim (least_step lists count c c.activities) [ None ↦ c | Some d ↦ steps_from n lists count d ]
+
+-- the replay of a program under lists and counts: no step is lazier, since strict operands alone are unpacked
+abbrev pub replay : Tree → ListsShape → CountsShape → Configuration
+replay program lists counts = steps_from (total counts) (Some lists) (count_in counts) (start program)
+
+-- the activities created are those with entries, each list is used up, and each count is reached
+pub record Fits (program : Tree) (lists : ListsShape) (counts : CountsShape) : Type 0 where
+  pub used_up : lists_of (replay program lists counts) ≡ lists
+  pub reached : counts_of (replay program lists counts) ≡ counts

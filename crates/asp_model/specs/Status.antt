@@ -1,0 +1,43 @@
+-- Statuses and the verdict, with futures read by their chase, and without sender lists.
+use Rattle.std.specs.Prelude.{◌≡◌, Bool, true, false, List, map, cond}
+use Rattle.std.specs.List.{list_any}
+use Rattle.asp_model.specs.Names.{Name}
+use Rattle.asp_model.specs.Configuration.{Configuration}
+use Rattle.asp_model.specs.Plan.{StatusShape, Running, Awaits, Plan, Acts, Rests}
+use Rattle.asp_model.specs.Step.{plan_in}
+
+abbrev pub status_of_plan : Plan → StatusShape
+status_of_plan (Acts e) = Running
+status_of_plan (Rests status) = status
+
+abbrev pub status_of : Configuration → Name → StatusShape
+status_of c n = status_of_plan (plan_in c n)
+
+abbrev pub statuses_of : Configuration → List StatusShape
+statuses_of c = map (λ x. status_of c x.0) c.activities
+
+abbrev pub is_running : StatusShape → Bool
+is_running Running = true
+is_running s = false
+
+abbrev pub is_awaiting : StatusShape → Bool
+is_awaiting (Awaits f) = true
+is_awaiting s = false
+
+pub data VerdictShape : Type 0 where
+  -- stuck, and none awaits
+  End : VerdictShape
+  -- stuck, and some await
+  Blocked : VerdictShape
+  -- not stuck
+  Budget : VerdictShape
+
+-- no activity is Running
+abbrev pub IsStuck : Configuration → Type 0
+IsStuck c = list_any is_running (statuses_of c) ≡ false
+
+abbrev pub verdict_among : List StatusShape → VerdictShape
+verdict_among statuses = cond (list_any is_running statuses) Budget (cond (list_any is_awaiting statuses) Blocked End)
+
+abbrev pub verdict_of : Configuration → VerdictShape
+verdict_of c = verdict_among (statuses_of c)

@@ -1,0 +1,13 @@
+//! The plain types of programs, runs and reports. Their definitions, which every theorem of the
+//! workspace cites, stand in specs/.
+#![tactic(auto)]
+
+mod name;
+mod outcome;
+mod term;
+mod word;
+
+pub use name::ActivityName;
+pub use outcome::{ActivityReport, Fault, Line, Outcome, Status, Verdict, exit_number};
+pub use term::{Mark, Place, Program, Sign, Term};
+pub use word::Word;

@@ -1,0 +1,97 @@
+//! What a run leaves, as data.
+
+ghost use Rattle.std.specs.Prelude.{◌≡◌, cond, map};
+ghost use Rattle.std.specs.List.{list_any};
+ghost use Rattle.asp_model.specs.Outcome.{exit_status, is_faulted as is_fault};
+ghost use Rattle.asp_model.specs.Shapes.{activity_shape, outcome_shape, status_shape};
+
+use crate::ActivityName;
+
+/// Why an activity stopped for good.
+#[derive(Clone, Copy, Debug, PartialEq, Eq)]
+pub enum Fault {
+    /// A number was asked for, and another cell stood there.
+    NotNumber,
+    /// The result of an operator lies outside 64 bits.
+    Overflow,
+}
+
+/// What an activity does at the end of a run.
+#[derive(Clone, Copy, Debug, PartialEq, Eq)]
+pub enum Status {
+    /// Its term is a place, and no service is suspended.
+    Done,
+    /// It can step.
+    Running,
+    /// It stands at a fault.
+    Faulted(Fault),
+}
+
+/// How a run ended.
+#[derive(Clone, Copy, Debug, PartialEq, Eq)]
+pub enum Verdict {
+    /// No activity can step, and none awaits a future.
+    End,
+    /// No activity can step, and some await futures.
+    Blocked,
+    /// Some activity can step.
+    Budget,
+}
+
+/// A line of output.
+#[derive(Clone, Copy, Debug, PartialEq, Eq)]
+pub enum Line {
+    Number(i64),
+}
+
+/// One activity at the end of a run.
+#[derive(Debug, Drop)]
+pub struct ActivityReport {
+    pub name: ActivityName,
+    /// Its reductions.
+    pub count: u64,
+    pub status: Status,
+    /// Who sent the requests that it received, in order of arrival.
+    pub senders: Vec<ActivityName>,
+    /// Its output, in order.
+    pub lines: Vec<Line>,
+}
+
+/// A run at its end: the activities in ascending order of names.
+#[derive(Debug, Drop)]
+pub struct Outcome {
+    pub verdict: Verdict,
+    pub activities: Vec<ActivityReport>,
+}
+
+fn is_faulted(status: Status) -> bool
+    ensures { result ≡ is_fault (status_shape status) }
+{
+    matches!(status, Status::Faulted(_))
+}
+
+/// The exit status of a run with this outcome.
+pub fn exit_number(outcome: &Outcome) -> u8
+    ensures status { result ≡ exit_status (outcome_shape outcome.now) }
+{
+    match outcome.verdict {
+        Verdict::Blocked => 4,
+        Verdict::Budget => 5,
+        Verdict::End => end_number(&outcome.activities),
+    }
+}
+
+#[tactic(auto, using(crate::proofs::Lists::list_any_map))]
+fn end_number(activities: &[ActivityReport]) -> u8
+    ensures { result ≡ cond (list_any (λ a. is_fault a.status) (map activity_shape activities.now)) 1 0 }
+{
+    u8::from(any_fault(activities))
+}
+
+fn any_fault(activities: &[ActivityReport]) -> bool
+    ensures { result ≡ list_any (λ a. is_fault (status_shape a.status)) activities.now }
+{
+    activities
+        .iter()
+        .any(|activity| is_faulted(activity.status))
+}

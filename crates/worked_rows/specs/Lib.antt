@@ -1,0 +1,13 @@
+-- in reading order
+pub mod Programs
+pub mod Reports
+pub mod Numbers
+pub mod Objects
+pub mod Services
+pub mod Circles
+pub mod Senders
+pub mod Copies
+pub mod Passing
+pub mod Chases
+pub mod Groups
+pub mod Pairs
