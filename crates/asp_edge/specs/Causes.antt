@@ -1,0 +1,58 @@
+-- What a call of a source or a sink leaves, and why it fails.
+use Rattle.std.specs.Prelude.{◌≡◌, ℕ, ◌+◌, ◌-◌, ◌^◌, ◌<◌, ◌≤◌, min, List, ◌++◌, length, take, Option, Some, None, Result, Ok, Err, Bool, true, false, if◌then◌else◌}
+use Rattle.std.specs.Global.{Vec}
+use Rattle.asp_edge.specs.declared.edge.ReadError.{ReadError}
+use Rattle.asp_edge.specs.declared.edge.ReadError.TheVariants.{Failed, TooLong, Memory}
+
+-- the next number, which stays at the last of 64 bits
+abbrev pub next_number : ℕ → ℕ
+next_number n = min (n + 1) (2 ^ 64 - 1)
+
+-- a count after a call that failed or did not
+abbrev pub counted : Bool → ℕ → ℕ
+counted failed count = if failed then next_number count else count
+
+-- the count rose in the call, or stands at its end
+abbrev pub Rose : ℕ → ℕ → Type 0
+Rose before now = next_number before ≤ now
+
+-- where a source tells its content, the bytes are all of it
+abbrev pub IsContent : Option (List ℕ) → List ℕ → Type 0
+IsContent None bytes = Unit {0}
+IsContent (Some content) bytes = bytes ≡ content
+
+-- too long: more than the most were taken, and the content has these
+abbrev pub IsLonger : Option (List ℕ) → ℕ → ReadError → Type 0
+IsLonger None most (TooLong taken) = most < taken
+IsLonger (Some content) most (TooLong taken) = (most < taken) × (taken ≤ length content)
+IsLonger content most Failed = Unit {0}
+IsLonger content most Memory = Unit {0}
+
+-- what holds if the error is a failure
+abbrev pub FailedOnly : Type 0 → ReadError → Type 0
+FailedOnly P Failed = P
+FailedOnly P (TooLong taken) = Unit {0}
+FailedOnly P Memory = Unit {0}
+
+-- the answer is a failure
+abbrev pub is_failed : Result (Vec ℕ) ReadError → Bool
+is_failed (Err Failed) = true
+is_failed (Err (TooLong taken)) = false
+is_failed (Err Memory) = false
+is_failed (Ok bytes) = false
+
+-- one byte more than the most was taken
+abbrev pub TakesOneMore : ℕ → ReadError → Type 0
+TakesOneMore most (TooLong taken) = taken ≡ most + 1
+TakesOneMore most Failed = Unit {0}
+TakesOneMore most Memory = Unit {0}
+
+-- where a sink tells its bytes, it has all of the piece more
+abbrev pub Appends : Option (List ℕ) → Option (List ℕ) → List ℕ → Type 0
+Appends None new piece = Unit {0}
+Appends (Some old) new piece = new ≡ Some (old ++ piece)
+
+-- where a sink tells its bytes, it has a front part of the piece more
+abbrev pub AppendsFront : Option (List ℕ) → Option (List ℕ) → List ℕ → Type 0
+AppendsFront None new piece = Unit {0}
+AppendsFront (Some old) new piece = (n : ℕ) × (new ≡ Some (old ++ take n piece))

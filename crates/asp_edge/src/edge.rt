@@ -1,0 +1,63 @@
+//! Sources and sinks, by what they tell and by how often they failed. What a source or a sink does
+//! not tell is left open, but each failure has its cause: the count of faults rose in that call.
+
+ghost use Rattle.std.specs.Prelude.{◌≡◌, ℕ, List, Option, Some, IfOk, IfErr, OnOk, OnErr, vec_len, ◌≤◌, ◌<◌};
+ghost use Rattle.asp_edge.specs.Causes.{Rose, IsContent, IsLonger, Appends, AppendsFront, FailedOnly};
+
+use thiserror::Error;
+
+/// Why there are no bytes.
+#[derive(Clone, Copy, Debug, PartialEq, Eq, Error)]
+pub enum ReadError {
+    /// The outside failed, or has no such name.
+    #[error("the source failed")]
+    Failed,
+    /// There are more bytes than were asked for.
+    #[error("the content is too long")]
+    TooLong {
+        /// The number of bytes that were taken until this was known.
+        taken: usize,
+    },
+    /// Want of memory.
+    #[error("no memory")]
+    Memory,
+}
+
+/// A source of named contents.
+pub trait Source {
+    /// The bytes under a name, where the source tells them.
+    ghost content: { Self → List ℕ → Option (List ℕ) };
+
+    /// How often it failed. The count stays at the last number of 64 bits.
+    ghost faults: { Self → ℕ };
+
+    /// All bytes under a name, if there are at most so many.
+    fn read(&mut self, name: &str, most: usize) -> Result<Vec<u8>, ReadError>
+        ensures same { content self.new ≡ content self.old }
+        ensures bytes { IfOk result (λ v. IsContent (content self.old name.now) v.items) }
+        ensures short { IfOk result (λ v. vec_len v ≤ most) }
+        ensures long { IfErr result (IsLonger (content self.old name.now) most) }
+        ensures later { faults self.old ≤ faults self.new }
+        ensures cause { IfErr result (FailedOnly (Rose (faults self.old) (faults self.new))) };
+}
+
+/// The sink took a front part of a piece, and no more.
+#[derive(Clone, Copy, Debug, PartialEq, Eq, Error)]
+#[error("the sink failed")]
+pub struct WriteFailed;
+
+/// A sink of bytes.
+pub trait Sink {
+    /// The bytes taken so far, where the sink tells them.
+    ghost bytes: { Self → Option (List ℕ) };
+
+    /// How often it failed. The count stays at the last number of 64 bits.
+    ghost faults: { Self → ℕ };
+
+    /// Appends the whole piece, or fails after a front part of it.
+    fn write(&mut self, piece: &[u8]) -> Result<(), WriteFailed>
+        ensures all { OnOk result (Appends (bytes self.old) (bytes self.new) piece.now) }
+        ensures front { OnErr result (AppendsFront (bytes self.old) (bytes self.new) piece.now) }
+        ensures later { faults self.old ≤ faults self.new }
+        ensures cause { OnErr result (Rose (faults self.old) (faults self.new)) };
+}
