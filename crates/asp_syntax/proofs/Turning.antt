@@ -1,0 +1,117 @@
+-- Reading, one lexeme on, and what the reader's answer says.
+use Rattle.std.proofs.Common.{◌≡◌, ◌≢◌, ℕ, ◌≤◌, Bool, true, false, Option, Some, None, Result, Ok, Err, refl, ap, sym, subst, ◌∙◌, List, [], if◌then◌else◌}
+use Rattle.std.specs.Prelude.{nat_lt}
+use Rattle.std.proofs.lemmas.Bool.{ltb-false}
+use Rattle.asp_model.specs.declared.term.Term.{Term}
+use Rattle.asp_model.specs.Marked.{Marked}
+use Rattle.asp_model.specs.Shapes.{marked_of}
+use Rattle.asp_syntax.specs.declared.token.Token.{Token}
+use Rattle.asp_syntax.specs.declared.token.Token.TheVariants as tokens
+use Rattle.asp_syntax.specs.declared.token.Cursor.{Cursor}
+use Rattle.asp_syntax.specs.declared.error.SyntaxKind.{SyntaxKind}
+use Rattle.asp_syntax.specs.declared.error.SyntaxKind.TheVariants.{Unexpected, TooDeep}
+use Rattle.asp_syntax.specs.declared.error.SyntaxFault.{SyntaxFault}
+use Rattle.asp_syntax.specs.declared.error.SyntaxError.{SyntaxError}
+use Rattle.asp_syntax.specs.declared.error.SyntaxError.TheVariants as errors
+use Rattle.asp_syntax.specs.declared.levels.Walk as code_walk
+use Rattle.asp_syntax.specs.declared.machine.State as code_state
+use Rattle.asp_syntax.specs.Tokens.{Lexeme, Between, lexemes_of}
+use Rattle.asp_syntax.specs.Levels.{WalkShape, walked}
+use Rattle.asp_syntax.specs.Faults.{FirstFault}
+use Rattle.asp_syntax.specs.Correct.{IsProgramText, IfFault, IsOkWith}
+use Rattle.asp_syntax.specs.Cursors.{goes_on, from, lexeme_of, lexemes}
+use Rattle.asp_syntax.specs.Machine.{ModeShape, OpenShape, StateShape, At, Done, step}
+use Rattle.asp_syntax.specs.Read.{judged, bad, verdict, fault_at, onto, read, read_all}
+use Rattle.asp_syntax.specs.Shapes.{GoesOn, Turns, Reads}
+use Rattle.asp_syntax.proofs.Endings.{text_ends}
+use Rattle.asp_syntax.proofs.First.{Answer, answers, comes_on}
+use Rattle.asp_syntax.proofs.Only.{only, low_read}
+
+pub judged_none : (y : Option StateShape) (d : Bool) → y ≡ None → judged y d ≡ Some Unexpected
+judged_none y d e = rw e refl
+
+pub judged_deep : (x : StateShape) (y : Option StateShape) (d : Bool) → y ≡ Some x → d ≡ true → judged y d ≡ Some TooDeep
+judged_deep x y d f e = rw (f, e) refl
+
+pub judged_low : (x : StateShape) (y : Option StateShape) (d : Bool) → y ≡ Some x → d ≡ false → judged y d ≡ None
+judged_low x y d f e = rw (f, e) refl
+
+pub judged_shallow : (y : Option StateShape) (n : ℕ) → judged y (nat_lt 200 n) ≡ None → n ≤ 200
+judged_shallow y n e = ltb-false 200 n (shut y (nat_lt 200 n) e) where
+  shut : (y : Option StateShape) (d : Bool) → judged y d ≡ None → d ≡ false
+  shut None d e = absurd cc
+  shut (Some y) true e = absurd cc
+  shut (Some y) false e = refl
+
+bad_not : (t : Token) (v : Option SyntaxKind) → t ≢ tokens.BadByte → t ≢ tokens.BadNumber → t ≢ tokens.NotBuilt → bad t v ≡ v
+bad_not tokens.BadByte v f g h = absurd (f refl)
+bad_not tokens.BadNumber v f g h = absurd (g refl)
+bad_not tokens.NotBuilt v f g h = absurd (h refl)
+bad_not _ v f g h = refl
+
+pub built_turns : (r : Result (code_state.State × code_walk.Walk) SyntaxError) (x : StateShape) (w : WalkShape) (l : Lexeme)
+    → l.token ≢ tokens.BadByte → l.token ≢ tokens.BadNumber → l.token ≢ tokens.NotBuilt → GoesOn r x w l → Turns r x w l
+built_turns (Ok y) x w l f g h (a, b, c) = (bad_not l.token (judged (step x l) (nat_lt 200 (walked w l.token).level)) f g h ∙ a, b, c)
+built_turns (Err (errors.Fault e)) x w l f g h (a, b) = (bad_not l.token (judged (step x l) (nat_lt 200 (walked w l.token).level)) f g h ∙ a, b)
+built_turns (Err errors.Memory) x w l f g h u = tt
+
+pub bad_turns : (t u : Token) (v : Option SyntaxKind) (k : SyntaxKind) → t ≡ u → bad u v ≡ Some k → bad t v ≡ Some k
+bad_turns t u v k e h = rw e h
+
+module _ (bytes : List ℕ) (here : Cursor) (after : ℕ) (x : StateShape) (w : WalkShape) (next : lexemes bytes here ≡ from Between bytes after) where
+  abbrev behind : List Lexeme
+  behind = if goes_on here.token then from Between bytes here.after else []
+
+  first : read x w (from Between bytes after) ≡ onto here.at (verdict x w (lexeme_of here)) (step x (lexeme_of here)) (λ y. read y (walked w here.token) behind)
+  first = ap (read x w) (sym next)
+
+  pub read_fault : (kind : SyntaxKind) → verdict x w (lexeme_of here) ≡ Some kind → read x w (from Between bytes after) ≡ Err (fault_at here.at kind)
+  read_fault kind e = first ∙ ap (λ (v : Option SyntaxKind). onto here.at v (step x (lexeme_of here)) (λ y. read y (walked w here.token) behind)) e
+
+  pub read_done : (t : Marked) → verdict x w (lexeme_of here) ≡ None → step x (lexeme_of here) ≡ Some (Done t) → read x w (from Between bytes after) ≡ Ok t
+  read_done t e f =
+      first ∙ ap (λ (v : Option SyntaxKind). onto here.at v (step x (lexeme_of here)) (λ y. read y (walked w here.token) behind)) e
+      ∙ ap (λ (z : Option StateShape). onto here.at None z (λ y. read y (walked w here.token) behind)) f
+
+  pub read_on : (m : ModeShape) (s : OpenShape) (o : List OpenShape) → verdict x w (lexeme_of here) ≡ None → step x (lexeme_of here) ≡ Some (At m s o)
+      → read x w (from Between bytes after) ≡ read (At m s o) (walked w here.token) (from Between bytes here.after)
+  read_on m s o e f =
+      first ∙ ap (λ (v : Option SyntaxKind). onto here.at v (step x (lexeme_of here)) (λ y. read y (walked w here.token) behind)) e
+      ∙ ap (λ (z : Option StateShape). onto here.at None z (λ y. read y (walked w here.token) behind)) f
+      ∙ ap (λ (b : Bool). read (At m s o) (walked w here.token) (if b then from Between bytes here.after else [])) (comes_on x w (lexeme_of here) m s o e f)
+
+-- what was read is the program of the text
+pub is_program : (bytes : List ℕ) (t : Marked) → read_all (lexemes_of bytes) ≡ Ok t → IsProgramText bytes t
+is_program bytes t e =
+    let P : Result Marked SyntaxFault → Type 0 = λ r. Answer (lexemes_of bytes) r in
+    record { is = subst P e (answers (lexemes_of bytes) (text_ends bytes)); low = low_read (lexemes_of bytes) t (text_ends bytes) e }
+
+pub is_first : (bytes : List ℕ) (f : SyntaxFault) → read_all (lexemes_of bytes) ≡ Err f → FirstFault (lexemes_of bytes) f
+is_first bytes f e = let P : Result Marked SyntaxFault → Type 0 = λ r. Answer (lexemes_of bytes) r in subst P e (answers (lexemes_of bytes) (text_ends bytes))
+
+pub is_only : (bytes : List ℕ) (t : Marked) → IsProgramText bytes t → read_all (lexemes_of bytes) ≡ Ok t
+is_only bytes t p = only (lexemes_of bytes) t (text_ends bytes) p.is p.low
+
+-- what the answer of the inner reader says of the outer one's
+pub ok_program : (r : Result Term SyntaxError) (bytes : List ℕ) (t : Term) → r ≡ Ok t → Reads r (read_all (lexemes_of bytes)) → IsProgramText bytes (marked_of t)
+ok_program r bytes t e h = is_program bytes (marked_of t) (subst (λ x. Reads x (read_all (lexemes_of bytes))) e h)
+
+pub ok_only : (r : Result Term SyntaxError) (bytes : List ℕ) (t : Term) (m : Marked) → r ≡ Ok t → Reads r (read_all (lexemes_of bytes)) → IsProgramText bytes m → marked_of t ≡ m
+ok_only r bytes t m e h p =
+    let f : read_all (lexemes_of bytes) ≡ Ok (marked_of t) = subst (λ x. Reads x (read_all (lexemes_of bytes))) e h in
+    let g : read_all (lexemes_of bytes) ≡ Ok m = is_only bytes m p in
+    cc
+
+err_fault : (e : SyntaxError) (bytes : List ℕ) → Reads (Err e) (read_all (lexemes_of bytes)) → IfFault (Err e) (λ f. FirstFault (lexemes_of bytes) f)
+err_fault (errors.Fault f) bytes h = is_first bytes f h
+err_fault errors.Memory bytes h = tt
+
+pub err_first : (r : Result Term SyntaxError) (bytes : List ℕ) (e : SyntaxError) → r ≡ Err e → Reads r (read_all (lexemes_of bytes)) → IfFault (Err e) (λ f. FirstFault (lexemes_of bytes) f)
+err_first r bytes e i h = err_fault e bytes (subst (λ x. Reads x (read_all (lexemes_of bytes))) i h)
+
+never_fault : (e : SyntaxError) (bytes : List ℕ) (m : Marked) → Reads (Err e) (read_all (lexemes_of bytes)) → IsProgramText bytes m → IsOkWith (Err e) m
+never_fault (errors.Fault f) bytes m h p = let g : read_all (lexemes_of bytes) ≡ Ok m = is_only bytes m p in absurd cc
+never_fault errors.Memory bytes m h p = tt
+
+pub err_only : (r : Result Term SyntaxError) (bytes : List ℕ) (e : SyntaxError) (m : Marked) → r ≡ Err e → Reads r (read_all (lexemes_of bytes)) → IsProgramText bytes m → IsOkWith (Err e) m
+err_only r bytes e m i h p = never_fault e bytes m (subst (λ x. Reads x (read_all (lexemes_of bytes))) i h) p

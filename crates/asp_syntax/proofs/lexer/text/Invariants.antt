@@ -1,0 +1,14 @@
+use Rattle.std.proofs.Common.{◌≡◌, ◌-◌, ◌<◌, ◌≤◌, length}
+use Rattle.asp_syntax.specs.Tokens.{Between, InText}
+use Rattle.asp_syntax.specs.Cursors.{from}
+use Rattle.asp_syntax.proofs.lexer.text.Given as goal
+
+abbrev pub invariant-loop-i : goal.invariant-loop-i
+invariant-loop-i l = record {
+  same : from (InText l.start) l.bytes l.i ≡ from Between l.bytes l.start;
+  onward : l.start < l.i;
+  within : l.i ≤ length l.bytes;
+}
+
+abbrev pub decreases-loop-i : goal.decreases-loop-i
+decreases-loop-i l = length l.bytes - l.i

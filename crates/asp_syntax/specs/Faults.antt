@@ -1,0 +1,42 @@
+-- The faults of a text, apart from how it is read.
+use Rattle.std.specs.Prelude.{◌≡◌, ◌≢◌, ℕ, ◌≤◌, ◌<◌, List, [], ◌∷◌, ◌++◌}
+use Rattle.asp_syntax.specs.declared.token.Token.TheVariants as tokens
+use Rattle.asp_syntax.specs.declared.error.SyntaxKind.{SyntaxKind}
+use Rattle.asp_syntax.specs.declared.error.SyntaxKind.TheVariants.{BadByte, BadNumber, Unexpected, TooDeep, NotYet}
+use Rattle.asp_syntax.specs.declared.error.SyntaxFault.{SyntaxFault}
+use Rattle.asp_syntax.specs.Tokens.{Lexeme}
+use Rattle.asp_syntax.specs.Grammar.{Begins}
+use Rattle.asp_syntax.specs.Levels.{level_after}
+
+-- of two faults at one place that with the lesser number is answered
+abbrev pub number_of : SyntaxKind → ℕ
+number_of BadByte = 1
+number_of BadNumber = 2
+number_of Unexpected = 3
+number_of TooDeep = 4
+number_of NotYet = 6
+
+-- a fault of a kind stands at a lexeme, behind others
+abbrev pub IsFault : SyntaxKind → List Lexeme → Lexeme → Type 0
+IsFault BadByte before here = here.token ≡ tokens.BadByte
+IsFault BadNumber before here = here.token ≡ tokens.BadNumber
+IsFault Unexpected before here = (here.token ≢ tokens.NotBuilt) × Begins before × (Begins (before ++ here ∷ []) → ⊥)
+IsFault TooDeep before here = (level_after before < level_after (before ++ here ∷ [])) × (200 < level_after (before ++ here ∷ []))
+IsFault NotYet before here = here.token ≡ tokens.NotBuilt
+
+-- no fault stands at any of the lexemes
+pub data Clean : List Lexeme → Type 0 where
+  nowhere : Clean []
+  nor_here : (before : List Lexeme) (here : Lexeme) → Clean before → ((kind : SyntaxKind) → IsFault kind before here → ⊥)
+      → Clean (before ++ here ∷ [])
+
+-- the fault at the first lexeme that has one, and of several there that with the least number
+pub record FirstFault (ls : List Lexeme) (f : SyntaxFault) : Type 0 where
+  pub before : List Lexeme
+  pub here : Lexeme
+  pub behind : List Lexeme
+  pub whole : ls ≡ before ++ here ∷ behind
+  pub clean : Clean before
+  pub place : f.at ≡ here.at
+  pub is : IsFault f.kind before here
+  pub least : (kind : SyntaxKind) → IsFault kind before here → number_of f.kind ≤ number_of kind

@@ -1,0 +1,43 @@
+-- Reading a list of lexemes, up to the first fault.
+use Rattle.std.specs.Prelude.{ℕ, nat_lt, Bool, true, false, List, [], ◌∷◌, Option, Some, None, Result, Ok, Err}
+use Rattle.asp_model.specs.Marked.{Marked}
+use Rattle.asp_syntax.specs.declared.token.Token.{Token}
+use Rattle.asp_syntax.specs.declared.token.Token.TheVariants as tokens
+use Rattle.asp_syntax.specs.declared.error.SyntaxKind.{SyntaxKind}
+use Rattle.asp_syntax.specs.declared.error.SyntaxKind.TheVariants.{BadByte, BadNumber, Unexpected, TooDeep, NotYet}
+use Rattle.asp_syntax.specs.declared.error.SyntaxFault.{SyntaxFault}
+use Rattle.asp_syntax.specs.Tokens.{Lexeme}
+use Rattle.asp_syntax.specs.Machine.{StateShape, At, Done, step, start}
+use Rattle.asp_syntax.specs.Levels.{WalkShape, walked, flat}
+
+-- of a token that is built, from what it leaves and whether it is too deep
+abbrev pub judged : Option StateShape → Bool → Option SyntaxKind
+judged None deep = Some Unexpected
+judged (Some y) true = Some TooDeep
+judged (Some y) false = None
+
+abbrev pub bad : Token → Option SyntaxKind → Option SyntaxKind
+bad tokens.BadByte v = Some BadByte
+bad tokens.BadNumber v = Some BadNumber
+bad tokens.NotBuilt v = Some NotYet
+bad t v = v
+
+-- the fault at a lexeme, in a state
+abbrev pub verdict : StateShape → WalkShape → Lexeme → Option SyntaxKind
+verdict x w l = bad l.token (judged (step x l) (nat_lt 200 (walked w l.token).level))
+
+abbrev pub fault_at : ℕ → SyntaxKind → SyntaxFault
+fault_at at kind = record { at = at; kind = kind }
+
+abbrev pub onto : ℕ → Option SyntaxKind → Option StateShape → (StateShape → Result Marked SyntaxFault) → Result Marked SyntaxFault
+onto at (Some kind) z go = Err (fault_at at kind)
+onto at None None go = Err (fault_at at Unexpected)
+onto at None (Some (Done t)) go = Ok t
+onto at None (Some (At m s outer)) go = go (At m s outer)
+
+abbrev pub read : StateShape → WalkShape → List Lexeme → Result Marked SyntaxFault
+read x w [] = Err (fault_at 0 Unexpected)
+read x w (l ∷ ls) = onto l.at (verdict x w l) (step x l) (λ y. read y (walked w l.token) ls)
+
+abbrev pub read_all : List Lexeme → Result Marked SyntaxFault
+read_all ls = read start flat ls
