@@ -1,0 +1,55 @@
+-- What a sink has taken after several pieces.
+use Rattle.std.proofs.Common.{◌≡◌, ℕ, zero, suc, ◌+◌, ◌<◌, List, [], ◌∷◌, ◌++◌, map, length, take, drop, get_or, Option, Some, None, refl, sym, ap, subst, ◌∙◌, append_assoc, arith}
+use Rattle.std.proofs.lemmas.List.{map-append, take_more, append-nil}
+use Rattle.std.specs.List.{concat}
+use Rattle.asp_edge.specs.Causes.{Appends, AppendsFront}
+
+pub appends_then : (a b c : Option (List ℕ)) (x y : List ℕ) → Appends a b x → Appends b c y → Appends a c (x ++ y)
+appends_then None b c x y h g = tt
+appends_then (Some o) b c x y h g = let P : Option (List ℕ) → Type 0 = λ d. Appends d c y in subst P h g ∙ ap Some (append_assoc o x y)
+
+concat_snoc : (xs : List (List ℕ)) (y : List ℕ) → concat (xs ++ y ∷ []) ≡ concat xs ++ y
+concat_snoc [] y = append-nil y
+concat_snoc (x ∷ xs) y = ap (λ (t : List ℕ). x ++ t) (concat_snoc xs y) ∙ sym (append_assoc x (concat xs) y)
+
+-- one more piece
+pub concat_more : {X : Type 0} (f : X → List ℕ) (xs : List X) (i : ℕ) (x : X) → i < length xs → x ≡ get_or xs i x → concat (map f (take (i + 1) xs)) ≡ concat (map f (take i xs)) ++ f x
+concat_more {X = X} f xs i x h e =
+    ap (λ (l : List X). concat (map f l)) (take_more xs i x h) ∙ ap concat (map-append f (take i xs) (get_or xs i x ∷ [])) ∙ concat_snoc (map f (take i xs)) (f (get_or xs i x))
+    ∙ ap (λ (y : X). concat (map f (take i xs)) ++ f y) (sym e)
+
+-- the whole text, from before a piece on
+concat_at : {X : Type 0} (f : X → List ℕ) (xs : List X) (i : ℕ) (x : X) → i < length xs → x ≡ get_or xs i x → concat (map f xs) ≡ concat (map f (take i xs)) ++ (f x ++ concat (map f (drop (suc i) xs)))
+concat_at f [] i x h e = absurd (omega arith)
+concat_at f (y ∷ xs) zero x h e = ap (λ z. f z ++ concat (map f xs)) (sym e)
+concat_at f (y ∷ xs) (suc i) x h e =
+    let within : i < length xs = omega arith in
+    ap (λ (l : List ℕ). f y ++ l) (concat_at f xs i x within e) ∙ sym (append_assoc (f y) (concat (map f (take i xs))) (f x ++ concat (map f (drop (suc i) xs))))
+
+take_front : (p q : List ℕ) → take (length p) (p ++ q) ≡ p
+take_front [] q = refl
+take_front (x ∷ p) q = ap (λ (l : List ℕ). x ∷ l) (take_front p q)
+
+parts : (n : ℕ) (y : List ℕ) → take n y ++ drop n y ≡ y
+parts zero y = refl
+parts (suc n) [] = refl
+parts (suc n) (x ∷ y) = ap (λ (l : List ℕ). x ∷ l) (parts n y)
+
+-- a front part of the middle is one of the whole
+front_of : (x y z : List ℕ) (n : ℕ) → take (length (x ++ take n y)) (x ++ (y ++ z)) ≡ x ++ take n y
+front_of x y z n =
+    let whole : x ++ (y ++ z) ≡ (x ++ take n y) ++ (drop n y ++ z) =
+    ap (λ (l : List ℕ). x ++ (l ++ z)) (sym (parts n y)) ∙ ap (λ (l : List ℕ). x ++ l) (append_assoc (take n y) (drop n y) z) ∙ sym (append_assoc x (take n y) (drop n y ++ z)) in
+    ap (take (length (x ++ take n y))) whole ∙ take_front (x ++ take n y) (drop n y ++ z)
+
+front_then : (a b c : Option (List ℕ)) (x y z : List ℕ) → Appends a b x → AppendsFront b c y → AppendsFront a c (x ++ (y ++ z))
+front_then None b c x y z h g = tt
+front_then (Some o) b c x y z h g =
+    let P : Option (List ℕ) → Type 0 = λ d. AppendsFront d c y in
+    let k : (n : ℕ) × (c ≡ Some ((o ++ x) ++ take n y)) = subst P h g in
+    (length (x ++ take k.0 y), k.1 ∙ ap Some (append_assoc o x (take k.0 y) ∙ ap (λ (l : List ℕ). o ++ l) (sym (front_of x y z k.0))))
+
+-- a sink that failed in a piece has taken a front part of the whole
+pub fails_in : {X : Type 0} (f : X → List ℕ) (xs : List X) (i : ℕ) (x : X) (a b c : Option (List ℕ)) → i < length xs → x ≡ get_or xs i x → Appends a b (concat (map f (take i xs))) → AppendsFront b c (f x) → AppendsFront a c (concat (map f xs))
+fails_in f xs i x a b c h e told front =
+    subst (AppendsFront a c) (sym (concat_at f xs i x h e)) (front_then a b c (concat (map f (take i xs))) (f x) (concat (map f (drop (suc i) xs))) told front)

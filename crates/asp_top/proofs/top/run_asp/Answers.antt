@@ -1,0 +1,20 @@
+use Rattle.std.proofs.Common.{map}
+use Rattle.std.specs.Prelude.{string_bytes}
+use Rattle.asp_top.specs.Seen.{inputs, sight}
+use Rattle.asp_top.proofs.EndsLemmas.{completes, refuses_words, refuses_file}
+use Rattle.asp_top.proofs.top.run_asp.Goals as goal
+
+pub returns-clause-usage : goal.returns-clause-usage
+returns-clause-usage g c =
+    refuses_words (inputs (map string_bytes c.args.words.now) g.S.Source.content g.S.Source.faults c.args.source.now c.run_words.new.source)
+    (sight g.O.Sink.bytes g.O.Sink.faults c.args.out.now c.run_words.new.out) (sight g.E.Sink.bytes g.E.Sink.faults c.args.err.now c.run_words.new.err) c.run_words.result c.run_words.ensures
+
+pub returns-clause-unfit : goal.returns-clause-unfit
+returns-clause-unfit g c =
+    refuses_file (inputs (map string_bytes c.args.words.now) g.S.Source.content g.S.Source.faults c.args.source.now c.run_words.new.source)
+    (sight g.O.Sink.bytes g.O.Sink.faults c.args.out.now c.run_words.new.out) (sight g.E.Sink.bytes g.E.Sink.faults c.args.err.now c.run_words.new.err) c.run_words.result c.run_words.ensures
+
+pub returns-clause-complete : goal.returns-clause-complete
+returns-clause-complete g c =
+    completes (inputs (map string_bytes c.args.words.now) g.S.Source.content g.S.Source.faults c.args.source.now c.run_words.new.source)
+    (sight g.O.Sink.bytes g.O.Sink.faults c.args.out.now c.run_words.new.out) (sight g.E.Sink.bytes g.E.Sink.faults c.args.err.now c.run_words.new.err) c.run_words.result c.run_words.ensures

@@ -1,0 +1,24 @@
+use Rattle.std.proofs.Common.{sym, subst, inl}
+use Rattle.std.specs.Prelude.{string_bytes}
+use Rattle.asp_top.specs.declared.prepare.Stop.{Stop}
+use Rattle.asp_top.specs.Seen.{sight, Unread, NoProgram}
+use Rattle.asp_top.specs.Stops.{ToldOf}
+use Rattle.asp_top.proofs.StopLemmas.{made_told}
+use Rattle.asp_top.proofs.writing.refuse.Goals as goal
+
+pub returns-in-Unread : goal.returns-in-Unread
+returns-in-Unread g c =
+    let s = sight g.E.Sink.bytes g.E.Sink.faults c.args.err.now c.tell_made.new.err in
+    subst (λ (stop : Stop). ToldOf c.args.name.now stop s c.tell_made.result) (sym c.in-Unread.is)
+    (made_told string_bytes (Unread c.args.name.now) c.unread_message.result s c.tell_made.result c.unread_message.ensures c.tell_made.ensures.made c.tell_made.ensures.no_memory)
+
+pub returns-in-Long : goal.returns-in-Long
+returns-in-Long g c =
+    let s = sight g.E.Sink.bytes g.E.Sink.faults c.args.err.now c.tell.new.err in
+    subst (λ (stop : Stop). ToldOf c.args.name.now stop s c.tell.result) (sym c.in-Long.is) (inl c.tell.ensures)
+
+pub returns-in-Syntax : goal.returns-in-Syntax
+returns-in-Syntax g c =
+    let s = sight g.E.Sink.bytes g.E.Sink.faults c.args.err.now c.tell_made-in-Syntax.new.err in
+    subst (λ (stop : Stop). ToldOf c.args.name.now stop s c.tell_made-in-Syntax.result) (sym c.in-Syntax.is)
+    (made_told string_bytes (NoProgram c.in-Syntax.fault) c.syntax_message.result s c.tell_made-in-Syntax.result c.syntax_message.ensures c.tell_made-in-Syntax.ensures.made c.tell_made-in-Syntax.ensures.no_memory)

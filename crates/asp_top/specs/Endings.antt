@@ -1,0 +1,33 @@
+-- How a call ends, case by case: read `Ends` first.
+use Rattle.std.specs.Prelude.{◌≡◌, ◌⊎◌, ℕ, List, Some, None}
+use Rattle.asp_model.specs.Marked.{Marked}
+use Rattle.asp_model.specs.Outcome.{OutcomeShape, exit_status}
+use Rattle.asp_model.specs.Report.{report_of}
+use Rattle.asp_syntax.specs.declared.error.SyntaxFault.{SyntaxFault}
+use Rattle.asp_syntax.specs.Tokens.{lexemes_of}
+use Rattle.asp_syntax.specs.Faults.{FirstFault}
+use Rattle.asp_syntax.specs.Correct.{IsProgramText}
+use Rattle.asp_top.specs.Seen.{Inputs, Sight, Rises, IsUntouched, Takes, TakesFront, file_of, IsLong, Refusal, Usage, Unread, TooLong, NoProgram, NoMemory, status_of_refusal, message_of, write_message}
+use Rattle.asp_top.specs.Correct.{IsRead, IsRun}
+
+-- the bytes of the file are no program, and this is their first fault
+pub record IsFaulty (i : Inputs) (fault : SyntaxFault) : Type 0 where
+  pub bytes : List ℕ
+  pub read : IsRead i bytes
+  pub first : FirstFault (lexemes_of bytes) fault
+  pub none : (program : Marked) → IsProgramText bytes program → ⊥
+
+-- the cause of a refusal
+abbrev pub Holds : Inputs → Refusal → Type 0
+Holds i Usage = file_of i.words ≡ None
+Holds i (Unread name) = (file_of i.words ≡ Some name) × Rises i.faults
+Holds i (TooLong name) = (file_of i.words ≡ Some name) × IsLong (i.content name)
+Holds i (NoProgram fault) = IsFaulty i fault
+Holds i NoMemory = Unit {0}
+
+-- how the call ends: the status, and what `out` and `err` took
+pub data Ends (i : Inputs) (out err : Sight) (status : ℕ) : Type 0 where
+  Reported : (o : OutcomeShape) → IsRun i o → Takes out (report_of o) → IsUntouched err → status ≡ exit_status o → Ends i out err status
+  Refused : (r : Refusal) → Holds i r → IsUntouched out → Takes err (message_of r) → status ≡ status_of_refusal r → Ends i out err status
+  Unheard : (r : Refusal) → Holds i r → IsUntouched out → TakesFront err (message_of r) → status ≡ 7 → Ends i out err status
+  Unwritten : (o : OutcomeShape) → IsRun i o → TakesFront out (report_of o) → Takes err write_message ⊎ TakesFront err write_message → status ≡ 7 → Ends i out err status

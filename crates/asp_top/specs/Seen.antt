@@ -1,0 +1,92 @@
+-- What a call sees of the outside, and the messages that it writes.
+use Rattle.std.specs.Prelude.{◌≡◌, ℕ, ◌<◌, ◌^◌, ◌==◌, Bool, false, List, [], ◌∷◌, ◌++◌, length, Option, Some, None, codes, if◌then◌else◌}
+use Rattle.std.specs.Fmt.{decimal}
+use Rattle.asp_model.specs.Report.{with_feed}
+use Rattle.asp_syntax.specs.declared.error.SyntaxKind.{SyntaxKind}
+use Rattle.asp_syntax.specs.declared.error.SyntaxKind.TheVariants.{BadByte, BadNumber, Unexpected, TooDeep, NotYet}
+use Rattle.asp_syntax.specs.declared.error.SyntaxFault.{SyntaxFault}
+use Rattle.asp_edge.specs.Causes.{Rose, Appends, AppendsFront}
+
+-- a count of faults, before the call and behind it
+pub record Counted : Type 0 where
+  pub before : ℕ
+  pub now : ℕ
+
+abbrev pub Rises : Counted → Type 0
+Rises c = Rose c.before c.now
+
+-- the words, and what the source tells
+pub record Inputs : Type 0 where
+  pub words : List (List ℕ)
+  pub content : List ℕ → Option (List ℕ)
+  pub faults : Counted
+
+abbrev pub inputs : {S : Type 0} → List (List ℕ) → (S → List ℕ → Option (List ℕ)) → (S → ℕ) → S → S → Inputs
+inputs words content faults old new = record { words = words; content = content old; faults = record { before = faults old; now = faults new } }
+
+-- what a sink tells, before the call and behind it
+pub record Sight : Type 0 where
+  pub before : Option (List ℕ)
+  pub now : Option (List ℕ)
+  pub faults : Counted
+
+abbrev pub sight : {S : Type 0} → (S → Option (List ℕ)) → (S → ℕ) → S → S → Sight
+sight bytes faults old new = record { before = bytes old; now = bytes new; faults = record { before = faults old; now = faults new } }
+
+abbrev pub IsUntouched : Sight → Type 0
+IsUntouched s = (s.now ≡ s.before) × (s.faults.now ≡ s.faults.before)
+
+-- the sink took a text, and no more
+abbrev pub Takes : Sight → List ℕ → Type 0
+Takes s text = Appends s.before s.now text
+
+-- the sink failed, after a front part of a text
+abbrev pub TakesFront : Sight → List ℕ → Type 0
+TakesFront s text = Rises s.faults × AppendsFront s.before s.now text
+
+-- the word begins with `-`
+abbrev pub is_option : List ℕ → Bool
+is_option [] = false
+is_option (b ∷ bs) = b == 45
+
+-- one word alone that is no option
+abbrev pub file_of : List (List ℕ) → Option (List ℕ)
+file_of [] = None
+file_of (w ∷ []) = if is_option w then None else Some w
+file_of (w ∷ v ∷ ws) = None
+
+-- longer than 2^20 bytes, where the content is told
+abbrev pub IsLong : Option (List ℕ) → Type 0
+IsLong None = Unit {0}
+IsLong (Some bytes) = 2 ^ 20 < length bytes
+
+pub data Refusal : Type 0 where
+  Usage : Refusal
+  Unread : (name : List ℕ) → Refusal
+  TooLong : (name : List ℕ) → Refusal
+  NoProgram : (fault : SyntaxFault) → Refusal
+  NoMemory : Refusal
+
+abbrev pub status_of_refusal : Refusal → ℕ
+status_of_refusal Usage = 2
+status_of_refusal (Unread name) = 6
+status_of_refusal (TooLong name) = 3
+status_of_refusal (NoProgram fault) = 3
+status_of_refusal NoMemory = 8
+
+abbrev pub kind_text : SyntaxKind → List ℕ
+kind_text BadByte = codes "BadByte"
+kind_text BadNumber = codes "BadNumber"
+kind_text Unexpected = codes "Unexpected"
+kind_text TooDeep = codes "TooDeep"
+kind_text NotYet = codes "NotYet"
+
+abbrev pub message_of : Refusal → List ℕ
+message_of Usage = with_feed (codes "asp: usage: asp FILE")
+message_of (Unread name) = with_feed (codes "asp: cannot read " ++ name)
+message_of (TooLong name) = with_feed (codes "asp: program: longer than 1048576 bytes")
+message_of (NoProgram fault) = with_feed (codes "asp: program: " ++ kind_text fault.kind ++ codes " at " ++ decimal fault.at)
+message_of NoMemory = with_feed (codes "asp: no memory")
+
+abbrev pub write_message : List ℕ
+write_message = with_feed (codes "asp: cannot write")

@@ -1,0 +1,13 @@
+//! Whole runs of the top call over files and sinks in memory: what users meet, and what no clause says.
+#![tactic(auto)]
+
+#[cfg(test)]
+mod faults_of_the_outside;
+#[cfg(test)]
+mod reading;
+#[cfg(test)]
+mod runs;
+#[cfg(test)]
+mod setting;
+#[cfg(test)]
+mod words;
