@@ -1,5 +1,5 @@
 -- Programs as they are read: each node with the mark of where it stood.
-use Rattle.std.specs.Prelude.{ℕ, List}
+use Rattle.std.specs.Prelude.{ℕ, List, [], ◌∷◌}
 use Rattle.asp_model.specs.Term.{Head, Tree, Trees, node, none, more}
 
 pub record MarkShape : Type 0 where
@@ -15,6 +15,16 @@ mutual
   pub data MarkedList : Type 0 where
     no_marked : MarkedList
     and_marked : (first : Marked) (others : MarkedList) → MarkedList
+
+abbrev pub one_marked : Marked → MarkedList
+one_marked t = and_marked t no_marked
+
+abbrev pub two_marked : Marked → Marked → MarkedList
+two_marked t u = and_marked t (and_marked u no_marked)
+
+abbrev pub all_marked : List Marked → MarkedList
+all_marked [] = no_marked
+all_marked (t ∷ ts) = and_marked t (all_marked ts)
 
 abbrev mutual
   -- the term without its marks

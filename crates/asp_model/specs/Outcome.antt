@@ -5,6 +5,8 @@ use Rattle.asp_model.specs.Names.{Name}
 use Rattle.asp_model.specs.Contraction.{LineShape}
 use Rattle.asp_model.specs.Configuration.{Configuration, Activity, requests_of}
 use Rattle.asp_model.specs.Plan.{StatusShape, Faulted}
+use Rattle.asp_model.specs.Step.{ListsShape}
+use Rattle.asp_model.specs.Replay.{CountsShape}
 use Rattle.asp_model.specs.Status.{VerdictShape, End, Blocked, Budget, status_of, verdict_of}
 
 pub record ActivityReportShape : Type 0 where
@@ -30,6 +32,13 @@ activity_report c x = record {
 
 abbrev pub outcome_of : Configuration → OutcomeShape
 outcome_of c = record { verdict = verdict_of c; activities = map (activity_report c) c.activities }
+
+-- the sender lists and the counts that an outcome shows
+abbrev pub lists_in : OutcomeShape → ListsShape
+lists_in o = map (λ a. (a.name, a.senders)) o.activities
+
+abbrev pub counts_in : OutcomeShape → CountsShape
+counts_in o = map (λ a. (a.name, a.count)) o.activities
 
 abbrev pub is_faulted : StatusShape → Bool
 is_faulted (Faulted fault) = true

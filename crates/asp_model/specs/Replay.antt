@@ -62,6 +62,10 @@ abbrev pub steps_from : ℕ → Option ListsShape → (Name → ℕ) → Configu
 steps_from zero lists count c = c
 steps_from (suc n) lists count c = elim (least_step lists count c c.activities) [ None ↦ c | Some d ↦ steps_from n lists count d ]
 
+-- the run of one thread without lists: at most n steps, each of the least-named activity that can step
+abbrev pub plain_run : ℕ → Tree → Configuration
+plain_run n program = steps_from n None (λ name. n) (start program)
+
 -- the replay of a program under lists and counts: no step is lazier, since strict operands alone are unpacked
 abbrev pub replay : Tree → ListsShape → CountsShape → Configuration
 replay program lists counts = steps_from (total counts) (Some lists) (count_in counts) (start program)

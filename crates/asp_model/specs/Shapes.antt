@@ -1,11 +1,13 @@
 -- What contracts see of the plain types: no boxes, vectors or texts.
-use Rattle.std.specs.Prelude.{map}
+use Rattle.std.specs.Prelude.{ℕ, List, ◌++◌, map}
 use Rattle.asp_model.specs.declared.term.Sign.{Sign}
 use Rattle.asp_model.specs.declared.term.Sign.TheVariants as sign
 use Rattle.asp_model.specs.declared.term.Mark.{Mark}
 use Rattle.asp_model.specs.declared.term.Term.{Term}
+use Rattle.asp_model.specs.declared.term.Method.{Method}
+use Rattle.asp_model.specs.declared.word.Label.{Label}
 use Rattle.asp_model.specs.declared.term.Term.TheOpen as open_term
-use Rattle.asp_model.specs.declared.term.Term.TheFolds.{fold-Term}
+use Rattle.asp_model.specs.declared.term.Term.TheFolds.{fold-Term, fold-Method}
 use Rattle.asp_model.specs.declared.outcome.Fault.{Fault}
 use Rattle.asp_model.specs.declared.outcome.Fault.TheVariants as fault
 use Rattle.asp_model.specs.declared.outcome.Status.{Status}
@@ -16,42 +18,98 @@ use Rattle.asp_model.specs.declared.outcome.Line.{Line}
 use Rattle.asp_model.specs.declared.outcome.Line.TheVariants as line
 use Rattle.asp_model.specs.declared.outcome.ActivityReport.{ActivityReport}
 use Rattle.asp_model.specs.declared.outcome.Outcome.{Outcome}
-use Rattle.asp_model.specs.Term.{SignShape, Tree, Loc, Hole, Number, Operate, Print}
+use Rattle.asp_model.specs.Names.{Text}
+use Rattle.asp_model.specs.Term.{SignShape, MethodHead, Tree, Loc, Hole, Var, Number, Make, Get, Put, Call, Clone, Let, Steps, If, Repeat, Operate, Print, Echo}
 use Rattle.asp_model.specs.Term as term
-use Rattle.asp_model.specs.Contraction.{FaultShape, LineShape, NumberLine}
+use Rattle.asp_model.specs.declared.store.Cell.{Cell}
+use Rattle.asp_model.specs.declared.store.Cell.TheVariants as cells
+use Rattle.asp_model.specs.Store.{MethodShape, Field, CellShape}
+use Rattle.asp_model.specs.Store as store
+use Rattle.asp_model.specs.Contraction.{FaultShape, LineShape, NumberLine, TextLine}
 use Rattle.asp_model.specs.Contraction as contraction
 use Rattle.asp_model.specs.Plan.{StatusShape}
 use Rattle.asp_model.specs.Plan as plan
 use Rattle.asp_model.specs.Status.{VerdictShape}
 use Rattle.asp_model.specs.Status as verdicts
 use Rattle.asp_model.specs.Outcome.{ActivityReportShape, OutcomeShape}
-use Rattle.asp_model.specs.Marked.{MarkShape, Marked, marked, no_marked, and_marked, plain}
+use Rattle.asp_model.specs.Marked.{MarkShape, Marked, marked, no_marked, and_marked, one_marked, two_marked, all_marked, plain}
 
 abbrev pub sign_shape : Sign → SignShape
 sign_shape sign.Add = term.Add
+sign_shape sign.Subtract = term.Subtract
+sign_shape sign.Multiply = term.Multiply
+sign_shape sign.Divide = term.Divide
+sign_shape sign.Remainder = term.Remainder
+sign_shape sign.Less = term.Less
+sign_shape sign.Equal = term.Equal
 
 abbrev pub mark_shape : Mark → MarkShape
 mark_shape m = record { at = m.at; parentheses = m.parentheses; left = m.left; names = m.names.items }
 
+-- a method as it was read
+pub record MarkedMethod : Type 0 where
+  pub head : MethodHead
+  pub body : Marked
+
+abbrev pub method_step : open_term.Method-F Marked MarkedMethod → MarkedMethod
+method_step m = record { head = record { label = m.label.text; slf = m.slf; parameters = m.parameters.items }; body = m.body }
+
+-- an object's fields and methods
+abbrev pub make_shape : MarkShape → List (Text × Marked) → List MarkedMethod → Marked
+make_shape m fields methods = marked (Make (map (λ f. f.0) fields) (map (λ x. x.head) methods)) m (all_marked (map (λ f. f.1) fields ++ map (λ x. x.body) methods))
+
 -- one node, with the shapes of the terms below it
-abbrev pub term_step : open_term.Term-F Marked → Marked
+abbrev pub term_step : open_term.Term-F Marked MarkedMethod → Marked
 term_step (open_term.Loc n m) = marked (Loc n) (mark_shape m) no_marked
 term_step (open_term.Hole m) = marked Hole (mark_shape m) no_marked
+term_step (open_term.Var x m) = marked (Var x) (mark_shape m) no_marked
 term_step (open_term.Number n m) = marked (Number n) (mark_shape m) no_marked
-term_step (open_term.Operate s a b m) = marked (Operate (sign_shape s)) (mark_shape m) (and_marked a.value (and_marked b.value no_marked))
-term_step (open_term.Print a m) = marked Print (mark_shape m) (and_marked a.value no_marked)
+term_step (open_term.Make fields methods m) = make_shape (mark_shape m) (map (λ f. (f.0.text, f.1)) fields.items) methods.items
+term_step (open_term.Get a l m) = marked (Get l.text) (mark_shape m) (one_marked a.value)
+term_step (open_term.Put a l b m) = marked (Put l.text) (mark_shape m) (two_marked a.value b.value)
+term_step (open_term.Call a l ts m) = marked (Call l.text) (mark_shape m) (and_marked a.value (all_marked ts.items))
+term_step (open_term.Clone a m) = marked Clone (mark_shape m) (one_marked a.value)
+term_step (open_term.Let x a b m) = marked (Let x) (mark_shape m) (two_marked a.value b.value)
+term_step (open_term.Steps ts m) = marked Steps (mark_shape m) (all_marked ts.items)
+term_step (open_term.If a b c m) = marked If (mark_shape m) (and_marked a.value (two_marked b.value c.value))
+term_step (open_term.Repeat a m) = marked Repeat (mark_shape m) (one_marked a.value)
+term_step (open_term.Operate s a b m) = marked (Operate (sign_shape s)) (mark_shape m) (two_marked a.value b.value)
+term_step (open_term.Print a m) = marked Print (mark_shape m) (one_marked a.value)
+term_step (open_term.Echo x m) = marked (Echo x) (mark_shape m) no_marked
 
 -- a term with its marks
 abbrev pub marked_of : Term → Marked
-marked_of = fold-Term Marked term_step
+marked_of = fold-Term Marked MarkedMethod term_step method_step
+
+abbrev pub method_of : Method → MarkedMethod
+method_of = fold-Method Marked MarkedMethod term_step method_step
+
+-- a field's label, and its term with its marks
+abbrev pub field_of : Label × Term → Text × Marked
+field_of f = (f.0.text, marked_of f.1)
 
 -- a term without them
 abbrev pub tree_of : Term → Tree
 tree_of t = plain (marked_of t)
 
+-- a method of a store, whose marks are forgotten
+abbrev pub stored_method : Method → MethodShape
+stored_method m = let x = method_of m in record { head = x.head; body = plain x.body }
+
+abbrev pub field_shape : Label × ℕ → Field
+field_shape f = record { label = f.0.text; place = f.1 }
+
+abbrev pub cell_shape : Cell → CellShape
+cell_shape (cells.Number n) = store.Number n
+cell_shape (cells.Object o) = store.Object (map field_shape o.fields.items) (map stored_method o.methods.items)
+
 abbrev pub fault_shape : Fault → FaultShape
+fault_shape fault.NoField = contraction.NoField
+fault_shape fault.NoMethod = contraction.NoMethod
+fault_shape fault.NotObject = contraction.NotObject
 fault_shape fault.NotNumber = contraction.NotNumber
 fault_shape fault.Overflow = contraction.Overflow
+fault_shape fault.ZeroDivisor = contraction.ZeroDivisor
 
 abbrev pub status_shape : Status → StatusShape
 status_shape status.Done = plan.Done
@@ -65,6 +123,7 @@ verdict_shape verdict.Budget = verdicts.Budget
 
 abbrev pub line_shape : Line → LineShape
 line_shape (line.Number n) = NumberLine n
+line_shape (line.Text text) = TextLine text
 
 abbrev pub activity_shape : ActivityReport → ActivityReportShape
 activity_shape a = record { name = a.name; count = a.count; status = status_shape a.status; senders = a.senders.items; lines = map line_shape a.lines.items }

@@ -4,10 +4,12 @@
 
 mod name;
 mod outcome;
+mod store;
 mod term;
 mod word;
 
 pub use name::ActivityName;
 pub use outcome::{ActivityReport, Fault, Line, Outcome, Status, Verdict, exit_number};
-pub use term::{Mark, Place, Program, Sign, Term};
-pub use word::Word;
+pub use store::{Cell, Object};
+pub use term::{Mark, Method, Place, Program, Sign, Term};
+pub use word::{Label, Word};

@@ -5,15 +5,23 @@ ghost use Rattle.std.specs.List.{list_any};
 ghost use Rattle.asp_model.specs.Outcome.{exit_status, is_faulted as is_fault};
 ghost use Rattle.asp_model.specs.Shapes.{activity_shape, outcome_shape, status_shape};
 
-use crate::ActivityName;
+use crate::{ActivityName, Word};
 
 /// Why an activity stopped for good.
 #[derive(Clone, Copy, Debug, PartialEq, Eq)]
 pub enum Fault {
+    /// The object has no field with that label.
+    NoField,
+    /// The object has no method with that label and that number of parameters.
+    NoMethod,
+    /// An object was asked for, and another cell stood there.
+    NotObject,
     /// A number was asked for, and another cell stood there.
     NotNumber,
     /// The result of an operator lies outside 64 bits.
     Overflow,
+    /// The divisor is 0.
+    ZeroDivisor,
 }
 
 /// What an activity does at the end of a run.
@@ -39,9 +47,10 @@ pub enum Verdict {
 }
 
 /// A line of output.
-#[derive(Clone, Copy, Debug, PartialEq, Eq)]
+#[derive(Debug, Drop)]
 pub enum Line {
     Number(i64),
+    Text(Word),
 }
 
 /// One activity at the end of a run.

@@ -1,5 +1,7 @@
 //! Programs as trees.
 
+use crate::{Label, Word};
+
 /// The number of a cell in a store.
 pub type Place = u128;
 
@@ -7,6 +9,12 @@ pub type Place = u128;
 #[derive(Clone, Copy, Debug, PartialEq, Eq)]
 pub enum Sign {
     Add,
+    Subtract,
+    Multiply,
+    Divide,
+    Remainder,
+    Less,
+    Equal,
 }
 
 /// Where a node stood in its source text. A mark means nothing in a run.
@@ -22,14 +30,41 @@ pub struct Mark {
     pub names: Vec<usize>,
 }
 
+/// A method of an object.
+#[derive(Debug, Drop)]
+#[cycle(term)]
+pub struct Method {
+    pub label: Label,
+    /// The name by which the body calls its object.
+    pub slf: Word,
+    pub parameters: Vec<Word>,
+    pub body: Term,
+}
+
 /// A term, whose values are places of a store.
 #[derive(Debug, Drop)]
+#[cycle(term)]
 pub enum Term {
     Loc(Place, Mark),
     Hole(Mark),
+    Var(Word, Mark),
     Number(i64, Mark),
+    Make {
+        fields: Vec<(Label, Term)>,
+        methods: Vec<Method>,
+        mark: Mark,
+    },
+    Get(Box<Term>, Label, Mark),
+    Put(Box<Term>, Label, Box<Term>, Mark),
+    Call(Box<Term>, Label, Vec<Term>, Mark),
+    Clone(Box<Term>, Mark),
+    Let(Word, Box<Term>, Box<Term>, Mark),
+    Steps(Vec<Term>, Mark),
+    If(Box<Term>, Box<Term>, Box<Term>, Mark),
+    Repeat(Box<Term>, Mark),
     Operate(Sign, Box<Term>, Box<Term>, Mark),
     Print(Box<Term>, Mark),
+    Echo(Word, Mark),
 }
 
 /// A program as it was read: it has neither places nor holes.

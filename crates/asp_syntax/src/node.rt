@@ -74,5 +74,24 @@ pub fn enclosed(term: Term) -> Term
             Term::Operate(sign, left, right, once_more(mark))
         }
         Term::Print(inner, mark) => Term::Print(inner, once_more(mark)),
+        Term::Var(name, mark) => Term::Var(name, once_more(mark)),
+        Term::Make {
+            fields,
+            methods,
+            mark,
+        } => Term::Make {
+            fields,
+            methods,
+            mark: once_more(mark),
+        },
+        Term::Get(t, l, mark) => Term::Get(t, l, once_more(mark)),
+        Term::Put(t, l, u, mark) => Term::Put(t, l, u, once_more(mark)),
+        Term::Call(t, l, us, mark) => Term::Call(t, l, us, once_more(mark)),
+        Term::Clone(t, mark) => Term::Clone(t, once_more(mark)),
+        Term::Let(x, t, u, mark) => Term::Let(x, t, u, once_more(mark)),
+        Term::Steps(ts, mark) => Term::Steps(ts, once_more(mark)),
+        Term::If(c, t, u, mark) => Term::If(c, t, u, once_more(mark)),
+        Term::Repeat(t, mark) => Term::Repeat(t, once_more(mark)),
+        Term::Echo(x, mark) => Term::Echo(x, once_more(mark)),
     }
 }

@@ -1,8 +1,6 @@
-pub mod TermLemmas
-pub mod OperandLemmas
-pub mod NestedLemmas
-pub mod ReplayLemmas
 pub mod PieceLemmas
 pub mod SinkLemmas
+pub mod OutcomeLemmas
 pub mod StopLemmas
 pub mod EndsLemmas
+pub mod StatusLemmas

@@ -1,10 +1,13 @@
 -- What a call sees of the outside, and the messages that it writes.
-use Rattle.std.specs.Prelude.{◌≡◌, ℕ, ◌<◌, ◌^◌, ◌==◌, Bool, false, List, [], ◌∷◌, ◌++◌, length, Option, Some, None, codes, if◌then◌else◌}
+use Rattle.std.specs.Prelude.{◌≡◌, ℕ, ◌<◌, ◌^◌, List, ◌++◌, length, Option, Some, None, codes}
 use Rattle.std.specs.Fmt.{decimal}
 use Rattle.asp_model.specs.Report.{with_feed}
 use Rattle.asp_syntax.specs.declared.error.SyntaxKind.{SyntaxKind}
 use Rattle.asp_syntax.specs.declared.error.SyntaxKind.TheVariants.{BadByte, BadNumber, Unexpected, TooDeep, NotYet}
 use Rattle.asp_syntax.specs.declared.error.SyntaxFault.{SyntaxFault}
+use Rattle.asp_check.specs.declared.fault.CheckKind.{CheckKind}
+use Rattle.asp_check.specs.declared.fault.CheckKind.TheVariants.{Unbound, DoubleLabel, DoubleParameter, TooManyParameters, Arity}
+use Rattle.asp_check.specs.declared.fault.CheckFault.{CheckFault}
 use Rattle.asp_edge.specs.Causes.{Rose, Appends, AppendsFront}
 
 -- a count of faults, before the call and behind it
@@ -44,17 +47,6 @@ Takes s text = Appends s.before s.now text
 abbrev pub TakesFront : Sight → List ℕ → Type 0
 TakesFront s text = Rises s.faults × AppendsFront s.before s.now text
 
--- the word begins with `-`
-abbrev pub is_option : List ℕ → Bool
-is_option [] = false
-is_option (b ∷ bs) = b == 45
-
--- one word alone that is no option
-abbrev pub file_of : List (List ℕ) → Option (List ℕ)
-file_of [] = None
-file_of (w ∷ []) = if is_option w then None else Some w
-file_of (w ∷ v ∷ ws) = None
-
 -- longer than 2^20 bytes, where the content is told
 abbrev pub IsLong : Option (List ℕ) → Type 0
 IsLong None = Unit {0}
@@ -65,6 +57,7 @@ pub data Refusal : Type 0 where
   Unread : (name : List ℕ) → Refusal
   TooLong : (name : List ℕ) → Refusal
   NoProgram : (fault : SyntaxFault) → Refusal
+  Unchecked : (fault : CheckFault) → Refusal
   NoMemory : Refusal
 
 abbrev pub status_of_refusal : Refusal → ℕ
@@ -72,6 +65,7 @@ status_of_refusal Usage = 2
 status_of_refusal (Unread name) = 6
 status_of_refusal (TooLong name) = 3
 status_of_refusal (NoProgram fault) = 3
+status_of_refusal (Unchecked fault) = 3
 status_of_refusal NoMemory = 8
 
 abbrev pub kind_text : SyntaxKind → List ℕ
@@ -81,11 +75,23 @@ kind_text Unexpected = codes "Unexpected"
 kind_text TooDeep = codes "TooDeep"
 kind_text NotYet = codes "NotYet"
 
+abbrev pub check_text : CheckKind → List ℕ
+check_text Unbound = codes "Unbound"
+check_text DoubleLabel = codes "DoubleLabel"
+check_text DoubleParameter = codes "DoubleParameter"
+check_text TooManyParameters = codes "TooManyParameters"
+check_text Arity = codes "Arity"
+
+-- a kind of fault, and its place
+abbrev pub fault_line : List ℕ → ℕ → List ℕ
+fault_line kind at = with_feed (codes "asp: program: " ++ kind ++ codes " at " ++ decimal at)
+
 abbrev pub message_of : Refusal → List ℕ
-message_of Usage = with_feed (codes "asp: usage: asp FILE")
+message_of Usage = with_feed (codes "asp: usage: asp FILE [--budget N]")
 message_of (Unread name) = with_feed (codes "asp: cannot read " ++ name)
 message_of (TooLong name) = with_feed (codes "asp: program: longer than 1048576 bytes")
-message_of (NoProgram fault) = with_feed (codes "asp: program: " ++ kind_text fault.kind ++ codes " at " ++ decimal fault.at)
+message_of (NoProgram fault) = fault_line (kind_text fault.kind) fault.at
+message_of (Unchecked fault) = fault_line (check_text fault.kind) fault.at
 message_of NoMemory = with_feed (codes "asp: no memory")
 
 abbrev pub write_message : List ℕ

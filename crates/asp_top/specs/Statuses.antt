@@ -1,18 +1,43 @@
 -- What each status says, and which status is to come: all of it follows from `Ends`.
 use Rattle.std.specs.Prelude.{◌≡◌, ◌⊎◌, ℕ, ◌≤◌, ◌<◌, ◌^◌, List, length, Some}
-use Rattle.asp_model.specs.Marked.{Marked}
-use Rattle.asp_model.specs.Outcome.{OutcomeShape, exit_status}
+use Rattle.asp_model.specs.Marked.{Marked, plain}
+use Rattle.asp_model.specs.Status.{Budget, IsStuck}
+use Rattle.asp_model.specs.Replay.{replay, total}
+use Rattle.asp_model.specs.Outcome.{OutcomeShape, lists_in, counts_in}
 use Rattle.asp_model.specs.Report.{report_of}
 use Rattle.asp_syntax.specs.declared.error.SyntaxFault.{SyntaxFault}
 use Rattle.asp_syntax.specs.Correct.{IsProgramText}
-use Rattle.asp_top.specs.Seen.{Inputs, Sight, Rises, IsUntouched, Takes, file_of, IsLong}
-use Rattle.asp_top.specs.Endings.{IsFaulty}
+use Rattle.asp_check.specs.declared.fault.CheckFault.{CheckFault}
+use Rattle.asp_check.specs.Faults.{IsChecked}
+use Rattle.asp_top.specs.Words.{file_of}
+use Rattle.asp_top.specs.Seen.{Inputs, Sight, Rises, Takes, IsLong, NoProgram, Unchecked}
+use Rattle.asp_top.specs.Correct.{IsRun}
+use Rattle.asp_top.specs.Endings.{Holds}
 
--- a file is named that is too long, or no program
+-- the program of a run is stuck under the counts of the report that was written
+pub record EndsStuck (i : Inputs) (out : Sight) : Type 0 where
+  pub outcome : OutcomeShape
+  pub run : IsRun i outcome
+  pub written : Takes out (report_of outcome)
+  pub stuck : IsStuck (replay (plain run.outcome.program) (lists_in outcome) (counts_in outcome))
+
+-- the program of a run can go on, and the counts of the report that was written are the budget
+pub record EndsSpent (i : Inputs) (out : Sight) : Type 0 where
+  pub outcome : OutcomeShape
+  pub run : IsRun i outcome
+  pub written : Takes out (report_of outcome)
+  pub verdict : outcome.verdict ≡ Budget
+  pub spent : total (counts_in outcome) ≡ run.read.settings.budget
+  pub goes_on : IsStuck (replay (plain run.outcome.program) (lists_in outcome) (counts_in outcome)) → ⊥
+
+-- a file is named that is too long, no program, or one that is not checked
 abbrev pub IsUnfit : Inputs → Type 0
-IsUnfit i = (name : List ℕ) × (file_of i.words ≡ Some name) × (IsLong (i.content name) ⊎ ((fault : SyntaxFault) × IsFaulty i fault))
+IsUnfit i =
+    ((name : List ℕ) × (file_of i.words ≡ Some name) × IsLong (i.content name))
+    ⊎ ((fault : SyntaxFault) × Holds i (NoProgram fault))
+    ⊎ ((fault : CheckFault) × Holds i (Unchecked fault))
 
--- a file is named that has a program and is told, and the source does not fail
+-- a file is named and told that has a checked program, and the source does not fail
 pub record MayRun (i : Inputs) : Type 0 where
   pub name : List ℕ
   pub bytes : List ℕ
@@ -21,15 +46,16 @@ pub record MayRun (i : Inputs) : Type 0 where
   pub within : length bytes ≤ 2 ^ 20
   pub program : Marked
   pub is_read : IsProgramText bytes program
+  pub checked : IsChecked program
   pub heard : Rises i.faults → ⊥
 
--- a file is named and told that is too long, or no program
+-- a file is named and told that is too long, or no checked program
 pub record NamesUnfit (i : Inputs) : Type 0 where
   pub name : List ℕ
   pub bytes : List ℕ
   pub named : file_of i.words ≡ Some name
   pub content : i.content name ≡ Some bytes
-  pub unfit : (2 ^ 20 < length bytes) ⊎ ((program : Marked) → IsProgramText bytes program → ⊥)
+  pub unfit : (2 ^ 20 < length bytes) ⊎ ((program : Marked) → IsProgramText bytes program → IsChecked program → ⊥)
 
 -- the words are refused, unless that cannot be told
 abbrev pub IsUsageEnd : ℕ → Type 0

@@ -1,10 +1,10 @@
 //! Runs a program from its words to its report.
 #![tactic(auto)]
 
-mod machine;
 mod prepare;
 mod report;
 mod top;
+mod words;
 mod writing;
 
 pub use top::run_asp;

@@ -1,18 +1,19 @@
-//! The work up to the report: reading, running, and making all pieces.
+//! The work up to the report: reading, checking, running, and making all pieces.
 
-ghost use Rattle.std.specs.Prelude.{◌≡◌, ◌≤◌, map, IfOk, IfErr};
-ghost use Rattle.asp_model.specs.Shapes.{line_shape, outcome_shape, status_shape};
+ghost use Rattle.std.specs.Prelude.{◌≡◌, IfOk, IfErr};
+ghost use Rattle.asp_model.specs.Shapes.{outcome_shape};
 ghost use Rattle.asp_edge.specs.Causes.{Rose};
-ghost use Rattle.asp_top.specs.State.{outcome_alone, rest_of};
 ghost use Rattle.asp_top.specs.Correct.{IsOutcome};
-ghost use Rattle.asp_top.specs.Stops.{read_stop, syntax_stop, StopsAt, Stops, IsPrepared, IsReady};
+ghost use Rattle.asp_top.specs.Stops.{read_stop, syntax_stop, check_stop, IsCheckedText, StopsAt, StopsIn, IsPrepared, IsReady};
 ghost use Rattle.asp_top.specs.declared.prepare.Stop.TheVariants as stops;
 
-use crate::machine::{End, run};
 use crate::report::pieces;
+use crate::words::Settings;
+use asp_check::{CheckError, CheckFault, Checked, check};
 use asp_edge::{ReadError, Source};
-use asp_model::{ActivityName, ActivityReport, Fault, Outcome, Status, Verdict, exit_number};
+use asp_model::{Outcome, exit_number};
 use asp_syntax::{SyntaxError, SyntaxFault, read_program};
+use replay_one::run_plain;
 use std::alloc::{AllocError, Global};
 
 /// The most bytes of a program.
@@ -27,6 +28,8 @@ pub enum Stop {
     Long,
     /// The bytes are no program, and this is their first fault.
     Syntax(SyntaxFault),
+    /// The program is not checked, and this is its first fault.
+    Check(CheckFault),
     Memory,
 }
 
@@ -61,6 +64,17 @@ impl From<SyntaxError> for Stop {
     }
 }
 
+impl From<CheckError> for Stop {
+    ghost from_gives = { λ e s. s ≡ check_stop e };
+
+    fn from(e: CheckError) -> Stop {
+        match e {
+            CheckError::Fault(fault) => Stop::Check(fault),
+            CheckError::Memory => Stop::Memory,
+        }
+    }
+}
+
 /// A report that is ready to be written, and the status of its run.
 #[derive(Drop)]
 pub struct Prepared {
@@ -68,49 +82,30 @@ pub struct Prepared {
     pub pieces: Vec<String>,
 }
 
-fn rest_status(fault: Option<Fault>) -> Status
-    ensures { status_shape result ≡ rest_of fault }
-{
-    match fault {
-        None => Status::Done,
-        Some(fault) => Status::Faulted(fault),
-    }
-}
-
-// The outcome of a run of the main activity alone.
-fn outcome_at(alloc: Global, end: End) -> Result<Outcome, AllocError>
-    ensures { IfOk result (λ o. outcome_shape o ≡ outcome_alone end.count (map line_shape end.lines.items) (rest_of end.fault)) }
-{
-    let mut activities = Vec::new(alloc);
-    activities.push(ActivityReport {
-        name: ActivityName::main(alloc)?,
-        count: end.count,
-        status: rest_status(end.fault),
-        senders: Vec::new(alloc),
-        lines: end.lines,
-    })?;
-    Ok(Outcome {
-        verdict: Verdict::End,
-        activities,
-    })
-}
-
-// Reads and runs the program in the bytes.
-fn outcome_in(alloc: Global, bytes: &[u8]) -> Result<Outcome, Stop>
-    ensures outcome { IfOk result (λ o. IsOutcome bytes.now (outcome_shape o)) }
+// The checked program in the bytes.
+fn checked_in(alloc: Global, bytes: &[u8]) -> Result<Checked, Stop>
+    ensures checked { IfOk result (IsCheckedText bytes.now) }
     ensures stop { IfErr result (StopsAt bytes.now) }
 {
     let program = read_program(alloc, bytes)?;
-    let end = run(alloc, program.root)?;
-    Ok(outcome_at(alloc, end)?)
+    Ok(check(alloc, program)?)
+}
+
+// Reads, checks and runs the program in the bytes.
+fn outcome_in(alloc: Global, bytes: &[u8], budget: u64) -> Result<Outcome, Stop>
+    ensures outcome { IfOk result (λ o. IsOutcome bytes.now budget (outcome_shape o)) }
+    ensures stop { IfErr result (StopsAt bytes.now) }
+{
+    let checked = checked_in(alloc, bytes)?;
+    Ok(run_plain(alloc, &checked, budget)?)
 }
 
 // The report of the program in the bytes.
-fn prepare_bytes(alloc: Global, bytes: &[u8]) -> Result<Prepared, Stop>
-    ensures prepared { IfOk result (IsPrepared bytes.now) }
+fn prepare_bytes(alloc: Global, bytes: &[u8], budget: u64) -> Result<Prepared, Stop>
+    ensures prepared { IfOk result (IsPrepared bytes.now budget) }
     ensures stop { IfErr result (StopsAt bytes.now) }
 {
-    let outcome = outcome_in(alloc, bytes)?;
+    let outcome = outcome_in(alloc, bytes, budget)?;
     let pieces = pieces(alloc, &outcome)?;
     Ok(Prepared {
         status: exit_number(&outcome),
@@ -119,10 +114,14 @@ fn prepare_bytes(alloc: Global, bytes: &[u8]) -> Result<Prepared, Stop>
 }
 
 /// The report of the program in a file.
-pub fn prepare<S: Source>(alloc: Global, name: &str, source: &mut S) -> Result<Prepared, Stop>
-    ensures ready { IfOk result (IsReady (S.content source.old name.now)) }
-    ensures stop { IfErr result (Stops (S.content source.old name.now) (Rose (S.faults source.old) (S.faults source.new))) }
+pub fn prepare<S: Source>(
+    alloc: Global,
+    settings: Settings<'_>,
+    source: &mut S,
+) -> Result<Prepared, Stop>
+    ensures ready { IfOk result (IsReady (S.content source.old settings.entry.file.now) settings.entry.budget) }
+    ensures stop { IfErr result (StopsIn (S.content source.old settings.entry.file.now) (Rose (S.faults source.old) (S.faults source.new))) }
 {
-    let bytes = source.read(name, MOST)?;
-    prepare_bytes(alloc, &bytes)
+    let bytes = source.read(settings.file, MOST)?;
+    prepare_bytes(alloc, &bytes, settings.budget)
 }

@@ -16,8 +16,12 @@ fn status_text(status: Status) -> &'static str
     match status {
         Status::Done => "done",
         Status::Running => "running",
+        Status::Faulted(Fault::NoField) => "fault NoField",
+        Status::Faulted(Fault::NoMethod) => "fault NoMethod",
+        Status::Faulted(Fault::NotObject) => "fault NotObject",
         Status::Faulted(Fault::NotNumber) => "fault NotNumber",
         Status::Faulted(Fault::Overflow) => "fault Overflow",
+        Status::Faulted(Fault::ZeroDivisor) => "fault ZeroDivisor",
     }
 }
 
@@ -82,18 +86,23 @@ fn senders_line(alloc: Global, senders: &[ActivityName]) -> Result<String, Alloc
     Ok(text)
 }
 
-fn output_line(alloc: Global, line: Line) -> Result<String, AllocError>
-    ensures { IfOk result (λ s. string_bytes s ≡ with_feed (line_of_output (line_shape line))) }
+fn output_line(alloc: Global, line: &Line) -> Result<String, AllocError>
+    ensures { IfOk result (λ s. string_bytes s ≡ with_feed (line_of_output (line_shape line.now))) }
 {
-    let Line::Number(n) = line;
-    format!(in alloc; "> {n}\n")
+    match line {
+        Line::Number(n) => format!(in alloc; "> {n}\n"),
+        Line::Text(word) => {
+            let text = word.as_str();
+            format!(in alloc; "| {text}\n")
+        }
+    }
 }
 
 fn push_lines(alloc: Global, pieces: &mut Vec<String>, lines: &[Line]) -> Result<(), AllocError>
     ensures { OnOk result (map string_bytes pieces.new.items ≡ map string_bytes pieces.old.items ++ map with_feed (map line_of_output (map line_shape lines.now))) }
 {
     for line in lines {
-        pieces.push(output_line(alloc, *line)?)?;
+        pieces.push(output_line(alloc, line)?)?;
     }
     Ok(())
 }

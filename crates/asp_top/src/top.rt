@@ -1,34 +1,20 @@
 //! The top call.
 
-ghost use Rattle.std.specs.Prelude.{◌≡◌, ◌⊎◌, Some, None, map, string_bytes, MatchOption};
+ghost use Rattle.std.specs.Prelude.{◌≡◌, ◌⊎◌, None, map, string_bytes};
 ghost use Rattle.asp_edge.specs.Causes.{Rose};
-ghost use Rattle.asp_top.specs.Seen.{is_option as begins_with_dash, file_of, inputs, sight};
+ghost use Rattle.asp_top.specs.Words.{settings_of};
+ghost use Rattle.asp_top.specs.Seen.{inputs, sight};
 ghost use Rattle.asp_top.specs.Correct.{IsReported, Reports};
 ghost use Rattle.asp_top.specs.Endings.{Ends};
-ghost use Rattle.asp_top.specs.Statuses.{IsUnfit, MayRun, NamesUnfit, IsUsageEnd, IsUnfitEnd};
+ghost use Rattle.asp_top.specs.Statuses.{EndsStuck, EndsSpent, IsUnfit, MayRun, NamesUnfit, IsUsageEnd, IsUnfitEnd};
 
 use crate::prepare::prepare;
+use crate::words::read_words;
 use crate::writing::{refuse, tell, write_report};
 use asp_edge::{Sink, Source};
 use std::alloc::Global;
 
-const USAGE: &[u8] = b"asp: usage: asp FILE\n";
-
-fn is_option(word: &String) -> bool
-    ensures { result ≡ begins_with_dash (string_bytes word.now) }
-{
-    matches!(word.as_bytes(), [b'-', ..])
-}
-
-// The one word, if it is no option.
-fn file_name(words: &[String]) -> Option<&String>
-    ensures { MatchOption result (file_of (map string_bytes words.now) ≡ None) (λ name. file_of (map string_bytes words.now) ≡ Some (string_bytes name.now)) }
-{
-    match words {
-        [name] if !is_option(name) => Some(name),
-        _ => None,
-    }
-}
+const USAGE: &[u8] = b"asp: usage: asp FILE [--budget N]\n";
 
 // The call, of which the public one says what follows.
 fn run_words<S: Source, O: Sink, E: Sink>(
@@ -40,18 +26,18 @@ fn run_words<S: Source, O: Sink, E: Sink>(
 ) -> u8
     ensures { Ends (inputs (map string_bytes words.now) S.content S.faults source.old source.new) (sight O.bytes O.faults out.old out.new) (sight E.bytes E.faults err.old err.new) result }
 {
-    let Some(name) = file_name(words) else {
+    let Some(settings) = read_words(words) else {
         return tell(err, USAGE, 2);
     };
-    match prepare(alloc, name.as_str(), source) {
+    match prepare(alloc, settings, source) {
         Ok(prepared) => write_report(&prepared, out, err),
-        Err(stop) => refuse(alloc, name.as_str(), &stop, err),
+        Err(stop) => refuse(alloc, settings.file, &stop, err),
     }
 }
 
 /// Runs the program in the file that the words name, and writes its report, one write for each line.
-/// The words come first, then the file, the reading, the run and the writing; the first refusal in
-/// this order ends the call. All lines are made before the first is written.
+/// The words come first, then the file, the reading, the check, the run and the writing; the first
+/// refusal in this order ends the call. All lines are made before the first is written.
 pub fn run_asp<R: AllocGlobal, S: Source, O: Sink, E: Sink>(
     rt: &R,
     words: &[String],
@@ -61,11 +47,13 @@ pub fn run_asp<R: AllocGlobal, S: Source, O: Sink, E: Sink>(
 ) -> u8
     ensures ends { Ends (inputs (map string_bytes words.now) S.content S.faults source.old source.new) (sight O.bytes O.faults out.old out.new) (sight E.bytes E.faults err.old err.new) result }
     ensures report { IsReported result → Reports (inputs (map string_bytes words.now) S.content S.faults source.old source.new) (sight O.bytes O.faults out.old out.new) (sight E.bytes E.faults err.old err.new) result }
-    ensures usage_only { result ≡ 2 → file_of (map string_bytes words.now) ≡ None }
+    ensures ended_only { (result ≡ 0) ⊎ (result ≡ 1) → EndsStuck (inputs (map string_bytes words.now) S.content S.faults source.old source.new) (sight O.bytes O.faults out.old out.new) }
+    ensures budget_only { result ≡ 5 → EndsSpent (inputs (map string_bytes words.now) S.content S.faults source.old source.new) (sight O.bytes O.faults out.old out.new) }
+    ensures usage_only { result ≡ 2 → settings_of (map string_bytes words.now) ≡ None }
     ensures program_only { result ≡ 3 → IsUnfit (inputs (map string_bytes words.now) S.content S.faults source.old source.new) }
     ensures read_fault_only { result ≡ 6 → Rose (S.faults source.old) (S.faults source.new) }
     ensures write_fault_only { result ≡ 7 → (Rose (O.faults out.old) (O.faults out.new)) ⊎ (Rose (E.faults err.old) (E.faults err.new)) }
-    ensures usage { file_of (map string_bytes words.now) ≡ None → IsUsageEnd result }
+    ensures usage { settings_of (map string_bytes words.now) ≡ None → IsUsageEnd result }
     ensures unfit { NamesUnfit (inputs (map string_bytes words.now) S.content S.faults source.old source.new) → IsUnfitEnd result }
     ensures complete { MayRun (inputs (map string_bytes words.now) S.content S.faults source.old source.new) → (Rose (O.faults out.old) (O.faults out.new) → ⊥) → (Rose (E.faults err.old) (E.faults err.new) → ⊥) → IsReported result ⊎ (result ≡ 8) }
 {

@@ -3,12 +3,13 @@
 ghost use Rattle.std.specs.Prelude.{◌≡◌, ◌≤◌, map, string_bytes, IfOk, IfErr, OnOk, OnErr};
 ghost use Rattle.std.specs.List.{concat};
 ghost use Rattle.asp_edge.specs.Causes.{Appends, AppendsFront, Rose};
-ghost use Rattle.asp_top.specs.Seen.{sight, kind_text as text_of_kind, message_of, NoProgram, NoMemory, Unread};
+ghost use Rattle.asp_top.specs.Seen.{sight, kind_text as text_of_kind, check_text as text_of_check, fault_line, message_of, NoMemory, Unread};
 ghost use Rattle.asp_top.specs.Stops.{Told, ToldOf, Written};
 
 use crate::prepare::{Prepared, Stop};
+use asp_check::CheckKind;
 use asp_edge::{Sink, WriteFailed};
-use asp_syntax::{SyntaxFault, SyntaxKind};
+use asp_syntax::SyntaxKind;
 use std::alloc::{AllocError, Global};
 
 const LONG: &[u8] = b"asp: program: longer than 1048576 bytes\n";
@@ -29,11 +30,22 @@ fn kind_text(kind: SyntaxKind) -> &'static str
     }
 }
 
-fn syntax_message(alloc: Global, fault: SyntaxFault) -> Result<String, AllocError>
-    ensures { IfOk result (λ s. string_bytes s ≡ message_of (NoProgram fault)) }
+fn check_text(kind: CheckKind) -> &'static str
+    ensures { result.now ≡ text_of_check kind }
 {
-    let kind = kind_text(fault.kind);
-    let at = fault.at;
+    match kind {
+        CheckKind::Unbound => "Unbound",
+        CheckKind::DoubleLabel => "DoubleLabel",
+        CheckKind::DoubleParameter => "DoubleParameter",
+        CheckKind::TooManyParameters => "TooManyParameters",
+        CheckKind::Arity => "Arity",
+    }
+}
+
+// What is wrong with the program, and where.
+fn fault_message(alloc: Global, kind: &str, at: usize) -> Result<String, AllocError>
+    ensures { IfOk result (λ s. string_bytes s ≡ fault_line kind.now at) }
+{
     format!(in alloc; "asp: program: {kind} at {at}\n")
 }
 
@@ -71,7 +83,14 @@ pub fn refuse<E: Sink>(alloc: Global, name: &str, stop: &Stop, err: &mut E) -> u
     match stop {
         Stop::Unread => tell_made(err, unread_message(alloc, name), 6),
         Stop::Long => tell(err, LONG, 3),
-        Stop::Syntax(fault) => tell_made(err, syntax_message(alloc, *fault), 3),
+        Stop::Syntax(fault) => {
+            let message = fault_message(alloc, kind_text(fault.kind), fault.at);
+            tell_made(err, message, 3)
+        }
+        Stop::Check(fault) => {
+            let message = fault_message(alloc, check_text(fault.kind), fault.at);
+            tell_made(err, message, 3)
+        }
         Stop::Memory => tell(err, NO_MEMORY, 8),
     }
 }

@@ -2,6 +2,8 @@
 #![tactic(auto)]
 
 #[cfg(test)]
+mod budgets;
+#[cfg(test)]
 mod faults_of_the_outside;
 #[cfg(test)]
 mod reading;

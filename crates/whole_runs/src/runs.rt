@@ -1,4 +1,4 @@
-//! Programs that run to their end.
+//! Sums and prints that run to their end.
 
 use crate::setting::{SOUND, run_bytes};
 use std::test::Fail;

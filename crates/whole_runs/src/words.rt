@@ -3,17 +3,26 @@
 use crate::setting::{SOUND, run_words};
 use std::test::Fail;
 
-const USAGE: &str = "asp: usage: asp FILE\n";
+const USAGE: &str = "asp: usage: asp FILE [--budget N]\n";
 
 #[test]
-fn all_but_one_word_that_is_no_option_is_refused(rt: HostRuntime) -> Result<(), Fail> {
-    let refused: [&[&str]; 6] = [
+fn other_words_than_a_file_and_a_budget_are_refused(rt: HostRuntime) -> Result<(), Fail> {
+    let refused: [&[&str]; 15] = [
         &[],
         &["a.asp", "a.asp"],
         &["-"],
         &["--help"],
         &["-a.asp"],
+        &["a.asp", "--budget"],
         &["a.asp", "--budget=3"],
+        &["a.asp", "--budget", "0"],
+        &["a.asp", "--budget", "10000001"],
+        &["a.asp", "--budget", "000000001"],
+        &["a.asp", "--budget", "+1"],
+        &["a.asp", "--budget", ""],
+        &["a.asp", "--budget", "3", "4"],
+        &["--budget", "3", "a.asp"],
+        &["a.asp", "--checks", "3"],
     ];
     for words in refused {
         let ran = run_words(&rt, words, b"1", SOUND)?;

@@ -6,7 +6,7 @@ use Rattle.asp_model.specs.Term.{Tree}
 use Rattle.asp_model.specs.Outcome.{ActivityReportShape, OutcomeShape, outcome_of}
 use Rattle.asp_model.specs.Report.{verdict_line, output_line}
 use Rattle.worked_rows.specs.Programs.{number, variable, field, method, object, get, put, call, active, active_by, serve, let_in, steps, if_else, add, subtract, multiply, equal, print}
-use Rattle.worked_rows.specs.Reports.{plain_run}
+use Rattle.asp_model.specs.Replay.{plain_run}
 
 -- active([sum = 0; run(s) = s.many(n); serve(total), many(s, k) = if (k == 0) { 0 } else { serve(add); s.many(k - 1) }, add(s, v) = s.sum := s.sum + v; 0, total(s) = s.sum], run)
 abbrev pub collector : ℕ → Tree

@@ -1,11 +1,11 @@
 -- What a worked run shows: its report, typed in line by line, and the exit status.
 use Prim.Native.String.{String}
-use Rattle.std.specs.Prelude.{◌≡◌, ℕ, List, [], ◌∷◌, None, map, codes}
+use Rattle.std.specs.Prelude.{◌≡◌, ℕ, List, [], ◌∷◌, map, codes}
 use Rattle.asp_model.specs.Names.{Name, main_name, created_name}
 use Rattle.asp_model.specs.Term.{Tree}
-use Rattle.asp_model.specs.Configuration.{Configuration, start, requests_of}
+use Rattle.asp_model.specs.Configuration.{Configuration, requests_of}
 use Rattle.asp_model.specs.Step.{ListsShape}
-use Rattle.asp_model.specs.Replay.{CountsShape, Fits, replay, steps_from}
+use Rattle.asp_model.specs.Replay.{CountsShape, Fits, plain_run, replay}
 use Rattle.asp_model.specs.Outcome.{outcome_of, exit_status}
 use Rattle.asp_model.specs.Report.{text_of, report_of}
 
@@ -29,10 +29,6 @@ entries_of c = map (λ x. (x.0, x.1.reductions, map (λ r. r.sender) (requests_o
 
 abbrev pub replayed : Tree → List Entry → Configuration
 replayed program entries = replay program (lists_in entries) (counts_in entries)
-
--- the least-named activity that can step does so, for at most n reductions and without lists
-abbrev pub plain_run : ℕ → Tree → Configuration
-plain_run n program = steps_from n None (λ name. n) (start program)
 
 -- a configuration has this exit status, and its report has these lines
 pub record Shows (c : Configuration) (status : ℕ) (lines : List String) : Type 0 where

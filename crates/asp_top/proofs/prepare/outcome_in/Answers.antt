@@ -1,8 +1,7 @@
-use Rattle.asp_top.specs.Stops.{syntax_stop}
-use Rattle.asp_top.proofs.StopLemmas.{stops_at, stops_if}
+use Rattle.asp_top.proofs.OutcomeLemmas.{outcome_is}
 use Rattle.asp_top.proofs.prepare.outcome_in.Goals as goal
 
-pub returns-in_err-program-clause-stop : goal.returns-in_err-program-clause-stop
-returns-in_err-program-clause-stop c =
-    let e = c.in_err-program.field-0.0 in
-    stops_if c.args.bytes.now c.from_residual.result (syntax_stop e) c.from_residual.ensures.1 (stops_at c.args.bytes.now e c.in_err-program.ensures.fault c.in_err-program.ensures.only)
+pub returns-clause-outcome : goal.returns-clause-outcome
+returns-clause-outcome c =
+    let ran = c.in_ok-run_plain.ensures in
+    outcome_is c.args.bytes.now c.args.budget c.in_ok-checked.checked c.in_ok-run_plain.field-0 c.in_ok-checked.ensures.checked ran.replays ran.within ran.spent

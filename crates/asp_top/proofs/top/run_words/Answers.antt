@@ -1,7 +1,7 @@
-use Rattle.std.proofs.Common.{◌≡◌, refl, sym, ap, subst, ◌∙◌, map, List, ℕ, Option, Some}
+use Rattle.std.proofs.Common.{refl, map}
 use Rattle.std.specs.Prelude.{string_bytes}
-use Rattle.asp_top.specs.Seen.{inputs, sight, Usage, file_of}
-use Rattle.asp_top.specs.Stops.{ToldOf}
+use Rattle.asp_top.specs.Words.{Settings}
+use Rattle.asp_top.specs.Seen.{inputs, sight, Usage}
 use Rattle.asp_top.proofs.EndsLemmas.{ends_refused, ends_stopped, ends_written}
 use Rattle.asp_top.proofs.top.run_words.Goals as goal
 
@@ -17,16 +17,13 @@ returns-in-Ok g c =
     let i = inputs (map string_bytes c.args.words.now) g.S.Source.content g.S.Source.faults c.args.source.now c.prepare.new.source in
     let out = sight g.O.Sink.bytes g.O.Sink.faults c.args.out.now c.write_report.new.out in
     let err = sight g.E.Sink.bytes g.E.Sink.faults c.args.err.now c.write_report.new.err in
-    let name = c.as_str.result.now in
-    let named : file_of (map string_bytes c.args.words.now) ≡ Some name = c.in-Some.ensures ∙ ap (λ (l : List ℕ). let o : Option (List ℕ) = Some l in o) (sym c.as_str.ensures.value) in
-    ends_written i out err c.write_report.result name c.in-Ok.prepared named c.in-Ok.ensures.ready c.write_report.ensures
+    let s : Settings = record { file = c.in-Some.settings.file.now; budget = c.in-Some.settings.budget } in
+    ends_written i out err c.write_report.result s c.in-Ok.prepared c.in-Some.ensures c.in-Ok.ensures.ready c.write_report.ensures
 
 pub returns-in-Err : goal.returns-in-Err
 returns-in-Err g c =
     let i = inputs (map string_bytes c.args.words.now) g.S.Source.content g.S.Source.faults c.args.source.now c.prepare.new.source in
     let out = sight g.O.Sink.bytes g.O.Sink.faults c.args.out.now c.args.out.now in
     let err = sight g.E.Sink.bytes g.E.Sink.faults c.args.err.now c.refuse.new.err in
-    let name = c.as_str.result.now in
-    let named : file_of (map string_bytes c.args.words.now) ≡ Some name = c.in-Some.ensures ∙ ap (λ (l : List ℕ). let o : Option (List ℕ) = Some l in o) (sym c.as_str.ensures.value) in
-    let same : c.as_str-in-Err.result.now ≡ name = c.as_str-in-Err.ensures.value ∙ sym c.as_str.ensures.value in
-    ends_stopped i out err c.refuse.result name c.in-Err.stop named c.in-Err.ensures.stop (refl, refl) (subst (λ (l : List ℕ). ToldOf l c.in-Err.stop err c.refuse.result) same c.refuse.ensures)
+    let s : Settings = record { file = c.in-Some.settings.file.now; budget = c.in-Some.settings.budget } in
+    ends_stopped i out err c.refuse.result s c.in-Err.stop c.in-Some.ensures c.in-Err.ensures.stop (refl, refl) c.refuse.ensures

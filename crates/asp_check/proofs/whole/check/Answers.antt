@@ -1,0 +1,13 @@
+use Rattle.std.proofs.Common.{◌≡◌, Some, sym, ◌∙◌, ap}
+use Rattle.asp_model.specs.Shapes.{marked_of}
+use Rattle.asp_check.specs.Faults.{faults_of}
+use Rattle.asp_check.proofs.Firsts.{least_none, least_some}
+use Rattle.asp_check.proofs.whole.check.Goals as goal
+
+pub new-requires : goal.new-requires
+new-requires c = least_none (faults_of (marked_of c.args.program.root)) (sym c.in_ok-fault.ensures ∙ c.in-None.is)
+
+pub returns-in-Some-clause-fault : goal.returns-in-Some-clause-fault
+returns-in-Some-clause-fault c = λ f e.
+    let same : c.in-Some.fault ≡ f = cc in
+    least_some (marked_of c.args.program.root) f (sym c.in_ok-fault.ensures ∙ c.in-Some.is ∙ ap (λ g. Some g) same)

@@ -1,0 +1,8 @@
+-- in reading order; the last three serve the code's own contracts
+pub mod Placed
+pub mod NameFaults
+pub mod ArityFaults
+pub mod Faults
+pub mod Least
+pub mod Sets
+pub mod Walk

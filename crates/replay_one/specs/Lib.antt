@@ -1,0 +1,5 @@
+pub mod State
+pub mod Numbers
+pub mod Run
+pub mod Correct
+pub mod Laws

@@ -1,0 +1,2 @@
+pub mod SubstitutionLemmas
+pub mod CopyLemmas
