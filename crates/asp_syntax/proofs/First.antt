@@ -1,36 +1,42 @@
 -- Reading answers the first fault.
-use Rattle.std.proofs.Common.{◌≡◌, ◌≢◌, ℕ, ◌≤◌, ◌<◌, Bool, true, false, List, [], ◌∷◌, ◌++◌, Option, Some, None, Result, Ok, Err, refl, sym, ap, subst, ◌∙◌, append_assoc, arith}
+use Rattle.std.proofs.Common.{◌≡◌, ◌≢◌, ℕ, ◌≤◌, ◌<◌, Bool, true, false, List, [], ◌∷◌, ◌++◌, Option, Some, None, Result, Ok, Err, refl, sym, ap, subst, ◌∙◌, append_assoc, arith, inl, inr, ◌⊎◌}
 use Rattle.std.proofs.lemmas.Bool.{ltb-true, ltb-false}
 use Rattle.std.specs.Prelude.{nat_lt}
 use Rattle.asp_model.specs.Marked.{Marked}
 use Rattle.asp_syntax.specs.declared.token.Token.{Token}
 use Rattle.asp_syntax.specs.declared.token.Token.TheVariants as tokens
 use Rattle.asp_syntax.specs.declared.error.SyntaxKind.{SyntaxKind}
-use Rattle.asp_syntax.specs.declared.error.SyntaxKind.TheVariants.{BadByte, BadNumber, Unexpected, TooDeep, NotYet}
+use Rattle.asp_syntax.specs.declared.error.SyntaxKind.TheVariants.{BadByte, BadNumber, Unexpected, TooDeep, NotAField, NotYet}
 use Rattle.asp_syntax.specs.declared.error.SyntaxFault.{SyntaxFault}
 use Rattle.asp_syntax.specs.Tokens.{Lexeme}
 use Rattle.asp_syntax.specs.Grammar.{IsProgram, Begins}
-use Rattle.asp_syntax.specs.Machine.{KindShape, Top, InParentheses, InPrint, ModeShape, OpenShape, StateShape, At, Done, Want, Printing, Have, PartShape, ◌>>=◌, joined, close, ended, operand, bracket, have, step, run, start}
+use Rattle.asp_syntax.specs.States.{ModeShape, OpenShape, StateShape, At, Done}
+use Rattle.asp_syntax.specs.Closings.{◌>>=◌}
+use Rattle.asp_syntax.specs.Machine.{step, run, start}
 use Rattle.asp_syntax.specs.Levels.{WalkShape, walked, walk, flat, level_after}
 use Rattle.asp_syntax.specs.Faults.{number_of, IsFault, Clean, nowhere, nor_here, FirstFault}
 use Rattle.asp_syntax.specs.Cursors.{goes_on}
 use Rattle.asp_syntax.specs.Read.{judged, bad, verdict, onto, read, read_all}
 use Rattle.asp_syntax.proofs.Endings.{EndsWell}
+use Rattle.asp_syntax.proofs.Running.{run_append}
+use Rattle.asp_syntax.proofs.Running as running
 use Rattle.asp_syntax.proofs.Complete as complete
-use Rattle.asp_syntax.proofs.Sound.{sound, viable}
+use Rattle.asp_syntax.proofs.Sound.{sound}
+use Rattle.asp_syntax.proofs.Viable.{viable}
+use Rattle.asp_syntax.proofs.Stepping.{strict_step, differs, end_not, done_end}
 
-one_more : (ls : List Lexeme) (x : StateShape) (l : Lexeme) (z : Option StateShape) → run start ls ≡ Some x → step x l ≡ z → run start (ls ++ l ∷ []) ≡ z
-one_more ls x l None h g = complete.goes_on start x ls (l ∷ []) None h (ap (λ (z : Option StateShape). z >>= λ y. run y []) g)
-one_more ls x l (Some y) h g = complete.goes_on start x ls (l ∷ []) (Some y) h (ap (λ (z : Option StateShape). z >>= λ y. run y []) g)
+one_more : (s : Bool) (ls : List Lexeme) (x : StateShape) (l : Lexeme) (z : Option StateShape) → run s start ls ≡ Some x → step s x l ≡ z → run s start (ls ++ l ∷ []) ≡ z
+one_more s ls x l None h g = running.goes_on s start x ls (l ∷ []) None h (ap (λ (z : Option StateShape). z >>= λ y. run s y []) g)
+one_more s ls x l (Some y) h g = running.goes_on s start x ls (l ∷ []) (Some y) h (ap (λ (z : Option StateShape). z >>= λ y. run s y []) g)
 
-no_more : (ls : List Lexeme) (x : StateShape) (l : Lexeme) → run start ls ≡ Some x → step x l ≡ None → Begins (ls ++ l ∷ []) → ⊥
-no_more ls x l h g b =
-    let e : run start ((ls ++ l ∷ []) ++ b.rest) ≡ Some (Done b.program) = complete.complete ((ls ++ l ∷ []) ++ b.rest) b.program b.is in
-    let f : run start ((ls ++ l ∷ []) ++ b.rest) ≡ None = complete.run_append start (ls ++ l ∷ []) b.rest ∙ ap (λ (z : Option StateShape). z >>= λ v. run v b.rest) (one_more ls x l None h g) in
+no_more : (s : Bool) (ls : List Lexeme) (x : StateShape) (l : Lexeme) → run s start ls ≡ Some x → step s x l ≡ None → Begins s (ls ++ l ∷ []) → ⊥
+no_more s ls x l h g b =
+    let e : run s start ((ls ++ l ∷ []) ++ b.rest) ≡ Some (Done b.program) = complete.complete s ((ls ++ l ∷ []) ++ b.rest) b.program b.is in
+    let f : run s start ((ls ++ l ∷ []) ++ b.rest) ≡ None = run_append s start (ls ++ l ∷ []) b.rest ∙ ap (λ (z : Option StateShape). z >>= λ v. run s v b.rest) (one_more s ls x l None h g) in
     absurd cc
 
-yet : (ls : List Lexeme) (x y : StateShape) (l : Lexeme) → run start ls ≡ Some x → step x l ≡ Some y → Begins (ls ++ l ∷ [])
-yet ls x y l h g = viable (ls ++ l ∷ []) y (one_more ls x l (Some y) h g)
+yet : (s : Bool) (ls : List Lexeme) (x y : StateShape) (l : Lexeme) → run s start ls ≡ Some x → step s x l ≡ Some y → Begins s (ls ++ l ∷ [])
+yet s ls x y l h g = viable s (ls ++ l ∷ []) y (one_more s ls x l (Some y) h g)
 
 walk_one_more : (w : WalkShape) (ls : List Lexeme) (l : Lexeme) → walk w (ls ++ l ∷ []) ≡ walked (walk w ls) l.token
 walk_one_more w [] l = refl
@@ -51,40 +57,56 @@ record IsBuilt (t : Token) : Type 0 where
   not_number : t ≢ tokens.BadNumber
   not_unbuilt : t ≢ tokens.NotBuilt
 
-module _ (ls : List Lexeme) (l : Lexeme) (x : StateShape) (ran : run start ls ≡ Some x) (low : level_after ls ≤ 200) (built : IsBuilt l.token) where
-  none_at : (y : StateShape) → step x l ≡ Some y → nat_lt 200 (level_after (ls ++ l ∷ [])) ≡ false → (kind : SyntaxKind) → IsFault kind ls l → ⊥
-  none_at y f d BadByte i = built.not_byte i
-  none_at y f d BadNumber i = built.not_number i
-  none_at y f d Unexpected i = i.2 (yet ls x y l ran f)
-  none_at y f d TooDeep i = let le : level_after (ls ++ l ∷ []) ≤ 200 = ltb-false 200 (level_after (ls ++ l ∷ [])) d in absurd (omega (arith, i.1, le))
-  none_at y f d NotYet i = built.not_unbuilt i
+module _ (ls : List Lexeme) (l : Lexeme) (x : StateShape) (strict : run true start ls ≡ Some x) (loose : run false start ls ≡ Some x) (low : level_after ls ≤ 200) (built : IsBuilt l.token) where
+  none_at : (y z : StateShape) → step false x l ≡ Some y → nat_lt 200 (level_after (ls ++ l ∷ [])) ≡ false → step true x l ≡ Some z → (kind : SyntaxKind) → IsFault kind ls l → ⊥
+  none_at y z f d g BadByte i = built.not_byte i
+  none_at y z f d g BadNumber i = built.not_number i
+  none_at y z f d g Unexpected i = i.2 (yet false ls x y l loose f)
+  none_at y z f d g TooDeep i = let le : level_after (ls ++ l ∷ []) ≤ 200 = ltb-false 200 (level_after (ls ++ l ∷ [])) d in absurd (omega (arith, i.1, le))
+  none_at y z f d g NotAField i = i.3 (yet true ls x z l strict g)
+  none_at y z f d g NotYet i = built.not_unbuilt i
 
   least_unexpected : (kind : SyntaxKind) → IsFault kind ls l → 3 ≤ number_of kind
   least_unexpected BadByte i = absurd (built.not_byte i)
   least_unexpected BadNumber i = absurd (built.not_number i)
   least_unexpected Unexpected i = omega arith
   least_unexpected TooDeep i = omega arith
+  least_unexpected NotAField i = omega arith
   least_unexpected NotYet i = omega arith
 
-  least_deep : (y : StateShape) → step x l ≡ Some y → (kind : SyntaxKind) → IsFault kind ls l → 4 ≤ number_of kind
+  least_deep : (y : StateShape) → step false x l ≡ Some y → (kind : SyntaxKind) → IsFault kind ls l → 4 ≤ number_of kind
   least_deep y f BadByte i = absurd (built.not_byte i)
   least_deep y f BadNumber i = absurd (built.not_number i)
-  least_deep y f Unexpected i = absurd (i.2 (yet ls x y l ran f))
+  least_deep y f Unexpected i = absurd (i.2 (yet false ls x y l loose f))
   least_deep y f TooDeep i = omega arith
+  least_deep y f NotAField i = omega arith
   least_deep y f NotYet i = omega arith
 
-  judged_says : (y : Option StateShape) (d : Bool) → step x l ≡ y → nat_lt 200 (level_after (ls ++ l ∷ [])) ≡ d → Says ls l (judged y d)
-  judged_says None d f e = ((built.not_unbuilt, viable ls x ran, no_more ls x l ran f), least_unexpected)
-  judged_says (Some y) true f e =
+  least_field : (y : StateShape) → step false x l ≡ Some y → nat_lt 200 (level_after (ls ++ l ∷ [])) ≡ false → (kind : SyntaxKind) → IsFault kind ls l → 5 ≤ number_of kind
+  least_field y f d BadByte i = absurd (built.not_byte i)
+  least_field y f d BadNumber i = absurd (built.not_number i)
+  least_field y f d Unexpected i = absurd (i.2 (yet false ls x y l loose f))
+  least_field y f d TooDeep i = let le : level_after (ls ++ l ∷ []) ≤ 200 = ltb-false 200 (level_after (ls ++ l ∷ [])) d in absurd (omega (arith, i.1, le))
+  least_field y f d NotAField i = omega arith
+  least_field y f d NotYet i = omega arith
+
+  assigns : (y : StateShape) → step false x l ≡ Some y → step true x l ≡ None → l.token ≡ tokens.Assign
+  assigns y f g = elim (differs x l) [ inl e ↦ absurd cc | inr e ↦ e ]
+
+  judged_says : (y : Option StateShape) (d : Bool) (z : Option StateShape) → step false x l ≡ y → nat_lt 200 (level_after (ls ++ l ∷ [])) ≡ d → step true x l ≡ z → Says ls l (judged y d z)
+  judged_says None d z f e g = ((built.not_unbuilt, viable false ls x loose, no_more false ls x l loose f), least_unexpected)
+  judged_says (Some y) true z f e g =
       let lt : 200 < level_after (ls ++ l ∷ []) = ltb-true 200 (level_after (ls ++ l ∷ [])) e in
       ((omega (arith, lt, low), lt), least_deep y f)
-  judged_says (Some y) false f e = none_at y f e
+  judged_says (Some y) false None f e g = ((assigns y f g, viable true ls x strict, yet false ls x y l loose f, no_more true ls x l strict g), least_field y f e)
+  judged_says (Some y) false (Some z) f e g = none_at y z f e g
 
 least_byte : (ls : List Lexeme) (l : Lexeme) (kind : SyntaxKind) → IsFault kind ls l → 1 ≤ number_of kind
 least_byte ls l BadByte i = omega arith
 least_byte ls l BadNumber i = omega arith
 least_byte ls l Unexpected i = omega arith
 least_byte ls l TooDeep i = omega arith
+least_byte ls l NotAField i = omega arith
 least_byte ls l NotYet i = omega arith
 
 least_number : (ls : List Lexeme) (l : Lexeme) → l.token ≡ tokens.BadNumber → (kind : SyntaxKind) → IsFault kind ls l → 2 ≤ number_of kind
@@ -92,6 +114,7 @@ least_number ls l e BadByte i = absurd cc
 least_number ls l e BadNumber i = omega arith
 least_number ls l e Unexpected i = omega arith
 least_number ls l e TooDeep i = omega arith
+least_number ls l e NotAField i = omega arith
 least_number ls l e NotYet i = omega arith
 
 least_unbuilt : (ls : List Lexeme) (l : Lexeme) → l.token ≡ tokens.NotBuilt → (kind : SyntaxKind) → IsFault kind ls l → 6 ≤ number_of kind
@@ -99,6 +122,7 @@ least_unbuilt ls l e BadByte i = absurd cc
 least_unbuilt ls l e BadNumber i = absurd cc
 least_unbuilt ls l e Unexpected i = absurd (i.0 e)
 least_unbuilt ls l e TooDeep i = absurd (omega (arith, i.0, unbuilt_flat ls l e))
+least_unbuilt ls l e NotAField i = let f : l.token ≡ tokens.Assign = i.0 in absurd cc
 least_unbuilt ls l e NotYet i = omega arith
 
 bad_says : (ls : List Lexeme) (l : Lexeme) (t : Token) (v : Option SyntaxKind) → l.token ≡ t → (IsBuilt t → Says ls l v) → Says ls l (bad t v)
@@ -107,68 +131,28 @@ bad_says ls l tokens.BadNumber v e h = (e, least_number ls l e)
 bad_says ls l tokens.NotBuilt v e h = (e, least_unbuilt ls l e)
 bad_says ls l _ v e h = h (record { not_byte = λ g. absurd cc; not_number = λ g. absurd cc; not_unbuilt = λ g. absurd cc })
 
-verdict_says : (ls : List Lexeme) (l : Lexeme) (x : StateShape) → run start ls ≡ Some x → level_after ls ≤ 200 → Says ls l (verdict x (walk flat ls) l)
-verdict_says ls l x ran low =
+verdict_says : (ls : List Lexeme) (l : Lexeme) (x : StateShape) → run true start ls ≡ Some x → run false start ls ≡ Some x → level_after ls ≤ 200 → Says ls l (verdict x (walk flat ls) l)
+verdict_says ls l x strict loose low =
     let d : Bool = nat_lt 200 (walked (walk flat ls) l.token).level in
-    bad_says ls l l.token (judged (step x l) d) refl
-    (λ b. judged_says ls l x ran low b (step x l) d refl (ap (λ (w : WalkShape). nat_lt 200 w.level) (walk_one_more flat ls l)))
+    bad_says ls l l.token (judged (step false x l) d (step true x l)) refl
+    (λ b. judged_says ls l x strict loose low b (step false x l) d (step true x l) refl (ap (λ (w : WalkShape). nat_lt 200 w.level) (walk_one_more flat ls l)) refl)
 
 -- a verdict that finds nothing
-pub goes : (t : Token) (d : Bool) → bad t (judged None d) ≡ None → ⊥
-goes tokens.BadByte d e = absurd cc
-goes tokens.BadNumber d e = absurd cc
-goes tokens.NotBuilt d e = absurd cc
-goes _ d e = absurd cc
+pub goes : (t : Token) (y : Option StateShape) (d : Bool) → bad t (judged y d None) ≡ None → ⊥
+goes tokens.BadByte y d e = absurd cc
+goes tokens.BadNumber y d e = absurd cc
+goes tokens.NotBuilt y d e = absurd cc
+goes _ None d e = absurd cc
+goes _ (Some y) true e = absurd cc
+goes _ (Some y) false e = absurd cc
 
-pub shallow : (t : Token) (y : Option StateShape) (d : Bool) → bad t (judged y d) ≡ None → d ≡ false
-shallow tokens.BadByte y d e = absurd cc
-shallow tokens.BadNumber y d e = absurd cc
-shallow tokens.NotBuilt y d e = absurd cc
-shallow _ None d e = absurd cc
-shallow _ (Some y) true e = absurd cc
-shallow _ (Some y) false e = refl
-
--- the end leaves no state to go on from, and nothing else ends the reading
-ended_not : (k : KindShape) (t : Marked) (o : List OpenShape) (m : ModeShape) (s : OpenShape) (p : List OpenShape) → ended k t o ≡ Some (At m s p) → ⊥
-ended_not Top t [] m s p e = absurd cc
-ended_not Top t (r ∷ o) m s p e = absurd cc
-ended_not (InParentheses at) t o m s p e = absurd cc
-ended_not (InPrint at) t o m s p e = absurd cc
-
-end_not : (x : StateShape) (l : Lexeme) (m : ModeShape) (s : OpenShape) (p : List OpenShape) → step x l ≡ Some (At m s p) → l.token ≡ tokens.End → ⊥
-end_not (At Want r o) l m s p e h = let f : operand r o tokens.End l.at ≡ Some (At m s p) = sym (ap (λ (t : Token). operand r o t l.at) h) ∙ e in absurd cc
-end_not (At (Printing at) r o) l m s p e h = let f : bracket at r o tokens.End ≡ Some (At m s p) = sym (ap (λ (t : Token). bracket at r o t) h) ∙ e in absurd cc
-end_not (At (Have q) r o) l m s p e h = ended_not r.kind (joined r.left q).term o m s p (sym (ap (λ (t : Token). have q r o t) h) ∙ e)
-end_not (Done t) l m s p e h = absurd cc
-
-want_goes : (r : OpenShape) (o : List OpenShape) (t : Token) (at : ℕ) (u : Marked) → operand r o t at ≡ Some (Done u) → ⊥
-want_goes r o (tokens.Number n) at u e = absurd cc
-want_goes r o tokens.Print at u e = absurd cc
-want_goes r o tokens.Open at u e = absurd cc
-want_goes r o _ at u e = absurd cc
-
-bracket_goes : (p : ℕ) (r : OpenShape) (o : List OpenShape) (t : Token) (u : Marked) → bracket p r o t ≡ Some (Done u) → ⊥
-bracket_goes p r o tokens.Open u e = absurd cc
-bracket_goes p r o _ u e = absurd cc
-
-close_goes : (k : KindShape) (t : Marked) (o : List OpenShape) (u : Marked) → close k t o ≡ Some (Done u) → ⊥
-close_goes Top t o u e = absurd cc
-close_goes (InParentheses at) t [] u e = absurd cc
-close_goes (InParentheses at) t (r ∷ o) u e = absurd cc
-close_goes (InPrint at) t [] u e = absurd cc
-close_goes (InPrint at) t (r ∷ o) u e = absurd cc
-
-have_done : (q : PartShape) (r : OpenShape) (o : List OpenShape) (t : Token) (u : Marked) → have q r o t ≡ Some (Done u) → t ≡ tokens.End
-have_done q r o tokens.Plus u e = absurd cc
-have_done q r o tokens.Close u e = absurd (close_goes r.kind (joined r.left q).term o u e)
-have_done q r o tokens.End u e = refl
-have_done q r o _ u e = absurd cc
-
-pub done_end : (x : StateShape) (l : Lexeme) (u : Marked) → step x l ≡ Some (Done u) → l.token ≡ tokens.End
-done_end (At Want r o) l u e = absurd (want_goes r o l.token l.at u e)
-done_end (At (Printing p) r o) l u e = absurd (bracket_goes p r o l.token u e)
-done_end (At (Have q) r o) l u e = have_done q r o l.token u e
-done_end (Done t) l u e = absurd cc
+pub shallow : (t : Token) (y : Option StateShape) (d : Bool) (z : Option StateShape) → bad t (judged y d z) ≡ None → d ≡ false
+shallow tokens.BadByte y d z e = absurd cc
+shallow tokens.BadNumber y d z e = absurd cc
+shallow tokens.NotBuilt y d z e = absurd cc
+shallow _ None d z e = absurd cc
+shallow _ (Some y) true z e = absurd cc
+shallow _ (Some y) false z e = refl
 
 not_last : (t : Token) (v : Option SyntaxKind) → bad t v ≡ None → (t ≡ tokens.End → ⊥) → goes_on t ≡ true
 not_last tokens.BadByte v e h = absurd cc
@@ -177,8 +161,8 @@ not_last tokens.End v e h = absurd (h refl)
 not_last _ v e h = refl
 
 -- behind a lexeme from which reading goes on others come
-pub comes_on : (x : StateShape) (w : WalkShape) (l : Lexeme) (m : ModeShape) (s : OpenShape) (o : List OpenShape) → verdict x w l ≡ None → step x l ≡ Some (At m s o) → goes_on l.token ≡ true
-comes_on x w l m s o e f = not_last l.token (judged (step x l) (nat_lt 200 (walked w l.token).level)) e (end_not x l m s o f)
+pub comes_on : (x : StateShape) (w : WalkShape) (l : Lexeme) (m : ModeShape) (s : OpenShape) (o : List OpenShape) → verdict x w l ≡ None → step true x l ≡ Some (At m s o) → goes_on l.token ≡ true
+comes_on x w l m s o e f = not_last l.token (judged (step false x l) (nat_lt 200 (walked w l.token).level) (step true x l)) e (end_not x l m s o f)
 
 pub ends_next : (l : Lexeme) (ls : List Lexeme) → goes_on l.token ≡ true → EndsWell (l ∷ ls) → EndsWell ls
 ends_next l [] e h = absurd cc
@@ -189,19 +173,19 @@ last_one l [] e h = refl
 last_one l (m ∷ ls) e h = let f : true ≡ false = sym h.0 ∙ ap goes_on e in absurd cc
 
 abbrev pub Answer : List Lexeme → Result Marked SyntaxFault → Type 0
-Answer ls (Ok t) = IsProgram ls t
+Answer ls (Ok t) = IsProgram true ls t
 Answer ls (Err f) = FirstFault ls f
 
 answer_moved : (ls ms : List Lexeme) (r : Result Marked SyntaxFault) → ls ≡ ms → Answer ls r → Answer ms r
 answer_moved ls ms r e h = subst (λ l. Answer l r) e h
 
 abbrev Reads : List Lexeme → List Lexeme → StateShape → WalkShape → Type 0
-Reads ls before x w = w ≡ walk flat before → run start before ≡ Some x → level_after before ≤ 200 → Clean before → EndsWell ls → Answer (before ++ ls) (read x w ls)
+Reads ls before x w = w ≡ walk flat before → run true start before ≡ Some x → run false start before ≡ Some x → level_after before ≤ 200 → Clean before → EndsWell ls → Answer (before ++ ls) (read x w ls)
 
-module _ (l : Lexeme) (ls before : List Lexeme) (x : StateShape) (w : WalkShape) (is : w ≡ walk flat before) (begun : run start before ≡ Some x)
+module _ (l : Lexeme) (ls before : List Lexeme) (x : StateShape) (w : WalkShape) (is : w ≡ walk flat before) (strict : run true start before ≡ Some x) (loose : run false start before ≡ Some x)
     (low : level_after before ≤ 200) (clean : Clean before) (well : EndsWell (l ∷ ls)) (more : (y : StateShape) → Reads ls (before ++ l ∷ []) y (walked w l.token)) where
   says : Says before l (verdict x w l)
-  says = subst (λ v. Says before l (verdict x v l)) (sym is) (verdict_says before l x begun low)
+  says = subst (λ v. Says before l (verdict x v l)) (sym is) (verdict_says before l x strict loose low)
 
   next_clean : verdict x w l ≡ None → Clean (before ++ l ∷ [])
   next_clean e = nor_here before l clean (subst (λ v. Says before l v) e says)
@@ -211,25 +195,25 @@ module _ (l : Lexeme) (ls before : List Lexeme) (x : StateShape) (w : WalkShape)
 
   next_low : verdict x w l ≡ None → level_after (before ++ l ∷ []) ≤ 200
   next_low e =
-      let d : nat_lt 200 (walked w l.token).level ≡ false = shallow l.token (step x l) (nat_lt 200 (walked w l.token).level) e in
+      let d : nat_lt 200 (walked w l.token).level ≡ false = shallow l.token (step false x l) (nat_lt 200 (walked w l.token).level) (step true x l) e in
       subst (λ v. v.level ≤ 200) next_walk (ltb-false 200 (walked w l.token).level d)
 
-  at_lexeme : (v : Option SyntaxKind) (z : Option StateShape) → verdict x w l ≡ v → step x l ≡ z → Answer (before ++ l ∷ ls) (onto l.at v z (λ y. read y (walked w l.token) ls))
+  at_lexeme : (v : Option SyntaxKind) (z : Option StateShape) → verdict x w l ≡ v → step true x l ≡ z → Answer (before ++ l ∷ ls) (onto l.at v z (λ y. read y (walked w l.token) ls))
   at_lexeme (Some kind) z e f =
       let h : Says before l (Some kind) = subst (λ v. Says before l v) e says in
       record { before = before; here = l; behind = ls; whole = refl; clean = clean; place = refl; is = h.0; least = h.1 }
-  at_lexeme None None e f = absurd (goes l.token (nat_lt 200 (walked w l.token).level) (ap (λ (z : Option StateShape). bad l.token (judged z (nat_lt 200 (walked w l.token).level))) (sym f) ∙ e))
+  at_lexeme None None e f = absurd (goes l.token (step false x l) (nat_lt 200 (walked w l.token).level) (ap (λ (z : Option StateShape). bad l.token (judged (step false x l) (nat_lt 200 (walked w l.token).level) z)) (sym f) ∙ e))
   at_lexeme None (Some (Done t)) e f =
       let over : ls ≡ [] = last_one l ls (done_end x l t f) well in
-      subst (λ ms. IsProgram (before ++ l ∷ ms) t) (sym over) (sound (before ++ l ∷ []) t (one_more before x l (Some (Done t)) begun f))
+      subst (λ ms. IsProgram true (before ++ l ∷ ms) t) (sym over) (sound true (before ++ l ∷ []) t (one_more true before x l (Some (Done t)) strict f))
   at_lexeme None (Some (At m s o)) e f =
       answer_moved ((before ++ l ∷ []) ++ ls) (before ++ l ∷ ls) (read (At m s o) (walked w l.token) ls) (append_assoc before (l ∷ []) ls)
-      (more (At m s o) next_walk (one_more before x l (Some (At m s o)) begun f) (next_low e) (next_clean e) (ends_next l ls (comes_on x w l m s o e f) well))
+      (more (At m s o) next_walk (one_more true before x l (Some (At m s o)) strict f) (one_more false before x l (Some (At m s o)) loose (strict_step x l (At m s o) f)) (next_low e) (next_clean e) (ends_next l ls (comes_on x w l m s o e f) well))
 
 reads : (ls before : List Lexeme) (x : StateShape) (w : WalkShape) → Reads ls before x w
-reads [] before x w is a c d well = absurd well
-reads (l ∷ ls) before x w is a c d well = at_lexeme l ls before x w is a c d well (λ y. reads ls (before ++ l ∷ []) y (walked w l.token)) (verdict x w l) (step x l) refl refl
+reads [] before x w is a b c d well = absurd well
+reads (l ∷ ls) before x w is a b c d well = at_lexeme l ls before x w is a b c d well (λ y. reads ls (before ++ l ∷ []) y (walked w l.token)) (verdict x w l) (step true x l) refl refl
 
 -- reading gives the program where there is no fault, and else the first fault
 pub answers : (ls : List Lexeme) → EndsWell ls → Answer ls (read_all ls)
-answers ls well = reads ls [] start flat refl refl (omega arith) nowhere well
+answers ls well = reads ls [] start flat refl refl refl (omega arith) nowhere well

@@ -3,10 +3,12 @@ use Rattle.std.proofs.Common.{◌≡◌, ◌≢◌, ℕ, ◌+◌, ◌-◌, ◌*�
 use Rattle.std.specs.Prelude.{◌==◌}
 use Rattle.std.proofs.lemmas.List.{at_drop_more, at_drop_all}
 use Rattle.std.proofs.lemmas.Bool.{lt-ltb, le-ltb, ne_eqb}
+use Rattle.std.proofs.lemmas.Bool.Decides.{nat_tests}
 use Rattle.asp_syntax.specs.declared.token.Token.{Token}
-use Rattle.asp_syntax.specs.declared.token.Token.TheVariants.{Number, NotBuilt, BadByte, BadNumber}
-use Rattle.asp_syntax.specs.Tokens.{Lexeme, lexeme, lex, Scan, Between, InNumber, InWord, InText, InComment, AfterSlash, AfterColon, AfterEquals, Move, Goes, NoToken, TooLarge, move, after_move, at_end, with_token, digit, between, is_digit, is_blank, is_letter, is_inner, is_text, sign_token, sign_move, word_token}
-use Rattle.asp_syntax.specs.Cursors.{from}
+use Rattle.asp_syntax.specs.declared.token.Token.TheVariants.{Number, Text, Slash, Equals, Assign, Same, BadByte, BadNumber}
+use Rattle.asp_syntax.specs.Bytes.{is_digit, is_blank, is_letter, is_inner, is_text, sign_token, word_token}
+use Rattle.asp_syntax.specs.Tokens.{Lexeme, lexeme, lex, Scan, Between, InNumber, InWord, InText, InComment, AfterSlash, AfterColon, AfterEquals, Move, Goes, NoToken, TooLarge, move, after_move, at_end, with_token, digit, between, sign_move}
+use Rattle.asp_syntax.specs.Cursors.{from, IsAlone}
 
 step : (s : Scan) (bs : List ℕ) (i : ℕ) → i < length bs → from s bs i ≡ after_move (move s i (get_or bs i 0)) (λ next. from next bs (i + 1))
 unfolding lex
@@ -31,6 +33,16 @@ passed b x y h = rw h refl
 
 go_from : List ℕ → ℕ → Move → List Lexeme
 go_from bs i m = after_move m (λ next. from next bs (i + 1))
+
+-- the bytes of words and texts are ASCII
+pub inner_ascii : (b : ℕ) → is_inner b ≡ true → b < 128
+inner_ascii b e = grind (arith, nat_tests)
+
+pub letter_ascii : (b : ℕ) → is_letter b ≡ true → b < 128
+letter_ascii b e = grind (arith, nat_tests)
+
+pub text_ascii : (b : ℕ) → is_text b ≡ true → b < 128
+text_ascii b e = grind (arith, nat_tests)
 
 -- no byte of this kind stands at the place
 abbrev pub Past : (ℕ → Bool) → List ℕ → ℕ → Type 0
@@ -79,14 +91,15 @@ word_is start w bs i past =
       | inr h ↦ token_over (InWord start w) t bs i h.0 (passed (is_inner (get_or bs i 0)) (Goes [] (InWord start (w ++ get_or bs i 0 ∷ []))) (with_token t (between i (get_or bs i 0))) h.1)
     ]
 
-pub text_more : (start : ℕ) (bs : List ℕ) (i : ℕ) → i < length bs → get_or bs i 0 ≢ 34 → is_text (get_or bs i 0) ≡ true → from (InText start) bs i ≡ from (InText start) bs (i + 1)
-text_more start bs i h quote d = step (InText start) bs i h ∙ rw (ne_eqb _ _ quote, d) refl
+pub text_more : (start : ℕ) (w bs : List ℕ) (i : ℕ) → i < length bs → get_or bs i 0 ≢ 34 → is_text (get_or bs i 0) ≡ true
+    → from (InText start w) bs i ≡ from (InText start (w ++ get_or bs i 0 ∷ [])) bs (i + 1)
+text_more start w bs i h quote d = step (InText start w) bs i h ∙ rw (ne_eqb _ _ quote, d) refl
 
-pub text_bad : (start : ℕ) (bs : List ℕ) (i : ℕ) → i < length bs → get_or bs i 0 ≢ 34 → is_text (get_or bs i 0) ≡ false → from (InText start) bs i ≡ lexeme BadByte i ∷ []
-text_bad start bs i h quote d = step (InText start) bs i h ∙ rw (ne_eqb _ _ quote, d) refl
+pub text_bad : (start : ℕ) (w bs : List ℕ) (i : ℕ) → i < length bs → get_or bs i 0 ≢ 34 → is_text (get_or bs i 0) ≡ false → from (InText start w) bs i ≡ lexeme BadByte i ∷ []
+text_bad start w bs i h quote d = step (InText start w) bs i h ∙ rw (ne_eqb _ _ quote, d) refl
 
-pub text_over : (start : ℕ) (bs : List ℕ) (i : ℕ) → i < length bs → get_or bs i 0 ≡ 34 → from (InText start) bs i ≡ lexeme NotBuilt start ∷ from Between bs (i + 1)
-text_over start bs i h quote = step (InText start) bs i h ∙ rw quote refl
+pub text_over : (start : ℕ) (w bs : List ℕ) (i : ℕ) → i < length bs → get_or bs i 0 ≡ 34 → from (InText start w) bs i ≡ lexeme (Text w) start ∷ from Between bs (i + 1)
+text_over start w bs i h quote = step (InText start w) bs i h ∙ rw quote refl
 
 pub comment_more : (bs : List ℕ) (i : ℕ) → i < length bs → get_or bs i 0 ≢ 10 → from InComment bs i ≡ from InComment bs (i + 1)
 comment_more bs i h d = step InComment bs i h ∙ rw (ne_eqb _ _ d) refl
@@ -118,23 +131,13 @@ pub equals_first : (bs : List ℕ) (i : ℕ) → i < length bs → get_or bs i 0
 unfolding between
 equals_first bs i h d = step Between bs i h ∙ rw d refl
 
-pub quote_first : (bs : List ℕ) (i : ℕ) → i < length bs → get_or bs i 0 ≡ 34 → from Between bs i ≡ from (InText i) bs (i + 1)
+pub quote_first : (bs : List ℕ) (i : ℕ) → i < length bs → get_or bs i 0 ≡ 34 → from Between bs i ≡ from (InText i []) bs (i + 1)
 unfolding between
 quote_first bs i h d = step Between bs i h ∙ rw d refl
 
 slash_first : (bs : List ℕ) (i : ℕ) → i < length bs → get_or bs i 0 ≡ 47 → from Between bs i ≡ from (AfterSlash i) bs (i + 1)
 unfolding between
 slash_first bs i h d = step Between bs i h ∙ rw d refl
-
--- a byte that is no blank, and begins nothing longer than itself
-pub record IsAlone (b : ℕ) : Type 0 where
-  pub blank : is_blank b ≡ false
-  pub digit : is_digit b ≡ false
-  pub letter : is_letter b ≡ false
-  pub slash : b ≢ 47
-  pub colon : b ≢ 58
-  pub equals : b ≢ 61
-  pub quote : b ≢ 34
 
 alone_is : (bs : List ℕ) (i : ℕ) → i < length bs → IsAlone (get_or bs i 0) → from Between bs i ≡ after_move (sign_move i (sign_token (get_or bs i 0))) (λ next. from next bs (i + 1))
 unfolding between
@@ -157,32 +160,32 @@ two f i = let e : i + 1 + 1 ≡ i + 2 = omega arith in ap f e
 pub slash_comment : (bs : List ℕ) (i : ℕ) → i + 1 < length bs → get_or bs i 0 ≡ 47 → get_or bs (i + 1) 0 ≡ 47 → from Between bs i ≡ from InComment bs (i + 2)
 slash_comment bs i h d e = slash_first bs i (omega arith) d ∙ (step (AfterSlash i) bs (i + 1) h ∙ rw e refl) ∙ two (from InComment bs) i
 
-pub slash_alone : (bs : List ℕ) (i : ℕ) → i < length bs → get_or bs i 0 ≡ 47 → Lacks 47 bs (i + 1) → from Between bs i ≡ lexeme NotBuilt i ∷ from Between bs (i + 1)
+pub slash_alone : (bs : List ℕ) (i : ℕ) → i < length bs → get_or bs i 0 ≡ 47 → Lacks 47 bs (i + 1) → from Between bs i ≡ lexeme Slash i ∷ from Between bs (i + 1)
 slash_alone bs i h d past =
-    let t : Lexeme = lexeme NotBuilt i in
+    let t : Lexeme = lexeme Slash i in
     slash_first bs i h d
     ∙ elim past [
       | inl e ↦ token_ends (AfterSlash i) t bs (i + 1) e refl
       | inr e ↦ token_over (AfterSlash i) t bs (i + 1) e.0 (passed (get_or bs (i + 1) 0 == 47) (Goes [] InComment) (with_token t (between (i + 1) (get_or bs (i + 1) 0))) (ne_eqb _ _ e.1))
     ]
 
-pub colon_equals : (bs : List ℕ) (i : ℕ) → i + 1 < length bs → get_or bs i 0 ≡ 58 → get_or bs (i + 1) 0 ≡ 61 → from Between bs i ≡ lexeme NotBuilt i ∷ from Between bs (i + 2)
+pub colon_equals : (bs : List ℕ) (i : ℕ) → i + 1 < length bs → get_or bs i 0 ≡ 58 → get_or bs (i + 1) 0 ≡ 61 → from Between bs i ≡ lexeme Assign i ∷ from Between bs (i + 2)
 colon_equals bs i h d e =
-    colon_first bs i (omega arith) d ∙ (step (AfterColon i) bs (i + 1) h ∙ rw e refl) ∙ two (λ n. lexeme NotBuilt i ∷ from Between bs n) i
+    colon_first bs i (omega arith) d ∙ (step (AfterColon i) bs (i + 1) h ∙ rw e refl) ∙ two (λ n. lexeme Assign i ∷ from Between bs n) i
 
 pub colon_alone : (bs : List ℕ) (i : ℕ) → i < length bs → get_or bs i 0 ≡ 58 → Lacks 61 bs (i + 1) → from Between bs i ≡ lexeme BadByte i ∷ []
 colon_alone bs i h d past =
     colon_first bs i h d ∙ elim past [ inl e ↦ ended (AfterColon i) bs (i + 1) e | inr e ↦ step (AfterColon i) bs (i + 1) e.0 ∙ rw (ne_eqb _ _ e.1) refl ]
 
-pub equals_equals : (bs : List ℕ) (i : ℕ) → i + 1 < length bs → get_or bs i 0 ≡ 61 → get_or bs (i + 1) 0 ≡ 61 → from Between bs i ≡ lexeme NotBuilt i ∷ from Between bs (i + 2)
+pub equals_equals : (bs : List ℕ) (i : ℕ) → i + 1 < length bs → get_or bs i 0 ≡ 61 → get_or bs (i + 1) 0 ≡ 61 → from Between bs i ≡ lexeme Same i ∷ from Between bs (i + 2)
 equals_equals bs i h d e =
-    equals_first bs i (omega arith) d ∙ (step (AfterEquals i) bs (i + 1) h ∙ rw e refl) ∙ two (λ n. lexeme NotBuilt i ∷ from Between bs n) i
+    equals_first bs i (omega arith) d ∙ (step (AfterEquals i) bs (i + 1) h ∙ rw e refl) ∙ two (λ n. lexeme Same i ∷ from Between bs n) i
 
-pub equals_alone : (bs : List ℕ) (i : ℕ) → i < length bs → get_or bs i 0 ≡ 61 → Lacks 61 bs (i + 1) → from Between bs i ≡ lexeme NotBuilt i ∷ from Between bs (i + 1)
+pub equals_alone : (bs : List ℕ) (i : ℕ) → i < length bs → get_or bs i 0 ≡ 61 → Lacks 61 bs (i + 1) → from Between bs i ≡ lexeme Equals i ∷ from Between bs (i + 1)
 equals_alone bs i h d past =
-    let t : Lexeme = lexeme NotBuilt i in
+    let t : Lexeme = lexeme Equals i in
     equals_first bs i h d
     ∙ elim past [
       | inl e ↦ token_ends (AfterEquals i) t bs (i + 1) e refl
-      | inr e ↦ token_over (AfterEquals i) t bs (i + 1) e.0 (passed (get_or bs (i + 1) 0 == 61) (Goes (t ∷ []) Between) (with_token t (between (i + 1) (get_or bs (i + 1) 0))) (ne_eqb _ _ e.1))
+      | inr e ↦ token_over (AfterEquals i) t bs (i + 1) e.0 (passed (get_or bs (i + 1) 0 == 61) (Goes (lexeme Same i ∷ []) Between) (with_token t (between (i + 1) (get_or bs (i + 1) 0))) (ne_eqb _ _ e.1))
     ]

@@ -9,39 +9,48 @@ use Rattle.asp_syntax.specs.declared.token.Token.{Token}
 use Rattle.asp_syntax.specs.declared.token.Token.TheVariants as tokens
 use Rattle.asp_syntax.specs.declared.token.Cursor.{Cursor}
 use Rattle.asp_syntax.specs.declared.error.SyntaxKind.{SyntaxKind}
-use Rattle.asp_syntax.specs.declared.error.SyntaxKind.TheVariants.{Unexpected, TooDeep}
+use Rattle.asp_syntax.specs.declared.error.SyntaxKind.TheVariants.{Unexpected, TooDeep, NotAField}
 use Rattle.asp_syntax.specs.declared.error.SyntaxFault.{SyntaxFault}
 use Rattle.asp_syntax.specs.declared.error.SyntaxError.{SyntaxError}
 use Rattle.asp_syntax.specs.declared.error.SyntaxError.TheVariants as errors
 use Rattle.asp_syntax.specs.declared.levels.Walk as code_walk
-use Rattle.asp_syntax.specs.declared.machine.State as code_state
+use Rattle.asp_syntax.specs.declared.state.State as code_state
 use Rattle.asp_syntax.specs.Tokens.{Lexeme, Between, lexemes_of}
 use Rattle.asp_syntax.specs.Levels.{WalkShape, walked}
 use Rattle.asp_syntax.specs.Faults.{FirstFault}
 use Rattle.asp_syntax.specs.Correct.{IsProgramText, IfFault, IsOkWith}
 use Rattle.asp_syntax.specs.Cursors.{goes_on, from, lexeme_of, lexemes}
-use Rattle.asp_syntax.specs.Machine.{ModeShape, OpenShape, StateShape, At, Done, step}
+use Rattle.asp_syntax.specs.States.{ModeShape, OpenShape, StateShape, At, Done}
+use Rattle.asp_syntax.specs.Machine.{step}
 use Rattle.asp_syntax.specs.Read.{judged, bad, verdict, fault_at, onto, read, read_all}
-use Rattle.asp_syntax.specs.Shapes.{GoesOn, Turns, Reads}
+use Rattle.asp_syntax.specs.Steps.{GoesOn, Turns, Reads}
 use Rattle.asp_syntax.proofs.Endings.{text_ends}
 use Rattle.asp_syntax.proofs.First.{Answer, answers, comes_on}
 use Rattle.asp_syntax.proofs.Only.{only, low_read}
 
-pub judged_none : (y : Option StateShape) (d : Bool) → y ≡ None → judged y d ≡ Some Unexpected
-judged_none y d e = rw e refl
+pub judged_none : (y z : Option StateShape) (d : Bool) → y ≡ None → judged y d z ≡ Some Unexpected
+judged_none y z d e = rw e refl
 
-pub judged_deep : (x : StateShape) (y : Option StateShape) (d : Bool) → y ≡ Some x → d ≡ true → judged y d ≡ Some TooDeep
-judged_deep x y d f e = rw (f, e) refl
+pub judged_deep : (y z : Option StateShape) (d : Bool) → y ≢ None → d ≡ true → judged y d z ≡ Some TooDeep
+judged_deep None z d h e = absurd (h refl)
+judged_deep (Some y) z d h e = rw e refl
 
-pub judged_low : (x : StateShape) (y : Option StateShape) (d : Bool) → y ≡ Some x → d ≡ false → judged y d ≡ None
-judged_low x y d f e = rw (f, e) refl
+pub judged_field : (y z : Option StateShape) (d : Bool) → y ≢ None → z ≡ None → d ≡ false → judged y d z ≡ Some NotAField
+judged_field None z d h f e = absurd (h refl)
+judged_field (Some y) z d h f e = rw (e, f) refl
 
-pub judged_shallow : (y : Option StateShape) (n : ℕ) → judged y (nat_lt 200 n) ≡ None → n ≤ 200
-judged_shallow y n e = ltb-false 200 n (shut y (nat_lt 200 n) e) where
-  shut : (y : Option StateShape) (d : Bool) → judged y d ≡ None → d ≡ false
-  shut None d e = absurd cc
-  shut (Some y) true e = absurd cc
-  shut (Some y) false e = refl
+pub judged_high : (x : StateShape) (y z : Option StateShape) (d : Bool) → y ≡ Some x → d ≡ true → judged y d z ≡ Some TooDeep
+judged_high x y z d f e = rw (f, e) refl
+
+pub judged_low : (x : StateShape) (y z : Option StateShape) (d : Bool) → y ≡ Some x → z ≡ Some x → d ≡ false → judged y d z ≡ None
+judged_low x y z d f g e = rw (f, g, e) refl
+
+pub judged_shallow : (y z : Option StateShape) (n : ℕ) → judged y (nat_lt 200 n) z ≡ None → n ≤ 200
+judged_shallow y z n e = ltb-false 200 n (shut y z (nat_lt 200 n) e) where
+  shut : (y z : Option StateShape) (d : Bool) → judged y d z ≡ None → d ≡ false
+  shut None z d e = absurd cc
+  shut (Some y) z true e = absurd cc
+  shut (Some y) z false e = refl
 
 bad_not : (t : Token) (v : Option SyntaxKind) → t ≢ tokens.BadByte → t ≢ tokens.BadNumber → t ≢ tokens.NotBuilt → bad t v ≡ v
 bad_not tokens.BadByte v f g h = absurd (f refl)
@@ -51,8 +60,8 @@ bad_not _ v f g h = refl
 
 pub built_turns : (r : Result (code_state.State × code_walk.Walk) SyntaxError) (x : StateShape) (w : WalkShape) (l : Lexeme)
     → l.token ≢ tokens.BadByte → l.token ≢ tokens.BadNumber → l.token ≢ tokens.NotBuilt → GoesOn r x w l → Turns r x w l
-built_turns (Ok y) x w l f g h (a, b, c) = (bad_not l.token (judged (step x l) (nat_lt 200 (walked w l.token).level)) f g h ∙ a, b, c)
-built_turns (Err (errors.Fault e)) x w l f g h (a, b) = (bad_not l.token (judged (step x l) (nat_lt 200 (walked w l.token).level)) f g h ∙ a, b)
+built_turns (Ok y) x w l f g h (a, b, c) = (bad_not l.token (judged (step false x l) (nat_lt 200 (walked w l.token).level) (step true x l)) f g h ∙ a, b, c)
+built_turns (Err (errors.Fault e)) x w l f g h (a, b) = (bad_not l.token (judged (step false x l) (nat_lt 200 (walked w l.token).level) (step true x l)) f g h ∙ a, b)
 built_turns (Err errors.Memory) x w l f g h u = tt
 
 pub bad_turns : (t u : Token) (v : Option SyntaxKind) (k : SyntaxKind) → t ≡ u → bad u v ≡ Some k → bad t v ≡ Some k
@@ -62,21 +71,21 @@ module _ (bytes : List ℕ) (here : Cursor) (after : ℕ) (x : StateShape) (w : 
   abbrev behind : List Lexeme
   behind = if goes_on here.token then from Between bytes here.after else []
 
-  first : read x w (from Between bytes after) ≡ onto here.at (verdict x w (lexeme_of here)) (step x (lexeme_of here)) (λ y. read y (walked w here.token) behind)
+  first : read x w (from Between bytes after) ≡ onto here.at (verdict x w (lexeme_of here)) (step true x (lexeme_of here)) (λ y. read y (walked w here.token) behind)
   first = ap (read x w) (sym next)
 
   pub read_fault : (kind : SyntaxKind) → verdict x w (lexeme_of here) ≡ Some kind → read x w (from Between bytes after) ≡ Err (fault_at here.at kind)
-  read_fault kind e = first ∙ ap (λ (v : Option SyntaxKind). onto here.at v (step x (lexeme_of here)) (λ y. read y (walked w here.token) behind)) e
+  read_fault kind e = first ∙ ap (λ (v : Option SyntaxKind). onto here.at v (step true x (lexeme_of here)) (λ y. read y (walked w here.token) behind)) e
 
-  pub read_done : (t : Marked) → verdict x w (lexeme_of here) ≡ None → step x (lexeme_of here) ≡ Some (Done t) → read x w (from Between bytes after) ≡ Ok t
+  pub read_done : (t : Marked) → verdict x w (lexeme_of here) ≡ None → step true x (lexeme_of here) ≡ Some (Done t) → read x w (from Between bytes after) ≡ Ok t
   read_done t e f =
-      first ∙ ap (λ (v : Option SyntaxKind). onto here.at v (step x (lexeme_of here)) (λ y. read y (walked w here.token) behind)) e
+      first ∙ ap (λ (v : Option SyntaxKind). onto here.at v (step true x (lexeme_of here)) (λ y. read y (walked w here.token) behind)) e
       ∙ ap (λ (z : Option StateShape). onto here.at None z (λ y. read y (walked w here.token) behind)) f
 
-  pub read_on : (m : ModeShape) (s : OpenShape) (o : List OpenShape) → verdict x w (lexeme_of here) ≡ None → step x (lexeme_of here) ≡ Some (At m s o)
+  pub read_on : (m : ModeShape) (s : OpenShape) (o : List OpenShape) → verdict x w (lexeme_of here) ≡ None → step true x (lexeme_of here) ≡ Some (At m s o)
       → read x w (from Between bytes after) ≡ read (At m s o) (walked w here.token) (from Between bytes here.after)
   read_on m s o e f =
-      first ∙ ap (λ (v : Option SyntaxKind). onto here.at v (step x (lexeme_of here)) (λ y. read y (walked w here.token) behind)) e
+      first ∙ ap (λ (v : Option SyntaxKind). onto here.at v (step true x (lexeme_of here)) (λ y. read y (walked w here.token) behind)) e
       ∙ ap (λ (z : Option StateShape). onto here.at None z (λ y. read y (walked w here.token) behind)) f
       ∙ ap (λ (b : Bool). read (At m s o) (walked w here.token) (if b then from Between bytes here.after else [])) (comes_on x w (lexeme_of here) m s o e f)
 

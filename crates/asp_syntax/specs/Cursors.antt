@@ -1,8 +1,9 @@
 -- What the lexer's functions speak of.
-use Rattle.std.specs.Prelude.{ℕ, Bool, true, false, List, [], ◌∷◌, drop, if◌then◌else◌}
+use Rattle.std.specs.Prelude.{◌≡◌, ◌≢◌, ℕ, Bool, true, false, List, [], ◌∷◌, drop, if◌then◌else◌}
 use Rattle.asp_syntax.specs.declared.token.Token.{Token}
 use Rattle.asp_syntax.specs.declared.token.Token.TheVariants.{End, BadByte, BadNumber}
 use Rattle.asp_syntax.specs.declared.token.Cursor.{Cursor}
+use Rattle.asp_syntax.specs.Bytes.{is_blank, is_digit, is_letter}
 use Rattle.asp_syntax.specs.Tokens.{Lexeme, lexeme, lex, Scan, Between}
 
 -- more tokens come
@@ -22,3 +23,13 @@ lexeme_of c = lexeme c.token c.at
 -- the lexeme of a cursor, and those behind it
 abbrev pub lexemes : List ℕ → Cursor → List Lexeme
 lexemes bytes c = lexeme_of c ∷ (if goes_on c.token then from Between bytes c.after else [])
+
+-- a byte that is no blank, and begins nothing longer than itself
+pub record IsAlone (b : ℕ) : Type 0 where
+  pub blank : is_blank b ≡ false
+  pub digit : is_digit b ≡ false
+  pub letter : is_letter b ≡ false
+  pub slash : b ≢ 47
+  pub colon : b ≢ 58
+  pub equals : b ≢ 61
+  pub quote : b ≢ 34

@@ -1,101 +1,95 @@
--- Reading lexeme by lexeme: a state is what the lexemes before have begun.
-use Rattle.std.specs.Prelude.{ℕ, List, [], ◌∷◌, Option, Some, None}
-use Rattle.asp_model.specs.Marked.{Marked}
+-- Reading lexeme by lexeme. `true` asks for the rule on `:=`.
+use Rattle.std.specs.Prelude.{ℕ, Bool, true, false, List, [], ◌∷◌, ◌++◌, Option, Some, None}
+use Rattle.asp_model.specs.Names.{Text}
+use Rattle.asp_model.specs.Term as term
 use Rattle.asp_syntax.specs.declared.token.Token.{Token}
-use Rattle.asp_syntax.specs.declared.token.Token.TheVariants.{Number, Print, Open, Close, Plus, End}
+use Rattle.asp_syntax.specs.declared.token.Token.TheVariants as tokens
 use Rattle.asp_syntax.specs.Tokens.{Lexeme}
-use Rattle.asp_syntax.specs.Grammar.{number_at, sum_at, print_at, in_parentheses}
+use Rattle.asp_syntax.specs.Nodes.{PartShape, echo_at, if_at, let_at, called}
+use Rattle.asp_syntax.specs.Grammar.{may_put}
+use Rattle.asp_syntax.specs.States.{PendingShape, KindShape, Top, InCall, InField, OpenShape, OperandShape, Plain, ModeShape, Begin, Want, Have, Dotted, Called, Opening, LetNaming, ElseComing, EchoOpening, EchoText, EchoClosing, ObjectBegun, FieldNaming, MethodNaming, MethodNamed, SelfNaming, HeadNamed, ParameterNaming, StateShape, At, Done, pending, fresh, with_field, operand_part, joined, sum_in, test_in, term_in, first_start}
+use Rattle.asp_syntax.specs.Closings.{◌>>=◌, finish, back, concluded, close, close_brace, close_square, comma, bound, ended}
+use Rattle.asp_syntax.specs.Changes.{changed, call_begun, operand, begin, opening, dotted, let_named, else_came, echo_opened, echo_read, echo_closed, field_named, object_begun, method_named, method_opened, self_named, head_goes_on, parameter_named}
 
--- a term, and the place of its first token
-pub record PartShape : Type 0 where
-  pub start : ℕ
-  pub term : Marked
+-- a term is over, and the next one of its sequence begins, or the methods behind the fields
+abbrev pub next_term : KindShape → PartShape → OpenShape → List OpenShape → Option StateShape
+next_term (InField object label) e s outer = back (MethodNaming (with_field object label e.term)) outer
+next_term kind e s outer =
+    Some (At Begin (record { kind = kind; start = first_start s.before s.start e.start; before = s.before ++ e.term ∷ []; puts = []; test = None; sum = None; product = None }) outer)
 
--- what a sum stands in, with the place of the token that opened it
-pub data KindShape : Type 0 where
-  Top : KindShape
-  InParentheses : (at : ℕ) → KindShape
-  InPrint : (at : ℕ) → KindShape
+-- an operator behind an operand
+abbrev pub times : term.SignShape → PartShape → OpenShape → List OpenShape → Option StateShape
+times sign p s outer = Some (At Want (record s { product = Some (pending sign (joined s.product p)) }) outer)
 
--- a sum that was begun: what it stands in, and what stands on the left of its last `+`
-pub record OpenShape : Type 0 where
-  pub kind : KindShape
-  pub left : Option PartShape
+abbrev pub plus : term.SignShape → PartShape → OpenShape → List OpenShape → Option StateShape
+plus sign p s outer = Some (At Want (record s { sum = Some (pending sign (sum_in s p)); product = None }) outer)
 
--- an operand has to come, or the bracket of a `print`, or an operand was read
-pub data ModeShape : Type 0 where
-  Want : ModeShape
-  Printing : (at : ℕ) → ModeShape
-  Have : (part : PartShape) → ModeShape
+-- one test in a term, unless parentheses part them
+abbrev pub test_behind : Option PendingShape → term.SignShape → PartShape → OpenShape → List OpenShape → Option StateShape
+test_behind (Some a) sign p s outer = None
+test_behind None sign p s outer = Some (At Want (record s { test = Some (pending sign (sum_in s p)); sum = None; product = None }) outer)
 
-pub data StateShape : Type 0 where
-  At : (mode : ModeShape) (sum : OpenShape) (outer : List OpenShape) → StateShape
-  Done : (term : Marked) → StateShape
+abbrev pub assign : PartShape → Bool → OpenShape → List OpenShape → Option StateShape
+assign p false s outer = None
+assign p true s outer = Some (At Want (record s { puts = p ∷ s.puts; test = None; sum = None; product = None }) outer)
 
-infixl 10 ◌>>=◌
-abbrev pub ◌>>=◌ : {A B : Type 0} → Option A → (A → Option B) → Option B
-(Some x) >>= f = f x
-None >>= f = None
+-- a token behind an operand, but for the bracket of a call
+abbrev pub behind : Bool → PartShape → OpenShape → List OpenShape → Token → Option StateShape
+behind rule p s outer tokens.Dot = Some (At (Dotted p) s outer)
+behind rule p s outer tokens.Star = times term.Multiply p s outer
+behind rule p s outer tokens.Slash = times term.Divide p s outer
+behind rule p s outer tokens.Percent = times term.Remainder p s outer
+behind rule p s outer tokens.Plus = plus term.Add p s outer
+behind rule p s outer tokens.Minus = plus term.Subtract p s outer
+behind rule p s outer tokens.Less = test_behind s.test term.Less p s outer
+behind rule p s outer tokens.Same = test_behind s.test term.Equal p s outer
+behind rule p s outer tokens.Assign = assign (test_in s p) (may_put rule (test_in s p).term) s outer
+behind rule p s outer tokens.Semicolon = next_term s.kind (term_in s p) s outer
+behind rule p s outer tokens.In = concluded bound (finish p s outer)
+behind rule p s outer tokens.Close = concluded close (finish p s outer)
+behind rule p s outer tokens.BraceClose = concluded close_brace (finish p s outer)
+behind rule p s outer tokens.SquareClose = concluded close_square (finish p s outer)
+behind rule p s outer tokens.Comma = concluded comma (finish p s outer)
+behind rule p s outer tokens.End = ended (finish p s outer)
+behind rule p s outer token = None
 
-abbrev pub part : ℕ → Marked → PartShape
-part start t = record { start = start; term = t }
+abbrev pub have : Bool → OperandShape → OpenShape → List OpenShape → Token → Option StateShape
+have rule x s outer tokens.Open = changed (call_begun x) s outer
+have rule x s outer token = behind rule (operand_part x) s outer token
 
-abbrev pub open_sum : KindShape → Option PartShape → OpenShape
-open_sum kind left = record { kind = kind; left = left }
-
--- a sum with one more term on its right
-abbrev pub joined : Option PartShape → PartShape → PartShape
-joined None p = p
-joined (Some l) p = part l.start (sum_at l.start l.term p.term)
-
--- a term stands where a bracket was opened
-abbrev pub resumed : PartShape → List OpenShape → Option StateShape
-resumed p [] = None
-resumed p (s ∷ outer) = Some (At (Have p) s outer)
-
--- a bracket closes a sum
-abbrev pub close : KindShape → Marked → List OpenShape → Option StateShape
-close Top t outer = None
-close (InParentheses at) t outer = resumed (part at (in_parentheses t)) outer
-close (InPrint at) t outer = resumed (part at (print_at at t)) outer
-
-abbrev pub ended : KindShape → Marked → List OpenShape → Option StateShape
-ended Top t [] = Some (Done t)
-ended kind t outer = None
-
--- a sum begins inside another
-abbrev pub opened : KindShape → OpenShape → List OpenShape → Option StateShape
-opened kind s outer = Some (At Want (open_sum kind None) (s ∷ outer))
-
--- a token that begins an operand
-abbrev pub operand : OpenShape → List OpenShape → Token → ℕ → Option StateShape
-operand s outer (Number n) at = Some (At (Have (part at (number_at at n))) s outer)
-operand s outer Print at = Some (At (Printing at) s outer)
-operand s outer Open at = opened (InParentheses at) s outer
-operand s outer _ at = None
-
--- the bracket behind a `print`
-abbrev pub bracket : ℕ → OpenShape → List OpenShape → Token → Option StateShape
-bracket at s outer Open = opened (InPrint at) s outer
-bracket at s outer _ = None
-
--- a token behind an operand
-abbrev pub have : PartShape → OpenShape → List OpenShape → Token → Option StateShape
-have p s outer Plus = Some (At Want (open_sum s.kind (Some (joined s.left p))) outer)
-have p s outer Close = close s.kind (joined s.left p).term outer
-have p s outer End = ended s.kind (joined s.left p).term outer
-have p s outer _ = None
+-- the first token of a call's list, or its end
+abbrev pub call : PartShape → ℕ → Text → OpenShape → List OpenShape → Token → ℕ → Option StateShape
+call receiver label_at label s outer tokens.Close at = Some (At (Have (Plain (called receiver label_at label []))) s outer)
+call receiver label_at label s outer token at = changed (begin token at) (fresh (InCall receiver label_at label [])) (s ∷ outer)
 
 -- one lexeme on, or nothing where it may not stand
-abbrev pub step : StateShape → Lexeme → Option StateShape
-step (At Want s outer) l = operand s outer l.token l.at
-step (At (Printing at) s outer) l = bracket at s outer l.token
-step (At (Have p) s outer) l = have p s outer l.token
-step (Done t) l = None
+abbrev pub stepped : Bool → ModeShape → OpenShape → List OpenShape → Token → ℕ → Option StateShape
+stepped rule Begin s outer token at = changed (begin token at) s outer
+stepped rule Want s outer token at = changed (operand token at) s outer
+stepped rule (Have x) s outer token at = have rule x s outer token
+stepped rule (Dotted p) s outer token at = changed (dotted p token at) s outer
+stepped rule (Called p label_at label) s outer token at = call p label_at label s outer token at
+stepped rule (Opening opener kind) s outer token at = changed (opening opener kind token) s outer
+stepped rule (LetNaming let_at) s outer token at = changed (let_named let_at token at) s outer
+stepped rule (ElseComing if_at c t) s outer token at = changed (else_came if_at c t token) s outer
+stepped rule (EchoOpening echo_at) s outer token at = changed (echo_opened echo_at token) s outer
+stepped rule (EchoText echo_at) s outer token at = changed (echo_read echo_at token) s outer
+stepped rule (EchoClosing echo_at text) s outer token at = changed (echo_closed echo_at text token) s outer
+stepped rule (ObjectBegun x) s outer token at = changed (object_begun x token at) s outer
+stepped rule (FieldNaming x) s outer token at = changed (field_named x token at) s outer
+stepped rule (MethodNaming x) s outer token at = changed (method_named x token at) s outer
+stepped rule (MethodNamed x label) s outer token at = changed (method_opened x label token) s outer
+stepped rule (SelfNaming x label) s outer token at = changed (self_named x label token at) s outer
+stepped rule (HeadNamed x h) s outer token at = changed (head_goes_on x h token) s outer
+stepped rule (ParameterNaming x h) s outer token at = changed (parameter_named x h token at) s outer
 
-abbrev pub run : StateShape → List Lexeme → Option StateShape
-run x [] = Some x
-run x (l ∷ ls) = step x l >>= λ y. run y ls
+abbrev pub step : Bool → StateShape → Lexeme → Option StateShape
+step rule (At mode s outer) l = stepped rule mode s outer l.token l.at
+step rule (Done t) l = None
+
+abbrev pub run : Bool → StateShape → List Lexeme → Option StateShape
+run rule x [] = Some x
+run rule x (l ∷ ls) = step rule x l >>= λ y. run rule y ls
 
 abbrev pub start : StateShape
-start = At Want (open_sum Top None) []
+start = At Begin (fresh Top) []

@@ -4,17 +4,26 @@ use Rattle.asp_model.specs.Marked.{Marked}
 use Rattle.asp_syntax.specs.declared.token.Token.{Token}
 use Rattle.asp_syntax.specs.declared.token.Token.TheVariants as tokens
 use Rattle.asp_syntax.specs.declared.error.SyntaxKind.{SyntaxKind}
-use Rattle.asp_syntax.specs.declared.error.SyntaxKind.TheVariants.{BadByte, BadNumber, Unexpected, TooDeep, NotYet}
+use Rattle.asp_syntax.specs.declared.error.SyntaxKind.TheVariants.{BadByte, BadNumber, Unexpected, TooDeep, NotAField, NotYet}
 use Rattle.asp_syntax.specs.declared.error.SyntaxFault.{SyntaxFault}
 use Rattle.asp_syntax.specs.Tokens.{Lexeme}
-use Rattle.asp_syntax.specs.Machine.{StateShape, At, Done, step, start}
+use Rattle.asp_syntax.specs.States.{StateShape, At, Done}
+use Rattle.asp_syntax.specs.Machine.{step, start}
 use Rattle.asp_syntax.specs.Levels.{WalkShape, walked, flat}
 
--- of a token that is built, from what it leaves and whether it is too deep
-abbrev pub judged : Option StateShape → Bool → Option SyntaxKind
-judged None deep = Some Unexpected
-judged (Some y) true = Some TooDeep
-judged (Some y) false = None
+abbrev pub field : Option StateShape → Option SyntaxKind
+field None = Some NotAField
+field (Some y) = None
+
+abbrev pub depth : Bool → Option StateShape → Option SyntaxKind
+depth true z = Some TooDeep
+depth false z = field z
+
+-- of a token that is built, from what it leaves without the rule on `:=`, whether it is too deep, and what it
+-- leaves with the rule
+abbrev pub judged : Option StateShape → Bool → Option StateShape → Option SyntaxKind
+judged None deep z = Some Unexpected
+judged (Some y) deep z = depth deep z
 
 abbrev pub bad : Token → Option SyntaxKind → Option SyntaxKind
 bad tokens.BadByte v = Some BadByte
@@ -24,7 +33,7 @@ bad t v = v
 
 -- the fault at a lexeme, in a state
 abbrev pub verdict : StateShape → WalkShape → Lexeme → Option SyntaxKind
-verdict x w l = bad l.token (judged (step x l) (nat_lt 200 (walked w l.token).level))
+verdict x w l = bad l.token (judged (step false x l) (nat_lt 200 (walked w l.token).level) (step true x l))
 
 abbrev pub fault_at : ℕ → SyntaxKind → SyntaxFault
 fault_at at kind = record { at = at; kind = kind }
@@ -37,7 +46,7 @@ onto at None (Some (At m s outer)) go = go (At m s outer)
 
 abbrev pub read : StateShape → WalkShape → List Lexeme → Result Marked SyntaxFault
 read x w [] = Err (fault_at 0 Unexpected)
-read x w (l ∷ ls) = onto l.at (verdict x w l) (step x l) (λ y. read y (walked w l.token) ls)
+read x w (l ∷ ls) = onto l.at (verdict x w l) (step true x l) (λ y. read y (walked w l.token) ls)
 
 abbrev pub read_all : List Lexeme → Result Marked SyntaxFault
 read_all ls = read start flat ls

@@ -1,111 +1,142 @@
--- What the reader's functions see of its states: no boxes or vectors.
-use Rattle.std.specs.Prelude.{◌≡◌, ℕ, nat_lt, Bool, true, false, List, map, reverse, Option, Some, None, Result, Ok, Err}
+-- What the reader's functions see of its states: no boxes, vectors or texts.
+use Rattle.std.specs.Prelude.{◌≡◌, ℕ, List, map, reverse, Option, Some, None}
+use Rattle.asp_model.specs.Term.{Head, MethodHead}
+use Rattle.asp_model.specs.Term as term
 use Rattle.asp_model.specs.declared.term.Term.{Term}
-use Rattle.asp_model.specs.Marked.{Marked, marked}
-use Rattle.asp_model.specs.Shapes.{marked_of}
-use Rattle.asp_syntax.specs.declared.error.SyntaxFault.{SyntaxFault}
-use Rattle.asp_syntax.specs.declared.error.SyntaxKind.TheVariants as kinds
-use Rattle.asp_syntax.specs.declared.error.SyntaxError.{SyntaxError}
-use Rattle.asp_syntax.specs.declared.error.SyntaxError.TheVariants as errors
+use Rattle.asp_model.specs.Marked.{Marked, marked, one_marked}
+use Rattle.asp_model.specs.Shapes.{marked_of, mark_shape, method_of, field_of, sign_shape}
 use Rattle.asp_syntax.specs.declared.levels.Bracket.{Bracket}
 use Rattle.asp_syntax.specs.declared.levels.Walk.{Walk}
-use Rattle.asp_syntax.specs.declared.machine.Part.{Part}
-use Rattle.asp_syntax.specs.declared.machine.Kind.{Kind}
-use Rattle.asp_syntax.specs.declared.machine.Kind.TheVariants as kind
-use Rattle.asp_syntax.specs.declared.machine.OpenSum.{OpenSum}
-use Rattle.asp_syntax.specs.declared.machine.Mode.{Mode}
-use Rattle.asp_syntax.specs.declared.machine.Mode.TheVariants as mode
-use Rattle.asp_syntax.specs.declared.machine.State.{State}
-use Rattle.asp_syntax.specs.declared.machine.State.TheVariants as state
-use Rattle.asp_syntax.specs.declared.machine.Stop.{Stop}
-use Rattle.asp_syntax.specs.declared.machine.Stop.TheVariants as stop
-use Rattle.asp_syntax.specs.Tokens.{Lexeme}
-use Rattle.asp_syntax.specs.Levels.{BracketShape, WalkShape, walked}
-use Rattle.asp_syntax.specs.Machine.{PartShape, KindShape, OpenShape, ModeShape, StateShape, step}
-use Rattle.asp_syntax.specs.Machine as machine
-use Rattle.asp_syntax.specs.Read.{judged, verdict, fault_at}
+use Rattle.asp_syntax.specs.declared.state.Part.{Part}
+use Rattle.asp_syntax.specs.declared.state.Pending.{Pending}
+use Rattle.asp_syntax.specs.declared.state.Access.{Access}
+use Rattle.asp_syntax.specs.declared.state.Object.{Object}
+use Rattle.asp_syntax.specs.declared.state.Head as declared_head
+use Rattle.asp_syntax.specs.declared.state.Wrap.{Wrap}
+use Rattle.asp_syntax.specs.declared.state.Wrap.TheVariants as wrap
+use Rattle.asp_syntax.specs.declared.state.Kind.{Kind}
+use Rattle.asp_syntax.specs.declared.state.Kind.TheVariants as kind
+use Rattle.asp_syntax.specs.declared.state.Open.{Open}
+use Rattle.asp_syntax.specs.declared.state.Operand.{Operand}
+use Rattle.asp_syntax.specs.declared.state.Operand.TheVariants as operand
+use Rattle.asp_syntax.specs.declared.state.Opener.{Opener}
+use Rattle.asp_syntax.specs.declared.state.Opener.TheVariants as opener
+use Rattle.asp_syntax.specs.declared.state.Mode.{Mode}
+use Rattle.asp_syntax.specs.declared.state.Mode.TheVariants as mode
+use Rattle.asp_syntax.specs.declared.state.State.{State}
+use Rattle.asp_syntax.specs.declared.state.State.TheVariants as state
+use Rattle.asp_syntax.specs.declared.state.Finished.{Finished}
+use Rattle.asp_syntax.specs.declared.state.Change.{Change}
+use Rattle.asp_syntax.specs.declared.state.Change.TheVariants as change
+use Rattle.asp_syntax.specs.declared.state.Closing.{Closing}
+use Rattle.asp_syntax.specs.declared.state.Closing.TheVariants as closing
+use Rattle.asp_syntax.specs.Levels.{BracketShape, WalkShape}
+use Rattle.asp_syntax.specs.Nodes.{PartShape, part, ObjectShape}
+use Rattle.asp_syntax.specs.States.{PendingShape, KindShape, OpenShape, OperandShape, OpenerShape, ModeShape, StateShape, pending}
+use Rattle.asp_syntax.specs.States as states
+use Rattle.asp_syntax.specs.Closings.{FinishedShape, finished, ClosingShape}
+use Rattle.asp_syntax.specs.Changes.{ChangeShape}
+use Rattle.asp_syntax.specs.Closings as closings
+use Rattle.asp_syntax.specs.Changes as changes
 
 abbrev pub bracket_shape : Bracket → BracketShape
-bracket_shape b = record { before = b.before }
+bracket_shape b = record { base = b.base; lets = b.lets; before = b.before }
 
 -- innermost first
 abbrev pub bracket_stack : List Bracket → List BracketShape
 bracket_stack bs = reverse (map bracket_shape bs)
 
 abbrev pub walk_shape : Walk → WalkShape
-walk_shape w = record { level = w.level; brackets = bracket_stack w.brackets.items }
+walk_shape w = record { level = w.level; inner = bracket_shape w.inner; outer = bracket_stack w.outer.items }
 
 abbrev pub part_shape : Part → PartShape
 part_shape p = record { start = p.start; term = marked_of p.term }
 
-abbrev pub left_shape : Option Part → Option PartShape
-left_shape None = None
-left_shape (Some p) = Some (part_shape p)
+abbrev pub pending_shape : Pending → PendingShape
+pending_shape p = pending (sign_shape p.sign) (part_shape p.left)
+
+abbrev pub waiting_shape : Option Pending → Option PendingShape
+waiting_shape None = None
+waiting_shape (Some p) = Some (pending_shape p)
+
+abbrev pub access_shape : Access → PartShape
+access_shape a = part a.start (marked (term.Get a.label.text) (mark_shape a.mark) (one_marked (marked_of a.receiver.value)))
+
+abbrev pub object_shape : Object → ObjectShape
+object_shape x = record { at = x.at; names = x.names.items; fields = map field_of x.fields.items; methods = map method_of x.methods.items }
+
+abbrev pub head_shape : declared_head.Head → MethodHead
+head_shape h = record { label = h.label.text; slf = h.slf; parameters = h.parameters.items }
+
+abbrev pub wrap_shape : Wrap → Head
+wrap_shape wrap.Clone = term.Clone
+wrap_shape wrap.Repeat = term.Repeat
+wrap_shape wrap.Print = term.Print
 
 abbrev pub kind_shape : Kind → KindShape
-kind_shape kind.Top = machine.Top
-kind_shape (kind.InParentheses at) = machine.InParentheses at
-kind_shape (kind.InPrint at) = machine.InPrint at
+kind_shape kind.Top = states.Top
+kind_shape (kind.InParentheses at) = states.InParentheses at
+kind_shape (kind.InWord w at) = states.InWord (wrap_shape w) at
+kind_shape (kind.InCondition at) = states.InCondition at
+kind_shape (kind.InThen at c) = states.InThen at (marked_of c)
+kind_shape (kind.InElse at c t) = states.InElse at (marked_of c) (marked_of t)
+kind_shape (kind.InCall p at label ts) = states.InCall (part_shape p) at label.text (map marked_of ts.items)
+kind_shape (kind.InBinding at name_at x) = states.InBinding at name_at x
+kind_shape (kind.InBody at name_at x t) = states.InBody at name_at x (marked_of t)
+kind_shape (kind.InField x label) = states.InField (object_shape x) label.text
+kind_shape (kind.InMethod x h) = states.InMethod (object_shape x) (head_shape h)
 
-abbrev pub open_shape : OpenSum → OpenShape
-open_shape s = record { kind = kind_shape s.kind; left = left_shape s.left }
+abbrev pub put_stack : List Access → List PartShape
+put_stack accesses = reverse (map access_shape accesses)
+
+abbrev pub open_shape : Open → OpenShape
+open_shape s =
+    record { kind = kind_shape s.kind; start = s.start; before = map marked_of s.before.items; puts = put_stack s.puts.items; test = waiting_shape s.test; sum = waiting_shape s.sum; product = waiting_shape s.product }
 
 -- innermost first
-abbrev pub stack : List OpenSum → List OpenShape
-stack sums = reverse (map open_shape sums)
+abbrev pub stack : List Open → List OpenShape
+stack opens = reverse (map open_shape opens)
+
+abbrev pub operand_shape : Operand → OperandShape
+operand_shape (operand.Plain p) = states.Plain (part_shape p)
+operand_shape (operand.Access p at label) = states.Access (part_shape p) at label.text
+
+abbrev pub opener_shape : Opener → OpenerShape
+opener_shape opener.ByRound = states.ByRound
+opener_shape opener.ByBrace = states.ByBrace
+opener_shape opener.ByEquals = states.ByEquals
 
 abbrev pub mode_shape : Mode → ModeShape
-mode_shape mode.Want = machine.Want
-mode_shape (mode.Printing at) = machine.Printing at
-mode_shape (mode.Have p) = machine.Have (part_shape p)
+mode_shape mode.Begin = states.Begin
+mode_shape mode.Want = states.Want
+mode_shape (mode.Have x) = states.Have (operand_shape x)
+mode_shape (mode.Dotted p) = states.Dotted (part_shape p)
+mode_shape (mode.Called p at label) = states.Called (part_shape p) at label.text
+mode_shape (mode.Opening x k) = states.Opening (opener_shape x) (kind_shape k)
+mode_shape (mode.LetNaming at) = states.LetNaming at
+mode_shape (mode.ElseComing at c t) = states.ElseComing at (marked_of c) (marked_of t)
+mode_shape (mode.EchoOpening at) = states.EchoOpening at
+mode_shape (mode.EchoText at) = states.EchoText at
+mode_shape (mode.EchoClosing at text) = states.EchoClosing at text
+mode_shape (mode.ObjectBegun x) = states.ObjectBegun (object_shape x)
+mode_shape (mode.FieldNaming x) = states.FieldNaming (object_shape x)
+mode_shape (mode.MethodNaming x) = states.MethodNaming (object_shape x)
+mode_shape (mode.MethodNamed x label) = states.MethodNamed (object_shape x) label.text
+mode_shape (mode.SelfNaming x label) = states.SelfNaming (object_shape x) label.text
+mode_shape (mode.HeadNamed x h) = states.HeadNamed (object_shape x) (head_shape h)
+mode_shape (mode.ParameterNaming x h) = states.ParameterNaming (object_shape x) (head_shape h)
 
 abbrev pub state_shape : State → StateShape
-state_shape (state.At m s outer) = machine.At (mode_shape m) (open_shape s) (stack outer.items)
-state_shape (state.Done t) = machine.Done (marked_of t)
+state_shape (state.At m s outer) = states.At (mode_shape m) (open_shape s) (stack outer.items)
+state_shape (state.Done t) = states.Done (marked_of t)
 
--- how many parentheses stand directly round a term
-abbrev pub parentheses_of : Marked → ℕ
-parentheses_of (marked h m ts) = m.parentheses
+abbrev pub finished_shape : Finished → FinishedShape
+finished_shape f = finished (kind_shape f.kind) (part_shape f.value) (stack f.outer.items)
 
-abbrev pub parentheses_round : PartShape → ℕ
-parentheses_round p = parentheses_of p.term
+abbrev pub change_shape : Change → ChangeShape
+change_shape (change.Goes m) = changes.Goes (mode_shape m)
+change_shape (change.Opens k) = changes.Opens (kind_shape k)
 
--- the same of the operand of a state
-abbrev pub parentheses_in : StateShape → ℕ
-parentheses_in (machine.At (machine.Have p) s outer) = parentheses_round p
-parentheses_in x = 0
-
--- what a function returned is what the machine does, unless memory ran out
-abbrev pub Gives : Result State Stop → Option StateShape → Type 0
-Gives (Ok x) y = y ≡ Some (state_shape x)
-Gives (Err stop.Unexpected) y = y ≡ None
-Gives (Err stop.Memory) y = Unit {0}
-
--- what a token that is built leaves
-abbrev pub Judges : Result State SyntaxError → StateShape → Bool → Lexeme → Type 0
-Judges (Ok y) x deep l = (judged (step x l) deep ≡ None) × (step x l ≡ Some (state_shape y))
-Judges (Err (errors.Fault f)) x deep l = (judged (step x l) deep ≡ Some f.kind) × (f.at ≡ l.at)
-Judges (Err errors.Memory) x deep l = Unit {0}
-
-abbrev pub UnlessDeep : Result State SyntaxError → StateShape → Bool → ℕ → Type 0
-UnlessDeep (Ok y) x deep at = (state_shape y ≡ x) × (deep ≡ false)
-UnlessDeep (Err (errors.Fault f)) x deep at = (f ≡ fault_at at kinds.TooDeep) × (deep ≡ true)
-UnlessDeep (Err errors.Memory) x deep at = ⊥
-
--- the same with the walk
-abbrev pub GoesOn : Result (State × Walk) SyntaxError → StateShape → WalkShape → Lexeme → Type 0
-GoesOn (Ok y) x w l = (judged (step x l) (nat_lt 200 (walked w l.token).level) ≡ None) × (step x l ≡ Some (state_shape y.0)) × (walk_shape y.1 ≡ walked w l.token)
-GoesOn (Err (errors.Fault f)) x w l = (judged (step x l) (nat_lt 200 (walked w l.token).level) ≡ Some f.kind) × (f.at ≡ l.at)
-GoesOn (Err errors.Memory) x w l = Unit {0}
-
--- what any lexeme leaves
-abbrev pub Turns : Result (State × Walk) SyntaxError → StateShape → WalkShape → Lexeme → Type 0
-Turns (Ok y) x w l = (verdict x w l ≡ None) × (step x l ≡ Some (state_shape y.0)) × (walk_shape y.1 ≡ walked w l.token)
-Turns (Err (errors.Fault f)) x w l = (verdict x w l ≡ Some f.kind) × (f.at ≡ l.at)
-Turns (Err errors.Memory) x w l = Unit {0}
-
--- what was read, unless memory ran out
-abbrev pub Reads : Result Term SyntaxError → Result Marked SyntaxFault → Type 0
-Reads (Ok t) r = r ≡ Ok (marked_of t)
-Reads (Err (errors.Fault f)) r = r ≡ Err f
-Reads (Err errors.Memory) r = Unit {0}
+abbrev pub closing_shape : Closing → ClosingShape
+closing_shape (closing.Back m) = closings.Back (mode_shape m)
+closing_shape (closing.Again k) = closings.Again (kind_shape k)

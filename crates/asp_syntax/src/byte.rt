@@ -1,7 +1,7 @@
 //! What a byte is to the lexer.
 
 ghost use Rattle.std.specs.Prelude.{◌≡◌};
-ghost use Rattle.asp_syntax.specs.Tokens.{is_blank as blank_of, is_letter as letter_of, is_inner as inner_of, is_digit as digit_of, is_text as text_of, is_other_sign as other_sign_of, sign_token};
+ghost use Rattle.asp_syntax.specs.Bytes.{is_blank as blank_of, is_letter as letter_of, is_inner as inner_of, is_digit as digit_of, is_text as text_of, sign_token};
 
 use crate::token::Token;
 
@@ -40,22 +40,6 @@ pub fn is_text(b: u8) -> bool
     b >= b' ' && b <= b'~'
 }
 
-fn is_other_sign(b: u8) -> bool
-    ensures { result ≡ other_sign_of b }
-{
-    b == b'['
-        || b == b']'
-        || b == b'{'
-        || b == b'}'
-        || b == b','
-        || b == b';'
-        || b == b'.'
-        || b == b'-'
-        || b == b'*'
-        || b == b'%'
-        || b == b'<'
-}
-
 /// The token that a byte is alone, whatever follows.
 pub fn sign(b: u8) -> Option<Token>
     ensures { result ≡ sign_token b }
@@ -63,8 +47,18 @@ pub fn sign(b: u8) -> Option<Token>
     match b {
         b'(' => Some(Token::Open),
         b')' => Some(Token::Close),
+        b'[' => Some(Token::SquareOpen),
+        b']' => Some(Token::SquareClose),
+        b'{' => Some(Token::BraceOpen),
+        b'}' => Some(Token::BraceClose),
+        b',' => Some(Token::Comma),
+        b';' => Some(Token::Semicolon),
+        b'.' => Some(Token::Dot),
         b'+' => Some(Token::Plus),
-        _ if is_other_sign(b) => Some(Token::NotBuilt),
+        b'-' => Some(Token::Minus),
+        b'*' => Some(Token::Star),
+        b'%' => Some(Token::Percent),
+        b'<' => Some(Token::Less),
         _ => None,
     }
 }

@@ -16,6 +16,8 @@ pub enum SyntaxKind {
     Unexpected,
     /// The token raises the level above 200.
     TooDeep,
+    /// A `:=` stands here, and what stands on its left is no field access.
+    NotAField,
     /// A token of the language that is not built stands here.
     NotYet,
 }

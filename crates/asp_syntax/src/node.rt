@@ -1,11 +1,16 @@
 //! The terms that tokens make, with their marks.
 
-ghost use Rattle.std.specs.Prelude.{◌≡◌, ◌+◌, ◌<◌, ◌^◌, IfOk};
-ghost use Rattle.asp_model.specs.Shapes.{marked_of, mark_shape};
-ghost use Rattle.asp_syntax.specs.Grammar.{mark_at as new_mark, number_at, sum_at, print_at, once_more as one_more, in_parentheses};
-ghost use Rattle.asp_syntax.specs.Shapes.{parentheses_of};
+ghost use Rattle.std.specs.Prelude.{◌≡◌, ◌+◌, ◌<◌, ◌^◌, ◌∷◌, ◌++◌, [], map, IfOk};
+ghost use Rattle.asp_model.specs.Term as term;
+ghost use Rattle.asp_model.specs.Marked.{marked, and_marked, two_marked};
+ghost use Rattle.asp_model.specs.Shapes.{marked_of, mark_shape, sign_shape};
+ghost use Rattle.asp_syntax.specs.Nodes.{mark_at as new_mark, named_mark as new_named_mark, number_at, variable_at, echo_at, word_at, if_at, let_at, operated as operated_part, got as got_part, called as called_part, put as put_part, terms_at, once_more as one_more, in_parentheses, made as made_part};
+ghost use Rattle.asp_syntax.specs.Depth.{parentheses_of};
+ghost use Rattle.asp_syntax.specs.Shapes.{part_shape, access_shape, object_shape, wrap_shape};
+ghost use Rattle.asp_syntax.specs.Steps.{IsAccess};
 
-use asp_model::{Mark, Sign, Term};
+use crate::state::{Access, Object, Part, Wrap};
+use asp_model::{Label, Mark, Sign, Term, Word};
 use std::alloc::{AllocError, Global};
 
 fn mark_at(alloc: Global, at: usize) -> Mark
@@ -19,28 +24,254 @@ fn mark_at(alloc: Global, at: usize) -> Mark
     }
 }
 
+fn named_mark(alloc: Global, at: usize, name_at: usize) -> Result<Mark, AllocError>
+    ensures { IfOk result (λ m. mark_shape m ≡ new_named_mark at (name_at ∷ [])) }
+{
+    let mut names = Vec::new(alloc);
+    names.push(name_at)?;
+    Ok(Mark {
+        at,
+        parentheses: 0,
+        left: 0,
+        names,
+    })
+}
+
+fn boxed(alloc: Global, term: Term) -> Result<Box<Term>, AllocError>
+    ensures { IfOk result (λ b. b.value ≡ term) }
+{
+    Ok(Box::new(alloc, term)?)
+}
+
 /// A number whose token stands at a place.
-pub fn number(alloc: Global, at: usize, n: i64) -> Term
-    ensures number { marked_of result ≡ number_at at n }
+pub fn number(alloc: Global, at: usize, n: i64) -> Part
+    ensures number { part_shape result ≡ record { start = at; term = number_at at n } }
 {
-    Term::Number(n, mark_at(alloc, at))
+    Part {
+        start: at,
+        term: Term::Number(n, mark_at(alloc, at)),
+    }
 }
 
-/// A sum whose first token stands at a place.
-pub fn sum(alloc: Global, at: usize, left: Term, right: Term) -> Result<Term, AllocError>
-    ensures sum { IfOk result (λ t. marked_of t ≡ sum_at at (marked_of left) (marked_of right)) }
+/// A name that stands as a term.
+pub fn variable(alloc: Global, at: usize, name: Word) -> Part
+    ensures variable { part_shape result ≡ record { start = at; term = variable_at at name } }
 {
-    let left = Box::new(alloc, left)?;
-    let right = Box::new(alloc, right)?;
-    Ok(Term::Operate(Sign::Add, left, right, mark_at(alloc, at)))
+    Part {
+        start: at,
+        term: Term::Var(name, mark_at(alloc, at)),
+    }
 }
 
-/// A `print` at a place.
-pub fn print(alloc: Global, at: usize, term: Term) -> Result<Term, AllocError>
-    ensures print { IfOk result (λ t. marked_of t ≡ print_at at (marked_of term)) }
+/// An `echo` of a text.
+pub fn echo(alloc: Global, at: usize, text: Word) -> Part
+    ensures echo { part_shape result ≡ record { start = at; term = echo_at at text } }
 {
-    let term = Box::new(alloc, term)?;
-    Ok(Term::Print(term, mark_at(alloc, at)))
+    Part {
+        start: at,
+        term: Term::Echo(text, mark_at(alloc, at)),
+    }
+}
+
+/// A term behind a word.
+pub fn wrapped(alloc: Global, wrap: Wrap, at: usize, term: Term) -> Result<Part, AllocError>
+    ensures wrapped { IfOk result (λ p. part_shape p ≡ record { start = at; term = word_at (wrap_shape wrap) at (marked_of term) }) }
+{
+    let term = boxed(alloc, term)?;
+    let mark = mark_at(alloc, at);
+    let term = match wrap {
+        Wrap::Clone => Term::Clone(term, mark),
+        Wrap::Repeat => Term::Repeat(term, mark),
+        Wrap::Print => Term::Print(term, mark),
+    };
+    Ok(Part { start: at, term })
+}
+
+/// An `if` at a place.
+pub fn choice(
+    alloc: Global,
+    at: usize,
+    condition: Term,
+    chosen: Term,
+    other: Term,
+) -> Result<Part, AllocError>
+    ensures choice { IfOk result (λ p. part_shape p ≡ record { start = at; term = if_at at (marked_of condition) (marked_of chosen) (marked_of other) }) }
+{
+    let condition = boxed(alloc, condition)?;
+    let chosen = boxed(alloc, chosen)?;
+    let other = boxed(alloc, other)?;
+    Ok(choice_of(condition, chosen, other, mark_at(alloc, at)))
+}
+
+fn choice_of(condition: Box<Term>, chosen: Box<Term>, other: Box<Term>, mark: Mark) -> Part
+    ensures { part_shape result ≡ record { start = mark.at; term = marked term.If (mark_shape mark) (and_marked (marked_of condition.value) (two_marked (marked_of chosen.value) (marked_of other.value))) } }
+{
+    Part {
+        start: mark.at,
+        term: Term::If(condition, chosen, other, mark),
+    }
+}
+
+/// A `let` at a place.
+pub fn binding(
+    alloc: Global,
+    at: usize,
+    name_at: usize,
+    name: Word,
+    bound: Term,
+    body: Term,
+) -> Result<Part, AllocError>
+    ensures binding { IfOk result (λ p. part_shape p ≡ record { start = at; term = let_at at name_at name (marked_of bound) (marked_of body) }) }
+{
+    let bound = boxed(alloc, bound)?;
+    let body = boxed(alloc, body)?;
+    let mark = named_mark(alloc, at, name_at)?;
+    Ok(Part {
+        start: at,
+        term: Term::Let(name, bound, body, mark),
+    })
+}
+
+/// Two terms with a sign between them.
+pub fn operated(alloc: Global, sign: Sign, left: Part, right: Part) -> Result<Part, AllocError>
+    ensures operated { IfOk result (λ p. part_shape p ≡ operated_part (sign_shape sign) (part_shape left) (part_shape right)) }
+{
+    let start = left.start;
+    let left = boxed(alloc, left.term)?;
+    let right = boxed(alloc, right.term)?;
+    Ok(Part {
+        start,
+        term: Term::Operate(sign, left, right, mark_at(alloc, start)),
+    })
+}
+
+/// A field access.
+pub fn got(alloc: Global, receiver: Part, at: usize, label: Label) -> Result<Part, AllocError>
+    ensures got { IfOk result (λ p. part_shape p ≡ got_part (part_shape receiver) at label.text) }
+{
+    let start = receiver.start;
+    let receiver = boxed(alloc, receiver.term)?;
+    let mark = named_mark(alloc, start, at)?;
+    Ok(Part {
+        start,
+        term: Term::Get(receiver, label, mark),
+    })
+}
+
+/// A call.
+pub fn called(
+    alloc: Global,
+    receiver: Part,
+    at: usize,
+    label: Label,
+    arguments: Vec<Term>,
+) -> Result<Part, AllocError>
+    ensures called { IfOk result (λ p. part_shape p ≡ called_part (part_shape receiver) at label.text (map marked_of arguments.items)) }
+{
+    let start = receiver.start;
+    let receiver = boxed(alloc, receiver.term)?;
+    let mark = named_mark(alloc, start, at)?;
+    Ok(Part {
+        start,
+        term: Term::Call(receiver, label, arguments, mark),
+    })
+}
+
+/// A term taken apart, if it is a field access.
+pub fn access_of(part: Part) -> Option<Access>
+    ensures { IsAccess result (part_shape part) }
+{
+    let Part { start, term } = part;
+    match term {
+        Term::Get(receiver, label, mark) => Some(Access {
+            start,
+            receiver,
+            label,
+            mark,
+        }),
+        Term::Loc(_, _)
+        | Term::Hole(_)
+        | Term::Var(_, _)
+        | Term::Number(_, _)
+        | Term::Make { .. }
+        | Term::Put(_, _, _, _)
+        | Term::Call(_, _, _, _)
+        | Term::Clone(_, _)
+        | Term::Let(_, _, _, _)
+        | Term::Steps(_, _)
+        | Term::If(_, _, _, _)
+        | Term::Repeat(_, _)
+        | Term::Operate(_, _, _, _)
+        | Term::Print(_, _)
+        | Term::Echo(_, _) => None,
+    }
+}
+
+/// A new value for the field of an access.
+pub fn put(alloc: Global, access: Access, value: Part) -> Result<Part, AllocError>
+    ensures put { IfOk result (λ p. part_shape p ≡ put_part (access_shape access) (part_shape value)) }
+{
+    let Access {
+        start,
+        receiver,
+        label,
+        mark,
+    } = access;
+    let value = boxed(alloc, value.term)?;
+    let mark = Mark {
+        at: start,
+        parentheses: 0,
+        left: mark.parentheses,
+        names: mark.names,
+    };
+    Ok(Part {
+        start,
+        term: Term::Put(receiver, label, value, mark),
+    })
+}
+
+/// One term, or the steps of several.
+#[tactic(auto, using(crate::proofs::Stacks::steps_of))]
+pub fn sequence(
+    alloc: Global,
+    start: usize,
+    mut before: Vec<Term>,
+    last: Term,
+) -> Result<Term, AllocError>
+    ensures sequence { IfOk result (λ t. marked_of t ≡ terms_at start (map marked_of before.items ++ marked_of last ∷ [])) }
+{
+    if before.is_empty() {
+        return Ok(last);
+    }
+    before.push(last)?;
+    Ok(Term::Steps(before, mark_at(alloc, start)))
+}
+
+/// An object with what was read of it.
+#[tactic(auto, using(crate::proofs::Making::make_is))]
+pub fn made(object: Object) -> Part
+    ensures made { part_shape result ≡ made_part (object_shape object) }
+{
+    let Object {
+        at,
+        names,
+        fields,
+        methods,
+    } = object;
+    let mark = Mark {
+        at,
+        parentheses: 0,
+        left: 0,
+        names,
+    };
+    Part {
+        start: at,
+        term: Term::Make {
+            fields,
+            methods,
+            mark,
+        },
+    }
 }
 
 fn once_more(mark: Mark) -> Mark
@@ -69,12 +300,8 @@ pub fn enclosed(term: Term) -> Term
     match term {
         Term::Loc(place, mark) => Term::Loc(place, once_more(mark)),
         Term::Hole(mark) => Term::Hole(once_more(mark)),
-        Term::Number(n, mark) => Term::Number(n, once_more(mark)),
-        Term::Operate(sign, left, right, mark) => {
-            Term::Operate(sign, left, right, once_more(mark))
-        }
-        Term::Print(inner, mark) => Term::Print(inner, once_more(mark)),
         Term::Var(name, mark) => Term::Var(name, once_more(mark)),
+        Term::Number(n, mark) => Term::Number(n, once_more(mark)),
         Term::Make {
             fields,
             methods,
@@ -84,14 +311,24 @@ pub fn enclosed(term: Term) -> Term
             methods,
             mark: once_more(mark),
         },
-        Term::Get(t, l, mark) => Term::Get(t, l, once_more(mark)),
-        Term::Put(t, l, u, mark) => Term::Put(t, l, u, once_more(mark)),
-        Term::Call(t, l, us, mark) => Term::Call(t, l, us, once_more(mark)),
-        Term::Clone(t, mark) => Term::Clone(t, once_more(mark)),
-        Term::Let(x, t, u, mark) => Term::Let(x, t, u, once_more(mark)),
-        Term::Steps(ts, mark) => Term::Steps(ts, once_more(mark)),
-        Term::If(c, t, u, mark) => Term::If(c, t, u, once_more(mark)),
-        Term::Repeat(t, mark) => Term::Repeat(t, once_more(mark)),
-        Term::Echo(x, mark) => Term::Echo(x, once_more(mark)),
+        Term::Get(receiver, label, mark) => Term::Get(receiver, label, once_more(mark)),
+        Term::Put(receiver, label, value, mark) => {
+            Term::Put(receiver, label, value, once_more(mark))
+        }
+        Term::Call(receiver, label, arguments, mark) => {
+            Term::Call(receiver, label, arguments, once_more(mark))
+        }
+        Term::Clone(inner, mark) => Term::Clone(inner, once_more(mark)),
+        Term::Let(name, bound, body, mark) => Term::Let(name, bound, body, once_more(mark)),
+        Term::Steps(terms, mark) => Term::Steps(terms, once_more(mark)),
+        Term::If(condition, chosen, other, mark) => {
+            Term::If(condition, chosen, other, once_more(mark))
+        }
+        Term::Repeat(inner, mark) => Term::Repeat(inner, once_more(mark)),
+        Term::Operate(sign, left, right, mark) => {
+            Term::Operate(sign, left, right, once_more(mark))
+        }
+        Term::Print(inner, mark) => Term::Print(inner, once_more(mark)),
+        Term::Echo(text, mark) => Term::Echo(text, once_more(mark)),
     }
 }

@@ -10,40 +10,70 @@ fn fault_of(alloc: Global, bytes: &[u8]) -> Option<SyntaxFault> {
     }
 }
 
-// A byte many times, and then a text.
-fn repeated(alloc: Global, byte: u8, count: usize, text: &[u8]) -> Result<Vec<u8>, AllocError> {
-    let mut bytes = vec![in alloc; byte; count]?;
-    bytes.extend_from_slice(text)?;
-    Ok(bytes)
+// A text many times, and then another.
+fn repeated(alloc: Global, unit: &str, count: usize, tail: &str) -> Result<String, AllocError> {
+    let mut text = String::new(alloc);
+    for _ in 0..count {
+        text.push_str(unit)?;
+    }
+    text.push_str(tail)?;
+    Ok(text)
 }
 
 #[test]
 fn the_first_fault_is_answered(rt: HostRuntime) {
     let alloc = rt.alloc();
     let cases = [
-        (b"".as_slice(), 0, SyntaxKind::Unexpected),
-        (b"// c".as_slice(), 4, SyntaxKind::Unexpected),
-        (b"print(1 + 2".as_slice(), 11, SyntaxKind::Unexpected),
-        (b"()".as_slice(), 1, SyntaxKind::Unexpected),
-        (b"1 2".as_slice(), 2, SyntaxKind::Unexpected),
-        (b"1 ! 2".as_slice(), 2, SyntaxKind::BadByte),
-        (b"1 :".as_slice(), 2, SyntaxKind::BadByte),
-        (b"1 \"ab".as_slice(), 5, SyntaxKind::BadByte),
-        (b"1 \"a\x01".as_slice(), 4, SyntaxKind::BadByte),
-        (b"1 \"a\"".as_slice(), 2, SyntaxKind::NotYet),
-        (b"1 := 2".as_slice(), 2, SyntaxKind::NotYet),
-        (b"1 / 2".as_slice(), 2, SyntaxKind::NotYet),
-        (b"print(let".as_slice(), 6, SyntaxKind::NotYet),
-        (b"printx".as_slice(), 0, SyntaxKind::NotYet),
-        (b"12ab".as_slice(), 2, SyntaxKind::NotYet),
-        (
-            b"print(9223372036854775808)".as_slice(),
-            6,
-            SyntaxKind::BadNumber,
-        ),
+        ("", 0, SyntaxKind::Unexpected),
+        ("// c", 4, SyntaxKind::Unexpected),
+        ("! 1", 0, SyntaxKind::BadByte),
+        ("1 ! 2", 2, SyntaxKind::BadByte),
+        ("1 :", 2, SyntaxKind::BadByte),
+        ("1 \"ab", 5, SyntaxKind::BadByte),
+        ("echo(\"a\u{1}", 7, SyntaxKind::BadByte),
+        ("9223372036854775808", 0, SyntaxKind::BadNumber),
+        ("print(9223372036854775808)", 6, SyntaxKind::BadNumber),
+        (")", 0, SyntaxKind::Unexpected),
+        ("print(1 2)", 8, SyntaxKind::Unexpected),
+        ("1 \"a\"", 2, SyntaxKind::Unexpected),
+        ("12ab", 2, SyntaxKind::Unexpected),
+        ("1 < 2 < 3", 6, SyntaxKind::Unexpected),
+        ("[; m() = 1]", 5, SyntaxKind::Unexpected),
+        ("[a = let x = 1 in x]", 5, SyntaxKind::Unexpected),
+        ("x(1)", 1, SyntaxKind::Unexpected),
+        ("(x.l)(1)", 5, SyntaxKind::Unexpected),
+        ("1 +", 3, SyntaxKind::Unexpected),
+        ("1 := 2", 2, SyntaxKind::NotAField),
+        ("1; (2) := 3; 4", 7, SyntaxKind::NotAField),
+        ("x.l := 1 := 2", 9, SyntaxKind::NotAField),
+        ("x.l + 1 := 2", 8, SyntaxKind::NotAField),
+        ("active(x)", 0, SyntaxKind::NotYet),
+        ("1 size", 2, SyntaxKind::NotYet),
+        ("1 + pending", 4, SyntaxKind::NotYet),
     ];
     for (text, at, kind) in cases {
-        assert_eq!(rt; fault_of(alloc, text), Some(SyntaxFault { at, kind }));
+        assert_eq!(rt;
+            fault_of(alloc, text.as_bytes()),
+            Some(SyntaxFault { at, kind })
+        );
+    }
+}
+
+#[test]
+fn programs_are_read(rt: HostRuntime) {
+    let alloc = rt.alloc();
+    let cases = [
+        "lets",
+        "(x.l) := 1",
+        "x.l := y.m := 2",
+        "let x = 1 in x; x",
+        "[]",
+        "[a = 1, b = 2; m(s) = s.a, n(s, k) = let y = k in y; s]",
+        "if (1 < 2) { 1; 2 } else { x.m(1, let z = 2 in z; z, 3).n() }",
+        "echo(\"a // b\"); clone(repeat(print(1 - 2 * 3 / 4 % 5 == 6)))",
+    ];
+    for text in cases {
+        assert!(rt; read_program(alloc, text.as_bytes()).is_ok());
     }
 }
 
@@ -52,18 +82,20 @@ fn terms_are_read_with_their_marks(rt: HostRuntime) -> Result<(), SyntaxError> {
     let alloc = rt.alloc();
     let cases = [
         (
-            "print(1 + 2)",
-            "Print(Operate(Add, \
-             Number(1, Mark { at: 6, parentheses: 0, left: 0, names: [] }), \
-             Number(2, Mark { at: 10, parentheses: 0, left: 0, names: [] }), \
-             Mark { at: 6, parentheses: 0, left: 0, names: [] }), \
-             Mark { at: 0, parentheses: 0, left: 0, names: [] })",
-        ),
-        (
             "(1)+// \u{e9} \"\n00000000000000000000007",
             "Operate(Add, \
              Number(1, Mark { at: 1, parentheses: 1, left: 0, names: [] }), \
              Number(7, Mark { at: 12, parentheses: 0, left: 0, names: [] }), \
+             Mark { at: 0, parentheses: 0, left: 0, names: [] })",
+        ),
+        (
+            "(x.l) := y; 2",
+            "Steps([Put(\
+             Var(Word { text: \"x\" }, Mark { at: 1, parentheses: 0, left: 0, names: [] }), \
+             Label { text: Word { text: \"l\" } }, \
+             Var(Word { text: \"y\" }, Mark { at: 9, parentheses: 0, left: 0, names: [] }), \
+             Mark { at: 0, parentheses: 0, left: 1, names: [3] }), \
+             Number(2, Mark { at: 12, parentheses: 0, left: 0, names: [] })], \
              Mark { at: 0, parentheses: 0, left: 0, names: [] })",
         ),
     ];
@@ -76,25 +108,45 @@ fn terms_are_read_with_their_marks(rt: HostRuntime) -> Result<(), SyntaxError> {
 }
 
 #[test]
-fn long_and_deep_texts_are_read(rt: HostRuntime) -> Result<(), AllocError> {
+fn levels_end_at_200(rt: HostRuntime) -> Result<(), AllocError> {
     let alloc = rt.alloc();
-    let spaces = repeated(alloc, b' ', 1_048_576, b"".as_slice())?;
-    let at = 1_048_576;
-    let kind = SyntaxKind::Unexpected;
-    assert_eq!(rt;
-        fault_of(alloc, spaces.as_slice()),
-        Some(SyntaxFault { at, kind })
-    );
-    let open = repeated(alloc, b'(', 201, b"".as_slice())?;
-    let at = 200;
     let kind = SyntaxKind::TooDeep;
-    assert_eq!(rt;
-        fault_of(alloc, open.as_slice()),
-        Some(SyntaxFault { at, kind })
-    );
-    let mut nested = repeated(alloc, b'(', 200, b"1".as_slice())?;
-    let close = repeated(alloc, b')', 200, b"".as_slice())?;
-    nested.extend_from_slice(close.as_slice())?;
-    assert!(rt; read_program(alloc, nested.as_slice()).is_ok());
+    let cases = [
+        ("(", 201, 200),
+        ("[a=", 201, 600),
+        ("1+", 201, 401),
+        ("1%", 201, 401),
+        ("x.", 201, 401),
+        ("let x=1 in ", 201, 2200),
+        ("x.l:=", 101, 501),
+        ("(1==", 101, 400),
+    ];
+    for (unit, count, at) in cases {
+        let text = repeated(alloc, unit, count, "")?;
+        assert_eq!(rt;
+            fault_of(alloc, text.as_bytes()),
+            Some(SyntaxFault { at, kind })
+        );
+    }
+    let sum = repeated(alloc, "1+", 197, "1")?;
+    let text = format!(in alloc; "{sum}; let x = {sum} in {sum}; x.m({sum}, {sum})")?;
+    assert!(rt; read_program(alloc, text.as_bytes()).is_ok());
+    Ok(())
+}
+
+#[test]
+fn a_long_sequence_is_read(rt: HostRuntime) -> Result<(), AllocError> {
+    let alloc = rt.alloc();
+    let steps = repeated(alloc, "print(1); ", 104_858, "1")?;
+    assert!(rt; read_program(alloc, steps.as_bytes()).is_ok());
+    Ok(())
+}
+
+#[test]
+fn a_long_object_is_read(rt: HostRuntime) -> Result<(), AllocError> {
+    let alloc = rt.alloc();
+    let fields = repeated(alloc, "field = 1, ", 95_326, "last = 1]")?;
+    let object = format!(in alloc; "[{fields}")?;
+    assert!(rt; read_program(alloc, object.as_bytes()).is_ok());
     Ok(())
 }

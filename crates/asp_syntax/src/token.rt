@@ -1,13 +1,41 @@
 //! Tokens, and where they stand.
 
+use asp_model::Word;
+
 /// A token of a text, or that none stands at a place.
-#[derive(Clone, Copy, Debug, PartialEq, Eq)]
+#[derive(Debug, Drop)]
 pub enum Token {
     Number(i64),
-    Print,
+    Name(Word),
+    /// The bytes between the quotes.
+    Text(Word),
     Open,
     Close,
+    SquareOpen,
+    SquareClose,
+    BraceOpen,
+    BraceClose,
+    Comma,
+    Semicolon,
+    Dot,
+    Equals,
+    Assign,
     Plus,
+    Minus,
+    Star,
+    Slash,
+    Percent,
+    Less,
+    /// `==`
+    Same,
+    Let,
+    In,
+    If,
+    Else,
+    Repeat,
+    Clone,
+    Print,
+    Echo,
     /// The end of the text.
     End,
     /// A token of the language that no program of this grammar has.
@@ -19,7 +47,7 @@ pub enum Token {
 }
 
 /// A token of a text, its place, and the place behind it.
-#[derive(Clone, Copy, Debug)]
+#[derive(Debug, Drop)]
 pub struct Cursor {
     pub token: Token,
     pub at: usize,

@@ -26,6 +26,7 @@ fn kind_text(kind: SyntaxKind) -> &'static str
         SyntaxKind::BadNumber => "BadNumber",
         SyntaxKind::Unexpected => "Unexpected",
         SyntaxKind::TooDeep => "TooDeep",
+        SyntaxKind::NotAField => "NotAField",
         SyntaxKind::NotYet => "NotYet",
     }
 }

@@ -37,6 +37,12 @@ fn a_run_stops_where_its_budget_is_spent(rt: HostRuntime) -> Result<(), Fail> {
             1,
             "verdict end\nactivity 0 2 fault Overflow\nsenders\n",
         ),
+        (
+            "repeat(0)",
+            "100",
+            5,
+            "verdict budget\nactivity 0 100 running\nsenders\n",
+        ),
     ];
     for (text, budget, status, lines) in rows {
         let words = ["a.asp", "--budget", budget];

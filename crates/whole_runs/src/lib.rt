@@ -4,7 +4,15 @@
 #[cfg(test)]
 mod budgets;
 #[cfg(test)]
+mod checking;
+#[cfg(test)]
 mod faults_of_the_outside;
+#[cfg(test)]
+mod faulty_texts;
+#[cfg(test)]
+mod levels;
+#[cfg(test)]
+mod objects;
 #[cfg(test)]
 mod reading;
 #[cfg(test)]

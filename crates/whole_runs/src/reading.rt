@@ -9,7 +9,7 @@ fn the_first_fault_is_told_with_its_place(rt: HostRuntime) -> Result<(), Fail> {
         ("", "Unexpected at 0"),
         ("print(1 + 2", "Unexpected at 11"),
         ("1 ! 2", "BadByte at 2"),
-        ("print(let", "NotYet at 6"),
+        ("print(let", "Unexpected at 9"),
         ("print(9223372036854775808)", "BadNumber at 6"),
         ("print 1", "Unexpected at 6"),
         ("1 + + 2", "Unexpected at 4"),
@@ -17,11 +17,11 @@ fn the_first_fault_is_told_with_its_place(rt: HostRuntime) -> Result<(), Fail> {
         ("()", "Unexpected at 1"),
         ("1 2", "Unexpected at 2"),
         ("1 \"ab", "BadByte at 5"),
-        ("1 \"ab\"", "NotYet at 2"),
+        ("1 \"ab\"", "Unexpected at 2"),
         ("1 : 2", "BadByte at 2"),
-        ("x := 1", "NotYet at 0"),
         ("// all", "Unexpected at 6"),
-        ("1 / 2", "NotYet at 2"),
+        ("1 := 2", "NotAField at 2"),
+        ("print(active(1))", "NotYet at 6"),
     ];
     for (text, fault) in rows {
         let ran = run_bytes(&rt, text.as_bytes(), SOUND)?;

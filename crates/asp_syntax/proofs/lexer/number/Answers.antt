@@ -1,7 +1,8 @@
 use Rattle.std.proofs.Common.{◌≡◌, sym, ◌∙◌, ap, arith, inl, inr, w64, ℤ, pos, ◌∷◌}
 use Rattle.std.proofs.lemmas.Int.{to_z_pos}
 use Rattle.asp_syntax.specs.declared.token.Token.TheVariants.{Number}
-use Rattle.asp_syntax.specs.Tokens.{lexeme, is_digit, InNumber, Between}
+use Rattle.asp_syntax.specs.Bytes.{is_digit}
+use Rattle.asp_syntax.specs.Tokens.{lexeme, InNumber, Between}
 use Rattle.asp_syntax.specs.Cursors.{from}
 use Rattle.asp_syntax.proofs.Lexing.{digit_first, digit_more, digit_past, number_is, Past}
 use Rattle.asp_syntax.proofs.lexer.number.Goals as goal

@@ -1,11 +1,12 @@
 use Rattle.std.proofs.Common.{◌≡◌, ◌-◌, ◌<◌, ◌≤◌, length}
+use Rattle.std.specs.Prelude.{string_bytes}
 use Rattle.asp_syntax.specs.Tokens.{Between, InText}
 use Rattle.asp_syntax.specs.Cursors.{from}
 use Rattle.asp_syntax.proofs.lexer.text.Given as goal
 
 abbrev pub invariant-loop-i : goal.invariant-loop-i
 invariant-loop-i l = record {
-  same : from (InText l.start) l.bytes l.i ≡ from Between l.bytes l.start;
+  same : from (InText l.start (string_bytes l.text)) l.bytes l.i ≡ from Between l.bytes l.start;
   onward : l.start < l.i;
   within : l.i ≤ length l.bytes;
 }
