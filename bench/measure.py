@@ -5,7 +5,6 @@ Run `./asp` once before, so that the program is there. Nothing here is a test: f
 machine, and only their ratios within one run mean something.
 """
 import os
-import resource
 import subprocess
 import sys
 import tempfile
@@ -39,14 +38,16 @@ def measure(text, options):
     with tempfile.NamedTemporaryFile("w", suffix=".asp", delete=False) as file:
         file.write(text)
     try:
-        begin = time.perf_counter()
-        child = subprocess.Popen([PROGRAM, file.name, *options], stdout=subprocess.PIPE, stderr=subprocess.PIPE)
-        out, _ = child.communicate()
-        seconds = time.perf_counter() - begin
-        peak = resource.getrusage(resource.RUSAGE_CHILDREN).ru_maxrss
-        lines = out.decode().splitlines()
-        count = int(lines[2].split()[2]) if len(lines) > 2 else 0
-        return seconds, peak, child.returncode, count
+        with tempfile.TemporaryFile() as out:
+            begin = time.perf_counter()
+            child = subprocess.Popen([PROGRAM, file.name, *options], stdout=out, stderr=subprocess.DEVNULL)
+            _, status, usage = os.wait4(child.pid, 0)
+            seconds = time.perf_counter() - begin
+            child.returncode = os.waitstatus_to_exitcode(status)
+            out.seek(0)
+            lines = out.read().decode().splitlines()
+        counts = [int(line.split()[2]) for line in lines if line.startswith("activity ")]
+        return seconds, usage.ru_maxrss, child.returncode, sum(counts)
     finally:
         os.unlink(file.name)
 
@@ -59,9 +60,12 @@ def show(name, small, large, options=(), turns=5):
     first = best(small[0], [*options, *small[1]], turns)
     second = best(large[0], [*options, *large[1]], turns)
     ratio = second[0] / first[0]
-    rate = f", {second[3] / second[0]:,.0f} reductions/s" if second[3] > 10_000 else ""
+    rate = ""
+    if second[3] > 10_000:
+        bytes_each = (second[1] - first[1]) * 1024 / (second[3] - first[3])
+        rate = f", {second[3] / second[0]:,.0f} a second, {bytes_each:,.0f} bytes each"
     print(f"{name}: {first[0]:.3f} s, then {second[0]:.3f} s at twice the size: {ratio:.2f} times; "
-          f"status {second[2]}, {second[3]:,} reductions{rate}, peak so far {second[1] / 1024:,.0f} MiB")
+          f"status {second[2]}, {second[3]:,} reductions{rate}, peak {second[1] / 1024:,.0f} MiB", flush=True)
 
 
 def budget(n):
