@@ -1,0 +1,11 @@
+-- in reading order
+pub mod Reached
+pub mod Kept
+pub mod Steps
+pub mod Linked
+pub mod Closed
+pub mod Chases
+pub mod Waking
+pub mod Commuting
+pub mod Replays
+pub mod Joins
