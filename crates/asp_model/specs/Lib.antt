@@ -1,5 +1,6 @@
 -- in reading order
 pub mod Names
+pub mod Order
 pub mod Term
 pub mod Split
 pub mod Store
@@ -12,6 +13,10 @@ pub mod Step
 pub mod Status
 pub mod Replay
 pub mod Outcome
+pub mod WellFormed
 pub mod Report
+pub mod ReportLines
+pub mod ReadReport
 pub mod Marked
 pub mod Shapes
+pub mod FutureOrder

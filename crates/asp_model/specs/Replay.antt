@@ -1,6 +1,7 @@
 -- Sender lists and counts of a run, and the run of one thread under them.
-use Rattle.std.specs.Prelude.{◌≡◌, ℕ, zero, suc, ◌+◌, nat_lt, true, false, ◌||◌, List, [], ◌∷◌, Option, Some, None, length, map, max}
+use Rattle.std.specs.Prelude.{◌≡◌, ◌≢◌, ℕ, zero, suc, ◌+◌, nat_lt, true, false, ◌||◌, List, [], ◌∷◌, Option, Some, None, length, map, max}
 use Rattle.std.specs.List.{starts_with}
+use Rattle.std.specs.Ordering.{is_lt}
 use Rattle.std.specs.FinMap.{find, put}
 use Rattle.asp_model.specs.Names.{Name, name_cmp, same_name}
 use Rattle.asp_model.specs.Term.{Tree}
@@ -74,3 +75,18 @@ replay program lists counts = steps_from (total counts) (Some lists) (count_in c
 pub record Fits (program : Tree) (lists : ListsShape) (counts : CountsShape) : Type 0 where
   pub used_up : lists_of (replay program lists counts) ≡ lists
   pub reached : counts_of (replay program lists counts) ≡ counts
+
+-- what lists and counts have of an activity
+abbrev pub entries_of : ListsShape → CountsShape → Name → Option (List Name) × Option ℕ
+entries_of lists counts n = (find name_cmp n lists, find name_cmp n counts)
+
+-- the replay leaves something else of this activity than lists and counts say
+abbrev pub DivergesAt : Tree → ListsShape → CountsShape → Name → Type 0
+DivergesAt program lists counts n =
+    let c : Configuration = replay program lists counts in
+    entries_of (lists_of c) (counts_of c) n ≢ entries_of lists counts n
+
+-- the least-named activity at which the replay diverges
+pub record IsLeastDiverging (program : Tree) (lists : ListsShape) (counts : CountsShape) (n : Name) : Type 0 where
+  pub diverges : DivergesAt program lists counts n
+  pub least : (m : Name) → DivergesAt program lists counts m → is_lt (name_cmp m n) ≡ false

@@ -1,5 +1,6 @@
 -- What contracts see of the plain types: no boxes, vectors or texts.
 use Rattle.std.specs.Prelude.{ℕ, List, ◌++◌, map}
+use Rattle.std.specs.Option.{option_map}
 use Rattle.asp_model.specs.declared.term.Sign.{Sign}
 use Rattle.asp_model.specs.declared.term.Sign.TheVariants as sign
 use Rattle.asp_model.specs.declared.term.Mark.{Mark}
@@ -18,17 +19,27 @@ use Rattle.asp_model.specs.declared.outcome.Line.{Line}
 use Rattle.asp_model.specs.declared.outcome.Line.TheVariants as line
 use Rattle.asp_model.specs.declared.outcome.ActivityReport.{ActivityReport}
 use Rattle.asp_model.specs.declared.outcome.Outcome.{Outcome}
-use Rattle.asp_model.specs.Names.{Text}
-use Rattle.asp_model.specs.Term.{SignShape, MethodHead, Tree, Loc, Hole, Var, Number, Make, Get, Put, Call, Clone, Let, Steps, If, Repeat, Operate, Print, Echo}
+use Rattle.asp_model.specs.declared.outcome.Lists.{Lists}
+use Rattle.asp_model.specs.declared.outcome.Counts.{Counts}
+use Rattle.asp_model.specs.declared.name.ActivityName.{ActivityName}
+use Rattle.asp_model.specs.declared.name.FutureName.{FutureName}
+use Rattle.asp_model.specs.Names.{Name, FutureShape, Text}
+use Rattle.asp_model.specs.Term.{SignShape, MethodHead, Tree, Loc, Hole, Var, Number, Make, Get, Put, Call, Clone, Active, Serve, Let, Steps, If, Repeat, Operate, Print, Echo}
 use Rattle.asp_model.specs.Term as term
 use Rattle.asp_model.specs.declared.store.Cell.{Cell}
 use Rattle.asp_model.specs.declared.store.Cell.TheVariants as cells
+use Rattle.asp_model.specs.declared.store.Parcel.{Parcel}
+use Rattle.asp_model.specs.declared.store.Request.{Request}
 use Rattle.asp_model.specs.Store.{MethodShape, Field, CellShape}
 use Rattle.asp_model.specs.Store as store
+use Rattle.asp_model.specs.Parcel.{ParcelShape}
+use Rattle.asp_model.specs.Configuration.{RequestShape}
 use Rattle.asp_model.specs.Contraction.{FaultShape, LineShape, NumberLine, TextLine}
 use Rattle.asp_model.specs.Contraction as contraction
 use Rattle.asp_model.specs.Plan.{StatusShape}
 use Rattle.asp_model.specs.Plan as plan
+use Rattle.asp_model.specs.Step.{ListsShape}
+use Rattle.asp_model.specs.Replay.{CountsShape}
 use Rattle.asp_model.specs.Status.{VerdictShape}
 use Rattle.asp_model.specs.Status as verdicts
 use Rattle.asp_model.specs.Outcome.{ActivityReportShape, OutcomeShape}
@@ -69,6 +80,8 @@ term_step (open_term.Get a l m) = marked (Get l.text) (mark_shape m) (one_marked
 term_step (open_term.Put a l b m) = marked (Put l.text) (mark_shape m) (two_marked a.value b.value)
 term_step (open_term.Call a l ts m) = marked (Call l.text) (mark_shape m) (and_marked a.value (all_marked ts.items))
 term_step (open_term.Clone a m) = marked Clone (mark_shape m) (one_marked a.value)
+term_step (open_term.Active a l m) = marked (Active (option_map (λ x. x.text) l)) (mark_shape m) (one_marked a.value)
+term_step (open_term.Serve ls m) = marked (Serve (map (λ l. l.text) ls.items)) (mark_shape m) no_marked
 term_step (open_term.Let x a b m) = marked (Let x) (mark_shape m) (two_marked a.value b.value)
 term_step (open_term.Steps ts m) = marked Steps (mark_shape m) (all_marked ts.items)
 term_step (open_term.If a b c m) = marked If (mark_shape m) (and_marked a.value (two_marked b.value c.value))
@@ -99,21 +112,35 @@ stored_method m = let x = method_of m in record { head = x.head; body = plain x.
 abbrev pub field_shape : Label × ℕ → Field
 field_shape f = record { label = f.0.text; place = f.1 }
 
+abbrev pub future_shape : FutureName → FutureShape
+future_shape f = record { by = f.by; index = f.index }
+
 abbrev pub cell_shape : Cell → CellShape
 cell_shape (cells.Number n) = store.Number n
 cell_shape (cells.Object o) = store.Object (map field_shape o.fields.items) (map stored_method o.methods.items)
+cell_shape (cells.Reference n) = store.Reference n
+cell_shape (cells.Future f) = store.Future (future_shape f)
+
+abbrev pub parcel_shape : Parcel → ParcelShape
+parcel_shape p = record { cells = map cell_shape p.cells.items; roots = p.roots.items }
+
+abbrev pub request_shape : Request → RequestShape
+request_shape r = record { label = r.label.text; sender = r.sender; future = future_shape r.future; arguments = parcel_shape r.arguments }
 
 abbrev pub fault_shape : Fault → FaultShape
 fault_shape fault.NoField = contraction.NoField
 fault_shape fault.NoMethod = contraction.NoMethod
 fault_shape fault.NotObject = contraction.NotObject
 fault_shape fault.NotNumber = contraction.NotNumber
+fault_shape fault.ActiveField = contraction.ActiveField
 fault_shape fault.Overflow = contraction.Overflow
 fault_shape fault.ZeroDivisor = contraction.ZeroDivisor
 
 abbrev pub status_shape : Status → StatusShape
 status_shape status.Done = plan.Done
+status_shape status.Serving = plan.Serving
 status_shape status.Running = plan.Running
+status_shape (status.Awaits f) = plan.Awaits (future_shape f)
 status_shape (status.Faulted f) = plan.Faulted (fault_shape f)
 
 abbrev pub verdict_shape : Verdict → VerdictShape
@@ -130,3 +157,9 @@ activity_shape a = record { name = a.name; count = a.count; status = status_shap
 
 abbrev pub outcome_shape : Outcome → OutcomeShape
 outcome_shape o = record { verdict = verdict_shape o.verdict; activities = map activity_shape o.activities.items }
+
+abbrev pub lists_shape : Lists → ListsShape
+lists_shape l = map (λ x. (x.0, x.1.items)) l.entries.items
+
+abbrev pub counts_shape : Counts → CountsShape
+counts_shape c = c.entries.items

@@ -8,8 +8,10 @@ mod store;
 mod term;
 mod word;
 
-pub use name::ActivityName;
-pub use outcome::{ActivityReport, Fault, Line, Outcome, Status, Verdict, exit_number};
-pub use store::{Cell, Object};
+pub use name::{ActivityName, FutureName};
+pub use outcome::{
+    ActivityReport, Counts, Fault, Line, Lists, Outcome, Status, Verdict, exit_number,
+};
+pub use store::{Cell, Object, Parcel, Request};
 pub use term::{Mark, Method, Place, Program, Sign, Term};
 pub use word::{Label, Word};

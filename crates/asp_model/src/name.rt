@@ -1,9 +1,18 @@
-//! Names of activities.
+//! Names of activities and of futures.
 
-ghost use Rattle.std.specs.Prelude.{◌≡◌, List, ℕ, IfOk};
-ghost use Rattle.asp_model.specs.Names.{main_name};
+ghost use Rattle.std.specs.Prelude.{◌≡◌, ◌++◌, ◌∷◌, [], List, ℕ, IfOk};
+ghost use Rattle.std.proofs.Common.{ap, rules};
+ghost use Rattle.std.specs.Cmp.{eq_by_cmp_equiv, partial_equiv_from_equiv, partial_order_from_total};
+ghost use Rattle.std.specs.Cmp.Lexicographic.{nat_list_cmp_total};
+ghost use Rattle.std.specs.Cmp.Rules.{comparing};
+ghost use Rattle.std.specs.Hash as fed;
+ghost use Rattle.std.specs.Ordering.{as_partial_cmp};
+ghost use Rattle.asp_model.specs.Order.{same_name_same};
+ghost use Rattle.asp_model.specs.Names.{created_name, main_name, name_cmp, same_name};
 
 use std::alloc::{AllocError, Global};
+use std::cmp::Ordering;
+use std::hash::{Hash, Hasher};
 use std::marker::Model;
 
 /// The name of an activity, seen as a list of numbers that begins with 0.
@@ -18,6 +27,14 @@ impl Model for ActivityName {
     ghost view = { λ n. n.path.items };
 }
 
+/// The name of a future: who sent the request, and the request's number among those that it sent,
+/// from 1.
+#[derive(Debug, PartialEq, Eq, PartialOrd, Ord, Hash, Drop)]
+pub struct FutureName {
+    pub by: ActivityName,
+    pub index: u32,
+}
+
 impl ActivityName {
     /// The name of the main activity.
     pub fn main(alloc: Global) -> Result<ActivityName, AllocError>
@@ -28,10 +45,96 @@ impl ActivityName {
         Ok(ActivityName { path })
     }
 
+    /// A name with these numbers.
+    pub fn of_path(path: Vec<u32>) -> ActivityName
+        ensures name { result ≡ path.items }
+    {
+        ActivityName { path }
+    }
+
     /// The numbers of the name, in order.
     pub fn path(&self) -> &[u32]
         ensures path { result.now ≡ self.now }
     {
         &self.path
+    }
+
+    /// The same name.
+    pub fn copy(&self, alloc: Global) -> Result<ActivityName, AllocError>
+        ensures name { IfOk result (λ n. n ≡ self.now) }
+    {
+        let mut path = Vec::new(alloc);
+        path.extend_from_slice(&self.path)?;
+        Ok(ActivityName { path })
+    }
+
+    /// The name of the activity that this one creates under a number, from 1.
+    pub fn created(&self, alloc: Global, number: u32) -> Result<ActivityName, AllocError>
+        ensures name { IfOk result (λ n. n ≡ created_name self.now number) }
+    {
+        let mut name = self.copy(alloc)?;
+        name.path.push(number)?;
+        Ok(name)
+    }
+}
+
+impl FutureName {
+    /// The same name.
+    pub fn copy(&self, alloc: Global) -> Result<FutureName, AllocError>
+        ensures name { IfOk result (λ f. f ≡ self.now) }
+    {
+        Ok(FutureName {
+            by: self.by.copy(alloc)?,
+            index: self.index,
+        })
+    }
+}
+
+impl PartialEq for ActivityName {
+    ghost eq = { same_name };
+
+    ghost laws = { partial_equiv_from_equiv (eq_by_cmp_equiv nat_list_cmp_total) };
+
+    fn eq(&self, other: &ActivityName) -> bool {
+        self.path.cmp(&other.path) == Ordering::Equal
+    }
+}
+
+impl Eq for ActivityName {
+    ghost laws = { eq_by_cmp_equiv nat_list_cmp_total };
+}
+
+impl Hash for ActivityName {
+    ghost hash_input = { fed.slice fed.u32 };
+
+    ghost respects_eq = { λ x y e. ap (fed.slice fed.u32) (same_name_same x y e) };
+
+    fn hash<H: Hasher>(&self, state: &mut H) {
+        self.path.hash(state);
+    }
+}
+
+impl PartialOrd for ActivityName {
+    ghost partial_cmp = { as_partial_cmp name_cmp };
+
+    ghost laws = { partial_order_from_total nat_list_cmp_total };
+
+    fn partial_cmp(&self, other: &ActivityName) -> Option<Ordering> {
+        Some(self.cmp(other))
+    }
+}
+
+/// By the numbers of the names, in order, a beginning of a name before the name.
+impl Ord for ActivityName {
+    ghost cmp = { name_cmp };
+
+    ghost total = { nat_list_cmp_total };
+
+    ghost matches_partial_cmp = { Prim.search (comparing, rules) };
+
+    ghost matches_eq = { Prim.search (comparing, rules) };
+
+    fn cmp(&self, other: &ActivityName) -> Ordering {
+        self.path.cmp(&other.path)
     }
 }

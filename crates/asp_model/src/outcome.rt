@@ -5,7 +5,7 @@ ghost use Rattle.std.specs.List.{list_any};
 ghost use Rattle.asp_model.specs.Outcome.{exit_status, is_faulted as is_fault};
 ghost use Rattle.asp_model.specs.Shapes.{activity_shape, outcome_shape, status_shape};
 
-use crate::{ActivityName, Word};
+use crate::{ActivityName, FutureName, Word};
 
 /// Why an activity stopped for good.
 #[derive(Clone, Copy, Debug, PartialEq, Eq)]
@@ -18,6 +18,8 @@ pub enum Fault {
     NotObject,
     /// A number was asked for, and another cell stood there.
     NotNumber,
+    /// A field of an activity was asked for.
+    ActiveField,
     /// The result of an operator lies outside 64 bits.
     Overflow,
     /// The divisor is 0.
@@ -25,12 +27,16 @@ pub enum Fault {
 }
 
 /// What an activity does at the end of a run.
-#[derive(Clone, Copy, Debug, PartialEq, Eq)]
+#[derive(Debug, Drop)]
 pub enum Status {
     /// Its term is a place, and no service is suspended.
     Done,
+    /// It stands at a `serve` that no pending request matches.
+    Serving,
     /// It can step.
     Running,
+    /// It needs the value of a future that has none.
+    Awaits(FutureName),
     /// It stands at a fault.
     Faulted(Fault),
 }
@@ -66,6 +72,19 @@ pub struct ActivityReport {
     pub lines: Vec<Line>,
 }
 
+/// For each activity the senders of its requests, in order of arrival, in strictly ascending order of
+/// names.
+#[derive(Debug, Drop)]
+pub struct Lists {
+    pub entries: Vec<(ActivityName, Vec<ActivityName>)>,
+}
+
+/// For each activity the number of its reductions, in strictly ascending order of names.
+#[derive(Debug, Drop)]
+pub struct Counts {
+    pub entries: Vec<(ActivityName, u64)>,
+}
+
 /// A run at its end: the activities in ascending order of names.
 #[derive(Debug, Drop)]
 pub struct Outcome {
@@ -73,8 +92,8 @@ pub struct Outcome {
     pub activities: Vec<ActivityReport>,
 }
 
-fn is_faulted(status: Status) -> bool
-    ensures { result ≡ is_fault (status_shape status) }
+fn is_faulted(status: &Status) -> bool
+    ensures { result ≡ is_fault (status_shape status.now) }
 {
     matches!(status, Status::Faulted(_))
 }
@@ -90,7 +109,7 @@ pub fn exit_number(outcome: &Outcome) -> u8
     }
 }
 
-#[tactic(auto, using(crate::proofs::Lists::list_any_map))]
+#[tactic(auto, using(crate::proofs::Mapped::list_any_map))]
 fn end_number(activities: &[ActivityReport]) -> u8
     ensures { result ≡ cond (list_any (λ a. is_fault a.status) (map activity_shape activities.now)) 1 0 }
 {
@@ -102,5 +121,5 @@ fn any_fault(activities: &[ActivityReport]) -> bool
 {
     activities
         .iter()
-        .any(|activity| is_faulted(activity.status))
+        .any(|activity| is_faulted(&activity.status))
 }

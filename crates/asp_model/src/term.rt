@@ -58,6 +58,10 @@ pub enum Term {
     Put(Box<Term>, Label, Box<Term>, Mark),
     Call(Box<Term>, Label, Vec<Term>, Mark),
     Clone(Box<Term>, Mark),
+    /// A new activity round an object. With a label, it begins with a call of that method.
+    Active(Box<Term>, Option<Label>, Mark),
+    /// Waits for a request with one of the labels; with none, for one of the active object's methods.
+    Serve(Vec<Label>, Mark),
     Let(Word, Box<Term>, Box<Term>, Mark),
     Steps(Vec<Term>, Mark),
     If(Box<Term>, Box<Term>, Box<Term>, Mark),

@@ -11,3 +11,4 @@ pub mod Passing
 pub mod Chases
 pub mod Groups
 pub mod Pairs
+pub mod BadReports

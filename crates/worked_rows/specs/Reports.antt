@@ -8,6 +8,7 @@ use Rattle.asp_model.specs.Step.{ListsShape}
 use Rattle.asp_model.specs.Replay.{CountsShape, Fits, plain_run, replay}
 use Rattle.asp_model.specs.Outcome.{outcome_of, exit_status}
 use Rattle.asp_model.specs.Report.{text_of, report_of}
+use Rattle.asp_model.specs.ReadReport.{Reading, Reads, read_report}
 
 -- the k-th activity that main creates
 abbrev pub created : ℕ → Name
@@ -35,10 +36,14 @@ pub record Shows (c : Configuration) (status : ℕ) (lines : List String) : Type
   pub exits : exit_status (outcome_of c) ≡ status
   pub report : report_of (outcome_of c) ≡ text_of (map codes lines)
 
--- the lists and counts of these entries fit the program, and their replay shows these lines
+abbrev pub read_lines : List String → Reading
+read_lines lines = read_report (text_of (map codes lines))
+
+-- the lists and counts of these entries fit the program, their replay shows these lines, and they stand in these lines
 pub record Replays (program : Tree) (entries : List Entry) (status : ℕ) (lines : List String) : Type 0 where
   pub fits : Fits program (lists_in entries) (counts_in entries)
   pub shows : Shows (replayed program entries) status lines
+  pub reads : read_lines lines ≡ Reads (lists_in entries) (counts_in entries)
 
 -- the plain run within a budget shows these lines, and so does the replay under the entries that stand in them
 pub record Reports (program : Tree) (budget : ℕ) (entries : List Entry) (status : ℕ) (lines : List String) : Type 0 where

@@ -1,6 +1,7 @@
 //! Worked programs with their reports, computed from the definitions of the language.
 #![tactic(auto)]
 
+mod bad_reports;
 mod chases;
 mod circles;
 mod copies;
@@ -12,6 +13,7 @@ mod passing;
 mod senders;
 mod services;
 
+pub use bad_reports::{cut_reports, line_forms, numbers_in_lines, orders_of_names, whole_reports};
 pub use chases::cycles;
 pub use circles::{circle, own_answer, two_circles};
 pub use copies::{packed, unpacked};

@@ -6,7 +6,7 @@ use Rattle.worked_rows.proofs.circles.circle.Goals as goal
 pub returns : goal.returns
 unfolding report_lines digits
 returns c = record {
-  report = record { plain = record { exits = refl; report = refl }; under_lists = record { fits = record { used_up = refl; reached = refl }; shows = record { exits = refl; report = refl } } };
+  report = record { plain = record { exits = refl; report = refl }; under_lists = record { fits = record { used_up = refl; reached = refl }; shows = record { exits = refl; report = refl }; reads = refl } };
   value = refl;
   chase = refl;
 }

@@ -5,4 +5,4 @@ use Rattle.worked_rows.proofs.groups.no_member.Goals as goal
 
 pub returns : goal.returns
 unfolding report_lines digits
-returns c = record { report = record { plain = record { exits = refl; report = refl }; under_lists = record { fits = record { used_up = refl; reached = refl }; shows = record { exits = refl; report = refl } } } }
+returns c = record { report = record { plain = record { exits = refl; report = refl }; under_lists = record { fits = record { used_up = refl; reached = refl }; shows = record { exits = refl; report = refl }; reads = refl } } }

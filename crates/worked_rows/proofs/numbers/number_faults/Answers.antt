@@ -6,6 +6,6 @@ use Rattle.worked_rows.proofs.numbers.number_faults.Goals as goal
 pub returns : goal.returns
 unfolding report_lines digits
 returns c = record {
-  overflow = record { plain = record { exits = refl; report = refl }; under_lists = record { fits = record { used_up = refl; reached = refl }; shows = record { exits = refl; report = refl } } };
-  zero_divisor = record { plain = record { exits = refl; report = refl }; under_lists = record { fits = record { used_up = refl; reached = refl }; shows = record { exits = refl; report = refl } } };
+  overflow = record { plain = record { exits = refl; report = refl }; under_lists = record { fits = record { used_up = refl; reached = refl }; shows = record { exits = refl; report = refl }; reads = refl } };
+  zero_divisor = record { plain = record { exits = refl; report = refl }; under_lists = record { fits = record { used_up = refl; reached = refl }; shows = record { exits = refl; report = refl }; reads = refl } };
 }

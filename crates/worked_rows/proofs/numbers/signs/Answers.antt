@@ -6,7 +6,7 @@ use Rattle.worked_rows.proofs.numbers.signs.Goals as goal
 pub returns : goal.returns
 unfolding report_lines digits
 returns c = record {
-  report = record { plain = record { exits = refl; report = refl }; under_lists = record { fits = record { used_up = refl; reached = refl }; shows = record { exits = refl; report = refl } } };
-  quotient = record { plain = record { exits = refl; report = refl }; under_lists = record { fits = record { used_up = refl; reached = refl }; shows = record { exits = refl; report = refl } } };
-  remainder = record { plain = record { exits = refl; report = refl }; under_lists = record { fits = record { used_up = refl; reached = refl }; shows = record { exits = refl; report = refl } } };
+  report = record { plain = record { exits = refl; report = refl }; under_lists = record { fits = record { used_up = refl; reached = refl }; shows = record { exits = refl; report = refl }; reads = refl } };
+  quotient = record { plain = record { exits = refl; report = refl }; under_lists = record { fits = record { used_up = refl; reached = refl }; shows = record { exits = refl; report = refl }; reads = refl } };
+  remainder = record { plain = record { exits = refl; report = refl }; under_lists = record { fits = record { used_up = refl; reached = refl }; shows = record { exits = refl; report = refl }; reads = refl } };
 }

@@ -1,0 +1,6 @@
+-- in reading order
+pub mod PartsLemmas
+pub mod DigitLemmas
+pub mod NameLemmas
+pub mod LineLemmas
+pub mod ReadingLemmas

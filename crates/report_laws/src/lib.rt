@@ -1,0 +1,7 @@
+//! That a report is read as what it was written from. No function computes anything: each stands
+//! for its clause.
+#![tactic(auto)]
+
+mod laws;
+
+pub use laws::reports_are_read;
