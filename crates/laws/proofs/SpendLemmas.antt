@@ -67,7 +67,7 @@ steps_end count (suc k) c = elim (next_by None count c) as (λ o. next_by None c
       (x.0.0 ∷ r.0, (d, x.2, r.1), (omega (arith, r.2.0), ⊎_elim (λ e. inl (ap suc e)) (λ e. inr e) r.2.1))
 ] refl
 
-within_total : (es : List (Name × Activity)) (x : Name × Activity) → In x es → x.1.reductions ≤ total (map (λ x. (x.0, x.1.reductions)) es)
+pub within_total : (es : List (Name × Activity)) (x : Name × Activity) → In x es → x.1.reductions ≤ total (map (λ x. (x.0, x.1.reductions)) es)
 within_total [] x i = absurd i
 within_total (e ∷ es) x (inl p) = let h : x.1.reductions ≡ e.1.reductions = ap (λ z. z.1.reductions) p in omega (arith, h)
 within_total (e ∷ es) x (inr i) = omega (arith, within_total es x i)

@@ -1,0 +1,87 @@
+-- What holds of each head of a program holds of each head of what it reaches.
+use Rattle.std.specs.Prelude.{◌≡◌, true, List, [], ◌∷◌, Option, Some, None}
+use Rattle.std.specs.List.{list_all}
+use Rattle.std.proofs.Common.{refl, sym, subst, ⊎_elim}
+use Rattle.std.proofs.lemmas.Bool.{and_from}
+use Rattle.runs.specs.Systems.{Leads}
+use Rattle.asp_model.specs.Names.{Name, main_name}
+use Rattle.asp_model.specs.Term.{Head, Tree}
+use Rattle.asp_model.specs.Store.{Object}
+use Rattle.asp_model.specs.Contraction.{LineShape, NumberLine, TextLine}
+use Rattle.asp_model.specs.Chase.{chase}
+use Rattle.asp_model.specs.Configuration.{Configuration, requests_of, begun, start}
+use Rattle.asp_model.specs.WellFormed.{is_printable_line}
+use Rattle.asp_model.specs.Plan.{Acts, Effect}
+use Rattle.asp_model.specs.Step.{ListsShape, plan_in, step, with_effect}
+use Rattle.laws.specs.Reached.{Move, Steps, Makes, IsReached}
+use Rattle.laws.specs.Linked.{Each}
+use Rattle.laws.proofs.NameLemmas.{no_some}
+use Rattle.laws.proofs.StepLemmas.{step_taken}
+use Rattle.laws.proofs.ChaseLemmas.{chase_finds}
+use Rattle.laws.proofs.SoundLemmas.{came}
+use Rattle.laws.proofs.LinkedLemmas.{acting, found_after, value_after}
+use Rattle.outcome_laws.specs.Heads.{EachHead, HoldsOfWritten, CellHas, LineHas, ActivityHas, HasEverywhere, Passes, ReachedHave}
+use Rattle.outcome_laws.specs.Texts.{has_printable_text, LinesArePrintable}
+use Rattle.outcome_laws.proofs.HeadPlanLemmas.{EffectHas, PlanHas, plan_has}
+
+module _ (P : Head → Type 0) (w : HoldsOfWritten P) where
+  effect_has : (c : Configuration) (n : Name) (e : Effect) → HasEverywhere P c → plan_in c n ≡ Acts e → EffectHas P e
+  effect_has c n e h plans =
+      let x = acting c n e plans in
+      subst (PlanHas P) x.2 (plan_has P w (requests_of c n) (λ k r st. h.arguments n k r st) n x.0 (h.activities n x.0 x.1) (chase c.futures) (λ f y p is. h.values y p (chase_finds c.futures f y p is).0))
+
+  has_after : (c : Configuration) (n : Name) (e : Effect) → HasEverywhere P c → EffectHas P e → HasEverywhere P (with_effect n e c)
+  has_after c n e h x = record {
+    activities = λ m a is. ⊎_elim
+        (h.activities m a)
+        (λ y. ⊎_elim (λ own. subst (ActivityHas P) own x.own) (λ z. subst (ActivityHas P) z.2 (x.made z.0 z.1)) y)
+        (found_after n e.own e.made c.activities m a is);
+    arguments = λ m k r st. ⊎_elim
+        (h.arguments m k r)
+        (λ new. subst (λ q. Each (CellHas P) q.arguments.cells) (sym new.request) (x.sent new.sent new.is))
+        (came c n e m k r st);
+    values = λ f p is. ⊎_elim
+        (h.values f p)
+        (λ z. subst (λ q. Each (CellHas P) q.cells) z.2 (x.filled z.0 z.1))
+        (value_after e.filled c.futures f p is);
+  }
+
+  start_has : (program : Tree) → EachHead P program → HasEverywhere P (start program)
+  start_has program h = record {
+    activities = λ m a is. ⊎_elim
+        (λ old. no_some old)
+        (λ y. ⊎_elim (λ own. subst (ActivityHas P) own (record { term = h; services = tt; store = (tt, tt); lines = tt })) (λ z. no_some z.1) y)
+        (found_after main_name (begun program (Object [] [] ∷ [])) None [] m a is);
+    arguments = λ m k r st. no_some st;
+    values = λ f p is. no_some is;
+  }
+
+  step_has : (lists : Option ListsShape) (n : Name) (c d : Configuration) → step lists c n ≡ Some d → HasEverywhere P c → HasEverywhere P d
+  step_has lists n c d is h = let x = step_taken lists c n d is in subst (HasEverywhere P) x.2 (has_after c n x.0 h (effect_has c n x.0 h x.1.plans))
+
+  move_has : (move : Move) (c d : Configuration) → Makes move c d → HasEverywhere P c → HasEverywhere P d
+  move_has (Steps lists n) c d is h = step_has lists n c d is h
+
+  moves_have : (moves : List Move) (c d : Configuration) → Leads Makes c moves d → HasEverywhere P c → HasEverywhere P d
+  moves_have [] c d r h = subst (HasEverywhere P) r h
+  moves_have (m ∷ moves) c d r h = moves_have moves r.0 d r.2 (move_has m c r.0 r.1 h)
+
+-- of whatever fact of heads
+pub reached_with : (P : Head → Type 0) → HoldsOfWritten P → (program : Tree) (c : Configuration) → EachHead P program → IsReached program c → HasEverywhere P c
+reached_with P w program c h reached = moves_have P w reached.moves (start program) c reached.run (start_has P w program h)
+
+pub reached_have : ReachedHave
+reached_have test program c w h reached = reached_with (Passes test) w program c h reached
+
+-- Texts
+
+printable_written : HoldsOfWritten (Passes has_printable_text)
+printable_written = record { loc = λ n. refl; make = refl; call = λ l. refl; serve = refl; steps = refl; repeat = refl; group = refl }
+
+lines_printable : (ls : List LineShape) → Each (LineHas (Passes has_printable_text)) ls → list_all is_printable_line ls ≡ true
+lines_printable [] h = refl
+lines_printable (NumberLine n ∷ ls) h = lines_printable ls h.1
+lines_printable (TextLine text ∷ ls) h = and_from _ _ h.0 (lines_printable ls h.1)
+
+pub lines_are_printable : LinesArePrintable
+lines_are_printable program c n a h reached is = lines_printable a.lines ((reached_have has_printable_text program c printable_written h reached).activities n a is).lines

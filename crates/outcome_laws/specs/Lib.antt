@@ -1,0 +1,4 @@
+-- in reading order
+pub mod Heads
+pub mod Texts
+pub mod Outcomes

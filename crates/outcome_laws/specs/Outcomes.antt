@@ -1,0 +1,67 @@
+-- The outcomes of runs, and their reports.
+use Rattle.std.specs.Prelude.{◌≡◌, ◌≤◌, ℕ, List, None, length}
+use Rattle.asp_model.specs.Names.{Name}
+use Rattle.asp_model.specs.Term.{Tree}
+use Rattle.asp_model.specs.Configuration.{Configuration, start}
+use Rattle.asp_model.specs.Step.{ListsShape}
+use Rattle.asp_model.specs.Replay.{CountsShape, total, lists_of, counts_of, plain_run, replay, Fits}
+use Rattle.asp_model.specs.Outcome.{OutcomeShape, outcome_of}
+use Rattle.asp_model.specs.WellFormed.{IsWellFormed}
+use Rattle.asp_model.specs.Report.{report_of}
+use Rattle.asp_model.specs.ReadReport.{read_report, Reads}
+use Rattle.laws.specs.Reached.{IsReached, RunsTo}
+use Rattle.laws.specs.Kept.{creations_of, sends_of}
+use Rattle.laws.specs.Replays.{IsItsReplay}
+use Rattle.outcome_laws.specs.Texts.{HasPrintableTexts}
+
+-- no activity has created, or has sent, more often than all together have reduced
+abbrev pub NumbersAreWithin : Type 0
+NumbersAreWithin = (program : Tree) (c : Configuration) (n : Name) → IsReached program c
+    → (creations_of c n ≤ total (counts_of c)) × (sends_of c n ≤ total (counts_of c))
+
+-- a configuration that a program with printable texts reached within 10,000,000 reductions
+pub record IsShown (program : Tree) (c : Configuration) : Type 0 where
+  pub texts : HasPrintableTexts program
+  pub reached : IsReached program c
+  pub within : total (counts_of c) ≤ 10000000
+
+-- the outcome of such a configuration is well formed
+abbrev pub OutcomesAreWellFormed : Type 0
+OutcomesAreWellFormed = (program : Tree) (c : Configuration)
+    → IsShown program c → IsWellFormed (outcome_of c)
+
+-- and its report reads as the configuration's sender lists and counts
+abbrev pub ReportsOfRunsAreRead : Type 0
+ReportsOfRunsAreRead = (program : Tree) (c : Configuration)
+    → IsShown program c → read_report (report_of (outcome_of c)) ≡ Reads (lists_of c) (counts_of c)
+
+-- the report of an outcome reads as lists and counts that fit, and their replay has this outcome
+pub record ShowsItsReplay (program : Tree) (o : OutcomeShape) : Type 0 where
+  pub lists : ListsShape
+  pub counts : CountsShape
+  pub read : read_report (report_of o) ≡ Reads lists counts
+  pub fits : Fits program lists counts
+  pub outcome : outcome_of (replay program lists counts) ≡ o
+
+-- a configuration that is its own replay shows it
+abbrev pub ReportsShowReplays : Type 0
+ReportsShowReplays = (program : Tree) (c : Configuration)
+    → IsShown program c → IsItsReplay program c → ShowsItsReplay program (outcome_of c)
+
+-- a run without lists shows its replay, in whatever order its activities stepped
+abbrev pub RunsShowReplays : Type 0
+RunsShowReplays = (program : Tree) (names : List Name) (c : Configuration)
+    → HasPrintableTexts program → RunsTo None (start program) names c → length names ≤ 10000000
+    → ShowsItsReplay program (outcome_of c)
+
+-- and so does the run of one thread
+abbrev pub PlainRunsShowReplays : Type 0
+PlainRunsShowReplays = (n : ℕ) (program : Tree)
+    → HasPrintableTexts program → n ≤ 10000000
+    → ShowsItsReplay program (outcome_of (plain_run n program))
+
+-- the report of a replay reads as the lists and counts that it was made under, where they fit
+abbrev pub ReplayReportsAreRead : Type 0
+ReplayReportsAreRead = (program : Tree) (lists : ListsShape) (counts : CountsShape)
+    → HasPrintableTexts program → Fits program lists counts → total counts ≤ 10000000
+    → read_report (report_of (outcome_of (replay program lists counts))) ≡ Reads lists counts

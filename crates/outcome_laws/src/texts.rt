@@ -1,0 +1,14 @@
+//! What stands in the terms of a program stands in what it reaches.
+
+ghost use Rattle.outcome_laws.specs.Heads.{ReachedHave};
+ghost use Rattle.outcome_laws.specs.Texts.{LinesArePrintable};
+
+/// What passes a test at each node of a program, and of what reductions write, passes it everywhere.
+pub fn reached_have()
+    ensures { ReachedHave }
+{}
+
+/// What a program with printable texts reaches has written printable lines alone.
+pub fn lines_are_printable()
+    ensures { LinesArePrintable }
+{}

@@ -1,0 +1,4 @@
+-- in reading order
+pub mod Effects
+pub mod Schedules
+pub mod Divergence
