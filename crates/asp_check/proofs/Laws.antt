@@ -8,18 +8,19 @@ use Rattle.asp_model.specs.declared.term.Term.{Term}
 use Rattle.asp_model.specs.declared.term.Method.{Method}
 use Rattle.asp_model.specs.declared.term.Mark.{Mark}
 use Rattle.asp_model.specs.declared.word.Label.{Label}
-use Rattle.asp_model.specs.declared.term.Term.TheVariants.{Make, Call, rolls-Make, rolls-Call}
+use Rattle.asp_model.specs.declared.term.Term.TheVariants.{Make, Call, Active, rolls-Make, rolls-Call, rolls-Active}
 use Rattle.asp_model.specs.declared.term.Term.TheOpen as open_term
 use Rattle.asp_model.specs.declared.term.Term.TheFolds.{the_lemmas, fold-roll-Term}
 use Rattle.asp_model.specs.Names.{Text}
 use Rattle.asp_model.specs.Marked.{Marked, MarkedList, no_marked, and_marked, all_marked}
 use Rattle.asp_model.specs.Shapes.{MarkedMethod, marked_of, mark_shape, make_shape, field_of, method_of, term_step, method_step}
 use Rattle.asp_check.specs.declared.fault.CheckFault.{CheckFault}
+use Rattle.asp_check.specs.declared.fault.CheckKind.TheVariants.{Arity}
 use Rattle.asp_check.specs.Placed.{place_or, later, behind}
 use Rattle.asp_check.specs.Least.{least_of}
 use Rattle.asp_check.specs.NameFaults.{NameSet, with_names, object_faults, name_faults, name_faults_below}
-use Rattle.asp_check.specs.ArityFaults.{LabelArity, label_arity, marked_count, method_arities, arities_in, arities_among}
-use Rattle.asp_check.specs.Walk.{field_label, field_term, head_of, body_of, names_of}
+use Rattle.asp_check.specs.ArityFaults.{LabelArity, label_arity, service_arities, marked_count, method_arities, arities_in, arities_among}
+use Rattle.asp_check.specs.Walk.{service_text, field_label, field_term, head_of, body_of, names_of}
 use Rattle.asp_check.proofs.Joined.{least_of_joined}
 use Rattle.asp_check.proofs.Methods.{method_head, method_body}
 
@@ -72,10 +73,14 @@ among_call : (x : LabelArity) (us : MarkedList) → arities_among ((x ∷ []) �
 among_call x no_marked = refl
 among_call x (and_marked t us) = refl
 
-pub arities_call : (a : Box Term Global) (l : Label) (ts : Vec Term Global) (m : Mark) → arities_in (marked_of (Call a l ts m)) ≡ arities_in (marked_of a.value) ++ (label_arity l.text (length ts.items) (place_or m.at m.names.items) ∷ arities_among [] (all_marked (map marked_of ts.items)))
+pub arities_call : (a : Box Term Global) (l : Label) (ts : Vec Term Global) (m : Mark) → arities_in (marked_of (Call a l ts m)) ≡ arities_in (marked_of a.value) ++ (label_arity Arity l.text (length ts.items) (place_or m.at m.names.items) ∷ arities_among [] (all_marked (map marked_of ts.items)))
 arities_call a l ts m = ap (λ t. arities_in (marked_of t)) (sym (rolls-Call a l ts m)) ∙ ap arities_in (fold-roll-Term Marked MarkedMethod term_step method_step (open_term.Call a l ts m))
     ∙ ap (λ xs. arities_in (marked_of a.value) ++ xs) (among_call _ (all_marked (map marked_of ts.items)))
-    ∙ ap (λ n. arities_in (marked_of a.value) ++ (label_arity l.text n (place_or m.at m.names.items) ∷ arities_among [] (all_marked (map marked_of ts.items)))) (marked_count_all ts.items)
+    ∙ ap (λ n. arities_in (marked_of a.value) ++ (label_arity Arity l.text n (place_or m.at m.names.items) ∷ arities_among [] (all_marked (map marked_of ts.items)))) (marked_count_all ts.items)
+
+pub arities_active : (a : Box Term Global) (l : Option Label) (m : Mark) → arities_in (marked_of (Active a l m)) ≡ arities_in (marked_of a.value) ++ service_arities (service_text l) (place_or m.at m.names.items)
+arities_active a l m = ap (λ t. arities_in (marked_of t)) (sym (rolls-Active a l m)) ∙ ap arities_in (fold-roll-Term Marked MarkedMethod term_step method_step (open_term.Active a l m))
+    ∙ ap (λ xs. arities_in (marked_of a.value) ++ xs) (append-nil (service_arities (service_text l) (place_or m.at m.names.items)))
 
 -- a loop's steps over terms of a node
 module _ {X : Type 0} (f : X → Marked) (xs : List X) (i : ℕ) (x : X) (h : i < length xs) (e : x ≡ get_or xs i x) where
@@ -91,9 +96,9 @@ module _ {X : Type 0} (f : X → Marked) (xs : List X) (i : ℕ) (x : X) (h : i 
 
 -- a loop's steps over methods
 module _ (ms : List Method) (i : ℕ) (m : Method) (h : i < length ms) (e : m ≡ get_or ms i m) where
-  pub method_arities_more : (own : List LabelArity) (at : ℕ) (ps : List ℕ) → ((own ++ label_arity m.label.text (length m.parameters.items) (place_or at ps) ∷ []) ++ arities_in (body_of m)) ++ arities_among (method_arities at (map head_of (drop (i + 1) ms)) (behind (names_of m) (later ps))) (all_marked (map body_of (drop (i + 1) ms))) ≡ own ++ arities_among (method_arities at (map head_of (drop i ms)) ps) (all_marked (map body_of (drop i ms)))
-  method_arities_more own at ps = append_assoc (own ++ label_arity m.label.text (length m.parameters.items) (place_or at ps) ∷ []) (arities_in (body_of m)) _
-      ∙ append_assoc own (label_arity m.label.text (length m.parameters.items) (place_or at ps) ∷ []) _
+  pub method_arities_more : (own : List LabelArity) (at : ℕ) (ps : List ℕ) → ((own ++ label_arity Arity m.label.text (length m.parameters.items) (place_or at ps) ∷ []) ++ arities_in (body_of m)) ++ arities_among (method_arities at (map head_of (drop (i + 1) ms)) (behind (names_of m) (later ps))) (all_marked (map body_of (drop (i + 1) ms))) ≡ own ++ arities_among (method_arities at (map head_of (drop i ms)) ps) (all_marked (map body_of (drop i ms)))
+  method_arities_more own at ps = append_assoc (own ++ label_arity Arity m.label.text (length m.parameters.items) (place_or at ps) ∷ []) (arities_in (body_of m)) _
+      ∙ append_assoc own (label_arity Arity m.label.text (length m.parameters.items) (place_or at ps) ∷ []) _
       ∙ ap (λ y. own ++ arities_among (method_arities at (map head_of (y ∷ drop (i + 1) ms)) ps) (all_marked (map body_of (y ∷ drop (i + 1) ms)))) e
       ∙ sym (at_drop_more (λ ys. own ++ arities_among (method_arities at (map head_of ys) ps) (all_marked (map body_of ys))) ms i m h)
 
@@ -102,4 +107,4 @@ module _ (ms : List Method) (i : ℕ) (m : Method) (h : i < length ms) (e : m �
       ∙ ap (λ y. least_of o (name_faults_below bound (map names_of (y ∷ drop (i + 1) ms)) (all_marked (map body_of (y ∷ drop (i + 1) ms))))) e
       ∙ sym (at_drop_more (λ ys. least_of o (name_faults_below bound (map names_of ys) (all_marked (map body_of ys)))) ms i m h)
 
-pub ruleset walk_laws = (append-nil, append_assoc, least_of_joined, arities_call, arities_make, faults_make, the_lemmas)
+pub ruleset walk_laws = (append-nil, append_assoc, least_of_joined, arities_call, arities_active, arities_make, faults_make, the_lemmas)

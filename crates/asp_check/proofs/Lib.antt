@@ -5,3 +5,4 @@ pub mod Repeating
 pub mod Arities
 pub mod Laws
 pub mod Firsts
+pub mod PlaceLemmas

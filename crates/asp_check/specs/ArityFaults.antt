@@ -4,7 +4,8 @@ use Rattle.asp_model.specs.Names.{Text, same_text}
 use Rattle.asp_model.specs.Term.{Head, Make, Call, Active, Scatter, MethodHead}
 use Rattle.asp_model.specs.Marked.{MarkShape, Marked, MarkedList, marked, no_marked, and_marked}
 use Rattle.asp_check.specs.declared.fault.CheckFault.{CheckFault}
-use Rattle.asp_check.specs.declared.fault.CheckKind.TheVariants.{TooManyParameters, Arity}
+use Rattle.asp_check.specs.declared.fault.CheckKind.{CheckKind}
+use Rattle.asp_check.specs.declared.fault.CheckKind.TheVariants.{TooManyParameters, Arity, ServiceArity}
 use Rattle.asp_check.specs.Placed.{place_or, later, behind}
 use Rattle.asp_check.specs.NameFaults.{fault_at, when, unless}
 
@@ -13,9 +14,11 @@ pub record LabelArity : Type 0 where
   pub label : Text
   pub arity : ℕ
   pub place : ℕ
+  -- the fault where the label has another arity
+  pub kind : CheckKind
 
-abbrev pub label_arity : Text → ℕ → ℕ → LabelArity
-label_arity l n p = record { label = l; arity = n; place = p }
+abbrev pub label_arity : CheckKind → Text → ℕ → ℕ → LabelArity
+label_arity k l n p = record { label = l; arity = n; place = p; kind = k }
 
 abbrev pub marked_count : MarkedList → ℕ
 marked_count no_marked = 0
@@ -29,14 +32,19 @@ argument_count (and_marked t ts) = marked_count ts
 -- of each method its own
 abbrev pub method_arities : ℕ → List MethodHead → List ℕ → List (List LabelArity)
 method_arities at [] ps = []
-method_arities at (m ∷ ms) ps = (label_arity m.label (length m.parameters) (place_or at ps) ∷ []) ∷ method_arities at ms (behind (m.slf ∷ m.parameters) (later ps))
+method_arities at (m ∷ ms) ps = (label_arity Arity m.label (length m.parameters) (place_or at ps) ∷ []) ∷ method_arities at ms (behind (m.slf ∷ m.parameters) (later ps))
+
+-- a created activity calls the method that it begins with without arguments
+abbrev pub service_arities : Option Text → ℕ → List LabelArity
+service_arities None p = []
+service_arities (Some l) p = label_arity ServiceArity l 0 p ∷ []
 
 -- those that stand in a node itself: for each term below, what stands before it and behind the term before
 abbrev pub arities_at : Head → MarkShape → MarkedList → List (List LabelArity)
 arities_at (Make fields methods) m ts = map (λ l. []) fields ++ method_arities m.at methods (behind fields m.names)
-arities_at (Call l) m ts = [] ∷ (label_arity l (argument_count ts) (place_or m.at m.names) ∷ []) ∷ []
-arities_at (Active (Some l)) m ts = [] ∷ (label_arity l 0 (place_or m.at m.names) ∷ []) ∷ []
-arities_at (Scatter l) m ts = [] ∷ (label_arity l 1 (place_or m.at m.names) ∷ []) ∷ []
+arities_at (Call l) m ts = [] ∷ (label_arity Arity l (argument_count ts) (place_or m.at m.names) ∷ []) ∷ []
+arities_at (Active service) m ts = [] ∷ service_arities service (place_or m.at m.names) ∷ []
+arities_at (Scatter l) m ts = [] ∷ (label_arity Arity l 1 (place_or m.at m.names) ∷ []) ∷ []
 arities_at h m ts = []
 
 abbrev pub joined : List (List LabelArity) → List LabelArity
@@ -64,7 +72,7 @@ is_arity n None = false
 is_arity n (Some k) = nat_eq n k
 
 abbrev pub arity_faults_at : LabelArity → Option ℕ → List CheckFault
-arity_faults_at x first = when (nat_lt 8 x.arity) (fault_at x.place TooManyParameters) ++ unless (is_arity x.arity first) (fault_at x.place Arity)
+arity_faults_at x first = when (nat_lt 8 x.arity) (fault_at x.place TooManyParameters) ++ unless (is_arity x.arity first) (fault_at x.place x.kind)
 
 -- at each of these places, against the first in the whole text
 abbrev pub arity_faults : List LabelArity → List LabelArity → List CheckFault

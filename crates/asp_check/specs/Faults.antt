@@ -4,7 +4,7 @@ use Rattle.std.specs.Ordering.{nat_cmp, then_cmp, on, is_lt}
 use Rattle.asp_model.specs.Marked.{Marked}
 use Rattle.asp_check.specs.declared.fault.CheckFault.{CheckFault}
 use Rattle.asp_check.specs.declared.fault.CheckKind.{CheckKind}
-use Rattle.asp_check.specs.declared.fault.CheckKind.TheVariants.{Unbound, DoubleLabel, DoubleParameter, TooManyParameters, Arity}
+use Rattle.asp_check.specs.declared.fault.CheckKind.TheVariants.{Unbound, DoubleLabel, DoubleParameter, TooManyParameters, Arity, ServiceArity}
 use Rattle.asp_check.specs.NameFaults.{no_names, name_faults}
 use Rattle.asp_check.specs.ArityFaults.{arities_in, arity_faults}
 
@@ -21,6 +21,7 @@ kind_number DoubleLabel = 2
 kind_number DoubleParameter = 3
 kind_number TooManyParameters = 4
 kind_number Arity = 5
+kind_number ServiceArity = 6
 
 -- by the place, then by the kind
 abbrev pub is_before : CheckFault → CheckFault → Bool

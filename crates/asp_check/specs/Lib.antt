@@ -3,6 +3,7 @@ pub mod Placed
 pub mod NameFaults
 pub mod ArityFaults
 pub mod Faults
+pub mod NoPlaces
 pub mod Least
 pub mod Sets
 pub mod Walk

@@ -1,5 +1,6 @@
 -- What the walk over a program has seen, and what the parts of a term add to it.
-use Rattle.std.specs.Prelude.{◌≡◌, ℕ, List, [], ◌∷◌, ◌++◌, map}
+use Rattle.std.specs.Prelude.{◌≡◌, ℕ, List, [], ◌∷◌, ◌++◌, Option, map}
+use Rattle.std.specs.Option.{option_map}
 use Rattle.asp_model.specs.declared.term.Term.{Term}
 use Rattle.asp_model.specs.declared.term.Method.{Method}
 use Rattle.asp_model.specs.declared.term.Mark.{Mark}
@@ -20,7 +21,10 @@ use Rattle.asp_check.specs.ArityFaults.{LabelArity, method_arities, arities_amon
 use Rattle.asp_check.specs.Sets.{names_in}
 
 abbrev pub arity_of : ArityPlace → LabelArity
-arity_of p = record { label = p.label.now; arity = p.arity; place = p.at }
+arity_of p = record { label = p.label.now; arity = p.arity; place = p.at; kind = p.kind }
+
+abbrev pub service_text : Option Label → Option Text
+service_text = option_map (λ l. l.text)
 
 -- the names that are bound where the walk is
 abbrev pub bound_in : Walk → NameSet

@@ -17,6 +17,8 @@ pub struct ArityPlace<'a> {
     pub label: &'a str,
     pub arity: usize,
     pub at: usize,
+    /// The fault where an earlier place fixed another arity.
+    pub kind: CheckKind,
 }
 
 const MOST_PARAMETERS: usize = 8;
@@ -77,7 +79,7 @@ fn note_arity(least: &mut Option<CheckFault>, first: Option<usize>, place: Arity
         note(least, CheckFault { at, kind });
     }
     if first != Some(place.arity) {
-        let kind = CheckKind::Arity;
+        let kind = place.kind;
         note(least, CheckFault { at, kind });
     }
 }

@@ -11,7 +11,7 @@ use thiserror::Error;
 /// What is wrong.
 #[derive(Clone, Copy, Debug, PartialEq, Eq)]
 pub enum CheckKind {
-    /// A variable that nothing round it binds.
+    /// A variable that nothing round it binds, or a place, which nothing binds.
     Unbound,
     /// A label that an earlier field or method of the object has.
     DoubleLabel,
@@ -21,6 +21,8 @@ pub enum CheckKind {
     TooManyParameters,
     /// A method or call with another arity than the first of its label.
     Arity,
+    /// A method that an activity begins with, where the label's first arity is not 0.
+    ServiceArity,
 }
 
 impl CheckKind {
@@ -34,6 +36,7 @@ impl CheckKind {
             CheckKind::DoubleParameter => 3,
             CheckKind::TooManyParameters => 4,
             CheckKind::Arity => 5,
+            CheckKind::ServiceArity => 6,
         }
     }
 }

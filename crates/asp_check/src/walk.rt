@@ -6,9 +6,9 @@ ghost use Rattle.asp_model.specs.Shapes.{marked_of};
 ghost use Rattle.asp_check.specs.Least.{lesser, least_of};
 ghost use Rattle.asp_check.specs.Placed.{place_or, later, behind};
 ghost use Rattle.asp_check.specs.NameFaults.{no_names, with_name, with_names, fault_at, unless, name_faults, name_faults_below};
-ghost use Rattle.asp_check.specs.ArityFaults.{LabelArity, label_arity, arities_in, arities_among, method_arities};
+ghost use Rattle.asp_check.specs.ArityFaults.{LabelArity, label_arity, service_arities, arities_in, arities_among, method_arities};
 ghost use Rattle.asp_check.specs.Sets.{names_in};
-ghost use Rattle.asp_check.specs.Walk.{Sees, Finds, bound_in, names_of, body_of, field_term, faults_of_all, arities_of_all, faults_of_bodies, arities_of_methods};
+ghost use Rattle.asp_check.specs.Walk.{Sees, Finds, bound_in, service_text, names_of, body_of, field_term, faults_of_all, arities_of_all, faults_of_bodies, arities_of_methods};
 ghost use Rattle.asp_check.specs.declared.fault.CheckKind.TheVariants as kind;
 
 use crate::arity::ArityPlace;
@@ -51,19 +51,53 @@ impl<'a> Walk<'a> {
         ensures least { Finds self.old (unless (bound_in self.old name.entry.now) (fault_at at kind.Unbound)) self.new }
     {
         if !has_name(&self.bound, name.as_str()) {
-            let kind = CheckKind::Unbound;
-            note(&mut self.least, CheckFault { at, kind });
+            self.note_unbound(at);
         }
     }
 
-    fn add_arity(&mut self, label: &'a Label, arity: usize, at: usize) -> Result<(), AllocError>
+    /// Notes what nothing binds: a variable, or a place.
+    fn note_unbound(&mut self, at: usize)
+        ensures bound { bound_in self.new ≡ bound_in self.old }
+        ensures arities { self.new.arities.items ≡ self.old.arities.items }
+        ensures least { Finds self.old (fault_at at kind.Unbound ∷ []) self.new }
+    {
+        let kind = CheckKind::Unbound;
+        note(&mut self.least, CheckFault { at, kind });
+    }
+
+    fn add_arity(
+        &mut self,
+        kind: CheckKind,
+        label: &'a Label,
+        arity: usize,
+        at: usize,
+    ) -> Result<(), AllocError>
         ensures bound { OnOk result (bound_in self.new ≡ bound_in self.old) }
-        ensures arities { OnOk result (Sees self.old (label_arity label.entry.now.text arity at ∷ []) self.new) }
+        ensures arities { let place = label_arity kind label.entry.now.text arity at in
+            OnOk result (Sees self.old (place ∷ []) self.new) }
         ensures least { OnOk result (self.new.least ≡ self.old.least) }
     {
         let label = label.text.as_str();
-        self.arities.push(ArityPlace { label, arity, at })?;
+        self.arities.push(ArityPlace {
+            label,
+            arity,
+            at,
+            kind,
+        })?;
         Ok(())
+    }
+
+    /// Adds the label of the method that an activity begins with.
+    fn add_service(&mut self, service: &'a Option<Label>, at: usize) -> Result<(), AllocError>
+        ensures bound { OnOk result (bound_in self.new ≡ bound_in self.old) }
+        ensures arities { let places = service_arities (service_text service.entry.now) at in
+            OnOk result (Sees self.old places self.new) }
+        ensures least { OnOk result (self.new.least ≡ self.old.least) }
+    {
+        match service {
+            Some(label) => self.add_arity(CheckKind::ServiceArity, label, 0, at),
+            None => Ok(()),
+        }
     }
 
     /// Adds what a term has.
@@ -75,7 +109,11 @@ impl<'a> Walk<'a> {
         ensures least { OnOk result (Finds self.old (name_faults (bound_in self.old) (marked_of term.entry.now)) self.new) }
     {
         match term {
-            Term::Loc(_, _) | Term::Hole(_) | Term::Number(_, _) | Term::Echo(_, _) => Ok(()),
+            Term::Loc(_, mark) => {
+                self.note_unbound(mark.at);
+                Ok(())
+            }
+            Term::Hole(_) | Term::Number(_, _) | Term::Serve(_, _) | Term::Echo(_, _) => Ok(()),
             Term::Var(name, mark) => {
                 self.visit_variable(name, mark.at);
                 Ok(())
@@ -91,8 +129,13 @@ impl<'a> Walk<'a> {
             }
             Term::Call(receiver, label, arguments, mark) => {
                 self.visit(receiver)?;
-                self.add_arity(label, arguments.len(), Places::of(mark).next())?;
+                let at = Places::of(mark).next();
+                self.add_arity(CheckKind::Arity, label, arguments.len(), at)?;
                 self.visit_all(arguments)
+            }
+            Term::Active(object, service, mark) => {
+                self.visit(object)?;
+                self.add_service(service, Places::of(mark).next())
             }
             Term::Let(name, binding, body, _) => {
                 self.visit(binding)?;
@@ -165,7 +208,7 @@ impl<'a> Walk<'a> {
         let mut places = places;
         for method in methods {
             let at = places.next();
-            self.add_arity(&method.label, method.parameters.len(), at)?;
+            self.add_arity(CheckKind::Arity, &method.label, method.parameters.len(), at)?;
             places.skip_head(method);
             self.visit_method(method)?;
         }

@@ -5,14 +5,15 @@ use Rattle.asp_model.specs.Marked.{Marked}
 use Rattle.asp_model.specs.Shapes.{MarkedMethod}
 use Rattle.asp_syntax.specs.declared.token.Token.TheVariants as tokens
 use Rattle.asp_syntax.specs.Tokens.{Lexeme, lexeme}
-use Rattle.asp_syntax.specs.Nodes.{PartShape, part, word_at, if_at, operated, called, put, terms_at, in_parentheses, ObjectShape, method}
-use Rattle.asp_syntax.specs.Grammar.{may_put, head, IsPrim, number, variable, parentheses, object, word, choice, echo, IsPost, prim, get, call_none, call, IsArgs, argument, and_argument, IsFields, field, and_field, IsMethods, first_method, and_method, IsFieldPart, no_fields, fields, IsMethodPart, no_methods, methods, IsProd, post, times, IsSum, prod, plus, IsTest, sum, test, IsExpr, tested, assign, IsSeq, last, then, bind, IsProgram}
-use Rattle.asp_syntax.specs.States.{Top, InParentheses, InWord, InCondition, InThen, InElse, InCall, InBinding, InBody, InField, OpenShape, Plain, Access, ByRound, Begin, Want, Have, Called, Opening, ObjectBegun, FieldNaming, MethodNaming, StateShape, At, Done, pending, opened_with, fresh, new_object, operand_part, joined, put_all, first_start, sequence_part}
+use Rattle.asp_syntax.specs.Nodes.{PartShape, part, word_at, if_at, operated, called, put, terms_at, in_parentheses, ObjectShape, method, active_at}
+use Rattle.asp_syntax.specs.Signs.{no_service, service}
+use Rattle.asp_syntax.specs.Grammar.{may_put, IsPrim, number, variable, parentheses, object, word, choice, echo, IsPost, prim, get, call_none, call, IsArgs, argument, and_argument, IsFields, field, and_field, IsMethods, first_method, and_method, IsFieldPart, no_fields, fields, IsMethodPart, no_methods, methods, IsProd, post, times, IsSum, prod, plus, IsTest, sum, test, IsExpr, tested, assign, IsSeq, last, then, bind, IsProgram, active, serve}
+use Rattle.asp_syntax.specs.States.{Top, InParentheses, InWord, InCondition, InThen, InElse, InCall, InBinding, InBody, InField, OpenShape, Plain, Access, ByRound, Begin, Want, Have, Called, Opening, ObjectBegun, FieldNaming, MethodNaming, StateShape, At, Done, pending, opened_with, fresh, new_object, operand_part, joined, put_all, first_start, sequence_part, InActive}
 use Rattle.asp_syntax.specs.Machine as machine
 use Rattle.asp_syntax.specs.Closings.{◌>>=◌, FinishedShape, over, concluded, first_mode, close, close_brace, comma, bound, ended}
 use Rattle.asp_syntax.specs.Changes.{ChangeShape, changed, operand}
 use Rattle.asp_syntax.specs.Machine.{next_term, have, run, start}
-use Rattle.asp_syntax.proofs.Running.{goes_on, steps, word_goes, times_goes, plus_goes, test_goes, begun_prim, call_is, PostRuns, ProdRuns, SumRuns, TestRuns, ExprRuns, SeqRuns, ArgsRuns, object_of, FieldsRun, MethodsRun, method_runs, next_goes, later_start, FieldPartRun, no_field_run, fields_run, MethodPartRun, no_method_run, methods_run, object_runs}
+use Rattle.asp_syntax.proofs.Running.{goes_on, steps, word_goes, times_goes, plus_goes, test_goes, begun_prim, call_is, PostRuns, ProdRuns, SumRuns, TestRuns, ExprRuns, SeqRuns, ArgsRuns, object_of, FieldsRun, MethodsRun, method_runs, next_goes, later_start, FieldPartRun, no_field_run, fields_run, MethodPartRun, no_method_run, methods_run, object_runs, labels_run}
 
 mutual
   prim_wanted : {s : Bool} {ls : List Lexeme} {p : PartShape} → IsPrim s ls p → (r : OpenShape) (o : List OpenShape) → run s (At Want r o) ls ≡ Some (At (Have (Plain p)) r o)
@@ -28,6 +29,16 @@ mutual
       let z : Option StateShape = Some (At (Have (Plain (part at (word_at top at (terms_at n ts))))) r o) in
       steps s (changed (operand token at) r o) (Some (At (Opening ByRound (InWord top at)) r o)) (lexeme tokens.Open open_at ∷ (ls ++ lexeme tokens.Close close_at ∷ [])) z (ap (λ (c : Option ChangeShape). changed c r o) (word_goes w at))
       (goes_on s (At Begin (fresh (InWord top at)) (r ∷ o)) (At (Have y.0) y.1 y.2) ls (lexeme tokens.Close close_at ∷ []) z y.3 (ap (λ (f : FinishedShape). concluded close f >>= λ v. run s v []) y.4))
+  prim_wanted (active s at open_at close_at ls us n ts ns label h no_service) r o =
+      let y = seq_complete h (InActive at) 0 [] (r ∷ o) refl in
+      let z : Option StateShape = Some (At (Have (Plain (part at (active_at at [] None (terms_at n ts))))) r o) in
+      goes_on s (At Begin (fresh (InActive at)) (r ∷ o)) (At (Have y.0) y.1 y.2) ls (lexeme tokens.Close close_at ∷ []) z y.3 (ap (λ (f : FinishedShape). concluded close f >>= λ v. run s v []) y.4)
+  prim_wanted (active s at open_at close_at ls us n ts ns label h (service comma_at label_at name)) r o =
+      let y = seq_complete h (InActive at) 0 [] (r ∷ o) refl in
+      let z : Option StateShape = Some (At (Have (Plain (part at (active_at at (label_at ∷ []) (Some name) (terms_at n ts))))) r o) in
+      let lasts : List Lexeme = lexeme (tokens.Name name) label_at ∷ lexeme tokens.Close close_at ∷ [] in
+      goes_on s (At Begin (fresh (InActive at)) (r ∷ o)) (At (Have y.0) y.1 y.2) ls (lexeme tokens.Comma comma_at ∷ lasts) z y.3 (ap (λ (f : FinishedShape). concluded comma f >>= λ v. run s v lasts) y.4)
+  prim_wanted (serve s at open_at close_at ls ns xs h) r o = labels_run h s at close_at r o
   prim_wanted (choice s at open_at close_at then_open then_close else_at else_open else_close ls us vs n m k cs ts es f g h) r o =
       let c : Marked = terms_at n cs in
       let t : Marked = terms_at m ts in

@@ -1,23 +1,17 @@
 -- The parentheses round an operand are no more than the level allows.
-use Rattle.std.proofs.Common.{◌≡◌, ℕ, ◌+◌, ◌-◌, ◌≤◌, ◌<◌, Bool, true, false, List, [], ◌∷◌, ◌++◌, Option, Some, None, length, refl, sym, ap, subst, arith}
-use Rattle.asp_model.specs.Names.{Text}
+use Rattle.std.proofs.Common.{◌≡◌, ℕ, ◌+◌, ◌-◌, ◌≤◌, Bool, true, false, List, [], ◌∷◌, ◌++◌, Option, Some, None, refl, arith}
 use Rattle.asp_model.specs.Term as term
 use Rattle.asp_model.specs.Marked.{Marked, marked, no_marked, and_marked}
 use Rattle.asp_syntax.specs.declared.token.Token.{Token}
 use Rattle.asp_syntax.specs.declared.token.Token.TheVariants as tokens
-use Rattle.asp_syntax.specs.Tokens.{Lexeme}
 use Rattle.asp_syntax.specs.Nodes.{PartShape, part, let_at, put_to, terms_at, in_parentheses}
 use Rattle.asp_syntax.specs.Grammar.{may_put}
-use Rattle.asp_syntax.specs.Levels.{BracketShape, WalkShape, walked, closed}
-use Rattle.asp_syntax.specs.Ordered.{IsOrdered}
-use Rattle.asp_syntax.specs.States.{PendingShape, KindShape, Top, InParentheses, InWord, InCondition, InThen, InElse, InCall, InBinding, InBody, InField, InMethod, OpenShape, OperandShape, Plain, Access, OpenerShape, ByRound, ByBrace, ByEquals, ModeShape, Begin, Want, Have, Dotted, Called, Opening, LetNaming, ElseComing, EchoOpening, EchoText, EchoClosing, ObjectBegun, FieldNaming, MethodNaming, MethodNamed, SelfNaming, HeadNamed, ParameterNaming, StateShape, At, Done, has_terms, fresh, operand_part, joined, put_all, term_in, test_in, value}
+use Rattle.asp_syntax.specs.States.{PendingShape, KindShape, Top, InParentheses, InWord, InCondition, InThen, InElse, InCall, InBinding, InBody, InField, InMethod, OpenShape, OpenerShape, ByEquals, ModeShape, Have, Called, Opening, EchoText, EchoClosing, ObjectBegun, FieldNaming, MethodNaming, MethodNamed, SelfNaming, HeadNamed, ParameterNaming, StateShape, At, Done, operand_part, joined, put_all, term_in, test_in, value, InActive, ServiceNaming, ServiceNamed, ServeBegun, LabelNaming, LabelNamed}
 use Rattle.asp_syntax.specs.Closings as closings
 use Rattle.asp_syntax.specs.Machine as machine
 use Rattle.asp_syntax.specs.Closings.{FinishedShape, finished, over, finish, back, first_mode, ClosingShape, Back, Again, concluded, close, close_brace, close_square, comma, bound, ended}
-use Rattle.asp_syntax.specs.Changes.{ChangeShape, Goes, Opens, changed, call_begun, operand, begin}
 use Rattle.asp_syntax.specs.Machine.{next_term, behind, have, stepped, step}
-use Rattle.asp_syntax.specs.Steps.{change_of}
-use Rattle.asp_syntax.specs.Depth.{parentheses_of, parentheses_in}
+use Rattle.asp_syntax.specs.Depth.{parentheses_of}
 
 -- the open brackets: those of a kind and of a mode
 abbrev pub kind_brackets : KindShape → ℕ
@@ -37,6 +31,11 @@ opening_brackets _ k = 0
 abbrev pub mode_brackets : ModeShape → ℕ
 mode_brackets (Called p at label) = 1
 mode_brackets (Opening opener k) = opening_brackets opener k
+mode_brackets (ServiceNaming at t) = 1
+mode_brackets (ServiceNamed at t label_at label) = 1
+mode_brackets (ServeBegun x) = 1
+mode_brackets (LabelNaming x) = 1
+mode_brackets (LabelNamed x) = 1
 mode_brackets (EchoText at) = 1
 mode_brackets (EchoClosing at text) = 1
 mode_brackets (ObjectBegun x) = 1
@@ -133,6 +132,7 @@ module _ (v : PartShape) (b q n : ℕ) (few : parentheses_of v.term ≤ q) (low 
   close_fits : (k : KindShape) → kind_brackets k + b ≤ n → ClosingFits (close k v) b (n - 1)
   close_fits (InParentheses at) h = (omega (arith, h), omega (arith, h, low, few, one_more v.term))
   close_fits (InWord head at) h = (omega (arith, h), omega (arith, low))
+  close_fits (InActive at) h = (omega (arith, h), omega (arith, low))
   close_fits (InCondition at) h = (omega (arith, h), omega (arith, low))
   close_fits (InCall p at label ts) h = (omega (arith, h), omega (arith, low))
   close_fits _ h = tt
@@ -149,6 +149,7 @@ module _ (v : PartShape) (b q n : ℕ) (few : parentheses_of v.term ≤ q) (low 
 
   comma_fits : (k : KindShape) → kind_brackets k + b ≤ n → ClosingFits (comma k v) b n
   comma_fits (InCall p at label ts) h = (omega (arith, h), omega (arith, low))
+  comma_fits (InActive at) h = (omega (arith, h), omega (arith, low))
   comma_fits (InField x label) h = (omega (arith, h), omega (arith, low))
   comma_fits (InMethod x head) h = (omega (arith, h), omega (arith, low))
   comma_fits _ h = tt

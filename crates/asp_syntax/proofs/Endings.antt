@@ -2,7 +2,7 @@
 use Rattle.std.proofs.Common.{◌≡◌, ℕ, ◌+◌, ◌-◌, ◌*◌, ◌^◌, pos, Bool, true, false, List, [], ◌∷◌, ◌++◌, Option, Some, None, if◌then◌else◌, refl, sym, subst}
 use Rattle.std.specs.Prelude.{◌==◌, nat_lt, codes}
 use Rattle.asp_syntax.specs.declared.token.Token.{Token}
-use Rattle.asp_syntax.specs.declared.token.Token.TheVariants.{Number, Name, Text, Open, Close, SquareOpen, SquareClose, BraceOpen, BraceClose, Comma, Semicolon, Dot, Equals, Assign, Plus, Minus, Star, Slash, Percent, Less, Same, Let, In, If, Else, Repeat, Clone, Print, Echo, NotBuilt, BadByte, BadNumber}
+use Rattle.asp_syntax.specs.declared.token.Token.TheVariants.{Number, Text, Open, Close, SquareOpen, SquareClose, BraceOpen, BraceClose, Comma, Semicolon, Dot, Equals, Assign, Plus, Minus, Star, Slash, Percent, Less, Same, Let, In, If, Else, Repeat, Clone, Print, Echo, NotBuilt, BadByte, BadNumber, Active, Serve}
 use Rattle.asp_syntax.specs.Bytes.{is_digit, is_blank, is_letter, is_inner, is_text, is_word, is_later, reserved_token, named_token, sign_token, word_token}
 use Rattle.asp_syntax.specs.Tokens.{Lexeme, lexeme, lex, Scan, Between, InNumber, InWord, InText, InComment, AfterSlash, AfterColon, AfterEquals, Move, Goes, NoToken, TooLarge, move, after_move, at_end, with_token, digit, between, sign_move, lexemes_of}
 use Rattle.asp_syntax.specs.Cursors.{goes_on}
@@ -31,12 +31,16 @@ either P false x y f g = g
 
 reserved_goes : (w : List ℕ) → IsToken (reserved_token w)
 reserved_goes w =
-    let t8 : Option Token = if is_later w then Some NotBuilt else None in
-    let h8 : IsToken t8 = either IsToken (is_later w) (Some NotBuilt) None refl tt in
-    let t7 : Option Token = if is_word w (codes "echo") then Some Echo else t8 in
-    let h7 : IsToken t7 = either IsToken (is_word w (codes "echo")) (Some Echo) t8 refl h8 in
-    let t6 : Option Token = if is_word w (codes "print") then Some Print else t7 in
-    let h6 : IsToken t6 = either IsToken (is_word w (codes "print")) (Some Print) t7 refl h7 in
+    let t10 : Option Token = if is_later w then Some NotBuilt else None in
+    let h10 : IsToken t10 = either IsToken (is_later w) (Some NotBuilt) None refl tt in
+    let t9 : Option Token = if is_word w (codes "echo") then Some Echo else t10 in
+    let h9 : IsToken t9 = either IsToken (is_word w (codes "echo")) (Some Echo) t10 refl h10 in
+    let t8 : Option Token = if is_word w (codes "print") then Some Print else t9 in
+    let h8 : IsToken t8 = either IsToken (is_word w (codes "print")) (Some Print) t9 refl h9 in
+    let t7 : Option Token = if is_word w (codes "serve") then Some Serve else t8 in
+    let h7 : IsToken t7 = either IsToken (is_word w (codes "serve")) (Some Serve) t8 refl h8 in
+    let t6 : Option Token = if is_word w (codes "active") then Some Active else t7 in
+    let h6 : IsToken t6 = either IsToken (is_word w (codes "active")) (Some Active) t7 refl h7 in
     let t5 : Option Token = if is_word w (codes "clone") then Some Clone else t6 in
     let h5 : IsToken t5 = either IsToken (is_word w (codes "clone")) (Some Clone) t6 refl h6 in
     let t4 : Option Token = if is_word w (codes "repeat") then Some Repeat else t5 in

@@ -4,12 +4,13 @@ use Rattle.std.proofs.lemmas.List.{append-nil}
 use Rattle.asp_syntax.specs.declared.token.Token.TheVariants as tokens
 use Rattle.asp_syntax.specs.Tokens.{Lexeme, lexeme}
 use Rattle.asp_syntax.specs.Nodes.{PartShape, ObjectShape, made}
-use Rattle.asp_syntax.specs.Grammar.{IsPrim, parentheses, word, choice, IsPost, prim, call, argument, and_argument, fields, bind}
+use Rattle.asp_syntax.specs.Grammar.{IsPrim, parentheses, word, choice, IsPost, prim, call, argument, and_argument, fields, bind, active}
 use Rattle.asp_syntax.specs.States.{KindShape, OpenShape, Plain, Have, FieldNaming, MethodNaming, StateShape, At, has_terms, fresh}
 use Rattle.asp_syntax.specs.Closings as closings
 use Rattle.asp_syntax.specs.Closings.{FinishedShape, finished, over, finish, concluded, first_mode, close, close_brace, close_square, comma, bound, ended}
-use Rattle.asp_syntax.specs.Machine.{start}
-use Rattle.asp_syntax.proofs.Parts.{no_step, InLevel, next_field, a_method, next_method, Fielded, fielded, Methoded, methoded, Opened, top, in_parentheses, in_word, in_condition, in_then, in_else, in_call, in_more, in_binding, in_body, in_field, in_method, Leads, begun, wants, has, opens, else_comes, field_comes, method_comes, ends, leads_moved, opened_moved, step_is, Body, terms, one_term, as_body, fresh_level, field_end, field_object, method_end, method_object}
+use Rattle.asp_syntax.proofs.Parts.{no_step, InLevel, next_field, a_method, next_method, Fielded, fielded, Methoded, methoded, Opened, top, in_parentheses, in_word, in_condition, in_then, in_else, in_call, in_more, in_binding, in_body, in_field, in_method, Leads, begun, wants, has, opens, else_comes, field_comes, method_comes, ends, in_active, service_comes}
+use Rattle.asp_syntax.proofs.Wholes.{leads_moved, opened_moved, step_is, Body, terms, one_term, as_body, fresh_level, field_end, field_object, method_end, method_object}
+use Rattle.asp_syntax.specs.Signs.{no_service}
 
 -- a sequence that is over, where it was opened
 pub data Over : Bool → List Lexeme → FinishedShape → Type 0 where
@@ -46,6 +47,7 @@ has_prim f g h e = comes (leads_moved (has f g (prim _ _ _ h)) e)
 pub close_is : {s : Bool} {ls : List Lexeme} {f : FinishedShape} (at : ℕ) → Over s ls f → After s (ls ++ lexeme tokens.Close at ∷ []) (concluded close f)
 close_is at (ready (in_parentheses f g) (terms _ h)) = has_prim f g (parentheses _ _ at _ _ _ h) (simp append_assoc refl)
 close_is at (ready (in_word open_at f g w) (terms _ h)) = has_prim f g (word _ _ _ _ open_at at _ _ _ w h) (simp append_assoc refl)
+close_is at (ready (in_active open_at f g) (terms _ h)) = has_prim f g (active _ _ open_at at _ _ _ _ _ _ h no_service) (simp append_assoc refl)
 close_is at (ready (in_condition open_at f g) (terms _ h)) = comes (opens (λ i. opened_moved (in_then open_at at i f g h) (simp append_assoc refl)))
 close_is at (ready (in_call dot_at open_at f g p) (terms _ h)) = comes (leads_moved (has f g (call _ _ _ _ dot_at _ open_at at _ _ p (argument _ _ _ _ h))) (simp append_assoc refl))
 close_is at (ready (in_more dot_at open_at comma_at f g p a) (terms _ h)) = comes (leads_moved (has f g (call _ _ _ _ dot_at _ open_at at _ _ p (and_argument _ _ _ comma_at _ _ _ a h))) (simp append_assoc refl))
@@ -64,6 +66,7 @@ brace_is at (ready (in_else open_at close_at brace_at end_at else_at else_open f
 brace_is at (ready top h) = nothing
 brace_is at (ready (in_parentheses f g) h) = nothing
 brace_is at (ready (in_word a f g w) h) = nothing
+brace_is at (ready (in_active a f g) h) = nothing
 brace_is at (ready (in_condition a f g) h) = nothing
 brace_is at (ready (in_call a b f g p) h) = nothing
 brace_is at (ready (in_more a b c f g p d) h) = nothing
@@ -87,6 +90,7 @@ square_is at (ready (in_method close_at equals_at f g i j) (terms _ h)) = method
 square_is at (ready top h) = nothing
 square_is at (ready (in_parentheses f g) h) = nothing
 square_is at (ready (in_word a f g w) h) = nothing
+square_is at (ready (in_active a f g) h) = nothing
 square_is at (ready (in_condition a f g) h) = nothing
 square_is at (ready (in_then a b c f g i) h) = nothing
 square_is at (ready (in_else a b c d e i f g j l) h) = nothing
@@ -109,6 +113,7 @@ pub method_comma : {s : Bool} {ls us vs ms : List Lexeme} {r : OpenShape} {o : L
 method_comma at f g (methoded c i h) e = comes (leads_moved (method_comes f g (next_method c at i h)) (simp append_assoc refl ∙ e))
 
 pub comma_is : {s : Bool} {ls : List Lexeme} {f : FinishedShape} (at : ℕ) → Over s ls f → After s (ls ++ lexeme tokens.Comma at ∷ []) (concluded comma f)
+comma_is at (ready (in_active open_at f g) (terms _ h)) = comes (leads_moved (service_comes open_at at f g h) (simp append_assoc refl))
 comma_is at (ready (in_call dot_at open_at f g p) (terms _ h)) = comes (leads_moved (begun (in_more dot_at open_at at f g p (argument _ _ _ _ h)) no_step refl) (simp (append_assoc, append-nil) refl))
 comma_is at (ready (in_more dot_at open_at comma_at f g p a) (terms _ h)) =
     comes (leads_moved (begun (in_more dot_at open_at at f g p (and_argument _ _ _ comma_at _ _ _ a h)) no_step refl) (simp (append_assoc, append-nil) refl))
@@ -129,6 +134,7 @@ bound_is at (ready (in_binding equals_at f d e) (terms _ h)) = comes (leads_move
 bound_is at (ready top h) = nothing
 bound_is at (ready (in_parentheses f g) h) = nothing
 bound_is at (ready (in_word a f g w) h) = nothing
+bound_is at (ready (in_active a f g) h) = nothing
 bound_is at (ready (in_condition a f g) h) = nothing
 bound_is at (ready (in_then a b c f g i) h) = nothing
 bound_is at (ready (in_else a b c d e i f g j l) h) = nothing
@@ -142,6 +148,7 @@ pub ended_is : {s : Bool} {ls : List Lexeme} {f : FinishedShape} (at : ℕ) → 
 ended_is at (ready top (terms _ h)) = comes (ends (record { sequence = _; start = _; terms = _; end = at; is = h; whole = refl; term = refl }))
 ended_is at (ready (in_parentheses f g) h) = nothing
 ended_is at (ready (in_word a f g w) h) = nothing
+ended_is at (ready (in_active a f g) h) = nothing
 ended_is at (ready (in_condition a f g) h) = nothing
 ended_is at (ready (in_then a b c f g i) h) = nothing
 ended_is at (ready (in_else a b c d e i f g j l) h) = nothing

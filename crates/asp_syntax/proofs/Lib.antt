@@ -3,6 +3,7 @@ pub mod Lexing
 pub mod Running
 pub mod Complete
 pub mod Parts
+pub mod Wholes
 pub mod Ends
 pub mod Sound
 pub mod Viable

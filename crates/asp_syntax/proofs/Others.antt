@@ -1,5 +1,5 @@
 -- What ends no sequence of a kind, and which modes change alone.
-use Rattle.std.proofs.Common.{◌≡◌, ◌≢◌, ℕ, List, [], ◌∷◌, map, reverse, Option, Some, None, Bool, true, false, Result, Err, refl, ap, subst, sym, ◌∙◌}
+use Rattle.std.proofs.Common.{◌≡◌, ◌≢◌, ℕ, List, [], ◌∷◌, Option, None, Bool, true, false, Result, Err, refl, ap, subst}
 use Rattle.std.specs.Global.{Vec}
 use Rattle.asp_model.specs.Names.{Text}
 use Rattle.asp_model.specs.declared.term.Term.{Term}
@@ -15,7 +15,7 @@ use Rattle.asp_syntax.specs.declared.state.Object.{Object}
 use Rattle.asp_syntax.specs.declared.state.Head as declared_head
 use Rattle.asp_syntax.specs.declared.state.Wrap.{Wrap}
 use Rattle.asp_syntax.specs.Nodes.{PartShape}
-use Rattle.asp_syntax.specs.States.{KindShape, InCall, OpenShape, OperandShape, StateShape, fresh, operand_part}
+use Rattle.asp_syntax.specs.States.{InCall, OpenShape, OperandShape, fresh, operand_part}
 use Rattle.asp_syntax.specs.Closings.{finished, ended, close, close_brace, close_square, comma, bound}
 use Rattle.asp_syntax.specs.Changes.{ChangeShape, begin, changed}
 use Rattle.asp_syntax.specs.Machine.{behind, call, have, stepped}
@@ -24,16 +24,16 @@ use Rattle.asp_syntax.specs.Steps.{change_of, Changes, Gives, Steps}
 use Rattle.asp_syntax.specs.declared.stop.Stop.{Stop}
 use Rattle.asp_syntax.specs.declared.stop.Stop.TheVariants as stop
 use Rattle.asp_syntax.specs.declared.state.State as code_state
-use Rattle.asp_syntax.specs.declared.state.Change.{Change}
 use Rattle.asp_syntax.specs.declared.token.Token.TheVariants as tokens
 
-pub close_other : (k : Kind) (v : PartShape) → ((at : ℕ) → k ≢ K.InParentheses at) → ((w : Wrap) (at : ℕ) → k ≢ K.InWord w at) → ((at : ℕ) → k ≢ K.InCondition at)
+pub close_other : (k : Kind) (v : PartShape) → ((at : ℕ) → k ≢ K.InParentheses at) → ((w : Wrap) (at : ℕ) → k ≢ K.InWord w at) → ((at : ℕ) → k ≢ K.InActive at) → ((at : ℕ) → k ≢ K.InCondition at)
     → ((p : Part) (at : ℕ) (l : Label) (ts : Vec Term) → k ≢ K.InCall p at l ts) → close (kind_shape k) v ≡ None
-close_other (K.InParentheses at) v a b c d = absurd (a at refl)
-close_other (K.InWord w at) v a b c d = absurd (b w at refl)
-close_other (K.InCondition at) v a b c d = absurd (c at refl)
-close_other (K.InCall p at l ts) v a b c d = absurd (d p at l ts refl)
-close_other _ v a b c d = refl
+close_other (K.InParentheses at) v a b e c d = absurd (a at refl)
+close_other (K.InWord w at) v a b e c d = absurd (b w at refl)
+close_other (K.InActive at) v a b e c d = absurd (e at refl)
+close_other (K.InCondition at) v a b e c d = absurd (c at refl)
+close_other (K.InCall p at l ts) v a b e c d = absurd (d p at l ts refl)
+close_other _ v a b e c d = refl
 
 pub brace_other : (k : Kind) (v : PartShape) → ((at : ℕ) (t : Term) → k ≢ K.InThen at t) → ((at : ℕ) (t u : Term) → k ≢ K.InElse at t u) → close_brace (kind_shape k) v ≡ None
 brace_other (K.InThen at t) v a b = absurd (a at t refl)
@@ -45,12 +45,13 @@ square_other (K.InField x l) v a b = absurd (a x l refl)
 square_other (K.InMethod x h) v a b = absurd (b x h refl)
 square_other _ v a b = refl
 
-pub comma_other : (k : Kind) (v : PartShape) → ((p : Part) (at : ℕ) (l : Label) (ts : Vec Term) → k ≢ K.InCall p at l ts) → ((x : Object) (l : Label) → k ≢ K.InField x l)
+pub comma_other : (k : Kind) (v : PartShape) → ((at : ℕ) → k ≢ K.InActive at) → ((p : Part) (at : ℕ) (l : Label) (ts : Vec Term) → k ≢ K.InCall p at l ts) → ((x : Object) (l : Label) → k ≢ K.InField x l)
     → ((x : Object) (h : declared_head.Head) → k ≢ K.InMethod x h) → comma (kind_shape k) v ≡ None
-comma_other (K.InCall p at l ts) v c a b = absurd (c p at l ts refl)
-comma_other (K.InField x l) v c a b = absurd (a x l refl)
-comma_other (K.InMethod x h) v c a b = absurd (b x h refl)
-comma_other _ v c a b = refl
+comma_other (K.InActive at) v d c a b = absurd (d at refl)
+comma_other (K.InCall p at l ts) v d c a b = absurd (c p at l ts refl)
+comma_other (K.InField x l) v d c a b = absurd (a x l refl)
+comma_other (K.InMethod x h) v d c a b = absurd (b x h refl)
+comma_other _ v d c a b = refl
 
 pub bound_other : (k : Kind) (v : PartShape) → ((at name_at : ℕ) (x : Text) → k ≢ K.InBinding at name_at x) → bound (kind_shape k) v ≡ None
 bound_other (K.InBinding at name_at x) v a = absurd (a at name_at x refl)

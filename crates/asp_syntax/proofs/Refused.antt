@@ -1,5 +1,5 @@
 -- What the machine does with the tokens that a mode does not ask for.
-use Rattle.std.proofs.Common.{◌≡◌, ◌≢◌, ℕ, List, [], ◌∷◌, ◌++◌, Option, Some, None, Bool, refl}
+use Rattle.std.proofs.Common.{◌≡◌, ◌≢◌, ℕ, List, [], ◌∷◌, ◌++◌, Some, None, Bool, refl}
 use Rattle.asp_model.specs.Names.{Text}
 use Rattle.asp_model.specs.Term.{MethodHead}
 use Rattle.asp_model.specs.Marked.{Marked}
@@ -10,9 +10,9 @@ use Rattle.asp_syntax.specs.declared.state.Object.{Object}
 use Rattle.asp_syntax.specs.Shapes.{kind_shape}
 use Rattle.asp_syntax.specs.declared.token.Token.{Token}
 use Rattle.asp_syntax.specs.declared.token.Token.TheVariants as tokens
-use Rattle.asp_syntax.specs.Nodes.{PartShape, ObjectShape}
-use Rattle.asp_syntax.specs.States.{KindShape, InField, InCall, OpenShape, OperandShape, ByRound, ByBrace, ByEquals, StateShape, At, Begin, fresh, operand_part, first_start}
-use Rattle.asp_syntax.specs.Changes.{changed, operand, begin, opening, dotted, let_named, else_came, echo_opened, echo_read, echo_closed, field_named, object_begun, method_named, method_opened, self_named, head_goes_on, parameter_named}
+use Rattle.asp_syntax.specs.Nodes.{PartShape, ObjectShape, LabelsShape}
+use Rattle.asp_syntax.specs.States.{KindShape, InCall, OpenShape, OperandShape, ByRound, ByBrace, ByEquals, At, Begin, fresh, operand_part, first_start}
+use Rattle.asp_syntax.specs.Changes.{changed, operand, begin, opening, dotted, let_named, else_came, echo_opened, echo_read, echo_closed, field_named, object_begun, method_named, method_opened, self_named, head_goes_on, parameter_named, service_named, service_closed, serve_opened, serve_begun, label_named, labels_go_on}
 use Rattle.asp_syntax.specs.Machine.{next_term, behind, have, call}
 
 pub have_other : (rule : Bool) (x : OperandShape) (s : OpenShape) (o : List OpenShape) (t : Token) → t ≢ tokens.Open → have rule x s o t ≡ behind rule (operand_part x) s o t
@@ -52,6 +52,31 @@ dotted_other p _ at h = refl
 pub let_other : (let_at : ℕ) (t : Token) (at : ℕ) → ((w : Text) → t ≢ tokens.Name w) → let_named let_at t at ≡ None
 let_other let_at (tokens.Name w) at h = absurd (h w refl)
 let_other let_at _ at h = refl
+
+pub service_other : (at : ℕ) (u : Marked) (t : Token) (name_at : ℕ) → ((w : Text) → t ≢ tokens.Name w) → service_named at u t name_at ≡ None
+service_other at u (tokens.Name w) name_at h = absurd (h w refl)
+service_other at u _ name_at h = refl
+
+pub service_close_other : (at : ℕ) (u : Marked) (label_at : ℕ) (label : Text) (t : Token) → t ≢ tokens.Close → service_closed at u label_at label t ≡ None
+service_close_other at u label_at label tokens.Close h = absurd (h refl)
+service_close_other at u label_at label _ h = refl
+
+pub serve_other : (at : ℕ) (t : Token) → t ≢ tokens.Open → serve_opened at t ≡ None
+serve_other at tokens.Open h = absurd (h refl)
+serve_other at _ h = refl
+
+pub label_other : (x : LabelsShape) (t : Token) (at : ℕ) → ((w : Text) → t ≢ tokens.Name w) → label_named x t at ≡ None
+label_other x (tokens.Name w) at h = absurd (h w refl)
+label_other x _ at h = refl
+
+pub serve_begun_other : (x : LabelsShape) (t : Token) (at : ℕ) → t ≢ tokens.Close → serve_begun x t at ≡ label_named x t at
+serve_begun_other x tokens.Close at h = absurd (h refl)
+serve_begun_other x _ at h = refl
+
+pub labels_other : (x : LabelsShape) (t : Token) → t ≢ tokens.Comma → t ≢ tokens.Close → labels_go_on x t ≡ None
+labels_other x tokens.Comma g h = absurd (g refl)
+labels_other x tokens.Close g h = absurd (h refl)
+labels_other x _ g h = refl
 
 pub else_other : (at : ℕ) (c t : Marked) (token : Token) → token ≢ tokens.Else → else_came at c t token ≡ None
 else_other at c t tokens.Else h = absurd (h refl)

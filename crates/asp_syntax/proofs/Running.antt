@@ -8,9 +8,10 @@ use Rattle.asp_model.specs.Shapes.{MarkedMethod}
 use Rattle.asp_syntax.specs.declared.token.Token.{Token}
 use Rattle.asp_syntax.specs.declared.token.Token.TheVariants as tokens
 use Rattle.asp_syntax.specs.Tokens.{Lexeme, lexeme}
-use Rattle.asp_syntax.specs.Nodes.{PartShape, terms_at, ObjectShape, made, with_parameter}
-use Rattle.asp_syntax.specs.Grammar.{IsProductSign, multiplies, divides, leaves, IsSumSign, adds, subtracts, IsTestSign, is_less, is_same, IsWord, clones, repeats, prints, IsHead, head, parameter, IsPrim, number, variable, parentheses, object, word, choice, echo, fields, methods}
-use Rattle.asp_syntax.specs.States.{PendingShape, KindShape, InWord, InCall, InField, InMethod, OpenShape, OperandShape, Plain, ByRound, Begin, Want, Have, Called, Opening, ObjectBegun, MethodNaming, HeadNamed, StateShape, At, has_terms, opened_with, fresh, new_object, with_field, with_method, operand_part, joined, put_all, first_start, sequence_part}
+use Rattle.asp_syntax.specs.Nodes.{PartShape, terms_at, ObjectShape, made, with_parameter, served}
+use Rattle.asp_syntax.specs.Signs.{IsProductSign, multiplies, divides, leaves, IsSumSign, adds, subtracts, IsTestSign, is_less, is_same, IsWord, clones, repeats, prints, IsHead, head, parameter, IsLabels, first_label, and_label, IsLabelPart, no_labels, labels}
+use Rattle.asp_syntax.specs.Grammar.{IsPrim, number, variable, parentheses, object, word, choice, echo, active, serve}
+use Rattle.asp_syntax.specs.States.{PendingShape, KindShape, InWord, InCall, InField, InMethod, OpenShape, OperandShape, Plain, ByRound, Begin, Want, Have, Called, Opening, ObjectBegun, MethodNaming, HeadNamed, StateShape, At, has_terms, opened_with, fresh, new_object, with_field, with_method, operand_part, joined, put_all, first_start, sequence_part, ServeBegun, LabelNamed, new_labels}
 use Rattle.asp_syntax.specs.Machine as machine
 use Rattle.asp_syntax.specs.Closings.{◌>>=◌, FinishedShape, finished, over, finish, concluded, first_mode, close_square}
 use Rattle.asp_syntax.specs.Changes.{ChangeShape, Goes, changed, operand, begin}
@@ -68,6 +69,8 @@ begun_prim (parentheses s at c ls n ts h) true r o = refl
 begun_prim (object s at c ls us ns ms fs xs f g) true r o = refl
 begun_prim (word s token h at o c ls n ts w g) true r q =
     ap (λ (w : Option ChangeShape). changed w r q >>= λ v. run s v (lexeme tokens.Open o ∷ (ls ++ lexeme tokens.Close c ∷ []))) (word_begins w at)
+begun_prim (active s at a c ls us n ts ns label h i) true r o = refl
+begun_prim (serve s at a c ls ns xs h) true r o = refl
 begun_prim (choice s at a b c d e f g ls us vs n m k cs ts es x y z) true r o = refl
 begun_prim (echo s at a b c text) true r o = refl
 
@@ -167,6 +170,21 @@ head_complete (parameter ls ns h comma_at at name g) s x r o =
     goes_on s (At (MethodNaming x) r o) (At (HeadNamed (names_more x ns) h) r o) ls (lexeme tokens.Comma comma_at ∷ lexeme (tokens.Name name) at ∷ [])
     (Some (At (HeadNamed (names_more x (ns ++ at ∷ [])) (with_parameter h name)) r o)) (head_complete g s x r o)
     (ap (λ (ms : List ℕ). Some (At (HeadNamed (record x { names = ms }) (with_parameter h name)) r o)) (append_assoc x.names ns (at ∷ [])))
+
+pub labels_complete : {ls : List Lexeme} {ns : List ℕ} {xs : List Text} → IsLabels ls ns xs → (s : Bool) (at : ℕ) (r : OpenShape) (o : List OpenShape)
+    → run s (At (ServeBegun (new_labels at)) r o) ls ≡ Some (At (LabelNamed (record { at = at; names = ns; labels = xs })) r o)
+labels_complete (first_label label_at label) s at r o = refl
+labels_complete (and_label ls ns xs comma_at label_at label h) s at r o =
+    goes_on s (At (ServeBegun (new_labels at)) r o) (At (LabelNamed (record { at = at; names = ns; labels = xs })) r o) ls (lexeme tokens.Comma comma_at ∷ lexeme (tokens.Name label) label_at ∷ [])
+    (Some (At (LabelNamed (record { at = at; names = ns ++ label_at ∷ []; labels = xs ++ label ∷ [] })) r o)) (labels_complete h s at r o) refl
+
+-- the labels of a `serve`, up to its end
+pub labels_run : {ls : List Lexeme} {ns : List ℕ} {xs : List Text} → IsLabelPart ls ns xs → (s : Bool) (at close_at : ℕ) (r : OpenShape) (o : List OpenShape)
+    → run s (At (ServeBegun (new_labels at)) r o) (ls ++ lexeme tokens.Close close_at ∷ []) ≡ Some (At (Have (Plain (served (record { at = at; names = ns; labels = xs })))) r o)
+labels_run no_labels s at close_at r o = refl
+labels_run (labels ls ns xs h) s at close_at r o =
+    goes_on s (At (ServeBegun (new_labels at)) r o) (At (LabelNamed (record { at = at; names = ns; labels = xs })) r o) ls (lexeme tokens.Close close_at ∷ [])
+    (Some (At (Have (Plain (served (record { at = at; names = ns; labels = xs })))) r o)) (labels_complete h s at r o) refl
 
 -- a method's body behind its head
 pub method_runs : (s : Bool) (us : List Lexeme) (n : ℕ) (ts : List Marked) {ls : List Lexeme} {ns : List ℕ} {h : MethodHead} → IsHead ls ns h → SeqRuns s us n ts → (close_at equals_at : ℕ) (x to : ObjectShape) (r : OpenShape) (o : List OpenShape)

@@ -8,7 +8,7 @@ use Rattle.asp_syntax.specs.Tokens.{Lexeme}
 use Rattle.asp_syntax.specs.Nodes.{PartShape}
 use Rattle.asp_syntax.specs.Levels.{BracketShape, WalkShape, walked, closed}
 use Rattle.asp_syntax.specs.Ordered.{IsOrdered}
-use Rattle.asp_syntax.specs.States.{KindShape, Top, InCall, InBinding, InBody, OpenShape, OperandShape, Plain, Access, OpenerShape, ByRound, ByBrace, ByEquals, ModeShape, Begin, Want, Have, Dotted, Called, Opening, LetNaming, ElseComing, EchoOpening, EchoText, EchoClosing, ObjectBegun, FieldNaming, MethodNaming, MethodNamed, SelfNaming, HeadNamed, ParameterNaming, StateShape, At, Done, has_terms, fresh, operand_part}
+use Rattle.asp_syntax.specs.States.{KindShape, Top, InCall, InBinding, InBody, OpenShape, OperandShape, Plain, Access, OpenerShape, ByRound, ByBrace, ByEquals, ModeShape, Begin, Want, Have, Dotted, Called, Opening, LetNaming, ElseComing, EchoOpening, EchoText, EchoClosing, ObjectBegun, FieldNaming, MethodNaming, MethodNamed, SelfNaming, HeadNamed, ParameterNaming, StateShape, At, Done, has_terms, fresh, operand_part, ServiceNaming, ServiceNamed, ServeOpening, ServeBegun, LabelNaming, LabelNamed}
 use Rattle.asp_syntax.specs.Changes as changes
 use Rattle.asp_syntax.specs.Machine as machine
 use Rattle.asp_syntax.specs.Closings.{first_mode, finish}
@@ -45,6 +45,8 @@ operand_fits (tokens.Name x) at b n h g = (omega (arith, h), omega (arith, g))
 operand_fits tokens.Open at b n h g = (omega (arith, h), omega (arith, g))
 operand_fits tokens.SquareOpen at b n h g = (omega (arith, h), omega (arith, g))
 operand_fits tokens.Clone at b n h g = (omega (arith, h), omega (arith, g))
+operand_fits tokens.Active at b n h g = (omega (arith, h), omega (arith, g))
+operand_fits tokens.Serve at b n h g = (omega (arith, h), omega (arith, g))
 operand_fits tokens.Repeat at b n h g = (omega (arith, h), omega (arith, g))
 operand_fits tokens.Print at b n h g = (omega (arith, h), omega (arith, g))
 operand_fits tokens.If at b n h g = (omega (arith, h), omega (arith, g))
@@ -71,6 +73,20 @@ change_fits (Dotted p) _ at b n h g = tt
 change_fits (Opening opener k) t at b n h g = opening_fits opener k t b n h g
 change_fits (LetNaming i) (tokens.Name x) at b n h g = (omega (arith, h), omega (arith, g))
 change_fits (LetNaming i) _ at b n h g = tt
+change_fits (ServiceNaming i u) (tokens.Name label) at b n h g = (omega (arith, h), omega (arith, g))
+change_fits (ServiceNaming i u) _ at b n h g = tt
+change_fits (ServiceNamed i u j label) tokens.Close at b n h g = (omega (arith, h), omega (arith, g))
+change_fits (ServiceNamed i u j label) _ at b n h g = tt
+change_fits (ServeOpening i) tokens.Open at b n h g = (omega (arith, h), omega (arith, g))
+change_fits (ServeOpening i) _ at b n h g = tt
+change_fits (ServeBegun x) tokens.Close at b n h g = (omega (arith, h), omega (arith, g))
+change_fits (ServeBegun x) (tokens.Name label) at b n h g = (omega (arith, h), omega (arith, g))
+change_fits (ServeBegun x) _ at b n h g = tt
+change_fits (LabelNaming x) (tokens.Name label) at b n h g = (omega (arith, h), omega (arith, g))
+change_fits (LabelNaming x) _ at b n h g = tt
+change_fits (LabelNamed x) tokens.Comma at b n h g = (omega (arith, h), omega (arith, g))
+change_fits (LabelNamed x) tokens.Close at b n h g = (omega (arith, h), omega (arith, g))
+change_fits (LabelNamed x) _ at b n h g = tt
 change_fits (ElseComing i c u) tokens.Else at b n h g = (omega (arith, h), omega (arith, g))
 change_fits (ElseComing i c u) _ at b n h g = tt
 change_fits (EchoOpening i) tokens.Open at b n h g = (omega (arith, h), omega (arith, g))
@@ -117,6 +133,12 @@ mode_fits Want s o t at n h g = changed_fits (change_of Want t at) s o (brackets
 mode_fits (Dotted p) s o t at n h g = changed_fits (change_of (Dotted p) t at) s o (brackets_after t n) (change_fits (Dotted p) t at (stack_brackets (s ∷ o)) n h.0 g)
 mode_fits (Opening opener k) s o t at n h g = changed_fits (change_of (Opening opener k) t at) s o (brackets_after t n) (change_fits (Opening opener k) t at (stack_brackets (s ∷ o)) n h.0 g)
 mode_fits (LetNaming i) s o t at n h g = changed_fits (change_of (LetNaming i) t at) s o (brackets_after t n) (change_fits (LetNaming i) t at (stack_brackets (s ∷ o)) n h.0 g)
+mode_fits (ServiceNaming i u) s o t at n h g = changed_fits (change_of (ServiceNaming i u) t at) s o (brackets_after t n) (change_fits (ServiceNaming i u) t at (stack_brackets (s ∷ o)) n h.0 g)
+mode_fits (ServiceNamed i u j label) s o t at n h g = changed_fits (change_of (ServiceNamed i u j label) t at) s o (brackets_after t n) (change_fits (ServiceNamed i u j label) t at (stack_brackets (s ∷ o)) n h.0 g)
+mode_fits (ServeOpening i) s o t at n h g = changed_fits (change_of (ServeOpening i) t at) s o (brackets_after t n) (change_fits (ServeOpening i) t at (stack_brackets (s ∷ o)) n h.0 g)
+mode_fits (ServeBegun x) s o t at n h g = changed_fits (change_of (ServeBegun x) t at) s o (brackets_after t n) (change_fits (ServeBegun x) t at (stack_brackets (s ∷ o)) n h.0 g)
+mode_fits (LabelNaming x) s o t at n h g = changed_fits (change_of (LabelNaming x) t at) s o (brackets_after t n) (change_fits (LabelNaming x) t at (stack_brackets (s ∷ o)) n h.0 g)
+mode_fits (LabelNamed x) s o t at n h g = changed_fits (change_of (LabelNamed x) t at) s o (brackets_after t n) (change_fits (LabelNamed x) t at (stack_brackets (s ∷ o)) n h.0 g)
 mode_fits (ElseComing i c u) s o t at n h g = changed_fits (change_of (ElseComing i c u) t at) s o (brackets_after t n) (change_fits (ElseComing i c u) t at (stack_brackets (s ∷ o)) n h.0 g)
 mode_fits (EchoOpening i) s o t at n h g = changed_fits (change_of (EchoOpening i) t at) s o (brackets_after t n) (change_fits (EchoOpening i) t at (stack_brackets (s ∷ o)) n h.0 g)
 mode_fits (EchoText i) s o t at n h g = changed_fits (change_of (EchoText i) t at) s o (brackets_after t n) (change_fits (EchoText i) t at (stack_brackets (s ∷ o)) n h.0 g)

@@ -8,14 +8,16 @@ use Rattle.asp_syntax.specs.declared.token.Token.{Token}
 use Rattle.asp_syntax.specs.declared.token.Token.TheVariants as tokens
 use Rattle.asp_syntax.specs.Tokens.{Lexeme, lexeme}
 use Rattle.asp_syntax.specs.Nodes.{PartShape, terms_at, ObjectShape, with_parameter}
-use Rattle.asp_syntax.specs.Grammar.{may_put, IsProductSign, multiplies, divides, leaves, IsSumSign, adds, subtracts, IsTestSign, is_less, is_same, clones, repeats, prints, IsHead, head, parameter, number, variable, object, echo, IsPost, get, call_none, no_fields, no_methods, IsSeq, IsProgram}
-use Rattle.asp_syntax.specs.States.{PendingShape, KindShape, InField, OpenShape, Plain, Access, OpenerShape, ByRound, ByBrace, ByEquals, HeadNamed, StateShape, At, Done, has_terms, opened_with, test_in, term_in, new_object, with_name}
+use Rattle.asp_syntax.specs.Signs.{IsProductSign, multiplies, divides, leaves, IsSumSign, adds, subtracts, IsTestSign, is_less, is_same, clones, repeats, prints, IsHead, head, parameter, service, IsLabels, first_label, and_label, no_labels, labels}
+use Rattle.asp_syntax.specs.Grammar.{may_put, number, variable, object, echo, IsPost, get, call_none, no_fields, no_methods, IsSeq, IsProgram, active, serve}
+use Rattle.asp_syntax.specs.States.{PendingShape, KindShape, InField, OpenShape, Plain, Access, OpenerShape, ByRound, ByBrace, ByEquals, HeadNamed, StateShape, At, Done, has_terms, opened_with, test_in, term_in, new_object, with_name, new_labels}
 use Rattle.asp_syntax.specs.Changes as changes
 use Rattle.asp_syntax.specs.Machine as machine
 use Rattle.asp_syntax.specs.Closings.{◌>>=◌}
 use Rattle.asp_syntax.specs.Changes.{changed, operand, begin}
 use Rattle.asp_syntax.specs.Machine.{next_term, step, run, start}
-use Rattle.asp_syntax.proofs.Parts.{no_product, some_product, no_sum, some_sum, no_test, some_test, more_put, StepPart, no_step, more_step, InLevel, in_level, names_more, NextField, a_field, NextMethod, a_method, waiting, Opened, top, in_parentheses, in_word, in_condition, in_else, in_call, in_binding, in_field, in_method, opener_token, Leads, begun, wants, has, accesses, dots, calls, opens, lets, else_comes, echoes, echo_opens, echo_reads, object_begins, field_comes, method_comes, method_named, self_comes, head_named, parameter_comes, ends, leads_moved, opened_moved, product_is, as_sum, as_test, as_expr, fresh_level, field_end}
+use Rattle.asp_syntax.proofs.Parts.{no_product, some_product, no_sum, some_sum, no_test, some_test, more_put, StepPart, no_step, more_step, InLevel, in_level, names_more, NextField, a_field, NextMethod, a_method, waiting, Opened, top, in_parentheses, in_word, in_condition, in_else, in_call, in_binding, in_field, in_method, opener_token, Leads, begun, wants, has, accesses, dots, calls, opens, lets, else_comes, echoes, echo_opens, echo_reads, object_begins, field_comes, method_comes, method_named, self_comes, head_named, parameter_comes, ends, labels_of, in_active, service_comes, service_named, serves, serve_opens, label_comes, label_named}
+use Rattle.asp_syntax.proofs.Wholes.{leads_moved, opened_moved, product_is, as_sum, as_test, as_expr, fresh_level, field_end}
 use Rattle.asp_syntax.proofs.Ends.{finish_is, After, nothing, comes, after_moved, opened_is, has_prim, close_is, brace_is, square_is, field_semicolon, comma_is, bound_is, ended_is}
 
 times_next : {s : Bool} {ls us vs : List Lexeme} {r : OpenShape} {o : List OpenShape} {x : PartShape} {token : Token} {sign : SignShape} (at : ℕ) → IsProductSign token sign
@@ -84,6 +86,8 @@ want_next f g (tokens.Name x) at = has_prim f g (variable _ at x) refl
 want_next f g tokens.Open at = opened_is (in_parentheses {at = at} f g) refl
 want_next f g tokens.SquareOpen at = comes (object_begins f g)
 want_next f g tokens.Clone at = comes (opens (λ i. opened_moved (in_word {at = at} i f g clones) (simp append_assoc refl)))
+want_next f g tokens.Active at = comes (opens (λ i. opened_moved (in_active {at = at} i f g) (simp append_assoc refl)))
+want_next f g tokens.Serve at = comes (serves f g)
 want_next f g tokens.Repeat at = comes (opens (λ i. opened_moved (in_word {at = at} i f g repeats) (simp append_assoc refl)))
 want_next f g tokens.Print at = comes (opens (λ i. opened_moved (in_word {at = at} i f g prints) (simp append_assoc refl)))
 want_next f g tokens.If at = comes (opens (λ i. opened_moved (in_condition {at = at} i f g) (simp append_assoc refl)))
@@ -140,6 +144,39 @@ module _ {s : Bool} {ls us : List Lexeme} {r : OpenShape} {o : List OpenShape} (
   echo_end_next echo_at open_at text_at text tokens.Close at = has_prim f g (echo _ echo_at open_at text_at at text) (simp append_assoc refl)
   echo_end_next echo_at open_at text_at text _ at = nothing
 
+  service_next : {vs : List Lexeme} {n : ℕ} {xs : List Marked} → IsSeq s vs n xs → (active_at open_at comma_at : ℕ) (token : Token) (at : ℕ)
+      → After s ((ls ++ (us ++ lexeme tokens.Active active_at ∷ lexeme tokens.Open open_at ∷ (vs ++ lexeme tokens.Comma comma_at ∷ []))) ++ lexeme token at ∷ []) (changed (changes.service_named active_at (terms_at n xs) token at) r o)
+  service_next h active_at open_at comma_at (tokens.Name label) at = comes (leads_moved (service_named {at = active_at} open_at comma_at f g h) (simp append_assoc refl))
+  service_next h active_at open_at comma_at _ at = nothing
+
+  service_end_next : {vs : List Lexeme} {n : ℕ} {xs : List Marked} → IsSeq s vs n xs → (active_at open_at comma_at label_at : ℕ) (label : Text) (token : Token) (at : ℕ)
+      → After s ((ls ++ (us ++ lexeme tokens.Active active_at ∷ lexeme tokens.Open open_at ∷ (vs ++ lexeme tokens.Comma comma_at ∷ lexeme (tokens.Name label) label_at ∷ []))) ++ lexeme token at ∷ [])
+      (changed (changes.service_closed active_at (terms_at n xs) label_at label token) r o)
+  service_end_next h active_at open_at comma_at label_at label tokens.Close at = has_prim f g (active _ active_at open_at at _ _ _ _ _ _ h (service comma_at label_at label)) (simp append_assoc refl)
+  service_end_next h active_at open_at comma_at label_at label _ at = nothing
+
+  serve_next : (serve_at : ℕ) (token : Token) (at : ℕ) → After s ((ls ++ (us ++ lexeme tokens.Serve serve_at ∷ [])) ++ lexeme token at ∷ []) (changed (changes.serve_opened serve_at token) r o)
+  serve_next serve_at tokens.Open at = comes (leads_moved (serve_opens {at = serve_at} at f g) (simp append_assoc refl))
+  serve_next serve_at _ at = nothing
+
+  first_label_next : (serve_at open_at : ℕ) (token : Token) (at : ℕ)
+      → After s ((ls ++ (us ++ lexeme tokens.Serve serve_at ∷ lexeme tokens.Open open_at ∷ [])) ++ lexeme token at ∷ []) (changed (changes.serve_begun (new_labels serve_at) token at) r o)
+  first_label_next serve_at open_at tokens.Close at = has_prim f g (serve _ serve_at open_at at _ _ _ no_labels) (simp append_assoc refl)
+  first_label_next serve_at open_at (tokens.Name label) at = comes (leads_moved (label_named {at = serve_at} open_at f g (first_label at label)) (simp append_assoc refl))
+  first_label_next serve_at open_at _ at = nothing
+
+  module _ {vs : List Lexeme} {ns : List ℕ} {xs : List Text} (h : IsLabels vs ns xs) where
+    label_next : (serve_at open_at comma_at : ℕ) (token : Token) (at : ℕ)
+        → After s ((ls ++ (us ++ lexeme tokens.Serve serve_at ∷ lexeme tokens.Open open_at ∷ (vs ++ lexeme tokens.Comma comma_at ∷ []))) ++ lexeme token at ∷ []) (changed (changes.label_named (labels_of serve_at ns xs) token at) r o)
+    label_next serve_at open_at comma_at (tokens.Name label) at = comes (leads_moved (label_named {at = serve_at} open_at f g (and_label _ _ _ comma_at at label h)) (simp append_assoc refl))
+    label_next serve_at open_at comma_at _ at = nothing
+
+    labels_next : (serve_at open_at : ℕ) (token : Token) (at : ℕ)
+        → After s ((ls ++ (us ++ lexeme tokens.Serve serve_at ∷ lexeme tokens.Open open_at ∷ vs)) ++ lexeme token at ∷ []) (changed (changes.labels_go_on (labels_of serve_at ns xs) token) r o)
+    labels_next serve_at open_at tokens.Comma at = comes (leads_moved (label_comes {at = serve_at} open_at at f g h) (simp append_assoc refl))
+    labels_next serve_at open_at tokens.Close at = has_prim f g (serve _ serve_at open_at at _ _ _ (labels _ _ _ h)) (simp append_assoc refl)
+    labels_next serve_at open_at _ at = nothing
+
   field_next : {vs : List Lexeme} {x : ObjectShape} → NextField s vs x → (token : Token) (at : ℕ) → After s ((ls ++ (us ++ vs)) ++ lexeme token at ∷ []) (changed (changes.field_named x token at) r o)
   field_next h (tokens.Name label) at = comes (opens (λ i. opened_moved (in_field at i f g h) (simp append_assoc refl)))
   field_next h _ at = nothing
@@ -191,6 +228,12 @@ next (dots dot_at f g h) l = dot_next dot_at f g h l.token l.at
 next (calls {at = at} {label = label} dot_at open_at f g h) l = call_next dot_at at open_at label f g h l.token l.at
 next {ls = ls} (opens {opener = opener} f) l = open_next ls opener f l.token l.at
 next (lets {at = at} f d e) l = let_next at f d e l.token l.at
+next (service_comes {at = at} open_at comma_at f g h) l = service_next f g h at open_at comma_at l.token l.at
+next (service_named {at = at} {label_at = label_at} {label = label} open_at comma_at f g h) l = service_end_next f g h at open_at comma_at label_at label l.token l.at
+next (serves {at = at} f g) l = serve_next f g at l.token l.at
+next (serve_opens {at = at} open_at f g) l = first_label_next f g at open_at l.token l.at
+next (label_comes {at = at} open_at comma_at f g h) l = label_next f g h at open_at comma_at l.token l.at
+next (label_named {at = at} open_at f g h) l = labels_next f g h at open_at l.token l.at
 next (else_comes {at = at} open_at close_at brace_at end_at f g c t) l = else_next at open_at close_at brace_at end_at f g c t l.token l.at
 next (echoes {at = at} f g) l = echo_next f g at l.token l.at
 next (echo_opens {at = at} open_at f g) l = text_next f g at open_at l.token l.at

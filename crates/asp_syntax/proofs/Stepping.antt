@@ -1,16 +1,15 @@
 -- What a step can leave.
 use Rattle.std.proofs.Common.{◌≡◌, ℕ, Bool, true, false, List, [], ◌∷◌, Option, Some, None, refl, sym, ap, ◌∙◌, inl, inr, ◌⊎◌}
-use Rattle.asp_model.specs.Names.{Text}
 use Rattle.asp_model.specs.Marked.{Marked}
 use Rattle.asp_syntax.specs.declared.token.Token.{Token}
 use Rattle.asp_syntax.specs.declared.token.Token.TheVariants as tokens
 use Rattle.asp_syntax.specs.Tokens.{Lexeme}
-use Rattle.asp_syntax.specs.Nodes.{PartShape, ObjectShape}
+use Rattle.asp_syntax.specs.Nodes.{PartShape}
 use Rattle.asp_syntax.specs.Grammar.{may_put}
-use Rattle.asp_syntax.specs.States.{KindShape, Top, InParentheses, InWord, InCondition, InThen, InElse, InCall, InBinding, InBody, InField, InMethod, PendingShape, OpenShape, OperandShape, Plain, Access, OpenerShape, ByRound, ByBrace, ByEquals, ModeShape, Begin, Want, Have, Dotted, Called, Opening, LetNaming, ElseComing, EchoOpening, EchoText, EchoClosing, ObjectBegun, FieldNaming, MethodNaming, MethodNamed, SelfNaming, HeadNamed, ParameterNaming, StateShape, At, Done, fresh, operand_part, test_in, term_in}
+use Rattle.asp_syntax.specs.States.{KindShape, Top, InCall, InField, PendingShape, OpenShape, OperandShape, ByRound, ByBrace, ByEquals, ModeShape, Begin, Want, Have, Dotted, Called, Opening, LetNaming, ElseComing, EchoOpening, EchoText, EchoClosing, ObjectBegun, FieldNaming, MethodNaming, MethodNamed, SelfNaming, HeadNamed, ParameterNaming, StateShape, At, Done, fresh, operand_part, test_in, term_in, ServiceNaming, ServiceNamed, ServeOpening, ServeBegun, LabelNaming, LabelNamed}
 use Rattle.asp_syntax.specs.Changes as changes
 use Rattle.asp_syntax.specs.Machine as machine
-use Rattle.asp_syntax.specs.Closings.{◌>>=◌, FinishedShape, finished, finish, ClosingShape, Back, Again, closed, concluded, back, close, close_brace, close_square, comma, bound, ended}
+use Rattle.asp_syntax.specs.Closings.{FinishedShape, finished, finish, ClosingShape, Back, Again, closed, concluded, back, close, close_brace, close_square, comma, bound, ended}
 use Rattle.asp_syntax.specs.Changes.{ChangeShape, Goes, Opens, changed, operand, begin, opening}
 use Rattle.asp_syntax.specs.Machine.{next_term, behind, have, stepped, step, run}
 
@@ -143,6 +142,12 @@ mode_on Want s o t at = inl (changed_on (operand t at) s o)
 mode_on (Dotted p) s o t at = inl (changed_on (changes.dotted p t at) s o)
 mode_on (Opening x k) s o t at = inl (changed_on (opening x k t) s o)
 mode_on (LetNaming i) s o t at = inl (changed_on (changes.let_named i t at) s o)
+mode_on (ServiceNaming i u) s o t at = inl (changed_on (changes.service_named i u t at) s o)
+mode_on (ServiceNamed i u j label) s o t at = inl (changed_on (changes.service_closed i u j label t) s o)
+mode_on (ServeOpening i) s o t at = inl (changed_on (changes.serve_opened i t) s o)
+mode_on (ServeBegun x) s o t at = inl (changed_on (changes.serve_begun x t at) s o)
+mode_on (LabelNaming x) s o t at = inl (changed_on (changes.label_named x t at) s o)
+mode_on (LabelNamed x) s o t at = inl (changed_on (changes.labels_go_on x t) s o)
 mode_on (ElseComing i c u) s o t at = inl (changed_on (changes.else_came i c u t) s o)
 mode_on (EchoOpening i) s o t at = inl (changed_on (changes.echo_opened i t) s o)
 mode_on (EchoText i) s o t at = inl (changed_on (changes.echo_read i t) s o)

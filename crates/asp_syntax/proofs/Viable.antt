@@ -1,15 +1,16 @@
 -- What is begun can be completed to a program.
-use Rattle.std.proofs.Common.{◌≡◌, ℕ, Bool, true, false, List, [], ◌∷◌, ◌++◌, Option, Some, None, refl, sym, ap, subst, ◌∙◌, append_assoc, pos}
+use Rattle.std.proofs.Common.{◌≡◌, Bool, List, [], ◌∷◌, ◌++◌, Some, refl, sym, ap, subst, ◌∙◌, append_assoc, pos}
 use Rattle.std.proofs.lemmas.List.{append-nil}
-use Rattle.asp_model.specs.Marked.{Marked}
 use Rattle.asp_syntax.specs.declared.token.Token.TheVariants as tokens
 use Rattle.asp_syntax.specs.Tokens.{Lexeme, lexeme}
 use Rattle.asp_syntax.specs.Nodes.{PartShape, part, number_at}
-use Rattle.asp_syntax.specs.Grammar.{head, parameter, IsPrim, number, parentheses, object, word, choice, echo, IsPost, prim, get, call_none, call, argument, and_argument, post, prod, sum, IsExpr, tested, IsSeq, last, bind, no_fields, no_methods, IsProgram, Begins}
-use Rattle.asp_syntax.specs.States.{KindShape, InField, OpenShape, OpenerShape, StateShape, has_terms}
+use Rattle.asp_syntax.specs.Signs.{head, parameter, no_service, service, and_label, no_labels, labels}
+use Rattle.asp_syntax.specs.Grammar.{number, parentheses, object, word, choice, echo, IsPost, prim, get, call_none, call, argument, and_argument, post, prod, sum, IsExpr, tested, IsSeq, last, bind, no_fields, no_methods, IsProgram, Begins, active, serve}
+use Rattle.asp_syntax.specs.States.{KindShape, InField, OpenShape, StateShape}
 use Rattle.asp_syntax.specs.Machine.{run, start}
-use Rattle.asp_syntax.proofs.Parts.{no_step, InLevel, waiting, Opened, top, in_parentheses, in_word, in_condition, in_then, in_else, in_call, in_more, in_binding, in_body, in_field, in_method, opener_token, Leads, begun, wants, has, accesses, dots, calls, opens, lets, else_comes, echoes, echo_opens, echo_reads, object_begins, field_comes, method_comes, method_named, self_comes, head_named, parameter_comes, ends, step_is, Body, terms, one_term, as_body, fresh_level, field_end, field_object, method_end, method_object}
-use Rattle.asp_syntax.proofs.Ends.{After, nothing, comes}
+use Rattle.asp_syntax.proofs.Parts.{Opened, top, in_parentheses, in_word, in_condition, in_then, in_else, in_call, in_more, in_binding, in_body, in_field, in_method, opener_token, Leads, begun, wants, has, accesses, dots, calls, opens, lets, else_comes, echoes, echo_opens, echo_reads, object_begins, field_comes, method_comes, method_named, self_comes, head_named, parameter_comes, ends, in_active, service_comes, service_named, serves, serve_opens, label_comes, label_named}
+use Rattle.asp_syntax.proofs.Wholes.{step_is, Body, terms, one_term, as_body, fresh_level, field_end, field_object, method_end, method_object}
+use Rattle.asp_syntax.proofs.Ends.{After, comes}
 use Rattle.asp_syntax.proofs.Sound.{ran, start_leads}
 
 abbrev zero : List Lexeme
@@ -39,6 +40,7 @@ ends_in : {s : Bool} {ls us : List Lexeme} {k : KindShape} {o : List OpenShape} 
 ends_in top (terms _ h) = record { rest = lexeme tokens.End 0 ∷ []; program = _; is = record { sequence = _; start = _; terms = _; end = 0; is = h; whole = refl; term = refl } }
 ends_in (in_parentheses {at = at} f g) (terms _ h) = less (lexeme tokens.Close 0 ∷ []) (ends_in f (as_body g (prim _ _ _ (parentheses _ at 0 _ _ _ h)))) (simp append_assoc refl)
 ends_in (in_word {token = token} {head = named} {at = at} open_at f g w) (terms _ h) = less (lexeme tokens.Close 0 ∷ []) (ends_in f (as_body g (prim _ _ _ (word _ token named at open_at 0 _ _ _ w h)))) (simp append_assoc refl)
+ends_in (in_active {at = at} open_at f g) (terms _ h) = less (lexeme tokens.Close 0 ∷ []) (ends_in f (as_body g (prim _ _ _ (active _ at open_at 0 _ _ _ _ _ _ h no_service)))) (simp append_assoc refl)
 ends_in {s = s} (in_condition {at = at} open_at f g) (terms _ h) =
     less (lexeme tokens.Close 0 ∷ lexeme tokens.BraceOpen 0 ∷ (zero ++ lexeme tokens.BraceClose 0 ∷ lexeme tokens.Else 0 ∷ lexeme tokens.BraceOpen 0 ∷ (zero ++ lexeme tokens.BraceClose 0 ∷ [])))
     (ends_in f (as_body g (prim _ _ _ (choice _ at open_at 0 0 0 0 0 0 _ _ _ _ _ _ _ _ _ h (zero_seq s) (zero_seq s))))) (simp append_assoc refl)
@@ -70,6 +72,15 @@ begins (dots dot_at f g h) = less (lexeme (tokens.Name []) 0 ∷ []) (ends_in f 
 begins (calls {at = at} {label = label} dot_at open_at f g h) = less (lexeme tokens.Close 0 ∷ []) (ends_in f (as_body g (call_none _ _ _ dot_at at open_at 0 label h))) (simp append_assoc refl)
 begins (opens {opener = opener} f) = less (lexeme (opener_token opener) 0 ∷ []) (begun_in (f 0)) refl
 begins (lets {at = at} f d e) = less (lexeme (tokens.Name []) 0 ∷ lexeme tokens.Equals 0 ∷ []) (begun_in (in_binding {x = []} {at = at} {name_at = 0} 0 f d e)) (simp append_assoc refl)
+begins (service_comes {at = at} open_at comma_at f g h) =
+    less (lexeme (tokens.Name []) 0 ∷ lexeme tokens.Close 0 ∷ []) (ends_in f (as_body g (prim _ _ _ (active _ at open_at 0 _ _ _ _ _ _ h (service comma_at 0 []))))) (simp append_assoc refl)
+begins (service_named {at = at} {label_at = label_at} {label = label} open_at comma_at f g h) =
+    less (lexeme tokens.Close 0 ∷ []) (ends_in f (as_body g (prim _ _ _ (active _ at open_at 0 _ _ _ _ _ _ h (service comma_at label_at label))))) (simp append_assoc refl)
+begins (serves {at = at} f g) = less (lexeme tokens.Open 0 ∷ lexeme tokens.Close 0 ∷ []) (ends_in f (as_body g (prim _ _ _ (serve _ at 0 0 _ _ _ no_labels)))) (simp append_assoc refl)
+begins (serve_opens {at = at} open_at f g) = less (lexeme tokens.Close 0 ∷ []) (ends_in f (as_body g (prim _ _ _ (serve _ at open_at 0 _ _ _ no_labels)))) (simp append_assoc refl)
+begins (label_comes {at = at} open_at comma_at f g h) =
+    less (lexeme (tokens.Name []) 0 ∷ lexeme tokens.Close 0 ∷ []) (ends_in f (as_body g (prim _ _ _ (serve _ at open_at 0 _ _ _ (labels _ _ _ (and_label _ _ _ comma_at 0 [] h)))))) (simp append_assoc refl)
+begins (label_named {at = at} open_at f g h) = less (lexeme tokens.Close 0 ∷ []) (ends_in f (as_body g (prim _ _ _ (serve _ at open_at 0 _ _ _ (labels _ _ _ h))))) (simp append_assoc refl)
 begins (else_comes {at = at} open_at close_at brace_at end_at f g c t) =
     less (lexeme tokens.Else 0 ∷ lexeme tokens.BraceOpen 0 ∷ []) (begun_in (in_else {at = at} open_at close_at brace_at end_at 0 0 f g c t)) (simp append_assoc refl)
 begins (echoes {at = at} f g) = less (lexeme tokens.Open 0 ∷ lexeme (tokens.Text []) 0 ∷ lexeme tokens.Close 0 ∷ []) (ends_in f (as_body g (prim _ _ _ (echo _ at 0 0 0 [])))) (simp append_assoc refl)

@@ -2,7 +2,7 @@
 use Rattle.std.specs.Prelude.{ℕ, Bool, ◌&&◌, ◌||◌, ◌==◌, nat_le, nat_eq, if◌then◌else◌, List, Option, Some, None, codes}
 use Rattle.std.specs.Cmp.Lexicographic.{pointwise}
 use Rattle.asp_syntax.specs.declared.token.Token.{Token}
-use Rattle.asp_syntax.specs.declared.token.Token.TheVariants.{Name, Open, Close, SquareOpen, SquareClose, BraceOpen, BraceClose, Comma, Semicolon, Dot, Plus, Minus, Star, Percent, Less, Let, In, If, Else, Repeat, Clone, Print, Echo, NotBuilt}
+use Rattle.asp_syntax.specs.declared.token.Token.TheVariants.{Name, Open, Close, SquareOpen, SquareClose, BraceOpen, BraceClose, Comma, Semicolon, Dot, Plus, Minus, Star, Percent, Less, Let, In, If, Else, Repeat, Clone, Active, Serve, Print, Echo, NotBuilt}
 
 abbrev pub is_digit : ℕ → Bool
 is_digit b = nat_le 48 b && nat_le b 57
@@ -46,8 +46,8 @@ is_word word known = pointwise nat_eq word known
 -- a reserved word of what is not built
 abbrev pub is_later : List ℕ → Bool
 is_later word =
-    is_word word (codes "active") || is_word word (codes "serve") || is_word word (codes "group") || is_word word (codes "scatter")
-    || is_word word (codes "size") || is_word word (codes "member") || is_word word (codes "waitall") || is_word word (codes "pending")
+    is_word word (codes "group") || is_word word (codes "scatter") || is_word word (codes "size")
+    || is_word word (codes "member") || is_word word (codes "waitall") || is_word word (codes "pending")
 
 -- the token of a reserved word
 abbrev pub reserved_token : List ℕ → Option Token
@@ -58,6 +58,8 @@ reserved_token word =
     else if is_word word (codes "else") then Some Else
     else if is_word word (codes "repeat") then Some Repeat
     else if is_word word (codes "clone") then Some Clone
+    else if is_word word (codes "active") then Some Active
+    else if is_word word (codes "serve") then Some Serve
     else if is_word word (codes "print") then Some Print
     else if is_word word (codes "echo") then Some Echo
     else if is_later word then Some NotBuilt

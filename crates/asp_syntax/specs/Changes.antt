@@ -1,13 +1,13 @@
 -- What a token makes of a mode in which no operand was read.
-use Rattle.std.specs.Prelude.{ℕ, List, [], Option, Some, None}
+use Rattle.std.specs.Prelude.{ℕ, List, [], ◌∷◌, Option, Some, None}
 use Rattle.asp_model.specs.Names.{Text}
 use Rattle.asp_model.specs.Term.{MethodHead}
 use Rattle.asp_model.specs.Term as term
 use Rattle.asp_model.specs.Marked.{Marked}
 use Rattle.asp_syntax.specs.declared.token.Token.{Token}
 use Rattle.asp_syntax.specs.declared.token.Token.TheVariants as tokens
-use Rattle.asp_syntax.specs.Nodes.{PartShape, part, number_at, variable_at, echo_at, let_at, ObjectShape, made, with_parameter}
-use Rattle.asp_syntax.specs.States.{KindShape, InParentheses, InWord, InCondition, InElse, InBinding, InField, InMethod, OpenShape, OperandShape, Plain, Access, OpenerShape, ByRound, ByBrace, ByEquals, ModeShape, Have, Called, Opening, LetNaming, EchoOpening, EchoText, EchoClosing, ObjectBegun, MethodNaming, MethodNamed, SelfNaming, HeadNamed, ParameterNaming, StateShape, At, new_object, with_name}
+use Rattle.asp_syntax.specs.Nodes.{PartShape, part, number_at, variable_at, echo_at, active_at, let_at, ObjectShape, made, LabelsShape, served, with_parameter}
+use Rattle.asp_syntax.specs.States.{KindShape, InParentheses, InWord, InActive, InCondition, InElse, InBinding, InField, InMethod, OpenShape, OperandShape, Plain, Access, OpenerShape, ByRound, ByBrace, ByEquals, ModeShape, Have, Called, Opening, LetNaming, ServiceNamed, ServeOpening, ServeBegun, LabelNaming, LabelNamed, EchoOpening, EchoText, EchoClosing, ObjectBegun, MethodNaming, MethodNamed, SelfNaming, HeadNamed, ParameterNaming, StateShape, At, new_object, with_name, new_labels, with_label}
 use Rattle.asp_syntax.specs.Closings.{opened}
 
 -- what a token makes of a mode, where what is open stays or gets one more
@@ -32,6 +32,8 @@ operand (tokens.Name x) at = Some (Goes (Have (Plain (part at (variable_at at x)
 operand tokens.Open at = Some (Opens (InParentheses at))
 operand tokens.SquareOpen at = Some (Goes (ObjectBegun (new_object at)))
 operand tokens.Clone at = Some (Goes (Opening ByRound (InWord term.Clone at)))
+operand tokens.Active at = Some (Goes (Opening ByRound (InActive at)))
+operand tokens.Serve at = Some (Goes (ServeOpening at))
 operand tokens.Repeat at = Some (Goes (Opening ByRound (InWord term.Repeat at)))
 operand tokens.Print at = Some (Goes (Opening ByRound (InWord term.Print at)))
 operand tokens.If at = Some (Goes (Opening ByRound (InCondition at)))
@@ -56,6 +58,33 @@ dotted p token at = None
 abbrev pub let_named : ℕ → Token → ℕ → Option ChangeShape
 let_named let_at (tokens.Name x) at = Some (Goes (Opening ByEquals (InBinding let_at at x)))
 let_named let_at token at = None
+
+-- the label behind the term of an `active`
+abbrev pub service_named : ℕ → Marked → Token → ℕ → Option ChangeShape
+service_named active_at t (tokens.Name label) at = Some (Goes (ServiceNamed active_at t at label))
+service_named active_at t token at = None
+
+abbrev pub service_closed : ℕ → Marked → ℕ → Text → Token → Option ChangeShape
+service_closed at t label_at label tokens.Close = Some (Goes (Have (Plain (part at (active_at at (label_at ∷ []) (Some label) t)))))
+service_closed at t label_at label token = None
+
+abbrev pub serve_opened : ℕ → Token → Option ChangeShape
+serve_opened at tokens.Open = Some (Goes (ServeBegun (new_labels at)))
+serve_opened at token = None
+
+abbrev pub label_named : LabelsShape → Token → ℕ → Option ChangeShape
+label_named x (tokens.Name label) at = Some (Goes (LabelNamed (with_label x at label)))
+label_named x token at = None
+
+-- the first token in a `serve`
+abbrev pub serve_begun : LabelsShape → Token → ℕ → Option ChangeShape
+serve_begun x tokens.Close at = Some (Goes (Have (Plain (served x))))
+serve_begun x token at = label_named x token at
+
+abbrev pub labels_go_on : LabelsShape → Token → Option ChangeShape
+labels_go_on x tokens.Comma = Some (Goes (LabelNaming x))
+labels_go_on x tokens.Close = Some (Goes (Have (Plain (served x))))
+labels_go_on x token = None
 
 abbrev pub else_came : ℕ → Marked → Marked → Token → Option ChangeShape
 else_came at c t tokens.Else = Some (Goes (Opening ByBrace (InElse at c t)))

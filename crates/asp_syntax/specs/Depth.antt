@@ -1,7 +1,7 @@
 -- How many parentheses stand round what was read.
-use Rattle.std.specs.Prelude.{ℕ, List}
+use Rattle.std.specs.Prelude.{ℕ}
 use Rattle.asp_model.specs.Marked.{Marked, marked}
-use Rattle.asp_syntax.specs.States.{OpenShape, Have, StateShape, At, operand_part}
+use Rattle.asp_syntax.specs.States.{Have, StateShape, At, operand_part}
 
 abbrev pub parentheses_of : Marked → ℕ
 parentheses_of (marked h m ts) = m.parentheses

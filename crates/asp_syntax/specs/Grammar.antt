@@ -1,48 +1,22 @@
 -- The grammar: which lexemes are which program, with the marks that its nodes get. The rule on `:=` is
 -- that a field access stands on its left; `true` asks for it.
-use Rattle.std.specs.Prelude.{◌≡◌, ℕ, ℤ, Bool, true, false, List, [], ◌∷◌, ◌++◌}
+use Rattle.std.specs.Prelude.{◌≡◌, ℕ, ℤ, Bool, true, false, List, [], ◌∷◌, ◌++◌, Option}
 use Rattle.asp_model.specs.Names.{Text}
 use Rattle.asp_model.specs.Term.{Head, SignShape, MethodHead}
-use Rattle.asp_model.specs.Term as term
 use Rattle.asp_model.specs.Marked.{Marked}
 use Rattle.asp_model.specs.Shapes.{MarkedMethod}
 use Rattle.asp_syntax.specs.declared.token.Token.{Token}
 use Rattle.asp_syntax.specs.declared.token.Token.TheVariants as tokens
 use Rattle.asp_syntax.specs.Tokens.{Lexeme, lexeme}
-use Rattle.asp_syntax.specs.Nodes.{PartShape, part, number_at, variable_at, echo_at, word_at, if_at, let_at, operated, got, called, put, is_get, terms_at, in_parentheses, made, method, with_parameter}
+use Rattle.asp_syntax.specs.Nodes.{PartShape, part, number_at, variable_at, echo_at, word_at, active_at, if_at, let_at, operated, got, called, put, is_get, terms_at, in_parentheses, made, served, method}
+use Rattle.asp_syntax.specs.Signs.{IsProductSign, IsSumSign, IsTestSign, IsWord, IsHead, IsService, IsLabelPart}
 
 abbrev pub may_put : Bool → Marked → Bool
 may_put false t = true
 may_put true t = is_get t
 
-pub data IsProductSign : Token → SignShape → Type 0 where
-  multiplies : IsProductSign tokens.Star term.Multiply
-  divides : IsProductSign tokens.Slash term.Divide
-  leaves : IsProductSign tokens.Percent term.Remainder
-
-pub data IsSumSign : Token → SignShape → Type 0 where
-  adds : IsSumSign tokens.Plus term.Add
-  subtracts : IsSumSign tokens.Minus term.Subtract
-
-pub data IsTestSign : Token → SignShape → Type 0 where
-  is_less : IsTestSign tokens.Less term.Less
-  is_same : IsTestSign tokens.Same term.Equal
-
--- a word before one term in parentheses
-pub data IsWord : Token → Head → Type 0 where
-  clones : IsWord tokens.Clone term.Clone
-  repeats : IsWord tokens.Repeat term.Repeat
-  prints : IsWord tokens.Print term.Print
-
--- NAME "(" NAME { "," NAME }, with the places of the names
-pub data IsHead : List Lexeme → List ℕ → MethodHead → Type 0 where
-  head : (at open_at slf_at : ℕ) (label slf : Text)
-      → IsHead (lexeme (tokens.Name label) at ∷ lexeme tokens.Open open_at ∷ lexeme (tokens.Name slf) slf_at ∷ []) (at ∷ slf_at ∷ []) (record { label = label; slf = slf; parameters = [] })
-  parameter : (ls : List Lexeme) (ns : List ℕ) (h : MethodHead) (comma_at at : ℕ) (x : Text) → IsHead ls ns h
-      → IsHead (ls ++ lexeme tokens.Comma comma_at ∷ lexeme (tokens.Name x) at ∷ []) (ns ++ at ∷ []) (with_parameter h x)
-
 mutual
-  -- an operand without what follows a dot_at
+  -- an operand without what follows a dot
   pub data IsPrim : Bool → List Lexeme → PartShape → Type 0 where
     number : (s : Bool) (at : ℕ) (n : ℤ) → IsPrim s (lexeme (tokens.Number n) at ∷ []) (part at (number_at at n))
     variable : (s : Bool) (at : ℕ) (x : Text) → IsPrim s (lexeme (tokens.Name x) at ∷ []) (part at (variable_at at x))
@@ -53,6 +27,10 @@ mutual
         → IsPrim s (lexeme tokens.SquareOpen at ∷ (ls ++ (us ++ lexeme tokens.SquareClose close_at ∷ []))) (made (record { at = at; names = ns ++ ms; fields = fields; methods = methods }))
     word : (s : Bool) (token : Token) (head : Head) (at open_at close_at : ℕ) (ls : List Lexeme) (n : ℕ) (ts : List Marked) → IsWord token head → IsSeq s ls n ts
         → IsPrim s (lexeme token at ∷ lexeme tokens.Open open_at ∷ (ls ++ lexeme tokens.Close close_at ∷ [])) (part at (word_at head at (terms_at n ts)))
+    active : (s : Bool) (at open_at close_at : ℕ) (ls us : List Lexeme) (n : ℕ) (ts : List Marked) (ns : List ℕ) (label : Option Text) → IsSeq s ls n ts → IsService us ns label
+        → IsPrim s (lexeme tokens.Active at ∷ lexeme tokens.Open open_at ∷ (ls ++ (us ++ lexeme tokens.Close close_at ∷ []))) (part at (active_at at ns label (terms_at n ts)))
+    serve : (s : Bool) (at open_at close_at : ℕ) (ls : List Lexeme) (ns : List ℕ) (labels : List Text) → IsLabelPart ls ns labels
+        → IsPrim s (lexeme tokens.Serve at ∷ lexeme tokens.Open open_at ∷ (ls ++ lexeme tokens.Close close_at ∷ [])) (served (record { at = at; names = ns; labels = labels }))
     choice : (s : Bool) (at open_at close_at then_open then_close else_at else_open else_close : ℕ) (ls us vs : List Lexeme) (n m k : ℕ) (cs ts es : List Marked)
         → IsSeq s ls n cs → IsSeq s us m ts → IsSeq s vs k es
         → IsPrim s (lexeme tokens.If at ∷ lexeme tokens.Open open_at ∷ (ls ++ lexeme tokens.Close close_at ∷ lexeme tokens.BraceOpen then_open

@@ -2,6 +2,7 @@
 pub mod Bytes
 pub mod Tokens
 pub mod Nodes
+pub mod Signs
 pub mod Grammar
 pub mod Levels
 pub mod Faults
@@ -14,5 +15,6 @@ pub mod Machine
 pub mod Read
 pub mod Ordered
 pub mod Depth
+pub mod WalkShapes
 pub mod Shapes
 pub mod Steps

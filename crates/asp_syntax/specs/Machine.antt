@@ -7,9 +7,9 @@ use Rattle.asp_syntax.specs.declared.token.Token.TheVariants as tokens
 use Rattle.asp_syntax.specs.Tokens.{Lexeme}
 use Rattle.asp_syntax.specs.Nodes.{PartShape, echo_at, if_at, let_at, called}
 use Rattle.asp_syntax.specs.Grammar.{may_put}
-use Rattle.asp_syntax.specs.States.{PendingShape, KindShape, Top, InCall, InField, OpenShape, OperandShape, Plain, ModeShape, Begin, Want, Have, Dotted, Called, Opening, LetNaming, ElseComing, EchoOpening, EchoText, EchoClosing, ObjectBegun, FieldNaming, MethodNaming, MethodNamed, SelfNaming, HeadNamed, ParameterNaming, StateShape, At, Done, pending, fresh, with_field, operand_part, joined, sum_in, test_in, term_in, first_start}
+use Rattle.asp_syntax.specs.States.{PendingShape, KindShape, Top, InCall, InField, OpenShape, OperandShape, Plain, ModeShape, Begin, Want, Have, Dotted, Called, Opening, LetNaming, ServiceNaming, ServiceNamed, ServeOpening, ServeBegun, LabelNaming, LabelNamed, ElseComing, EchoOpening, EchoText, EchoClosing, ObjectBegun, FieldNaming, MethodNaming, MethodNamed, SelfNaming, HeadNamed, ParameterNaming, StateShape, At, Done, pending, fresh, with_field, operand_part, joined, sum_in, test_in, term_in, first_start}
 use Rattle.asp_syntax.specs.Closings.{◌>>=◌, finish, back, concluded, close, close_brace, close_square, comma, bound, ended}
-use Rattle.asp_syntax.specs.Changes.{changed, call_begun, operand, begin, opening, dotted, let_named, else_came, echo_opened, echo_read, echo_closed, field_named, object_begun, method_named, method_opened, self_named, head_goes_on, parameter_named}
+use Rattle.asp_syntax.specs.Changes.{changed, call_begun, operand, begin, opening, dotted, let_named, service_named, service_closed, serve_opened, serve_begun, label_named, labels_go_on, else_came, echo_opened, echo_read, echo_closed, field_named, object_begun, method_named, method_opened, self_named, head_goes_on, parameter_named}
 
 -- a term is over, and the next one of its sequence begins, or the methods behind the fields
 abbrev pub next_term : KindShape → PartShape → OpenShape → List OpenShape → Option StateShape
@@ -71,6 +71,12 @@ stepped rule (Dotted p) s outer token at = changed (dotted p token at) s outer
 stepped rule (Called p label_at label) s outer token at = call p label_at label s outer token at
 stepped rule (Opening opener kind) s outer token at = changed (opening opener kind token) s outer
 stepped rule (LetNaming let_at) s outer token at = changed (let_named let_at token at) s outer
+stepped rule (ServiceNaming active_at t) s outer token at = changed (service_named active_at t token at) s outer
+stepped rule (ServiceNamed active_at t label_at label) s outer token at = changed (service_closed active_at t label_at label token) s outer
+stepped rule (ServeOpening serve_at) s outer token at = changed (serve_opened serve_at token) s outer
+stepped rule (ServeBegun x) s outer token at = changed (serve_begun x token at) s outer
+stepped rule (LabelNaming x) s outer token at = changed (label_named x token at) s outer
+stepped rule (LabelNamed x) s outer token at = changed (labels_go_on x token) s outer
 stepped rule (ElseComing if_at c t) s outer token at = changed (else_came if_at c t token) s outer
 stepped rule (EchoOpening echo_at) s outer token at = changed (echo_opened echo_at token) s outer
 stepped rule (EchoText echo_at) s outer token at = changed (echo_read echo_at token) s outer

@@ -1,5 +1,5 @@
 -- The nodes that lexemes make, each with its mark.
-use Rattle.std.specs.Prelude.{ℕ, ◌+◌, ℤ, Bool, true, false, List, [], ◌∷◌, ◌++◌, Option, Some, None}
+use Rattle.std.specs.Prelude.{ℕ, ◌+◌, ℤ, Bool, true, false, List, [], ◌∷◌, ◌++◌, Option}
 use Rattle.asp_model.specs.Names.{Text}
 use Rattle.asp_model.specs.Term.{Head, SignShape, MethodHead}
 use Rattle.asp_model.specs.Term as term
@@ -39,6 +39,10 @@ if_at at c t u = marked term.If (mark_at at) (and_marked c (two_marked t u))
 
 abbrev pub let_at : ℕ → ℕ → Text → Marked → Marked → Marked
 let_at at name_at x t u = marked (term.Let x) (named_mark at (name_at ∷ [])) (two_marked t u)
+
+-- an `active`, with the label of its service where one is named
+abbrev pub active_at : ℕ → List ℕ → Option Text → Marked → Marked
+active_at at names service t = marked (term.Active service) (named_mark at names) (one_marked t)
 
 -- two terms with a sign between them
 abbrev pub operated : SignShape → PartShape → PartShape → PartShape
@@ -83,6 +87,15 @@ pub record ObjectShape : Type 0 where
 
 abbrev pub made : ObjectShape → PartShape
 made x = part x.at (make_shape (named_mark x.at x.names) x.fields x.methods)
+
+-- a `serve` that was begun: its place, the places of its labels, and the labels
+pub record LabelsShape : Type 0 where
+  pub at : ℕ
+  pub names : List ℕ
+  pub labels : List Text
+
+abbrev pub served : LabelsShape → PartShape
+served x = part x.at (marked (term.Serve x.labels) (named_mark x.at x.names) no_marked)
 
 abbrev pub method : MethodHead → Marked → MarkedMethod
 method head body = record { head = head; body = body }

@@ -1,16 +1,14 @@
 -- What the reader's functions see of its states: no boxes, vectors or texts.
-use Rattle.std.specs.Prelude.{◌≡◌, ℕ, List, map, reverse, Option, Some, None}
+use Rattle.std.specs.Prelude.{List, map, reverse, Option, Some, None}
 use Rattle.asp_model.specs.Term.{Head, MethodHead}
 use Rattle.asp_model.specs.Term as term
-use Rattle.asp_model.specs.declared.term.Term.{Term}
-use Rattle.asp_model.specs.Marked.{Marked, marked, one_marked}
+use Rattle.asp_model.specs.Marked.{marked, one_marked}
 use Rattle.asp_model.specs.Shapes.{marked_of, mark_shape, method_of, field_of, sign_shape}
-use Rattle.asp_syntax.specs.declared.levels.Bracket.{Bracket}
-use Rattle.asp_syntax.specs.declared.levels.Walk.{Walk}
 use Rattle.asp_syntax.specs.declared.state.Part.{Part}
 use Rattle.asp_syntax.specs.declared.state.Pending.{Pending}
 use Rattle.asp_syntax.specs.declared.state.Access.{Access}
 use Rattle.asp_syntax.specs.declared.state.Object.{Object}
+use Rattle.asp_syntax.specs.declared.state.Labels.{Labels}
 use Rattle.asp_syntax.specs.declared.state.Head as declared_head
 use Rattle.asp_syntax.specs.declared.state.Wrap.{Wrap}
 use Rattle.asp_syntax.specs.declared.state.Wrap.TheVariants as wrap
@@ -30,24 +28,13 @@ use Rattle.asp_syntax.specs.declared.state.Change.{Change}
 use Rattle.asp_syntax.specs.declared.state.Change.TheVariants as change
 use Rattle.asp_syntax.specs.declared.state.Closing.{Closing}
 use Rattle.asp_syntax.specs.declared.state.Closing.TheVariants as closing
-use Rattle.asp_syntax.specs.Levels.{BracketShape, WalkShape}
-use Rattle.asp_syntax.specs.Nodes.{PartShape, part, ObjectShape}
+use Rattle.asp_syntax.specs.Nodes.{PartShape, part, ObjectShape, LabelsShape}
 use Rattle.asp_syntax.specs.States.{PendingShape, KindShape, OpenShape, OperandShape, OpenerShape, ModeShape, StateShape, pending}
 use Rattle.asp_syntax.specs.States as states
 use Rattle.asp_syntax.specs.Closings.{FinishedShape, finished, ClosingShape}
 use Rattle.asp_syntax.specs.Changes.{ChangeShape}
 use Rattle.asp_syntax.specs.Closings as closings
 use Rattle.asp_syntax.specs.Changes as changes
-
-abbrev pub bracket_shape : Bracket → BracketShape
-bracket_shape b = record { base = b.base; lets = b.lets; before = b.before }
-
--- innermost first
-abbrev pub bracket_stack : List Bracket → List BracketShape
-bracket_stack bs = reverse (map bracket_shape bs)
-
-abbrev pub walk_shape : Walk → WalkShape
-walk_shape w = record { level = w.level; inner = bracket_shape w.inner; outer = bracket_stack w.outer.items }
 
 abbrev pub part_shape : Part → PartShape
 part_shape p = record { start = p.start; term = marked_of p.term }
@@ -65,6 +52,9 @@ access_shape a = part a.start (marked (term.Get a.label.text) (mark_shape a.mark
 abbrev pub object_shape : Object → ObjectShape
 object_shape x = record { at = x.at; names = x.names.items; fields = map field_of x.fields.items; methods = map method_of x.methods.items }
 
+abbrev pub labels_shape : Labels → LabelsShape
+labels_shape x = record { at = x.at; names = x.names.items; labels = map (λ l. l.text) x.labels.items }
+
 abbrev pub head_shape : declared_head.Head → MethodHead
 head_shape h = record { label = h.label.text; slf = h.slf; parameters = h.parameters.items }
 
@@ -77,6 +67,7 @@ abbrev pub kind_shape : Kind → KindShape
 kind_shape kind.Top = states.Top
 kind_shape (kind.InParentheses at) = states.InParentheses at
 kind_shape (kind.InWord w at) = states.InWord (wrap_shape w) at
+kind_shape (kind.InActive at) = states.InActive at
 kind_shape (kind.InCondition at) = states.InCondition at
 kind_shape (kind.InThen at c) = states.InThen at (marked_of c)
 kind_shape (kind.InElse at c t) = states.InElse at (marked_of c) (marked_of t)
@@ -114,6 +105,12 @@ mode_shape (mode.Dotted p) = states.Dotted (part_shape p)
 mode_shape (mode.Called p at label) = states.Called (part_shape p) at label.text
 mode_shape (mode.Opening x k) = states.Opening (opener_shape x) (kind_shape k)
 mode_shape (mode.LetNaming at) = states.LetNaming at
+mode_shape (mode.ServiceNaming at t) = states.ServiceNaming at (marked_of t)
+mode_shape (mode.ServiceNamed at t label_at label) = states.ServiceNamed at (marked_of t) label_at label.text
+mode_shape (mode.ServeOpening at) = states.ServeOpening at
+mode_shape (mode.ServeBegun x) = states.ServeBegun (labels_shape x)
+mode_shape (mode.LabelNaming x) = states.LabelNaming (labels_shape x)
+mode_shape (mode.LabelNamed x) = states.LabelNamed (labels_shape x)
 mode_shape (mode.ElseComing at c t) = states.ElseComing at (marked_of c) (marked_of t)
 mode_shape (mode.EchoOpening at) = states.EchoOpening at
 mode_shape (mode.EchoText at) = states.EchoText at

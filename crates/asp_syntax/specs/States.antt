@@ -3,7 +3,7 @@ use Rattle.std.specs.Prelude.{ℕ, Bool, true, false, List, [], ◌∷◌, ◌++
 use Rattle.asp_model.specs.Names.{Text}
 use Rattle.asp_model.specs.Term.{Head, SignShape, MethodHead}
 use Rattle.asp_model.specs.Marked.{Marked}
-use Rattle.asp_syntax.specs.Nodes.{PartShape, part, operated, got, put, terms_at, ObjectShape, method}
+use Rattle.asp_syntax.specs.Nodes.{PartShape, part, operated, got, put, terms_at, ObjectShape, LabelsShape, method}
 
 -- an operator whose right side has to come, and what stands on its left
 pub record PendingShape : Type 0 where
@@ -15,6 +15,7 @@ pub data KindShape : Type 0 where
   Top : KindShape
   InParentheses : (at : ℕ) → KindShape
   InWord : (head : Head) (at : ℕ) → KindShape
+  InActive : (at : ℕ) → KindShape
   InCondition : (at : ℕ) → KindShape
   InThen : (at : ℕ) (condition : Marked) → KindShape
   InElse : (at : ℕ) (condition chosen : Marked) → KindShape
@@ -55,6 +56,12 @@ pub data ModeShape : Type 0 where
   Called : (receiver : PartShape) (at : ℕ) (label : Text) → ModeShape
   Opening : (opener : OpenerShape) (kind : KindShape) → ModeShape
   LetNaming : (at : ℕ) → ModeShape
+  ServiceNaming : (at : ℕ) (object : Marked) → ModeShape
+  ServiceNamed : (at : ℕ) (object : Marked) (label_at : ℕ) (label : Text) → ModeShape
+  ServeOpening : (at : ℕ) → ModeShape
+  ServeBegun : (labels : LabelsShape) → ModeShape
+  LabelNaming : (labels : LabelsShape) → ModeShape
+  LabelNamed : (labels : LabelsShape) → ModeShape
   ElseComing : (at : ℕ) (condition chosen : Marked) → ModeShape
   EchoOpening : (at : ℕ) → ModeShape
   EchoText : (at : ℕ) → ModeShape
@@ -98,6 +105,13 @@ with_field x label t = record x { fields = x.fields ++ (label, t) ∷ [] }
 
 abbrev pub with_method : ObjectShape → MethodHead → Marked → ObjectShape
 with_method x head t = record x { methods = x.methods ++ method head t ∷ [] }
+
+-- a `serve` of which no label was read
+abbrev pub new_labels : ℕ → LabelsShape
+new_labels at = record { at = at; names = []; labels = [] }
+
+abbrev pub with_label : LabelsShape → ℕ → Text → LabelsShape
+with_label x at label = record { at = x.at; names = x.names ++ at ∷ []; labels = x.labels ++ label ∷ [] }
 
 abbrev pub operand_part : OperandShape → PartShape
 operand_part (Plain p) = p

@@ -25,7 +25,8 @@ use Rattle.asp_syntax.specs.declared.token.Token.{Token}
 use Rattle.asp_syntax.specs.declared.state.Change.{Change}
 use Rattle.asp_syntax.specs.declared.state.Closing.{Closing}
 use Rattle.asp_syntax.specs.Read.{judged, verdict, fault_at}
-use Rattle.asp_syntax.specs.Shapes.{access_shape, state_shape, walk_shape, change_shape, closing_shape}
+use Rattle.asp_syntax.specs.WalkShapes.{walk_shape}
+use Rattle.asp_syntax.specs.Shapes.{access_shape, state_shape, change_shape, closing_shape}
 
 -- what a function returned is what the machine does, unless memory ran out
 abbrev pub Gives : Result State Stop → Option StateShape → Type 0
@@ -62,6 +63,12 @@ change_of (states.Dotted p) token at = changes.dotted p token at
 change_of (states.Called p label_at label) token at = None
 change_of (states.Opening opener kind) token at = changes.opening opener kind token
 change_of (states.LetNaming let_at) token at = changes.let_named let_at token at
+change_of (states.ServiceNaming active_at t) token at = changes.service_named active_at t token at
+change_of (states.ServiceNamed active_at t label_at label) token at = changes.service_closed active_at t label_at label token
+change_of (states.ServeOpening serve_at) token at = changes.serve_opened serve_at token
+change_of (states.ServeBegun x) token at = changes.serve_begun x token at
+change_of (states.LabelNaming x) token at = changes.label_named x token at
+change_of (states.LabelNamed x) token at = changes.labels_go_on x token
 change_of (states.ElseComing if_at c t) token at = changes.else_came if_at c t token
 change_of (states.EchoOpening echo_at) token at = changes.echo_opened echo_at token
 change_of (states.EchoText echo_at) token at = changes.echo_read echo_at token

@@ -3,7 +3,7 @@
 ghost use Rattle.std.specs.Prelude.{◌≡◌, ◌≤◌, ◌∷◌, ◌++◌, [], map, IfOk, None, true, false};
 ghost use Rattle.asp_model.specs.Shapes.{marked_of, sign_shape};
 ghost use Rattle.asp_syntax.specs.Grammar.{may_put};
-ghost use Rattle.asp_syntax.specs.States.{joined as joined_part, operand_part as part_of, test_in as test_of, term_in as term_of, first_start as first_of};
+ghost use Rattle.asp_syntax.specs.States.{joined as joined_part, operand_part as part_of, test_in as test_of, term_in as term_of, opened_with, first_start as first_of};
 ghost use Rattle.asp_syntax.specs.Closings.{concluded, close as close_kind, finish as finished_by};
 ghost use Rattle.asp_syntax.specs.Machine.{times as times_state, plus as plus_state, test_behind as test_state, assign as assign_state, next_term as term_state, behind as behind_state};
 ghost use Rattle.asp_syntax.specs.Depth.{parentheses_of};
@@ -15,7 +15,7 @@ use crate::node::{access_of, got};
 use crate::object::with_field;
 use crate::state::{Access, Kind, Mode, Open, Operand, Part, Pending, State};
 use crate::stop::{Stop, refused, stopped};
-use crate::terms::{finish, first_start, joined, open_with, summed, term_in, with_term};
+use crate::terms::{finish, first_start, joined, open_with, summed, term_in, tested, with_term};
 use crate::token::Token;
 use asp_model::{Sign, Term};
 use std::alloc::{AllocError, Global};
@@ -70,6 +70,8 @@ pub fn behind(
         | Token::Else
         | Token::Repeat
         | Token::Clone
+        | Token::Active
+        | Token::Serve
         | Token::Print
         | Token::Echo
         | Token::NotBuilt
@@ -204,27 +206,36 @@ fn assign(alloc: Global, part: Part, inner: Open, outer: Vec<Open>) -> Result<St
         sum,
         product,
     } = inner;
-    let part = summed(alloc, sum, product, part)?;
-    let left = joined(alloc, test, part)?;
+    match tested(alloc, test, sum, product, part) {
+        Ok(left) => assigned(kind, start, before, puts, left, outer),
+        Err(_) => stopped((kind, before, puts, outer), Stop::Memory),
+    }
+}
+
+// The same of what stands on the left.
+fn assigned(
+    kind: Kind,
+    start: usize,
+    before: Vec<Term>,
+    puts: Vec<Access>,
+    left: Part,
+    outer: Vec<Open>,
+) -> Result<State, Stop>
+    ensures { Steps result (assign_state (part_shape left) true (opened_with (kind_shape kind) start (map marked_of before.items) (put_stack puts.items) None None None) (stack outer.items)) (assign_state (part_shape left) (may_put true (part_shape left).term) (opened_with (kind_shape kind) start (map marked_of before.items) (put_stack puts.items) None None None) (stack outer.items)) }
+{
     match access_of(left) {
         None => stopped((kind, before, puts, outer), Stop::NotAField),
-        Some(access) => {
-            let inner = open_with(
-                kind,
-                start,
-                before,
-                with_access(puts, access)?,
-                None,
-                None,
-                None,
-            );
-            Ok(State::At(Mode::Want, inner, outer))
-        }
+        Some(access) => match with_access(puts, access) {
+            Ok(puts) => {
+                let inner = open_with(kind, start, before, puts, None, None, None);
+                Ok(State::At(Mode::Want, inner, outer))
+            }
+            Err(_) => stopped((kind, before, outer), Stop::Memory),
+        },
     }
 }
 
 // `;` behind a term: the next term of its sequence, or the methods behind the fields.
-#[tactic(auto, using(crate::proofs::Refused::term_other))]
 fn next_term(alloc: Global, part: Part, inner: Open, outer: Vec<Open>) -> Result<State, Stop>
     ensures { Gives result (term_state (kind_shape inner.kind) (term_of (open_shape inner) (part_shape part)) (open_shape inner) (stack outer.items)) }
 {
@@ -237,17 +248,38 @@ fn next_term(alloc: Global, part: Part, inner: Open, outer: Vec<Open>) -> Result
         sum,
         product,
     } = inner;
-    let last = term_in(alloc, puts, test, sum, product, part)?;
+    match term_in(alloc, puts, test, sum, product, part) {
+        Ok(last) => term_over(alloc, kind, start, before, last, outer),
+        Err(_) => stopped((kind, before, outer), Stop::Memory),
+    }
+}
+
+// The same of the term.
+#[tactic(auto, using(crate::proofs::Refused::term_other))]
+fn term_over(
+    alloc: Global,
+    kind: Kind,
+    start: usize,
+    before: Vec<Term>,
+    last: Part,
+    outer: Vec<Open>,
+) -> Result<State, Stop>
+    ensures { Gives result (term_state (kind_shape kind) (part_shape last) (opened_with (kind_shape kind) start (map marked_of before.items) [] None None None) (stack outer.items)) }
+{
     match kind {
-        Kind::InField(object, label) => {
-            let object = with_field(object, label, last.term)?;
-            back(Mode::MethodNaming(object), outer)
-        }
+        Kind::InField(object, label) => match with_field(object, label, last.term) {
+            Ok(object) => back(Mode::MethodNaming(object), outer),
+            Err(_) => stopped(outer, Stop::Memory),
+        },
         other => {
             let start = first_start(before.as_slice(), start, last.start);
-            let before = with_term(before, last.term)?;
-            let inner = open_with(other, start, before, Vec::new(alloc), None, None, None);
-            Ok(State::At(Mode::Begin, inner, outer))
+            match with_term(before, last.term) {
+                Ok(before) => {
+                    let inner = open_with(other, start, before, Vec::new(alloc), None, None, None);
+                    Ok(State::At(Mode::Begin, inner, outer))
+                }
+                Err(_) => stopped((other, outer), Stop::Memory),
+            }
         }
     }
 }

@@ -13,6 +13,9 @@ use crate::object::{
     field_named, head_goes_on, method_named, method_opened, new_object, object_begun,
     parameter_named, self_named,
 };
+use crate::service::{
+    label_named, labels_go_on, serve_begun, serve_opened, service_closed, service_named,
+};
 use crate::state::{Change, Kind, Mode, Opener, Operand, Part, Wrap};
 use crate::stop::{Stop, refused};
 use crate::token::Token;
@@ -31,6 +34,14 @@ pub fn change(alloc: Global, mode: Mode, token: Token, at: usize) -> Result<Chan
         Mode::Called(part, _, label) => refused((part, label, token)),
         Mode::Opening(opener, kind) => opening(opener, kind, token),
         Mode::LetNaming(let_at) => let_named(let_at, token, at),
+        Mode::ServiceNaming(active_at, object) => service_named(active_at, object, token, at),
+        Mode::ServiceNamed(active_at, object, label_at, label) => {
+            service_closed(alloc, active_at, object, label_at, label, token)
+        }
+        Mode::ServeOpening(serve_at) => serve_opened(alloc, serve_at, token),
+        Mode::ServeBegun(labels) => serve_begun(labels, token, at),
+        Mode::LabelNaming(labels) => label_named(labels, token, at),
+        Mode::LabelNamed(labels) => labels_go_on(labels, token),
         Mode::ElseComing(if_at, condition, chosen) => else_came(if_at, condition, chosen, token),
         Mode::EchoOpening(echo_at) => echo_opened(echo_at, token),
         Mode::EchoText(echo_at) => echo_read(echo_at, token),
@@ -66,6 +77,8 @@ fn operand(alloc: Global, token: Token, at: usize) -> Result<Change, Stop>
         Token::Open => Ok(Change::Opens(Kind::InParentheses(at))),
         Token::SquareOpen => Ok(Change::Goes(Mode::ObjectBegun(new_object(alloc, at)))),
         Token::Clone => Ok(round(Kind::InWord(Wrap::Clone, at))),
+        Token::Active => Ok(round(Kind::InActive(at))),
+        Token::Serve => Ok(Change::Goes(Mode::ServeOpening(at))),
         Token::Repeat => Ok(round(Kind::InWord(Wrap::Repeat, at))),
         Token::Print => Ok(round(Kind::InWord(Wrap::Print, at))),
         Token::If => Ok(round(Kind::InCondition(at))),
@@ -97,9 +110,9 @@ fn operand(alloc: Global, token: Token, at: usize) -> Result<Change, Stop>
     }
 }
 
-// An operand was read.
-fn plain(part: Part) -> Change
-    ensures { change_shape result ≡ changes.Goes (states.Have (states.Plain (part_shape part))) }
+/// An operand was read.
+pub fn plain(part: Part) -> Change
+    ensures operand { change_shape result ≡ changes.Goes (states.Have (states.Plain (part_shape part))) }
 {
     Change::Goes(Mode::Have(Operand::Plain(part)))
 }

@@ -10,10 +10,10 @@ ghost use Rattle.asp_syntax.specs.Depth.{parentheses_of};
 ghost use Rattle.asp_syntax.specs.Shapes.{part_shape, kind_shape, mode_shape, stack, finished_shape, closing_shape};
 ghost use Rattle.asp_syntax.specs.Steps.{Gives, Closes};
 
-use crate::node::{called, choice, enclosed, made, wrapped};
+use crate::node::{active, called, choice, enclosed, made, wrapped};
 use crate::object::{with_field, with_method};
 use crate::state::{Closing, Finished, Kind, Mode, Open, Opener, Operand, Part, State};
-use crate::stop::{Stop, refused};
+use crate::stop::{Stop, refused, stopped};
 use crate::terms::{fresh, with_term};
 use asp_model::{Label, Term};
 use std::alloc::{AllocError, Global};
@@ -46,7 +46,7 @@ pub fn close_square(alloc: Global, finished: Finished) -> Result<State, Stop>
     closed(alloc, closing, outer)
 }
 
-/// `,` behind an argument, a field or a method.
+/// `,` behind the term of an `active`, an argument, a field or a method.
 pub fn comma(alloc: Global, finished: Finished) -> Result<State, Stop>
     ensures { Gives result (concluded comma_kind (finished_shape finished)) }
 {
@@ -126,6 +126,10 @@ fn closing_round(alloc: Global, kind: Kind, value: Part) -> Result<Closing, Stop
             drop(kind);
             Ok(resumed(wrapped(alloc, wrap, at, value.term)?))
         }
+        Kind::InActive(at) => {
+            drop(kind);
+            Ok(resumed(active(alloc, at, value.term)?))
+        }
         Kind::InCondition(at) => {
             drop(kind);
             let then = Mode::Opening(Opener::ByBrace, Kind::InThen(at, value.term));
@@ -148,8 +152,10 @@ fn call_of(
 ) -> Result<Part, AllocError>
     ensures { IfOk result (λ p. part_shape p ≡ called_part (part_shape receiver) at label.text (map marked_of before.items ++ marked_of last ∷ [])) }
 {
-    let arguments = with_term(before, last)?;
-    called(alloc, receiver, at, label, arguments)
+    match with_term(before, last) {
+        Ok(arguments) => called(alloc, receiver, at, label, arguments),
+        Err(error) => stopped((receiver, label), error),
+    }
 }
 
 #[tactic(auto, using(crate::proofs::Others::brace_other))]
@@ -187,9 +193,13 @@ fn closing_comma(kind: Kind, value: Part) -> Result<Closing, Stop>
     ensures { Closes result (comma_kind (kind_shape kind) (part_shape value)) }
 {
     match kind {
+        Kind::InActive(at) => {
+            drop(kind);
+            Ok(Closing::Back(Mode::ServiceNaming(at, value.term)))
+        }
         Kind::InCall(receiver, at, label, before) => {
-            let arguments = with_term(before, value.term)?;
-            Ok(Closing::Again(Kind::InCall(receiver, at, label, arguments)))
+            let kind = with_argument(receiver, at, label, before, value.term)?;
+            Ok(Closing::Again(kind))
         }
         Kind::InField(object, label) => {
             let object = with_field(object, label, value.term)?;
@@ -200,6 +210,22 @@ fn closing_comma(kind: Kind, value: Part) -> Result<Closing, Stop>
             Ok(Closing::Back(Mode::MethodNaming(object)))
         }
         other => refused((other, value)),
+    }
+}
+
+// A call with one more argument.
+fn with_argument(
+    receiver: Part,
+    at: usize,
+    label: Label,
+    before: Vec<Term>,
+    argument: Term,
+) -> Result<Kind, AllocError>
+    ensures { IfOk result (λ k. kind_shape k ≡ states.InCall (part_shape receiver) at label.text (map marked_of before.items ++ marked_of argument ∷ [])) }
+{
+    match with_term(before, argument) {
+        Ok(arguments) => Ok(Kind::InCall(receiver, at, label, arguments)),
+        Err(error) => stopped((receiver, label), error),
     }
 }
 

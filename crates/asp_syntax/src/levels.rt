@@ -2,7 +2,7 @@
 
 ghost use Rattle.std.specs.Prelude.{◌≡◌, ◌≤◌, ◌∷◌, IfOk};
 ghost use Rattle.asp_syntax.specs.Levels.{walked, flat, opened as opened_walk, closed as closed_walk, higher as higher_walk, with_let as let_walk, set_back as back_walk, without_lets as plain_walk};
-ghost use Rattle.asp_syntax.specs.Shapes.{walk_shape, bracket_shape, bracket_stack};
+ghost use Rattle.asp_syntax.specs.WalkShapes.{walk_shape, bracket_shape, bracket_stack};
 ghost use Rattle.asp_syntax.specs.Ordered.{IsOrdered};
 
 use crate::token::Token;
@@ -72,6 +72,8 @@ pub fn walk_on(walk: Walk, token: &Token) -> Result<Walk, AllocError>
         | Token::Else
         | Token::Repeat
         | Token::Clone
+        | Token::Active
+        | Token::Serve
         | Token::Print
         | Token::Echo
         | Token::End

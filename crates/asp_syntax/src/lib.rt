@@ -12,6 +12,7 @@ mod machine;
 mod node;
 mod object;
 mod reading;
+mod service;
 mod state;
 mod stop;
 mod terms;
@@ -20,6 +21,3 @@ mod word;
 
 pub use error::{SyntaxError, SyntaxFault, SyntaxKind};
 pub use reading::read_program;
-
-#[cfg(test)]
-mod tests;

@@ -87,6 +87,7 @@ fn first_mode(kind: &Kind) -> Mode
         Kind::Top
         | Kind::InParentheses(_)
         | Kind::InWord(_, _)
+        | Kind::InActive(_)
         | Kind::InCondition(_)
         | Kind::InThen(_, _)
         | Kind::InElse(_, _, _)

@@ -1,15 +1,16 @@
 //! The terms that tokens make, with their marks.
 
-ghost use Rattle.std.specs.Prelude.{◌≡◌, ◌+◌, ◌<◌, ◌^◌, ◌∷◌, ◌++◌, [], map, IfOk};
+ghost use Rattle.std.specs.Prelude.{◌≡◌, ◌+◌, ◌<◌, ◌^◌, ◌∷◌, ◌++◌, [], map, IfOk, None, Some};
 ghost use Rattle.asp_model.specs.Term as term;
 ghost use Rattle.asp_model.specs.Marked.{marked, and_marked, two_marked};
 ghost use Rattle.asp_model.specs.Shapes.{marked_of, mark_shape, sign_shape};
-ghost use Rattle.asp_syntax.specs.Nodes.{mark_at as new_mark, named_mark as new_named_mark, number_at, variable_at, echo_at, word_at, if_at, let_at, operated as operated_part, got as got_part, called as called_part, put as put_part, terms_at, once_more as one_more, in_parentheses, made as made_part};
+ghost use Rattle.asp_syntax.specs.Nodes.{mark_at as new_mark, named_mark as new_named_mark, number_at, variable_at, echo_at, word_at, active_at, if_at, let_at, operated as operated_part, got as got_part, called as called_part, put as put_part, terms_at, once_more as one_more, in_parentheses, made as made_part, served as served_part};
 ghost use Rattle.asp_syntax.specs.Depth.{parentheses_of};
-ghost use Rattle.asp_syntax.specs.Shapes.{part_shape, access_shape, object_shape, wrap_shape};
+ghost use Rattle.asp_syntax.specs.Shapes.{part_shape, access_shape, object_shape, labels_shape, wrap_shape};
 ghost use Rattle.asp_syntax.specs.Steps.{IsAccess};
 
-use crate::state::{Access, Object, Part, Wrap};
+use crate::state::{Access, Labels, Object, Part, Wrap};
+use crate::stop::stopped;
 use asp_model::{Label, Mark, Sign, Term, Word};
 use std::alloc::{AllocError, Global};
 
@@ -41,6 +42,42 @@ fn boxed(alloc: Global, term: Term) -> Result<Box<Term>, AllocError>
     ensures { IfOk result (λ b. b.value ≡ term) }
 {
     Ok(Box::new(alloc, term)?)
+}
+
+fn both_boxed(
+    alloc: Global,
+    first: Term,
+    second: Term,
+) -> Result<(Box<Term>, Box<Term>), AllocError>
+    ensures first { IfOk result (λ r. r.0.value ≡ first) }
+    ensures second { IfOk result (λ r. r.1.value ≡ second) }
+{
+    match boxed(alloc, first) {
+        Ok(first) => match boxed(alloc, second) {
+            Ok(second) => Ok((first, second)),
+            Err(error) => stopped(first, error),
+        },
+        Err(error) => stopped(second, error),
+    }
+}
+
+// A term, and the mark of a node round it that has a name.
+fn boxed_and_named(
+    alloc: Global,
+    term: Term,
+    at: usize,
+    name_at: usize,
+) -> Result<(Box<Term>, Mark), AllocError>
+    ensures term { IfOk result (λ r. r.0.value ≡ term) }
+    ensures mark { IfOk result (λ r. mark_shape r.1 ≡ new_named_mark at (name_at ∷ [])) }
+{
+    match boxed(alloc, term) {
+        Ok(term) => match named_mark(alloc, at, name_at) {
+            Ok(mark) => Ok((term, mark)),
+            Err(error) => stopped(term, error),
+        },
+        Err(error) => Err(error),
+    }
 }
 
 /// A number whose token stands at a place.
@@ -87,6 +124,53 @@ pub fn wrapped(alloc: Global, wrap: Wrap, at: usize, term: Term) -> Result<Part,
     Ok(Part { start: at, term })
 }
 
+/// An `active` that names no service.
+pub fn active(alloc: Global, at: usize, object: Term) -> Result<Part, AllocError>
+    ensures active { IfOk result (λ p. part_shape p ≡ record { start = at; term = active_at at [] None (marked_of object) }) }
+{
+    let object = boxed(alloc, object)?;
+    Ok(Part {
+        start: at,
+        term: Term::Active(object, None, mark_at(alloc, at)),
+    })
+}
+
+/// An `active` that begins with a service.
+pub fn active_with(
+    alloc: Global,
+    at: usize,
+    object: Term,
+    label_at: usize,
+    label: Label,
+) -> Result<Part, AllocError>
+    ensures active { IfOk result (λ p. part_shape p ≡ record { start = at; term = active_at at (label_at ∷ []) (Some label.text) (marked_of object) }) }
+{
+    match boxed_and_named(alloc, object, at, label_at) {
+        Ok((object, mark)) => Ok(Part {
+            start: at,
+            term: Term::Active(object, Some(label), mark),
+        }),
+        Err(error) => stopped(label, error),
+    }
+}
+
+/// A `serve` with the labels that were read.
+pub fn served(labels: Labels) -> Part
+    ensures served { part_shape result ≡ served_part (labels_shape labels) }
+{
+    let Labels { at, names, labels } = labels;
+    let mark = Mark {
+        at,
+        parentheses: 0,
+        left: 0,
+        names,
+    };
+    Part {
+        start: at,
+        term: Term::Serve(labels, mark),
+    }
+}
+
 /// An `if` at a place.
 pub fn choice(
     alloc: Global,
@@ -97,10 +181,13 @@ pub fn choice(
 ) -> Result<Part, AllocError>
     ensures choice { IfOk result (λ p. part_shape p ≡ record { start = at; term = if_at at (marked_of condition) (marked_of chosen) (marked_of other) }) }
 {
-    let condition = boxed(alloc, condition)?;
-    let chosen = boxed(alloc, chosen)?;
-    let other = boxed(alloc, other)?;
-    Ok(choice_of(condition, chosen, other, mark_at(alloc, at)))
+    match both_boxed(alloc, condition, chosen) {
+        Ok((condition, chosen)) => match boxed(alloc, other) {
+            Ok(other) => Ok(choice_of(condition, chosen, other, mark_at(alloc, at))),
+            Err(error) => stopped((condition, chosen), error),
+        },
+        Err(error) => stopped(other, error),
+    }
 }
 
 fn choice_of(condition: Box<Term>, chosen: Box<Term>, other: Box<Term>, mark: Mark) -> Part
@@ -123,13 +210,16 @@ pub fn binding(
 ) -> Result<Part, AllocError>
     ensures binding { IfOk result (λ p. part_shape p ≡ record { start = at; term = let_at at name_at name (marked_of bound) (marked_of body) }) }
 {
-    let bound = boxed(alloc, bound)?;
-    let body = boxed(alloc, body)?;
-    let mark = named_mark(alloc, at, name_at)?;
-    Ok(Part {
-        start: at,
-        term: Term::Let(name, bound, body, mark),
-    })
+    match both_boxed(alloc, bound, body) {
+        Ok((bound, body)) => match named_mark(alloc, at, name_at) {
+            Ok(mark) => Ok(Part {
+                start: at,
+                term: Term::Let(name, bound, body, mark),
+            }),
+            Err(error) => stopped((name, bound, body), error),
+        },
+        Err(error) => stopped(name, error),
+    }
 }
 
 /// Two terms with a sign between them.
@@ -137,8 +227,7 @@ pub fn operated(alloc: Global, sign: Sign, left: Part, right: Part) -> Result<Pa
     ensures operated { IfOk result (λ p. part_shape p ≡ operated_part (sign_shape sign) (part_shape left) (part_shape right)) }
 {
     let start = left.start;
-    let left = boxed(alloc, left.term)?;
-    let right = boxed(alloc, right.term)?;
+    let (left, right) = both_boxed(alloc, left.term, right.term)?;
     Ok(Part {
         start,
         term: Term::Operate(sign, left, right, mark_at(alloc, start)),
@@ -150,12 +239,13 @@ pub fn got(alloc: Global, receiver: Part, at: usize, label: Label) -> Result<Par
     ensures got { IfOk result (λ p. part_shape p ≡ got_part (part_shape receiver) at label.text) }
 {
     let start = receiver.start;
-    let receiver = boxed(alloc, receiver.term)?;
-    let mark = named_mark(alloc, start, at)?;
-    Ok(Part {
-        start,
-        term: Term::Get(receiver, label, mark),
-    })
+    match boxed_and_named(alloc, receiver.term, start, at) {
+        Ok((receiver, mark)) => Ok(Part {
+            start,
+            term: Term::Get(receiver, label, mark),
+        }),
+        Err(error) => stopped(label, error),
+    }
 }
 
 /// A call.
@@ -169,15 +259,17 @@ pub fn called(
     ensures called { IfOk result (λ p. part_shape p ≡ called_part (part_shape receiver) at label.text (map marked_of arguments.items)) }
 {
     let start = receiver.start;
-    let receiver = boxed(alloc, receiver.term)?;
-    let mark = named_mark(alloc, start, at)?;
-    Ok(Part {
-        start,
-        term: Term::Call(receiver, label, arguments, mark),
-    })
+    match boxed_and_named(alloc, receiver.term, start, at) {
+        Ok((receiver, mark)) => Ok(Part {
+            start,
+            term: Term::Call(receiver, label, arguments, mark),
+        }),
+        Err(error) => stopped((label, arguments), error),
+    }
 }
 
 /// A term taken apart, if it is a field access.
+#[tactic(auto, using(crate::proofs::Making::get_other))]
 pub fn access_of(part: Part) -> Option<Access>
     ensures { IsAccess result (part_shape part) }
 {
@@ -189,21 +281,10 @@ pub fn access_of(part: Part) -> Option<Access>
             label,
             mark,
         }),
-        Term::Loc(_, _)
-        | Term::Hole(_)
-        | Term::Var(_, _)
-        | Term::Number(_, _)
-        | Term::Make { .. }
-        | Term::Put(_, _, _, _)
-        | Term::Call(_, _, _, _)
-        | Term::Clone(_, _)
-        | Term::Let(_, _, _, _)
-        | Term::Steps(_, _)
-        | Term::If(_, _, _, _)
-        | Term::Repeat(_, _)
-        | Term::Operate(_, _, _, _)
-        | Term::Print(_, _)
-        | Term::Echo(_, _) => None,
+        other => {
+            drop(other);
+            None
+        }
     }
 }
 
@@ -217,17 +298,21 @@ pub fn put(alloc: Global, access: Access, value: Part) -> Result<Part, AllocErro
         label,
         mark,
     } = access;
-    let value = boxed(alloc, value.term)?;
-    let mark = Mark {
-        at: start,
-        parentheses: 0,
-        left: mark.parentheses,
-        names: mark.names,
-    };
-    Ok(Part {
-        start,
-        term: Term::Put(receiver, label, value, mark),
-    })
+    match boxed(alloc, value.term) {
+        Ok(value) => {
+            let mark = Mark {
+                at: start,
+                parentheses: 0,
+                left: mark.parentheses,
+                names: mark.names,
+            };
+            Ok(Part {
+                start,
+                term: Term::Put(receiver, label, value, mark),
+            })
+        }
+        Err(error) => stopped((receiver, label, mark), error),
+    }
 }
 
 /// One term, or the steps of several.
@@ -319,6 +404,8 @@ pub fn enclosed(term: Term) -> Term
             Term::Call(receiver, label, arguments, once_more(mark))
         }
         Term::Clone(inner, mark) => Term::Clone(inner, once_more(mark)),
+        Term::Active(inner, service, mark) => Term::Active(inner, service, once_more(mark)),
+        Term::Serve(labels, mark) => Term::Serve(labels, once_more(mark)),
         Term::Let(name, bound, body, mark) => Term::Let(name, bound, body, once_more(mark)),
         Term::Steps(terms, mark) => Term::Steps(terms, once_more(mark)),
         Term::If(condition, chosen, other, mark) => {

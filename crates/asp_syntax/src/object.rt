@@ -4,13 +4,15 @@ ghost use Rattle.std.specs.Prelude.{◌≡◌, ◌∷◌, [], ◌++◌, IfOk};
 ghost use Rattle.asp_model.specs.Shapes.{marked_of};
 ghost use Rattle.asp_syntax.specs.Nodes.{with_parameter as one_parameter};
 ghost use Rattle.asp_syntax.specs.States.{with_name as one_name, with_field as one_field, with_method as one_method, new_object as object_at};
+ghost use Rattle.asp_syntax.specs.States as states;
+ghost use Rattle.asp_syntax.specs.Changes as changes;
 ghost use Rattle.asp_syntax.specs.Changes.{object_begun as begun_state, field_named as field_state, method_named as method_state, method_opened as opened_state, self_named as self_state, head_goes_on as head_state, parameter_named as parameter_state};
 ghost use Rattle.asp_syntax.specs.Shapes.{object_shape, head_shape, change_shape};
 ghost use Rattle.asp_syntax.specs.Steps.{Changes};
 
 use crate::node::made;
 use crate::state::{Change, Head, Kind, Mode, Object, Opener, Operand};
-use crate::stop::{Stop, refused};
+use crate::stop::{Stop, refused, stopped};
 use crate::token::Token;
 use asp_model::{Label, Method, Term, Word};
 use std::alloc::{AllocError, Global};
@@ -176,15 +178,17 @@ pub fn self_named(
     ensures { Changes result (self_state (object_shape object) label.text token at) }
 {
     match token {
-        Token::Name(slf) => {
-            let object = with_name(object, at)?;
-            let head = Head {
-                label,
-                slf,
-                parameters: Vec::new(alloc),
-            };
-            Ok(Change::Goes(Mode::HeadNamed(object, head)))
-        }
+        Token::Name(slf) => match with_name(object, at) {
+            Ok(object) => {
+                let head = Head {
+                    label,
+                    slf,
+                    parameters: Vec::new(alloc),
+                };
+                Ok(Change::Goes(Mode::HeadNamed(object, head)))
+            }
+            Err(_) => stopped((label, slf), Stop::Memory),
+        },
         other => refused((object, label, other)),
     }
 }
@@ -210,11 +214,19 @@ pub fn parameter_named(object: Object, head: Head, token: Token, at: usize) -> R
     ensures { Changes result (parameter_state (object_shape object) (head_shape head) token at) }
 {
     match token {
-        Token::Name(name) => {
-            let object = with_name(object, at)?;
-            let head = with_parameter(head, name)?;
-            Ok(Change::Goes(Mode::HeadNamed(object, head)))
-        }
+        Token::Name(name) => match with_name(object, at) {
+            Ok(object) => Ok(head_named(object, head, name)?),
+            Err(_) => stopped((head, name), Stop::Memory),
+        },
         other => refused((object, head, other)),
+    }
+}
+
+fn head_named(object: Object, head: Head, name: Word) -> Result<Change, AllocError>
+    ensures { IfOk result (λ c. change_shape c ≡ changes.Goes (states.HeadNamed (object_shape object) (one_parameter (head_shape head) name))) }
+{
+    match with_parameter(head, name) {
+        Ok(head) => Ok(Change::Goes(Mode::HeadNamed(object, head))),
+        Err(error) => stopped(object, error),
     }
 }

@@ -10,7 +10,8 @@ ghost use Rattle.asp_syntax.specs.Cursors.{lexeme_of};
 ghost use Rattle.asp_syntax.specs.Read.{read_all, fault_at};
 ghost use Rattle.asp_syntax.specs.Ordered.{IsOrdered};
 ghost use Rattle.asp_syntax.specs.Depth.{parentheses_in};
-ghost use Rattle.asp_syntax.specs.Shapes.{state_shape, walk_shape};
+ghost use Rattle.asp_syntax.specs.WalkShapes.{walk_shape};
+ghost use Rattle.asp_syntax.specs.Shapes.{state_shape};
 ghost use Rattle.asp_syntax.specs.Steps.{Judges, UnlessDeep, GoesOn, Turns, Reads};
 
 use crate::error::{SyntaxError, SyntaxFault, SyntaxKind};

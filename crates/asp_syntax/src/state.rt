@@ -34,6 +34,14 @@ pub struct Object {
     pub methods: Vec<Method>,
 }
 
+/// A `serve` that was begun: its place, and the labels that were read, with their places.
+#[derive(Drop)]
+pub struct Labels {
+    pub at: usize,
+    pub names: Vec<usize>,
+    pub labels: Vec<Label>,
+}
+
 /// A method up to its body.
 #[derive(Drop)]
 pub struct Head {
@@ -56,6 +64,7 @@ pub enum Kind {
     Top,
     InParentheses(usize),
     InWord(Wrap, usize),
+    InActive(usize),
     InCondition(usize),
     InThen(usize, Term),
     InElse(usize, Term, Term),
@@ -110,6 +119,13 @@ pub enum Mode {
     Called(Part, usize, Label),
     Opening(Opener, Kind),
     LetNaming(usize),
+    /// The label of the service that an `active` begins with has to come.
+    ServiceNaming(usize, Term),
+    ServiceNamed(usize, Term, usize, Label),
+    ServeOpening(usize),
+    ServeBegun(Labels),
+    LabelNaming(Labels),
+    LabelNamed(Labels),
     ElseComing(usize, Term, Term),
     EchoOpening(usize),
     EchoText(usize),

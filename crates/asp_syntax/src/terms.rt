@@ -94,6 +94,22 @@ pub fn first_start(before: &[Term], start: usize, at: usize) -> usize
     if before.is_empty() { at } else { start }
 }
 
+/// The term that an operand ends, without the `:=` before it.
+pub fn tested(
+    alloc: Global,
+    test: Option<Pending>,
+    sum: Option<Pending>,
+    product: Option<Pending>,
+    part: Part,
+) -> Result<Part, AllocError>
+    ensures { IfOk result (λ p. part_shape p ≡ joined_part (waiting_shape test) (joined_part (waiting_shape sum) (joined_part (waiting_shape product) (part_shape part)))) }
+{
+    match summed(alloc, sum, product, part) {
+        Ok(part) => joined(alloc, test, part),
+        Err(error) => stopped(test, error),
+    }
+}
+
 /// The term that an operand ends.
 pub fn term_in(
     alloc: Global,
@@ -105,9 +121,9 @@ pub fn term_in(
 ) -> Result<Part, AllocError>
     ensures { IfOk result (λ p. part_shape p ≡ all_puts (put_stack puts.items) (joined_part (waiting_shape test) (joined_part (waiting_shape sum) (joined_part (waiting_shape product) (part_shape part))))) }
 {
-    match summed(alloc, sum, product, part) {
-        Ok(part) => put_all(alloc, puts, joined(alloc, test, part)?),
-        Err(error) => stopped((puts, test), error),
+    match tested(alloc, test, sum, product, part) {
+        Ok(part) => put_all(alloc, puts, part),
+        Err(error) => stopped(puts, error),
     }
 }
 

@@ -34,6 +34,8 @@ pub enum Token {
     Else,
     Repeat,
     Clone,
+    Active,
+    Serve,
     Print,
     Echo,
     /// The end of the text.

@@ -42,6 +42,10 @@ fn reserved(word: &[u8]) -> Option<Token>
         Some(Token::Repeat)
     } else if word == b"clone".as_slice() {
         Some(Token::Clone)
+    } else if word == b"active".as_slice() {
+        Some(Token::Active)
+    } else if word == b"serve".as_slice() {
+        Some(Token::Serve)
     } else if word == b"print".as_slice() {
         Some(Token::Print)
     } else if word == b"echo".as_slice() {
@@ -57,9 +61,7 @@ fn reserved(word: &[u8]) -> Option<Token>
 fn is_later(word: &[u8]) -> bool
     ensures { result ≡ later_of word.now }
 {
-    word == b"active".as_slice()
-        || word == b"serve".as_slice()
-        || word == b"group".as_slice()
+    word == b"group".as_slice()
         || word == b"scatter".as_slice()
         || word == b"size".as_slice()
         || word == b"member".as_slice()

@@ -1,4 +1,4 @@
-use Rattle.std.proofs.Common.{◌≡◌, ℕ, List, [], ◌∷◌, ◌++◌, ◌+◌, sym, ap, ◌∙◌, arith, get_or, true, false}
+use Rattle.std.proofs.Common.{◌≡◌, ℕ, List, ◌∷◌, ◌+◌, sym, ap, ◌∙◌, arith, get_or, true, false}
 use Rattle.std.specs.Prelude.{string_bytes}
 use Rattle.asp_syntax.specs.declared.token.Token.TheVariants.{Text}
 use Rattle.asp_syntax.specs.Bytes.{is_text}

@@ -1,4 +1,4 @@
-use Rattle.std.proofs.Common.{get_or, ◌≡◌, ℕ, ◌+◌, List, [], ◌∷◌, ◌++◌, sym, ◌∙◌, ap, arith, inl, inr, if◌then◌else◌, Bool}
+use Rattle.std.proofs.Common.{get_or, ℕ, ◌+◌, List, [], ◌∷◌, ◌++◌, sym, ◌∙◌, ap, arith, inl, inr, if◌then◌else◌, Bool}
 use Rattle.std.specs.Prelude.{string_bytes}
 use Rattle.asp_syntax.specs.declared.token.Token.{Token}
 use Rattle.asp_syntax.specs.Bytes.{is_inner, word_token}

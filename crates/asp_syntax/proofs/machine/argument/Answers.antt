@@ -1,4 +1,4 @@
-use Rattle.std.proofs.Common.{◌≡◌, subst, sym}
+use Rattle.std.proofs.Common.{subst, sym}
 use Rattle.asp_syntax.specs.Changes.{begin, changed}
 use Rattle.asp_syntax.specs.Shapes.{open_shape, stack}
 use Rattle.asp_syntax.specs.Steps.{Changes, Gives}

@@ -1,4 +1,4 @@
-use Rattle.std.proofs.Common.{◌≡◌, ap, ◌∙◌, map}
+use Rattle.std.proofs.Common.{ap, ◌∙◌, map}
 use Rattle.asp_model.specs.Shapes.{marked_of}
 use Rattle.asp_model.specs.declared.term.Term.{Term}
 use Rattle.std.proofs.Common.{List}

@@ -5,7 +5,8 @@ use Rattle.asp_syntax.specs.States.{StateShape}
 use Rattle.asp_syntax.specs.Machine.{step}
 use Rattle.asp_syntax.specs.Cursors.{from, lexeme_of, goes_on}
 use Rattle.asp_syntax.specs.Read.{read as read_from}
-use Rattle.asp_syntax.specs.Shapes.{state_shape, walk_shape, mode_shape, open_shape, stack}
+use Rattle.asp_syntax.specs.WalkShapes.{walk_shape}
+use Rattle.asp_syntax.specs.Shapes.{state_shape, mode_shape, open_shape, stack}
 use Rattle.asp_syntax.specs.declared.state.State.{State}
 use Rattle.asp_syntax.specs.declared.state.State.TheVariants as state
 use Rattle.asp_syntax.specs.Ordered.{IsOrdered}

@@ -2,7 +2,8 @@ use Rattle.std.proofs.Common.{◌≡◌, ◌≤◌, ◌-◌, length}
 use Rattle.asp_syntax.specs.Tokens.{Between, lexemes_of}
 use Rattle.asp_syntax.specs.Cursors.{from}
 use Rattle.asp_syntax.specs.Read.{read as read_from, read_all}
-use Rattle.asp_syntax.specs.Shapes.{state_shape, walk_shape}
+use Rattle.asp_syntax.specs.WalkShapes.{walk_shape}
+use Rattle.asp_syntax.specs.Shapes.{state_shape}
 use Rattle.asp_syntax.specs.Ordered.{IsOrdered}
 use Rattle.asp_syntax.proofs.Shallow.{IsShallow}
 use Rattle.asp_syntax.proofs.reading.read.Given as goal

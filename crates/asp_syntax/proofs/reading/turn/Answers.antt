@@ -1,5 +1,6 @@
 use Rattle.asp_syntax.specs.Cursors.{lexeme_of}
-use Rattle.asp_syntax.specs.Shapes.{state_shape, walk_shape}
+use Rattle.asp_syntax.specs.WalkShapes.{walk_shape}
+use Rattle.asp_syntax.specs.Shapes.{state_shape}
 use Rattle.asp_syntax.proofs.Turning.{built_turns}
 use Rattle.asp_syntax.proofs.reading.turn.Goals as goal
 

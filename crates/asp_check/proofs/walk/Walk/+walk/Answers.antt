@@ -2,6 +2,7 @@ use Rattle.std.proofs.Common.{◌≡◌, ◌+◌, List, [], ◌∷◌, ◌++◌,
 use Rattle.asp_model.specs.Marked.{all_marked}
 use Rattle.asp_model.specs.Shapes.{marked_of}
 use Rattle.asp_check.specs.Least.{least_of}
+use Rattle.asp_check.specs.declared.fault.CheckKind.TheVariants.{Arity}
 use Rattle.asp_check.specs.Placed.{behind}
 use Rattle.asp_check.specs.NameFaults.{NameSet, with_names, name_faults, name_faults_below}
 use Rattle.asp_check.specs.ArityFaults.{LabelArity, label_arity, arities_in, arities_among, method_arities}
@@ -52,7 +53,7 @@ visit_methods-loop-method-preserved t c =
     let left = c.skip_head.ensures.left ∙ ap (behind (names_of m)) c.next-at.ensures.left in
     let count : c.len.result ≡ length m.parameters.items = search rules in
     let bound = c.in_ok-add_arity.ensures.bound ∙ c.loop-method.invariant.bound in
-    let arities = c.in_ok-visit_method.ensures.arities ∙ ap (λ (xs : List LabelArity). xs ++ arities_in (body_of m)) (c.in_ok-add_arity.ensures.arities ∙ (λ k. map arity_of c.loop-method.self.arities.items ++ label_arity m.label.text (count k) (c.next-at.ensures.place k) ∷ [])) in
+    let arities = c.in_ok-visit_method.ensures.arities ∙ ap (λ (xs : List LabelArity). xs ++ arities_in (body_of m)) (c.in_ok-add_arity.ensures.arities ∙ (λ k. map arity_of c.loop-method.self.arities.items ++ label_arity Arity m.label.text (count k) (c.next-at.ensures.place k) ∷ [])) in
     let least = c.in_ok-visit_method.ensures.least ∙ (λ k. least_of (c.in_ok-add_arity.ensures.least k) (name_faults (with_names (names_of m) (bound k)) (body_of m))) in
     record {
       bound = c.in_ok-visit_method.ensures.bound ∙ bound;

@@ -1,0 +1,4 @@
+-- in reading order
+pub mod TokenLemmas
+pub mod GrammarLemmas
+pub mod ProgramLaws
