@@ -12,6 +12,7 @@ use Rattle.asp_model.specs.Term.{Tree, Trees, MethodHead, node, more, none, one,
 use Rattle.asp_model.specs.Term as term
 use Rattle.asp_model.specs.Marked.{Marked, plain, plain_below, all_marked}
 use Rattle.asp_model.specs.Shapes.{MarkedMethod, term_step, method_step, tree_of, marked_of, method_of, sign_shape, stored_method}
+use Rattle.substitution.specs.Bindings.{service_text}
 use Rattle.substitution.specs.Objects.{put_in_method}
 
 abbrev IsCopied : Term → Type 0
@@ -70,6 +71,8 @@ layer_copied (layer.Get a l m) = λ i. one (term.Get l.text) (a.value.1 i)
 layer_copied (layer.Put a l b m) = λ i. two (term.Put l.text) (a.value.1 i) (b.value.1 i)
 layer_copied (layer.Call a l ts m) = λ i. node (term.Call l.text) (more (a.value.1 i) (terms_copied ts.items i))
 layer_copied (layer.Clone a m) = λ i. one term.Clone (a.value.1 i)
+layer_copied (layer.Active a l m) = λ i. one (term.Active (service_text l)) (a.value.1 i)
+layer_copied (layer.Serve ls m) = refl
 layer_copied (layer.Let x a b m) = λ i. two (term.Let x) (a.value.1 i) (b.value.1 i)
 layer_copied (layer.Steps ts m) = λ i. node term.Steps (terms_copied ts.items i)
 layer_copied (layer.If a b c m) = λ i. node term.If (more (a.value.1 i) (more (b.value.1 i) (more (c.value.1 i) none)))

@@ -1,5 +1,5 @@
 -- The trees of terms, variant by variant.
-use Rattle.std.proofs.Common.{◌≡◌, ℕ, ℤ, List, [], ◌∷◌, ◌++◌, map, refl, sym, ap, ◌∙◌}
+use Rattle.std.proofs.Common.{◌≡◌, ℕ, ℤ, List, Option, [], ◌∷◌, ◌++◌, map, refl, sym, ap, ◌∙◌}
 use Rattle.std.specs.Global.{Box, Vec}
 use Rattle.asp_model.specs.declared.word.Label.{Label}
 use Rattle.asp_model.specs.declared.term.Sign.{Sign}
@@ -7,7 +7,7 @@ use Rattle.asp_model.specs.declared.term.Mark.{Mark}
 use Rattle.asp_model.specs.declared.term.Term.{Term}
 use Rattle.asp_model.specs.declared.term.Method.{Method}
 use Rattle.asp_model.specs.declared.term.Term.TheOpen as layer
-use Rattle.asp_model.specs.declared.term.Term.TheVariants.{Loc, Hole, Var, Number, Make, Get, Put, Call, Clone, Let, Steps, If, Repeat, Operate, Print, Echo, rolls-Loc, rolls-Hole, rolls-Var, rolls-Number, rolls-Make, rolls-Get, rolls-Put, rolls-Call, rolls-Clone, rolls-Let, rolls-Steps, rolls-If, rolls-Repeat, rolls-Operate, rolls-Print, rolls-Echo}
+use Rattle.asp_model.specs.declared.term.Term.TheVariants.{Loc, Hole, Var, Number, Make, Get, Put, Call, Clone, Active, Serve, Let, Steps, If, Repeat, Operate, Print, Echo, rolls-Loc, rolls-Hole, rolls-Var, rolls-Number, rolls-Make, rolls-Get, rolls-Put, rolls-Call, rolls-Clone, rolls-Active, rolls-Serve, rolls-Let, rolls-Steps, rolls-If, rolls-Repeat, rolls-Operate, rolls-Print, rolls-Echo}
 use Rattle.asp_model.specs.declared.term.Term.TheFolds.{fold-roll-Term, fold-roll-Method}
 use Rattle.asp_model.specs.Names.{Text}
 use Rattle.asp_model.specs.Term as term
@@ -15,6 +15,7 @@ use Rattle.asp_model.specs.Term.{Tree, Trees, MethodHead, node, none, more, tree
 use Rattle.asp_model.specs.Store.{MethodShape}
 use Rattle.asp_model.specs.Marked.{Marked, all_marked, plain, plain_below}
 use Rattle.asp_model.specs.Shapes.{MarkedMethod, term_step, method_step, marked_of, method_of, tree_of, stored_method, sign_shape, field_of, make_shape, mark_shape}
+use Rattle.substitution.specs.Bindings.{label_text, service_text}
 use Rattle.substitution.specs.Objects.{field_tree, object_tree}
 
 plain_terms : (ts : List Term) → plain_below (all_marked (map marked_of ts)) ≡ trees (map tree_of ts)
@@ -46,6 +47,12 @@ call_is a l ts m =
 
 pub clone_is : (a : Box Term) (m : Mark) → tree_of (Clone a m) ≡ one term.Clone (tree_of a.value)
 clone_is a m = ap tree_of (sym (rolls-Clone a m)) ∙ ap plain (fold-roll-Term Marked MarkedMethod term_step method_step (layer.Clone a m))
+
+pub active_is : (a : Box Term) (l : Option Label) (m : Mark) → tree_of (Active a l m) ≡ one (term.Active (service_text l)) (tree_of a.value)
+active_is a l m = ap tree_of (sym (rolls-Active a l m)) ∙ ap plain (fold-roll-Term Marked MarkedMethod term_step method_step (layer.Active a l m))
+
+pub serve_is : (ls : Vec Label) (m : Mark) → tree_of (Serve ls m) ≡ leaf (term.Serve (map label_text ls.items))
+serve_is ls m = ap tree_of (sym (rolls-Serve ls m)) ∙ ap plain (fold-roll-Term Marked MarkedMethod term_step method_step (layer.Serve ls m))
 
 pub let_is : (x : List ℕ) (a b : Box Term) (m : Mark) → tree_of (Let x a b m) ≡ two (term.Let x) (tree_of a.value) (tree_of b.value)
 let_is x a b m = ap tree_of (sym (rolls-Let x a b m)) ∙ ap plain (fold-roll-Term Marked MarkedMethod term_step method_step (layer.Let x a b m))
@@ -102,4 +109,4 @@ make_is fs ms m =
 pub method_is : (m : Method) → method_of m ≡ record { head = record { label = m.label.text; slf = m.slf; parameters = m.parameters.items }; body = marked_of m.body }
 method_is m = fold-roll-Method Marked MarkedMethod term_step method_step (record { label = m.label; slf = m.slf; parameters = m.parameters; body = m.body })
 
-pub ruleset trees_are = (loc_is, hole_is, var_is, number_is, make_is, get_is, put_is, call_is, clone_is, let_is, steps_is, if_is, repeat_is, operate_is, print_is, echo_is)
+pub ruleset trees_are = (loc_is, hole_is, var_is, number_is, make_is, get_is, put_is, call_is, clone_is, active_is, serve_is, let_is, steps_is, if_is, repeat_is, operate_is, print_is, echo_is)

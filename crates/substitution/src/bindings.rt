@@ -1,9 +1,9 @@
 //! What variables stand for, and copies of names.
 
-ghost use Rattle.std.specs.Prelude.{◌≡◌, ◌∷◌, ◌||◌, IfOk, string_bytes};
+ghost use Rattle.std.specs.Prelude.{◌≡◌, ◌∷◌, ◌||◌, map, IfOk, string_bytes};
 ghost use Rattle.asp_model.specs.Names.{same_text};
 ghost use Rattle.asp_model.specs.Term.{has_text, location_of, without};
-ghost use Rattle.substitution.specs.Bindings.{environment};
+ghost use Rattle.substitution.specs.Bindings.{environment, label_text, service_text};
 
 use asp_model::{Label, Place, Word};
 use std::alloc::{AllocError, Global};
@@ -71,6 +71,26 @@ pub fn copy_label(alloc: Global, label: &Label) -> Result<Label, AllocError>
     Ok(Label {
         text: copy_word(alloc, &label.text)?,
     })
+}
+
+pub fn copy_labels(alloc: Global, labels: &[Label]) -> Result<Vec<Label>, AllocError>
+    ensures same { IfOk result (λ r. map label_text r.items ≡ map label_text labels.now) }
+{
+    let mut copies = Vec::new(alloc);
+    for label in labels {
+        copies.push(copy_label(alloc, label)?)?;
+    }
+    Ok(copies)
+}
+
+/// The label of the method that a created activity begins with.
+pub fn copy_service(alloc: Global, service: &Option<Label>) -> Result<Option<Label>, AllocError>
+    ensures same { IfOk result (λ r. service_text r ≡ service_text service.now) }
+{
+    match service {
+        None => Ok(None),
+        Some(label) => Ok(Some(copy_label(alloc, label)?)),
+    }
 }
 
 pub fn copy_words(alloc: Global, words: &[Word]) -> Result<Vec<Word>, AllocError>

@@ -2,16 +2,20 @@
 
 ghost use Rattle.std.specs.Prelude.{◌≡◌, map, IfOk};
 ghost use Rattle.asp_model.specs.Term.{location_of, put_in as term_in, variable_or};
-ghost use Rattle.asp_model.specs.Shapes.{tree_of, stored_method};
-ghost use Rattle.substitution.specs.Bindings.{environment};
+ghost use Rattle.asp_model.specs.Shapes.{mark_shape, tree_of, stored_method};
+ghost use Rattle.substitution.specs.Bindings.{environment, no_mark};
 ghost use Rattle.substitution.specs.Objects.{field_tree, put_in_field, put_in_method};
 
-use crate::bindings::{Binding, copy_label, copy_word, copy_words, place_of, without_names};
+use crate::bindings::{
+    Binding, copy_label, copy_labels, copy_service, copy_word, copy_words, place_of, without_names,
+};
 use asp_model::{Label, Mark, Method, Term, Word};
 use std::alloc::{AllocError, Global};
 
 /// The mark of a node that stood in no text.
-pub fn blank_mark(alloc: Global) -> Mark {
+pub fn blank_mark(alloc: Global) -> Mark
+    ensures mark { mark_shape result ≡ no_mark }
+{
     Mark {
         at: 0,
         parentheses: 0,
@@ -61,6 +65,12 @@ pub fn put_in(alloc: Global, bindings: &[Binding], term: &Term) -> Result<Term, 
             boxed_in(alloc, bindings, object)?,
             blank_mark(alloc),
         )),
+        Term::Active(object, service, _) => Ok(Term::Active(
+            boxed_in(alloc, bindings, object)?,
+            copy_service(alloc, service)?,
+            blank_mark(alloc),
+        )),
+        Term::Serve(labels, _) => Ok(Term::Serve(copy_labels(alloc, labels)?, blank_mark(alloc))),
         Term::Let(name, bound, body, _) => {
             let inner = without_names(alloc, name, &[], bindings)?;
             Ok(Term::Let(

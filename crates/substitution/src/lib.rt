@@ -4,5 +4,7 @@
 mod bindings;
 mod copy;
 
-pub use bindings::{Binding, copy_label, is_same};
+pub use bindings::{
+    Binding, copy_label, copy_labels, copy_service, copy_word, copy_words, is_same,
+};
 pub use copy::{blank_mark, copy_methods, copy_term, put_in};

@@ -1,0 +1,3 @@
+pub mod VisitLemmas
+pub mod CopyLemmas
+pub mod UnpackLemmas

@@ -1,0 +1,54 @@
+-- The tree's entries are the definitions' map.
+use Rattle.std.proofs.Common.{◌≡◌, suc, true, false, cond, length, map, List, [], ◌∷◌, Option, Some, None, Bor, refl, sym, ap, ◌∙◌}
+use Rattle.std.specs.Option.{option_map, option_copied}
+use Rattle.std.specs.Map.{lookup}
+use Rattle.std.specs.FinMap.{find, put}
+use Rattle.std.specs.BTreeMap.{is_at, insert_entry}
+use Rattle.std.specs.declared.cmp.Ordering.{Ordering}
+use Rattle.std.specs.declared.cmp.Ordering.TheVariants.{Less, Equal, Greater}
+use Rattle.std.specs.Ordering.{is_eq, match_ordering}
+use Rattle.std.specs.FinMap.Entries.{by_order}
+use Rattle.asp_model.specs.declared.name.FutureName.{FutureName}
+use Rattle.asp_model.specs.declared.store.Parcel.{Parcel}
+use Rattle.asp_model.specs.contracts.name.FutureNameOrd.TheImpl as ordering
+use Rattle.asp_model.specs.Names.{future_cmp}
+use Rattle.asp_model.specs.Chase.{Values, lead, lead_of}
+use Rattle.asp_model.specs.Shapes.{future_shape, parcel_shape}
+use Rattle.future_table.specs.Values.{values_of}
+
+abbrev pub name_order : FutureName → FutureName → Ordering
+name_order = ordering.ghosts.cmp
+
+pub found_shape : (f : FutureName) (es : List (FutureName × Parcel)) → option_map parcel_shape (lookup (is_at (name_order f)) es) ≡ find future_cmp (future_shape f) (values_of es)
+found_shape f [] = refl
+found_shape f (e ∷ es) = elim (is_eq (future_cmp (future_shape f) (future_shape e.0))) as (λ b. option_map parcel_shape (cond b (Some e.1) (lookup (is_at (name_order f)) es)) ≡ cond b (Some (parcel_shape e.1)) (find future_cmp (future_shape f) (values_of es))) [
+  | true ↦ refl
+  | false ↦ found_shape f es
+]
+
+pub put_shape : (f : FutureName) (p : Parcel) (es : List (FutureName × Parcel)) → values_of (insert_entry name_order es f p) ≡ put future_cmp (future_shape f) (parcel_shape p) (values_of es)
+put_shape f p [] = refl
+put_shape f p (e ∷ es) = by (future_cmp (future_shape f) (future_shape e.0)) (put_shape f p es)
+  where
+    by : (o : Ordering) → values_of (insert_entry name_order es f p) ≡ put future_cmp (future_shape f) (parcel_shape p) (values_of es)
+        → values_of (match_ordering o ((f, p) ∷ e ∷ es) ((e.0, p) ∷ es) (e ∷ insert_entry name_order es f p)) ≡ by_order o ((future_shape f, parcel_shape p) ∷ values_of (e ∷ es)) ((future_shape e.0, parcel_shape p) ∷ values_of es) ((future_shape e.0, parcel_shape e.1) ∷ put future_cmp (future_shape f) (parcel_shape p) (values_of es))
+    by Less ih = refl
+    by Equal ih = refl
+    by Greater ih = ap (λ (vs : Values). (future_shape e.0, parcel_shape e.1) ∷ vs) ih
+
+pub lent_shape : (o : Option (Bor Parcel)) → option_map (λ (p : Bor Parcel). parcel_shape p.now) o ≡ option_map parcel_shape (option_copied o)
+lent_shape None = refl
+lent_shape (Some p) = refl
+
+-- Steps of a walk
+
+pub step_found : (f : FutureName) (es : List (FutureName × Parcel)) (o : Option Parcel) → o ≡ lookup (is_at (name_order f)) es → lead (values_of es) (future_shape f) ≡ lead_of (option_map parcel_shape o)
+step_found f es o e = sym (ap lead_of (ap (option_map parcel_shape) e ∙ found_shape f es))
+
+pub keys_shape : (es : List (FutureName × Parcel)) → map future_shape (map (λ (e : FutureName × Parcel). e.0) es) ≡ map (λ v. v.0) (values_of es)
+keys_shape [] = refl
+keys_shape (e ∷ es) = ap (λ fs. future_shape e.0 ∷ fs) (keys_shape es)
+
+pub values_count : (es : List (FutureName × Parcel)) → length (values_of es) ≡ length es
+values_count [] = refl
+values_count (e ∷ es) = ap suc (values_count es)

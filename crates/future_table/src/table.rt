@@ -1,0 +1,75 @@
+//! The table of filled futures.
+
+ghost use Rattle.std.specs.Prelude.{◌≡◌, None, OnErr, OnOk, [], length};
+ghost use Rattle.std.specs.FinMap.{find, put};
+ghost use Rattle.std.specs.Option.{option_map};
+ghost use Rattle.asp_model.specs.Chase.{chase as chase_of};
+ghost use Rattle.asp_model.specs.Names.{future_cmp};
+ghost use Rattle.asp_model.specs.Shapes.{future_shape, parcel_shape};
+ghost use Rattle.future_table.specs.Values.{chase_shape, told, values_of};
+
+use crate::walk::{Chase, chase_in};
+use asp_model::{FutureName, Parcel};
+use std::alloc::{AllocError, Global};
+use std::collections::BTreeMap;
+use std::marker::Model;
+
+/// The filled futures with their values, seen as entries in ascending order of names.
+#[derive(Drop)]
+pub struct FutureTable {
+    filled: BTreeMap<FutureName, Parcel>,
+}
+
+impl Model for FutureTable {
+    ghost use Rattle.std.specs.Prelude.{List};
+    ghost use Rattle.asp_model.specs.declared.name.FutureName.{FutureName};
+    ghost use Rattle.asp_model.specs.declared.store.Parcel.{Parcel};
+    ghost use Rattle.asp_model.specs.contracts.term.Term as term;
+    ghost use Rattle.asp_model.specs.contracts.term.Method as method;
+    ghost use Rattle.std.specs.Coded.{codes};
+
+    ghost Value = { List (FutureName × Parcel) };
+
+    ghost coded = { Prim.hlevel (codes, term.the_row.coded, method.the_row.coded) };
+
+    ghost view = { λ t. t.filled.entries };
+}
+
+impl FutureTable {
+    /// A table with no future.
+    pub fn new(alloc: Global) -> FutureTable
+        ensures values { values_of result ≡ [] }
+    {
+        FutureTable {
+            filled: BTreeMap::new(alloc),
+        }
+    }
+
+    /// Gives a future its value.
+    pub fn fill(&mut self, name: FutureName, value: Parcel) -> Result<(), AllocError>
+        requires absent { find future_cmp (future_shape name) (values_of self.old) ≡ None }
+        requires one_root { length value.roots.items ≡ 1 }
+        ensures values { let old = values_of self.old in OnOk result
+            (values_of self.new ≡ put future_cmp (future_shape name) (parcel_shape value) old) }
+        ensures err { OnErr result (self.new ≡ self.old) }
+    {
+        self.filled.insert(name, value)?;
+        Ok(())
+    }
+
+    /// The value of a future, if it is filled.
+    pub fn value(&self, name: &FutureName) -> Option<&Parcel>
+        ensures value { option_map (λ p. parcel_shape p.now) result
+            ≡ find future_cmp (future_shape name.now) (values_of self.now) }
+    {
+        self.filled.get(name)
+    }
+
+    /// Where the walk from a future ends.
+    pub fn chase<'a>(&'a self, name: &'a FutureName) -> Chase<'a>
+        ensures chase { let c = chase_of (values_of self.now) (future_shape name.now) in
+            chase_shape result ≡ told c }
+    {
+        chase_in(&self.filled, name)
+    }
+}

@@ -1,0 +1,45 @@
+-- What an index says of each future.
+use Rattle.std.specs.Prelude.{◌≡◌, ℕ, Bool, true, false, not, ◌&&◌, List, [], Option, Some, None, map}
+use Rattle.indexmap.specs.IndexMap.{get}
+use Rattle.asp_model.specs.declared.name.FutureName.{FutureName}
+use Rattle.asp_model.specs.contracts.name.FutureNamePartialEq.TheImpl as equality
+use Rattle.asp_model.specs.declared.store.Cell.{Cell}
+use Rattle.asp_model.specs.Shapes.{cell_shape, future_shape}
+use Rattle.object_store.specs.Ascending.{IsAscending}
+use Rattle.object_store.specs.Holders.{holders, is_future}
+use Rattle.object_store.specs.declared.index.Index.{Index}
+
+abbrev pub is_same : FutureName → FutureName → Bool
+is_same = equality.ghosts.eq
+
+abbrev pub or_none : Option (List ℕ) → List ℕ
+or_none None = []
+or_none (Some places) = places
+
+abbrev pub places_in : Index → FutureName → List ℕ
+places_in index f = or_none (get is_same index.held f)
+
+abbrev pub IsAlike : (old new : Index) → Type 0
+IsAlike old new = (f : FutureName) → places_in new f ≡ places_in old f
+
+-- the places of some futures change so, and those of the others stay
+abbrev pub ChangesWhere : (FutureName → Bool) → (List ℕ → List ℕ) → (old new : Index) → Type 0
+ChangesWhere test change old new = (f : FutureName) → places_in new f ≡ elim (test f) [ true ↦ change (places_in old f) | false ↦ places_in old f ]
+
+abbrev pub Changes : FutureName → (List ℕ → List ℕ) → (old new : Index) → Type 0
+Changes f = ChangesWhere (is_same f)
+
+abbrev pub IsInOrder : Index → Type 0
+IsInOrder index = (f : FutureName) → IsAscending (places_in index f)
+
+-- the cell is the future
+abbrev pub is_in_cell : Cell → FutureName → Bool
+is_in_cell c f = is_future (future_shape f) (cell_shape c)
+
+-- the cell is the future, and the one that takes its place is not
+abbrev pub is_given_up : Cell → Cell → FutureName → Bool
+is_given_up c d f = is_in_cell c f && not (is_in_cell d f)
+
+-- the index says where the cells hold each future
+abbrev pub IsIndexed : Index → List Cell → Type 0
+IsIndexed index cells = (f : FutureName) → places_in index f ≡ holders (future_shape f) (map cell_shape cells)

@@ -1,0 +1,9 @@
+//! The store of an activity: its cells, with an index of the places that hold each future.
+#![tactic(auto)]
+
+mod fields;
+mod index;
+mod places;
+mod store;
+
+pub use store::Store;

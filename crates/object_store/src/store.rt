@@ -1,0 +1,247 @@
+//! Cells by their places. A place stays what it is, since no cell is ever taken out.
+
+ghost use Rattle.std.specs.Prelude.{
+  ◌≡◌,
+  ◌<◌,
+  ◌≤◌,
+  ◌-◌,
+  ◌^◌,
+  ◌∷◌,
+  ◌++◌,
+  [],
+  IfOk,
+  IsOk,
+  OnErr,
+  OnOk,
+  false,
+  is_some,
+  length,
+  map,
+  take,
+};
+ghost use Rattle.std.specs.Option.{IfSome, OnSome};
+ghost use Rattle.asp_model.specs.Store.{cell as cell_at, with_cell};
+ghost use Rattle.asp_model.specs.Parcel.{with_cells_at};
+ghost use Rattle.asp_model.specs.Shapes.{cell_shape, future_shape};
+ghost use Rattle.object_store.specs.Holders.{holders};
+ghost use Rattle.object_store.specs.View.{
+  IsObject,
+  field_in,
+  grafted,
+  holds_future,
+  store_of,
+  with_field_in,
+};
+
+use crate::fields::set_in_cells;
+use crate::index::Index;
+use asp_model::{Cell, FutureName, Label, Place};
+use std::alloc::{AllocError, Global};
+use std::marker::Model;
+use std::mem;
+
+/// The cells of one activity, in the order in which they were added. No call ties `AllocError` to
+/// what it asks for.
+#[derive(Drop)]
+pub struct Store {
+    cells: Vec<Cell>,
+    spare: usize,
+    index: Index,
+}
+
+impl Model for Store {
+    ghost use Rattle.object_store.specs.View.{StoreView};
+
+    ghost Value = { StoreView };
+
+    ghost use Rattle.asp_model.specs.contracts.term.Term as term;
+    ghost use Rattle.asp_model.specs.contracts.term.Method as method;
+    ghost use Rattle.std.specs.Coded.{codes};
+
+    ghost coded = { Prim.hlevel (codes, term.the_row.coded, method.the_row.coded) };
+
+    ghost use Rattle.object_store.specs.Stored.{IsStored, view_of};
+
+    ghost view = { view_of };
+
+    ghost invariant = { IsStored };
+}
+
+impl Store {
+    /// A store with no cells.
+    pub fn new(alloc: Global) -> Store
+        ensures cells { result.cells ≡ [] }
+        ensures spare { result.spare ≡ 0 }
+    {
+        Store {
+            cells: Vec::new(alloc),
+            spare: 0,
+            index: Index::new(alloc),
+        }
+    }
+
+    pub fn len(&self) -> Place
+        ensures { result ≡ length self.now.cells }
+    {
+        self.cells.len() as u128
+    }
+
+    /// Appends a cell, and answers its place.
+    pub fn add(&mut self, cell: Cell) -> Result<Place, AllocError>
+        ensures place { IfOk result (λ place. place ≡ length self.old.cells) }
+        ensures cells { OnOk result
+            (store_of self.new ≡ store_of self.old ++ cell_shape cell ∷ []) }
+        ensures spare { OnOk result (self.new.spare ≡ self.old.spare - 1) }
+        ensures room { 0 < self.old.spare → holds_future cell ≡ false → IsOk result }
+        ensures err { OnErr result (self.new ≡ self.old) }
+    {
+        let place = self.len();
+        self.append(cell)?;
+        Ok(place)
+    }
+
+    /// Makes room for so many more cells.
+    pub fn reserve(&mut self, more: u32) -> Result<(), AllocError>
+        ensures cells { self.new.cells ≡ self.old.cells }
+        ensures spare { OnOk result (more ≤ self.new.spare) }
+        ensures err { OnErr result (self.new ≡ self.old) }
+    {
+        let spare = self.spare.max(more as usize);
+        self.cells.reserve(spare)?;
+        self.spare = spare;
+        Ok(())
+    }
+
+    pub fn cell(&self, loc: Place) -> &Cell
+        requires within { loc < length self.now.cells }
+        ensures cell { cell_shape result.now ≡ cell_at (store_of self.now) loc }
+    {
+        &self.cells[loc as usize]
+    }
+
+    /// Sets a field of an object, and answers whether the object has it.
+    pub fn set_field(&mut self, loc: Place, label: &Label, to: Place) -> bool
+        requires within { loc < length self.old.cells }
+        requires to_within { to < length self.old.cells }
+        requires object { IsObject (cell_at (store_of self.old) loc) }
+        ensures found { let object = cell_at (store_of self.old) loc in
+            result ≡ is_some (field_in label.now.text object) }
+        ensures cells { let s = store_of self.old in
+            store_of self.new
+            ≡ with_cell s loc (with_field_in label.now.text to (cell_at s loc)) }
+        ensures spare { self.new.spare ≡ self.old.spare }
+    {
+        set_in_cells(&mut self.cells, loc, label, to)
+    }
+
+    /// Puts a cell in the place of another.
+    pub fn replace(&mut self, loc: Place, cell: Cell) -> Result<(), AllocError>
+        requires within { loc < length self.old.cells }
+        ensures cells { OnOk result
+            (store_of self.new ≡ with_cell (store_of self.old) loc (cell_shape cell)) }
+        ensures spare { self.new.spare ≡ self.old.spare }
+        ensures err { OnErr result (self.new ≡ self.old) }
+    {
+        self.index.hold(&cell, loc)?;
+        let old = mem::replace(&mut self.cells[loc as usize], cell);
+        self.index.give_up(old, &self.cells[loc as usize], loc);
+        Ok(())
+    }
+
+    /// Appends cells, or puts the first one at a place and appends the others. It answers the length
+    /// before, where the first of the appended cells then stands.
+    pub fn graft(&mut self, at: Option<Place>, cells: Vec<Cell>) -> Result<Place, AllocError>
+        requires within { IfSome at (λ loc. loc < length self.old.cells) }
+        requires some { OnSome at (0 < length cells.items) }
+        ensures length { IfOk result (λ place. place ≡ length self.old.cells) }
+        ensures cells { OnOk result
+            (store_of self.new ≡ grafted (store_of self.old) at (map cell_shape cells.items)) }
+        ensures fits { OnOk result (length (store_of self.new) < 2 ^ 128) }
+        ensures err { OnErr result (self.new.cells ≡ self.old.cells) }
+    {
+        let before = self.len();
+        match at {
+            None => self.append_all(cells)?,
+            Some(loc) => self.graft_at(loc, cells)?,
+        }
+        // Read for `fits`: the number of cells is a place.
+        let _after = self.len();
+        Ok(before)
+    }
+
+    /// The places whose cell is this future, ascending.
+    pub fn holders_of(&self, future: &FutureName) -> &[Place]
+        ensures holders { result.now ≡ holders (future_shape future.now) (store_of self.now) }
+    {
+        self.index.places(future)
+    }
+
+    fn append(&mut self, cell: Cell) -> Result<(), AllocError>
+        ensures cells { OnOk result (self.new.cells ≡ self.old.cells ++ cell ∷ []) }
+        ensures spare { OnOk result (self.new.spare ≡ self.old.spare - 1) }
+        ensures room { 0 < self.old.spare → holds_future cell ≡ false → IsOk result }
+        ensures err { OnErr result (self.new ≡ self.old) }
+    {
+        self.cells.reserve(1)?;
+        self.index.hold(&cell, self.cells.len() as u128)?;
+        self.cells.push(cell).unwrap();
+        self.spare = self.spare.saturating_sub(1);
+        Ok(())
+    }
+
+    // Takes the last cell out again.
+    fn unappend(&mut self)
+        requires { 0 < length self.old.cells }
+        ensures { self.new.cells ≡ take (length self.old.cells - 1) self.old.cells }
+    {
+        let last = self.cells.pop().unwrap();
+        self.index.release(&last, self.cells.len() as u128);
+    }
+
+    // Takes cells out at the end, down to so many.
+    fn shorten_to(&mut self, count: usize)
+        requires { count ≤ length self.old.cells }
+        ensures { self.new.cells ≡ take count self.old.cells }
+    {
+        while count < self.cells.len() {
+            self.unappend();
+        }
+    }
+
+    // Appends all cells or none.
+    fn append_all(&mut self, cells: Vec<Cell>) -> Result<(), AllocError>
+        ensures cells { OnOk result (self.new.cells ≡ self.old.cells ++ cells.items) }
+        ensures err { OnErr result (self.new.cells ≡ self.old.cells) }
+    {
+        let count = self.cells.len();
+        self.cells.reserve(cells.len())?;
+        for cell in cells {
+            if self.append(cell).is_err() {
+                self.shorten_to(count);
+                return Err(AllocError);
+            }
+        }
+        Ok(())
+    }
+
+    // Puts the first cell at a place and appends the others, or does nothing.
+    fn graft_at(&mut self, loc: Place, mut cells: Vec<Cell>) -> Result<(), AllocError>
+        requires within { loc < length self.old.cells }
+        requires some { 0 < length cells.items }
+        ensures cells { let s = store_of self.old in
+            OnOk result (store_of self.new ≡ with_cells_at s loc (map cell_shape cells.items)) }
+        ensures err { OnErr result (self.new.cells ≡ self.old.cells) }
+    {
+        let count = self.cells.len();
+        cells.rotate_left(1);
+        let first = cells.pop().unwrap();
+        self.append_all(cells)?;
+        match self.replace(loc, first) {
+            Ok(()) => Ok(()),
+            Err(refused) => {
+                self.shorten_to(count);
+                Err(refused)
+            }
+        }
+    }
+}
