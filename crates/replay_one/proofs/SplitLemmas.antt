@@ -4,9 +4,10 @@ use Rattle.std.proofs.lemmas.List.{append-nil}
 use Rattle.std.proofs.lemmas.Bool.{false≢true}
 use Rattle.asp_model.specs.Term.{Head, Loc, Call, Group, Tree, Trees, node, none, more, loc, locs_then, child_count}
 use Rattle.asp_model.specs.Split.{Context, Redex, Split, Stands, Splits, split, split_below, plugged, plug, reduced_count}
-use Rattle.replay_one.specs.Laws.{is_loc, redex_node, IsRedex, IsContext, AreContexts, HasBareLocations, HaveBareLocations}
-use Rattle.replay_one.proofs.NestedLemmas.{went_on, split_at, plug_snoc}
-use Rattle.replay_one.proofs.NodeLemmas.{locs_snoc, split_none}
+use Rattle.plain_term.specs.Redexes.{redex_node}
+use Rattle.plain_term.proofs.NestedLemmas.{went_on, split_at, plug_snoc}
+use Rattle.plain_term.proofs.NodeLemmas.{locs_snoc, split_none}
+use Rattle.replay_one.specs.Splitting.{is_loc, IsRedex, IsContext, AreContexts, HasBareLocations, HaveBareLocations}
 
 split_node : (h : Head) (ts : Trees) → is_loc h ≡ false → split (node h ts) ≡ split_below h (reduced_count h ts) [] ts
 split_node (Loc n) ts e = absurd (false≢true (sym e))

@@ -1,13 +1,12 @@
 -- What the outcome of a run says.
-use Rattle.std.specs.Prelude.{◌≡◌, ℕ, List, [], ◌∷◌, map}
-use Rattle.asp_model.specs.Names.{main_name}
+use Rattle.std.specs.Prelude.{◌≡◌, ℕ}
 use Rattle.asp_model.specs.Term.{Tree}
-use Rattle.asp_model.specs.Contraction.{LineShape}
-use Rattle.asp_model.specs.Plan.{StatusShape}
+use Rattle.asp_model.specs.Status.{Budget}
 use Rattle.asp_model.specs.Step.{ListsShape}
-use Rattle.asp_model.specs.Status.{Budget, verdict_among}
-use Rattle.asp_model.specs.Replay.{CountsShape, Fits, replay, total}
+use Rattle.asp_model.specs.Replay.{CountsShape, Fits, IsLeastDiverging, replay, total}
 use Rattle.asp_model.specs.Outcome.{OutcomeShape, lists_in, counts_in, outcome_of}
+use Rattle.replay_one.specs.declared.replays.ReplayStop.{ReplayStop}
+use Rattle.replay_one.specs.declared.replays.ReplayStop.TheVariants as stop
 
 -- the outcome is that of the replay under its own sender lists and counts, which fit
 pub record IsReplayed (program : Tree) (o : OutcomeShape) : Type 0 where
@@ -18,6 +17,7 @@ pub record IsReplayed (program : Tree) (o : OutcomeShape) : Type 0 where
 abbrev pub IsSpent : ℕ → OutcomeShape → Type 0
 IsSpent budget o = o.verdict ≡ Budget → total (counts_in o) ≡ budget
 
--- the outcome of the main activity alone
-abbrev pub outcome_alone : ℕ → List LineShape → StatusShape → OutcomeShape
-outcome_alone n lines status = record { verdict = verdict_among (status ∷ []); activities = record { name = main_name; count = n; status = status; senders = []; lines = lines } ∷ [] }
+-- the replay leaves something else of this activity than lists and counts say, of none with a lesser name, and they do not fit; want of memory tells nothing
+abbrev pub IsStop : Tree → ListsShape → CountsShape → ReplayStop → Type 0
+IsStop program lists counts (stop.Diverged n) = IsLeastDiverging program lists counts n × (Fits program lists counts → ⊥)
+IsStop program lists counts stop.Memory = Unit {0}

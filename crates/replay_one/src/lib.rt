@@ -1,22 +1,20 @@
-//! The one-thread machine of the language, over plain lists: a term in a stack of contexts is reduced
-//! by substitution. It is what the machines for speed and for threads are measured against.
+//! The one-thread machine of the language: the least-named activity that can step takes one
+//! reduction, until none can. It runs a program within a budget, and replays a run from its sender
+//! lists and counts.
 #![tactic(auto)]
 
-mod cells;
-mod contracted;
-mod enter;
-mod fill;
-mod frame;
-mod laws;
-mod machine;
-mod numbers;
-mod objects;
-mod rows;
+mod bounds;
+mod difference;
+mod listed;
+mod outcome;
+mod pool;
+mod replays;
 mod run;
-mod state;
+mod schedule;
+mod splitting;
+mod turn;
 
-pub use laws::{splits_are_redexes, splits_one_way, splits_plug_back};
+pub use listed::{are_replayable, counts_in, lists_in};
+pub use replays::{ReplayStop, replay};
 pub use run::run_plain;
-
-#[cfg(test)]
-mod tests;
+pub use splitting::{splits_are_redexes, splits_one_way, splits_plug_back};

@@ -1,92 +1,74 @@
 //! The run of a program within a budget.
 
-ghost use Rattle.std.specs.Prelude.{◌≡◌, ◌≤◌, ◌∷◌, [], IfOk};
-ghost use Rattle.asp_model.specs.Configuration.{begun};
-ghost use Rattle.asp_model.specs.Outcome.{outcome_of, counts_in};
-ghost use Rattle.asp_model.specs.Replay.{plain_run, total};
-ghost use Rattle.asp_model.specs.Shapes.{outcome_shape, status_shape, tree_of, verdict_shape};
-ghost use Rattle.asp_model.specs.Status.{verdict_among};
-ghost use Rattle.asp_model.specs.Store.{Object as object_shape};
-ghost use Rattle.asp_model.specs.Term.{Tree};
+ghost use Rattle.std.specs.Prelude.{◌≡◌, ◌≤◌, [], IfOk, OnOk};
+ghost use Rattle.asp_model.specs.Term.{Tree, locations};
+ghost use Rattle.asp_model.specs.Configuration.{Configuration, start as start_of};
+ghost use Rattle.asp_model.specs.Outcome.{counts_in, outcome_of as outcome_shown};
+ghost use Rattle.asp_model.specs.Replay.{plain_run, steps_from, total as total_of};
+ghost use Rattle.asp_model.specs.Shapes.{outcome_shape, tree_of};
+ghost use Rattle.replay_one.specs.Bounds.{IsAscending, count_within, lists_within};
 ghost use Rattle.replay_one.specs.Correct.{IsReplayed, IsSpent};
-ghost use Rattle.replay_one.specs.Run.{activity_of, outcome_at};
+ghost use Rattle.replay_one.specs.Pool.{IsReachedPool};
+ghost use Rattle.replay_one.specs.Turn.{IsRunAt, IsRunSomewhere};
 
-use crate::machine::{Turn, take_turn};
-use crate::state::State;
+use crate::bounds::Bounds;
+use crate::outcome::outcome_of;
+use crate::turn::Machine;
 use asp_check::Checked;
-use asp_model::{ActivityName, ActivityReport, Cell, Object, Outcome, Status, Term, Verdict};
+use asp_model::{Outcome, Term};
 use std::alloc::{AllocError, Global};
 use substitution::copy_term;
 
-fn start(alloc: Global) -> Result<State, AllocError>
-    ensures start { IfOk result
-        (λ s. (t : Tree) → activity_of s t ≡ begun t (object_shape [] [] ∷ [])) }
-{
-    let mut cells = Vec::new(alloc);
-    cells.push(Cell::Object(Object {
-        fields: Vec::new(alloc),
-        methods: Vec::new(alloc),
-    }))?;
-    Ok(State {
-        frames: Vec::new(alloc),
-        cells,
-        lines: Vec::new(alloc),
-        count: 0,
-    })
-}
-
-fn verdict_of(status: Status) -> Verdict
-    ensures { verdict_shape result ≡ verdict_among (status_shape status ∷ []) }
-{
-    match status {
-        Status::Running => Verdict::Budget,
-        Status::Done | Status::Faulted(_) => Verdict::End,
+impl Machine {
+    /// Takes at most so many reductions, until nobody can take one.
+    pub fn run(&mut self, alloc: Global, bounds: &Bounds, total: u64) -> Result<(), AllocError>
+        requires ascending { IsAscending bounds.now }
+        requires running { IsRunSomewhere bounds.now self.old }
+        ensures runs { (program : Tree) (c : Configuration) →
+            IsRunAt bounds.now self.old program c →
+            let d = steps_from total (lists_within bounds.now) (count_within bounds.now) c in
+            OnOk result (IsReachedPool self.new.pool program d) }
+    {
+        for taken in 0..total {
+            if !self.step(alloc, bounds)? {
+                return Ok(());
+            }
+        }
+        Ok(())
     }
 }
 
-fn outcome_with(alloc: Global, state: State, status: Status) -> Result<Outcome, AllocError>
-    ensures outcome { IfOk result (λ o. outcome_shape o ≡ outcome_at state status) }
+/// Runs a term without places within bounds, with at most so many reductions in all.
+pub fn run_term(
+    alloc: Global,
+    program: &Term,
+    bounds: &Bounds,
+    total: u64,
+) -> Result<Outcome, AllocError>
+    requires bare { locations (tree_of program.now) ≡ [] }
+    requires ascending { IsAscending bounds.now }
+    ensures outcome { let first = start_of (tree_of program.now) in
+        let last = steps_from total (lists_within bounds.now) (count_within bounds.now) first in
+        IfOk result (λ o. outcome_shape o ≡ outcome_shown last) }
 {
-    let report = ActivityReport {
-        name: ActivityName::main(alloc)?,
-        count: state.count,
-        status,
-        senders: Vec::new(alloc),
-        lines: state.lines,
-    };
-    let mut activities = Vec::new(alloc);
-    activities.push(report)?;
-    Ok(Outcome {
-        verdict: verdict_of(status),
-        activities,
-    })
+    let mut machine = Machine::start(alloc, copy_term(alloc, program)?)?;
+    machine.run(alloc, bounds, total)?;
+    outcome_of(alloc, machine.pool)
 }
 
 /// Runs a program with at most as many reductions as the budget says.
 pub fn run_plain(alloc: Global, program: &Checked, budget: u64) -> Result<Outcome, AllocError>
-    ensures outcome { IfOk result (λ o. outcome_shape o ≡ outcome_of (plain_run budget (tree_of program.now.program.root))) }
-    ensures replays { IfOk result (λ o. IsReplayed (tree_of program.now.program.root) (outcome_shape o)) }
-    ensures within { IfOk result (λ o. total (counts_in (outcome_shape o)) ≤ budget) }
-    ensures spent { IfOk result (λ o. IsSpent budget (outcome_shape o)) }
-{
-    run_term(alloc, &program.program().root, budget)
-}
-
-/// Runs a term with at most as many reductions as the budget says.
-pub(crate) fn run_term(alloc: Global, program: &Term, budget: u64) -> Result<Outcome, AllocError>
     ensures outcome { IfOk result
-        (λ o. outcome_shape o ≡ outcome_of (plain_run budget (tree_of program.now))) }
-    ensures replays { IfOk result (λ o. IsReplayed (tree_of program.now) (outcome_shape o)) }
-    ensures within { IfOk result (λ o. total (counts_in (outcome_shape o)) ≤ budget) }
+        (λ o. outcome_shape o ≡ outcome_shown (plain_run budget (tree_of program.now.program.root))) }
+    ensures replays { IfOk result
+        (λ o. IsReplayed (tree_of program.now.program.root) (outcome_shape o)) }
+    ensures within { IfOk result (λ o. total_of (counts_in (outcome_shape o)) ≤ budget) }
     ensures spent { IfOk result (λ o. IsSpent budget (outcome_shape o)) }
 {
-    let mut state = start(alloc)?;
-    let mut focus = copy_term(alloc, program)?;
-    for _ in 0..u64::MAX {
-        match take_turn(alloc, &mut state, budget, focus)? {
-            Turn::Next(next) => focus = next,
-            Turn::Ends(status) => return outcome_with(alloc, state, status),
-        }
-    }
-    Err(AllocError)
+    run_term(
+        alloc,
+        &program.program().root,
+        &Bounds::Budget(budget),
+        budget,
+    )
 }

@@ -1,0 +1,10 @@
+pub mod Seen
+pub mod Contracted
+pub mod Numbers
+pub mod Rows
+pub mod Queue
+pub mod Operands
+pub mod Activity
+pub mod Effects
+pub mod Kinds
+pub mod Outlook

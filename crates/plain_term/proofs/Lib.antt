@@ -1,0 +1,3 @@
+pub mod NestedLemmas
+pub mod NodeLemmas
+pub mod RedexLemmas

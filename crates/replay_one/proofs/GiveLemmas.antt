@@ -1,0 +1,133 @@
+-- What an effect gives to others is handed on.
+use Rattle.std.proofs.Common.{◌≡◌, [], ℕ, true, List, Option, Some, None, length, refl, sym, ap, subst, ◌∙◌}
+use Rattle.std.specs.FinMap.{find, put}
+use Rattle.asp_model.specs.declared.name.FutureName.{FutureName}
+use Rattle.asp_model.specs.declared.store.Parcel.{Parcel}
+use Rattle.asp_model.specs.declared.store.Request.{Request}
+use Rattle.asp_model.specs.Names.{Name, FutureShape, name_cmp, future_cmp}
+use Rattle.asp_model.specs.Term.{Tree}
+use Rattle.asp_model.specs.Parcel.{ParcelShape}
+use Rattle.asp_model.specs.Chase.{Values}
+use Rattle.asp_model.specs.Configuration as model
+use Rattle.asp_model.specs.Configuration.{Configuration, RequestShape, requests_of}
+use Rattle.asp_model.specs.Plan.{Effect}
+use Rattle.asp_model.specs.Step.{ListsShape, put_some, with_effect, with_sent}
+use Rattle.asp_model.specs.Shapes.{future_shape, parcel_shape, request_shape}
+use Rattle.future_table.specs.Values.{values_of}
+use Rattle.laws.specs.Reached.{IsThere, Steps}
+use Rattle.laws.proofs.ClosedLaws.{reached_are_closed}
+use Rattle.laws.proofs.FrameLemmas.{effects_are_new}
+use Rattle.laws.proofs.LinkedLemmas.{plans_step, targets_are_there}
+use Rattle.laws.proofs.MapLemmas.{find_same, stays_there}
+use Rattle.laws.proofs.NameLemmas.{future_total, future_same, name_total, name_same, no_some, some_is}
+use Rattle.laws.proofs.ReachedLemmas.{moves_go_on}
+use Rattle.plain_activity.specs.declared.activity.Activity.{Activity}
+use Rattle.plain_activity.specs.declared.act.Given.TheVariants as given
+use Rattle.plain_activity.specs.Activity.{Stands}
+use Rattle.plain_activity.specs.Effects.{IsMade}
+use Rattle.schedules.specs.Schedules.{IsNextIn, IsSentTo}
+use Rattle.schedules.proofs.EffectLemmas.{absent_received_none}
+use Rattle.replay_one.specs.declared.pool.Pool.{Pool}
+use Rattle.replay_one.specs.declared.schedule.Schedule.{Schedule}
+use Rattle.replay_one.specs.Pool.{IsGiving, IsPool, with_activity, with_request, with_value}
+use Rattle.replay_one.specs.Schedule.{IsMoreReady, noted_in, ready_in}
+use Rattle.replay_one.specs.Turn.{IsHandedOn}
+
+-- the effect's configuration, by what it gives
+effect_of : (n : Name) (e : Effect) (c : Configuration) (s : Option (Name × RequestShape)) (m : Option (Name × model.Activity)) (f : Option (FutureShape × ParcelShape)) → e.sent ≡ s → e.made ≡ m → e.filled ≡ f
+    → record { activities = put_some name_cmp m (put name_cmp n e.own c.activities); received = with_sent s c.received; futures = put_some future_cmp f c.futures } ≡ with_effect n e c
+effect_of n e c s m f p q r = sym (λ i. record { activities = put_some name_cmp (q i) (put name_cmp n e.own c.activities); received = with_sent (p i) c.received; futures = put_some future_cmp (r i) c.futures })
+
+module _ (p : Pool) (n : Name) (program : Tree) (c : Configuration) (e : Effect) where
+  pub nothing_pool : IsGiving p n given.Nothing program c e → IsPool p (with_effect n e c)
+  nothing_pool h = subst (IsPool p) (effect_of n e c None None None h.given.0 h.given.1 h.given.2) h.pool
+
+  -- what is made
+  made_is : (o : Option (Name × model.Activity)) (m : Name) (x : Activity) → IsMade o m x → (b : model.Activity) × (o ≡ Some (m, b)) × Stands x b []
+  made_is None m x h = absurd h
+  made_is (Some z) m x h = (z.1, (λ i. Some (h.0 i, z.1)), h.1)
+
+  pub made_given : (m : Name) (x : Activity) → IsGiving p n (given.Made m x) program c e → (b : model.Activity) × (e.made ≡ Some (m, b)) × Stands x b []
+  made_given m x h = made_is e.made m x h.given.1
+
+  -- who is made has received nothing
+  pub made_alone : (m : Name) (x : Activity) → IsGiving p n (given.Made m x) program c e → requests_of (with_activity n e.own c) m ≡ []
+  made_alone m x h =
+      let b = made_given m x h in
+      absent_received_none program c m h.reached ((effects_are_new program c n e h.reached h.plans).made (m, b.0) b.1)
+
+  pub made_pool : (q : Pool) (m : Name) (x : Activity) (h : IsGiving p n (given.Made m x) program c e) → IsPool q (with_activity m (made_given m x h).0 (with_activity n e.own c)) → IsPool q (with_effect n e c)
+  made_pool q m x h k =
+      let b = made_given m x h in
+      subst (IsPool q) (effect_of n e c None (Some (m, b.0)) None h.given.0 b.1 h.given.2) k
+
+  pub sent_there : (to : Name) (r : Request) → IsGiving p n (given.Sent to r) program c e → IsThere (with_activity n e.own c) to
+  sent_there to r h = stays_there name_cmp name_total name_same n e.own c.activities to (targets_are_there program c n e (to, request_shape r) h.reached h.plans h.given.0)
+
+  pub sent_is : (to : Name) (r : Request) → IsGiving p n (given.Sent to r) program c e → with_request to (request_shape r) (with_activity n e.own c) ≡ with_effect n e c
+  sent_is to r h = effect_of n e c (Some (to, request_shape r)) None None h.given.0 h.given.1 h.given.2
+
+  pub filled_is : (f : FutureName) (v : Parcel) → IsGiving p n (given.Filled f v) program c e → with_value (future_shape f) (parcel_shape v) (with_activity n e.own c) ≡ with_effect n e c
+  filled_is f v h = effect_of n e c None None (Some (future_shape f, parcel_shape v)) h.given.0 h.given.1 h.given.2
+
+  -- the future was not filled
+  pub filled_new : (f : FutureName) (v : Parcel) → IsGiving p n (given.Filled f v) program c e → find future_cmp (future_shape f) (values_of p.futures) ≡ None
+  filled_new f v h = ap (λ (vs : Values). find future_cmp (future_shape f) vs) h.pool.futures ∙ (effects_are_new program c n e h.reached h.plans).filled (future_shape f, parcel_shape v) h.given.2
+
+  -- its value has one root
+  pub filled_root : (f : FutureName) (v : Parcel) → IsGiving p n (given.Filled f v) program c e → length v.roots.items ≡ 1
+  filled_root f v h =
+      let d : Configuration = with_effect n e c in
+      let reached = moves_go_on program c d (Steps None n) h.reached (plans_step program c n e h.reached h.plans) in
+      let value = (reached_are_closed program d h.bare reached).values (future_shape f) (parcel_shape v) (ap (λ o. find future_cmp (future_shape f) (put_some future_cmp o c.futures)) h.given.2 ∙ find_same future_cmp future_total future_same (future_shape f) (parcel_shape v) c.futures) in
+      ap (λ (ns : List ℕ). length ns) value.root
+
+  -- Who is ready then
+
+  pub nothing_handed : (lists : Option ListsShape) (s : Schedule) → IsGiving p n given.Nothing program c e → IsHandedOn lists c n e s s
+  nothing_handed lists s h = record {
+    made = λ m b is. no_some (sym h.given.1 ∙ is);
+    target = λ m is. no_some (sym h.given.0 ∙ is.1);
+    next = λ m q is. no_some (sym h.given.0 ∙ is.1);
+    filled = λ f q is. no_some (sym h.given.2 ∙ is.1);
+    ready = λ m r. r;
+    noted = λ f m d. refl;
+  }
+
+  pub made_handed : (lists : Option ListsShape) (s t : Schedule) (m : Name) (x : Activity) → IsGiving p n (given.Made m x) program c e → IsMoreReady s None t → ready_in t m ≡ true → IsHandedOn lists c n e s t
+  made_handed lists s t m x h more woken =
+      let b = made_given m x h in
+      record {
+        made = λ k a is. ap (ready_in t) (ap (λ (z : Name × model.Activity). z.0) (some_is (sym is ∙ b.1))) ∙ woken;
+        target = λ k is. no_some (sym h.given.0 ∙ is.1);
+        next = λ k q is. no_some (sym h.given.0 ∙ is.1);
+        filled = λ f q is. no_some (sym h.given.2 ∙ is.1);
+        ready = more.ready;
+        noted = λ f k d. more.noted f k no_some;
+      }
+
+  pub sent_handed : (lists : Option ListsShape) (s t : Schedule) (to : Name) (r : Request) → IsGiving p n (given.Sent to r) program c e → IsMoreReady s None t → ready_in t to ≡ true → ((q : Name) → IsNextIn lists (with_effect n e c) to q → ready_in t q ≡ true) → IsHandedOn lists c n e s t
+  sent_handed lists s t to r h more woken next =
+      let same : (m : Name) → IsSentTo e m → to ≡ m = λ m is. ap (λ (z : Name × RequestShape). z.0) (some_is (sym h.given.0 ∙ is.1)) in
+      record {
+        made = λ k a is. no_some (sym h.given.1 ∙ is);
+        target = λ m is. ap (ready_in t) (sym (same m is)) ∙ woken;
+        next = λ m q is i. next q (subst (λ k. IsNextIn lists (with_effect n e c) k q) (sym (same m is)) i);
+        filled = λ f q is. no_some (sym h.given.2 ∙ is.1);
+        ready = more.ready;
+        noted = λ f k d. more.noted f k no_some;
+      }
+
+  pub filled_handed : (lists : Option ListsShape) (s t : Schedule) (f : FutureName) (v : Parcel) → IsGiving p n (given.Filled f v) program c e → IsMoreReady s (Some (future_shape f)) t → ((m : Name) → noted_in s (future_shape f) m ≡ true → ready_in t m ≡ true) → IsHandedOn lists c n e s t
+  filled_handed lists s t f v h more woken = record {
+    made = λ k a is. no_some (sym h.given.1 ∙ is);
+    target = λ k is. no_some (sym h.given.0 ∙ is.1);
+    next = λ k q is. no_some (sym h.given.0 ∙ is.1);
+    filled = λ g q is noted. woken q (ap (λ k. noted_in s k q) (ap (λ (z : FutureShape × ParcelShape). z.0) (some_is (sym h.given.2 ∙ is.1))) ∙ noted);
+    ready = more.ready;
+    noted = λ g k d. more.noted g k (λ is. d (parcel_shape v, h.given.2 ∙ ap (λ k. Some (k, parcel_shape v)) (some_is is)));
+  }
+
+-- one after the other
+pub more_twice : (s t u : Schedule) → IsMoreReady s None t → IsMoreReady t None u → IsMoreReady s None u
+more_twice s t u x y = record { ready = λ m h. y.ready m (x.ready m h); noted = λ g m d. y.noted g m d ∙ x.noted g m d }

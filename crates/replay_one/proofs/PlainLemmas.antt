@@ -1,0 +1,59 @@
+-- What the run of one thread leaves, told of its outcome.
+use Rattle.std.proofs.Common.{◌≡◌, ◌≤◌, [], ℕ, Bool, true, false, cond, sym, ap, subst, ◌∙◌, ⊎_elim}
+use Rattle.std.specs.List.{list_any}
+use Rattle.asp_model.specs.Term.{Tree, locations}
+use Rattle.asp_model.specs.Configuration.{Configuration, start}
+use Rattle.asp_model.specs.Status.{End, Blocked, Budget, IsStuck, is_awaiting, statuses_of, verdict_of}
+use Rattle.asp_model.specs.Replay.{CountsShape, Fits, counts_of, plain_run, replay, total}
+use Rattle.asp_model.specs.Outcome.{OutcomeShape, counts_in, lists_in, outcome_of}
+use Rattle.asp_model.specs.Step.{ListsShape}
+use Rattle.asp_model.specs.Names.{main_name}
+use Rattle.laws.proofs.ReachedLemmas.{start_is_reached}
+use Rattle.laws.proofs.ReplayLemmas.{plain_runs_replay}
+use Rattle.laws.proofs.SpendLemmas.{plain_runs_spend}
+use Rattle.schedules.proofs.LeastLemmas.{main_is_ready}
+use Rattle.replay_one.specs.declared.bounds.Bounds.{Bounds}
+use Rattle.replay_one.specs.declared.turn.Machine.{Machine}
+use Rattle.replay_one.specs.Bounds.{count_within, lists_within}
+use Rattle.replay_one.specs.Correct.{IsReplayed, IsSpent}
+use Rattle.replay_one.specs.Pool.{IsPool}
+use Rattle.replay_one.specs.Schedule.{noted_in, ready_in}
+use Rattle.replay_one.specs.Turn.{IsRunAt}
+use Rattle.replay_one.proofs.ReportLemmas.{counts_shown, lists_shown}
+
+-- the machine at the start
+pub begins_run : (b : Bounds) (m : Machine) (program copied : Tree) → copied ≡ program → locations program ≡ [] → IsPool m.pool (start copied) → ready_in m.schedule main_name ≡ true → IsRunAt b m program (start program)
+begins_run b m program copied same bare pool ready = record {
+  bare = bare;
+  reached = start_is_reached program;
+  pool = subst (λ t. IsPool m.pool (start t)) same pool;
+  scheduled = main_is_ready program (lists_within b) (count_within b) (ready_in m.schedule) (noted_in m.schedule) ready;
+}
+
+module _ (n : ℕ) (program : Tree) (o : OutcomeShape) (e : o ≡ outcome_of (plain_run n program)) where
+  pub plain_replays : IsReplayed program o
+  plain_replays =
+      let c : Configuration = plain_run n program in
+      let r = plain_runs_replay n program in
+      let lists = lists_shown c in
+      let counts = counts_shown c in
+      let fits : Fits program (lists_in (outcome_of c)) (counts_in (outcome_of c)) = subst (λ (k : CountsShape). Fits program (lists_in (outcome_of c)) k) (sym counts) (subst (λ (l : ListsShape). Fits program l (counts_of c)) (sym lists) r.0) in
+      let same : outcome_of (replay program (lists_in (outcome_of c)) (counts_in (outcome_of c))) ≡ outcome_of c = (λ i. outcome_of (replay program (lists i) (counts i))) ∙ ap outcome_of r.1 in
+      let right : IsReplayed program (outcome_of c) = record { fits = fits; outcome = same } in
+      subst (IsReplayed program) (sym e) right
+
+  pub plain_within : total (counts_in o) ≤ n
+  plain_within = subst (λ (q : OutcomeShape). total (counts_in q) ≤ n) (sym e) (subst (λ (k : CountsShape). total k ≤ n) (sym (counts_shown (plain_run n program))) (plain_runs_spend n program).0)
+
+  not_budget : (b : Bool) → cond false Budget (cond b Blocked End) ≡ Budget → ⊥
+  not_budget true q = cc
+  not_budget false q = cc
+
+  stuck_ends : (c : Configuration) → IsStuck c → verdict_of c ≡ Budget → ⊥
+  stuck_ends c h q = not_budget (list_any is_awaiting (statuses_of c)) (sym (ap (λ b. cond b Budget (cond (list_any is_awaiting (statuses_of c)) Blocked End)) h) ∙ q)
+
+  pub plain_spent : IsSpent n o
+  plain_spent =
+      let c : Configuration = plain_run n program in
+      let here : IsSpent n (outcome_of c) = λ q. ⊎_elim (λ stuck. absurd (stuck_ends c stuck q)) (λ all. ap total (counts_shown c) ∙ all) (plain_runs_spend n program).1 in
+      subst (IsSpent n) (sym e) here

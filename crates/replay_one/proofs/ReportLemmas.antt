@@ -1,0 +1,153 @@
+-- The reports of the activities of a pool are those of its configuration.
+use Rattle.std.proofs.Common.{◌≡◌, ◌<◌, ◌||◌, ◌∷◌, [], Bool, T, List, Option, Some, None, length, map, refl, sym, ap, subst, ◌∙◌, inl, inr, ⊎_elim, arith}
+use Rattle.std.specs.List.{list_any}
+use Rattle.std.specs.List.Sorted.{IsStrictlySortedBy}
+use Rattle.std.specs.FinMap.{find, is_sorted}
+use Rattle.std.specs.Map.{keys_of}
+use Rattle.std.specs.Ordering.{ordering_reverse}
+use Rattle.std.specs.declared.cmp.Ordering.{Ordering}
+use Rattle.std.specs.declared.cmp.Ordering.TheVariants.{Less, Equal, Greater}
+use Rattle.asp_model.specs.declared.outcome.ActivityReport.{ActivityReport}
+use Rattle.asp_model.specs.Names.{Name, name_cmp}
+use Rattle.asp_model.specs.Order.{name_cmp_same}
+use Rattle.asp_model.specs.Chase.{Values, chase}
+use Rattle.asp_model.specs.Configuration as model
+use Rattle.asp_model.specs.Configuration.{Configuration, RequestShape, requests_of}
+use Rattle.asp_model.specs.Plan.{Rests, Done, plan}
+use Rattle.asp_model.specs.Status.{status_of, status_of_plan, statuses_of}
+use Rattle.asp_model.specs.Replay.{counts_of, lists_of}
+use Rattle.asp_model.specs.Outcome.{ActivityReportShape, activity_report, counts_in, lists_in, outcome_of}
+use Rattle.asp_model.specs.Shapes.{activity_shape, status_shape}
+use Rattle.asp_model.specs.Term.{Tree}
+use Rattle.future_table.specs.Values.{values_of}
+use Rattle.laws.specs.Reached.{IsAt}
+use Rattle.laws.specs.Closed.{IsClosed}
+use Rattle.laws.proofs.ClosedLaws.{reached_are_closed}
+use Rattle.laws.proofs.EntryLemmas.{In, entry_found, first_of_both, second_of_both}
+use Rattle.laws.proofs.NameLemmas.{name_total, name_case, no_some}
+use Rattle.laws.proofs.NamesLaws.{entries_ascend}
+use Rattle.plain_activity.specs.declared.activity.Activity.{Activity}
+use Rattle.plain_activity.specs.Activity.{Stands}
+use Rattle.plain_activity.proofs.ClosedLemmas.{stands_closed}
+use Rattle.replay_one.specs.declared.pool.Pool.{Pool}
+use Rattle.replay_one.specs.Pool.{IsReachedPool, StandsAt}
+use Rattle.replay_one.specs.Reports.{AreClosedStates, AreReportsOf, IsReportOf, report_with}
+use Rattle.replay_one.proofs.EntryLemmas.{absent_below, absent_less, find_head, find_skip, lookup_find, sorted_by}
+use Rattle.replay_one.proofs.PoolLemmas.{stands_no, stands_none}
+
+pub list_any_map : {X Y : Type 0} (p : Y → Bool) (f : X → Y) (xs : List X) → list_any p (map f xs) ≡ list_any (λ x. p (f x)) xs
+list_any_map p f [] = refl
+list_any_map p f (x ∷ xs) = ap (λ b. p (f x) || b) (list_any_map p f xs)
+
+-- Pairs
+
+abbrev ArePaired : Configuration → List (Name × Activity) → List (Name × model.Activity) → Type 0
+ArePaired c [] [] = Unit {0}
+ArePaired c [] (y ∷ ys) = ⊥
+ArePaired c (x ∷ xs) [] = ⊥
+ArePaired c (x ∷ xs) (y ∷ ys) = (x.0 ≡ y.0) × Stands x.1 y.1 (requests_of c y.0) × ArePaired c xs ys
+
+abbrev StandBy : Configuration → List (Name × Activity) → List (Name × model.Activity) → Type 0
+StandBy c xs ys = (n : Name) → StandsAt (find name_cmp n xs) (find name_cmp n ys) (requests_of c n)
+
+heads_stand : (x : Activity) (y : model.Activity) (o : Option Activity) (p : Option model.Activity) (rs : List RequestShape) → o ≡ Some x → p ≡ Some y → StandsAt o p rs → Stands x y rs
+heads_stand x y o p rs e f h = subst (λ q. StandsAt (Some x) q rs) f (subst (λ q. StandsAt q p rs) e h)
+
+some_none : {C : Type 0} (o : Option Activity) (p : Option model.Activity) (rs : List RequestShape) (x : Activity) → o ≡ Some x → p ≡ None → StandsAt o p rs → C
+some_none o p rs x e f h = no_some (sym (stands_no o rs (subst (λ q. StandsAt o q rs) f h)) ∙ e)
+
+none_some : {C : Type 0} (o : Option Activity) (p : Option model.Activity) (rs : List RequestShape) (y : model.Activity) → o ≡ None → p ≡ Some y → StandsAt o p rs → C
+none_some o p rs y e f h = no_some (sym (stands_none p rs (subst (λ q. StandsAt q p rs) e h)) ∙ f)
+
+both_none : (o : Option Activity) (p : Option model.Activity) (rs : List RequestShape) → o ≡ None → p ≡ None → StandsAt o p rs
+both_none o p rs e f = subst (λ q. StandsAt q p rs) (sym e) (subst (λ q. StandsAt None q rs) (sym f) tt)
+
+still_stand : (o o' : Option Activity) (p p' : Option model.Activity) (rs : List RequestShape) → o ≡ o' → p ≡ p' → StandsAt o p rs → StandsAt o' p' rs
+still_stand o o' p p' rs e f h = subst (λ q. StandsAt q p' rs) e (subst (λ q. StandsAt o q rs) f h)
+
+tails_stand : (c : Configuration) (x : Name × Activity) (xs : List (Name × Activity)) (y : Name × model.Activity) (ys : List (Name × model.Activity)) → T (is_sorted name_cmp (x ∷ xs)) → T (is_sorted name_cmp (y ∷ ys)) → x.0 ≡ y.0 → StandBy c (x ∷ xs) (y ∷ ys) → StandBy c xs ys
+tails_stand c x xs y ys s t e h n = ⊎_elim
+    (λ q. both_none (find name_cmp n xs) (find name_cmp n ys) (requests_of c n)
+    (ap (λ k. find name_cmp k xs) (q ∙ sym e) ∙ absent_below x.0 xs (first_of_both _ _ s))
+    (ap (λ k. find name_cmp k ys) q ∙ absent_below y.0 ys (first_of_both _ _ t)))
+    (λ d. still_stand (find name_cmp n (x ∷ xs)) (find name_cmp n xs) (find name_cmp n (y ∷ ys)) (find name_cmp n ys) (requests_of c n) (find_skip n x xs (λ q. d (q ∙ e))) (find_skip n y ys d) (h n))
+    (name_case n y.0)
+
+paired : (c : Configuration) (xs : List (Name × Activity)) (ys : List (Name × model.Activity)) → T (is_sorted name_cmp xs) → T (is_sorted name_cmp ys) → StandBy c xs ys → ArePaired c xs ys
+paired c [] [] s t h = tt
+paired c [] (y ∷ ys) s t h = none_some None (find name_cmp y.0 (y ∷ ys)) (requests_of c y.0) y.1 refl (find_head y ys) (h y.0)
+paired c (x ∷ xs) [] s t h = some_none (find name_cmp x.0 (x ∷ xs)) None (requests_of c x.0) x.1 (find_head x xs) refl (h x.0)
+paired c (x ∷ xs) (y ∷ ys) s t h = by (name_cmp x.0 y.0) refl (λ e. paired c xs ys (second_of_both _ _ s) (second_of_both _ _ t) (tails_stand c x xs y ys s t e h))
+  where
+    by : (r : Ordering) → name_cmp x.0 y.0 ≡ r → (x.0 ≡ y.0 → ArePaired c xs ys) → ArePaired c (x ∷ xs) (y ∷ ys)
+    by Less q ih = some_none (find name_cmp x.0 (x ∷ xs)) (find name_cmp x.0 (y ∷ ys)) (requests_of c x.0) x.1 (find_head x xs) (absent_less x.0 y ys q t) (h x.0)
+    by Equal q ih =
+        let e = name_cmp_same x.0 y.0 q in
+        (e, heads_stand x.1 y.1 (find name_cmp y.0 (x ∷ xs)) (find name_cmp y.0 (y ∷ ys)) (requests_of c y.0) (ap (λ k. find name_cmp k (x ∷ xs)) (sym e) ∙ find_head x xs) (find_head y ys) (h y.0), ih e)
+    by Greater q ih = none_some (find name_cmp y.0 (x ∷ xs)) (find name_cmp y.0 (y ∷ ys)) (requests_of c y.0) y.1 (absent_less y.0 x xs (name_total.antisymm y.0 x.0 ∙ ap ordering_reverse q) s) (find_head y ys) (h y.0)
+
+-- Reports
+
+abbrev AreThere : Configuration → List (Name × model.Activity) → Type 0
+AreThere c ys = (y : Name × model.Activity) → In y ys → IsAt c y.0 y.1
+
+report_is : (c : Configuration) (n : Name) (y : Name × model.Activity) → n ≡ y.0 → IsAt c y.0 y.1 → activity_report c y ≡ report_with c.futures n y.1 (requests_of c y.0)
+report_is c n y e is =
+    let status : status_of c y.0 ≡ status_of_plan (plan (chase c.futures) (requests_of c y.0) y.0 y.1) = ap (λ (q : Option model.Activity). status_of_plan (elim q [ None ↦ Rests Done | Some a ↦ plan (chase c.futures) (requests_of c y.0) y.0 a ])) is in
+    (λ i. record { name = y.0; count = y.1.reductions; status = status i; senders = map (λ r. r.sender) (requests_of c y.0); lines = y.1.lines })
+    ∙ (λ i. record { name = sym e i; count = y.1.reductions; status = status_of_plan (plan (chase c.futures) (requests_of c y.0) (sym e i) y.1); senders = map (λ r. r.sender) (requests_of c y.0); lines = y.1.lines })
+
+reports_paired : (c : Configuration) (xs : List (Name × Activity)) (ys : List (Name × model.Activity)) → ArePaired c xs ys → AreThere c ys → AreReportsOf c.futures xs (map (activity_report c) ys)
+reports_paired c [] [] h t = tt
+reports_paired c [] (y ∷ ys) h t = absurd h
+reports_paired c (x ∷ xs) [] h t = absurd h
+reports_paired c (x ∷ xs) (y ∷ ys) h t = ((y.1, requests_of c y.0, h.1, report_is c x.0 y h.0 (t y (inl refl))), reports_paired c xs ys h.2 (λ z i. t z (inr i)))
+
+closed_paired : (c : Configuration) (xs : List (Name × Activity)) (ys : List (Name × model.Activity)) → IsClosed c → ArePaired c xs ys → AreThere c ys → AreClosedStates xs
+closed_paired c [] [] k h t = tt
+closed_paired c [] (y ∷ ys) k h t = absurd h
+closed_paired c (x ∷ xs) [] k h t = absurd h
+closed_paired c (x ∷ xs) (y ∷ ys) k h t = (stands_closed x.1 y.1 (requests_of c y.0) h.1 (k.activities y.0 y.1 (t y (inl refl))) (k.arguments y.0), closed_paired c xs ys k h.2 (λ z i. t z (inr i)))
+
+module _ (p : Pool) (program : Tree) (c : Configuration) (h : IsReachedPool p program c) (sorted : IsStrictlySortedBy name_cmp (keys_of p.activities.entries)) where
+  pool_paired : ArePaired c p.activities.entries c.activities
+  pool_paired = paired c p.activities.entries c.activities (sorted_by p.activities.entries sorted) (entries_ascend program c h.reached).activities
+      (λ n. subst (λ o. StandsAt o (find name_cmp n c.activities) (requests_of c n)) (lookup_find n p.activities.entries) (h.pool.activities n))
+
+  all_there : AreThere c c.activities
+  all_there y i = entry_found c.activities y (entries_ascend program c h.reached).activities i
+
+  pub pool_reports : AreReportsOf (values_of p.futures) p.activities.entries (map (activity_report c) c.activities)
+  pool_reports = subst (λ (vs : Values). AreReportsOf vs p.activities.entries (map (activity_report c) c.activities)) (sym h.pool.futures) (reports_paired c p.activities.entries c.activities pool_paired all_there)
+
+  pub pool_closed : AreClosedStates p.activities.entries
+  pool_closed = closed_paired c p.activities.entries c.activities (reached_are_closed program c h.bare h.reached) pool_paired all_there
+
+-- One report after the other
+
+pub first_report : (values : Values) (x : Name × Activity) (xs : List (Name × Activity)) (rs : List ActivityReportShape) → AreReportsOf values (x ∷ xs) rs → (r : ActivityReportShape) × (ss : List ActivityReportShape) × (rs ≡ r ∷ ss) × IsReportOf values x r × AreReportsOf values xs ss
+first_report values x xs [] h = absurd h
+first_report values x xs (r ∷ rs) h = (r, rs, refl, h.0, h.1)
+
+pub no_report : (values : Values) (rs : List ActivityReportShape) → AreReportsOf values [] rs → rs ≡ []
+no_report values [] h = refl
+no_report values (r ∷ rs) h = absurd h
+
+pub empty_if : {A : Type 0} (xs : List A) → (0 < length xs → ⊥) → xs ≡ []
+empty_if [] h = refl
+empty_if (x ∷ xs) h = absurd (h (omega arith))
+
+-- Outcomes
+
+pub map_map : {X Y Z : Type 0} (g : Y → Z) (f : X → Y) (xs : List X) → map g (map f xs) ≡ map (λ x. g (f x)) xs
+map_map g f [] = refl
+map_map g f (x ∷ xs) = ap (λ ys. g (f x) ∷ ys) (map_map g f xs)
+
+pub statuses_shown : (c : Configuration) (xs : List ActivityReport) → map activity_shape xs ≡ map (activity_report c) c.activities → map (λ (a : ActivityReport). status_shape a.status) xs ≡ statuses_of c
+statuses_shown c xs e = sym (map_map (λ (r : ActivityReportShape). r.status) activity_shape xs) ∙ ap (map (λ (r : ActivityReportShape). r.status)) e ∙ map_map (λ (r : ActivityReportShape). r.status) (activity_report c) c.activities
+
+pub lists_shown : (c : Configuration) → lists_in (outcome_of c) ≡ lists_of c
+lists_shown c = map_map (λ (r : ActivityReportShape). (r.name, r.senders)) (activity_report c) c.activities
+
+pub counts_shown : (c : Configuration) → counts_in (outcome_of c) ≡ counts_of c
+counts_shown c = map_map (λ (r : ActivityReportShape). (r.name, r.count)) (activity_report c) c.activities

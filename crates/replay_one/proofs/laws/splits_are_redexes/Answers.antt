@@ -1,5 +1,0 @@
-use Rattle.replay_one.proofs.SplitLemmas.{splits_are_redexes}
-use Rattle.replay_one.proofs.laws.splits_are_redexes.Goals as goal
-
-pub returns : goal.returns
-returns c = splits_are_redexes

@@ -1,5 +1,0 @@
-use Rattle.replay_one.proofs.SplitLemmas.{splits_plug_back}
-use Rattle.replay_one.proofs.laws.splits_plug_back.Goals as goal
-
-pub returns : goal.returns
-returns c = splits_plug_back

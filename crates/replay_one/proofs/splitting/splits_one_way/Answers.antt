@@ -1,0 +1,5 @@
+use Rattle.replay_one.proofs.SplitLemmas.{splits_one_way}
+use Rattle.replay_one.proofs.splitting.splits_one_way.Goals as goal
+
+pub returns : goal.returns
+returns c = splits_one_way

@@ -1,0 +1,5 @@
+use Rattle.replay_one.proofs.SplitLemmas.{splits_plug_back}
+use Rattle.replay_one.proofs.splitting.splits_plug_back.Goals as goal
+
+pub returns : goal.returns
+returns c = splits_plug_back

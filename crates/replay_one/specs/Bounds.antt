@@ -1,0 +1,37 @@
+-- How far a run may go, and in which order requests may come.
+use Rattle.std.specs.Prelude.{◌≡◌, ℕ, T, List, Option, Some, None}
+use Rattle.std.specs.FinMap.{is_sorted}
+use Rattle.asp_model.specs.Names.{Name, name_cmp}
+use Rattle.asp_model.specs.Step.{ListsShape, name_at}
+use Rattle.asp_model.specs.Replay.{count_in, senders_in}
+use Rattle.asp_model.specs.Shapes.{counts_shape, lists_shape}
+use Rattle.replay_one.specs.declared.bounds.Bounds.{Bounds}
+use Rattle.replay_one.specs.declared.bounds.Bounds.TheVariants as bounds
+use Rattle.replay_one.specs.declared.bounds.Next.{Next}
+use Rattle.replay_one.specs.declared.bounds.Next.TheVariants as next
+
+abbrev pub lists_within : Bounds → Option ListsShape
+lists_within (bounds.Budget n) = None
+lists_within (bounds.Listed lists counts) = Some (lists_shape lists.now)
+
+-- at most so many reductions of each activity
+abbrev pub count_within : Bounds → Name → ℕ
+count_within (bounds.Budget n) = λ name. n
+count_within (bounds.Listed lists counts) = count_in (counts_shape counts.now)
+
+-- the names of lists and of counts ascend
+abbrev pub IsAscending : Bounds → Type 0
+IsAscending (bounds.Budget n) = Unit {0}
+IsAscending (bounds.Listed lists counts) = T (is_sorted name_cmp lists.now.entries.items) × T (is_sorted name_cmp counts.now.entries.items)
+
+-- who may send the k-th request under this list
+abbrev pub IsNextAmong : List Name → ℕ → Next → Type 0
+IsNextAmong senders k next.Anyone = ⊥
+IsNextAmong senders k (next.Only n) = name_at senders k ≡ Some n.now
+IsNextAmong senders k next.Nobody = name_at senders k ≡ None
+
+-- who may send the k-th request to an activity
+abbrev pub IsNextAt : Option ListsShape → Name → ℕ → Next → Type 0
+IsNextAt None to k next.Anyone = Unit {0}
+IsNextAt None to k x = ⊥
+IsNextAt (Some lists) to k x = IsNextAmong (senders_in lists to) k x

@@ -1,0 +1,42 @@
+-- Who is ready, and who is noted at which future.
+use Rattle.std.specs.Prelude.{◌≡◌, ◌≢◌, ◌<◌, Bool, true, false, List, Option, Some, None, length}
+use Rattle.std.specs.Global.{Vec}
+use Rattle.std.specs.List.{list_any}
+use Rattle.std.specs.Map.{lookup}
+use Rattle.std.specs.BTreeMap.{is_at}
+use Rattle.std.specs.Ordering.{is_lt}
+use Rattle.asp_model.specs.declared.name.FutureName.{FutureName}
+use Rattle.asp_model.specs.Names.{Name, FutureShape, name_cmp, same_future, same_name}
+use Rattle.asp_model.specs.Shapes.{future_shape}
+use Rattle.replay_one.specs.declared.schedule.Schedule.{Schedule}
+
+abbrev pub ready_in : Schedule → Name → Bool
+ready_in s n = list_any (is_at (name_cmp n)) s.ready.keys
+
+abbrev pub names_at : List (FutureName × Vec Name) → FutureShape → Option (Vec Name)
+names_at es f = lookup (λ g. same_future f (future_shape g)) es
+
+abbrev pub is_named_in : Name → Option (Vec Name) → Bool
+is_named_in n None = false
+is_named_in n (Some names) = list_any (same_name n) names.items
+
+abbrev pub noted_in : Schedule → FutureShape → Name → Bool
+noted_in s f n = is_named_in n (names_at s.awaiting.entries f)
+
+-- the least of those ready leaves
+pub record IsTaken (old : Schedule) (n : Name) (new : Schedule) : Type 0 where
+  pub least : (m : Name) → ready_in old m ≡ true → is_lt (name_cmp m n) ≡ false
+  pub others : (m : Name) → m ≢ n → ready_in new m ≡ ready_in old m
+  pub noted : noted_in new ≡ noted_in old
+  pub fewer : length new.ready.keys < length old.ready.keys
+
+-- some become ready, nobody leaves, and who is noted at other futures than this one stays so
+pub record IsMoreReady (old : Schedule) (f : Option FutureShape) (new : Schedule) : Type 0 where
+  pub ready : (m : Name) → ready_in old m ≡ true → ready_in new m ≡ true
+  pub noted : (g : FutureShape) (m : Name) → f ≢ Some g → noted_in new g m ≡ noted_in old g m
+
+-- it is noted at the future, and nobody else is moved
+pub record IsNoted (old : Schedule) (f : FutureShape) (n : Name) (new : Schedule) : Type 0 where
+  pub here : noted_in new f n ≡ true
+  pub noted : (g : FutureShape) (m : Name) → noted_in old g m ≡ true → noted_in new g m ≡ true
+  pub ready : new.ready ≡ old.ready

@@ -1,0 +1,123 @@
+//! What a run leaves: how each activity stands, and the verdict.
+
+ghost use Rattle.std.specs.Prelude.{◌≡◌, List, IfOk, map};
+ghost use Rattle.std.specs.List.{list_any};
+ghost use Rattle.asp_model.specs.Names.{Name};
+ghost use Rattle.asp_model.specs.Term.{Tree};
+ghost use Rattle.asp_model.specs.Chase.{chase};
+ghost use Rattle.asp_model.specs.Configuration as model;
+ghost use Rattle.asp_model.specs.Configuration.{Configuration, RequestShape};
+ghost use Rattle.asp_model.specs.Plan.{plan};
+ghost use Rattle.asp_model.specs.Status.{
+  is_awaiting,
+  is_running,
+  status_of_plan,
+  verdict_among as verdict_of,
+};
+ghost use Rattle.asp_model.specs.Outcome.{activity_report, outcome_of as outcome_shown};
+ghost use Rattle.asp_model.specs.Shapes.{
+  activity_shape,
+  outcome_shape,
+  status_shape,
+  verdict_shape,
+};
+ghost use Rattle.future_table.specs.Values.{values_of};
+ghost use Rattle.plain_activity.specs.Activity.{Stands};
+ghost use Rattle.plain_activity.specs.Effects.{IsClosedState};
+ghost use Rattle.plain_activity.specs.Operands.{AreClosedValues};
+ghost use Rattle.replay_one.specs.Pool.{IsReachedBySome, IsReachedPool};
+
+use crate::pool::Pool;
+use asp_model::{ActivityReport, Outcome, Status, Verdict};
+use future_table::FutureTable;
+use plain_activity::{Activity, Outlook};
+use std::alloc::{AllocError, Global};
+
+fn status_of(
+    alloc: Global,
+    activity: &Activity,
+    futures: &FutureTable,
+) -> Result<Status, AllocError>
+    requires closed { IsClosedState activity.now }
+    requires values { AreClosedValues (values_of futures.now) }
+    ensures status { (a : model.Activity) (rs : List RequestShape) (n : Name) →
+        Stands activity.now a rs →
+        let planned = plan (chase (values_of futures.now)) rs n a in
+        IfOk result (λ s. status_shape s ≡ status_of_plan planned) }
+{
+    match activity.outlook(futures) {
+        Outlook::Steps | Outlook::Sends(_) => Ok(Status::Running),
+        Outlook::Awaits(future) => Ok(Status::Awaits(future.copy(alloc)?)),
+        Outlook::Faulted(fault) => Ok(Status::Faulted(fault)),
+        Outlook::Serving => Ok(Status::Serving),
+        Outlook::Done => Ok(Status::Done),
+    }
+}
+
+/// The activities in ascending order of names.
+fn reports_of(alloc: Global, pool: Pool) -> Result<Vec<ActivityReport>, AllocError>
+    requires reached { IsReachedBySome pool }
+    ensures reports { (program : Tree) (c : Configuration) → IsReachedPool pool program c →
+        IfOk result (λ v. map activity_shape v.items ≡ map (activity_report c) c.activities) }
+{
+    let Pool {
+        mut activities,
+        futures,
+    } = pool;
+    let mut reports = Vec::with_capacity(alloc, activities.len())?;
+    while let Some((name, activity)) = activities.pop_first() {
+        let status = status_of(alloc, &activity, &futures)?;
+        reports.push(activity.into_report(name, status))?;
+    }
+    Ok(reports)
+}
+
+fn is_runner(report: &ActivityReport) -> bool
+    ensures { result ≡ is_running (status_shape report.now.status) }
+{
+    matches!(report.status, Status::Running)
+}
+
+fn is_waiter(report: &ActivityReport) -> bool
+    ensures { result ≡ is_awaiting (status_shape report.now.status) }
+{
+    matches!(report.status, Status::Awaits(_))
+}
+
+fn some_runs(reports: &[ActivityReport]) -> bool
+    ensures { result ≡ list_any (λ a. is_running (status_shape a.status)) reports.now }
+{
+    reports.iter().any(is_runner)
+}
+
+fn some_awaits(reports: &[ActivityReport]) -> bool
+    ensures { result ≡ list_any (λ a. is_awaiting (status_shape a.status)) reports.now }
+{
+    reports.iter().any(is_waiter)
+}
+
+#[tactic(auto, using(crate::proofs::ReportLemmas::list_any_map))]
+fn verdict_among(reports: &[ActivityReport]) -> Verdict
+    ensures { verdict_shape result ≡ verdict_of (map (λ a. status_shape a.status) reports.now) }
+{
+    if some_runs(reports) {
+        return Verdict::Budget;
+    }
+    if some_awaits(reports) {
+        return Verdict::Blocked;
+    }
+    Verdict::End
+}
+
+/// What the activities leave.
+pub fn outcome_of(alloc: Global, pool: Pool) -> Result<Outcome, AllocError>
+    requires reached { IsReachedBySome pool }
+    ensures outcome { (program : Tree) (c : Configuration) → IsReachedPool pool program c →
+        IfOk result (λ o. outcome_shape o ≡ outcome_shown c) }
+{
+    let activities = reports_of(alloc, pool)?;
+    Ok(Outcome {
+        verdict: verdict_among(&activities),
+        activities,
+    })
+}

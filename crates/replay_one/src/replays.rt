@@ -1,0 +1,73 @@
+//! The replay of a run from its sender lists and its counts.
+
+ghost use Rattle.std.specs.Prelude.{◌≡◌, ◌≤◌, IfErr, IfOk};
+ghost use Rattle.asp_model.specs.Outcome.{outcome_of};
+ghost use Rattle.asp_model.specs.Replay.{Fits, replay as replay_of, total};
+ghost use Rattle.asp_model.specs.Shapes.{counts_shape, lists_shape, outcome_shape, tree_of};
+ghost use Rattle.replay_one.specs.declared.replays.ReplayStop.TheVariants.{Memory};
+ghost use Rattle.replay_one.specs.Correct.{IsStop};
+ghost use Rattle.replay_one.specs.Listed.{AreReplayable};
+
+use crate::bounds::Bounds;
+use crate::difference::first_difference;
+use crate::run::run_term;
+use asp_check::Checked;
+use asp_model::{ActivityName, Counts, Lists, Outcome};
+use std::alloc::{AllocError, Global};
+
+/// Why a replay gives no outcome.
+#[derive(Debug, Drop)]
+pub enum ReplayStop {
+    /// It leaves something else of this activity than the lists and counts say, and of none with a
+    /// lesser name.
+    Diverged { activity: ActivityName },
+    Memory,
+}
+
+impl From<AllocError> for ReplayStop {
+    ghost from_gives = { λ _ s. s ≡ Memory };
+
+    fn from(_error: AllocError) -> ReplayStop {
+        ReplayStop::Memory
+    }
+}
+
+/// The sum of the counts.
+fn sum_of(counts: &[(ActivityName, u64)]) -> u64
+    requires within { total counts.now ≤ 10000000 }
+    ensures { result ≡ total counts.now }
+{
+    let mut sum = 0;
+    for count in counts {
+        sum += count.1;
+    }
+    sum
+}
+
+/// Replays a run of a program from its sender lists and its counts. `are_replayable` tests what is
+/// asked of them.
+pub fn replay(
+    alloc: Global,
+    program: &Checked,
+    lists: &Lists,
+    counts: &Counts,
+) -> Result<Outcome, ReplayStop>
+    requires replayable { AreReplayable (lists_shape lists.now) (counts_shape counts.now) }
+    ensures fits { IfOk result (λ o. Fits (tree_of program.now.program.root)
+        (lists_shape lists.now) (counts_shape counts.now)) }
+    ensures outcome { let last = replay_of (tree_of program.now.program.root)
+        (lists_shape lists.now) (counts_shape counts.now) in
+        IfOk result (λ o. outcome_shape o ≡ outcome_of last) }
+    ensures diverged { IfErr result (IsStop (tree_of program.now.program.root)
+        (lists_shape lists.now) (counts_shape counts.now)) }
+{
+    let bounds = Bounds::Listed(lists, counts);
+    let sum = sum_of(&counts.entries);
+    let outcome = run_term(alloc, &program.program().root, &bounds, sum)?;
+    match first_difference(&outcome.activities, &lists.entries, &counts.entries) {
+        None => Ok(outcome),
+        Some(name) => Err(ReplayStop::Diverged {
+            activity: name.copy(alloc)?,
+        }),
+    }
+}
