@@ -1,15 +1,15 @@
 -- How a call ends, from what was told.
-use Rattle.std.proofs.Common.{◌≡◌, ℕ, List, Some, ap, subst, ◌∙◌, inl, inr, map}
+use Rattle.std.proofs.Common.{◌≡◌, ℕ, List, Some, ap, sym, subst, ◌∙◌, inl, inr, map}
 use Rattle.std.specs.Prelude.{string_bytes, option_map}
 use Rattle.std.specs.List.{concat}
-use Rattle.asp_model.specs.Outcome.{OutcomeShape}
+use Rattle.asp_model.specs.Outcome.{OutcomeShape, outcome_of, exit_status}
 use Rattle.asp_model.specs.Report.{report_of}
 use Rattle.asp_top.specs.declared.prepare.Stop.{Stop}
 use Rattle.asp_top.specs.declared.prepare.Stop.TheVariants as stops
 use Rattle.asp_top.specs.declared.prepare.Prepared.{Prepared}
 use Rattle.asp_top.specs.Words.{Settings, settings_of, file_of}
 use Rattle.asp_top.specs.Seen.{Inputs, Sight, Rises, IsUntouched, Refusal, NoMemory}
-use Rattle.asp_top.specs.Correct.{IsRead, IsRun}
+use Rattle.asp_top.specs.Correct.{IsRead, IsRun, end_of}
 use Rattle.asp_top.specs.Endings.{Ends, Reported, Refused, Unheard, Unwritten, Holds}
 use Rattle.asp_top.specs.Stops.{StopsIn, IsFile, IsReady, ToldRefusal, ToldOf, Written, refusal_of}
 
@@ -37,10 +37,11 @@ ends_stopped i out err status s stop n h u (inr t) = ends_refused i out err stat
 pub ends_written : (i : Inputs) (out err : Sight) (status : ℕ) (s : Settings) (p : Prepared) → settings_of i.words ≡ Some s → IsReady (i.content s.file) s.budget p → Written out err (concat (map string_bytes p.pieces.items)) p.status status → Ends i out err status
 ends_written i out err status s p n h w =
     let o : OutcomeShape = h.prepared.shape in
-    let run : IsRun i o = record { bytes = h.bytes; read = read_by i s h.bytes n h.file; outcome = h.prepared.outcome } in
+    let run : IsRun i (report_of o) = record { bytes = h.bytes; read = read_by i s h.bytes n h.file; shows = h.prepared.outcome.report } in
+    let reported : p.status ≡ exit_status (outcome_of (end_of run)) = h.prepared.status ∙ sym (ap exit_status h.prepared.outcome.same) in
     let text : concat (map string_bytes p.pieces.items) ≡ report_of o = ap concat h.prepared.pieces in
     let told : Written out err (report_of o) p.status status = subst (λ (l : List ℕ). Written out err l p.status status) text w in
     elim told [
-      | inl t ↦ Reported o run t.1 t.2 (t.0 ∙ h.prepared.status)
-      | inr t ↦ Unwritten o run t.1 t.2 t.0
+      | inl t ↦ Reported (report_of o) run t.1 t.2 (t.0 ∙ reported)
+      | inr t ↦ Unwritten (report_of o) run t.1 t.2 t.0
     ]

@@ -1,8 +1,7 @@
 -- How a call ends, case by case: read `Ends` first.
 use Rattle.std.specs.Prelude.{◌≡◌, ◌⊎◌, ℕ, List, Some, None}
 use Rattle.asp_model.specs.Marked.{Marked}
-use Rattle.asp_model.specs.Outcome.{OutcomeShape, exit_status}
-use Rattle.asp_model.specs.Report.{report_of}
+use Rattle.asp_model.specs.Outcome.{outcome_of, exit_status}
 use Rattle.asp_syntax.specs.declared.error.SyntaxFault.{SyntaxFault}
 use Rattle.asp_syntax.specs.Tokens.{lexemes_of}
 use Rattle.asp_syntax.specs.Faults.{FirstFault}
@@ -11,7 +10,7 @@ use Rattle.asp_check.specs.declared.fault.CheckFault.{CheckFault}
 use Rattle.asp_check.specs.Faults.{IsChecked, IsFirstFault}
 use Rattle.asp_top.specs.Words.{settings_of, file_of}
 use Rattle.asp_top.specs.Seen.{Inputs, Sight, Rises, IsUntouched, Takes, TakesFront, IsLong, Refusal, Usage, Unread, TooLong, NoProgram, Unchecked, NoMemory, status_of_refusal, message_of, write_message}
-use Rattle.asp_top.specs.Correct.{IsRead, IsRun}
+use Rattle.asp_top.specs.Correct.{IsRead, IsRun, end_of}
 
 -- the bytes are no program, and this is their first fault
 pub record IsFaultyText (bytes : List ℕ) (fault : SyntaxFault) : Type 0 where
@@ -36,7 +35,7 @@ Holds i NoMemory = Unit {0}
 
 -- how the call ends: the status, and what `out` and `err` took
 pub data Ends (i : Inputs) (out err : Sight) (status : ℕ) : Type 0 where
-  Reported : (o : OutcomeShape) → IsRun i o → Takes out (report_of o) → IsUntouched err → status ≡ exit_status o → Ends i out err status
+  Reported : (report : List ℕ) (run : IsRun i report) → Takes out report → IsUntouched err → status ≡ exit_status (outcome_of (end_of run)) → Ends i out err status
   Refused : (r : Refusal) → Holds i r → IsUntouched out → Takes err (message_of r) → status ≡ status_of_refusal r → Ends i out err status
   Unheard : (r : Refusal) → Holds i r → IsUntouched out → TakesFront err (message_of r) → status ≡ 7 → Ends i out err status
-  Unwritten : (o : OutcomeShape) → IsRun i o → TakesFront out (report_of o) → Takes err write_message ⊎ TakesFront err write_message → status ≡ 7 → Ends i out err status
+  Unwritten : (report : List ℕ) → IsRun i report → TakesFront out report → Takes err write_message ⊎ TakesFront err write_message → status ≡ 7 → Ends i out err status

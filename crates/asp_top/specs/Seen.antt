@@ -6,7 +6,7 @@ use Rattle.asp_syntax.specs.declared.error.SyntaxKind.{SyntaxKind}
 use Rattle.asp_syntax.specs.declared.error.SyntaxKind.TheVariants.{BadByte, BadNumber, Unexpected, TooDeep, NotAField, NotYet}
 use Rattle.asp_syntax.specs.declared.error.SyntaxFault.{SyntaxFault}
 use Rattle.asp_check.specs.declared.fault.CheckKind.{CheckKind}
-use Rattle.asp_check.specs.declared.fault.CheckKind.TheVariants.{Unbound, DoubleLabel, DoubleParameter, TooManyParameters, Arity}
+use Rattle.asp_check.specs.declared.fault.CheckKind.TheVariants.{Unbound, DoubleLabel, DoubleParameter, TooManyParameters, Arity, ServiceArity}
 use Rattle.asp_check.specs.declared.fault.CheckFault.{CheckFault}
 use Rattle.asp_edge.specs.Causes.{Rose, Appends, AppendsFront}
 
@@ -82,6 +82,7 @@ check_text DoubleLabel = codes "DoubleLabel"
 check_text DoubleParameter = codes "DoubleParameter"
 check_text TooManyParameters = codes "TooManyParameters"
 check_text Arity = codes "Arity"
+check_text ServiceArity = codes "ServiceArity"
 
 -- a kind of fault, and its place
 abbrev pub fault_line : List ℕ → ℕ → List ℕ

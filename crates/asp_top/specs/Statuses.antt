@@ -1,34 +1,43 @@
 -- What each status says, and which status is to come: all of it follows from `Ends`.
 use Rattle.std.specs.Prelude.{◌≡◌, ◌⊎◌, ℕ, ◌≤◌, ◌<◌, ◌^◌, List, length, Some}
-use Rattle.asp_model.specs.Marked.{Marked, plain}
-use Rattle.asp_model.specs.Status.{Budget, IsStuck}
-use Rattle.asp_model.specs.Replay.{replay, total}
-use Rattle.asp_model.specs.Outcome.{OutcomeShape, lists_in, counts_in}
-use Rattle.asp_model.specs.Report.{report_of}
+use Rattle.asp_model.specs.Marked.{Marked}
+use Rattle.asp_model.specs.Status.{End, Blocked, Budget, IsStuck, verdict_of}
+use Rattle.asp_model.specs.Replay.{total}
 use Rattle.asp_syntax.specs.declared.error.SyntaxFault.{SyntaxFault}
 use Rattle.asp_syntax.specs.Correct.{IsProgramText}
 use Rattle.asp_check.specs.declared.fault.CheckFault.{CheckFault}
 use Rattle.asp_check.specs.Faults.{IsChecked}
 use Rattle.asp_top.specs.Words.{file_of}
 use Rattle.asp_top.specs.Seen.{Inputs, Sight, Rises, Takes, IsLong, NoProgram, Unchecked}
-use Rattle.asp_top.specs.Correct.{IsRun}
+use Rattle.asp_top.specs.Correct.{IsRun, NoneAwaits, SomeAwaits, end_of}
 use Rattle.asp_top.specs.Endings.{Holds}
 
--- the program of a run is stuck under the counts of the report that was written
+-- the program of a run is stuck under the lists and counts of the report that was written, and none awaits
 pub record EndsStuck (i : Inputs) (out : Sight) : Type 0 where
-  pub outcome : OutcomeShape
-  pub run : IsRun i outcome
-  pub written : Takes out (report_of outcome)
-  pub stuck : IsStuck (replay (plain run.outcome.program) (lists_in outcome) (counts_in outcome))
+  pub report : List ℕ
+  pub run : IsRun i report
+  pub written : Takes out report
+  pub verdict : verdict_of (end_of run) ≡ End
+  pub stuck : IsStuck (end_of run)
+  pub awaits : NoneAwaits (end_of run)
 
--- the program of a run can go on, and the counts of the report that was written are the budget
+-- it is stuck, and some activity awaits
+pub record EndsBlocked (i : Inputs) (out : Sight) : Type 0 where
+  pub report : List ℕ
+  pub run : IsRun i report
+  pub written : Takes out report
+  pub verdict : verdict_of (end_of run) ≡ Blocked
+  pub stuck : IsStuck (end_of run)
+  pub awaits : SomeAwaits (end_of run)
+
+-- it can go on, and the counts of the report that was written are the budget
 pub record EndsSpent (i : Inputs) (out : Sight) : Type 0 where
-  pub outcome : OutcomeShape
-  pub run : IsRun i outcome
-  pub written : Takes out (report_of outcome)
-  pub verdict : outcome.verdict ≡ Budget
-  pub spent : total (counts_in outcome) ≡ run.read.settings.budget
-  pub goes_on : IsStuck (replay (plain run.outcome.program) (lists_in outcome) (counts_in outcome)) → ⊥
+  pub report : List ℕ
+  pub run : IsRun i report
+  pub written : Takes out report
+  pub verdict : verdict_of (end_of run) ≡ Budget
+  pub goes_on : IsStuck (end_of run) → ⊥
+  pub spent : total run.shows.counts ≡ run.read.settings.budget
 
 -- a file is named that is too long, no program, or one that is not checked
 abbrev pub IsUnfit : Inputs → Type 0

@@ -1,7 +1,9 @@
 -- Why there is no report, and what is ready to be written.
 use Rattle.std.specs.Prelude.{◌≡◌, ◌⊎◌, ℕ, ◌≤◌, ◌^◌, List, length, map, string_bytes, Option}
-use Rattle.asp_model.specs.Outcome.{OutcomeShape, exit_status}
-use Rattle.asp_model.specs.Report.{report_lines, with_feed}
+use Rattle.asp_model.specs.Marked.{plain}
+use Rattle.asp_model.specs.Replay.{replay}
+use Rattle.asp_model.specs.Outcome.{OutcomeShape, outcome_of, exit_status}
+use Rattle.asp_model.specs.Report.{report_lines, report_of, with_feed}
 use Rattle.asp_model.specs.Shapes.{marked_of}
 use Rattle.asp_syntax.specs.declared.error.SyntaxError.{SyntaxError}
 use Rattle.asp_syntax.specs.declared.error.SyntaxError.TheVariants as errors
@@ -18,7 +20,7 @@ use Rattle.asp_top.specs.declared.prepare.Stop.TheVariants.{Unread, Long, Syntax
 use Rattle.asp_top.specs.declared.prepare.Prepared.{Prepared}
 use Rattle.asp_top.specs.Seen.{IsLong, Sight, IsUntouched, Takes, TakesFront, Refusal, status_of_refusal, message_of, write_message}
 use Rattle.asp_top.specs.Seen as refusals
-use Rattle.asp_top.specs.Correct.{IsOutcome}
+use Rattle.asp_top.specs.Correct.{IsReport}
 use Rattle.asp_top.specs.Endings.{IsFaultyText, IsUncheckedText}
 
 abbrev pub read_stop : ReadError → Stop
@@ -59,6 +61,11 @@ StopsIn content failed Long = IsLong content
 StopsIn content failed (Syntax f) = (bytes : List ℕ) × IsFile content bytes × IsFaultyText bytes f
 StopsIn content failed (Check f) = (bytes : List ℕ) × IsFile content bytes × IsUncheckedText bytes f
 StopsIn content failed Memory = Unit {0}
+
+-- the outcome of the replay that its report shows
+pub record IsOutcome (bytes : List ℕ) (budget : ℕ) (o : OutcomeShape) : Type 0 where
+  pub report : IsReport bytes budget (report_of o)
+  pub same : outcome_of (replay (plain report.program) report.lists report.counts) ≡ o
 
 -- the lines and the status of the program in the bytes
 pub record IsPrepared (bytes : List ℕ) (budget : ℕ) (p : Prepared) : Type 0 where

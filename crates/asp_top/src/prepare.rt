@@ -1,10 +1,9 @@
 //! The work up to the report: reading, checking, running, and making all pieces.
 
-ghost use Rattle.std.specs.Prelude.{◌≡◌, IfOk, IfErr};
+ghost use Rattle.std.specs.Prelude.{◌≡◌, ◌≤◌, IfOk, IfErr};
 ghost use Rattle.asp_model.specs.Shapes.{outcome_shape};
 ghost use Rattle.asp_edge.specs.Causes.{Rose};
-ghost use Rattle.asp_top.specs.Correct.{IsOutcome};
-ghost use Rattle.asp_top.specs.Stops.{read_stop, syntax_stop, check_stop, IsCheckedText, StopsAt, StopsIn, IsPrepared, IsReady};
+ghost use Rattle.asp_top.specs.Stops.{read_stop, syntax_stop, check_stop, IsCheckedText, StopsAt, StopsIn, IsOutcome, IsPrepared, IsReady};
 ghost use Rattle.asp_top.specs.declared.prepare.Stop.TheVariants as stops;
 
 use crate::report::pieces;
@@ -93,6 +92,7 @@ fn checked_in(alloc: Global, bytes: &[u8]) -> Result<Checked, Stop>
 
 // Reads, checks and runs the program in the bytes.
 fn outcome_in(alloc: Global, bytes: &[u8], budget: u64) -> Result<Outcome, Stop>
+    requires within { budget ≤ 10000000 }
     ensures outcome { IfOk result (λ o. IsOutcome bytes.now budget (outcome_shape o)) }
     ensures stop { IfErr result (StopsAt bytes.now) }
 {
@@ -102,6 +102,7 @@ fn outcome_in(alloc: Global, bytes: &[u8], budget: u64) -> Result<Outcome, Stop>
 
 // The report of the program in the bytes.
 fn prepare_bytes(alloc: Global, bytes: &[u8], budget: u64) -> Result<Prepared, Stop>
+    requires within { budget ≤ 10000000 }
     ensures prepared { IfOk result (IsPrepared bytes.now budget) }
     ensures stop { IfErr result (StopsAt bytes.now) }
 {
@@ -119,6 +120,7 @@ pub fn prepare<S: Source>(
     settings: Settings<'_>,
     source: &mut S,
 ) -> Result<Prepared, Stop>
+    requires within { settings.budget ≤ 10000000 }
     ensures ready { IfOk result (IsReady (S.content source.old settings.entry.file.now) settings.entry.budget) }
     ensures stop { IfErr result (StopsIn (S.content source.old settings.entry.file.now) (Rose (S.faults source.old) (S.faults source.new))) }
 {

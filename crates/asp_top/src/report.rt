@@ -3,25 +3,25 @@
 ghost use Rattle.std.specs.Prelude.{◌≡◌, ◌++◌, codes, map, string_bytes, IfOk, OnOk};
 ghost use Rattle.std.specs.List.{flat_map};
 ghost use Rattle.std.specs.Fmt.{decimal};
-ghost use Rattle.asp_model.specs.Report.{name_text as text_of_name, status_text as text_of_status, verdict_line, senders_line as line_of_senders, output_line as line_of_output, activity_lines, report_lines, with_feed};
+ghost use Rattle.asp_model.specs.Plan.{Awaits, Faulted};
+ghost use Rattle.asp_model.specs.Report.{fault_text as text_of_fault, name_text as text_of_name, status_text as text_of_status, verdict_line, senders_line as line_of_senders, output_line as line_of_output, activity_lines, report_lines, with_feed};
 ghost use Rattle.asp_top.specs.Pieces.{dotted};
-ghost use Rattle.asp_model.specs.Shapes.{activity_shape, line_shape, outcome_shape, status_shape, verdict_shape};
+ghost use Rattle.asp_model.specs.Shapes.{activity_shape, fault_shape, future_shape, line_shape, outcome_shape, status_shape, verdict_shape};
 
-use asp_model::{ActivityName, ActivityReport, Fault, Line, Outcome, Status, Verdict};
+use asp_model::{ActivityName, ActivityReport, Fault, FutureName, Line, Outcome, Status, Verdict};
 use std::alloc::{AllocError, Global};
 
-fn status_text(status: Status) -> &'static str
-    ensures { result.now ≡ text_of_status (status_shape status) }
+fn fault_text(fault: Fault) -> &'static str
+    ensures { result.now ≡ text_of_fault (fault_shape fault) }
 {
-    match status {
-        Status::Done => "done",
-        Status::Running => "running",
-        Status::Faulted(Fault::NoField) => "fault NoField",
-        Status::Faulted(Fault::NoMethod) => "fault NoMethod",
-        Status::Faulted(Fault::NotObject) => "fault NotObject",
-        Status::Faulted(Fault::NotNumber) => "fault NotNumber",
-        Status::Faulted(Fault::Overflow) => "fault Overflow",
-        Status::Faulted(Fault::ZeroDivisor) => "fault ZeroDivisor",
+    match fault {
+        Fault::NoField => "NoField",
+        Fault::NoMethod => "NoMethod",
+        Fault::NotObject => "NotObject",
+        Fault::NotNumber => "NotNumber",
+        Fault::ActiveField => "ActiveField",
+        Fault::Overflow => "Overflow",
+        Fault::ZeroDivisor => "ZeroDivisor",
     }
 }
 
@@ -60,16 +60,43 @@ fn with_numbers(alloc: Global, text: String, numbers: &[u32]) -> Result<String, 
     Ok(text)
 }
 
+fn awaits_text(alloc: Global, future: &FutureName) -> Result<String, AllocError>
+    ensures { IfOk result (λ s. string_bytes s ≡ text_of_status (Awaits (future_shape future.now))) }
+{
+    let name = name_text(alloc, &future.by)?;
+    let index = future.index;
+    format!(in alloc; "awaits {name}#{index}")
+}
+
+fn faulted_text(alloc: Global, fault: Fault) -> Result<String, AllocError>
+    ensures { IfOk result (λ s. string_bytes s ≡ text_of_status (Faulted (fault_shape fault))) }
+{
+    let fault = fault_text(fault);
+    format!(in alloc; "fault {fault}")
+}
+
+fn status_text(alloc: Global, status: &Status) -> Result<String, AllocError>
+    ensures { IfOk result (λ s. string_bytes s ≡ text_of_status (status_shape status.now)) }
+{
+    match status {
+        Status::Done => String::from_str(alloc, "done"),
+        Status::Serving => String::from_str(alloc, "serving"),
+        Status::Running => String::from_str(alloc, "running"),
+        Status::Awaits(future) => awaits_text(alloc, future),
+        Status::Faulted(fault) => faulted_text(alloc, *fault),
+    }
+}
+
 fn activity_line(
     alloc: Global,
     name: &ActivityName,
     count: u64,
-    status: Status,
+    status: &Status,
 ) -> Result<String, AllocError>
-    ensures { IfOk result (λ s. string_bytes s ≡ with_feed (codes "activity " ++ text_of_name name.now ++ codes " " ++ decimal count ++ codes " " ++ text_of_status (status_shape status))) }
+    ensures { IfOk result (λ s. string_bytes s ≡ with_feed (codes "activity " ++ text_of_name name.now ++ codes " " ++ decimal count ++ codes " " ++ text_of_status (status_shape status.now))) }
 {
     let name = name_text(alloc, name)?;
-    let status = status_text(status);
+    let status = status_text(alloc, status)?;
     format!(in alloc; "activity {name} {count} {status}\n")
 }
 
@@ -115,7 +142,7 @@ fn push_activity(
 ) -> Result<(), AllocError>
     ensures { OnOk result (map string_bytes pieces.new.items ≡ map string_bytes pieces.old.items ++ map with_feed (activity_lines (activity_shape activity.now))) }
 {
-    pieces.push(activity_line(alloc, &activity.name, activity.count, activity.status)?)?;
+    pieces.push(activity_line(alloc, &activity.name, activity.count, &activity.status)?)?;
     pieces.push(senders_line(alloc, &activity.senders)?)?;
     push_lines(alloc, pieces, &activity.lines)
 }

@@ -6,7 +6,7 @@ ghost use Rattle.asp_top.specs.Words.{settings_of};
 ghost use Rattle.asp_top.specs.Seen.{inputs, sight};
 ghost use Rattle.asp_top.specs.Correct.{IsReported, Reports};
 ghost use Rattle.asp_top.specs.Endings.{Ends};
-ghost use Rattle.asp_top.specs.Statuses.{EndsStuck, EndsSpent, IsUnfit, MayRun, NamesUnfit, IsUsageEnd, IsUnfitEnd};
+ghost use Rattle.asp_top.specs.Statuses.{EndsStuck, EndsBlocked, EndsSpent, IsUnfit, MayRun, NamesUnfit, IsUsageEnd, IsUnfitEnd};
 
 use crate::prepare::prepare;
 use crate::words::read_words;
@@ -48,6 +48,7 @@ pub fn run_asp<R: AllocGlobal, S: Source, O: Sink, E: Sink>(
     ensures ends { Ends (inputs (map string_bytes words.now) S.content S.faults source.old source.new) (sight O.bytes O.faults out.old out.new) (sight E.bytes E.faults err.old err.new) result }
     ensures report { IsReported result → Reports (inputs (map string_bytes words.now) S.content S.faults source.old source.new) (sight O.bytes O.faults out.old out.new) (sight E.bytes E.faults err.old err.new) result }
     ensures ended_only { (result ≡ 0) ⊎ (result ≡ 1) → EndsStuck (inputs (map string_bytes words.now) S.content S.faults source.old source.new) (sight O.bytes O.faults out.old out.new) }
+    ensures blocked_only { result ≡ 4 → EndsBlocked (inputs (map string_bytes words.now) S.content S.faults source.old source.new) (sight O.bytes O.faults out.old out.new) }
     ensures budget_only { result ≡ 5 → EndsSpent (inputs (map string_bytes words.now) S.content S.faults source.old source.new) (sight O.bytes O.faults out.old out.new) }
     ensures usage_only { result ≡ 2 → settings_of (map string_bytes words.now) ≡ None }
     ensures program_only { result ≡ 3 → IsUnfit (inputs (map string_bytes words.now) S.content S.faults source.old source.new) }

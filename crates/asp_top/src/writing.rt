@@ -40,6 +40,7 @@ fn check_text(kind: CheckKind) -> &'static str
         CheckKind::DoubleParameter => "DoubleParameter",
         CheckKind::TooManyParameters => "TooManyParameters",
         CheckKind::Arity => "Arity",
+        CheckKind::ServiceArity => "ServiceArity",
     }
 }
 

@@ -14,6 +14,8 @@ fn the_first_fault_of_a_program_is_told_before_it_runs(rt: HostRuntime) -> Resul
             "[; m(s) = s.f(1, 2, 3, 4, 5, 6, 7, 8, 9)]",
             "TooManyParameters at 12",
         ),
+        ("active([; m(s, x) = 0], m)", "ServiceArity at 24"),
+        ("let x = x in x", "Unbound at 8"),
         ("print(1); print(y)", "Unbound at 16"),
     ];
     for (text, fault) in rows {

@@ -31,8 +31,8 @@ fn each_kind_stands_at_the_start_in_the_middle_and_at_the_end(rt: HostRuntime) -
         (b"1 := 2", "NotAField at 2"),
         (b"[f = 1].f := (2 := 3)", "NotAField at 16"),
         (b"let x = 1 in x := 2", "NotAField at 15"),
-        (b"active(1)", "NotYet at 0"),
-        (b"1 + serve()", "NotYet at 4"),
+        (b"size(1)", "NotYet at 0"),
+        (b"1 + waitall(2)", "NotYet at 4"),
         (b"1; group", "NotYet at 3"),
         (b"x", "Unbound at 0"),
         (b"1; x; 2", "Unbound at 3"),
@@ -62,7 +62,7 @@ fn of_two_faults_the_first_and_then_the_lesser_wins(rt: HostRuntime) -> Result<(
         (b"1 \"ab", "BadByte at 5"),
         (b"1 \"a\"", "Unexpected at 2"),
         (b"1 9223372036854775808", "BadNumber at 2"),
-        (b"1 active", "NotYet at 2"),
+        (b"1 member", "NotYet at 2"),
         (b":= 1", "Unexpected at 0"),
         (b"1 + 2 < 3 := 4", "NotAField at 10"),
         (b"[a = x, a = 1]", "Unbound at 5"),
@@ -101,6 +101,40 @@ fn what_the_end_breaks_off_is_told_there(rt: HostRuntime) -> Result<(), Fail> {
         (b"let x = 1 in", "Unexpected at 12"),
         (b"if (1) { 2 }", "Unexpected at 12"),
         (b"[a = 1", "Unexpected at 6"),
+    ];
+    assert_eq!(rt; first_wrong(&rt, &rows)?, None);
+    Ok(())
+}
+
+#[test]
+fn an_active_has_a_term_and_at_most_one_label_and_a_serve_has_labels(
+    rt: HostRuntime,
+) -> Result<(), Fail> {
+    let rows: [(&[u8], &str); 24] = [
+        (b"active", "Unexpected at 6"),
+        (b"active 1", "Unexpected at 7"),
+        (b"active(", "Unexpected at 7"),
+        (b"active()", "Unexpected at 7"),
+        (b"active(1", "Unexpected at 8"),
+        (b"active(1,", "Unexpected at 9"),
+        (b"active(1,)", "Unexpected at 9"),
+        (b"active(1, m", "Unexpected at 11"),
+        (b"active(1, m, n)", "Unexpected at 11"),
+        (b"active(, m)", "Unexpected at 7"),
+        (b"active(1, 2)", "Unexpected at 10"),
+        (b"active(1, if)", "Unexpected at 10"),
+        (b"active(1, scatter)", "NotYet at 10"),
+        (b"1 active", "Unexpected at 2"),
+        (b"serve", "Unexpected at 5"),
+        (b"serve(", "Unexpected at 6"),
+        (b"serve(,", "Unexpected at 6"),
+        (b"serve(m", "Unexpected at 7"),
+        (b"serve(m,)", "Unexpected at 8"),
+        (b"serve(1)", "Unexpected at 6"),
+        (b"serve(m n)", "Unexpected at 8"),
+        (b"serve(m, pending)", "NotYet at 9"),
+        (b"serve(m) := 1", "NotAField at 9"),
+        (b"active([; m(s, k) = 0], m)", "ServiceArity at 24"),
     ];
     assert_eq!(rt; first_wrong(&rt, &rows)?, None);
     Ok(())

@@ -42,6 +42,8 @@ fn each_token_that_adds_a_level_reaches_200_and_no_more(rt: HostRuntime) -> Resu
         ("1 < 1", 199, 202),
         ("1 == 1", 199, 202),
         ("print(1)", 199, 205),
+        ("active([])", 198, 206),
+        ("serve()", 199, 205),
     ];
     for (text, most, at) in rows {
         let (status, _message) = status_behind(&rt, "", most, text)?;
@@ -91,6 +93,7 @@ fn semicolons_in_and_commas_set_the_level_back(rt: HostRuntime) -> Result<(), Fa
         format!(in rt.alloc(); "let x = {ones}1 in {ones}x")?,
         format!(in rt.alloc(); "[a = {ones}1, b = {ones}1, c = {ones}1]")?,
         format!(in rt.alloc(); "[; m(s, k) = {ones}k, n(s) = {ones}1].m({ones}1)")?,
+        format!(in rt.alloc(); "active([; m(s) = {ones}1], m); {ones}1")?,
     ];
     for source in &sources {
         let ran = run_bytes(&rt, source.as_bytes(), SOUND)?;

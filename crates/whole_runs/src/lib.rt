@@ -2,13 +2,19 @@
 #![tactic(auto)]
 
 #[cfg(test)]
+mod activities;
+#[cfg(test)]
 mod budgets;
 #[cfg(test)]
 mod checking;
 #[cfg(test)]
+mod crowds;
+#[cfg(test)]
 mod faults_of_the_outside;
 #[cfg(test)]
 mod faulty_texts;
+#[cfg(test)]
+mod futures;
 #[cfg(test)]
 mod levels;
 #[cfg(test)]
@@ -16,8 +22,14 @@ mod objects;
 #[cfg(test)]
 mod reading;
 #[cfg(test)]
-mod runs;
+mod replays;
+#[cfg(test)]
+mod services;
 #[cfg(test)]
 mod setting;
+#[cfg(test)]
+mod sums;
+#[cfg(test)]
+mod texts;
 #[cfg(test)]
 mod words;

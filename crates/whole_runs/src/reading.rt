@@ -21,7 +21,7 @@ fn the_first_fault_is_told_with_its_place(rt: HostRuntime) -> Result<(), Fail> {
         ("1 : 2", "BadByte at 2"),
         ("// all", "Unexpected at 6"),
         ("1 := 2", "NotAField at 2"),
-        ("print(active(1))", "NotYet at 6"),
+        ("print(size(1))", "NotYet at 6"),
     ];
     for (text, fault) in rows {
         let ran = run_bytes(&rt, text.as_bytes(), SOUND)?;

@@ -30,6 +30,9 @@ pub const SOUND: Failing<'static> = Failing {
     keep: 0,
 };
 
+/// The bytes for which a sink has room.
+const ROOM: usize = 65_536;
+
 /// Runs `asp` on these words, where `a.asp` holds these bytes.
 pub fn run_words(
     rt: &HostRuntime,
@@ -42,8 +45,8 @@ pub fn run_words(
     let name = Word::new(String::from_str(alloc, "a.asp")?);
     files.push((name, bytes.to_vec(alloc)?))?;
     let mut source = MemorySource::new(alloc, files, failing.reads.to_vec(alloc)?);
-    let mut out = MemorySink::new(alloc, failing.out.to_vec(alloc)?, failing.keep, 4096)?;
-    let mut err = MemorySink::new(alloc, failing.err.to_vec(alloc)?, failing.keep, 4096)?;
+    let mut out = MemorySink::new(alloc, failing.out.to_vec(alloc)?, failing.keep, ROOM)?;
+    let mut err = MemorySink::new(alloc, failing.err.to_vec(alloc)?, failing.keep, ROOM)?;
     let mut owned = Vec::new(alloc);
     for word in words {
         owned.push(String::from_str(alloc, word)?)?;
