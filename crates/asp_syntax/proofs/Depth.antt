@@ -9,8 +9,8 @@ use Rattle.asp_syntax.specs.Grammar.{may_put}
 use Rattle.asp_syntax.specs.States.{PendingShape, KindShape, Top, InParentheses, InWord, InCondition, InThen, InElse, InCall, InBinding, InBody, InField, InMethod, OpenShape, OpenerShape, ByEquals, ModeShape, Have, Called, Opening, EchoText, EchoClosing, ObjectBegun, FieldNaming, MethodNaming, MethodNamed, SelfNaming, HeadNamed, ParameterNaming, StateShape, At, Done, operand_part, joined, put_all, term_in, test_in, value, InActive, ServiceNaming, ServiceNamed, ServeBegun, LabelNaming, LabelNamed}
 use Rattle.asp_syntax.specs.Closings as closings
 use Rattle.asp_syntax.specs.Machine as machine
-use Rattle.asp_syntax.specs.Closings.{FinishedShape, finished, over, finish, back, first_mode, ClosingShape, Back, Again, concluded, close, close_brace, close_square, comma, bound, ended}
-use Rattle.asp_syntax.specs.Machine.{next_term, behind, have, stepped, step}
+use Rattle.asp_syntax.specs.Closings.{FinishedShape, finished, over, finish, back, ClosingShape, Back, Again, concluded, close, close_brace, close_square, comma, bound, ended}
+use Rattle.asp_syntax.specs.Machine.{next_term, behind}
 use Rattle.asp_syntax.specs.Depth.{parentheses_of}
 
 -- the open brackets: those of a kind and of a mode

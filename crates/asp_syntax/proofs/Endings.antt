@@ -3,7 +3,8 @@ use Rattle.std.proofs.Common.{◌≡◌, ℕ, ◌+◌, ◌-◌, ◌*◌, ◌^◌
 use Rattle.std.specs.Prelude.{◌==◌, nat_lt, codes}
 use Rattle.asp_syntax.specs.declared.token.Token.{Token}
 use Rattle.asp_syntax.specs.declared.token.Token.TheVariants.{Number, Text, Open, Close, SquareOpen, SquareClose, BraceOpen, BraceClose, Comma, Semicolon, Dot, Equals, Assign, Plus, Minus, Star, Slash, Percent, Less, Same, Let, In, If, Else, Repeat, Clone, Print, Echo, NotBuilt, BadByte, BadNumber, Active, Serve}
-use Rattle.asp_syntax.specs.Bytes.{is_digit, is_blank, is_letter, is_inner, is_text, is_word, is_later, reserved_token, named_token, sign_token, word_token}
+use Rattle.asp_model.specs.WellFormed.{is_printable}
+use Rattle.asp_syntax.specs.Bytes.{is_digit, is_blank, is_letter, is_inner, is_word, is_later, reserved_token, named_token, sign_token, word_token}
 use Rattle.asp_syntax.specs.Tokens.{Lexeme, lexeme, lex, Scan, Between, InNumber, InWord, InText, InComment, AfterSlash, AfterColon, AfterEquals, Move, Goes, NoToken, TooLarge, move, after_move, at_end, with_token, digit, between, sign_move, lexemes_of}
 use Rattle.asp_syntax.specs.Cursors.{goes_on}
 
@@ -145,8 +146,8 @@ move_well (InWord start w) at b =
     let t : Lexeme = lexeme (word_token w) start in
     either GoesWell (is_inner b) (Goes [] (InWord start (w ++ b ∷ []))) (with_token t (between at b)) tt (with_well t (between at b) (word_goes w) (between_well at b))
 move_well (InText start w) at b =
-    let others : Move = if is_text b then Goes [] (InText start (w ++ b ∷ [])) else NoToken [] at in
-    either GoesWell (b == 34) (Goes (lexeme (Text w) start ∷ []) Between) others (refl, tt) (either GoesWell (is_text b) (Goes [] (InText start (w ++ b ∷ []))) (NoToken [] at) tt tt)
+    let others : Move = if is_printable b then Goes [] (InText start (w ++ b ∷ [])) else NoToken [] at in
+    either GoesWell (b == 34) (Goes (lexeme (Text w) start ∷ []) Between) others (refl, tt) (either GoesWell (is_printable b) (Goes [] (InText start (w ++ b ∷ []))) (NoToken [] at) tt tt)
 
 end_well : (s : Scan) (at : ℕ) → EndsWell (at_end s at)
 end_well Between at = refl

@@ -6,7 +6,8 @@ use Rattle.std.proofs.lemmas.Bool.{lt-ltb, le-ltb, ne_eqb}
 use Rattle.std.proofs.lemmas.Bool.Decides.{nat_tests}
 use Rattle.asp_syntax.specs.declared.token.Token.{Token}
 use Rattle.asp_syntax.specs.declared.token.Token.TheVariants.{Number, Text, Slash, Equals, Assign, Same, BadByte, BadNumber}
-use Rattle.asp_syntax.specs.Bytes.{is_digit, is_blank, is_letter, is_inner, is_text, sign_token, word_token}
+use Rattle.asp_model.specs.WellFormed.{is_printable}
+use Rattle.asp_syntax.specs.Bytes.{is_digit, is_blank, is_letter, is_inner, sign_token, word_token}
 use Rattle.asp_syntax.specs.Tokens.{Lexeme, lexeme, lex, Scan, Between, InNumber, InWord, InText, InComment, AfterSlash, AfterColon, AfterEquals, Move, Goes, NoToken, TooLarge, move, after_move, at_end, with_token, digit, between, sign_move}
 use Rattle.asp_syntax.specs.Cursors.{from, IsAlone}
 
@@ -41,7 +42,7 @@ inner_ascii b e = grind (arith, nat_tests)
 pub letter_ascii : (b : ℕ) → is_letter b ≡ true → b < 128
 letter_ascii b e = grind (arith, nat_tests)
 
-pub text_ascii : (b : ℕ) → is_text b ≡ true → b < 128
+pub text_ascii : (b : ℕ) → is_printable b ≡ true → b < 128
 text_ascii b e = grind (arith, nat_tests)
 
 -- no byte of this kind stands at the place
@@ -91,11 +92,11 @@ word_is start w bs i past =
       | inr h ↦ token_over (InWord start w) t bs i h.0 (passed (is_inner (get_or bs i 0)) (Goes [] (InWord start (w ++ get_or bs i 0 ∷ []))) (with_token t (between i (get_or bs i 0))) h.1)
     ]
 
-pub text_more : (start : ℕ) (w bs : List ℕ) (i : ℕ) → i < length bs → get_or bs i 0 ≢ 34 → is_text (get_or bs i 0) ≡ true
+pub text_more : (start : ℕ) (w bs : List ℕ) (i : ℕ) → i < length bs → get_or bs i 0 ≢ 34 → is_printable (get_or bs i 0) ≡ true
     → from (InText start w) bs i ≡ from (InText start (w ++ get_or bs i 0 ∷ [])) bs (i + 1)
 text_more start w bs i h quote d = step (InText start w) bs i h ∙ rw (ne_eqb _ _ quote, d) refl
 
-pub text_bad : (start : ℕ) (w bs : List ℕ) (i : ℕ) → i < length bs → get_or bs i 0 ≢ 34 → is_text (get_or bs i 0) ≡ false → from (InText start w) bs i ≡ lexeme BadByte i ∷ []
+pub text_bad : (start : ℕ) (w bs : List ℕ) (i : ℕ) → i < length bs → get_or bs i 0 ≢ 34 → is_printable (get_or bs i 0) ≡ false → from (InText start w) bs i ≡ lexeme BadByte i ∷ []
 text_bad start w bs i h quote d = step (InText start w) bs i h ∙ rw (ne_eqb _ _ quote, d) refl
 
 pub text_over : (start : ℕ) (w bs : List ℕ) (i : ℕ) → i < length bs → get_or bs i 0 ≡ 34 → from (InText start w) bs i ≡ lexeme (Text w) start ∷ from Between bs (i + 1)

@@ -11,7 +11,7 @@ use Rattle.asp_syntax.specs.Changes as changes
 use Rattle.asp_syntax.specs.Machine as machine
 use Rattle.asp_syntax.specs.Closings.{FinishedShape, finished, finish, ClosingShape, Back, Again, closed, concluded, back, close, close_brace, close_square, comma, bound, ended}
 use Rattle.asp_syntax.specs.Changes.{ChangeShape, Goes, Opens, changed, operand, begin, opening}
-use Rattle.asp_syntax.specs.Machine.{next_term, behind, have, stepped, step, run}
+use Rattle.asp_syntax.specs.Machine.{next_term, have, stepped, step}
 
 put_freely : (p : PartShape) (d : Bool) (s : OpenShape) (o : List OpenShape) (y : StateShape) → machine.assign p d s o ≡ Some y → machine.assign p true s o ≡ Some y
 put_freely p true s o y e = e

@@ -17,10 +17,6 @@ is_blank b = b == 32 || b == 9 || b == 13 || b == 10
 abbrev pub is_inner : ℕ → Bool
 is_inner b = is_letter b || is_digit b
 
--- a byte that may stand inside a text, if it is no quote
-abbrev pub is_text : ℕ → Bool
-is_text b = nat_le 32 b && nat_le b 126
-
 -- the token that a byte is alone, whatever follows
 abbrev pub sign_token : ℕ → Option Token
 sign_token b =

@@ -2,7 +2,8 @@
 use Rattle.std.specs.Prelude.{ℕ, ◌+◌, ◌-◌, ◌*◌, ◌^◌, pos, ◌==◌, nat_lt, if◌then◌else◌, List, [], ◌∷◌, ◌++◌, Option, Some, None}
 use Rattle.asp_syntax.specs.declared.token.Token.{Token}
 use Rattle.asp_syntax.specs.declared.token.Token.TheVariants.{Number, Text, Equals, Assign, Slash, Same, End, BadByte, BadNumber}
-use Rattle.asp_syntax.specs.Bytes.{is_digit, is_letter, is_blank, is_inner, is_text, sign_token, word_token}
+use Rattle.asp_model.specs.WellFormed.{is_printable}
+use Rattle.asp_syntax.specs.Bytes.{is_digit, is_letter, is_blank, is_inner, sign_token, word_token}
 
 -- a token and its place
 pub record Lexeme : Type 0 where
@@ -66,7 +67,7 @@ move (InNumber start n) at b = if is_digit b then digit start n b else with_toke
 move (InWord start word) at b = if is_inner b then Goes [] (InWord start (word ++ b ∷ [])) else with_token (lexeme (word_token word) start) (between at b)
 move (InText start text) at b =
     if b == 34 then Goes (lexeme (Text text) start ∷ []) Between
-    else if is_text b then Goes [] (InText start (text ++ b ∷ []))
+    else if is_printable b then Goes [] (InText start (text ++ b ∷ []))
     else NoToken [] at
 
 -- the end of the text

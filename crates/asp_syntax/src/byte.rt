@@ -1,7 +1,8 @@
 //! What a byte is to the lexer.
 
 ghost use Rattle.std.specs.Prelude.{◌≡◌};
-ghost use Rattle.asp_syntax.specs.Bytes.{is_blank as blank_of, is_letter as letter_of, is_inner as inner_of, is_digit as digit_of, is_text as text_of, sign_token};
+ghost use Rattle.asp_model.specs.WellFormed.{is_printable as text_of};
+ghost use Rattle.asp_syntax.specs.Bytes.{is_blank as blank_of, is_letter as letter_of, is_inner as inner_of, is_digit as digit_of, sign_token};
 
 use crate::token::Token;
 

@@ -9,7 +9,7 @@ use crate::token::Token;
 use std::alloc::{AllocError, Global};
 
 /// An open bracket.
-#[derive(Clone, Copy, Debug)]
+#[derive(Clone, Copy)]
 pub struct Bracket {
     /// The level that it reached.
     pub base: usize,

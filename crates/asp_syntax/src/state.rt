@@ -51,7 +51,7 @@ pub struct Head {
 }
 
 /// A word before one term in parentheses.
-#[derive(Clone, Copy, Debug)]
+#[derive(Clone, Copy)]
 pub enum Wrap {
     Clone,
     Repeat,
@@ -98,7 +98,7 @@ pub enum Operand {
 }
 
 /// The token that opens a sequence behind a word or a name.
-#[derive(Clone, Copy, Debug)]
+#[derive(Clone, Copy)]
 pub enum Opener {
     ByRound,
     ByBrace,

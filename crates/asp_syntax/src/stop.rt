@@ -6,7 +6,7 @@ ghost use Rattle.asp_syntax.specs.declared.stop.Stop.TheVariants.{Memory, Unexpe
 use std::alloc::AllocError;
 
 /// Why a token leaves no state.
-#[derive(Clone, Copy, Debug, PartialEq, Eq)]
+#[derive(Clone, Copy)]
 pub enum Stop {
     Unexpected,
     NotAField,

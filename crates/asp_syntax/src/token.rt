@@ -3,7 +3,7 @@
 use asp_model::Word;
 
 /// A token of a text, or that none stands at a place.
-#[derive(Debug, Drop)]
+#[derive(Drop)]
 pub enum Token {
     Number(i64),
     Name(Word),
@@ -49,7 +49,7 @@ pub enum Token {
 }
 
 /// A token of a text, its place, and the place behind it.
-#[derive(Debug, Drop)]
+#[derive(Drop)]
 pub struct Cursor {
     pub token: Token,
     pub at: usize,

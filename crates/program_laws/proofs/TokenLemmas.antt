@@ -7,7 +7,7 @@ use Rattle.std.proofs.lemmas.List.Folds.{list_all-append}
 use Rattle.asp_model.specs.WellFormed.{is_printable}
 use Rattle.asp_syntax.specs.declared.token.Token.{Token}
 use Rattle.asp_syntax.specs.declared.token.Token.TheVariants.{Number, Text, Equals, Slash, BadByte, BadNumber}
-use Rattle.asp_syntax.specs.Bytes.{is_digit, is_letter, is_blank, is_inner, is_text, is_word, is_later, sign_token, reserved_token, named_token, word_token}
+use Rattle.asp_syntax.specs.Bytes.{is_digit, is_letter, is_blank, is_inner, is_word, is_later, sign_token, reserved_token, named_token, word_token}
 use Rattle.asp_syntax.specs.Tokens.{Lexeme, lexeme, Scan, Between, InComment, AfterSlash, AfterColon, AfterEquals, InNumber, InWord, InText, Move, Goes, NoToken, TooLarge, digit, sign_move, between, with_token, move, at_end, after_move, lex, lexemes_of}
 use Rattle.laws.specs.Linked.{Each}
 use Rattle.laws.proofs.EachLemmas.{each_both}
@@ -109,7 +109,7 @@ with_moves l (TooLarge ts at) p h = (p, h)
 digit_moves : (start n b : ℕ) → Moves (digit start n b)
 digit_moves start n b = either Moves (nat_lt (n * 10 + (b - 48)) (2 ^ 63)) (tt, tt) tt
 
-text_more : (text : List ℕ) (b : ℕ) → list_all is_printable text ≡ true → is_text b ≡ true → list_all is_printable (text ++ b ∷ []) ≡ true
+text_more : (text : List ℕ) (b : ℕ) → list_all is_printable text ≡ true → is_printable b ≡ true → list_all is_printable (text ++ b ∷ []) ≡ true
 text_more text b h p = list_all-append is_printable text (b ∷ []) ∙ and_from _ _ h (and_from _ _ p refl)
 
 moves : (s : Scan) (at b : ℕ) → Scans s → Moves (move s at b)
@@ -120,7 +120,7 @@ moves (AfterColon start) at b h = either Moves (b == 61) ((refl, tt), tt) tt
 moves (AfterEquals start) at b h = either Moves (b == 61) ((refl, tt), tt) (with_moves (lexeme Equals start) (between at b) refl (between_moves at b))
 moves (InNumber start n) at b h = either Moves (is_digit b) (digit_moves start n b) (with_moves (lexeme (Number (pos n)) start) (between at b) refl (between_moves at b))
 moves (InWord start word) at b h = either Moves (is_inner b) (tt, tt) (with_moves (lexeme (word_token word) start) (between at b) (word_printable word) (between_moves at b))
-moves (InText start text) at b h = either Moves (b == 34) ((h, tt), tt) (by_test Moves (is_text b) (λ p. (tt, text_more text b h p)) tt)
+moves (InText start text) at b h = either Moves (b == 34) ((h, tt), tt) (by_test Moves (is_printable b) (λ p. (tt, text_more text b h p)) tt)
 
 ends : (s : Scan) (at : ℕ) → Scans s → Each IsPrintable (at_end s at)
 ends Between at h = (refl, tt)

@@ -1,7 +1,7 @@
 use Rattle.std.proofs.Common.{◌≡◌, ℕ, List, ◌∷◌, ◌+◌, sym, ap, ◌∙◌, arith, get_or, true, false}
 use Rattle.std.specs.Prelude.{string_bytes}
 use Rattle.asp_syntax.specs.declared.token.Token.TheVariants.{Text}
-use Rattle.asp_syntax.specs.Bytes.{is_text}
+use Rattle.asp_model.specs.WellFormed.{is_printable}
 use Rattle.asp_syntax.specs.Tokens.{lexeme, InText, Between}
 use Rattle.asp_syntax.specs.Cursors.{from}
 use Rattle.asp_syntax.proofs.Lexing.{quote_first, text_more, text_bad, text_over, text_ascii, ended}
@@ -21,7 +21,7 @@ returns-then-b-eq34-clause-value c =
 
 pub returns-then-not-is_text-clause-value : goal.returns-then-not-is_text-clause-value
 returns-then-not-is_text-clause-value c =
-    let other : is_text (get_or c.args.bytes.now c.loop-i.i 0) ≡ false = sym c.is_text.ensures ∙ c.if-not-is_text.true in
+    let other : is_printable (get_or c.args.bytes.now c.loop-i.i 0) ≡ false = sym c.is_text.ensures ∙ c.if-not-is_text.true in
     sym (text_bad c.args.start (string_bytes c.loop-i.text) c.args.bytes.now c.loop-i.i c.loop-i-test.true c.if-b-eq34.false other) ∙ c.loop-i.invariant.same
 
 pub with_byte-requires : goal.with_byte-requires
@@ -29,7 +29,7 @@ with_byte-requires c = record { ascii = text_ascii (get_or c.args.bytes.now c.lo
 
 pub loop-i-preserved : goal.loop-i-preserved
 loop-i-preserved c =
-    let inside : is_text (get_or c.args.bytes.now c.loop-i.i 0) ≡ true = sym c.is_text.ensures ∙ c.if-not-is_text.false in
+    let inside : is_printable (get_or c.args.bytes.now c.loop-i.i 0) ≡ true = sym c.is_text.ensures ∙ c.if-not-is_text.false in
     record {
       same = ap (λ (w : List ℕ). from (InText c.args.start w) c.args.bytes.now (c.loop-i.i + 1)) c.in_ok-text.ensures.text
           ∙ sym (text_more c.args.start (string_bytes c.loop-i.text) c.args.bytes.now c.loop-i.i c.loop-i-test.true c.if-b-eq34.false inside) ∙ c.loop-i.invariant.same;
