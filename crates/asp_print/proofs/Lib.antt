@@ -1,0 +1,11 @@
+-- in reading order
+pub mod PieceLemmas
+pub mod NodeLemmas
+pub mod WritingLemmas
+pub mod GrammarLemmas
+pub mod MovingLemmas
+pub mod GrammarMoves
+pub mod WordLemmas
+pub mod LexerLemmas
+pub mod PlaceLemmas
+pub mod PrintingLaws

@@ -1,0 +1,6 @@
+-- in reading order
+pub mod Texts
+pub mod Tokens
+pub mod Places
+pub mod Correct
+pub mod Parts
