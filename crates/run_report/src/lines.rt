@@ -1,0 +1,95 @@
+//! The lines of a report one by one, without their line feeds.
+
+ghost use Rattle.std.specs.Prelude.{◌≡◌, ◌++◌, codes, string_bytes, IfOk, OnOk};
+ghost use Rattle.std.specs.Fmt.{decimal};
+ghost use Rattle.asp_model.specs.Report.{fault_text as text_of_fault, name_text, status_text, verdict_line as line_of_verdict, senders_line as line_of_senders, output_line as line_of_output};
+ghost use Rattle.asp_model.specs.Shapes.{fault_shape, line_shape, status_shape, verdict_shape};
+
+use crate::names::{push_future, push_name};
+use asp_model::{ActivityName, Fault, Line, Status, Verdict};
+use std::alloc::{AllocError, Global};
+
+/// How the run ended.
+pub fn verdict_line(verdict: Verdict) -> &'static str
+    ensures verdict { result.now ≡ line_of_verdict (verdict_shape verdict) }
+{
+    match verdict {
+        Verdict::End => "verdict end",
+        Verdict::Blocked => "verdict blocked",
+        Verdict::Budget => "verdict budget",
+    }
+}
+
+/// An activity's name, its reductions and what it does.
+pub fn activity_line(
+    alloc: Global,
+    name: &ActivityName,
+    count: u64,
+    status: &Status,
+) -> Result<String, AllocError>
+    ensures activity { IfOk result (λ s. string_bytes s ≡ codes "activity " ++ name_text name.now ++ codes " " ++ decimal count ++ codes " " ++ status_text (status_shape status.now)) }
+{
+    let mut text = String::from_str(alloc, "activity ")?;
+    push_name(&mut text, name)?;
+    write!(text, " {count} ")?;
+    push_status(&mut text, status)?;
+    Ok(text)
+}
+
+/// Who sent the requests of an activity, in order of arrival.
+pub fn senders_line(alloc: Global, senders: &[ActivityName]) -> Result<String, AllocError>
+    ensures senders { IfOk result (λ s. string_bytes s ≡ line_of_senders senders.now) }
+{
+    let mut text = String::from_str(alloc, "senders")?;
+    for sender in senders {
+        text.push_str(" ")?;
+        push_name(&mut text, sender)?;
+    }
+    Ok(text)
+}
+
+/// A line of an activity's output.
+pub fn output_line(alloc: Global, line: &Line) -> Result<String, AllocError>
+    ensures output { IfOk result (λ s. string_bytes s ≡ line_of_output (line_shape line.now)) }
+{
+    match line {
+        Line::Number(n) => format!(in alloc; "> {n}"),
+        Line::Text(word) => {
+            let text = word.as_str();
+            format!(in alloc; "| {text}")
+        }
+    }
+}
+
+// What an activity does at the end.
+fn push_status(text: &mut String, status: &Status) -> Result<(), AllocError>
+    ensures { OnOk result (string_bytes text.new ≡ string_bytes text.old ++ status_text (status_shape status.now)) }
+{
+    match status {
+        Status::Done => text.push_str("done"),
+        Status::Serving => text.push_str("serving"),
+        Status::Running => text.push_str("running"),
+        Status::Awaits(future) => {
+            text.push_str("awaits ")?;
+            push_future(text, future)
+        }
+        Status::Faulted(fault) => {
+            text.push_str("fault ")?;
+            text.push_str(fault_text(*fault))
+        }
+    }
+}
+
+fn fault_text(fault: Fault) -> &'static str
+    ensures { result.now ≡ text_of_fault (fault_shape fault) }
+{
+    match fault {
+        Fault::NoField => "NoField",
+        Fault::NoMethod => "NoMethod",
+        Fault::NotObject => "NotObject",
+        Fault::NotNumber => "NotNumber",
+        Fault::ActiveField => "ActiveField",
+        Fault::Overflow => "Overflow",
+        Fault::ZeroDivisor => "ZeroDivisor",
+    }
+}

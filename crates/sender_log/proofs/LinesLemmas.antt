@@ -1,0 +1,62 @@
+-- A text line by line, by the places of its lines.
+use Rattle.std.proofs.Common.{◌≡◌, ℕ, suc, ◌+◌, ◌<◌, Bool, true, false, List, [], ◌∷◌, map, length, drop, get_or, Option, Some, None, Bor, refl, ap, sym, ◌∙◌, arith, length-drop}
+use Rattle.std.specs.Prelude.{◌==◌}
+use Rattle.std.specs.List.{onto_first}
+use Rattle.std.proofs.lemmas.List.{at_drop_more, length-map}
+use Rattle.asp_model.specs.Names.{Text}
+use Rattle.asp_model.specs.ReportLines.{parts}
+use Rattle.asp_model.specs.ReadReport.{Progress, behind, Reading, BadLine, read_on}
+
+abbrev text_in : Bor (List ℕ) → Text
+text_in l = l.now
+
+-- There is a line
+
+first_some : (b : ℕ) (ps : List Text) → 0 < length (onto_first b ps)
+first_some b [] = omega arith
+first_some b (p ∷ ps) = omega arith
+
+some_part : (b : ℕ) (t : Bool) (ps : List Text) → 0 < length {A = Text} (elim t [ true ↦ [] ∷ ps | false ↦ onto_first b ps ])
+some_part b true ps = omega arith
+some_part b false ps = first_some b ps
+
+parts_some : (c : ℕ) (bs : Text) → 0 < length (parts c bs)
+parts_some c [] = omega arith
+parts_some c (b ∷ bs) = some_part b (b == c) (parts c bs)
+
+pub lines_some : (lines : List (Bor (List ℕ))) (bs : Text) → map (λ l. l.now) lines ≡ parts 10 bs → 0 < length lines
+lines_some lines bs e = omega (arith, parts_some 10 bs, ap length e, length-map lines text_in)
+
+-- The next line
+
+read_next : ℕ → List Text → Option Progress → Reading
+read_next number ts o = elim o [ None ↦ BadLine number | Some q ↦ read_on q (suc number) ts ]
+
+with_rest : (p : Progress) (number : ℕ) (t : Text) (ts : List Text) → 0 < length ts → read_on p number (t ∷ ts) ≡ read_next number ts (behind p.next p t)
+unfolding read_next
+with_rest p number t [] h = absurd (omega arith)
+with_rest p number t (u ∷ ts) h = refl
+
+texts : List (Bor (List ℕ)) → ℕ → List Text
+texts lines i = map (λ l. l.now) (drop i lines)
+
+texts_some : (lines : List (Bor (List ℕ))) (i : ℕ) → i < length lines → 0 < length (texts lines i)
+unfolding texts
+texts_some lines i h = omega (arith, length-map (drop i lines) text_in, length-drop i lines)
+
+at_line : (p : Progress) (number i : ℕ) (lines : List (Bor (List ℕ))) (d : Bor (List ℕ)) → i + 1 < length lines → read_on p number (map (λ l. l.now) (drop i lines)) ≡ read_next number (map (λ l. l.now) (drop (i + 1) lines)) (behind p.next p (get_or lines i d).now)
+unfolding texts
+at_line p number i lines d h =
+    at_drop_more (λ (ls : List (Bor (List ℕ))). read_on p number (map (λ l. l.now) ls)) lines i d (omega arith)
+    ∙ with_rest p number (get_or lines i d).now (map (λ l. l.now) (drop (i + 1) lines)) (texts_some lines (i + 1) h)
+
+pub line_read : (p q : Progress) (number following i : ℕ) (lines : List (Bor (List ℕ))) (d : Bor (List ℕ)) → following ≡ suc number → i + 1 < length lines → behind p.next p (get_or lines i d).now ≡ Some q → read_on p number (map (λ l. l.now) (drop i lines)) ≡ read_on q following (map (λ l. l.now) (drop (i + 1) lines))
+unfolding read_next
+line_read p q number following i lines d e h b =
+    at_line p number i lines d h
+    ∙ ap (read_next number (map (λ l. l.now) (drop (i + 1) lines))) b
+    ∙ ap (λ (k : ℕ). read_on q k (map (λ l. l.now) (drop (i + 1) lines))) (sym e)
+
+pub line_refused : (p : Progress) (number i : ℕ) (lines : List (Bor (List ℕ))) (d : Bor (List ℕ)) → i + 1 < length lines → behind p.next p (get_or lines i d).now ≡ None → read_on p number (map (λ l. l.now) (drop i lines)) ≡ BadLine number
+unfolding read_next
+line_refused p number i lines d h b = at_line p number i lines d h ∙ ap (read_next number (map (λ l. l.now) (drop (i + 1) lines))) b

@@ -1,0 +1,15 @@
+-- What an error tells of a text.
+use Rattle.std.specs.Prelude.{◌≡◌, ⊤, ℕ, Option, None}
+use Rattle.asp_model.specs.ReadReport.{Progress, Reading, BadLine}
+use Rattle.sender_log.specs.declared.error.LogError.{LogError}
+use Rattle.sender_log.specs.declared.error.LogError.TheVariants as errors
+
+-- the line is the one that the definition names; want of memory tells nothing
+abbrev pub TellsOf : Reading → LogError → Type 0
+TellsOf r (errors.BadLine line) = r ≡ BadLine line
+TellsOf r errors.Memory = ⊤
+
+-- the same of one line, where the definition finds nothing behind it
+abbrev pub IsRefusedAt : ℕ → Option Progress → LogError → Type 0
+IsRefusedAt number found (errors.BadLine line) = (line ≡ number) × (found ≡ None)
+IsRefusedAt number found errors.Memory = ⊤

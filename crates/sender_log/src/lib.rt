@@ -1,0 +1,15 @@
+//! What a report says of a run: its sender lists and its counts, or its first line that cannot stand
+//! in its place.
+#![tactic(auto)]
+
+mod error;
+mod lines;
+mod names;
+mod numbers;
+mod parts;
+mod progress;
+mod read;
+mod step;
+
+pub use error::LogError;
+pub use read::read_report;

@@ -1,0 +1,51 @@
+//! How far a report has been read.
+
+ghost use Rattle.std.specs.Prelude.{◌≡◌, ◌≤◌};
+ghost use Rattle.asp_model.specs.Replay.{total as sum_of};
+
+use asp_model::ActivityName;
+use std::alloc::Global;
+
+/// The greatest sum of the counts of a report.
+pub const MOST: u64 = 10_000_000;
+
+/// What may stand in the next line.
+#[derive(Debug, Drop)]
+pub enum Next {
+    Title,
+    Verdict,
+    /// The activity line of main.
+    Main,
+    /// The senders line of this activity.
+    Senders(ActivityName),
+    /// An output, the line of an activity with a greater name, or the end.
+    Later(ActivityName),
+}
+
+/// What was read so far.
+#[derive(Debug, Drop)]
+pub struct Progress {
+    pub next: Next,
+    pub lists: Vec<(ActivityName, Vec<ActivityName>)>,
+    pub counts: Vec<(ActivityName, u64)>,
+    /// The sum of the counts.
+    pub total: u64,
+    pub ghost sum: { total ≡ sum_of counts.items },
+    pub ghost within: { total ≤ 10000000 },
+}
+
+impl Progress {
+    ghost use Rattle.sender_log.specs.Progress.{before_lines, progress_shape};
+
+    /// Before the first line.
+    pub fn new(alloc: Global) -> Progress
+        ensures before { progress_shape result ≡ before_lines }
+    {
+        Progress {
+            next: Next::Title,
+            lists: Vec::new(alloc),
+            counts: Vec::new(alloc),
+            total: 0,
+        }
+    }
+}

@@ -1,0 +1,87 @@
+//! A whole report.
+
+ghost use Rattle.std.specs.Prelude.{◌≡◌, ◌<◌, ◌≤◌, true, length, map, IfOk, IfErr};
+ghost use Rattle.std.specs.FinMap.{is_sorted};
+ghost use Rattle.asp_model.specs.Names.{name_cmp};
+ghost use Rattle.asp_model.specs.Replay.{total as sum_of};
+ghost use Rattle.asp_model.specs.ReadReport.{Reads, behind as behind_shape, ended as ended_shape, read_on, read_report as reading_of};
+ghost use Rattle.asp_model.specs.Shapes.{counts_shape, lists_shape};
+ghost use Rattle.sender_log.specs.Answers.{IsRefusedAt, TellsOf};
+ghost use Rattle.sender_log.specs.Progress.{before_lines, next_shape, progress_shape};
+
+use crate::error::LogError;
+use crate::parts::cut;
+use crate::progress::{Next, Progress};
+use crate::step::behind;
+use asp_model::{Counts, Lists};
+use std::alloc::Global;
+
+/// The sender lists and the counts that a report shows, or its first line that cannot stand in its
+/// place.
+pub fn read_report(alloc: Global, bytes: &[u8]) -> Result<(Lists, Counts), LogError>
+    ensures ok { IfOk result (λ r. reading_of bytes.now ≡ Reads (lists_shape r.0) (counts_shape r.1)) }
+    ensures bad_line { IfErr result (TellsOf (reading_of bytes.now)) }
+
+    // What is read can be run again.
+    ensures same { IfOk result (λ r. map (λ x. x.0) (lists_shape r.0) ≡ map (λ x. x.0) (counts_shape r.1)) }
+    ensures ascending { IfOk result (λ r. is_sorted name_cmp (counts_shape r.1) ≡ true) }
+    ensures within { IfOk result (λ r. sum_of (counts_shape r.1) ≤ 10000000) }
+{
+    read_bytes(alloc, bytes)
+}
+
+fn read_bytes(alloc: Global, bytes: &[u8]) -> Result<(Lists, Counts), LogError>
+    ensures ok { IfOk result (λ r. reading_of bytes.now ≡ Reads (lists_shape r.0) (counts_shape r.1)) }
+    ensures bad_line { IfErr result (TellsOf (reading_of bytes.now)) }
+{
+    let lines = cut(alloc, b'\n', bytes)?;
+    read_lines(alloc, &lines)
+}
+
+fn read_lines(alloc: Global, lines: &[&[u8]]) -> Result<(Lists, Counts), LogError>
+    requires { 0 < length lines.now }
+    ensures ok { IfOk result (λ r. read_on before_lines 1 (map (λ l. l.now) lines.now) ≡ Reads (lists_shape r.0) (counts_shape r.1)) }
+    ensures bad_line { IfErr result (TellsOf (read_on before_lines 1 (map (λ l. l.now) lines.now))) }
+{
+    let last = lines.len() - 1;
+    let mut progress = Progress::new(alloc);
+    for i in 0..last {
+        progress = advance(alloc, progress, lines[i], i as u64 + 1)?;
+    }
+    ended(progress, last as u64 + 1, lines[last])
+}
+
+// What was read with the line of this number.
+fn advance(
+    alloc: Global,
+    progress: Progress,
+    line: &[u8],
+    number: u64,
+) -> Result<Progress, LogError>
+    ensures ok { IfOk result (λ q. behind_shape (next_shape progress.next) (progress_shape progress) line.now ≡ Some (progress_shape q)) }
+    ensures bad_line { IfErr result (IsRefusedAt number (behind_shape (next_shape progress.next) (progress_shape progress) line.now)) }
+{
+    match behind(alloc, progress, line)? {
+        Some(progress) => Ok(progress),
+        None => Err(LogError::BadLine { line: number }),
+    }
+}
+
+// At the end of a text, with what stands behind its last line feed.
+fn ended(progress: Progress, number: u64, rest: &[u8]) -> Result<(Lists, Counts), LogError>
+    ensures ok { IfOk result (λ r. ended_shape (next_shape progress.next) (progress_shape progress) number rest.now ≡ Reads (lists_shape r.0) (counts_shape r.1)) }
+    ensures bad_line { IfErr result (TellsOf (ended_shape (next_shape progress.next) (progress_shape progress) number rest.now)) }
+{
+    let Progress {
+        next,
+        lists,
+        counts,
+        total: _,
+    } = progress;
+    match next {
+        Next::Later(_) if rest.is_empty() => {
+            Ok((Lists { entries: lists }, Counts { entries: counts }))
+        }
+        _ => Err(LogError::BadLine { line: number }),
+    }
+}
