@@ -1,0 +1,27 @@
+use Rattle.std.proofs.Common.{refl}
+use Rattle.clap.proofs.OnLiterals.{clap_on_literals}
+use Rattle.command_line.specs.Command.{is_taken, rows_given}
+use Rattle.command_line.specs.Lines.{AcceptedLines}
+use Rattle.command_line.specs.Task.{task_of}
+use Rattle.command_line.proofs.lines.accepted_lines.Goals as goal
+
+accepted : AcceptedLines
+unfolding clap_on_literals is_taken rows_given task_of
+accepted = record {
+  file = refl;
+  budget = refl;
+  budget_before = refl;
+  leading_zeros = refl;
+  check = refl;
+  replay = refl;
+  replay_hyphen = refl;
+  hyphen_behind = refl;
+  make = refl;
+  make_budget = refl;
+  end_of_options = refl;
+  one_hyphen = refl;
+  empty_word = refl;
+}
+
+pub returns : goal.returns
+returns c = record { lines = accepted }

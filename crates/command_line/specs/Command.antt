@@ -1,0 +1,66 @@
+-- The command in the terms of clap, and the texts that it finds in words.
+use Rattle.std.specs.Prelude.{List, [], ◌∷◌, Option, Some, Bool, true, false, codes}
+use Rattle.std.specs.Option.{option_map_or}
+use Rattle.std.specs.Str.{bytes_eq}
+use Rattle.clap.specs.Walk.{Row, Rule, Text, first_of}
+use Rattle.clap.specs.Simple.{App, matches_of, new_app, new_rule, on_top}
+use Rattle.clap.specs.Takes.{takes}
+use Rattle.clap.specs.declared.builder.action.ArgAction.TheVariants.{SetTrue}
+
+-- FILE, which may be left out
+abbrev pub file_rule : Rule
+file_rule = new_rule (codes "file")
+
+-- an option with one value, which may be left out and is given once at most
+abbrev pub option_rule : Text → Rule
+option_rule name = record (new_rule name) { long = Some name }
+
+-- a flag
+abbrev pub check_rule : Rule
+check_rule = record (option_rule (codes "check")) { action = Some SetTrue }
+
+-- the words do not begin with the program's name, and none asks for help or for the version
+abbrev pub bare_command : App
+bare_command = on_top (λ s. record s {
+  no_binary_name = true;
+  disable_help_flag = true;
+  disable_version_flag = true;
+}) (new_app (codes "asp"))
+
+abbrev pub command : App
+command = on_top (λ s. record s {
+  rules = file_rule ∷ check_rule ∷ option_rule (codes "budget")
+      ∷ option_rule (codes "replay") ∷ option_rule (codes "make") ∷ [];
+}) bare_command
+
+-- the command takes the words
+unfoldable pub is_taken : List Text → Bool
+is_taken words = takes command words
+
+-- what it finds in words that it takes
+unfoldable pub rows_given : List Text → List Row
+rows_given words = matches_of command words
+
+pub record TextsShape : Type 0 where
+  pub file : Option Text
+  pub check : Bool
+  pub replay : Option Text
+  pub make : Option Text
+  pub budget : Option Text
+
+-- the value of a flag that was given is the word true
+abbrev pub says_true : Option Text → Bool
+says_true text = option_map_or (λ t. bytes_eq t (codes "true")) text false
+
+-- each text by its name
+abbrev pub texts_in : List Row → TextsShape
+texts_in rows = record {
+  file = first_of (codes "file") rows;
+  check = says_true (first_of (codes "check") rows);
+  replay = first_of (codes "replay") rows;
+  make = first_of (codes "make") rows;
+  budget = first_of (codes "budget") rows;
+}
+
+abbrev pub texts_of : List Text → TextsShape
+texts_of words = texts_in (rows_given words)

@@ -1,0 +1,6 @@
+-- in reading order
+pub mod Command
+pub mod Task
+pub mod Lines
+pub mod PlainWords
+pub mod Shapes

@@ -1,0 +1,59 @@
+-- What words ask for.
+use Rattle.std.specs.Prelude.{◌≤◌, ℕ, nat_le, ◌&&◌, if◌then◌else◌, ⊤, Bool, true, false}
+use Rattle.std.specs.Prelude.{List, length, Option, Some, None, option_map, option_and_then}
+use Rattle.std.specs.List.{list_all}
+use Rattle.std.specs.Char.{is_ascii_digit}
+use Rattle.std.specs.Str.Parse.{digits_value}
+use Rattle.clap.specs.Walk.{Text}
+use Rattle.command_line.specs.Command.{TextsShape, is_taken, texts_of}
+
+pub data TaskShape : Type 0 where
+  Runs : (file : Text) (budget : ℕ) → TaskShape
+  Checks : (file : Text) → TaskShape
+  Replays : (file report : Text) → TaskShape
+  Makes : (pairs budget : ℕ) → TaskShape
+
+-- the budget is 1 to 10000000, and the pairs are 1 to 2000
+abbrev pub IsWithin : TaskShape → Type 0
+IsWithin (Runs file budget) = (1 ≤ budget) × (budget ≤ 10000000)
+IsWithin (Makes pairs budget) =
+    ((1 ≤ pairs) × (pairs ≤ 2000)) × ((1 ≤ budget) × (budget ≤ 10000000))
+IsWithin task = ⊤
+
+-- 1 to 8 decimal digits
+abbrev pub is_number : Text → Bool
+is_number text =
+    nat_le 1 (length text) && (nat_le (length text) 8 && list_all is_ascii_digit text)
+
+-- the number that the text writes, where it is one from the least to the most
+abbrev pub number_in : ℕ → ℕ → Text → Option ℕ
+number_in least most text =
+    if is_number text && (nat_le least (digits_value 10 text) && nat_le (digits_value 10 text) most)
+    then Some (digits_value 10 text) else None
+
+abbrev pub budget_of : Option Text → Option ℕ
+budget_of None = Some 1000000
+budget_of (Some text) = number_in 1 10000000 text
+
+abbrev pub running : Text → Option Text → Option TaskShape
+running file budget = option_map (Runs file) (budget_of budget)
+
+abbrev pub making : Text → Option Text → Option TaskShape
+making pairs budget =
+    option_and_then (λ n. option_map (Makes n) (budget_of budget)) (number_in 1 2000 pairs)
+
+-- which of FILE, --check, --replay, --make and --budget may stand together, and what they ask for
+abbrev pub asked_by :
+    (file : Option Text) (check : Bool) (replay make budget : Option Text) → Option TaskShape
+asked_by (Some file) false None None budget = running file budget
+asked_by (Some file) true None None None = Some (Checks file)
+asked_by (Some file) false (Some report) None None = Some (Replays file report)
+asked_by None false None (Some pairs) budget = making pairs budget
+asked_by file check replay make budget = None
+
+abbrev pub task_in : TextsShape → Option TaskShape
+task_in t = asked_by t.file t.check t.replay t.make t.budget
+
+-- what the words ask for, where the command takes them and their texts may stand together
+unfoldable pub task_of : List Text → Option TaskShape
+task_of words = if is_taken words then task_in (texts_of words) else None

@@ -1,0 +1,119 @@
+//! The command as `clap` reads it, and the texts that it finds in the words. Which texts may stand
+//! together is no matter of the command.
+
+ghost use Rattle.std.specs.Prelude.{◌≡◌, IfOk, IfErr, map, option_map, string_bytes, false, true};
+ghost use Rattle.clap.specs.Words.{app_of, first_of, found_of, rows_of, rule_of, with_rule};
+ghost use Rattle.command_line.specs.Command.{bare_command, check_rule, command as the_command, file_rule, is_taken, option_rule, rows_given, says_true, texts_in, texts_of};
+ghost use Rattle.command_line.specs.Shapes.{texts_shape};
+ghost use Rattle.command_line.specs.declared.error.WordsError.TheVariants as errors;
+
+use crate::error::WordsError;
+use clap::error::ErrorKind;
+use clap::{Arg, ArgAction, ArgMatches, Command};
+use std::alloc::{AllocError, Global};
+
+/// The texts that the words give.
+#[derive(Drop)]
+pub struct Texts<'a> {
+    pub file: Option<&'a str>,
+    pub check: bool,
+    pub replay: Option<&'a str>,
+    pub make: Option<&'a str>,
+    pub budget: Option<&'a str>,
+}
+
+/// The texts in words that are the command's.
+pub fn read_texts<'a>(alloc: Global, words: &'a [String]) -> Result<Texts<'a>, WordsError>
+    ensures taken { IfOk result (λ _. is_taken (map string_bytes words.now) ≡ true) }
+    ensures texts { IfOk result (λ t. texts_shape t ≡ texts_of (map string_bytes words.now)) }
+    ensures usage { IfErr result (λ e. e ≡ errors.Usage → is_taken (map string_bytes words.now) ≡ false) }
+{
+    let matches = matches(alloc, words)?;
+    Ok(texts_found(&matches))
+}
+
+// What the command finds in the words.
+#[tactic(auto, unfolding(crate::specs::Command::is_taken, crate::specs::Command::rows_given))]
+fn matches<'a>(alloc: Global, words: &'a [String]) -> Result<ArgMatches<'a>, WordsError>
+    ensures taken { IfOk result (λ _. is_taken (map string_bytes words.now) ≡ true) }
+    ensures rows { IfOk result (λ m. rows_of (found_of m) ≡ rows_given (map string_bytes words.now)) }
+    ensures usage { IfErr result (λ e. e ≡ errors.Usage → is_taken (map string_bytes words.now) ≡ false) }
+{
+    let command = command(alloc)?;
+    match command.try_get_matches_from(words) {
+        Ok(matches) => Ok(matches),
+        Err(error) => match error.kind() {
+            ErrorKind::OutOfMemory => Err(WordsError::Memory),
+            _ => Err(WordsError::Usage),
+        },
+    }
+}
+
+// The whole command.
+fn command<'a>(alloc: Global) -> Result<Command<'a>, AllocError>
+    ensures { IfOk result (λ c. app_of c ≡ the_command) }
+{
+    let command = with_file_and_check(alloc)?;
+    let command = with_option(alloc, command, "budget")?;
+    let command = with_option(alloc, command, "replay")?;
+    with_option(alloc, command, "make")
+}
+
+// The program's name, FILE and `--check`.
+fn with_file_and_check<'a>(alloc: Global) -> Result<Command<'a>, AllocError>
+    ensures { IfOk result (λ c. app_of c ≡ with_rule (with_rule bare_command file_rule) check_rule) }
+{
+    let command = Command::new(alloc, "asp")
+        .no_binary_name(true)
+        .disable_help_flag(true)
+        .disable_version_flag(true);
+    let check = option(alloc, "check").action(ArgAction::SetTrue);
+    command.arg(Arg::new(alloc, "file"))?.arg(check)
+}
+
+fn with_option<'a>(
+    alloc: Global,
+    command: Command<'a>,
+    name: &'a str,
+) -> Result<Command<'a>, AllocError>
+    ensures { IfOk result (λ c. app_of c ≡ with_rule (app_of command.entry) (option_rule name.entry.now)) }
+{
+    command.arg(option(alloc, name))
+}
+
+// An option with one value.
+fn option<'a>(alloc: Global, name: &'a str) -> Arg<'a>
+    ensures rule { rule_of result ≡ option_rule name.entry.now }
+    ensures local { result.global ≡ false }
+{
+    Arg::new(alloc, name).long(name)
+}
+
+// The texts among what the command found.
+fn texts_found<'a>(matches: &ArgMatches<'a>) -> Texts<'a>
+    ensures { texts_shape result ≡ texts_in (rows_of (found_of matches.now)) }
+{
+    Texts {
+        file: text_of(matches, "file"),
+        check: is_true(text_of(matches, "check")),
+        replay: text_of(matches, "replay"),
+        make: text_of(matches, "make"),
+        budget: text_of(matches, "budget"),
+    }
+}
+
+fn text_of<'a>(matches: &ArgMatches<'a>, id: &str) -> Option<&'a str>
+    ensures { option_map (λ s. s.now) result ≡ first_of id.now (rows_of (found_of matches.now)) }
+{
+    matches.get_str(id)
+}
+
+// The flag was given.
+fn is_true(text: Option<&str>) -> bool
+    ensures { result ≡ says_true (option_map (λ s. s.now) text.entry) }
+{
+    match text {
+        Some(text) => text == "true",
+        None => false,
+    }
+}

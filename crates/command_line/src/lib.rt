@@ -1,0 +1,12 @@
+//! The words of the command line, and what they ask for.
+#![tactic(auto)]
+
+mod command;
+mod error;
+mod lines;
+mod number;
+mod task;
+
+pub use error::WordsError;
+pub use lines::{accepted_lines, plain_word_runs, refused_lines};
+pub use task::{Task, read_words};

@@ -1,0 +1,110 @@
+//! What the words ask for.
+
+ghost use Rattle.std.specs.Prelude.{◌≡◌, ◌≤◌, IfOk, IfErr, Some, None, map, string_bytes};
+ghost use Rattle.command_line.specs.Task.{IsWithin, budget_of, making, running, task_in, task_of};
+ghost use Rattle.command_line.specs.Shapes.{task_shape, text_behind, texts_shape};
+ghost use Rattle.command_line.specs.declared.error.WordsError.TheVariants as errors;
+
+use crate::command::{Texts, read_texts};
+use crate::error::WordsError;
+use crate::number::number_in;
+use std::alloc::Global;
+
+const DEFAULT_BUDGET: u64 = 1_000_000;
+
+const MOST_BUDGET: u64 = 10_000_000;
+
+const MOST_PAIRS: u64 = 2000;
+
+/// What the words ask for.
+#[derive(Debug, Drop)]
+pub enum Task<'a> {
+    /// Run the program in a file.
+    Run {
+        /// The file's name.
+        file: &'a str,
+        /// The most reductions that it may take.
+        budget: u64,
+    },
+    /// Read and check it alone.
+    Check {
+        /// The file's name.
+        file: &'a str,
+    },
+    /// Replay a report of it.
+    Replay {
+        /// The program's file.
+        file: &'a str,
+        /// The report's file.
+        report: &'a str,
+    },
+    /// Run the generated program of so many pairs.
+    Make {
+        /// The number of pairs.
+        pairs: u64,
+        /// The most reductions that it may take.
+        budget: u64,
+    },
+}
+
+/// What the words, without the program's name, ask for.
+#[tactic(auto, unfolding(crate::specs::Task::task_of))]
+pub fn read_words<'a>(alloc: Global, words: &'a [String]) -> Result<Task<'a>, WordsError>
+    ensures ok { IfOk result (λ t. task_of (map string_bytes words.now) ≡ Some (task_shape t)) }
+    ensures usage { IfErr result (λ e. e ≡ errors.Usage → task_of (map string_bytes words.now) ≡ None) }
+    ensures within { IfOk result (λ t. IsWithin (task_shape t)) }
+{
+    let texts = read_texts(alloc, words)?;
+    task_from(&texts)
+}
+
+// The task, where the texts may stand together.
+fn task_from<'a>(texts: &Texts<'a>) -> Result<Task<'a>, WordsError>
+    ensures ok { IfOk result (λ t. task_in (texts_shape texts.now) ≡ Some (task_shape t)) }
+    ensures usage { IfErr result (λ _. task_in (texts_shape texts.now) ≡ None) }
+    ensures within { IfOk result (λ t. IsWithin (task_shape t)) }
+{
+    match (
+        texts.file,
+        texts.check,
+        texts.replay,
+        texts.make,
+        texts.budget,
+    ) {
+        (Some(file), false, None, None, budget) => run(file, budget),
+        (Some(file), true, None, None, None) => Ok(Task::Check { file }),
+        (Some(file), false, Some(report), None, None) => Ok(Task::Replay { file, report }),
+        (None, false, None, Some(pairs), budget) => make(pairs, budget),
+        _ => Err(WordsError::Usage),
+    }
+}
+
+fn run<'a>(file: &'a str, budget: Option<&str>) -> Result<Task<'a>, WordsError>
+    ensures ok { IfOk result (λ t. running file.entry.now (text_behind budget.entry) ≡ Some (task_shape t)) }
+    ensures usage { IfErr result (λ _. running file.entry.now (text_behind budget.entry) ≡ None) }
+    ensures within { IfOk result (λ t. IsWithin (task_shape t)) }
+{
+    let budget = budget_in(budget)?;
+    Ok(Task::Run { file, budget })
+}
+
+fn make<'a>(pairs: &str, budget: Option<&str>) -> Result<Task<'a>, WordsError>
+    ensures ok { IfOk result (λ t. making pairs.now (text_behind budget.entry) ≡ Some (task_shape t)) }
+    ensures usage { IfErr result (λ _. making pairs.now (text_behind budget.entry) ≡ None) }
+    ensures within { IfOk result (λ t. IsWithin (task_shape t)) }
+{
+    let pairs = number_in(pairs, 1, MOST_PAIRS).ok_or(WordsError::Usage)?;
+    let budget = budget_in(budget)?;
+    Ok(Task::Make { pairs, budget })
+}
+
+fn budget_in(text: Option<&str>) -> Result<u64, WordsError>
+    ensures ok { IfOk result (λ n. budget_of (text_behind text.entry) ≡ Some n) }
+    ensures usage { IfErr result (λ _. budget_of (text_behind text.entry) ≡ None) }
+    ensures within { IfOk result (λ n. (1 ≤ n) × (n ≤ 10000000)) }
+{
+    match text {
+        Some(text) => number_in(text, 1, MOST_BUDGET).ok_or(WordsError::Usage),
+        None => Ok(DEFAULT_BUDGET),
+    }
+}
