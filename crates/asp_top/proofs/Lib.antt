@@ -1,7 +1,7 @@
-pub mod WordLemmas
-pub mod PieceLemmas
 pub mod SinkLemmas
-pub mod OutcomeLemmas
 pub mod StopLemmas
+pub mod PrepareLemmas
+pub mod OutcomeLemmas
 pub mod EndsLemmas
 pub mod StatusLemmas
+pub mod CauseLemmas

@@ -1,59 +1,94 @@
--- The outcome of a run, from the run of one thread.
-use Rattle.std.proofs.Common.{◌≡◌, ℕ, ◌≤◌, List, Bool, true, false, refl, sym, ap, subst, ◌∙◌}
-use Rattle.std.specs.Prelude.{cond}
-use Rattle.std.specs.List.{list_any}
+-- What a run and a replay have written, from the outcome of the machine of one thread.
+use Rattle.std.proofs.Common.{◌≡◌, ℕ, ◌≤◌, List, refl, sym, ap, subst, ◌∙◌}
 use Rattle.asp_model.specs.Configuration.{Configuration}
-use Rattle.asp_model.specs.Status.{End, Blocked, Budget, is_awaiting, is_running, statuses_of, verdict_of}
-use Rattle.asp_model.specs.Replay.{CountsShape, plain_run, replay, total, counts_of}
-use Rattle.asp_model.specs.Outcome.{OutcomeShape, outcome_of, counts_in}
-use Rattle.asp_model.specs.Report.{report_of}
-use Rattle.asp_model.specs.Shapes.{tree_of, marked_of}
+use Rattle.asp_model.specs.Step.{ListsShape}
+use Rattle.asp_model.specs.Status.{Budget, verdict_of}
+use Rattle.asp_model.specs.Replay.{CountsShape, Fits, plain_run, replay, total, counts_of}
+use Rattle.asp_model.specs.Outcome.{OutcomeShape, outcome_of, counts_in, exit_status}
+use Rattle.asp_model.specs.Report.{report_of, text_of}
+use Rattle.asp_model.specs.ReadReport.{read_report, Reads}
+use Rattle.asp_model.specs.Shapes.{tree_of}
 use Rattle.asp_check.specs.declared.checked.Checked.{Checked}
 use Rattle.outcome_laws.specs.Outcomes.{ShowsItsReplay}
 use Rattle.outcome_laws.proofs.OutcomeLemmas.{outcome_counts}
 use Rattle.outcome_laws.proofs.ReportLaws.{plain_runs_show_replays}
 use Rattle.program_laws.proofs.ProgramLaws.{program_texts_are_printable}
+use Rattle.run_report.specs.Summary.{summary_lines}
 use Rattle.replay_one.specs.Correct.{IsSpent}
-use Rattle.asp_top.specs.Correct.{Stops, Ended, Waiting, Spent}
-use Rattle.asp_top.specs.Stops.{IsCheckedText, IsOutcome}
-
-stops_if : (budget : ℕ) (counts : CountsShape) (c : Configuration) (running awaiting : Bool) → list_any is_running (statuses_of c) ≡ running → list_any is_awaiting (statuses_of c) ≡ awaiting
-    → total counts ≤ budget → (verdict_of c ≡ Budget → total counts ≡ budget) → Stops budget counts c
-stops_if budget counts c true w h g within spent =
-    let v : verdict_of c ≡ Budget = ap (λ (b : Bool). cond b Budget (cond (list_any is_awaiting (statuses_of c)) Blocked End)) h in
-    Spent v (λ (s : list_any is_running (statuses_of c) ≡ false). let no : true ≡ false = sym h ∙ s in absurd cc) (spent v)
-stops_if budget counts c false true h g within spent =
-    Waiting (ap (λ (b : Bool). cond b Budget (cond (list_any is_awaiting (statuses_of c)) Blocked End)) h ∙ ap (λ (b : Bool). cond b Blocked End) g) h g within
-stops_if budget counts c false false h g within spent =
-    Ended (ap (λ (b : Bool). cond b Budget (cond (list_any is_awaiting (statuses_of c)) Blocked End)) h ∙ ap (λ (b : Bool). cond b Blocked End) g) h g within
+use Rattle.load_gen.specs.Generated.{generated}
+use Rattle.command_line.specs.Task.{Runs, Replays, Makes}
+use Rattle.asp_top.specs.Seen.{Outside}
+use Rattle.asp_top.specs.Programs.{IsProgramOf, HasReport}
+use Rattle.asp_top.specs.Correct.{Answers, IsWithin}
+use Rattle.asp_top.specs.Stops.{IsInFile, program_in}
 
 -- where an outcome is that of a configuration, so are its verdict and its counts
-stops_as : (budget : ℕ) (counts : CountsShape) (c : Configuration) (o : OutcomeShape) → outcome_of c ≡ o → counts_of c ≡ counts
-    → total (counts_in o) ≤ budget → IsSpent budget o → Stops budget counts c
-stops_as budget counts c o e reached within spent =
+within_as : (budget : ℕ) (counts : CountsShape) (c : Configuration) (o : OutcomeShape) → outcome_of c ≡ o → counts_of c ≡ counts
+    → total (counts_in o) ≤ budget → IsSpent budget o → IsWithin budget counts c
+within_as budget counts c o e reached within spent =
     let same : counts_in o ≡ counts = sym (ap counts_in e) ∙ outcome_counts c ∙ reached in
-    stops_if budget counts c (list_any is_running (statuses_of c)) (list_any is_awaiting (statuses_of c)) refl refl
-    (subst (λ (k : CountsShape). total k ≤ budget) same within)
-    (λ (v : verdict_of c ≡ Budget). sym (ap total same) ∙ spent (sym (ap (λ (x : OutcomeShape). x.verdict) e) ∙ v))
-
--- the outcome of a checked program's run
-pub outcome_is : (bytes : List ℕ) (budget : ℕ) (c : Checked) (o : OutcomeShape) → IsCheckedText bytes c → budget ≤ 10000000 → o ≡ outcome_of (plain_run budget (tree_of c.program.root))
-    → total (counts_in o) ≤ budget → IsSpent budget o → IsOutcome bytes budget o
-outcome_is bytes budget c o t few run within spent =
-    let program = tree_of c.program.root in
-    let texts = program_texts_are_printable bytes (marked_of c.program.root) t.is_read in
-    let shown : ShowsItsReplay program o = subst (ShowsItsReplay program) (sym run) (plain_runs_show_replays budget program texts few) in
     record {
-      report = record {
-        program = marked_of c.program.root;
-        is_read = t.is_read;
-        checked = t.checked;
+      within = subst (λ (k : CountsShape). total k ≤ budget) same within;
+      spent = λ (v : verdict_of c ≡ Budget). sym (ap total same) ∙ spent (sym (ap (λ (x : OutcomeShape). x.verdict) e) ∙ v);
+    }
+
+-- what the machine says of a run
+pub record IsRunOutcome (c : Checked) (budget : ℕ) (o : OutcomeShape) : Type 0 where
+  pub few : budget ≤ 10000000
+  pub run : o ≡ outcome_of (plain_run budget (tree_of c.program.root))
+  pub within : total (counts_in o) ≤ budget
+  pub spent : IsSpent budget o
+
+shown_by : (bytes : List ℕ) (budget : ℕ) (c : Checked) (o : OutcomeShape) → IsProgramOf bytes (program_in c) → IsRunOutcome c budget o → ShowsItsReplay (tree_of c.program.root) o
+shown_by bytes budget c o is h =
+    let program = tree_of c.program.root in
+    let texts = program_texts_are_printable bytes (program_in c) is.is_read in
+    subst (ShowsItsReplay program) (sym h.run) (plain_runs_show_replays budget program texts h.few)
+
+pub run_is : (o : Outside) (file : List ℕ) (budget : ℕ) (c : Checked) (outcome : OutcomeShape) (text : List ℕ) (status : ℕ) → IsInFile o file (program_in c) → IsRunOutcome c budget outcome
+    → text ≡ report_of outcome → status ≡ exit_status outcome → Answers o (Runs file budget) text status
+run_is o file budget c outcome text status given h e s =
+    let shown = shown_by given.bytes budget c outcome given.is h in (
+      record {
+        program = program_in c;
+        given = record { bytes = given.bytes; text = given.file; is = given.is };
         lists = shown.lists;
         counts = shown.counts;
-        reads = shown.read;
+        reads = subst (λ (t : List ℕ). read_report t ≡ Reads shown.lists shown.counts) (sym e) shown.read;
         fits = shown.fits;
-        same = sym (ap report_of shown.outcome);
-        stops = stops_as budget shown.counts (replay program shown.lists shown.counts) o shown.outcome shown.fits.reached within spent;
-      };
-      same = shown.outcome;
-    }
+        same = e ∙ sym (ap report_of shown.outcome);
+        within = within_as budget shown.counts (replay (tree_of c.program.root) shown.lists shown.counts) outcome shown.outcome shown.fits.reached h.within h.spent;
+      },
+      s ∙ sym (ap exit_status shown.outcome),
+    )
+
+pub made_is : (o : Outside) (pairs budget : ℕ) (bytes : List ℕ) (c : Checked) (outcome : OutcomeShape) (text : List ℕ) (status : ℕ) → bytes ≡ generated pairs → IsProgramOf bytes (program_in c) → IsRunOutcome c budget outcome
+    → text ≡ text_of (summary_lines pairs outcome) → status ≡ exit_status outcome → Answers o (Makes pairs budget) text status
+made_is o pairs budget bytes c outcome text status made is h e s =
+    let shown = shown_by bytes budget c outcome is h in (
+      record {
+        program = program_in c;
+        given = record { bytes = bytes; text = made; is = is };
+        lists = shown.lists;
+        counts = shown.counts;
+        fits = shown.fits;
+        same = e ∙ sym (ap (λ (x : OutcomeShape). text_of (summary_lines pairs x)) shown.outcome);
+        within = within_as budget shown.counts (replay (tree_of c.program.root) shown.lists shown.counts) outcome shown.outcome shown.fits.reached h.within h.spent;
+      },
+      s ∙ sym (ap exit_status shown.outcome),
+    )
+
+pub replay_is : (o : Outside) (file name : List ℕ) (c : Checked) (lists : ListsShape) (counts : CountsShape) (outcome : OutcomeShape) (text : List ℕ) (status : ℕ) → IsInFile o file (program_in c) → HasReport o name lists counts
+    → Fits (tree_of c.program.root) lists counts → outcome ≡ outcome_of (replay (tree_of c.program.root) lists counts) → text ≡ report_of outcome → status ≡ exit_status outcome → Answers o (Replays file name) text status
+replay_is o file name c lists counts outcome text status given old fits is e s = (
+  record {
+    program = program_in c;
+    given = record { bytes = given.bytes; text = given.file; is = given.is };
+    lists = lists;
+    counts = counts;
+    old = old;
+    fits = fits;
+    same = e ∙ ap report_of is;
+  },
+  s ∙ ap exit_status is,
+)

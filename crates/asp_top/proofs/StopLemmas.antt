@@ -1,44 +1,62 @@
--- Stops and their messages.
-use Rattle.std.proofs.Common.{◌≡◌, ℕ, List, Result, Ok, Err, sym, subst, ◌⊎◌, inl, inr, refl, ap}
+-- The causes of stops.
+use Rattle.std.proofs.Common.{◌≡◌, ℕ, ◌≤◌, ◌^◌, List, Option, Some, None, Result, Ok, Err, sym, subst, ◌∙◌, ◌⊎◌, inl, inr, refl, ap, arith, map}
 use Rattle.std.specs.Prelude.{IfOk, IfErr, OnErr}
 use Rattle.std.specs.Result.{IsErrAnd}
 use Rattle.asp_model.specs.declared.term.Program.{Program}
-use Rattle.asp_model.specs.Marked.{Marked}
+use Rattle.asp_model.specs.Names.{Name, name_cmp}
+use Rattle.asp_model.specs.Marked.{Marked, plain}
 use Rattle.asp_model.specs.Shapes.{marked_of}
+use Rattle.asp_model.specs.Step.{ListsShape}
+use Rattle.asp_model.specs.Replay.{CountsShape, Fits, IsLeastDiverging}
+use Rattle.asp_model.specs.ReadReport.{Reading, read_report, BadLine}
 use Rattle.asp_syntax.specs.declared.error.SyntaxError.{SyntaxError}
-use Rattle.asp_syntax.specs.declared.error.SyntaxError.TheVariants as errors
+use Rattle.asp_syntax.specs.declared.error.SyntaxError.TheVariants as syntax
 use Rattle.asp_syntax.specs.Tokens.{lexemes_of}
 use Rattle.asp_syntax.specs.Faults.{FirstFault}
 use Rattle.asp_syntax.specs.Correct.{IsProgramText, IfFault, IsOkWith}
 use Rattle.asp_check.specs.declared.checked.Checked.{Checked}
 use Rattle.asp_check.specs.declared.fault.CheckError.{CheckError}
-use Rattle.asp_check.specs.declared.fault.CheckError.TheVariants as checks
+use Rattle.asp_check.specs.declared.fault.CheckError.TheVariants as check
 use Rattle.asp_check.specs.declared.fault.CheckFault.{CheckFault}
 use Rattle.asp_check.specs.Faults.{IsChecked, IsFirstFault}
-use Rattle.asp_top.specs.declared.prepare.Stop.{Stop}
-use Rattle.asp_top.specs.Seen.{Sight, Refusal, NoMemory, status_of_refusal, message_of}
-use Rattle.asp_top.specs.Stops.{StopsAt, syntax_stop, check_stop, IsCheckedText, Told, ToldRefusal}
+use Rattle.asp_edge.specs.Causes.{Rose, next_number, IsLonger, IsContent}
+use Rattle.asp_edge.specs.declared.edge.ReadError.TheVariants as reads
+use Rattle.sender_log.specs.declared.error.LogError.{LogError}
+use Rattle.sender_log.specs.declared.error.LogError.TheVariants as log
+use Rattle.sender_log.specs.Answers.{TellsOf}
+use Rattle.replay_one.specs.declared.replays.ReplayStop.{ReplayStop}
+use Rattle.replay_one.specs.declared.replays.ReplayStop.TheVariants as replays
+use Rattle.replay_one.specs.Correct.{IsStop}
+use Rattle.asp_top.specs.declared.stop.Stop.{Stop}
+use Rattle.asp_top.specs.Seen.{Outside, Sight, Refusal, NoMemory, IsLong, status_of_refusal, message_of}
+use Rattle.asp_top.specs.Programs.{IsProgramOf, IsFile}
+use Rattle.asp_top.specs.Stops.{StopsAt, syntax_stop, check_stop, log_stop, replay_stop, refusal_of, program_in, Told, ToldRefusal}
 
 -- a fault that was found stops there
-pub stops_at : (bytes : List ℕ) (e : SyntaxError) → (let r : Result Program SyntaxError = Err e in IfFault r (λ f. FirstFault (lexemes_of bytes) f)) → ((m : Marked) → IsProgramText bytes m → let r : Result Program SyntaxError = Err e in IsOkWith r m) → StopsAt bytes (syntax_stop e)
-stops_at bytes (errors.Fault f) h g = record { first = h; none = g }
-stops_at bytes errors.Memory h g = tt
+pub stops_at : (bytes : List ℕ) (e : SyntaxError) → (let r : Result Program SyntaxError = Err e in IfFault r (λ f. FirstFault (lexemes_of bytes) f)) → ((m : Marked) → IsProgramText bytes m → let r : Result Program SyntaxError = Err e in IsOkWith r m) → StopsAt bytes (refusal_of (syntax_stop e))
+stops_at bytes (syntax.Fault f) h g = record { first = h; none = g }
+stops_at bytes syntax.Memory h g = tt
 
 -- so does a fault of the program that the bytes are
-pub check_stops_at : (bytes : List ℕ) (m : Marked) (e : CheckError) → IsProgramText bytes m → ((n : Marked) → IsProgramText bytes n → m ≡ n) → ((f : CheckFault) → e ≡ checks.Fault f → IsFirstFault m f) → (IsChecked m → e ≡ checks.Memory) → StopsAt bytes (check_stop e)
-check_stops_at bytes m (checks.Fault f) h one first only =
+pub check_stops_at : (bytes : List ℕ) (m : Marked) (e : CheckError) → IsProgramText bytes m → ((n : Marked) → IsProgramText bytes n → m ≡ n) → ((f : CheckFault) → e ≡ check.Fault f → IsFirstFault m f) → (IsChecked m → e ≡ check.Memory) → StopsAt bytes (refusal_of (check_stop e))
+check_stops_at bytes m (check.Fault f) h one first only =
     record {
       program = m;
       is_read = h;
       first = first f refl;
-      none = λ n r k. let no : checks.Fault f ≡ checks.Memory = only (subst IsChecked (sym (one n r)) k) in absurd cc;
+      none = λ n r k. let no : check.Fault f ≡ check.Memory = only (subst IsChecked (sym (one n r)) k) in absurd cc;
     }
-check_stops_at bytes m checks.Memory h one first only = tt
+check_stops_at bytes m check.Memory h one first only = tt
 
-pub checked_text : (bytes : List ℕ) (p : Program) (c : Checked) → IsProgramText bytes (marked_of p.root) → (c.program ≡ p) × IsChecked (marked_of p.root) → IsCheckedText bytes c
-checked_text bytes p c h k =
-    let same : marked_of p.root ≡ marked_of c.program.root = ap (λ (q : Program). marked_of q.root) (sym k.0) in
-    record { is_read = subst (IsProgramText bytes) same h; checked = subst IsChecked same k.1 }
+pub program_is : (bytes : List ℕ) (p : Program) (c : Checked) → IsProgramText bytes (marked_of p.root) → ((n : Marked) → IsProgramText bytes n → marked_of p.root ≡ n) → (c.program ≡ p) × IsChecked (marked_of p.root) → IsProgramOf bytes (program_in c)
+program_is bytes p c h one k =
+    let same : marked_of p.root ≡ program_in c = ap (λ (q : Program). marked_of q.root) (sym k.0) in
+    subst (IsProgramOf bytes) same (record { is_read = h; only = one; checked = k.1 })
+
+-- a result that is an error with this refusal
+pub stops_if : {T : Type 0} (P : Refusal → Type 0) (r : Result T Stop) (stop : Stop) → IsErrAnd r (λ s. s ≡ stop) → P (refusal_of stop) → IfErr r (λ s. P (refusal_of s))
+stops_if P (Ok x) stop e h = tt
+stops_if P (Err s) stop e h = subst (λ (t : Stop). P (refusal_of t)) (sym e) h
 
 -- the message that was made is told, or that there is no memory
 pub made_told : {S E : Type 0} (text : S → List ℕ) (r : Refusal) (message : Result S E) (s : Sight) (result : ℕ) → IfOk message (λ t. text t ≡ message_of r) → IfOk message (λ t. Told s (text t) (status_of_refusal r) result) → IfErr message (λ e. Told s (message_of NoMemory) 8 result)
@@ -46,10 +64,19 @@ pub made_told : {S E : Type 0} (text : S → List ℕ) (r : Refusal) (message : 
 made_told text r (Ok t) s result e h g = inl (subst (λ (l : List ℕ). Told s l (status_of_refusal r) result) e h)
 made_told text r (Err x) s result e h g = inr g
 
-pub stops_if : {T : Type 0} (bytes : List ℕ) (r : Result T Stop) (stop : Stop) → IsErrAnd r (λ s. s ≡ stop) → StopsAt bytes stop → IfErr r (StopsAt bytes)
-stops_if bytes (Ok x) stop e h = tt
-stops_if bytes (Err s) stop e h = subst (StopsAt bytes) (sym e) h
-
 pub if_failed : {T E : Type 0} (r : Result T E) (P : Type 0) → P → OnErr r P
 if_failed (Ok x) P h = tt
 if_failed (Err e) P h = h
+
+-- a count that rose after it had not fallen
+pub rose_later : (a b c : ℕ) → a ≤ b → Rose b c → Rose a c
+rose_later a b c h r = omega (arith, h, r)
+
+-- more bytes than the most were taken
+pub is_long : (content : Option (List ℕ)) (most taken : ℕ) → IsLonger content most (reads.TooLong taken) → IsLong most content
+is_long None most taken h = tt
+is_long (Some bytes) most taken h = omega (arith, h.0, h.1)
+
+pub if_named : {S E : Type 0} (f : S → List ℕ) (r : Result S E) (a b : List ℕ) → a ≡ b → IfOk r (λ s. f s ≡ a) → IfOk r (λ s. f s ≡ b)
+if_named f (Ok s) a b e h = h ∙ e
+if_named f (Err x) a b e h = tt

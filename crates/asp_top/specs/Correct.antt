@@ -1,67 +1,80 @@
--- The main theorem: what a report that was written says. The words, the files and the sinks are seen
--- as Words and Seen say.
-use Rattle.std.specs.Prelude.{◌≡◌, ◌⊎◌, ℕ, ◌≤◌, ◌^◌, true, false, List, length, Some}
-use Rattle.std.specs.List.{list_any}
+-- The main theorem: what a call that is not refused writes, for each task. `Reports` is the clause of the call.
+use Rattle.std.specs.Prelude.{◌≡◌, ◌⊎◌, ℕ, ◌≤◌, List, Option, Some, None, codes}
 use Rattle.asp_model.specs.Marked.{Marked, plain}
 use Rattle.asp_model.specs.Configuration.{Configuration}
 use Rattle.asp_model.specs.Step.{ListsShape}
-use Rattle.asp_model.specs.Status.{End, Blocked, Budget, IsStuck, is_awaiting, statuses_of, verdict_of}
+use Rattle.asp_model.specs.Status.{Budget, verdict_of}
 use Rattle.asp_model.specs.Replay.{CountsShape, Fits, replay, total}
 use Rattle.asp_model.specs.Outcome.{outcome_of, exit_status}
-use Rattle.asp_model.specs.Report.{report_of}
+use Rattle.asp_model.specs.Report.{report_of, text_of, with_feed}
 use Rattle.asp_model.specs.ReadReport.{read_report, Reads}
-use Rattle.asp_syntax.specs.Correct.{IsProgramText}
-use Rattle.asp_check.specs.Faults.{IsChecked}
-use Rattle.asp_edge.specs.Causes.{IsContent}
-use Rattle.asp_top.specs.Words.{Settings, settings_of}
-use Rattle.asp_top.specs.Seen.{Inputs, Sight, IsUntouched, Takes}
+use Rattle.run_report.specs.Summary.{summary_lines}
+use Rattle.command_line.specs.Task.{TaskShape, Runs, Checks, Replays, Makes}
+use Rattle.asp_top.specs.Seen.{Outside, Sight, IsUntouched, Takes}
+use Rattle.asp_top.specs.Programs.{HasProgram, HasReport}
 
--- no activity awaits a future's value
-abbrev pub NoneAwaits : Configuration → Type 0
-NoneAwaits c = list_any is_awaiting (statuses_of c) ≡ false
+-- no more reductions than the budget, and as many where the verdict says so
+pub record IsWithin (budget : ℕ) (counts : CountsShape) (c : Configuration) : Type 0 where
+  pub within : total counts ≤ budget
+  pub spent : verdict_of c ≡ Budget → total counts ≡ budget
 
-abbrev pub SomeAwaits : Configuration → Type 0
-SomeAwaits c = list_any is_awaiting (statuses_of c) ≡ true
-
--- a run within the budget is stuck, and none awaits or some do; or it can go on, and has spent the budget
-pub data Stops (budget : ℕ) (counts : CountsShape) (c : Configuration) : Type 0 where
-  Ended : verdict_of c ≡ End → IsStuck c → NoneAwaits c → total counts ≤ budget → Stops budget counts c
-  Waiting : verdict_of c ≡ Blocked → IsStuck c → SomeAwaits c → total counts ≤ budget → Stops budget counts c
-  Spent : verdict_of c ≡ Budget → (IsStuck c → ⊥) → total counts ≡ budget → Stops budget counts c
-
--- the bytes are a checked program; the report reads as sender lists and counts that fit it; and the report is
--- that of the program's replay under them, which stops so
-pub record IsReport (bytes : List ℕ) (budget : ℕ) (report : List ℕ) : Type 0 where
+-- `asp FILE`: the report reads as sender lists and counts that fit the program in the file, and is the
+-- report of that program's replay under them
+pub record IsRun (o : Outside) (file : List ℕ) (budget : ℕ) (report : List ℕ) : Type 0 where
   pub program : Marked
-  pub is_read : IsProgramText bytes program
-  pub checked : IsChecked program
+  pub given : HasProgram o (Runs file budget) program
   pub lists : ListsShape
   pub counts : CountsShape
   pub reads : read_report report ≡ Reads lists counts
   pub fits : Fits (plain program) lists counts
   pub same : report ≡ report_of (outcome_of (replay (plain program) lists counts))
-  pub stops : Stops budget counts (replay (plain program) lists counts)
+  pub within : IsWithin budget counts (replay (plain program) lists counts)
 
--- the file that the words name has these bytes, at most 2^20
-pub record IsRead (i : Inputs) (bytes : List ℕ) : Type 0 where
-  pub settings : Settings
-  pub given : settings_of i.words ≡ Some settings
-  pub content : IsContent (i.content settings.file) bytes
-  pub within : length bytes ≤ 2 ^ 20
+-- `asp FILE --replay REPORT`: the lists and counts are those of the file REPORT
+pub record IsReplay (o : Outside) (file name report : List ℕ) : Type 0 where
+  pub program : Marked
+  pub given : HasProgram o (Replays file name) program
+  pub lists : ListsShape
+  pub counts : CountsShape
+  pub old : HasReport o name lists counts
+  pub fits : Fits (plain program) lists counts
+  pub same : report ≡ report_of (outcome_of (replay (plain program) lists counts))
 
--- the report of the program in that file, within the budget that the words give
-pub record IsRun (i : Inputs) (report : List ℕ) : Type 0 where
-  pub bytes : List ℕ
-  pub read : IsRead i bytes
-  pub shows : IsReport bytes read.settings.budget report
+-- `asp FILE --check`: the file is a checked program
+pub record IsCheck (o : Outside) (file text : List ℕ) : Type 0 where
+  pub program : Marked
+  pub given : HasProgram o (Checks file) program
+  pub same : text ≡ with_feed (codes "checked")
 
--- the replay of a run
-abbrev pub end_of : {i : Inputs} {report : List ℕ} → IsRun i report → Configuration
-end_of run = replay (plain run.shows.program) run.shows.lists run.shows.counts
+-- `asp --make N`: some lists and counts fit the generated program, and the summary is that of its replay under them
+pub record IsMade (o : Outside) (pairs budget : ℕ) (summary : List ℕ) : Type 0 where
+  pub program : Marked
+  pub given : HasProgram o (Makes pairs budget) program
+  pub lists : ListsShape
+  pub counts : CountsShape
+  pub fits : Fits (plain program) lists counts
+  pub same : summary ≡ text_of (summary_lines pairs (outcome_of (replay (plain program) lists counts)))
+  pub within : IsWithin budget counts (replay (plain program) lists counts)
+
+abbrev pub run_end : {o : Outside} {file : List ℕ} {budget : ℕ} {report : List ℕ} → IsRun o file budget report → Configuration
+run_end r = replay (plain r.program) r.lists r.counts
+
+abbrev pub replay_end : {o : Outside} {file name report : List ℕ} → IsReplay o file name report → Configuration
+replay_end r = replay (plain r.program) r.lists r.counts
+
+abbrev pub made_end : {o : Outside} {pairs budget : ℕ} {summary : List ℕ} → IsMade o pairs budget summary → Configuration
+made_end r = replay (plain r.program) r.lists r.counts
+
+-- what is written for a task, and the status, which is that of the replay
+abbrev pub Answers : Outside → TaskShape → List ℕ → ℕ → Type 0
+Answers o (Runs file budget) text status = (r : IsRun o file budget text) × (status ≡ exit_status (outcome_of (run_end r)))
+Answers o (Checks file) text status = IsCheck o file text × (status ≡ 0)
+Answers o (Replays file name) text status = (r : IsReplay o file name text) × (status ≡ exit_status (outcome_of (replay_end r)))
+Answers o (Makes pairs budget) text status = (r : IsMade o pairs budget text) × (status ≡ exit_status (outcome_of (made_end r)))
 
 abbrev pub IsReported : ℕ → Type 0
 IsReported status = (status ≡ 0) ⊎ (status ≡ 1) ⊎ (status ≡ 4) ⊎ (status ≡ 5)
 
--- such a report was written, and the status is that of its replay
-abbrev pub Reports : Inputs → Sight → Sight → ℕ → Type 0
-Reports i out err status = (report : List ℕ) × (run : IsRun i report) × Takes out report × IsUntouched err × (status ≡ exit_status (outcome_of (end_of run)))
+-- such a text was written, and no message
+abbrev pub Reports : Outside → TaskShape → Sight → Sight → ℕ → Type 0
+Reports o task out err status = (text : List ℕ) × Answers o task text status × Takes out text × IsUntouched err

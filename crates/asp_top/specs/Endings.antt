@@ -1,16 +1,20 @@
 -- How a call ends, case by case: read `Ends` first.
-use Rattle.std.specs.Prelude.{◌≡◌, ◌⊎◌, ℕ, List, Some, None}
-use Rattle.asp_model.specs.Marked.{Marked}
-use Rattle.asp_model.specs.Outcome.{outcome_of, exit_status}
+use Rattle.std.specs.Prelude.{◌≡◌, ◌⊎◌, ℕ, ◌^◌, List, Some, None}
+use Rattle.asp_model.specs.Names.{Name}
+use Rattle.asp_model.specs.Marked.{Marked, plain}
+use Rattle.asp_model.specs.Step.{ListsShape}
+use Rattle.asp_model.specs.Replay.{CountsShape, Fits, IsLeastDiverging}
+use Rattle.asp_model.specs.ReadReport.{read_report, BadLine}
 use Rattle.asp_syntax.specs.declared.error.SyntaxFault.{SyntaxFault}
 use Rattle.asp_syntax.specs.Tokens.{lexemes_of}
 use Rattle.asp_syntax.specs.Faults.{FirstFault}
 use Rattle.asp_syntax.specs.Correct.{IsProgramText}
 use Rattle.asp_check.specs.declared.fault.CheckFault.{CheckFault}
 use Rattle.asp_check.specs.Faults.{IsChecked, IsFirstFault}
-use Rattle.asp_top.specs.Words.{settings_of, file_of}
-use Rattle.asp_top.specs.Seen.{Inputs, Sight, Rises, IsUntouched, Takes, TakesFront, IsLong, Refusal, Usage, Unread, TooLong, NoProgram, Unchecked, NoMemory, status_of_refusal, message_of, write_message}
-use Rattle.asp_top.specs.Correct.{IsRead, IsRun, end_of}
+use Rattle.command_line.specs.Task.{TaskShape, Runs, Checks, Replays, Makes, task_of}
+use Rattle.asp_top.specs.Seen.{Inputs, Outside, Sight, Rises, IsUntouched, Takes, TakesFront, IsLong, Refusal, Usage, Unread, LongProgram, NoProgram, Unchecked, LongReport, NoReport, Diverges, NoMemory, status_of_refusal, message_of, write_message}
+use Rattle.asp_top.specs.Programs.{IsFile, IsText, HasProgram, HasReport}
+use Rattle.asp_top.specs.Correct.{Answers}
 
 -- the bytes are no program, and this is their first fault
 pub record IsFaultyText (bytes : List ℕ) (fault : SyntaxFault) : Type 0 where
@@ -24,18 +28,80 @@ pub record IsUncheckedText (bytes : List ℕ) (fault : CheckFault) : Type 0 wher
   pub first : IsFirstFault program fault
   pub none : (program : Marked) → IsProgramText bytes program → IsChecked program → ⊥
 
--- the cause of a refusal
-abbrev pub Holds : Inputs → Refusal → Type 0
-Holds i Usage = settings_of i.words ≡ None
-Holds i (Unread name) = (file_of i.words ≡ Some name) × Rises i.faults
-Holds i (TooLong name) = (file_of i.words ≡ Some name) × IsLong (i.content name)
-Holds i (NoProgram fault) = (bytes : List ℕ) × IsRead i bytes × IsFaultyText bytes fault
-Holds i (Unchecked fault) = (bytes : List ℕ) × IsRead i bytes × IsUncheckedText bytes fault
-Holds i NoMemory = Unit {0}
+-- the task names a file for its program
+abbrev pub NamesProgram : TaskShape → List ℕ → Type 0
+NamesProgram (Runs file budget) name = file ≡ name
+NamesProgram (Checks file) name = file ≡ name
+NamesProgram (Replays file report) name = file ≡ name
+NamesProgram (Makes pairs budget) name = ⊥
+
+-- the task names a report
+abbrev pub NamesReport : TaskShape → List ℕ → Type 0
+NamesReport (Replays file report) name = report ≡ name
+NamesReport task name = ⊥
+
+-- the task has a program and names a report that is too long
+pub record HasLongReport (o : Outside) (task : TaskShape) : Type 0 where
+  pub program : Marked
+  pub given : HasProgram o task program
+  pub name : List ℕ
+  pub named : NamesReport task name
+  pub long : IsLong (2 ^ 24) (o.content name)
+
+-- the task has a program and names a file that is no report, with this line as the first that cannot stand in its place
+pub record HasBadLine (o : Outside) (task : TaskShape) (line : ℕ) : Type 0 where
+  pub program : Marked
+  pub given : HasProgram o task program
+  pub name : List ℕ
+  pub named : NamesReport task name
+  pub bytes : List ℕ
+  pub file : IsFile o name (2 ^ 24) bytes
+  pub reads : read_report bytes ≡ BadLine line
+
+-- the task has a program and names a report that does not fit it, and this is the least activity that shows it
+pub record HasDivergence (o : Outside) (task : TaskShape) (activity : Name) : Type 0 where
+  pub program : Marked
+  pub given : HasProgram o task program
+  pub name : List ℕ
+  pub named : NamesReport task name
+  pub lists : ListsShape
+  pub counts : CountsShape
+  pub old : HasReport o name lists counts
+  pub least : IsLeastDiverging (plain program) lists counts activity
+  pub unfit : Fits (plain program) lists counts → ⊥
+
+-- a file could not be read: the program's, or the report of a task that has a program
+pub data IsUnread (o : Outside) (task : TaskShape) (name : List ℕ) : Type 0 where
+  OfProgram : NamesProgram task name → Rises o.faults → IsUnread o task name
+  OfReport : (program : Marked) → HasProgram o task program → NamesReport task name → Rises o.faults → IsUnread o task name
+
+-- the cause of a refusal of a task
+abbrev pub HoldsFor : Outside → TaskShape → Refusal → Type 0
+HoldsFor o task Usage = ⊥
+HoldsFor o task (Unread name) = IsUnread o task name
+HoldsFor o task LongProgram = (name : List ℕ) × NamesProgram task name × IsLong (2 ^ 20) (o.content name)
+HoldsFor o task (NoProgram fault) = (bytes : List ℕ) × IsText o task bytes × IsFaultyText bytes fault
+HoldsFor o task (Unchecked fault) = (bytes : List ℕ) × IsText o task bytes × IsUncheckedText bytes fault
+HoldsFor o task LongReport = HasLongReport o task
+HoldsFor o task (NoReport line) = HasBadLine o task line
+HoldsFor o task (Diverges activity) = HasDivergence o task activity
+HoldsFor o task NoMemory = Unit {0}
+
+-- the cause of a refusal: the words ask for nothing, memory ran out, or it is one of the task
+pub data Holds (i : Inputs) (r : Refusal) : Type 0 where
+  OfWords : r ≡ Usage → task_of i.words ≡ None → Holds i r
+  OfMemory : r ≡ NoMemory → Holds i r
+  OfTask : (task : TaskShape) → task_of i.words ≡ Some task → HoldsFor i.outside task r → Holds i r
+
+-- what the words' task has written
+pub record Answered (i : Inputs) (text : List ℕ) (status : ℕ) : Type 0 where
+  pub task : TaskShape
+  pub asked : task_of i.words ≡ Some task
+  pub answer : Answers i.outside task text status
 
 -- how the call ends: the status, and what `out` and `err` took
 pub data Ends (i : Inputs) (out err : Sight) (status : ℕ) : Type 0 where
-  Reported : (report : List ℕ) (run : IsRun i report) → Takes out report → IsUntouched err → status ≡ exit_status (outcome_of (end_of run)) → Ends i out err status
+  Written : (text : List ℕ) → Answered i text status → Takes out text → IsUntouched err → Ends i out err status
   Refused : (r : Refusal) → Holds i r → IsUntouched out → Takes err (message_of r) → status ≡ status_of_refusal r → Ends i out err status
   Unheard : (r : Refusal) → Holds i r → IsUntouched out → TakesFront err (message_of r) → status ≡ 7 → Ends i out err status
-  Unwritten : (report : List ℕ) → IsRun i report → TakesFront out report → Takes err write_message ⊎ TakesFront err write_message → status ≡ 7 → Ends i out err status
+  Unwritten : (text : List ℕ) (other : ℕ) → Answered i text other → TakesFront out text → Takes err write_message ⊎ TakesFront err write_message → status ≡ 7 → Ends i out err status

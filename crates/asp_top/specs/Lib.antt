@@ -1,8 +1,7 @@
 -- in reading order
-pub mod Words
 pub mod Seen
+pub mod Programs
 pub mod Correct
 pub mod Endings
 pub mod Statuses
-pub mod Pieces
 pub mod Stops

@@ -1,7 +1,8 @@
 -- What a call sees of the outside, and the messages that it writes.
-use Rattle.std.specs.Prelude.{◌≡◌, ℕ, ◌<◌, ◌^◌, List, ◌++◌, length, Option, Some, None, codes}
+use Rattle.std.specs.Prelude.{◌≡◌, ℕ, ◌<◌, List, ◌++◌, length, Option, Some, None, codes}
 use Rattle.std.specs.Fmt.{decimal}
-use Rattle.asp_model.specs.Report.{with_feed}
+use Rattle.asp_model.specs.Names.{Name}
+use Rattle.asp_model.specs.Report.{name_text, with_feed}
 use Rattle.asp_syntax.specs.declared.error.SyntaxKind.{SyntaxKind}
 use Rattle.asp_syntax.specs.declared.error.SyntaxKind.TheVariants.{BadByte, BadNumber, Unexpected, TooDeep, NotAField, NotYet}
 use Rattle.asp_syntax.specs.declared.error.SyntaxFault.{SyntaxFault}
@@ -18,14 +19,21 @@ pub record Counted : Type 0 where
 abbrev pub Rises : Counted → Type 0
 Rises c = Rose c.before c.now
 
--- the words, and what the source tells
-pub record Inputs : Type 0 where
-  pub words : List (List ℕ)
+-- what the source tells under each name, and how often it failed
+pub record Outside : Type 0 where
   pub content : List ℕ → Option (List ℕ)
   pub faults : Counted
 
+abbrev pub outside : {S : Type 0} → (S → List ℕ → Option (List ℕ)) → (S → ℕ) → S → S → Outside
+outside content faults old new = record { content = content old; faults = record { before = faults old; now = faults new } }
+
+-- the words, and the outside
+pub record Inputs : Type 0 where
+  pub words : List (List ℕ)
+  pub outside : Outside
+
 abbrev pub inputs : {S : Type 0} → List (List ℕ) → (S → List ℕ → Option (List ℕ)) → (S → ℕ) → S → S → Inputs
-inputs words content faults old new = record { words = words; content = content old; faults = record { before = faults old; now = faults new } }
+inputs words content faults old new = record { words = words; outside = outside content faults old new }
 
 -- what a sink tells, before the call and behind it
 pub record Sight : Type 0 where
@@ -47,25 +55,32 @@ Takes s text = Appends s.before s.now text
 abbrev pub TakesFront : Sight → List ℕ → Type 0
 TakesFront s text = Rises s.faults × AppendsFront s.before s.now text
 
--- longer than 2^20 bytes, where the content is told
-abbrev pub IsLong : Option (List ℕ) → Type 0
-IsLong None = Unit {0}
-IsLong (Some bytes) = 2 ^ 20 < length bytes
+-- longer than this, where the content is told
+abbrev pub IsLong : ℕ → Option (List ℕ) → Type 0
+IsLong most None = Unit {0}
+IsLong most (Some bytes) = most < length bytes
 
 pub data Refusal : Type 0 where
   Usage : Refusal
   Unread : (name : List ℕ) → Refusal
-  TooLong : (name : List ℕ) → Refusal
+  LongProgram : Refusal
   NoProgram : (fault : SyntaxFault) → Refusal
   Unchecked : (fault : CheckFault) → Refusal
+  LongReport : Refusal
+  -- by its first line that cannot stand in its place
+  NoReport : (line : ℕ) → Refusal
+  Diverges : (activity : Name) → Refusal
   NoMemory : Refusal
 
 abbrev pub status_of_refusal : Refusal → ℕ
 status_of_refusal Usage = 2
 status_of_refusal (Unread name) = 6
-status_of_refusal (TooLong name) = 3
+status_of_refusal LongProgram = 3
 status_of_refusal (NoProgram fault) = 3
 status_of_refusal (Unchecked fault) = 3
+status_of_refusal LongReport = 9
+status_of_refusal (NoReport line) = 9
+status_of_refusal (Diverges activity) = 9
 status_of_refusal NoMemory = 8
 
 abbrev pub kind_text : SyntaxKind → List ℕ
@@ -88,12 +103,18 @@ check_text ServiceArity = codes "ServiceArity"
 abbrev pub fault_line : List ℕ → ℕ → List ℕ
 fault_line kind at = with_feed (codes "asp: program: " ++ kind ++ codes " at " ++ decimal at)
 
+abbrev pub usage_line : List ℕ
+usage_line = with_feed (codes "asp: usage: asp FILE [--workers N] [--strategy S] [--update L=S,..] [--budget N] [--state D] [--check] [--replay REPORT], or asp --make N [--workers N] [--strategy S] [--update L=S,..] [--budget N]")
+
 abbrev pub message_of : Refusal → List ℕ
-message_of Usage = with_feed (codes "asp: usage: asp FILE [--budget N]")
+message_of Usage = usage_line
 message_of (Unread name) = with_feed (codes "asp: cannot read " ++ name)
-message_of (TooLong name) = with_feed (codes "asp: program: longer than 1048576 bytes")
+message_of LongProgram = with_feed (codes "asp: program: longer than 1048576 bytes")
 message_of (NoProgram fault) = fault_line (kind_text fault.kind) fault.at
 message_of (Unchecked fault) = fault_line (check_text fault.kind) fault.at
+message_of LongReport = with_feed (codes "asp: replay: longer than 16777216 bytes")
+message_of (NoReport line) = with_feed (codes "asp: replay: line " ++ decimal line)
+message_of (Diverges activity) = with_feed (codes "asp: replay: " ++ name_text activity ++ codes " diverges")
 message_of NoMemory = with_feed (codes "asp: no memory")
 
 abbrev pub write_message : List ℕ

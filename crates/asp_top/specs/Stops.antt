@@ -1,90 +1,107 @@
--- Why there is no report, and what is ready to be written.
-use Rattle.std.specs.Prelude.{◌≡◌, ◌⊎◌, ℕ, ◌≤◌, ◌^◌, List, length, map, string_bytes, Option}
-use Rattle.asp_model.specs.Marked.{plain}
-use Rattle.asp_model.specs.Replay.{replay}
-use Rattle.asp_model.specs.Outcome.{OutcomeShape, outcome_of, exit_status}
-use Rattle.asp_model.specs.Report.{report_lines, report_of, with_feed}
-use Rattle.asp_model.specs.Shapes.{marked_of}
-use Rattle.asp_syntax.specs.declared.error.SyntaxError.{SyntaxError}
-use Rattle.asp_syntax.specs.declared.error.SyntaxError.TheVariants as errors
-use Rattle.asp_syntax.specs.Correct.{IsProgramText}
-use Rattle.asp_check.specs.declared.fault.CheckError.{CheckError}
-use Rattle.asp_check.specs.declared.fault.CheckError.TheVariants as checks
+-- Why there is nothing to write, and what is ready to be written.
+use Rattle.std.specs.Prelude.{◌≡◌, ◌⊎◌, ℕ, ◌^◌, List, map, string_bytes}
+use Rattle.std.specs.List.{concat}
+use Rattle.asp_model.specs.Marked.{Marked, plain}
+use Rattle.asp_model.specs.Shapes.{marked_of, lists_shape, counts_shape}
+use Rattle.asp_model.specs.declared.outcome.Lists.{Lists}
+use Rattle.asp_model.specs.declared.outcome.Counts.{Counts}
+use Rattle.asp_model.specs.Replay.{replay, Fits, IsLeastDiverging}
+use Rattle.asp_model.specs.Outcome.{OutcomeShape, outcome_of}
+use Rattle.asp_model.specs.ReadReport.{read_report, BadLine}
 use Rattle.asp_check.specs.declared.checked.Checked.{Checked}
-use Rattle.asp_check.specs.Faults.{IsChecked}
-use Rattle.asp_edge.specs.declared.edge.ReadError.{ReadError}
-use Rattle.asp_edge.specs.declared.edge.ReadError.TheVariants as reads
-use Rattle.asp_edge.specs.Causes.{IsContent}
-use Rattle.asp_top.specs.declared.prepare.Stop.{Stop}
-use Rattle.asp_top.specs.declared.prepare.Stop.TheVariants.{Unread, Long, Syntax, Check, Memory}
+use Rattle.replay_one.specs.Listed.{AreReplayable}
+use Rattle.asp_syntax.specs.declared.error.SyntaxError.{SyntaxError}
+use Rattle.asp_syntax.specs.declared.error.SyntaxError.TheVariants as syntax
+use Rattle.asp_check.specs.declared.fault.CheckError.{CheckError}
+use Rattle.asp_check.specs.declared.fault.CheckError.TheVariants as check
+use Rattle.sender_log.specs.declared.error.LogError.{LogError}
+use Rattle.sender_log.specs.declared.error.LogError.TheVariants as log
+use Rattle.replay_one.specs.declared.replays.ReplayStop.{ReplayStop}
+use Rattle.replay_one.specs.declared.replays.ReplayStop.TheVariants as replays
+use Rattle.command_line.specs.declared.error.WordsError.{WordsError}
+use Rattle.command_line.specs.declared.error.WordsError.TheVariants as words
+use Rattle.asp_top.specs.declared.stop.Stop.{Stop}
+use Rattle.asp_top.specs.declared.stop.Stop.TheVariants as stops
 use Rattle.asp_top.specs.declared.prepare.Prepared.{Prepared}
-use Rattle.asp_top.specs.Seen.{IsLong, Sight, IsUntouched, Takes, TakesFront, Refusal, status_of_refusal, message_of, write_message}
-use Rattle.asp_top.specs.Seen as refusals
-use Rattle.asp_top.specs.Correct.{IsReport}
+use Rattle.asp_top.specs.Seen.{Outside, Sight, Rises, IsUntouched, Takes, TakesFront, IsLong, Refusal, Usage, Unread, LongProgram, NoProgram, Unchecked, LongReport, NoReport, Diverges, NoMemory, status_of_refusal, message_of, write_message}
+use Rattle.asp_top.specs.Programs.{IsFile, IsProgramOf, HasReport}
 use Rattle.asp_top.specs.Endings.{IsFaultyText, IsUncheckedText}
 
-abbrev pub read_stop : ReadError → Stop
-read_stop reads.Failed = Unread
-read_stop (reads.TooLong taken) = Long
-read_stop reads.Memory = Memory
+abbrev pub refusal_of : Stop → Refusal
+refusal_of stops.Usage = Usage
+refusal_of (stops.Unread name) = Unread name.now
+refusal_of stops.LongProgram = LongProgram
+refusal_of (stops.Syntax fault) = NoProgram fault
+refusal_of (stops.Check fault) = Unchecked fault
+refusal_of stops.LongReport = LongReport
+refusal_of (stops.BadLine line) = NoReport line
+refusal_of (stops.Diverged activity) = Diverges activity
+refusal_of stops.Memory = NoMemory
+
+-- the stops that errors are
+
+abbrev pub words_stop : WordsError → Stop
+words_stop words.Usage = stops.Usage
+words_stop words.Memory = stops.Memory
 
 abbrev pub syntax_stop : SyntaxError → Stop
-syntax_stop (errors.Fault f) = Syntax f
-syntax_stop errors.Memory = Memory
+syntax_stop (syntax.Fault fault) = stops.Syntax fault
+syntax_stop syntax.Memory = stops.Memory
 
 abbrev pub check_stop : CheckError → Stop
-check_stop (checks.Fault f) = Check f
-check_stop checks.Memory = Memory
+check_stop (check.Fault fault) = stops.Check fault
+check_stop check.Memory = stops.Memory
 
--- the checked program that the bytes are
-pub record IsCheckedText (bytes : List ℕ) (c : Checked) : Type 0 where
-  pub is_read : IsProgramText bytes (marked_of c.program.root)
-  pub checked : IsChecked (marked_of c.program.root)
+abbrev pub log_stop : LogError → Stop
+log_stop (log.BadLine line) = stops.BadLine line
+log_stop log.Memory = stops.Memory
 
--- the cause of a stop behind the file
-abbrev pub StopsAt : List ℕ → Stop → Type 0
-StopsAt bytes Unread = ⊥
-StopsAt bytes Long = ⊥
-StopsAt bytes (Syntax f) = IsFaultyText bytes f
-StopsAt bytes (Check f) = IsUncheckedText bytes f
-StopsAt bytes Memory = Unit {0}
+abbrev pub replay_stop : ReplayStop → Stop
+replay_stop (replays.Diverged activity) = stops.Diverged activity
+replay_stop replays.Memory = stops.Memory
 
--- bytes of the file, at most 2^20
-pub record IsFile (content : Option (List ℕ)) (bytes : List ℕ) : Type 0 where
-  pub told : IsContent content bytes
-  pub within : length bytes ≤ 2 ^ 20
+-- the checked program that the code holds
+abbrev pub program_in : Checked → Marked
+program_in c = marked_of c.program.root
 
--- the cause of a stop, from what the source told and whether it failed
-abbrev pub StopsIn : Option (List ℕ) → Type 0 → Stop → Type 0
-StopsIn content failed Unread = failed
-StopsIn content failed Long = IsLong content
-StopsIn content failed (Syntax f) = (bytes : List ℕ) × IsFile content bytes × IsFaultyText bytes f
-StopsIn content failed (Check f) = (bytes : List ℕ) × IsFile content bytes × IsUncheckedText bytes f
-StopsIn content failed Memory = Unit {0}
+-- the cause of a stop at a text
+abbrev pub StopsAt : List ℕ → Refusal → Type 0
+StopsAt bytes (NoProgram fault) = IsFaultyText bytes fault
+StopsAt bytes (Unchecked fault) = IsUncheckedText bytes fault
+StopsAt bytes NoMemory = Unit {0}
+StopsAt bytes r = ⊥
 
--- the outcome of the replay that its report shows
-pub record IsOutcome (bytes : List ℕ) (budget : ℕ) (o : OutcomeShape) : Type 0 where
-  pub report : IsReport bytes budget (report_of o)
-  pub same : outcome_of (replay (plain report.program) report.lists report.counts) ≡ o
-
--- the lines and the status of the program in the bytes
-pub record IsPrepared (bytes : List ℕ) (budget : ℕ) (p : Prepared) : Type 0 where
-  pub shape : OutcomeShape
-  pub outcome : IsOutcome bytes budget shape
-  pub pieces : map string_bytes p.pieces.items ≡ map with_feed (report_lines shape)
-  pub status : p.status ≡ exit_status shape
-
-pub record IsReady (content : Option (List ℕ)) (budget : ℕ) (p : Prepared) : Type 0 where
+-- the program in a file
+pub record IsInFile (o : Outside) (name : List ℕ) (program : Marked) : Type 0 where
   pub bytes : List ℕ
-  pub file : IsFile content bytes
-  pub prepared : IsPrepared bytes budget p
+  pub file : IsFile o name (2 ^ 20) bytes
+  pub is : IsProgramOf bytes program
 
-abbrev pub refusal_of : List ℕ → Stop → Refusal
-refusal_of name Unread = refusals.Unread name
-refusal_of name Long = refusals.TooLong name
-refusal_of name (Syntax f) = refusals.NoProgram f
-refusal_of name (Check f) = refusals.Unchecked f
-refusal_of name Memory = refusals.NoMemory
+-- the cause of a stop at the file of a program
+abbrev pub StopsInFile : Outside → List ℕ → Refusal → Type 0
+StopsInFile o file (Unread name) = (file ≡ name) × Rises o.faults
+StopsInFile o file LongProgram = IsLong (2 ^ 20) (o.content file)
+StopsInFile o file (NoProgram fault) = (bytes : List ℕ) × IsFile o file (2 ^ 20) bytes × IsFaultyText bytes fault
+StopsInFile o file (Unchecked fault) = (bytes : List ℕ) × IsFile o file (2 ^ 20) bytes × IsUncheckedText bytes fault
+StopsInFile o file NoMemory = Unit {0}
+StopsInFile o file r = ⊥
+
+-- lists and counts that a file shows, and that can be replayed
+pub record IsLog (o : Outside) (name : List ℕ) (lists : Lists) (counts : Counts) : Type 0 where
+  pub old : HasReport o name (lists_shape lists) (counts_shape counts)
+  pub replayable : AreReplayable (lists_shape lists) (counts_shape counts)
+
+-- the cause of a stop at the file of a report
+abbrev pub StopsInReport : Outside → List ℕ → Refusal → Type 0
+StopsInReport o report (Unread name) = (report ≡ name) × Rises o.faults
+StopsInReport o report LongReport = IsLong (2 ^ 24) (o.content report)
+StopsInReport o report (NoReport line) = (bytes : List ℕ) × IsFile o report (2 ^ 24) bytes × (read_report bytes ≡ BadLine line)
+StopsInReport o report NoMemory = Unit {0}
+StopsInReport o report r = ⊥
+
+-- the text that is ready
+abbrev pub text_in : Prepared → List ℕ
+text_in p = concat (map string_bytes p.pieces.items)
 
 -- a message was told and this status answered, or the sink failed
 abbrev pub Told : Sight → List ℕ → ℕ → ℕ → Type 0
@@ -93,12 +110,12 @@ Told s text status result = ((result ≡ status) × Takes s text) ⊎ ((result �
 abbrev pub ToldRefusal : Refusal → Sight → ℕ → Type 0
 ToldRefusal r s result = Told s (message_of r) (status_of_refusal r) result
 
--- the stop's message was told, or that there is no memory for it
-abbrev pub ToldOf : List ℕ → Stop → Sight → ℕ → Type 0
-ToldOf name stop s result = ToldRefusal (refusal_of name stop) s result ⊎ ToldRefusal refusals.NoMemory s result
+-- the refusal was told, or that there is no memory for its message
+abbrev pub ToldOf : Refusal → Sight → ℕ → Type 0
+ToldOf r s result = ToldRefusal r s result ⊎ ToldRefusal NoMemory s result
 
 -- a text was written, or `out` failed and that was told
-abbrev pub Written : Sight → Sight → List ℕ → ℕ → ℕ → Type 0
-Written out err text status result =
+abbrev pub WrittenOf : Sight → Sight → List ℕ → ℕ → ℕ → Type 0
+WrittenOf out err text status result =
     ((result ≡ status) × Takes out text × IsUntouched err)
     ⊎ ((result ≡ 7) × TakesFront out text × (Takes err write_message ⊎ TakesFront err write_message))

@@ -1,10 +1,11 @@
-//! Runs a program from its words to its report.
+//! Runs the command from its words to its report.
 #![tactic(auto)]
 
 mod prepare;
-mod report;
+mod programs;
+mod reports;
+mod stop;
 mod top;
-mod words;
 mod writing;
 
 pub use top::run_asp;

@@ -1,129 +1,165 @@
-//! The work up to the report: reading, checking, running, and making all pieces.
+//! The work up to the writing, for each task: all pieces are made.
 
-ghost use Rattle.std.specs.Prelude.{◌≡◌, ◌≤◌, IfOk, IfErr};
+ghost use Rattle.std.specs.Prelude.{◌≡◌, ◌≤◌, IfOk, IfErr, codes, map, string_bytes};
+ghost use Rattle.asp_model.specs.Report.{report_of, text_of, with_feed};
+ghost use Rattle.asp_model.specs.Outcome.{exit_status};
 ghost use Rattle.asp_model.specs.Shapes.{outcome_shape};
-ghost use Rattle.asp_edge.specs.Causes.{Rose};
-ghost use Rattle.asp_top.specs.Stops.{read_stop, syntax_stop, check_stop, IsCheckedText, StopsAt, StopsIn, IsOutcome, IsPrepared, IsReady};
-ghost use Rattle.asp_top.specs.declared.prepare.Stop.TheVariants as stops;
+ghost use Rattle.run_report.specs.Summary.{summary_lines};
+ghost use Rattle.command_line.specs.Task.{Runs, Checks, Replays, Makes, IsWithin};
+ghost use Rattle.command_line.specs.Shapes.{task_shape};
+ghost use Rattle.asp_top.specs.Seen.{Outside, inputs, outside};
+ghost use Rattle.asp_top.specs.Correct.{Answers};
+ghost use Rattle.asp_top.specs.Endings.{Answered, Holds, HoldsFor};
+ghost use Rattle.asp_top.specs.Stops.{refusal_of, text_in};
 
-use crate::report::pieces;
-use crate::words::Settings;
-use asp_check::{CheckError, CheckFault, Checked, check};
-use asp_edge::{ReadError, Source};
-use asp_model::{Outcome, exit_number};
-use asp_syntax::{SyntaxError, SyntaxFault, read_program};
-use replay_one::run_plain;
+use crate::programs::{checked_in, program_of};
+use crate::reports::lists_of;
+use crate::stop::Stop;
+use asp_edge::Source;
+use asp_model::{Outcome, Word, exit_number};
+use command_line::{Task, read_words};
+use load_gen::make;
+use replay_one::{replay, run_plain};
+use run_report::{render, summarize};
 use std::alloc::{AllocError, Global};
 
-/// The most bytes of a program.
-const MOST: usize = 1_048_576;
-
-/// Why there is no report.
-#[derive(Drop)]
-pub enum Stop {
-    /// The source failed.
-    Unread,
-    /// There are more bytes than a program may have.
-    Long,
-    /// The bytes are no program, and this is their first fault.
-    Syntax(SyntaxFault),
-    /// The program is not checked, and this is its first fault.
-    Check(CheckFault),
-    Memory,
-}
-
-impl From<AllocError> for Stop {
-    ghost from_gives = { λ _ e. e ≡ stops.Memory };
-
-    fn from(_e: AllocError) -> Stop {
-        Stop::Memory
-    }
-}
-
-impl From<ReadError> for Stop {
-    ghost from_gives = { λ e s. s ≡ read_stop e };
-
-    fn from(e: ReadError) -> Stop {
-        match e {
-            ReadError::Failed => Stop::Unread,
-            ReadError::TooLong { taken: _ } => Stop::Long,
-            ReadError::Memory => Stop::Memory,
-        }
-    }
-}
-
-impl From<SyntaxError> for Stop {
-    ghost from_gives = { λ e s. s ≡ syntax_stop e };
-
-    fn from(e: SyntaxError) -> Stop {
-        match e {
-            SyntaxError::Fault(fault) => Stop::Syntax(fault),
-            SyntaxError::Memory => Stop::Memory,
-        }
-    }
-}
-
-impl From<CheckError> for Stop {
-    ghost from_gives = { λ e s. s ≡ check_stop e };
-
-    fn from(e: CheckError) -> Stop {
-        match e {
-            CheckError::Fault(fault) => Stop::Check(fault),
-            CheckError::Memory => Stop::Memory,
-        }
-    }
-}
-
-/// A report that is ready to be written, and the status of its run.
+/// A text that is ready to be written, piece by piece, and the status that goes with it.
 #[derive(Drop)]
 pub struct Prepared {
     pub status: u8,
     pub pieces: Vec<String>,
 }
 
-// The checked program in the bytes.
-fn checked_in(alloc: Global, bytes: &[u8]) -> Result<Checked, Stop>
-    ensures checked { IfOk result (IsCheckedText bytes.now) }
-    ensures stop { IfErr result (StopsAt bytes.now) }
+// Each line with its line feed.
+fn with_feeds(alloc: Global, lines: Vec<Word>) -> Result<Vec<String>, AllocError>
+    ensures { IfOk result (λ v. map string_bytes v.items ≡ map with_feed lines.items) }
 {
-    let program = read_program(alloc, bytes)?;
-    Ok(check(alloc, program)?)
+    let mut pieces = Vec::new(alloc);
+    for line in lines {
+        let mut piece = line.into_string();
+        piece.push_str("\n")?;
+        pieces.push(piece)?;
+    }
+    Ok(pieces)
 }
 
-// Reads, checks and runs the program in the bytes.
-fn outcome_in(alloc: Global, bytes: &[u8], budget: u64) -> Result<Outcome, Stop>
-    requires within { budget ≤ 10000000 }
-    ensures outcome { IfOk result (λ o. IsOutcome bytes.now budget (outcome_shape o)) }
-    ensures stop { IfErr result (StopsAt bytes.now) }
+// The lines of an outcome, with its status.
+fn text_for(alloc: Global, lines: Vec<Word>, outcome: &Outcome) -> Result<Prepared, AllocError>
+    ensures text { IfOk result (λ p. text_in p ≡ text_of lines.items) }
+    ensures status { IfOk result (λ p. p.status ≡ exit_status (outcome_shape outcome.now)) }
 {
-    let checked = checked_in(alloc, bytes)?;
-    Ok(run_plain(alloc, &checked, budget)?)
-}
-
-// The report of the program in the bytes.
-fn prepare_bytes(alloc: Global, bytes: &[u8], budget: u64) -> Result<Prepared, Stop>
-    requires within { budget ≤ 10000000 }
-    ensures prepared { IfOk result (IsPrepared bytes.now budget) }
-    ensures stop { IfErr result (StopsAt bytes.now) }
-{
-    let outcome = outcome_in(alloc, bytes, budget)?;
-    let pieces = pieces(alloc, &outcome)?;
     Ok(Prepared {
-        status: exit_number(&outcome),
-        pieces,
+        status: exit_number(outcome),
+        pieces: with_feeds(alloc, lines)?,
     })
 }
 
-/// The report of the program in a file.
-pub fn prepare<S: Source>(
-    alloc: Global,
-    settings: Settings<'_>,
-    source: &mut S,
-) -> Result<Prepared, Stop>
-    requires within { settings.budget ≤ 10000000 }
-    ensures ready { IfOk result (IsReady (S.content source.old settings.entry.file.now) settings.entry.budget) }
-    ensures stop { IfErr result (StopsIn (S.content source.old settings.entry.file.now) (Rose (S.faults source.old) (S.faults source.new))) }
+fn report_for(alloc: Global, outcome: &Outcome) -> Result<Prepared, AllocError>
+    ensures text { IfOk result (λ p. text_in p ≡ report_of (outcome_shape outcome.now)) }
+    ensures status { IfOk result (λ p. p.status ≡ exit_status (outcome_shape outcome.now)) }
 {
-    let bytes = source.read(settings.file, MOST)?;
-    prepare_bytes(alloc, &bytes, settings.budget)
+    text_for(alloc, render(alloc, outcome)?, outcome)
+}
+
+fn summary_for(alloc: Global, pairs: u64, outcome: &Outcome) -> Result<Prepared, AllocError>
+    ensures text { IfOk result (λ p. text_in p ≡ text_of (summary_lines pairs (outcome_shape outcome.now))) }
+    ensures status { IfOk result (λ p. p.status ≡ exit_status (outcome_shape outcome.now)) }
+{
+    text_for(alloc, summarize(alloc, pairs, outcome)?, outcome)
+}
+
+fn checked_text(alloc: Global) -> Result<Prepared, AllocError>
+    ensures text { IfOk result (λ p. text_in p ≡ with_feed (codes "checked")) }
+    ensures status { IfOk result (λ p. p.status ≡ 0) }
+{
+    let mut pieces = Vec::new(alloc);
+    pieces.push(String::from_str(alloc, "checked\n")?)?;
+    Ok(Prepared { status: 0, pieces })
+}
+
+fn prepare_run<'a, S: Source>(
+    alloc: Global,
+    file: &'a str,
+    budget: u64,
+    source: &mut S,
+) -> Result<Prepared, Stop<'a>>
+    requires within { budget ≤ 10000000 }
+    ensures answer { IfOk result (λ p. Answers (outside S.content S.faults source.old source.new) (Runs file.entry.now budget) (text_in p) p.status) }
+    ensures stop { IfErr result (λ s. HoldsFor (outside S.content S.faults source.old source.new) (Runs file.entry.now budget) (refusal_of s)) }
+{
+    let checked = program_of(alloc, file, source)?;
+    let outcome = run_plain(alloc, &checked, budget)?;
+    Ok(report_for(alloc, &outcome)?)
+}
+
+fn prepare_check<'a, S: Source>(
+    alloc: Global,
+    file: &'a str,
+    source: &mut S,
+) -> Result<Prepared, Stop<'a>>
+    ensures answer { IfOk result (λ p. Answers (outside S.content S.faults source.old source.new) (Checks file.entry.now) (text_in p) p.status) }
+    ensures stop { IfErr result (λ s. HoldsFor (outside S.content S.faults source.old source.new) (Checks file.entry.now) (refusal_of s)) }
+{
+    program_of(alloc, file, source)?;
+    Ok(checked_text(alloc)?)
+}
+
+fn prepare_replay<'a, S: Source>(
+    alloc: Global,
+    file: &'a str,
+    report: &'a str,
+    source: &mut S,
+) -> Result<Prepared, Stop<'a>>
+    ensures answer { IfOk result (λ p. Answers (outside S.content S.faults source.old source.new) (Replays file.entry.now report.entry.now) (text_in p) p.status) }
+    ensures stop { IfErr result (λ s. HoldsFor (outside S.content S.faults source.old source.new) (Replays file.entry.now report.entry.now) (refusal_of s)) }
+{
+    let checked = program_of(alloc, file, source)?;
+    let (lists, counts) = lists_of(alloc, report, source)?;
+    let outcome = replay(alloc, &checked, &lists, &counts)?;
+    Ok(report_for(alloc, &outcome)?)
+}
+
+fn prepare_made<'a>(alloc: Global, pairs: u64, budget: u64) -> Result<Prepared, Stop<'a>>
+    requires least { 1 ≤ pairs }
+    requires most { pairs ≤ 2000 }
+    requires within { budget ≤ 10000000 }
+    ensures answer { (o : Outside) → IfOk result (λ p. Answers o (Makes pairs budget) (text_in p) p.status) }
+    ensures stop { (o : Outside) → IfErr result (λ s. HoldsFor o (Makes pairs budget) (refusal_of s)) }
+{
+    let text = make(alloc, pairs)?;
+    let program = checked_in(alloc, text.as_bytes())?;
+    let outcome = run_plain(alloc, &program, budget)?;
+    Ok(summary_for(alloc, pairs, &outcome)?)
+}
+
+fn prepare_task<'a, S: Source>(
+    alloc: Global,
+    task: Task<'a>,
+    source: &mut S,
+) -> Result<Prepared, Stop<'a>>
+    requires within { IsWithin (task_shape task) }
+    ensures answer { IfOk result (λ p. Answers (outside S.content S.faults source.old source.new) (task_shape task.entry) (text_in p) p.status) }
+    ensures stop { IfErr result (λ s. HoldsFor (outside S.content S.faults source.old source.new) (task_shape task.entry) (refusal_of s)) }
+{
+    match task {
+        Task::Run { file, budget } => prepare_run(alloc, file, budget, source),
+        Task::Check { file } => prepare_check(alloc, file, source),
+        Task::Replay { file, report } => prepare_replay(alloc, file, report, source),
+        Task::Make { pairs, budget } => prepare_made(alloc, pairs, budget),
+    }
+}
+
+/// What the words ask for, ready to be written. The words come first, then the program's file, its
+/// reading and its check, the report's file where there is one, and the run or the replay; the first
+/// refusal in this order ends the work.
+pub fn prepare<'a, S: Source>(
+    alloc: Global,
+    words: &'a [String],
+    source: &mut S,
+) -> Result<Prepared, Stop<'a>>
+    ensures answer { IfOk result (λ p. Answered (inputs (map string_bytes words.entry.now) S.content S.faults source.old source.new) (text_in p) p.status) }
+    ensures stop { IfErr result (λ s. Holds (inputs (map string_bytes words.entry.now) S.content S.faults source.old source.new) (refusal_of s)) }
+{
+    let task = read_words(alloc, words)?;
+    prepare_task(alloc, task, source)
 }

@@ -1,18 +1,26 @@
-//! What is written: messages, and a report that is ready.
+//! What is written: messages, and a text that is ready.
 
 ghost use Rattle.std.specs.Prelude.{◌≡◌, ◌≤◌, map, string_bytes, IfOk, IfErr, OnOk, OnErr};
 ghost use Rattle.std.specs.List.{concat};
 ghost use Rattle.asp_edge.specs.Causes.{Appends, AppendsFront, Rose};
-ghost use Rattle.asp_top.specs.Seen.{sight, kind_text as text_of_kind, check_text as text_of_check, fault_line, message_of, NoMemory, Unread};
-ghost use Rattle.asp_top.specs.Stops.{Told, ToldOf, Written};
+ghost use Rattle.asp_top.specs.Seen.{sight, kind_text as text_of_kind, check_text as text_of_check, fault_line, message_of, Diverges, NoMemory, NoReport, Unread};
+ghost use Rattle.asp_top.specs.Stops.{Told, ToldOf, WrittenOf, refusal_of, text_in};
 
-use crate::prepare::{Prepared, Stop};
+use crate::prepare::Prepared;
+use crate::stop::Stop;
 use asp_check::CheckKind;
 use asp_edge::{Sink, WriteFailed};
+use asp_model::ActivityName;
 use asp_syntax::SyntaxKind;
+use run_report::push_name;
 use std::alloc::{AllocError, Global};
 
-const LONG: &[u8] = b"asp: program: longer than 1048576 bytes\n";
+const USAGE: &[u8] =
+    b"asp: usage: asp FILE [--workers N] [--strategy S] [--update L=S,..] [--budget N] [--state D] [--check] [--replay REPORT], or asp --make N [--workers N] [--strategy S] [--update L=S,..] [--budget N]\n";
+
+const LONG_PROGRAM: &[u8] = b"asp: program: longer than 1048576 bytes\n";
+
+const LONG_REPORT: &[u8] = b"asp: replay: longer than 16777216 bytes\n";
 
 const CANNOT_WRITE: &[u8] = b"asp: cannot write\n";
 
@@ -57,8 +65,23 @@ fn unread_message(alloc: Global, name: &str) -> Result<String, AllocError>
     format!(in alloc; "asp: cannot read {name}\n")
 }
 
-/// Writes a message, and answers the status, or 7 where the sink failed.
-pub fn tell<E: Sink>(err: &mut E, message: &[u8], status: u8) -> u8
+fn bad_line_message(alloc: Global, line: u64) -> Result<String, AllocError>
+    ensures { IfOk result (λ s. string_bytes s ≡ message_of (NoReport line)) }
+{
+    format!(in alloc; "asp: replay: line {line}\n")
+}
+
+fn diverges_message(alloc: Global, name: &ActivityName) -> Result<String, AllocError>
+    ensures { IfOk result (λ s. string_bytes s ≡ message_of (Diverges name.now)) }
+{
+    let mut text = String::from_str(alloc, "asp: replay: ")?;
+    push_name(&mut text, name)?;
+    text.push_str(" diverges\n")?;
+    Ok(text)
+}
+
+// Writes a message, and answers the status, or 7 where the sink failed.
+fn tell<E: Sink>(err: &mut E, message: &[u8], status: u8) -> u8
     ensures { Told (sight E.bytes E.faults err.old err.new) message.now status result }
 {
     match err.write(message) {
@@ -78,13 +101,14 @@ fn tell_made<E: Sink>(err: &mut E, message: Result<String, AllocError>, status: 
     }
 }
 
-/// Tells why there is no report.
-pub fn refuse<E: Sink>(alloc: Global, name: &str, stop: &Stop, err: &mut E) -> u8
-    ensures { ToldOf name.now stop.now (sight E.bytes E.faults err.old err.new) result }
+/// Tells why there is nothing to write.
+pub fn refuse<E: Sink>(alloc: Global, stop: &Stop<'_>, err: &mut E) -> u8
+    ensures { ToldOf (refusal_of stop.now) (sight E.bytes E.faults err.old err.new) result }
 {
     match stop {
-        Stop::Unread => tell_made(err, unread_message(alloc, name), 6),
-        Stop::Long => tell(err, LONG, 3),
+        Stop::Usage => tell(err, USAGE, 2),
+        Stop::Unread(name) => tell_made(err, unread_message(alloc, name), 6),
+        Stop::LongProgram => tell(err, LONG_PROGRAM, 3),
         Stop::Syntax(fault) => {
             let message = fault_message(alloc, kind_text(fault.kind), fault.at);
             tell_made(err, message, 3)
@@ -93,6 +117,9 @@ pub fn refuse<E: Sink>(alloc: Global, name: &str, stop: &Stop, err: &mut E) -> u
             let message = fault_message(alloc, check_text(fault.kind), fault.at);
             tell_made(err, message, 3)
         }
+        Stop::LongReport => tell(err, LONG_REPORT, 9),
+        Stop::BadLine(line) => tell_made(err, bad_line_message(alloc, *line), 9),
+        Stop::Diverged(activity) => tell_made(err, diverges_message(alloc, activity), 9),
         Stop::Memory => tell(err, NO_MEMORY, 8),
     }
 }
@@ -110,9 +137,9 @@ fn write_all<O: Sink>(out: &mut O, pieces: &[String]) -> Result<(), WriteFailed>
     Ok(())
 }
 
-/// Writes a report, all of whose pieces are made.
-pub fn write_report<O: Sink, E: Sink>(prepared: &Prepared, out: &mut O, err: &mut E) -> u8
-    ensures { Written (sight O.bytes O.faults out.old out.new) (sight E.bytes E.faults err.old err.new) (concat (map string_bytes prepared.now.pieces.items)) prepared.now.status result }
+/// Writes a text that is ready.
+pub fn write_prepared<O: Sink, E: Sink>(prepared: &Prepared, out: &mut O, err: &mut E) -> u8
+    ensures { WrittenOf (sight O.bytes O.faults out.old out.new) (sight E.bytes E.faults err.old err.new) (text_in prepared.now) prepared.now.status result }
 {
     match write_all(out, &prepared.pieces) {
         Ok(()) => prepared.status,

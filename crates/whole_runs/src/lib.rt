@@ -10,8 +10,6 @@ mod checking;
 #[cfg(test)]
 mod crowds;
 #[cfg(test)]
-mod faults_of_the_outside;
-#[cfg(test)]
 mod faulty_texts;
 #[cfg(test)]
 mod futures;
@@ -31,5 +29,3 @@ mod setting;
 mod sums;
 #[cfg(test)]
 mod texts;
-#[cfg(test)]
-mod words;

@@ -1,0 +1,42 @@
+-- The files that a task names, and the program that it asks for.
+use Rattle.std.specs.Prelude.{◌≡◌, ℕ, ◌≤◌, ◌^◌, List, length}
+use Rattle.asp_model.specs.Marked.{Marked}
+use Rattle.asp_model.specs.Step.{ListsShape}
+use Rattle.asp_model.specs.Replay.{CountsShape}
+use Rattle.asp_model.specs.ReadReport.{read_report, Reads}
+use Rattle.asp_syntax.specs.Correct.{IsProgramText}
+use Rattle.asp_check.specs.Faults.{IsChecked}
+use Rattle.asp_edge.specs.Causes.{IsContent}
+use Rattle.load_gen.specs.Generated.{generated}
+use Rattle.command_line.specs.Task.{TaskShape, Runs, Checks, Replays, Makes}
+use Rattle.asp_top.specs.Seen.{Outside}
+
+-- the file of this name has these bytes, and at most so many
+pub record IsFile (o : Outside) (name : List ℕ) (most : ℕ) (bytes : List ℕ) : Type 0 where
+  pub told : IsContent (o.content name) bytes
+  pub within : length bytes ≤ most
+
+-- the text of the program: the bytes of its file, or the generated text
+abbrev pub IsText : Outside → TaskShape → List ℕ → Type 0
+IsText o (Runs file budget) bytes = IsFile o file (2 ^ 20) bytes
+IsText o (Checks file) bytes = IsFile o file (2 ^ 20) bytes
+IsText o (Replays file report) bytes = IsFile o file (2 ^ 20) bytes
+IsText o (Makes pairs budget) bytes = bytes ≡ generated pairs
+
+-- the bytes are this program and no other, and it is checked
+pub record IsProgramOf (bytes : List ℕ) (program : Marked) : Type 0 where
+  pub is_read : IsProgramText bytes program
+  pub only : (other : Marked) → IsProgramText bytes other → program ≡ other
+  pub checked : IsChecked program
+
+-- the program that a task asks for
+pub record HasProgram (o : Outside) (task : TaskShape) (program : Marked) : Type 0 where
+  pub bytes : List ℕ
+  pub text : IsText o task bytes
+  pub is : IsProgramOf bytes program
+
+-- the file of this name, at most 2^24 bytes, is a report with these sender lists and counts
+pub record HasReport (o : Outside) (name : List ℕ) (lists : ListsShape) (counts : CountsShape) : Type 0 where
+  pub bytes : List ℕ
+  pub file : IsFile o name (2 ^ 24) bytes
+  pub reads : read_report bytes ≡ Reads lists counts

@@ -1,0 +1,98 @@
+//! Why there is nothing to write.
+
+ghost use Rattle.std.specs.Prelude.{◌≡◌};
+ghost use Rattle.asp_top.specs.Stops.{words_stop, syntax_stop, check_stop, log_stop, replay_stop};
+ghost use Rattle.asp_top.specs.declared.stop.Stop.TheVariants as stops;
+
+use asp_check::{CheckError, CheckFault};
+use asp_model::ActivityName;
+use asp_syntax::{SyntaxError, SyntaxFault};
+use command_line::WordsError;
+use replay_one::ReplayStop;
+use sender_log::LogError;
+use std::alloc::AllocError;
+
+/// Why there is nothing to write.
+#[derive(Drop)]
+pub enum Stop<'a> {
+    /// The words are refused.
+    Usage,
+    /// The source failed at the file of this name.
+    Unread(&'a str),
+    /// There are more bytes than a program may have.
+    LongProgram,
+    /// The bytes are no program, and this is their first fault.
+    Syntax(SyntaxFault),
+    /// The program is not checked, and this is its first fault.
+    Check(CheckFault),
+    /// There are more bytes than a report may have.
+    LongReport,
+    /// The line of this number is the first one of a report that cannot stand in its place.
+    BadLine(u64),
+    /// The report does not fit the program, and this is the least activity that shows it.
+    Diverged(ActivityName),
+    Memory,
+}
+
+impl From<AllocError> for Stop<'_> {
+    ghost from_gives = { λ _ s. s ≡ stops.Memory };
+
+    fn from(_error: AllocError) -> Self {
+        Stop::Memory
+    }
+}
+
+impl From<WordsError> for Stop<'_> {
+    ghost from_gives = { λ e s. s ≡ words_stop e };
+
+    fn from(error: WordsError) -> Self {
+        match error {
+            WordsError::Usage => Stop::Usage,
+            WordsError::Memory => Stop::Memory,
+        }
+    }
+}
+
+impl From<SyntaxError> for Stop<'_> {
+    ghost from_gives = { λ e s. s ≡ syntax_stop e };
+
+    fn from(error: SyntaxError) -> Self {
+        match error {
+            SyntaxError::Fault(fault) => Stop::Syntax(fault),
+            SyntaxError::Memory => Stop::Memory,
+        }
+    }
+}
+
+impl From<CheckError> for Stop<'_> {
+    ghost from_gives = { λ e s. s ≡ check_stop e };
+
+    fn from(error: CheckError) -> Self {
+        match error {
+            CheckError::Fault(fault) => Stop::Check(fault),
+            CheckError::Memory => Stop::Memory,
+        }
+    }
+}
+
+impl From<LogError> for Stop<'_> {
+    ghost from_gives = { λ e s. s ≡ log_stop e };
+
+    fn from(error: LogError) -> Self {
+        match error {
+            LogError::BadLine { line } => Stop::BadLine(line),
+            LogError::Memory => Stop::Memory,
+        }
+    }
+}
+
+impl From<ReplayStop> for Stop<'_> {
+    ghost from_gives = { λ e s. s ≡ replay_stop e };
+
+    fn from(stop: ReplayStop) -> Self {
+        match stop {
+            ReplayStop::Diverged { activity } => Stop::Diverged(activity),
+            ReplayStop::Memory => Stop::Memory,
+        }
+    }
+}

@@ -1,0 +1,34 @@
+//! Whole texts, read and printed.
+
+use asp_print::print_program;
+use asp_syntax::{SyntaxError, read_program};
+
+#[test]
+fn one_blank_stands_between_two_tokens(rt: HostRuntime) -> Result<(), SyntaxError> {
+    let alloc = rt.alloc();
+    let rows = [
+        ("let a=1 in(a+2)*03", "let a = 1 in ( a + 2 ) * 3"),
+        (
+            "0;// c\n((x).l()).m(1,(2;3))",
+            "0 ; ( ( x ) . l ( ) ) . m ( 1 , ( 2 ; 3 ) )",
+        ),
+        (
+            "[a=1,b=[];m(s,p)=((s.a)):=p,n(s)=serve()]",
+            "[ a = 1 , b = [ ] ; m ( s , p ) = ( ( s . a ) ) := p , n ( s ) = serve ( ) ]",
+        ),
+        (
+            "if(1<2){active(clone(x),m)}else{repeat(print(3));echo(\"a  b\");serve(m,n)}",
+            "if ( 1 < 2 ) { active ( clone ( x ) , m ) } else { repeat ( print ( 3 ) ) ; echo ( \"a  b\" ) ; serve ( m , n ) }",
+        ),
+        ("1-2/3%4==active(5)", "1 - 2 / 3 % 4 == active ( 5 )"),
+        ("9223372036854775807", "9223372036854775807"),
+    ];
+    for (text, want) in rows {
+        let program = read_program(alloc, text.as_bytes())?;
+        let printed = print_program(alloc, &program)?;
+        assert_eq!(rt; printed.as_str(), want);
+        let again = read_program(alloc, printed.as_bytes())?;
+        assert_eq!(rt; print_program(alloc, &again)?.as_str(), want);
+    }
+    Ok(())
+}
