@@ -1,38 +1,46 @@
 #!/usr/bin/env python3
 """Measures the built programs at two sizes each: time, peak memory, and the ratio of the times.
 
-Run `./asp` once before, and `rt run -- data/one.asp replay` in crates/replay_timing, so that the
-programs are there. Nothing here is a test: figures depend on the machine, and only their ratios
-within one run mean something. The seconds are those of the processor, so that other work on the
-machine matters less.
+    bench/measure.py [PART ..]     with no PART all of them: reading runs replays reports printing stores
+
+Nothing here is a test: figures depend on the machine, and only their ratios within one run mean
+something. The seconds are those of the processor, so that other work on the machine matters less.
+A peak is never below that of this script, some 10 MiB, since a child begins as its copy.
 """
 import os
 import subprocess
 import sys
 import tempfile
+from itertools import repeat
+from typing import NamedTuple
 
 ROOT = os.path.dirname(os.path.dirname(os.path.abspath(__file__)))
 PROGRAM = os.path.join(ROOT, "crates", "asp", "out", "asp")
-TIMING = os.path.join(ROOT, "crates", "replay_timing", "out", "replay_timing")
+TIMING = os.path.join(ROOT, "crates", "timing", "out", "timing")
+BUILD = """measure: build both programs first, at the top of the repository:
+    ./asp examples/sums.asp
+    (cd crates/timing && rt run -- pack grid 10)"""
 MEBIBYTE = 1 << 20
+MOST = ["--budget", "10000000"]
 
 
-def repeated(piece, size, last):
-    """As many pieces as fit, and then the last."""
-    return piece * ((size - len(last)) // len(piece)) + last
+class Run(NamedTuple):
+    seconds: float
+    peak: int  # in KiB
+    status: int
+    reductions: int  # as the report shows them, if there is one
 
 
-def fields(size):
-    """An object with as many fields as fit."""
-    parts, left, number = [], size - 2, 0
+# Programs and reports
+
+
+def fields():
+    """The fields of an object, without end and without the bracket that closes it."""
+    yield "[f0=1"
+    number = 1
     while True:
-        part = f"f{number}=1,"
-        if len(part) > left:
-            break
-        parts.append(part)
-        left -= len(part)
+        yield f",f{number}=1"
         number += 1
-    return "[" + "".join(parts)[:-1] + "]"
 
 
 def make(n):
@@ -59,84 +67,218 @@ def crowd(n):
     )
 
 
-def measure(text, options, program=PROGRAM):
-    """Processor seconds, peak memory in KiB, exit status and reductions of one run."""
-    with tempfile.NamedTemporaryFile("w", suffix=".asp", delete=False) as file:
-        file.write(text)
-    try:
-        with tempfile.TemporaryFile() as out:
-            child = subprocess.Popen([program, file.name, *options], stdout=out, stderr=subprocess.DEVNULL)
-            _, status, usage = os.wait4(child.pid, 0)
-            seconds = usage.ru_utime + usage.ru_stime
-            child.returncode = os.waitstatus_to_exitcode(status)
-            out.seek(0)
-            lines = out.read().decode().splitlines()
-        counts = [int(line.split()[2]) for line in lines if line.startswith("activity ")]
-        return seconds, usage.ru_maxrss, child.returncode, sum(counts)
-    finally:
-        os.unlink(file.name)
+def outputs():
+    """Output lines of main, without end."""
+    yield "asp report 1\nverdict end\nactivity 0 1 done\nsenders\n"
+    while True:
+        yield "> 1\n"
 
 
-def best(text, options, turns, program=PROGRAM):
-    return min((measure(text, options, program) for _ in range(turns)), key=lambda m: m[0])
+def activities():
+    """Activities that are done, without end."""
+    yield "asp report 1\nverdict end\nactivity 0 1 done\nsenders\n"
+    number = 1
+    while True:
+        yield f"activity 0.{number} 1 done\nsenders\n"
+        number += 1
 
 
-def show(name, small, large, options=(), turns=5, times=2, most=None):
-    """The runs of two texts, the second of so many times the size, and the most that is wanted."""
-    first = best(small[0], [*options, *small[1]], turns)
-    second = best(large[0], [*options, *large[1]], turns)
-    ratio = second[0] / first[0]
+def senders():
+    """One senders line, without end."""
+    yield "asp report 1\nverdict end\nactivity 0 1 done\nsenders"
+    while True:
+        yield " 0.1"
+
+
+# Runs
+
+
+class Folder:
+    """A folder for the programs and reports that are measured."""
+
+    def __init__(self, path):
+        self.path = path
+        self.count = 0
+
+    def new(self):
+        self.count += 1
+        return os.path.join(self.path, str(self.count))
+
+    def text(self, text):
+        """The path of a file with this text."""
+        path = self.new()
+        with open(path, "w") as file:
+            file.write(text)
+        return path
+
+    def pieces(self, pieces, size, last):
+        """The path of a file of that size with as many of the pieces as fit, and then the last."""
+        path, left = self.new(), size - len(last)
+        with open(path, "w") as file:
+            for piece in pieces:
+                left -= len(piece)
+                if left < 0:
+                    break
+                file.write(piece)
+            file.write(last)
+        return path
+
+
+def reductions(out):
+    return sum(int(line.split()[2]) for line in out if line.startswith(b"activity "))
+
+
+def once(program, words, output=None):
+    with open(output, "w+b") if output else tempfile.TemporaryFile() as out:
+        child = subprocess.Popen([program, *words], stdout=out, stderr=subprocess.DEVNULL)
+        _, status, usage = os.wait4(child.pid, 0)
+        child.returncode = os.waitstatus_to_exitcode(status)
+        out.seek(0)
+        count = reductions(out) if program == PROGRAM else 0
+    return Run(usage.ru_utime + usage.ru_stime, usage.ru_maxrss, child.returncode, count)
+
+
+def best(program, words, turns):
+    return min((once(program, words) for _ in range(turns)), key=lambda run: run.seconds)
+
+
+def per_second(run):
+    return f"{run.reductions / run.seconds:,.0f} reductions a second"
+
+
+def show(name, small, large, turns=5, times=2, most=None, program=PROGRAM):
+    """The runs under two lists of words, the second of so many times the size, and the most that is wanted."""
+    first, second = best(program, small, turns), best(program, large, turns)
     size = "twice the size" if times == 2 else f"{times} times the size"
     bound = f" (at most {most} is wanted)" if most else ""
     rate = ""
-    if second[3] > 10_000:
-        bytes_each = (second[1] - first[1]) * 1024 / (second[3] - first[3])
-        rate = f", {second[3] / second[0]:,.0f} a second, {bytes_each:,.0f} bytes each"
-    print(f"{name}: {first[0]:.3f} s, then {second[0]:.3f} s at {size}: {ratio:.2f} times{bound}; "
-          f"status {second[2]}, {second[3]:,} reductions{rate}, peak {second[1] / 1024:,.0f} MiB", flush=True)
+    if second.reductions > max(10_000, first.reductions):
+        bytes_each = (second.peak - first.peak) * 1024 / (second.reductions - first.reductions)
+        rate = f", {second.reductions:,} reductions, {per_second(second)}, {bytes_each:,.0f} bytes each"
+    print(f"{name}: {first.seconds:.3f} s, then {second.seconds:.3f} s at {size}: "
+          f"{second.seconds / first.seconds:.2f} times{bound}; status {second.status}{rate}, "
+          f"peak {second.peak / 1024:,.0f} MiB", flush=True)
+    return first, second
 
 
-def replay_seconds(n, turns):
-    """Processor seconds of the run of n pairs, and of its replay alone."""
-    text = make(n)
-    run = best(text, ["run"], turns, TIMING)
-    both = best(text, ["replay"], turns, TIMING)
-    if run[2] or both[2]:
-        sys.exit(f"measure: replay_timing ended with {run[2]} and {both[2]}")
-    return run[0], both[0] - run[0]
+# What is measured
 
 
-def show_replays(small, large, turns=5):
-    first, second = replay_seconds(small, turns), replay_seconds(large, turns)
-    for n, (run, replay) in ((small, first), (large, second)):
-        print(f"replay of {n:,} pairs: {replay:.3f} s, {replay / run:.2f} times the run's {run:.3f} s "
-              "(at most 2 is wanted)", flush=True)
-    print(f"replay of twice the pairs: {second[1] / first[1]:.2f} times (at most 2.5 is wanted)", flush=True)
+def show_reading(folder):
+    half, one = MEBIBYTE // 2, ["--budget", "1"]
+
+    def texts(name, pieces, last, words=()):
+        small, large = (folder.pieces(pieces(), size, last) for size in (half, MEBIBYTE))
+        show(name, [small, *words], [large, *words])
+
+    texts("reading spaces", lambda: repeat(" " * 64), "7")
+    texts("reading a comment", lambda: repeat("//" + "x" * 62), "\n7")
+    texts("reading prints", lambda: repeat("print(1); "), "7", one)
+    texts("reading fields", fields, "]", one)
+    texts("checking fields", fields, "]", ["--check"])
 
 
-def budget(n):
-    return ["--budget", str(n)]
+def show_runs(folder):
+    def texts(name, text, small, large, **rest):
+        show(name, [folder.text(text(small)), *MOST], [folder.text(text(large)), *MOST], **rest)
+
+    texts("a sequence", lambda n: "1;" * n + "7", 25_000, 50_000)
+    down = "let o = [; down(s, k) = if (k == 0) { 0 } else { 1 + s.down(k - 1) }] in print(o.down(%d))"
+    texts("recursion", lambda n: down % n, 50_000, 100_000, turns=2)
+    zero, one = folder.text("repeat(0)"), folder.text("repeat(1)")
+    show("repeat", [zero, "--budget", "500000"], [zero, "--budget", "1000000"], turns=2)
+    show("ten million", [one, "--budget", "5000000"], [one, *MOST], turns=1)
+    texts("pairs from a file", make, 1_000, 2_000, most=2.5)
+    _, made = show("pairs by --make", ["--make", "1000", *MOST], ["--make", "2000", *MOST], most=2.5)
+    count = best(PROGRAM, [folder.text(make(2_000)), *MOST], 1).reductions
+    print(f"2,000 pairs by --make: {count:,} reductions, {per_second(made._replace(reductions=count))}", flush=True)
+    texts("one future", crowd, 300, 3_000, times=10)
+
+
+def show_replays(folder):
+    """Each replay beside the run whose report it takes."""
+    last = None
+    for n in (500, 1_000, 2_000):
+        program, report = folder.text(make(n)), folder.new()
+        run = best(PROGRAM, [program, *MOST], 5)
+        once(PROGRAM, [program, *MOST], report)
+        replay = best(PROGRAM, [program, "--replay", report], 5)
+        growth = f", {replay.seconds / last:.2f} times that of half the pairs (at most 2.5 is wanted)" if last else ""
+        print(f"replay of {n:,} pairs: {replay.seconds:.3f} s, {replay.seconds / run.seconds:.2f} times the run's "
+              f"{run.seconds:.3f} s (at most 2 is wanted){growth}; status {replay.status}, "
+              f"peak {replay.peak / 1024:,.0f} MiB", flush=True)
+        last = replay.seconds
+
+
+def show_reports(folder):
+    """Reports of 8 and of 16 MiB whose last line is bad, so that nothing is replayed: status 9."""
+    program = folder.text("7")
+    for name, pieces in (("outputs", outputs), ("activities", activities), ("senders", senders)):
+        small, large = (folder.pieces(pieces(), size * MEBIBYTE, "\nx\n") for size in (8, 16))
+        show(f"reading a report of {name}", [program, "--replay", small], [program, "--replay", large], turns=3)
+
+
+def show_printing(folder):
+    deep = "(" * 190 + "7" + ")" * 190 + "; "
+    texts = (
+        ("fields", fields, "]"),
+        ("prints", lambda: repeat("print(1); "), "7"),
+        ("parentheses", lambda: repeat(deep), "7"),
+    )
+    for name, pieces, last in texts:
+        small, large = (folder.pieces(pieces(), size, last) for size in (MEBIBYTE // 2, MEBIBYTE))
+        show(f"reading and printing {name}", ["print", small], ["print", large], program=TIMING)
+
+
+def show_part():
+    """Packing a part of ten cells, without the making of the store, which is measured by itself."""
+    def packing(size):
+        run = best(TIMING, ["part", str(size), "100000"], 3)
+        empty = best(TIMING, ["part", str(size), "0"], 3)
+        return run.seconds - empty.seconds
+
+    small, large = packing(1_000), packing(1_000_000)
+    print(f"packing 10 cells 100,000 times: {small:.3f} s in a store of 1,000 cells, {large:.3f} s in one of "
+          f"1,000,000: {large / small:.2f} times (1 is wanted)", flush=True)
+
+
+def show_cells():
+    small, large = 1 << 20, 1 << 21
+    for kind in ("numbers", "objects", "futures"):
+        first, second = (once(TIMING, ["cells", kind, str(size)]) for size in (small, large))
+        print(f"{kind}: {(second.peak - first.peak) * 1024 / (large - small):.0f} bytes a cell", flush=True)
+
+
+def show_stores(_folder):
+    for shape in ("chain", "wide", "grid"):
+        words = [["pack", shape, str(size)] for size in (500_000, 1_000_000)]
+        show(f"packing and unpacking a {shape}", *words, turns=3, most=2.5, program=TIMING)
+    show_part()
+    for places in ("many", "one"):
+        words = [["futures", places, str(size)] for size in (50_000, 100_000)]
+        show(f"futures, {places}", *words, turns=3, most=2.5, program=TIMING)
+    show_cells()
+
+
+PARTS = {
+    "reading": show_reading,
+    "runs": show_runs,
+    "replays": show_replays,
+    "reports": show_reports,
+    "printing": show_printing,
+    "stores": show_stores,
+}
 
 
 def main():
-    if not os.access(PROGRAM, os.X_OK):
-        sys.exit("measure: run ./asp once before")
-    if not os.access(TIMING, os.X_OK):
-        sys.exit("measure: run `rt run -- data/one.asp replay` in crates/replay_timing once before")
-    half = MEBIBYTE // 2
-    show("reading spaces", (" " * (half - 1) + "7", []), (" " * (MEBIBYTE - 1) + "7", []))
-    show("reading a comment", ("//" + "x" * (half - 4) + "\n7", []), ("//" + "x" * (MEBIBYTE - 4) + "\n7", []))
-    show("reading prints", (repeated("print(1); ", half, "7"), budget(1)), (repeated("print(1); ", MEBIBYTE, "7"), budget(1)))
-    show("reading fields", (fields(half), budget(1)), (fields(MEBIBYTE), budget(1)))
-    show("a sequence", (repeated("1;", 50_000, "7"), []), (repeated("1;", 100_000, "7"), []))
-    show("repeat", ("repeat(0)", budget(500_000)), ("repeat(0)", budget(1_000_000)), turns=2)
-    down = "let o = [; down(s, k) = if (k == 0) { 0 } else { 1 + s.down(k - 1) }] in print(o.down(%d))"
-    show("recursion", (down % 50_000, budget(10_000_000)), (down % 100_000, budget(10_000_000)), turns=2)
-    show("ten million", ("repeat(1)", budget(5_000_000)), ("repeat(1)", budget(10_000_000)), turns=1)
-    most = budget(10_000_000)
-    show("pairs", (make(500), most), (make(1_000), most), most=2.5)
-    show("one future", (crowd(300), most), (crowd(3_000), most), times=10)
-    show_replays(500, 1_000)
+    wanted = sys.argv[1:] or list(PARTS)
+    if not set(wanted) <= set(PARTS):
+        sys.exit(f"measure: the parts are {' '.join(PARTS)}")
+    if not all(os.access(program, os.X_OK) for program in (PROGRAM, TIMING)):
+        sys.exit(BUILD)
+    with tempfile.TemporaryDirectory() as path:
+        for name in wanted:
+            PARTS[name](Folder(path))
 
 
 main()

@@ -1,1 +1,0 @@
-let a = active([; inc(s, x) = x + 1]) in print(a.inc(41))
