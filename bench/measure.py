@@ -233,12 +233,12 @@ def show_printing(folder):
 def show_part():
     """Packing a part of ten cells, without the making of the store, which is measured by itself."""
     def packing(size):
-        run = best(TIMING, ["part", str(size), "100000"], 3)
+        run = best(TIMING, ["part", str(size), "1000000"], 3)
         empty = best(TIMING, ["part", str(size), "0"], 3)
         return run.seconds - empty.seconds
 
     small, large = packing(1_000), packing(1_000_000)
-    print(f"packing 10 cells 100,000 times: {small:.3f} s in a store of 1,000 cells, {large:.3f} s in one of "
+    print(f"packing 10 cells 1,000,000 times: {small:.3f} s in a store of 1,000 cells, {large:.3f} s in one of "
           f"1,000,000: {large / small:.2f} times (1 is wanted)", flush=True)
 
 
@@ -254,9 +254,9 @@ def show_stores(_folder):
         words = [["pack", shape, str(size)] for size in (500_000, 1_000_000)]
         show(f"packing and unpacking a {shape}", *words, turns=3, most=2.5, program=TIMING)
     show_part()
-    for places in ("many", "one"):
-        words = [["futures", places, str(size)] for size in (50_000, 100_000)]
-        show(f"futures, {places}", *words, turns=3, most=2.5, program=TIMING)
+    for name, places, large in (("many futures", "many", 200_000), ("one future at many places", "one", 100_000)):
+        words = [["futures", places, str(size)] for size in (large // 2, large)]
+        show(name, *words, turns=5, most=2.5, program=TIMING)
     show_cells()
 
 

@@ -1,0 +1,9 @@
+//! The bytes of a cell, without what it owns.
+
+use asp_model::{Cell, FutureName, Object};
+
+const _: () = prove!(size_of::<Object>() == 48);
+
+const _: () = prove!(size_of::<FutureName>() == 32);
+
+const _: () = prove!(size_of::<Cell>() == 56);
