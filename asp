@@ -3,7 +3,7 @@
 root=$(cd "$(dirname "$0")" && pwd) || exit 126
 program=$root/crates/asp/out/asp
 if [ ! -x "$program" ] || [ -n "$(find "$root/crates" -name '*.rt' -newer "$program")" ]; then
-    echo "asp: proving and building the program, once; this takes some minutes" >&2
+    echo "asp: proving and building the program, once; this can take more than half an hour" >&2
     mkdir -p "$root/out"
     (cd "$root/crates/asp" && rm -f out/asp && rt run -- data/one.asp) >"$root/out/build.log" 2>&1
     if [ ! -x "$program" ]; then
