@@ -120,6 +120,7 @@ cell_shape (cells.Number n) = store.Number n
 cell_shape (cells.Object o) = store.Object (map field_shape o.fields.items) (map stored_method o.methods.items)
 cell_shape (cells.Reference n) = store.Reference n
 cell_shape (cells.Future f) = store.Future (future_shape f)
+cell_shape (cells.Group ns) = store.Group ns.items
 
 abbrev pub parcel_shape : Parcel → ParcelShape
 parcel_shape p = record { cells = map cell_shape p.cells.items; roots = p.roots.items }

@@ -19,6 +19,8 @@ pub enum Cell {
     Reference(ActivityName),
     /// The answer of a request, before its value is needed.
     Future(FutureName),
+    /// The members of a group, in order.
+    Group(Vec<Place>),
 }
 
 /// A deep copy: cells that hold each other's numbers, and the numbers of the roots. It passes

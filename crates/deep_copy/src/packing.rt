@@ -10,7 +10,7 @@ ghost use Rattle.object_store.specs.View.{store_of};
 
 use crate::visiting::visit_order;
 use asp_model::{Cell, Parcel, Place};
-use moving::{Moves, moved_cell};
+use moving::{Moves, moved_cell, moved_places};
 use object_store::Store;
 use std::alloc::{AllocError, Global};
 
@@ -45,19 +45,4 @@ fn copied_cells(
         cells.push(moved_cell(alloc, moves, store.cell(*place))?)?;
     }
     Ok(cells)
-}
-
-/// Each of the places moved.
-pub fn moved_places(
-    alloc: Global,
-    moves: &Moves,
-    places: &[Place],
-) -> Result<Vec<Place>, AllocError>
-    ensures { IfOk result (λ r. r.items ≡ map (move_of moves.now) places.now) }
-{
-    let mut copies = Vec::new(alloc);
-    for place in places {
-        copies.push(moves.moved(*place))?;
-    }
-    Ok(copies)
 }

@@ -12,9 +12,8 @@ ghost use Rattle.laws.specs.Closed.{IsClosedParcel, IsClosedStore, IsClosedValue
 ghost use Rattle.moving.specs.Moves.{move_of};
 ghost use Rattle.object_store.specs.View.{store_of};
 
-use crate::packing::moved_places;
 use asp_model::{Cell, Parcel, Place};
-use moving::{Moves, moved_cell};
+use moving::{Moves, moved_cell, moved_places};
 use object_store::Store;
 use std::alloc::{AllocError, Global};
 

@@ -23,6 +23,10 @@ pub fn note_reached(places: &mut Vec<Place>, cell: &Cell) -> Result<(), AllocErr
             note_fields(places, &object.fields)?;
             note_methods(places, &object.methods)
         }
+        Cell::Group(members) => {
+            places.extend_from_slice(members)?;
+            Ok(())
+        }
         Cell::Number(_) | Cell::Reference(_) | Cell::Future(_) => Ok(()),
     }
 }
@@ -47,7 +51,23 @@ pub fn moved_cell(alloc: Global, moves: &Moves, cell: &Cell) -> Result<Cell, All
         Cell::Object(object) => moved_object(alloc, moves, object),
         Cell::Reference(name) => Ok(Cell::Reference(name.copy(alloc)?)),
         Cell::Future(future) => Ok(Cell::Future(future.copy(alloc)?)),
+        Cell::Group(members) => Ok(Cell::Group(moved_places(alloc, moves, members)?)),
     }
+}
+
+/// Each of the places moved.
+pub fn moved_places(
+    alloc: Global,
+    moves: &Moves,
+    places: &[Place],
+) -> Result<Vec<Place>, AllocError>
+    ensures { IfOk result (λ r. r.items ≡ map (move_of moves.now) places.now) }
+{
+    let mut copies = Vec::new(alloc);
+    for place in places {
+        copies.push(moves.moved(*place))?;
+    }
+    Ok(copies)
 }
 
 fn moved_object(alloc: Global, moves: &Moves, object: &Object) -> Result<Cell, AllocError>

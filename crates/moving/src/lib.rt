@@ -6,7 +6,7 @@ mod moves;
 mod noted;
 mod terms;
 
-pub use cells::{moved_cell, note_reached};
+pub use cells::{moved_cell, moved_places, note_reached};
 pub use moves::Moves;
 pub use noted::{note_methods, note_term};
 pub use terms::{moved_methods, moved_term};
