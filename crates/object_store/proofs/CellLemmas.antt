@@ -50,6 +50,7 @@ no_object (cells.Object o) l n h = absurd (h o refl)
 no_object (cells.Number k) l n h = (refl, refl)
 no_object (cells.Reference a) l n h = (refl, refl)
 no_object (cells.Future f) l n h = (refl, refl)
+no_object (cells.Group ns) l n h = (refl, refl)
 
 pub with_cell-append : (s t : Store) (p : ℕ) (c : CellShape) → p < length s → with_cell (s ++ t) p c ≡ with_cell s p c ++ t
 with_cell-append [] t p c lt = absurd (omega arith)

@@ -2,9 +2,10 @@
 use Rattle.std.proofs.Common.{◌≡◌, ℕ, zero, suc, ◌+◌, ◌<◌, Bool, true, false, List, [], ◌∷◌, ◌++◌, length, refl, sym, ap, ◌∙◌, arith}
 use Rattle.asp_model.specs.Names.{FutureShape}
 use Rattle.asp_model.specs.Store.{CellShape, Store, cell, with_cell}
-use Rattle.object_store.specs.Ascending.{AllAbove, IsAscending, with_number, without_number}
+use Rattle.std.specs.List.{AllByRecursion}
+use Rattle.object_store.specs.Index.{with_place, without_place}
 use Rattle.object_store.specs.Holders.{is_future, holders_from, holders}
-use Rattle.object_store.proofs.AscendingLemmas.{with_above, with_below, with_first, without_first, without_below}
+use Rattle.object_store.proofs.PlaceLemmas.{with_above, with_below, with_first, without_first, without_below}
 use Rattle.object_store.proofs.IndexLemmas.{changed_so}
 
 -- the places from n on, where the first cell has or has not the future
@@ -13,22 +14,16 @@ front here n rest = elim here [ true ↦ n ∷ rest | false ↦ rest ]
 
 -- Order
 
+abbrev AllAbove : ℕ → List ℕ → Type 0
+AllAbove n = AllByRecursion (λ m. n < m)
+
 above : (m n : ℕ) (f : FutureShape) (cs : Store) → m < n → AllAbove m (holders_from n f cs)
 above m n f [] lt = tt
 above m n f (c ∷ cs) lt =
     let rest = above m (suc n) f cs (omega arith) in
     elim (is_future f c) as (λ b. AllAbove m (front b n (holders_from (suc n) f cs))) [ true ↦ (lt, rest) | false ↦ rest ]
 
-ascending_from : (n : ℕ) (f : FutureShape) (cs : Store) → IsAscending (holders_from n f cs)
-ascending_from n f [] = tt
-ascending_from n f (c ∷ cs) =
-    let rest = ascending_from (suc n) f cs in
-    elim (is_future f c) as (λ b. IsAscending (front b n (holders_from (suc n) f cs))) [ true ↦ (above n (suc n) f cs (omega arith), rest) | false ↦ rest ]
-
-pub ascending : (f : FutureShape) (cs : Store) → IsAscending (holders f cs)
-ascending f cs = ascending_from 0 f cs
-
-with_least : (n : ℕ) (xs : List ℕ) → AllAbove n xs → with_number n xs ≡ n ∷ xs
+with_least : (n : ℕ) (xs : List ℕ) → AllAbove n xs → with_place n xs ≡ n ∷ xs
 with_least n [] h = refl
 with_least n (x ∷ xs) h = with_above n x xs h.0
 
@@ -36,7 +31,7 @@ with_least n (x ∷ xs) h = with_above n x xs h.0
 
 -- the places of a future, where one cell had it or not, and has it then or not
 abbrev pub exchanged : (had has : Bool) → ℕ → List ℕ → List ℕ
-exchanged had has p xs = elim has [ true ↦ with_number p xs | false ↦ changed_so (without_number p) had xs ]
+exchanged had has p xs = elim has [ true ↦ with_place p xs | false ↦ changed_so (without_place p) had xs ]
 
 exchanged_behind : (had has : Bool) (n p : ℕ) (xs : List ℕ) → n < p → exchanged had has p (n ∷ xs) ≡ n ∷ exchanged had has p xs
 exchanged_behind had true n p xs lt = with_below p n xs lt
@@ -73,19 +68,19 @@ replaced f cs i c lt = let e : 0 + i ≡ i = omega arith in
 
 -- One cell more, or less
 
-added_from : (n : ℕ) (f : FutureShape) (cs : Store) (c : CellShape) → holders_from n f (cs ++ c ∷ []) ≡ changed_so (with_number (n + length cs)) (is_future f c) (holders_from n f cs)
-added_from n f [] c = let e : n ≡ n + 0 = omega arith in ap (λ p. changed_so (with_number p) (is_future f c) []) e
+added_from : (n : ℕ) (f : FutureShape) (cs : Store) (c : CellShape) → holders_from n f (cs ++ c ∷ []) ≡ changed_so (with_place (n + length cs)) (is_future f c) (holders_from n f cs)
+added_from n f [] c = let e : n ≡ n + 0 = omega arith in ap (λ p. changed_so (with_place p) (is_future f c) []) e
 added_from n f (d ∷ cs) c =
     let e : suc n + length cs ≡ n + suc (length cs) = omega arith in
     let rest = holders_from (suc n) f cs in
-    ap (front (is_future f d) n) (added_from (suc n) f cs c ∙ ap (λ p. changed_so (with_number p) (is_future f c) rest) e)
+    ap (front (is_future f d) n) (added_from (suc n) f cs c ∙ ap (λ p. changed_so (with_place p) (is_future f c) rest) e)
     ∙ behind_front (is_future f d) false (is_future f c) n (n + suc (length cs)) rest (omega arith)
 
-pub added : (f : FutureShape) (cs : Store) (c : CellShape) → holders f (cs ++ c ∷ []) ≡ changed_so (with_number (length cs)) (is_future f c) (holders f cs)
-added f cs c = let e : 0 + length cs ≡ length cs = omega arith in added_from 0 f cs c ∙ ap (λ p. changed_so (with_number p) (is_future f c) (holders f cs)) e
+pub added : (f : FutureShape) (cs : Store) (c : CellShape) → holders f (cs ++ c ∷ []) ≡ changed_so (with_place (length cs)) (is_future f c) (holders f cs)
+added f cs c = let e : 0 + length cs ≡ length cs = omega arith in added_from 0 f cs c ∙ ap (λ p. changed_so (with_place p) (is_future f c) (holders f cs)) e
 
-left_from : (n : ℕ) (f : FutureShape) (cs : Store) (c : CellShape) → changed_so (without_number (n + length cs)) (is_future f c) (holders_from n f (cs ++ c ∷ [])) ≡ holders_from n f cs
-left_from n f [] c = elim (is_future f c) as (λ b. changed_so (without_number (n + 0)) b (front b n []) ≡ []) [
+left_from : (n : ℕ) (f : FutureShape) (cs : Store) (c : CellShape) → changed_so (without_place (n + length cs)) (is_future f c) (holders_from n f (cs ++ c ∷ [])) ≡ holders_from n f cs
+left_from n f [] c = elim (is_future f c) as (λ b. changed_so (without_place (n + 0)) b (front b n []) ≡ []) [
   | true ↦ without_first (n + 0) n [] (omega arith)
   | false ↦ refl
 ]
@@ -93,7 +88,7 @@ left_from n f (d ∷ cs) c =
     let e : n + suc (length cs) ≡ suc n + length cs = omega arith in
     let rest = holders_from (suc n) f (cs ++ c ∷ []) in
     sym (behind_front (is_future f d) (is_future f c) false n (n + suc (length cs)) rest (omega arith))
-    ∙ ap (front (is_future f d) n) (ap (λ p. changed_so (without_number p) (is_future f c) rest) e ∙ left_from (suc n) f cs c)
+    ∙ ap (front (is_future f d) n) (ap (λ p. changed_so (without_place p) (is_future f c) rest) e ∙ left_from (suc n) f cs c)
 
-pub left : (f : FutureShape) (cs : Store) (c : CellShape) → changed_so (without_number (length cs)) (is_future f c) (holders f (cs ++ c ∷ [])) ≡ holders f cs
-left f cs c = let e : length cs ≡ 0 + length cs = omega arith in ap (λ p. changed_so (without_number p) (is_future f c) (holders f (cs ++ c ∷ []))) e ∙ left_from 0 f cs c
+pub left : (f : FutureShape) (cs : Store) (c : CellShape) → changed_so (without_place (length cs)) (is_future f c) (holders f (cs ++ c ∷ [])) ≡ holders f cs
+left f cs c = let e : length cs ≡ 0 + length cs = omega arith in ap (λ p. changed_so (without_place p) (is_future f c) (holders f (cs ++ c ∷ []))) e ∙ left_from 0 f cs c

@@ -1,5 +1,4 @@
-pub mod AscendingLemmas
-pub mod WindowLemmas
+pub mod PlaceLemmas
 pub mod IndexLemmas
 pub mod HoldersLemmas
 pub mod StoredLemmas

@@ -11,21 +11,16 @@ use Rattle.asp_model.specs.Names.{FutureShape, Text, same_future, future_cmp}
 use Rattle.asp_model.specs.Order.{same_future_same}
 use Rattle.asp_model.specs.Store.{CellShape, Store, Number, Object, Reference, Future, Group, cell, with_cell}
 use Rattle.asp_model.specs.Shapes.{cell_shape, future_shape}
-use Rattle.object_store.specs.Ascending.{IsAscending, with_number, without_number}
 use Rattle.object_store.specs.Holders.{is_future, is_one_future, holders}
-use Rattle.object_store.specs.Index.{ChangesWhere, IsAlike, IsInOrder, IsIndexed, is_given_up, is_in_cell, places_in}
+use Rattle.object_store.specs.Index.{ChangesWhere, IsAlike, IsIndexed, is_given_up, is_in_cell, with_place, without_place}
 use Rattle.object_store.specs.View.{IsObject, with_field_in}
-use Rattle.object_store.proofs.AscendingLemmas.{ascending_with}
 use Rattle.object_store.specs.declared.index.Index.{Index}
 use Rattle.object_store.proofs.IndexLemmas.{changed_so}
-use Rattle.object_store.proofs.HoldersLemmas.{ascending, added, left, replaced, exchanged}
+use Rattle.object_store.proofs.HoldersLemmas.{added, left, replaced, exchanged}
 use Rattle.object_store.proofs.CellLemmas.{cell_set}
 
 abbrev shapes : List Cell → Store
 shapes cs = map cell_shape cs
-
-pub in_order : (index : Index) (cs : List Cell) → IsIndexed index cs → IsInOrder index
-in_order index cs h = λ f. subst IsAscending (sym (h f)) (ascending (future_shape f) (shapes cs))
 
 pub alike : (old new : Index) (cs : List Cell) → IsIndexed old cs → IsAlike old new → IsIndexed new cs
 alike old new cs h e = λ f. e f ∙ h f
@@ -33,16 +28,16 @@ alike old new cs h e = λ f. e f ∙ h f
 last_shape : (cs : List Cell) (c : Cell) → shapes (cs ++ c ∷ []) ≡ shapes cs ++ cell_shape c ∷ []
 last_shape cs c = map-append cell_shape cs (c ∷ [])
 
-pub indexed_more : (old new : Index) (cs : List Cell) (c : Cell) → IsIndexed old cs → ChangesWhere (is_in_cell c) (with_number (length cs)) old new → IsIndexed new (cs ++ c ∷ [])
+pub indexed_more : (old new : Index) (cs : List Cell) (c : Cell) → IsIndexed old cs → ChangesWhere (is_in_cell c) (with_place (length cs)) old new → IsIndexed new (cs ++ c ∷ [])
 indexed_more old new cs c h changes = λ f.
-    changes f ∙ ap (changed_so (with_number (length cs)) (is_in_cell c f)) (h f)
-    ∙ ap (λ n. changed_so (with_number n) (is_in_cell c f) (holders (future_shape f) (shapes cs))) (sym (length-map cs cell_shape))
+    changes f ∙ ap (changed_so (with_place (length cs)) (is_in_cell c f)) (h f)
+    ∙ ap (λ n. changed_so (with_place n) (is_in_cell c f) (holders (future_shape f) (shapes cs))) (sym (length-map cs cell_shape))
     ∙ sym (ap (holders (future_shape f)) (last_shape cs c) ∙ added (future_shape f) (shapes cs) (cell_shape c))
 
-pub indexed_less : (old new : Index) (cs : List Cell) (c : Cell) → IsIndexed old (cs ++ c ∷ []) → ChangesWhere (is_in_cell c) (without_number (length cs)) old new → IsIndexed new cs
+pub indexed_less : (old new : Index) (cs : List Cell) (c : Cell) → IsIndexed old (cs ++ c ∷ []) → ChangesWhere (is_in_cell c) (without_place (length cs)) old new → IsIndexed new cs
 indexed_less old new cs c h changes = λ f.
-    changes f ∙ ap (changed_so (without_number (length cs)) (is_in_cell c f)) (h f ∙ ap (holders (future_shape f)) (last_shape cs c))
-    ∙ ap (λ n. changed_so (without_number n) (is_in_cell c f) (holders (future_shape f) (shapes cs ++ cell_shape c ∷ []))) (sym (length-map cs cell_shape))
+    changes f ∙ ap (changed_so (without_place (length cs)) (is_in_cell c f)) (h f ∙ ap (holders (future_shape f)) (last_shape cs c))
+    ∙ ap (λ n. changed_so (without_place n) (is_in_cell c f) (holders (future_shape f) (shapes cs ++ cell_shape c ∷ []))) (sym (length-map cs cell_shape))
     ∙ left (future_shape f) (shapes cs) (cell_shape c)
 
 future_cmp_total : IsTotalOrder future_cmp
@@ -77,7 +72,7 @@ both_hold f c d e h =
     let same : is_one_future (Future f) (Future f) ≡ true = same_future_itself f in
     subst (λ x. is_one_future x d ≡ true) (sym (held_by f c e)) (subst (λ x. is_one_future (Future f) x ≡ true) (sym (held_by f d h)) same)
 
-both_exchanged : (had has : Bool) (p : ℕ) (xs : List ℕ) → changed_so (without_number p) (had && not has) (changed_so (with_number p) has xs) ≡ exchanged had has p xs
+both_exchanged : (had has : Bool) (p : ℕ) (xs : List ℕ) → changed_so (without_place p) (had && not has) (changed_so (with_place p) has xs) ≡ exchanged had has p xs
 both_exchanged true true p xs = refl
 both_exchanged true false p xs = refl
 both_exchanged false true p xs = refl
@@ -89,19 +84,12 @@ set_holders cs p c f lt =
     ap (holders (future_shape f)) (cell_set cs p c) ∙ replaced (future_shape f) (shapes cs) p (cell_shape c) within
 
 -- one cell in the place of another
-pub indexed_replaced : (old mid new : Index) (cs : List Cell) (p : ℕ) (c d : Cell) → p < length cs → cell (shapes cs) p ≡ cell_shape d → IsIndexed old cs → ChangesWhere (is_in_cell c) (with_number p) old mid → ChangesWhere (is_given_up d c) (without_number p) mid new → IsIndexed new (slice_set cs p c)
+pub indexed_replaced : (old mid new : Index) (cs : List Cell) (p : ℕ) (c d : Cell) → p < length cs → cell (shapes cs) p ≡ cell_shape d → IsIndexed old cs → ChangesWhere (is_in_cell c) (with_place p) old mid → ChangesWhere (is_given_up d c) (without_place p) mid new → IsIndexed new (slice_set cs p c)
 indexed_replaced old mid new cs p c d lt here h first second = λ f.
     let xs = holders (future_shape f) (shapes cs) in
-    second f ∙ ap (changed_so (without_number p) (is_given_up d c f)) (first f ∙ ap (changed_so (with_number p) (is_in_cell c f)) (h f))
+    second f ∙ ap (changed_so (without_place p) (is_given_up d c f)) (first f ∙ ap (changed_so (with_place p) (is_in_cell c f)) (h f))
     ∙ both_exchanged (is_in_cell d f) (is_in_cell c f) p xs
     ∙ ap (λ b. exchanged b (is_in_cell c f) p xs) (sym (ap (is_future (future_shape f)) here)) ∙ sym (set_holders cs p c f lt)
-
-pub mid_order : (old mid : Index) (cs : List Cell) (p : ℕ) (c : Cell) → IsIndexed old cs → ChangesWhere (is_in_cell c) (with_number p) old mid → IsInOrder mid
-mid_order old mid cs p c h first = λ f. subst IsAscending (sym (first f)) (by (places_in old f) (is_in_cell c f) (in_order old cs h f))
-  where
-    by : (xs : List ℕ) (b : Bool) → IsAscending xs → IsAscending (changed_so (with_number p) b xs)
-    by xs true g = ascending_with p xs g
-    by xs false g = g
 
 -- the field of an object set
 pub indexed_object : (index : Index) (cs ds : List Cell) (p n : ℕ) (l : Text) → p < length cs → IsObject (cell (shapes cs) p) → shapes ds ≡ with_cell (shapes cs) p (with_field_in l n (cell (shapes cs) p)) → IsIndexed index cs → IsIndexed index ds

@@ -1,20 +1,30 @@
 -- What an index says of each future.
 use Rattle.std.specs.Prelude.{◌≡◌, ℕ, Bool, true, false, not, ◌&&◌, List, [], Option, Some, None, map}
+use Rattle.std.specs.BTreeMap.{is_at}
+use Rattle.std.specs.BTreeSet.{BTreeSet, insert_key}
+use Rattle.std.specs.Set.{remove_key}
+use Rattle.std.specs.Ordering.{nat_cmp}
 use Rattle.indexmap.specs.IndexMap.{get}
 use Rattle.asp_model.specs.declared.name.FutureName.{FutureName}
 use Rattle.asp_model.specs.contracts.name.FutureNamePartialEq.TheImpl as equality
 use Rattle.asp_model.specs.declared.store.Cell.{Cell}
 use Rattle.asp_model.specs.Shapes.{cell_shape, future_shape}
-use Rattle.object_store.specs.Ascending.{IsAscending}
 use Rattle.object_store.specs.Holders.{holders, is_future}
 use Rattle.object_store.specs.declared.index.Index.{Index}
 
 abbrev pub is_same : FutureName → FutureName → Bool
 is_same = equality.ghosts.eq
 
-abbrev pub or_none : Option (List ℕ) → List ℕ
+-- places in ascending order, with one more or without one
+abbrev pub with_place : ℕ → List ℕ → List ℕ
+with_place p places = insert_key nat_cmp places p
+
+abbrev pub without_place : ℕ → List ℕ → List ℕ
+without_place p places = remove_key (is_at (nat_cmp p)) places
+
+abbrev pub or_none : Option (BTreeSet ℕ) → List ℕ
 or_none None = []
-or_none (Some places) = places
+or_none (Some places) = places.keys
 
 abbrev pub places_in : Index → FutureName → List ℕ
 places_in index f = or_none (get is_same index.held f)
@@ -28,9 +38,6 @@ ChangesWhere test change old new = (f : FutureName) → places_in new f ≡ elim
 
 abbrev pub Changes : FutureName → (List ℕ → List ℕ) → (old new : Index) → Type 0
 Changes f = ChangesWhere (is_same f)
-
-abbrev pub IsInOrder : Index → Type 0
-IsInOrder index = (f : FutureName) → IsAscending (places_in index f)
 
 -- the cell is the future
 abbrev pub is_in_cell : Cell → FutureName → Bool

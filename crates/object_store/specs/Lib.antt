@@ -1,5 +1,4 @@
 pub mod View
-pub mod Ascending
 pub mod Holders
 pub mod Index
 pub mod Stored

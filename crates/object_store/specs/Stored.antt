@@ -1,5 +1,5 @@
 -- What every store keeps.
-use Rattle.std.specs.Prelude.{◌+◌, ◌≤◌, vec_len, vec_capacity}
+use Rattle.std.specs.Prelude.{◌≡◌, ◌+◌, ◌≤◌, [], vec_len, vec_capacity}
 use Rattle.object_store.specs.declared.store.Store.TheInside.{Inside}
 use Rattle.object_store.specs.Index.{IsIndexed}
 use Rattle.object_store.specs.View.{StoreView}
@@ -11,3 +11,4 @@ view_of s = record { cells = s.cells.items; spare = s.spare }
 pub record IsStored (s : Inside) : Type 0 where
   pub indexed : IsIndexed s.index s.cells.items
   pub room : vec_len s.cells + s.spare ≤ vec_capacity s.cells
+  pub none : s.none.keys ≡ []

@@ -1,32 +1,34 @@
 //! The places that hold each future.
 
 ghost use Rattle.std.specs.Prelude.{◌≡◌, None, Some, [], false, IsOk, IsSome, OnErr, OnOk};
+ghost use Rattle.std.specs.Option.{option_copied};
 ghost use Rattle.indexmap.specs.IndexMap.{get};
 ghost use Rattle.asp_model.specs.Shapes.{cell_shape};
-ghost use Rattle.object_store.specs.Ascending.{IsAscending, with_number, without_number};
 ghost use Rattle.object_store.specs.Holders.{is_one_future as one_future};
 ghost use Rattle.object_store.specs.Index.{
   Changes,
   ChangesWhere,
   IsAlike,
-  IsInOrder,
   is_given_up,
   is_in_cell,
   is_same,
+  or_none,
   places_in,
+  with_place,
+  without_place,
 };
 ghost use Rattle.object_store.specs.View.{holds_future};
 
-use crate::places::Places;
 use asp_model::{Cell, FutureName, Place};
 use indexmap::IndexMap;
 use std::alloc::{AllocError, Global};
+use std::collections::BTreeSet;
 
-/// For each future that was ever held the places that hold it, ascending.
+/// For each future that was ever held the places that hold it.
 #[derive(Drop)]
 pub struct Index {
     alloc: Global,
-    held: IndexMap<FutureName, Places>,
+    held: IndexMap<FutureName, BTreeSet<Place>>,
 }
 
 impl Index {
@@ -39,19 +41,16 @@ impl Index {
         }
     }
 
-    pub fn places(&self, future: &FutureName) -> &[Place]
-        ensures places { result.now ≡ places_in self.now future.now }
+    /// The places of a future, if it was ever held.
+    pub fn places(&self, future: &FutureName) -> Option<&BTreeSet<Place>>
+        ensures places { or_none (option_copied result) ≡ places_in self.now future.now }
     {
-        match self.held.get(future) {
-            Some(places) => places.as_slice(),
-            None => &[],
-        }
+        self.held.get(future)
     }
 
     /// Adds a place to those of a future, if it is not there.
     pub fn insert(&mut self, future: &FutureName, place: Place) -> Result<(), AllocError>
-        requires ascending { IsAscending (places_in self.old future.now) }
-        ensures places { OnOk result (Changes future.now (with_number place) self.old self.new) }
+        ensures places { OnOk result (Changes future.now (with_place place) self.old self.new) }
         ensures err { OnErr result (IsAlike self.old self.new) }
     {
         if self.held.contains_key(future) {
@@ -63,19 +62,17 @@ impl Index {
 
     /// Takes a place from those of a future.
     pub fn remove(&mut self, future: &FutureName, place: Place)
-        requires ascending { IsAscending (places_in self.old future.now) }
-        ensures places { Changes future.now (without_number place) self.old self.new }
+        ensures places { Changes future.now (without_place place) self.old self.new }
     {
         if let Some(places) = self.held.get_mut(future) {
-            places.remove(place);
+            places.remove(&place);
         }
     }
 
     /// Notes the place of a cell, where it is a future.
     pub fn hold(&mut self, cell: &Cell, place: Place) -> Result<(), AllocError>
-        requires in_order { IsInOrder self.old }
         ensures places { OnOk result
-            (ChangesWhere (is_in_cell cell.now) (with_number place) self.old self.new) }
+            (ChangesWhere (is_in_cell cell.now) (with_place place) self.old self.new) }
         ensures room { holds_future cell.now ≡ false → IsOk result }
         ensures err { OnErr result (IsAlike self.old self.new) }
     {
@@ -87,8 +84,7 @@ impl Index {
 
     /// Forgets the place of a cell, where it is a future.
     pub fn release(&mut self, cell: &Cell, place: Place)
-        requires in_order { IsInOrder self.old }
-        ensures places { ChangesWhere (is_in_cell cell.now) (without_number place) self.old self.new }
+        ensures places { ChangesWhere (is_in_cell cell.now) (without_place place) self.old self.new }
     {
         if let Cell::Future(future) = cell {
             self.remove(future, place);
@@ -97,8 +93,7 @@ impl Index {
 
     /// Forgets the place of a cell that another one takes.
     pub fn give_up(&mut self, old: Cell, new: &Cell, place: Place)
-        requires in_order { IsInOrder self.old }
-        ensures places { ChangesWhere (is_given_up old new.now) (without_number place) self.old self.new }
+        ensures places { ChangesWhere (is_given_up old new.now) (without_place place) self.old self.new }
     {
         if !is_one_future(&old, new) {
             self.release(&old, place);
@@ -106,24 +101,26 @@ impl Index {
     }
 
     fn insert_known(&mut self, future: &FutureName, place: Place) -> Result<(), AllocError>
-        requires ascending { IsAscending (places_in self.old future.now) }
         requires known { IsSome (get is_same self.old.held future.now) }
-        ensures places { OnOk result (Changes future.now (with_number place) self.old self.new) }
+        ensures places { OnOk result (Changes future.now (with_place place) self.old self.new) }
         ensures err { OnErr result (IsAlike self.old self.new) }
     {
         match self.held.get_mut(future) {
-            Some(places) => places.insert(place),
+            Some(places) => {
+                places.insert(place)?;
+                Ok(())
+            }
             None => Ok(()),
         }
     }
 
     fn insert_new(&mut self, future: &FutureName, place: Place) -> Result<(), AllocError>
         requires new { get is_same self.old.held future.now ≡ None }
-        ensures places { OnOk result (Changes future.now (with_number place) self.old self.new) }
+        ensures places { OnOk result (Changes future.now (with_place place) self.old self.new) }
         ensures err { OnErr result (IsAlike self.old self.new) }
     {
         let name = future.copy(self.alloc)?;
-        let mut places = Places::new(self.alloc);
+        let mut places = BTreeSet::new(self.alloc);
         places.insert(place)?;
         self.held.insert(name, places)?;
         Ok(())

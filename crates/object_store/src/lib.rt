@@ -3,7 +3,6 @@
 
 mod fields;
 mod index;
-mod places;
 mod store;
 
 pub use store::Store;

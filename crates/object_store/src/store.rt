@@ -37,6 +37,7 @@ use crate::fields::set_in_cells;
 use crate::index::Index;
 use asp_model::{Cell, FutureName, Label, Place};
 use std::alloc::{AllocError, Global};
+use std::collections::BTreeSet;
 use std::marker::Model;
 use std::mem;
 
@@ -47,6 +48,8 @@ pub struct Store {
     cells: Vec<Cell>,
     spare: usize,
     index: Index,
+    /// Lent for a future that was never held.
+    none: BTreeSet<Place>,
 }
 
 impl Model for Store {
@@ -77,6 +80,7 @@ impl Store {
             cells: Vec::new(alloc),
             spare: 0,
             index: Index::new(alloc),
+            none: BTreeSet::new(alloc),
         }
     }
 
@@ -170,10 +174,10 @@ impl Store {
     }
 
     /// The places whose cell is this future, ascending.
-    pub fn holders_of(&self, future: &FutureName) -> &[Place]
-        ensures holders { result.now ≡ holders (future_shape future.now) (store_of self.now) }
+    pub fn holders_of(&self, future: &FutureName) -> &BTreeSet<Place>
+        ensures holders { result.now.keys ≡ holders (future_shape future.now) (store_of self.now) }
     {
-        self.index.places(future)
+        self.index.places(future).unwrap_or(&self.none)
     }
 
     fn append(&mut self, cell: Cell) -> Result<(), AllocError>

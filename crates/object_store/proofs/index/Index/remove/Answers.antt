@@ -1,7 +1,6 @@
 use Rattle.std.proofs.Common.{◌∙◌, sym, ap}
 use Rattle.indexmap.specs.IndexMap.{get}
-use Rattle.object_store.specs.Ascending.{without_number}
-use Rattle.object_store.specs.Index.{is_same, or_none}
+use Rattle.object_store.specs.Index.{is_same, or_none, without_place}
 use Rattle.object_store.proofs.IndexLemmas.{unchanged, written}
 use Rattle.object_store.proofs.index.Index.remove.Goals as goal
 
@@ -9,11 +8,11 @@ pub returns-in_default : goal.returns-in_default
 returns-in_default c =
     let none = ap or_none (sym c.in_default.ensures.value) in
     record {
-      places = unchanged c.args.future.now (without_number c.args.place) (get is_same c.args.self.now.held) (get is_same c.get_mut.follows.lender-at-none) (ap (without_number c.args.place) none ∙ sym none)
+      places = unchanged c.args.future.now (without_place c.args.place) (get is_same c.args.self.now.held) (get is_same c.get_mut.follows.lender-at-none) (ap (without_place c.args.place) none ∙ sym none)
           (λ g. ap (λ m. get is_same m g) c.get_mut.follows.holds-at-none);
     }
 
 pub returns-in-Some : goal.returns-in-Some
 returns-in-Some c = record {
-  places = written c.args.future.now (without_number c.args.place) c.args.self.now.held _ c.in-Some.places.now c.remove.new.self c.in-Some.ensures.value c.remove.ensures.places (c.get_mut.follows.holds c.remove.new.self);
+  places = written c.args.future.now (without_place c.args.place) c.args.self.now.held _ c.in-Some.places.now c.remove.new.self c.in-Some.ensures.value c.remove.ensures.keys (c.get_mut.follows.holds c.remove.new.self);
 }

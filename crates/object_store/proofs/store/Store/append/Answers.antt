@@ -1,13 +1,9 @@
 use Rattle.std.proofs.Common.{◌≡◌, sym, subst, length, arith, rules, List, ◌++◌, ◌∷◌, []}
 use Rattle.std.proofs.lemmas.Slice.{pushed}
 use Rattle.asp_model.specs.declared.store.Cell.{Cell}
-use Rattle.object_store.specs.Index.{ChangesWhere, IsIndexed, is_in_cell}
-use Rattle.object_store.specs.Ascending.{with_number}
-use Rattle.object_store.proofs.StoredLemmas.{in_order, indexed_more}
+use Rattle.object_store.specs.Index.{ChangesWhere, IsIndexed, is_in_cell, with_place}
+use Rattle.object_store.proofs.StoredLemmas.{indexed_more}
 use Rattle.object_store.proofs.store.Store.append.Goals as goal
-
-pub hold-requires : goal.hold-requires
-hold-requires c = record { in_order = in_order c.self.inside.index c.self.inside.cells.items c.self.invariant.indexed }
 
 pub invariant_of-self-2 : goal.invariant_of-self-2
 invariant_of-self-2 c =
@@ -16,8 +12,9 @@ invariant_of-self-2 c =
     let new = c.hold.new.self in
     let count : c.len.result ≡ length cs = search rules in
     let items : c.push.new.self.items ≡ cs ++ c.args.cell ∷ [] = pushed (c.args.cell ∷ []) c.in_ok-reserve.ensures.items c.unwrap.ensures c.push.ensures.items in
-    let changes = subst (λ n. ChangesWhere (is_in_cell c.args.cell) (with_number n) old new) count c.in_ok-hold.ensures.places in
+    let changes = subst (λ n. ChangesWhere (is_in_cell c.args.cell) (with_place n) old new) count c.in_ok-hold.ensures.places in
     record {
       indexed = subst (λ (ds : List Cell). IsIndexed new ds) (sym items) (indexed_more old new cs c.args.cell c.self.invariant.indexed changes);
       room = omega (arith, c.in_ok-reserve.ensures.len, c.in_ok-reserve.ensures.ok, c.in_ok-reserve.ensures.capacity);
+      none = c.self.invariant.none;
     }

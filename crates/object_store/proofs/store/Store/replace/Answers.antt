@@ -3,18 +3,11 @@ use Rattle.std.proofs.lemmas.List.{get_or-set_same}
 use Rattle.asp_model.specs.declared.store.Cell.{Cell}
 use Rattle.asp_model.specs.Store.{cell, with_cell}
 use Rattle.asp_model.specs.Shapes.{cell_shape}
-use Rattle.object_store.specs.Ascending.{without_number}
-use Rattle.object_store.specs.Index.{ChangesWhere, IsIndexed, is_given_up}
+use Rattle.object_store.specs.Index.{ChangesWhere, IsIndexed, is_given_up, without_place}
 use Rattle.object_store.specs.View.{StoreView, store_of}
 use Rattle.object_store.proofs.CellLemmas.{at_place, cell_set}
-use Rattle.object_store.proofs.StoredLemmas.{in_order, indexed_replaced, mid_order}
+use Rattle.object_store.proofs.StoredLemmas.{indexed_replaced}
 use Rattle.object_store.proofs.store.Store.replace.Goals as goal
-
-pub hold-requires : goal.hold-requires
-hold-requires c = record { in_order = in_order c.self.inside.index c.self.inside.cells.items c.self.invariant.indexed }
-
-pub give_up-requires : goal.give_up-requires
-give_up-requires c = record { in_order = mid_order c.self.inside.index c.hold.new.self c.self.inside.cells.items c.args.loc c.args.cell c.self.invariant.indexed c.in_ok-hold.ensures.places }
 
 pub invariant_of-self-2 : goal.invariant_of-self-2
 invariant_of-self-2 c =
@@ -26,10 +19,11 @@ invariant_of-self-2 c =
     let within = subst (λ (v : StoreView). p < length v.cells) (sym c.self.view_is) c.requires.within in
     let here : cell (map cell_shape cs) p ≡ cell_shape old = at_place cs p c.index_mut.result.now within ∙ ap cell_shape (sym c.index_mut.ensures.value ∙ sym c.replace-old.ensures.value) in
     let there : c.index.result.now ≡ c.args.cell = c.index.ensures ∙ get_or-set_same cs p c.replace-old.new.dest c.index.result.now within ∙ c.replace-old.ensures.after in
-    let second = subst (λ (d : Cell). ChangesWhere (is_given_up old d) (without_number p) mid new) there c.give_up.ensures.places in
+    let second = subst (λ (d : Cell). ChangesWhere (is_given_up old d) (without_place p) mid new) there c.give_up.ensures.places in
     record {
       indexed = subst (λ (d : Cell). IsIndexed new (slice_set cs p d)) (sym c.replace-old.ensures.after) (indexed_replaced c.self.inside.index mid new cs p c.args.cell old within here c.self.invariant.indexed c.in_ok-hold.ensures.places second);
       room = c.self.invariant.room;
+      none = c.self.invariant.none;
     }
 
 pub returns-clause-cells : goal.returns-clause-cells

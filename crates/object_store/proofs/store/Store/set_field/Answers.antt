@@ -23,4 +23,5 @@ invariant_of-self c =
     record {
       indexed = subst (λ (ds : List Cell). IsIndexed c.self.inside.index ds) (sym kept) (indexed_object c.self.inside.index cs written p c.args.to l within object set c.self.invariant.indexed);
       room = c.self.invariant.room;
+      none = c.self.invariant.none;
     }
