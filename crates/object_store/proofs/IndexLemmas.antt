@@ -1,5 +1,5 @@
 -- Changes of one future's places.
-use Rattle.std.proofs.Common.{◌≡◌, ℕ, Bool, true, false, cond, List, Option, Some, IsSome, refl, sym, ap, subst, ◌∙◌}
+use Rattle.std.proofs.Common.{◌≡◌, ℕ, Bool, true, false, cond, List, [], Option, Some, None, IsSome, refl, sym, ap, subst, ◌∙◌}
 use Rattle.asp_model.specs.declared.name.FutureName.{FutureName}
 use Rattle.asp_model.specs.Order.{same_future_same}
 use Rattle.asp_model.specs.FutureOrder.{eq_shape}
@@ -40,6 +40,14 @@ pub written : {S : Type 0} (f : FutureName) (change : List ℕ → List ℕ) (ol
 written f change old new was places found e writes =
     let there : IsSome (get is_same old f) = subst (λ (o : Option (BTreeSet ℕ)). IsSome o) found refl in
     changed f change (get is_same old) (get is_same new) places (e ∙ ap (λ o. change (or_none o)) found) (writes.3 there).0
+
+-- a future with no places is forgotten
+pub forgotten : (f : FutureName) (old new : Held) → or_none (old f) ≡ [] → ((g : FutureName) → new g ≡ cond (is_same f g) None (old g)) → (g : FutureName) → or_none (new g) ≡ or_none (old g)
+forgotten f old new none updates g = by (is_same f g) refl
+  where
+    by : (b : Bool) → is_same f g ≡ b → or_none (new g) ≡ or_none (old g)
+    by true p = ap or_none (updates g ∙ ap (λ b. cond b None (old g)) p) ∙ sym (subst (λ h. or_none (old h) ≡ []) (is_same_same f g p) none)
+    by false p = ap or_none (updates g ∙ ap (λ b. cond b None (old g)) p)
 
 pub same_so : (b : Bool) (places : List ℕ) → changed_so (λ xs. xs) b places ≡ places
 same_so true places = refl

@@ -1,6 +1,6 @@
 //! The places that hold each future.
 
-ghost use Rattle.std.specs.Prelude.{◌≡◌, None, Some, [], false, IsOk, IsSome, OnErr, OnOk};
+ghost use Rattle.std.specs.Prelude.{◌≡◌, None, Some, [], false, IsOk, IsSome, IsTrue, OnErr, OnOk};
 ghost use Rattle.std.specs.Option.{option_copied};
 ghost use Rattle.indexmap.specs.IndexMap.{get};
 ghost use Rattle.asp_model.specs.Shapes.{cell_shape};
@@ -24,7 +24,7 @@ use indexmap::IndexMap;
 use std::alloc::{AllocError, Global};
 use std::collections::BTreeSet;
 
-/// For each future that was ever held the places that hold it.
+/// For each future that is held the places that hold it.
 #[derive(Drop)]
 pub struct Index {
     alloc: Global,
@@ -41,7 +41,7 @@ impl Index {
         }
     }
 
-    /// The places of a future, if it was ever held.
+    /// The places of a future, if it is held.
     pub fn places(&self, future: &FutureName) -> Option<&BTreeSet<Place>>
         ensures places { or_none (option_copied result) ≡ places_in self.now future.now }
     {
@@ -60,12 +60,26 @@ impl Index {
         }
     }
 
-    /// Takes a place from those of a future.
+    /// Takes a place from those of a future, which is forgotten with its last place.
     pub fn remove(&mut self, future: &FutureName, place: Place)
         ensures places { Changes future.now (without_place place) self.old self.new }
     {
-        if let Some(places) = self.held.get_mut(future) {
-            places.remove(&place);
+        if self.is_last(future, place) {
+            self.held.swap_remove(future);
+        }
+    }
+
+    // Takes a place from those of a future, and answers whether it was the last one.
+    fn is_last(&mut self, future: &FutureName, place: Place) -> bool
+        ensures places { Changes future.now (without_place place) self.old self.new }
+        ensures none { IsTrue result → places_in self.new future.now ≡ [] }
+    {
+        match self.held.get_mut(future) {
+            Some(places) => {
+                places.remove(&place);
+                places.is_empty()
+            }
+            None => false,
         }
     }
 

@@ -48,7 +48,7 @@ pub struct Store {
     cells: Vec<Cell>,
     spare: usize,
     index: Index,
-    /// Lent for a future that was never held.
+    /// Lent for a future that is not held.
     none: BTreeSet<Place>,
 }
 

@@ -1,18 +1,10 @@
-use Rattle.std.proofs.Common.{◌∙◌, sym, ap}
+use Rattle.std.proofs.Common.{◌∙◌}
 use Rattle.indexmap.specs.IndexMap.{get}
-use Rattle.object_store.specs.Index.{is_same, or_none, without_place}
-use Rattle.object_store.proofs.IndexLemmas.{unchanged, written}
+use Rattle.object_store.specs.Index.{is_same}
+use Rattle.object_store.proofs.IndexLemmas.{forgotten}
 use Rattle.object_store.proofs.index.Index.remove.Goals as goal
 
-pub returns-in_default : goal.returns-in_default
-returns-in_default c =
-    let none = ap or_none (sym c.in_default.ensures.value) in
-    record {
-      places = unchanged c.args.future.now (without_place c.args.place) (get is_same c.args.self.now.held) (get is_same c.get_mut.follows.lender-at-none) (ap (without_place c.args.place) none ∙ sym none)
-          (λ g. ap (λ m. get is_same m g) c.get_mut.follows.holds-at-none);
-    }
-
-pub returns-in-Some : goal.returns-in-Some
-returns-in-Some c = record {
-  places = written c.args.future.now (without_place c.args.place) c.args.self.now.held _ c.in-Some.places.now c.remove.new.self c.in-Some.ensures.value c.remove.ensures.keys (c.get_mut.follows.holds c.remove.new.self);
+pub returns-then-is_last : goal.returns-then-is_last
+returns-then-is_last c = record {
+  places = λ f. forgotten c.args.future.now (get is_same c.is_last.new.self.held) (get is_same c.swap_remove.new.self) (c.is_last.ensures.none c.if-is_last.true) c.swap_remove.ensures.updates.0 f ∙ c.is_last.ensures.places f;
 }
