@@ -1,70 +1,29 @@
 -- What holds of the tokens of any bytes: all but the last are read again from their text, and places rise.
-use Rattle.std.proofs.Common.{◌≡◌, ℕ, ◌+◌, ◌-◌, ◌*◌, ◌^◌, ◌<◌, ◌≤◌, pos, Bool, true, false, List, [], ◌∷◌, ◌++◌, Option, Some, None, refl, arith, if◌then◌else◌}
-use Rattle.std.specs.Prelude.{◌==◌, nat_lt, codes}
+use Rattle.std.proofs.Common.{◌≡◌, ℕ, ◌+◌, ◌-◌, ◌*◌, ◌^◌, ◌<◌, ◌≤◌, pos, Bool, true, false, List, [], ◌∷◌, ◌++◌, Option, Some, None, arith, if◌then◌else◌}
+use Rattle.std.specs.Prelude.{◌==◌, nat_lt, IfSome}
 use Rattle.std.proofs.lemmas.Bool.{ltb-true}
 use Rattle.std.proofs.lemmas.Bool.Decides.{nat_tests}
 use Rattle.asp_syntax.specs.declared.token.Token.{Token}
 use Rattle.asp_syntax.specs.declared.token.Token.TheVariants as tokens
 use Rattle.asp_model.specs.WellFormed.{is_printable}
-use Rattle.asp_syntax.specs.Bytes.{is_digit, is_letter, is_blank, is_inner, is_word, is_later, sign_token, reserved_token, named_token, word_token}
+use Rattle.asp_syntax.specs.Bytes.{is_digit, is_letter, is_blank, is_inner, sign_token, word_token}
 use Rattle.asp_syntax.specs.Tokens.{Lexeme, lexeme, Scan, Between, InComment, AfterSlash, AfterColon, AfterEquals, InNumber, InWord, InText, Move, Goes, NoToken, TooLarge, digit, sign_move, between, with_token, move, at_end, after_move, lex, lexemes_of}
+use Rattle.asp_syntax.proofs.TableLemmas.{by_test, either, IsFixed, of_sign, of_word}
 use Rattle.asp_print.proofs.WordLemmas.{Each, IsPlain, IsWord, IsInner, IsGood}
-
--- Choices
-
--- what holds of both choices by the test
-by_test : {X : Type 0} (Q : X → Type 0) (b : Bool) {x y : X} → (b ≡ true → Q x) → (b ≡ false → Q y) → Q (if b then x else y)
-by_test Q true h k = h refl
-by_test Q false h k = k refl
-
-either : {X : Type 0} (Q : X → Type 0) (b : Bool) {x y : X} → Q x → Q y → Q (if b then x else y)
-either Q true h k = h
-either Q false h k = k
 
 -- Good tokens
 
-abbrev IsGoodIf : Option Token → Type 0
-IsGoodIf None = Unit {0}
-IsGoodIf (Some t) = IsGood t
-
-sign_good : (b : ℕ) → IsGoodIf (sign_token b)
-sign_good b =
-    either IsGoodIf (b == 40) tt
-    (either IsGoodIf (b == 41) tt
-    (either IsGoodIf (b == 91) tt
-    (either IsGoodIf (b == 93) tt
-    (either IsGoodIf (b == 123) tt
-    (either IsGoodIf (b == 125) tt
-    (either IsGoodIf (b == 44) tt
-    (either IsGoodIf (b == 59) tt
-    (either IsGoodIf (b == 46) tt
-    (either IsGoodIf (b == 43) tt
-    (either IsGoodIf (b == 45) tt
-    (either IsGoodIf (b == 42) tt
-    (either IsGoodIf (b == 37) tt
-    (either IsGoodIf (b == 60) tt tt)))))))))))))
-
-reserved_good : (w : List ℕ) → IsGoodIf (reserved_token w)
-reserved_good w =
-    either IsGoodIf (is_word w (codes "let")) tt
-    (either IsGoodIf (is_word w (codes "in")) tt
-    (either IsGoodIf (is_word w (codes "if")) tt
-    (either IsGoodIf (is_word w (codes "else")) tt
-    (either IsGoodIf (is_word w (codes "repeat")) tt
-    (either IsGoodIf (is_word w (codes "clone")) tt
-    (either IsGoodIf (is_word w (codes "active")) tt
-    (either IsGoodIf (is_word w (codes "serve")) tt
-    (either IsGoodIf (is_word w (codes "print")) tt
-    (either IsGoodIf (is_word w (codes "echo")) tt
-    (either IsGoodIf (is_later w) tt tt))))))))))
-
-named_good : (w : List ℕ) (o : Option Token) → IsWord w → reserved_token w ≡ o → IsGoodIf o → IsGood (named_token w o)
-named_good w None h e k = (h, e)
-named_good w (Some t) h e k = k
+fixed_good : (t : Token) → IsFixed t → IsGood t
+fixed_good (tokens.Number n) h = absurd h
+fixed_good (tokens.Name x) h = absurd h
+fixed_good (tokens.Text x) h = absurd h
+fixed_good tokens.End h = absurd h
+fixed_good tokens.BadByte h = absurd h
+fixed_good tokens.BadNumber h = absurd h
+fixed_good t h = tt
 
 word_good : (w : List ℕ) → IsWord w → IsGood (word_token w)
-unfolding word_token
-word_good w h = named_good w (reserved_token w) h refl (reserved_good w)
+word_good w h = of_word IsGood fixed_good w (λ e. (h, e))
 
 -- what was begun, at a place: it began before, and gives a good token
 abbrev IsBegun : Scan → ℕ → Type 0
@@ -105,7 +64,7 @@ Moves n at (Goes ts scan) = Comes n ts (λ k. (k ≤ least scan (at + 1)) × IsB
 Moves n at (NoToken ts bad) = Comes n ts (λ k. k ≤ bad)
 Moves n at (TooLarge ts bad) = Comes n ts (λ k. k ≤ bad)
 
-sign_moves : (n at : ℕ) (o : Option Token) → n ≤ at → IsGoodIf o → Moves n at (sign_move at o)
+sign_moves : (n at : ℕ) (o : Option Token) → n ≤ at → IfSome o IsGood → Moves n at (sign_move at o)
 sign_moves n at None h k = h
 sign_moves n at (Some t) h k = (h, k, (omega arith, tt))
 
@@ -122,7 +81,7 @@ between_moves n at b h =
     (either (Moves n at) (b == 58) (h, omega arith)
     (either (Moves n at) (b == 61) (h, omega arith)
     (either (Moves n at) (b == 34) (h, (omega arith, tt))
-    (sign_moves n at (sign_token b) h (sign_good b))))))))
+    (sign_moves n at (sign_token b) h (of_sign IsGood fixed_good b))))))))
 
 with_moves : (n at : ℕ) (l : Lexeme) (m : Move) → n ≤ l.at → IsGood l.token → Moves (l.at + 1) at m → Moves n at (with_token l m)
 with_moves n at l (Goes ts s) h g k = (h, g, k)

@@ -1,3 +1,4 @@
+pub mod TableLemmas
 pub mod Endings
 pub mod Lexing
 pub mod Running
