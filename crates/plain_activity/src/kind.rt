@@ -45,7 +45,7 @@ fn at_field<'a>(seen: Seen<'a>, label: &Label) -> Kind<'a>
             Some(_) => Kind::Goes,
             None => Kind::Stops(Fault::NoField),
         },
-        Seen::Number(_) | Seen::Future(_) => Kind::Stops(Fault::NotObject),
+        Seen::Number(_) | Seen::Future(_) | Seen::Group(_) => Kind::Stops(Fault::NotObject),
     }
 }
 
@@ -58,6 +58,7 @@ fn at_call<'a>(seen: Seen<'a>, label: &Label, arguments: &[Place]) -> Kind<'a>
         Seen::Future(_) => Kind::Still,
         Seen::Reference(name) => Kind::GoesTo(name),
         Seen::Object(object) => at_method(&object.methods, label, arguments),
+        Seen::Group(_) => Kind::Goes,
     }
 }
 

@@ -33,6 +33,7 @@ pub fn copy_seen(alloc: Global, seen: Seen) -> Result<Cell, AllocError>
             by: future.by.copy(alloc)?,
             index: future.index,
         })),
+        Seen::Group(members) => Ok(Cell::Group(members.to_vec(alloc)?)),
     }
 }
 
@@ -65,6 +66,9 @@ pub fn call_at(
             let to = name.copy(alloc)?;
             Ok(Contracted::Communicates(Communication::Sends(to, label, arguments)))
         }
+        // A call on a group becomes a group of calls, which no term can say yet. No term makes a
+        // group either, so no run comes here.
+        Seen::Group(_) => Err(AllocError),
     }
 }
 

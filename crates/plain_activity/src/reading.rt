@@ -64,6 +64,7 @@ fn read_operand<'a>(store: &'a Store, futures: &'a FutureTable, place: Place) ->
         Seen::Number(n) => Operand::Reads(Seen::Number(n)),
         Seen::Object(object) => Operand::Reads(Seen::Object(object)),
         Seen::Reference(name) => Operand::Reads(Seen::Reference(name)),
+        Seen::Group(members) => Operand::Reads(Seen::Group(members)),
     }
 }
 

@@ -21,7 +21,7 @@ pub fn field_of(seen: Seen, label: &Label) -> Result<Place, Fault>
     match seen {
         Seen::Reference(_) => Err(Fault::ActiveField),
         Seen::Object(object) => field_place(&object.fields, label).ok_or(Fault::NoField),
-        Seen::Number(_) | Seen::Future(_) => Err(Fault::NotObject),
+        Seen::Number(_) | Seen::Future(_) | Seen::Group(_) => Err(Fault::NotObject),
     }
 }
 

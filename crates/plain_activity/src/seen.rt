@@ -18,6 +18,8 @@ pub enum Seen<'a> {
     Object(&'a Object),
     Reference(&'a ActivityName),
     Future(&'a FutureName),
+    /// The members, in order.
+    Group(&'a [Place]),
 }
 
 pub fn see(cell: &Cell) -> Seen
@@ -28,6 +30,7 @@ pub fn see(cell: &Cell) -> Seen
         Cell::Object(object) => Seen::Object(object),
         Cell::Reference(name) => Seen::Reference(name),
         Cell::Future(future) => Seen::Future(future),
+        Cell::Group(members) => Seen::Group(members),
     }
 }
 
