@@ -1,6 +1,6 @@
 -- Cells of the machine's store.
-use Rattle.std.proofs.Common.{◌≡◌, ℕ, zero, suc, ◌<◌, ◌≤◌, List, [], ◌∷◌, Some, None, length, map, get_or, refl, ap, arith}
-use Rattle.std.specs.Prelude.{pos, slice_get}
+use Rattle.std.proofs.Common.{◌≡◌, ℕ, zero, suc, ◌<◌, ◌≤◌, List, [], ◌∷◌, length, map, get_or, refl, arith}
+use Rattle.std.specs.Prelude.{pos}
 use Rattle.asp_model.specs.declared.store.Cell.{Cell}
 use Rattle.asp_model.specs.Store.{Number, cell}
 use Rattle.asp_model.specs.Shapes.{cell_shape}

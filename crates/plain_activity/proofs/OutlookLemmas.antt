@@ -2,8 +2,6 @@
 use Rattle.std.proofs.Common.{◌≡◌, ◌++◌, ℕ, false, List, [], ◌∷◌, Option, Some, None, length, map, refl, sym, ap, ◌∙◌, subst}
 use Rattle.std.proofs.lemmas.List.{append-nil, length-map}
 use Rattle.asp_model.specs.declared.name.FutureName.{FutureName}
-use Rattle.std.specs.Global.{Vec}
-use Rattle.asp_model.specs.declared.word.Label.{Label}
 use Rattle.std.specs.Borrow.{Bor}
 use Rattle.asp_model.specs.Names.{Name, FutureShape, Text}
 use Rattle.asp_model.specs.Term as term
@@ -13,7 +11,7 @@ use Rattle.asp_model.specs.Contraction.{Contraction, Becomes, Faults, Needs, Com
 use Rattle.asp_model.specs.Chase.{Chase, Values, chase}
 use Rattle.asp_model.specs.Configuration as model
 use Rattle.asp_model.specs.Configuration.{RequestShape, ServiceShape}
-use Rattle.asp_model.specs.Plan.{Plan, Numbered, Ready, Reads, Lacks, contracts, ends_service, labels_served, newest, oldest_match, plan, redex_ready, serves}
+use Rattle.asp_model.specs.Plan.{Plan, Ready, Reads, Lacks, contracts, ends_service, labels_served, newest, oldest_match, plan, redex_ready, serves}
 use Rattle.asp_model.specs.Shapes.{fault_shape, future_shape}
 use Rattle.asp_model.specs.declared.outcome.Fault.{Fault}
 use Rattle.laws.specs.Closed.{AreBelow}
@@ -21,7 +19,6 @@ use Rattle.laws.specs.Linked.{Each}
 use Rattle.laws.proofs.ContractionLemmas.{serves_by_head}
 use Rattle.deep_copy.proofs.UnpackLemmas.{some_cell}
 use Rattle.object_store.specs.View.{store_of}
-use Rattle.substitution.specs.Bindings.{label_text}
 use Rattle.plain_term.specs.declared.redex.Redex.{Redex}
 use Rattle.plain_term.specs.declared.redex.Redex.TheVariants as redex
 use Rattle.plain_term.specs.Frames.{contexts_of, nested}
@@ -34,7 +31,6 @@ use Rattle.plain_activity.specs.Activity.{Stands, service_shape}
 use Rattle.plain_activity.specs.Kinds.{Face, KindShape, Goes, GoesTo, Stops, Asks, Still, kind_at, kind_of}
 use Rattle.plain_activity.specs.Operands.{AreClosedValues}
 use Rattle.plain_activity.specs.Outlook.{AreSeen, IsOutlook, Sight, first_missed, missed_or}
-use Rattle.plain_activity.specs.Queue.{IsMatch}
 use Rattle.plain_activity.proofs.ChaseLemmas.{chase_value}
 use Rattle.plain_activity.proofs.KindLemmas.{AreFaces, row_kind}
 use Rattle.plain_activity.proofs.OperandLemmas.{no_members, ready_by}
