@@ -3,7 +3,7 @@ use Rattle.std.proofs.Common.{◌≡◌, ℕ, Bool, true, false, List, [], ◌�
 use Rattle.std.proofs.lemmas.List.{map-append}
 use Rattle.asp_model.specs.Names.{Text}
 use Rattle.asp_model.specs.Term as term
-use Rattle.asp_model.specs.Term.{Head, SignShape, MethodHead}
+use Rattle.asp_model.specs.Term.{MethodHead}
 use Rattle.asp_model.specs.Marked.{Marked, MarkedList, marked, no_marked, and_marked, all_marked}
 use Rattle.asp_model.specs.Shapes.{MarkedMethod, make_shape}
 use Rattle.asp_syntax.specs.declared.token.Token.{Token}

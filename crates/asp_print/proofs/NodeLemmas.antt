@@ -1,5 +1,5 @@
 -- The tokens of terms as they are in code, variant by variant.
-use Rattle.std.proofs.Common.{◌≡◌, ℕ, List, [], ◌∷◌, ◌++◌, map, refl, sym, ap, ◌∙◌, append_assoc}
+use Rattle.std.proofs.Common.{◌≡◌, List, [], ◌∷◌, ◌++◌, map, refl, sym, ap, ◌∙◌, append_assoc}
 use Rattle.std.specs.Global.{Box, Vec}
 use Rattle.std.proofs.lemmas.List.{append-nil}
 use Rattle.asp_model.specs.declared.word.Label.{Label}

@@ -3,7 +3,7 @@ use Rattle.std.proofs.Common.{◌≡◌, ℕ, Bool, true, false, List, [], ◌�
 use Rattle.std.proofs.lemmas.List.{append-nil, map-append}
 use Rattle.asp_model.specs.Names.{Text}
 use Rattle.asp_model.specs.Term as term
-use Rattle.asp_model.specs.Term.{Head, SignShape, MethodHead}
+use Rattle.asp_model.specs.Term.{Head, SignShape}
 use Rattle.asp_model.specs.Marked.{MarkShape, Marked, marked, no_marked, and_marked, all_marked}
 use Rattle.asp_model.specs.Shapes.{MarkedMethod, make_shape}
 use Rattle.asp_syntax.specs.declared.token.Token.{Token}

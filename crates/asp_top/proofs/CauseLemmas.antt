@@ -1,20 +1,18 @@
 -- Which statuses the causes of refusals leave.
-use Rattle.std.proofs.Common.{◌≡◌, ℕ, ◌^◌, ◌<◌, ◌≤◌, List, Option, Some, None, true, false, length, refl, sym, ap, subst, ◌∙◌, ◌⊎◌, inl, inr, arith}
+use Rattle.std.proofs.Common.{◌≡◌, ℕ, ◌^◌, ◌<◌, ◌≤◌, List, Option, Some, None, false, length, refl, sym, ap, subst, ◌∙◌, ◌⊎◌, inl, inr, arith}
 use Rattle.std.specs.Prelude.{nat_eq}
 use Rattle.asp_model.specs.Marked.{Marked, plain}
 use Rattle.asp_model.specs.Step.{ListsShape}
 use Rattle.asp_model.specs.Replay.{CountsShape, Fits}
-use Rattle.asp_model.specs.ReadReport.{Reading, read_report, Reads, BadLine}
-use Rattle.asp_syntax.specs.declared.error.SyntaxFault.{SyntaxFault}
+use Rattle.asp_model.specs.ReadReport.{read_report, Reads, BadLine}
 use Rattle.asp_syntax.specs.Correct.{IsProgramText}
-use Rattle.asp_check.specs.declared.fault.CheckFault.{CheckFault}
 use Rattle.asp_check.specs.Faults.{IsChecked}
 use Rattle.asp_edge.specs.Causes.{IsContent}
 use Rattle.command_line.specs.Task.{TaskShape, Runs, Checks, Replays, Makes, task_of}
 use Rattle.asp_top.specs.Seen.{Inputs, Outside, Sight, Rises, IsLong, Refusal, Usage, Unread, LongProgram, NoProgram, Unchecked, LongReport, NoReport, Diverges, NoMemory, status_of_refusal}
 use Rattle.asp_top.specs.Programs.{IsFile, IsText, IsProgramOf, HasProgram, HasReport}
 use Rattle.asp_top.specs.Correct.{Answers, IsReported}
-use Rattle.asp_top.specs.Endings.{Answered, Ends, Written, Refused, Unheard, Unwritten, Holds, OfWords, OfMemory, OfTask, HoldsFor, IsUnread, OfProgram, OfReport, NamesProgram, NamesReport}
+use Rattle.asp_top.specs.Endings.{Ends, Written, Refused, Unheard, Unwritten, Holds, OfWords, OfMemory, OfTask, HoldsFor, OfProgram, OfReport, NamesProgram, NamesReport}
 use Rattle.asp_top.specs.Statuses.{IsUnfit, IsNotReplayed, IsToldText, MayReplay, MayAnswer, AsksUnfit, AsksNoReplay, IsUsageEnd, IsUnfitEnd, IsNoReplayEnd}
 use Rattle.asp_top.proofs.StatusLemmas.{answers_reported, clash, no_report, same_task}
 

@@ -1,5 +1,5 @@
 -- How a call ends, from what was told.
-use Rattle.std.proofs.Common.{◌≡◌, ℕ, List, sym, subst, inl, inr, refl}
+use Rattle.std.proofs.Common.{ℕ, List, sym, subst, inl, inr, refl}
 use Rattle.asp_top.specs.Seen.{Inputs, Sight, IsUntouched, Refusal, NoMemory}
 use Rattle.asp_top.specs.Endings.{Answered, Ends, Written, Refused, Unheard, Unwritten, Holds, OfMemory}
 use Rattle.asp_top.specs.Stops.{ToldRefusal, ToldOf, WrittenOf}

@@ -1,5 +1,5 @@
 -- What a run and a replay have written, from the outcome of the machine of one thread.
-use Rattle.std.proofs.Common.{◌≡◌, ℕ, ◌≤◌, List, refl, sym, ap, subst, ◌∙◌}
+use Rattle.std.proofs.Common.{◌≡◌, ℕ, ◌≤◌, List, sym, ap, subst, ◌∙◌}
 use Rattle.asp_model.specs.Configuration.{Configuration}
 use Rattle.asp_model.specs.Step.{ListsShape}
 use Rattle.asp_model.specs.Status.{Budget, verdict_of}

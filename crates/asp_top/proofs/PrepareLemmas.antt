@@ -1,5 +1,5 @@
 -- From the causes of single functions to those of a task.
-use Rattle.std.proofs.Common.{◌≡◌, ℕ, ◌≤◌, ◌^◌, List, Option, Some, Bool, true, map, Result, Ok, Err, refl, sym, subst, ◌∙◌}
+use Rattle.std.proofs.Common.{◌≡◌, ℕ, ◌≤◌, ◌^◌, List, Option, Some, true, map, Result, Ok, Err, refl, subst}
 use Rattle.std.specs.Prelude.{IfErr}
 use Rattle.std.specs.FinMap.{is_sorted}
 use Rattle.asp_model.specs.declared.outcome.Lists.{Lists}
@@ -19,7 +19,7 @@ use Rattle.load_gen.specs.Generated.{generated}
 use Rattle.command_line.specs.Task.{TaskShape, Replays, Makes, task_of}
 use Rattle.asp_top.specs.declared.stop.Stop.{Stop}
 use Rattle.asp_top.specs.Seen.{Inputs, Outside, outside, IsLong, Refusal, Usage, Unread, LongProgram, NoProgram, Unchecked, LongReport, NoReport, Diverges, NoMemory}
-use Rattle.asp_top.specs.Programs.{IsFile, HasProgram, HasReport}
+use Rattle.asp_top.specs.Programs.{IsFile, HasReport}
 use Rattle.asp_top.specs.Endings.{Holds, OfTask, HoldsFor, OfReport}
 use Rattle.asp_top.specs.Stops.{StopsAt, StopsInReport, IsInFile, IsLog, refusal_of, replay_stop}
 use Rattle.asp_top.proofs.StopLemmas.{rose_later}

@@ -1,14 +1,10 @@
 -- The causes of stops.
-use Rattle.std.proofs.Common.{◌≡◌, ℕ, ◌≤◌, ◌^◌, List, Option, Some, None, Result, Ok, Err, sym, subst, ◌∙◌, ◌⊎◌, inl, inr, refl, ap, arith, map}
+use Rattle.std.proofs.Common.{◌≡◌, ℕ, ◌≤◌, List, Option, Some, None, Result, Ok, Err, sym, subst, ◌∙◌, ◌⊎◌, inl, inr, refl, ap, arith}
 use Rattle.std.specs.Prelude.{IfOk, IfErr, OnErr}
 use Rattle.std.specs.Result.{IsErrAnd}
 use Rattle.asp_model.specs.declared.term.Program.{Program}
-use Rattle.asp_model.specs.Names.{Name, name_cmp}
-use Rattle.asp_model.specs.Marked.{Marked, plain}
+use Rattle.asp_model.specs.Marked.{Marked}
 use Rattle.asp_model.specs.Shapes.{marked_of}
-use Rattle.asp_model.specs.Step.{ListsShape}
-use Rattle.asp_model.specs.Replay.{CountsShape, Fits, IsLeastDiverging}
-use Rattle.asp_model.specs.ReadReport.{Reading, read_report, BadLine}
 use Rattle.asp_syntax.specs.declared.error.SyntaxError.{SyntaxError}
 use Rattle.asp_syntax.specs.declared.error.SyntaxError.TheVariants as syntax
 use Rattle.asp_syntax.specs.Tokens.{lexemes_of}
@@ -19,18 +15,12 @@ use Rattle.asp_check.specs.declared.fault.CheckError.{CheckError}
 use Rattle.asp_check.specs.declared.fault.CheckError.TheVariants as check
 use Rattle.asp_check.specs.declared.fault.CheckFault.{CheckFault}
 use Rattle.asp_check.specs.Faults.{IsChecked, IsFirstFault}
-use Rattle.asp_edge.specs.Causes.{Rose, next_number, IsLonger, IsContent}
+use Rattle.asp_edge.specs.Causes.{Rose, IsLonger}
 use Rattle.asp_edge.specs.declared.edge.ReadError.TheVariants as reads
-use Rattle.sender_log.specs.declared.error.LogError.{LogError}
-use Rattle.sender_log.specs.declared.error.LogError.TheVariants as log
-use Rattle.sender_log.specs.Answers.{TellsOf}
-use Rattle.replay_one.specs.declared.replays.ReplayStop.{ReplayStop}
-use Rattle.replay_one.specs.declared.replays.ReplayStop.TheVariants as replays
-use Rattle.replay_one.specs.Correct.{IsStop}
 use Rattle.asp_top.specs.declared.stop.Stop.{Stop}
-use Rattle.asp_top.specs.Seen.{Outside, Sight, Refusal, NoMemory, IsLong, status_of_refusal, message_of}
-use Rattle.asp_top.specs.Programs.{IsProgramOf, IsFile}
-use Rattle.asp_top.specs.Stops.{StopsAt, syntax_stop, check_stop, log_stop, replay_stop, refusal_of, program_in, Told, ToldRefusal}
+use Rattle.asp_top.specs.Seen.{Sight, Refusal, NoMemory, IsLong, status_of_refusal, message_of}
+use Rattle.asp_top.specs.Programs.{IsProgramOf}
+use Rattle.asp_top.specs.Stops.{StopsAt, syntax_stop, check_stop, refusal_of, program_in, Told, ToldRefusal}
 
 -- a fault that was found stops there
 pub stops_at : (bytes : List ℕ) (e : SyntaxError) → (let r : Result Program SyntaxError = Err e in IfFault r (λ f. FirstFault (lexemes_of bytes) f)) → ((m : Marked) → IsProgramText bytes m → let r : Result Program SyntaxError = Err e in IsOkWith r m) → StopsAt bytes (refusal_of (syntax_stop e))

@@ -15,9 +15,9 @@ use Rattle.asp_check.specs.Faults.{IsChecked}
 use Rattle.load_gen.specs.Generated.{generated}
 use Rattle.command_line.specs.Task.{TaskShape, Runs, Checks, Replays, Makes, task_of}
 use Rattle.asp_top.specs.Seen.{Inputs, Outside, Sight, Rises, Takes, LongProgram, NoProgram, Unchecked, LongReport, NoReport, Diverges}
-use Rattle.asp_top.specs.Programs.{IsProgramOf, HasReport}
+use Rattle.asp_top.specs.Programs.{IsProgramOf}
 use Rattle.asp_top.specs.Correct.{Answers, run_end, replay_end, made_end}
-use Rattle.asp_top.specs.Endings.{Holds, NamesProgram, NamesReport}
+use Rattle.asp_top.specs.Endings.{Holds, NamesProgram}
 
 -- the replay is stuck, and no activity awaits a future's value
 pub record IsEnd (c : Configuration) : Type 0 where

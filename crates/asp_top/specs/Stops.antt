@@ -1,12 +1,10 @@
 -- Why there is nothing to write, and what is ready to be written.
 use Rattle.std.specs.Prelude.{◌≡◌, ◌⊎◌, ℕ, ◌^◌, List, map, string_bytes}
 use Rattle.std.specs.List.{concat}
-use Rattle.asp_model.specs.Marked.{Marked, plain}
+use Rattle.asp_model.specs.Marked.{Marked}
 use Rattle.asp_model.specs.Shapes.{marked_of, lists_shape, counts_shape}
 use Rattle.asp_model.specs.declared.outcome.Lists.{Lists}
 use Rattle.asp_model.specs.declared.outcome.Counts.{Counts}
-use Rattle.asp_model.specs.Replay.{replay, Fits, IsLeastDiverging}
-use Rattle.asp_model.specs.Outcome.{OutcomeShape, outcome_of}
 use Rattle.asp_model.specs.ReadReport.{read_report, BadLine}
 use Rattle.asp_check.specs.declared.checked.Checked.{Checked}
 use Rattle.replay_one.specs.Listed.{AreReplayable}

@@ -1,4 +1,4 @@
-use Rattle.std.proofs.Common.{◌≡◌, ◌^◌, rules, sym, ap, ◌∙◌}
+use Rattle.std.proofs.Common.{◌≡◌, ◌^◌, rules, ap, ◌∙◌}
 use Rattle.asp_model.specs.ReadReport.{read_report}
 use Rattle.asp_top.specs.Seen.{outside}
 use Rattle.asp_top.specs.Programs.{IsFile}
