@@ -9,7 +9,7 @@ use Rattle.asp_model.specs.Term.{Tree}
 use Rattle.asp_model.specs.Parcel.{ParcelShape}
 use Rattle.asp_model.specs.Chase.{Values, chase}
 use Rattle.asp_model.specs.Configuration as model
-use Rattle.asp_model.specs.Configuration.{Configuration, RequestShape, requests_of, or_none, start}
+use Rattle.asp_model.specs.Configuration.{Configuration, RequestShape, requests_of, or_none}
 use Rattle.asp_model.specs.Plan.{Effect, Acts, plan}
 use Rattle.asp_model.specs.Step.{plan_in}
 use Rattle.future_table.specs.Values.{values_of}
