@@ -3,7 +3,7 @@ use Rattle.std.proofs.Common.{◌≡◌, ℕ, zero, suc, ◌+◌, ◌-◌, ◌<�
 use Rattle.asp_model.specs.Names.{FutureShape, same_future}
 use Rattle.asp_model.specs.Chase.{Values, Lead, lead, walk_end, walked_to, comes_by, cycle_of, chase}
 use Rattle.asp_model.specs.Chase as chases
-use Rattle.future_table.specs.Values.{Told, told}
+use Rattle.future_table.specs.Values.{told}
 use Rattle.future_table.specs.Values as tellings
 use Rattle.future_table.specs.Walks.{Ends, Goes, Misses, step_of}
 

@@ -17,7 +17,7 @@ use Rattle.laws.proofs.NameLemmas.{name_total, name_same, no_some, none_true}
 use Rattle.laws.proofs.SoundLemmas.{at_name}
 use Rattle.laws.proofs.ReachedLemmas.{Right, start_right, start_is_reached, runs_go_on}
 use Rattle.laws.proofs.ListLemmas.{senders, IsPrefix, with_name, find_mapped, senders_own, count_own}
-use Rattle.laws.proofs.FlowLemmas.{right_run, own_run}
+use Rattle.laws.proofs.FlowLemmas.{right_run}
 use Rattle.laws.proofs.FlowLemmas as flow
 use Rattle.laws.proofs.ReplayLemmas.{fits_exactly}
 use Rattle.laws.proofs.LinkedLemmas.{stuck_is_still}

@@ -3,7 +3,7 @@ use Rattle.std.specs.Prelude.{◌≡◌, ℕ, zero, suc, ◌-◌, ◌<◌, ◌�
 use Rattle.std.proofs.Common.{refl, sym, ap, subst, ◌∙◌, arith, inl, inr, ⊎_elim}
 use Rattle.std.proofs.lemmas.Bool.{ltb-true, ltb-false}
 use Rattle.std.specs.FinMap.{find}
-use Rattle.runs.specs.Systems.{System, hit, count, Covers}
+use Rattle.runs.specs.Systems.{count, Covers}
 use Rattle.runs.specs.Systems as runs
 use Rattle.runs.specs.Rules.{Rule, repeated}
 use Rattle.runs.proofs.Counts.{hit_same, run_length}

@@ -5,7 +5,7 @@ use Rattle.asp_model.specs.declared.word.Label.{Label}
 use Rattle.asp_model.specs.declared.term.Term.{Term}
 use Rattle.asp_model.specs.Names.{Text}
 use Rattle.asp_model.specs.Term as term
-use Rattle.asp_model.specs.Term.{Tree, Trees, Head, MethodHead, node, none, more, trees, loc, locs_then, child_count}
+use Rattle.asp_model.specs.Term.{Tree, Trees, Head, MethodHead, none, more, trees, locs_then, child_count}
 use Rattle.asp_model.specs.Store.{MethodShape}
 use Rattle.asp_model.specs.Split.{Context, Redex, Split, Stands, Splits, split, split_below, plugged, plug}
 use Rattle.asp_model.specs.Shapes.{tree_of, stored_method}

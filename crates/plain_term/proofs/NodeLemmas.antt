@@ -9,7 +9,7 @@ use Rattle.asp_model.specs.declared.term.Method.{Method}
 use Rattle.asp_model.specs.declared.term.Term.TheVariants.{Make}
 use Rattle.asp_model.specs.Names.{Text}
 use Rattle.asp_model.specs.Term as term
-use Rattle.asp_model.specs.Term.{Tree, Trees, Head, MethodHead, node, none, more, trees, loc, locs_then, child_count}
+use Rattle.asp_model.specs.Term.{Tree, Trees, Head, node, none, more, trees, loc, locs_then, child_count}
 use Rattle.asp_model.specs.Store.{MethodShape}
 use Rattle.asp_model.specs.Split.{Splits, split_below}
 use Rattle.asp_model.specs.Shapes.{tree_of, stored_method}

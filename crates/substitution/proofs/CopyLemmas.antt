@@ -8,7 +8,7 @@ use Rattle.asp_model.specs.declared.term.Term.{map-Term, roll-Term}
 use Rattle.asp_model.specs.declared.term.Term.TheOpen.{Term-F, Method-F}
 use Rattle.asp_model.specs.declared.term.Term.TheFolds.{ind-Term, ind-Method, fold-roll-Term, fold-roll-Method}
 use Rattle.asp_model.specs.Names.{Text}
-use Rattle.asp_model.specs.Term.{Tree, Trees, MethodHead, node, more, none, one, two, put_in, put_below}
+use Rattle.asp_model.specs.Term.{MethodHead, node, more, none, one, two, put_in, put_below}
 use Rattle.asp_model.specs.Term as term
 use Rattle.asp_model.specs.Marked.{Marked, plain, plain_below, all_marked}
 use Rattle.asp_model.specs.Shapes.{MarkedMethod, term_step, method_step, tree_of, marked_of, method_of, sign_shape, stored_method}
