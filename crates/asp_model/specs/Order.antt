@@ -1,6 +1,6 @@
 -- The order of names tells names apart, and so does that of futures.
-use Rattle.std.specs.Prelude.{◌≡◌, ℕ, Bool, true, false, List}
-use Rattle.std.proofs.Common.{refl, sym, ap, subst, ◌∙◌, T}
+use Rattle.std.specs.Prelude.{◌≡◌, true}
+use Rattle.std.proofs.Common.{refl, sym, subst, T}
 use Rattle.std.specs.declared.cmp.Ordering.{Ordering}
 use Rattle.std.specs.declared.cmp.Ordering.TheVariants.{Less, Equal, Greater}
 use Rattle.std.specs.Ordering.{is_eq, nat_cmp, ordering_then}

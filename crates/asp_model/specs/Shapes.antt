@@ -21,9 +21,8 @@ use Rattle.asp_model.specs.declared.outcome.ActivityReport.{ActivityReport}
 use Rattle.asp_model.specs.declared.outcome.Outcome.{Outcome}
 use Rattle.asp_model.specs.declared.outcome.Lists.{Lists}
 use Rattle.asp_model.specs.declared.outcome.Counts.{Counts}
-use Rattle.asp_model.specs.declared.name.ActivityName.{ActivityName}
 use Rattle.asp_model.specs.declared.name.FutureName.{FutureName}
-use Rattle.asp_model.specs.Names.{Name, FutureShape, Text}
+use Rattle.asp_model.specs.Names.{FutureShape, Text}
 use Rattle.asp_model.specs.Term.{SignShape, MethodHead, Tree, Loc, Hole, Var, Number, Make, Get, Put, Call, Clone, Active, Serve, Let, Steps, If, Repeat, Operate, Print, Echo}
 use Rattle.asp_model.specs.Term as term
 use Rattle.asp_model.specs.declared.store.Cell.{Cell}
