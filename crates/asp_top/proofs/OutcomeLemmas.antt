@@ -18,9 +18,9 @@ use Rattle.replay_one.specs.Correct.{IsSpent}
 use Rattle.load_gen.specs.Generated.{generated}
 use Rattle.command_line.specs.Task.{Runs, Replays, Makes}
 use Rattle.asp_top.specs.Seen.{Outside}
-use Rattle.asp_top.specs.Programs.{IsProgramOf, HasReport}
+use Rattle.asp_top.specs.Programs.{IsProgramOf, IsInFile, HasReport}
 use Rattle.asp_top.specs.Correct.{Answers, IsWithin}
-use Rattle.asp_top.specs.Stops.{IsInFile, program_in}
+use Rattle.asp_top.specs.Stops.{program_in}
 
 -- where an outcome is that of a configuration, so are its verdict and its counts
 within_as : (budget : ℕ) (counts : CountsShape) (c : Configuration) (o : OutcomeShape) → outcome_of c ≡ o → counts_of c ≡ counts
@@ -51,7 +51,7 @@ run_is o file budget c outcome text status given h e s =
     let shown = shown_by given.bytes budget c outcome given.is h in (
       record {
         program = program_in c;
-        given = record { bytes = given.bytes; text = given.file; is = given.is };
+        given = given;
         lists = shown.lists;
         counts = shown.counts;
         reads = subst (λ (t : List ℕ). read_report t ≡ Reads shown.lists shown.counts) (sym e) shown.read;
@@ -83,7 +83,7 @@ pub replay_is : (o : Outside) (file name : List ℕ) (c : Checked) (lists : List
 replay_is o file name c lists counts outcome text status given old fits is e s = (
   record {
     program = program_in c;
-    given = record { bytes = given.bytes; text = given.file; is = given.is };
+    given = given;
     lists = lists;
     counts = counts;
     old = old;

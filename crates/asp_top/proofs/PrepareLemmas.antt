@@ -19,9 +19,9 @@ use Rattle.load_gen.specs.Generated.{generated}
 use Rattle.command_line.specs.Task.{TaskShape, Replays, Makes, task_of}
 use Rattle.asp_top.specs.declared.stop.Stop.{Stop}
 use Rattle.asp_top.specs.Seen.{Inputs, Outside, outside, IsLong, Refusal, Usage, Unread, LongProgram, NoProgram, Unchecked, LongReport, NoReport, Diverges, NoMemory}
-use Rattle.asp_top.specs.Programs.{IsFile, HasReport}
+use Rattle.asp_top.specs.Programs.{IsFile, IsInFile, HasReport}
 use Rattle.asp_top.specs.Endings.{Holds, OfTask, HoldsFor, OfReport}
-use Rattle.asp_top.specs.Stops.{StopsAt, StopsInReport, IsInFile, IsLog, refusal_of, replay_stop}
+use Rattle.asp_top.specs.Stops.{StopsAt, StopsInReport, HasReplayableReport, refusal_of, replay_stop}
 use Rattle.asp_top.proofs.StopLemmas.{rose_later}
 
 pub task_refused : {T : Type 0} (i : Inputs) (task : TaskShape) (r : Result T Stop) → task_of i.words ≡ Some task → IfErr r (λ s. HoldsFor i.outside task (refusal_of s)) → IfErr r (λ s. Holds i (refusal_of s))
@@ -43,9 +43,9 @@ made_stops o pairs budget bytes e NoMemory h = tt
 
 -- reports
 
-pub log_is : (o : Outside) (name bytes : List ℕ) (lists : Lists) (counts : Counts) → IsFile o name (2 ^ 24) bytes → read_report bytes ≡ Reads (lists_shape lists) (counts_shape counts)
-    → map (λ x. x.0) (lists_shape lists) ≡ map (λ x. x.0) (counts_shape counts) → is_sorted name_cmp (counts_shape counts) ≡ true → total (counts_shape counts) ≤ 10000000 → IsLog o name lists counts
-log_is o name bytes lists counts file reads same ascending within = record {
+pub report_is_replayable : (o : Outside) (name bytes : List ℕ) (lists : Lists) (counts : Counts) → IsFile o name (2 ^ 24) bytes → read_report bytes ≡ Reads (lists_shape lists) (counts_shape counts)
+    → map (λ x. x.0) (lists_shape lists) ≡ map (λ x. x.0) (counts_shape counts) → is_sorted name_cmp (counts_shape counts) ≡ true → total (counts_shape counts) ≤ 10000000 → HasReplayableReport o name lists counts
+report_is_replayable o name bytes lists counts file reads same ascending within = record {
   old = record { bytes = bytes; file = file; reads = reads };
   replayable = replayable_by (lists_shape lists) (counts_shape counts) same ascending within;
 }
@@ -54,7 +54,7 @@ pub replay_stops : (o : Outside) (file name : List ℕ) (program : Marked) (list
     → (s : ReplayStop) → IsStop (plain program) lists counts s → HoldsFor o (Replays file name) (refusal_of (replay_stop s))
 replay_stops o file name program lists counts given old (replays.Diverged activity) h = record {
   program = program;
-  given = record { bytes = given.bytes; text = given.file; is = given.is };
+  given = given;
   name = name;
   named = refl;
   lists = lists;
@@ -69,7 +69,7 @@ replay_stops o file name program lists counts given old replays.Memory h = tt
 
 module _ {S : Type 0} (content : S → List ℕ → Option (List ℕ)) (faults : S → ℕ) (first middle last : S) (same : content middle ≡ content first) where
   pub program_stays : (file : List ℕ) (program : Marked) → IsInFile (outside content faults first middle) file program → IsInFile (outside content faults first last) file program
-  program_stays file program h = record { bytes = h.bytes; file = record { told = h.file.told; within = h.file.within }; is = h.is }
+  program_stays file program h = record { bytes = h.bytes; text = record { told = h.text.told; within = h.text.within }; is = h.is }
 
   file_is : (name : List ℕ) (most : ℕ) (bytes : List ℕ) → IsFile (outside content faults middle last) name most bytes → IsFile (outside content faults first last) name most bytes
   file_is name most bytes f = record { told = subst (λ (k : List ℕ → Option (List ℕ)). IsContent (k name) bytes) same f.told; within = f.within }
@@ -81,20 +81,20 @@ module _ {S : Type 0} (content : S → List ℕ → Option (List ℕ)) (faults :
       → (r : Refusal) → StopsInReport (outside content faults middle last) report r → HoldsFor (outside content faults first last) (Replays file report) r
   report_stops file report program later given Usage h = absurd h
   report_stops file report program later given (Unread name) h =
-      OfReport program (record { bytes = given.bytes; text = record { told = given.file.told; within = given.file.within }; is = given.is }) h.0 (rose_later (faults first) (faults middle) (faults last) later h.1)
+      OfReport program (program_stays file program given) h.0 (rose_later (faults first) (faults middle) (faults last) later h.1)
   report_stops file report program later given LongProgram h = absurd h
   report_stops file report program later given (NoProgram fault) h = absurd h
   report_stops file report program later given (Unchecked fault) h = absurd h
   report_stops file report program later given LongReport h = record {
     program = program;
-    given = record { bytes = given.bytes; text = record { told = given.file.told; within = given.file.within }; is = given.is };
+    given = program_stays file program given;
     name = report;
     named = refl;
     long = subst (λ (k : List ℕ → Option (List ℕ)). IsLong (2 ^ 24) (k report)) same h;
   }
   report_stops file report program later given (NoReport line) h = record {
     program = program;
-    given = record { bytes = given.bytes; text = record { told = given.file.told; within = given.file.within }; is = given.is };
+    given = program_stays file program given;
     name = report;
     named = refl;
     bytes = h.0;

@@ -22,7 +22,7 @@ use Rattle.asp_top.specs.declared.stop.Stop.{Stop}
 use Rattle.asp_top.specs.declared.stop.Stop.TheVariants as stops
 use Rattle.asp_top.specs.declared.prepare.Prepared.{Prepared}
 use Rattle.asp_top.specs.Seen.{Outside, Sight, Rises, IsUntouched, Takes, TakesFront, IsLong, Refusal, Usage, Unread, LongProgram, NoProgram, Unchecked, LongReport, NoReport, Diverges, NoMemory, status_of_refusal, message_of, write_message}
-use Rattle.asp_top.specs.Programs.{IsFile, IsProgramOf, HasReport}
+use Rattle.asp_top.specs.Programs.{IsFile, HasReport}
 use Rattle.asp_top.specs.Endings.{IsFaultyText, IsUncheckedText}
 
 abbrev pub refusal_of : Stop → Refusal
@@ -69,12 +69,6 @@ StopsAt bytes (Unchecked fault) = IsUncheckedText bytes fault
 StopsAt bytes NoMemory = Unit {0}
 StopsAt bytes r = ⊥
 
--- the program in a file
-pub record IsInFile (o : Outside) (name : List ℕ) (program : Marked) : Type 0 where
-  pub bytes : List ℕ
-  pub file : IsFile o name (2 ^ 20) bytes
-  pub is : IsProgramOf bytes program
-
 -- the cause of a stop at the file of a program
 abbrev pub StopsInFile : Outside → List ℕ → Refusal → Type 0
 StopsInFile o file (Unread name) = (file ≡ name) × Rises o.faults
@@ -84,8 +78,8 @@ StopsInFile o file (Unchecked fault) = (bytes : List ℕ) × IsFile o file (2 ^ 
 StopsInFile o file NoMemory = Unit {0}
 StopsInFile o file r = ⊥
 
--- lists and counts that a file shows, and that can be replayed
-pub record IsLog (o : Outside) (name : List ℕ) (lists : Lists) (counts : Counts) : Type 0 where
+-- the file is a report with these lists and counts, and they can be replayed
+pub record HasReplayableReport (o : Outside) (name : List ℕ) (lists : Lists) (counts : Counts) : Type 0 where
   pub old : HasReport o name (lists_shape lists) (counts_shape counts)
   pub replayable : AreReplayable (lists_shape lists) (counts_shape counts)
 

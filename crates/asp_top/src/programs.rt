@@ -2,8 +2,8 @@
 
 ghost use Rattle.std.specs.Prelude.{◌≡◌, ◌≤◌, IfOk, IfErr};
 ghost use Rattle.asp_top.specs.Seen.{outside};
-ghost use Rattle.asp_top.specs.Programs.{IsProgramOf};
-ghost use Rattle.asp_top.specs.Stops.{IsInFile, StopsAt, StopsInFile, program_in, refusal_of};
+ghost use Rattle.asp_top.specs.Programs.{IsInFile, IsProgramOf};
+ghost use Rattle.asp_top.specs.Stops.{StopsAt, StopsInFile, program_in, refusal_of};
 
 use crate::stop::Stop;
 use asp_check::{Checked, check};

@@ -2,7 +2,7 @@
 
 ghost use Rattle.std.specs.Prelude.{IfOk, IfErr};
 ghost use Rattle.asp_top.specs.Seen.{outside};
-ghost use Rattle.asp_top.specs.Stops.{IsLog, StopsInReport, refusal_of};
+ghost use Rattle.asp_top.specs.Stops.{HasReplayableReport, StopsInReport, refusal_of};
 
 use crate::stop::Stop;
 use asp_edge::{ReadError, Source};
@@ -19,7 +19,7 @@ pub fn lists_of<'a, S: Source>(
     name: &'a str,
     source: &mut S,
 ) -> Result<(Lists, Counts), Stop<'a>>
-    ensures log { IfOk result (λ r. IsLog (outside S.content S.faults source.old source.new) name.entry.now r.0 r.1) }
+    ensures log { IfOk result (λ r. HasReplayableReport (outside S.content S.faults source.old source.new) name.entry.now r.0 r.1) }
     ensures stop { IfErr result (λ s. StopsInReport (outside S.content S.faults source.old source.new) name.entry.now (refusal_of s)) }
 {
     match source.read(name, MOST) {

@@ -2,7 +2,7 @@ use Rattle.std.proofs.Common.{◌≡◌, ◌^◌, rules, ap, ◌∙◌}
 use Rattle.asp_model.specs.ReadReport.{read_report}
 use Rattle.asp_top.specs.Seen.{outside}
 use Rattle.asp_top.specs.Programs.{IsFile}
-use Rattle.asp_top.proofs.PrepareLemmas.{log_is}
+use Rattle.asp_top.proofs.PrepareLemmas.{report_is_replayable}
 use Rattle.asp_top.proofs.reports.lists_of.Goals as goal
 
 pub returns-in_ok-read_report-in-Ok-clause-log : goal.returns-in_ok-read_report-in-Ok-clause-log
@@ -13,4 +13,4 @@ returns-in_ok-read_report-in-Ok-clause-log g c =
     let read = c.in_ok-read_report-in-Ok.ensures in
     let told : IsFile o c.args.name.now (2 ^ 24) bytes = record { told = c.in-Ok.ensures.bytes; within = search rules } in
     let same : bytes ≡ c.deref.result.now = search rules in
-    log_is o c.args.name.now bytes r.0 r.1 told (ap read_report same ∙ read.ok) read.same read.ascending read.within
+    report_is_replayable o c.args.name.now bytes r.0 r.1 told (ap read_report same ∙ read.ok) read.same read.ascending read.within
