@@ -1,6 +1,7 @@
 -- What a sink has taken after several pieces.
 use Rattle.std.proofs.Common.{◌≡◌, ℕ, zero, suc, ◌+◌, ◌<◌, List, [], ◌∷◌, ◌++◌, map, length, take, drop, get_or, Option, Some, None, refl, sym, ap, subst, ◌∙◌, append_assoc, arith}
-use Rattle.std.proofs.lemmas.List.{map-append, take_more, append-nil}
+use Rattle.std.proofs.lemmas.List.{map-append, take_more, take_at, take-append-drop, append-nil}
+use Rattle.std.proofs.lemmas.List.Folds.{concat-append}
 use Rattle.std.specs.List.{concat}
 use Rattle.asp_edge.specs.Causes.{Appends, AppendsFront}
 
@@ -8,15 +9,11 @@ pub appends_then : (a b c : Option (List ℕ)) (x y : List ℕ) → Appends a b 
 appends_then None b c x y h g = tt
 appends_then (Some o) b c x y h g = let P : Option (List ℕ) → Type 0 = λ d. Appends d c y in subst P h g ∙ ap Some (append_assoc o x y)
 
-concat_snoc : (xs : List (List ℕ)) (y : List ℕ) → concat (xs ++ y ∷ []) ≡ concat xs ++ y
-concat_snoc [] y = append-nil y
-concat_snoc (x ∷ xs) y = ap (λ (t : List ℕ). x ++ t) (concat_snoc xs y) ∙ sym (append_assoc x (concat xs) y)
-
 -- one more piece
 pub concat_more : {X : Type 0} (f : X → List ℕ) (xs : List X) (i : ℕ) (x : X) → i < length xs → x ≡ get_or xs i x → concat (map f (take (i + 1) xs)) ≡ concat (map f (take i xs)) ++ f x
 concat_more {X = X} f xs i x h e =
-    ap (λ (l : List X). concat (map f l)) (take_more xs i x h) ∙ ap concat (map-append f (take i xs) (get_or xs i x ∷ [])) ∙ concat_snoc (map f (take i xs)) (f (get_or xs i x))
-    ∙ ap (λ (y : X). concat (map f (take i xs)) ++ f y) (sym e)
+    ap (λ (l : List X). concat (map f l)) (take_more xs i x h) ∙ ap concat (map-append f (take i xs) (get_or xs i x ∷ [])) ∙ concat-append (map f (take i xs)) (f (get_or xs i x) ∷ [])
+    ∙ ap (λ (t : List ℕ). concat (map f (take i xs)) ++ t) (append-nil (f (get_or xs i x))) ∙ ap (λ (y : X). concat (map f (take i xs)) ++ f y) (sym e)
 
 -- the whole text, from before a piece on
 concat_at : {X : Type 0} (f : X → List ℕ) (xs : List X) (i : ℕ) (x : X) → i < length xs → x ≡ get_or xs i x → concat (map f xs) ≡ concat (map f (take i xs)) ++ (f x ++ concat (map f (drop (suc i) xs)))
@@ -26,21 +23,12 @@ concat_at f (y ∷ xs) (suc i) x h e =
     let within : i < length xs = omega arith in
     ap (λ (l : List ℕ). f y ++ l) (concat_at f xs i x within e) ∙ sym (append_assoc (f y) (concat (map f (take i xs))) (f x ++ concat (map f (drop (suc i) xs))))
 
-take_front : (p q : List ℕ) → take (length p) (p ++ q) ≡ p
-take_front [] q = refl
-take_front (x ∷ p) q = ap (λ (l : List ℕ). x ∷ l) (take_front p q)
-
-parts : (n : ℕ) (y : List ℕ) → take n y ++ drop n y ≡ y
-parts zero y = refl
-parts (suc n) [] = refl
-parts (suc n) (x ∷ y) = ap (λ (l : List ℕ). x ∷ l) (parts n y)
-
 -- a front part of the middle is one of the whole
 front_of : (x y z : List ℕ) (n : ℕ) → take (length (x ++ take n y)) (x ++ (y ++ z)) ≡ x ++ take n y
 front_of x y z n =
     let whole : x ++ (y ++ z) ≡ (x ++ take n y) ++ (drop n y ++ z) =
-    ap (λ (l : List ℕ). x ++ (l ++ z)) (sym (parts n y)) ∙ ap (λ (l : List ℕ). x ++ l) (append_assoc (take n y) (drop n y) z) ∙ sym (append_assoc x (take n y) (drop n y ++ z)) in
-    ap (take (length (x ++ take n y))) whole ∙ take_front (x ++ take n y) (drop n y ++ z)
+    ap (λ (l : List ℕ). x ++ (l ++ z)) (sym (take-append-drop n y)) ∙ ap (λ (l : List ℕ). x ++ l) (append_assoc (take n y) (drop n y) z) ∙ sym (append_assoc x (take n y) (drop n y ++ z)) in
+    ap (take (length (x ++ take n y))) whole ∙ take_at (x ++ take n y) (drop n y ++ z) (length (x ++ take n y)) refl
 
 front_then : (a b c : Option (List ℕ)) (x y z : List ℕ) → Appends a b x → AppendsFront b c y → AppendsFront a c (x ++ (y ++ z))
 front_then None b c x y z h g = tt

@@ -1,10 +1,9 @@
 -- Texts and lists of lines made piece by piece.
 use Rattle.std.proofs.Common.{◌≡◌, ℕ, ◌+◌, ◌<◌, List, [], ◌∷◌, ◌++◌, map, length, take, drop, get_or, ◌-◌, ◌≤◌, arith, Result, Ok, Err, sym, ap, ◌∙◌, append_assoc}
-use Rattle.std.proofs.lemmas.List.{map-append, take_more, take_all, append-nil}
+use Rattle.std.proofs.lemmas.List.{map-append, take_more, take_all, flat_map_more, append-nil}
 use Rattle.std.specs.Prelude.{IfOk, OnOk}
 use Rattle.std.specs.Fmt.{decimal}
 use Rattle.std.specs.List.{flat_map, join_with_byte}
-use Rattle.std.proofs.lemmas.List.Concat.{flat_map-cons, flat_map-append}
 use Rattle.asp_model.specs.Outcome.{OutcomeShape, lists_in, counts_in}
 use Rattle.asp_model.specs.WellFormed.{IsWellFormed}
 use Rattle.asp_model.specs.Report.{name_text, report_lines, text_of}
@@ -18,8 +17,7 @@ pub mapped_more : {X Y : Type 0} (f : Y → List (List ℕ)) (s : X → Y) (xs :
 mapped_more {X = X} {Y = Y} f s xs i x h e =
     ap (λ (l : List X). flat_map f (map s l)) (take_more xs i x h)
     ∙ ap (λ (l : List Y). flat_map f l) (map-append s (take i xs) (get_or xs i x ∷ []))
-    ∙ flat_map-append f (map s (take i xs)) (s (get_or xs i x) ∷ [])
-    ∙ ap (λ (l : List (List ℕ)). flat_map f (map s (take i xs)) ++ l) (flat_map-cons f (s (get_or xs i x)) [] ∙ append-nil (f (s (get_or xs i x))))
+    ∙ sym (flat_map_more f [] (map s (take i xs)) (s (get_or xs i x)))
     ∙ ap (λ (y : X). flat_map f (map s (take i xs)) ++ f (s y)) (sym e)
 
 -- pieces with a byte between
