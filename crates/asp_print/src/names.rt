@@ -1,7 +1,7 @@
 //! The parts of nodes that hold no term.
 #![tactic(auto, using(crate::proofs::WritingLemmas::writing))]
 
-ghost use Rattle.std.specs.Prelude.{◌≡◌, ◌∷◌, [], ◌++◌, OnOk, map, replicate, string_bytes};
+ghost use Rattle.std.specs.Prelude.{◌∷◌, [], ◌++◌, OnOk, map, replicate};
 ghost use Rattle.asp_model.specs.Shapes.{sign_shape};
 ghost use Rattle.asp_syntax.specs.declared.token.Token.TheVariants as tokens;
 ghost use Rattle.asp_print.specs.Tokens.{access_tokens, between, head_tokens, led_by, service_tokens, sign_of, word_tokens};
