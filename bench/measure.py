@@ -254,8 +254,8 @@ def show_stores(_folder):
         words = [["pack", shape, str(size)] for size in (500_000, 1_000_000)]
         show(f"packing and unpacking a {shape}", *words, turns=3, most=2.5, program=TIMING)
     show_part()
-    for name, places, large in (("many futures", "many", 200_000), ("one future at many places", "one", 100_000)):
-        words = [["futures", places, str(size)] for size in (large // 2, large)]
+    for name, places in (("many futures", "many"), ("one future at many places", "one")):
+        words = [["futures", places, str(size)] for size in (100_000, 200_000)]
         show(name, *words, turns=5, most=2.5, program=TIMING)
     show_cells()
 

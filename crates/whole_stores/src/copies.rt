@@ -1,8 +1,8 @@
 //! What is packed from a store, and what a parcel leaves in another.
 
 use crate::closed::{packed, unpacked, unpacked_at};
-use crate::given::Given::{Future, Number, Object, Reference};
-use crate::given::{Given, future, is_parcel, is_store, parcel, store};
+use crate::given::Given::{Future, Group, Number, Object, Reference};
+use crate::given::{Given, are_holders, future, is_parcel, is_store, parcel, store};
 use asp_model::Place;
 use std::test::Fail;
 
@@ -15,7 +15,7 @@ struct Packing {
     packed: &'static [Place],
 }
 
-static PACKINGS: [Packing; 12] = [
+static PACKINGS: [Packing; 17] = [
     // one object shared by two fields
     Packing {
         store: &[
@@ -136,6 +136,53 @@ static PACKINGS: [Packing; 12] = [
         ],
         packed: &[0],
     },
+    // a group in whose order its members come, one of them twice
+    Packing {
+        store: &[
+            Number(1),
+            Object(&[("l", 0)], &[]),
+            Future(3),
+            Future(4),
+            Group(&[3, 1, 3, 2]),
+        ],
+        roots: &[4],
+        cells: &[
+            Group(&[1, 2, 1, 4]),
+            Future(4),
+            Object(&[("l", 3)], &[]),
+            Number(1),
+            Future(3),
+        ],
+        packed: &[0],
+    },
+    // a group, a future of it that is a root too, and the group again
+    Packing {
+        store: &[Future(3), Future(3), Group(&[0, 1])],
+        roots: &[1, 2, 1, 2],
+        cells: &[Future(3), Group(&[2, 0]), Future(3)],
+        packed: &[0, 1, 0, 1],
+    },
+    // a group with no members
+    Packing {
+        store: &[Number(7), Group(&[])],
+        roots: &[1],
+        cells: &[Group(&[])],
+        packed: &[0],
+    },
+    // a group that contains itself
+    Packing {
+        store: &[Future(3), Group(&[1, 0, 1])],
+        roots: &[1],
+        cells: &[Group(&[0, 1, 0]), Future(3)],
+        packed: &[0],
+    },
+    // a group of an object that holds the group
+    Packing {
+        store: &[Object(&[("g", 1)], &[2, 1]), Group(&[0, 2]), Future(3)],
+        roots: &[1],
+        cells: &[Group(&[1, 2]), Object(&[("g", 0)], &[2, 0]), Future(3)],
+        packed: &[0],
+    },
 ];
 
 #[test]
@@ -166,7 +213,7 @@ struct Landing {
     holds: &'static [Place],
 }
 
-static LANDINGS: [Landing; 5] = [
+static LANDINGS: [Landing; 8] = [
     Landing {
         store: &[Future(1), Object(&[("a", 0)], &[])],
         at: 0,
@@ -224,6 +271,38 @@ static LANDINGS: [Landing; 5] = [
         held: &[1],
         holds: &[1, 2],
     },
+    // the value is a group, with the future and itself in it
+    Landing {
+        store: &[Future(1), Object(&[("a", 0)], &[])],
+        at: 0,
+        parcel: &[Group(&[1, 2, 1, 0]), Future(1), Number(5)],
+        left: &[
+            Group(&[2, 3, 2, 0]),
+            Object(&[("a", 0)], &[]),
+            Future(1),
+            Number(5),
+        ],
+        held: &[0],
+        holds: &[2],
+    },
+    // a future that is two members of a group is filled, and one in another place stays
+    Landing {
+        store: &[Group(&[1, 2, 1]), Future(1), Future(1)],
+        at: 1,
+        parcel: &[Number(4)],
+        left: &[Group(&[1, 2, 1]), Number(4), Future(1)],
+        held: &[1, 2],
+        holds: &[2],
+    },
+    // a group is put in the place of a member of a group
+    Landing {
+        store: &[Future(1), Group(&[0, 0])],
+        at: 0,
+        parcel: &[Group(&[])],
+        left: &[Group(&[]), Group(&[0, 0])],
+        held: &[0],
+        holds: &[],
+    },
 ];
 
 #[test]
@@ -232,11 +311,11 @@ fn a_value_lands_at_its_place(rt: HostRuntime) -> Result<(), Fail> {
     let first = future(alloc, 1)?;
     for (row, case) in LANDINGS.iter().enumerate() {
         let mut to = store(alloc, case.store)?;
-        assert_eq!(rt; to.holders_of(&first), case.held, "row {row}");
+        assert!(rt; are_holders(to.holders_of(&first), case.held), "row {row}");
         let value = parcel(alloc, case.parcel, &[0])?;
         unpacked_at(&rt, alloc, &mut to, case.at, &value)?;
         assert!(rt; is_store(&to, case.left), "row {row}");
-        assert_eq!(rt; to.holders_of(&first), case.holds, "row {row}");
+        assert!(rt; are_holders(to.holders_of(&first), case.holds), "row {row}");
     }
     Ok(())
 }

@@ -3,6 +3,7 @@
 use asp_model::{ActivityName, Cell, FutureName, Label, Method, Object, Parcel, Place, Term, Word};
 use object_store::Store;
 use std::alloc::{AllocError, Global};
+use std::collections::BTreeSet;
 use substitution::blank_mark;
 
 /// A cell as a test states it.
@@ -15,6 +16,8 @@ pub enum Given<'a> {
     Reference(&'a [u32]),
     /// The future of the main activity's request of this number.
     Future(u32),
+    /// A group of these members.
+    Group(&'a [Place]),
 }
 
 pub fn label(alloc: Global, text: &str) -> Result<Label, AllocError> {
@@ -83,6 +86,7 @@ pub fn cell(alloc: Global, given: &Given) -> Result<Cell, AllocError> {
             Ok(Cell::Reference(ActivityName::of_path(path.to_vec(alloc)?)))
         }
         Given::Future(index) => Ok(Cell::Future(future(alloc, *index)?)),
+        Given::Group(members) => Ok(Cell::Group(members.to_vec(alloc)?)),
     }
 }
 
@@ -155,6 +159,7 @@ pub fn is_cell(cell: &Cell, given: &Given) -> bool {
         (Cell::Future(future), Given::Future(index)) => {
             future.index == *index && future.by.path() == [0].as_slice()
         }
+        (Cell::Group(members), Given::Group(wanted)) => members.as_slice() == *wanted,
         _ => false,
     }
 }
@@ -170,6 +175,11 @@ pub fn is_store(store: &Store, given: &[Given]) -> bool {
         }
     }
     true
+}
+
+/// The places that hold a future are the stated ones, in this order.
+pub fn are_holders(holders: &BTreeSet<Place>, places: &[Place]) -> bool {
+    holders.iter().eq(places.iter())
 }
 
 /// The cells and roots are the stated ones.

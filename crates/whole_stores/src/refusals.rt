@@ -3,13 +3,14 @@
 //! of futures as they were, and is made when it is asked for again.
 
 use crate::closed::{is_closed_parcel, is_closed_store};
-use crate::given::Given::{Future, Number, Object, Reference};
+use crate::given::Given::{Future, Group, Number, Object, Reference};
 use crate::given::{Given, cell, cells, future, is_parcel, is_store, parcel, store};
 use Change::{Add, AddFuture, Append, Graft, Pack, Replace, Reserve, Unpack, UnpackAt};
 use asp_model::{FutureName, Place};
 use deep_copy::{pack, unpack, unpack_at};
 use object_store::Store;
 use std::alloc::{AllocError, Global};
+use std::collections::BTreeSet;
 use std::process::Abort;
 
 /// What is asked of a store.
@@ -34,22 +35,24 @@ const OBJECT: Given = Object(&[("a", 0), ("b", 2)], &[1, 0]);
 
 const MAIN: Given = Reference(&[0]);
 
-const BEFORE: &[Given] = &[ONE, OBJECT, MAIN, TWO];
+const GROUP: Given = Group(&[3, 0]);
+
+const BEFORE: &[Given] = &[ONE, OBJECT, MAIN, TWO, GROUP];
 
 const TAKEN: Given = Object(&[("f", 0)], &[3]);
 
 const ADDED: &[Given] = &[TAKEN, ONE, TWO];
 
-const VALUE: &[Given] = &[Object(&[("f", 1)], &[0, 2]), ONE, Number(5)];
+const VALUE: &[Given] = &[Object(&[("f", 1)], &[0, 2]), ONE, Group(&[1, 0])];
 
 // What each change leaves.
 static CHANGES: [(Change, &[Given]); 9] = [
-    (Add, &[ONE, OBJECT, MAIN, TWO, Number(7)]),
-    (AddFuture, &[ONE, OBJECT, MAIN, TWO, Future(1)]),
+    (Add, &[ONE, OBJECT, MAIN, TWO, GROUP, Number(7)]),
+    (AddFuture, &[ONE, OBJECT, MAIN, TWO, GROUP, Future(1)]),
     (Reserve, BEFORE),
-    (Replace, &[Future(2), OBJECT, MAIN, TWO]),
-    (Append, &[ONE, OBJECT, MAIN, TWO, TAKEN, ONE, TWO]),
-    (Graft, &[TAKEN, OBJECT, MAIN, TWO, ONE, TWO]),
+    (Replace, &[Future(2), OBJECT, MAIN, TWO, GROUP]),
+    (Append, &[ONE, OBJECT, MAIN, TWO, GROUP, TAKEN, ONE, TWO]),
+    (Graft, &[TAKEN, OBJECT, MAIN, TWO, GROUP, ONE, TWO]),
     (Pack, BEFORE),
     (
         Unpack,
@@ -58,20 +61,22 @@ static CHANGES: [(Change, &[Given]); 9] = [
             OBJECT,
             MAIN,
             TWO,
-            Object(&[("f", 5)], &[4, 6]),
+            GROUP,
+            Object(&[("f", 6)], &[5, 7]),
             Future(1),
-            Number(5),
+            Group(&[6, 5]),
         ],
     ),
     (
         UnpackAt,
         &[
-            Object(&[("f", 4)], &[0, 5]),
+            Object(&[("f", 5)], &[0, 6]),
             OBJECT,
             MAIN,
             TWO,
+            GROUP,
             Future(1),
-            Number(5),
+            Group(&[5, 0]),
         ],
     ),
 ];
@@ -108,10 +113,16 @@ fn ask(
 }
 
 fn packs(rt: &impl Abort, alloc: Global, store: &Store) -> Result<(), AllocError> {
-    let roots: [Place; 3] = [1, 3, 1];
+    let roots: [Place; 3] = [1, 4, 1];
     assert!(rt; is_closed_store(alloc, store, &roots)?);
     let parcel = pack(alloc, store, &roots)?;
-    let wanted = [Object(&[("a", 1), ("b", 2)], &[0, 1]), ONE, MAIN, TWO];
+    let wanted = [
+        Object(&[("a", 1), ("b", 2)], &[0, 1]),
+        ONE,
+        MAIN,
+        Group(&[4, 1]),
+        TWO,
+    ];
     assert!(rt; is_parcel(&parcel, &wanted, &[0, 3, 0]));
     Ok(())
 }
@@ -136,7 +147,7 @@ fn unpacks(
 }
 
 // The places are those of the future 1 among these cells.
-fn are_holders(places: &[Place], given: &[Given]) -> bool {
+fn are_places_of_one(places: &BTreeSet<Place>, given: &[Given]) -> bool {
     let mut count = 0;
     for (place, one) in given.iter().enumerate() {
         if let Future(1) = one {
@@ -161,7 +172,7 @@ fn is_refused(
     let refused = ask(rt, alloc, store, change).is_err();
     let left = if refused { BEFORE } else { after };
     assert!(rt; is_store(store, left));
-    assert!(rt; are_holders(store.holders_of(first), left));
+    assert!(rt; are_places_of_one(store.holders_of(first), left));
     assert!(rt; is_closed_store(alloc, store, &[]).unwrap_or(true));
     refused
 }

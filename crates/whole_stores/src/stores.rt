@@ -5,8 +5,8 @@ ghost use Rattle.asp_model.specs.Store.{cell as cell_at};
 ghost use Rattle.object_store.specs.View.{IsObject, store_of};
 
 use crate::closed::{is_closed_store, unpacked};
-use crate::given::Given::{Future, Number, Object};
-use crate::given::{Given, cell, cells, future, is_store, label, parcel, store};
+use crate::given::Given::{Future, Group, Number, Object};
+use crate::given::{Given, are_holders, cell, cells, future, is_store, label, parcel, store};
 use asp_model::{Cell, Place};
 use object_store::Store;
 use std::alloc::{AllocError, Global};
@@ -51,7 +51,7 @@ fn is_object(store: &Store, place: Place) -> bool
 {
     match store.cell(place) {
         Cell::Object(_) => true,
-        Cell::Number(_) | Cell::Reference(_) | Cell::Future(_) => false,
+        Cell::Number(_) | Cell::Reference(_) | Cell::Future(_) | Cell::Group(_) => false,
     }
 }
 
@@ -107,7 +107,7 @@ fn grafts(
     assert_eq!(rt; store.graft(Some(1), added)?, 3);
     assert!(rt; is_store(&store, left));
     assert!(rt; is_closed_store(alloc, &store, &[])?);
-    assert_eq!(rt; store.holders_of(&future(alloc, 1)?), holders);
+    assert!(rt; are_holders(store.holders_of(&future(alloc, 1)?), holders));
     Ok(())
 }
 
@@ -141,5 +141,37 @@ fn the_first_of_some_cells_takes_a_place(rt: HostRuntime) -> Result<(), Fail> {
         &[Future(1), Number(6), Future(2)],
         &[0],
     )?;
+    // a group of itself, of what was there and of what comes with it
+    grafts(
+        &rt,
+        alloc,
+        &[Group(&[1, 0, 3, 0]), Future(1)],
+        &[Future(1), Group(&[1, 0, 3, 0]), Future(2), Future(1)],
+        &[0, 3],
+    )?;
+    Ok(())
+}
+
+#[test]
+fn the_holders_follow_each_replacement(rt: HostRuntime) -> Result<(), Fail> {
+    let alloc = rt.alloc();
+    let first = future(alloc, 1)?;
+    let mut group = store(alloc, &[Group(&[1, 2, 1]), Future(1), Future(1)])?;
+    // a cell for a place, and where the future 1 then stands
+    let steps: [(Place, Given, &[Place]); 7] = [
+        (1, Number(4), &[2]),
+        (2, Future(2), &[]),
+        (1, Future(1), &[1]),
+        (2, Future(1), &[1, 2]),
+        (2, Future(1), &[1, 2]),
+        (0, Future(1), &[0, 1, 2]),
+        (1, Group(&[0, 1]), &[0, 2]),
+    ];
+    for (place, given, holders) in steps {
+        assert!(rt; place < group.len());
+        group.replace(place, cell(alloc, &given)?)?;
+        assert!(rt; are_holders(group.holders_of(&first), holders));
+    }
+    assert!(rt; is_store(&group, &[Future(1), Group(&[0, 1]), Future(1)]));
     Ok(())
 }
