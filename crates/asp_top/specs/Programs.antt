@@ -30,18 +30,18 @@ pub record IsProgramOf (bytes : List ℕ) (program : Marked) : Type 0 where
   pub checked : IsChecked program
 
 -- some bytes of which this holds are the program
-pub record IsAmong (IsOne : List ℕ → Type 0) (program : Marked) : Type 0 where
+pub record IsProgramAmong (IsOne : List ℕ → Type 0) (program : Marked) : Type 0 where
   pub bytes : List ℕ
   pub text : IsOne bytes
   pub is : IsProgramOf bytes program
 
 -- the program in the file of this name
 abbrev pub IsInFile : Outside → List ℕ → Marked → Type 0
-IsInFile o name program = IsAmong (IsFile o name (2 ^ 20)) program
+IsInFile o name program = IsProgramAmong (IsFile o name (2 ^ 20)) program
 
 -- the program that a task asks for
 abbrev pub HasProgram : Outside → TaskShape → Marked → Type 0
-HasProgram o task program = IsAmong (IsText o task) program
+HasProgram o task program = IsProgramAmong (IsText o task) program
 
 -- the file of this name, at most 2^24 bytes, is a report with these sender lists and counts
 pub record HasReport (o : Outside) (name : List ℕ) (lists : ListsShape) (counts : CountsShape) : Type 0 where
