@@ -54,13 +54,13 @@ abbrev pub walk_by : Lead → (FutureShape → Option Chase) → FutureShape →
 walk_by l next f = elim l [ Ends p ↦ Some (Value f p) | Goes g ↦ next g | Misses ↦ Some (Unfilled f) ]
 
 -- what an end of a walk needs, to stay one
-abbrev StaysEnd : Values → Chase → Type 0
+abbrev pub StaysEnd : Values → Chase → Type 0
 StaysEnd ws (Value f p) = Unit {0}
 StaysEnd ws (Unfilled f) = find future_cmp f ws ≡ None
 StaysEnd ws (Cycle f) = Unit {0}
 
 -- an end of a walk stays its end, unless it was unfilled and is filled
-end_kept : (vs ws : Values) → MoreFilled vs ws → (n m : ℕ) → n ≤ m → (f : FutureShape) (y : Chase) → StaysEnd ws y → walk_end n vs f ≡ Some y → walk_end m ws f ≡ Some y
+pub end_kept : (vs ws : Values) → MoreFilled vs ws → (n m : ℕ) → n ≤ m → (f : FutureShape) (y : Chase) → StaysEnd ws y → walk_end n vs f ≡ Some y → walk_end m ws f ≡ Some y
 end_kept vs ws more zero m le f y stays h = no_some h
 end_kept vs ws more (suc n) zero le f y stays h = absurd (omega (arith, le))
 end_kept vs ws more (suc n) (suc m) le f y stays h = elim (lead vs f) as (λ l. lead vs f ≡ l → walk_by l (walk_end n vs) f ≡ Some y → walk_by (lead ws f) (walk_end m ws) f ≡ Some y) [
@@ -111,7 +111,7 @@ keys_filled : (vs : Values) → AllFilled vs (map (λ v. v.0) vs)
 keys_filled [] = tt
 keys_filled (v ∷ vs) = (ap (λ b. is_some (cond b (Some v.1) (find future_cmp v.0 vs))) (future_itself v.0), all_before v vs (map (λ u. u.0) vs) (keys_filled vs))
 
-walk_filled : (vs : Values) (n : ℕ) (f : FutureShape) → walk_end (suc n) vs f ≡ None → IsFilled vs f
+pub walk_filled : (vs : Values) (n : ℕ) (f : FutureShape) → walk_end (suc n) vs f ≡ None → IsFilled vs f
 walk_filled vs n f h = elim (find future_cmp f vs) as (λ o. walk_by (lead_of o) (walk_end n vs) f ≡ None → is_some o ≡ true) [ None ↦ λ h. no_some (sym h) | Some p ↦ λ h. refl ] h
 
 -- a cycle is named by a filled future

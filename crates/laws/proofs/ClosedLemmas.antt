@@ -59,7 +59,7 @@ abbrev pub ReadsClosed : (FutureShape → Chase) → Type 0
 ReadsClosed chases = (f y : FutureShape) (p : ParcelShape) → chases f ≡ Value y p → IsClosedParcel p
 
 -- the store that is read is closed, and no shorter than n
-abbrev IsReadFrom : ℕ → Ready → Type 0
+abbrev pub IsReadFrom : ℕ → Ready → Type 0
 IsReadFrom n (Reads t) = IsClosedStore t × (n ≤ length t)
 IsReadFrom n (Lacks f) = Unit {0}
 
@@ -88,7 +88,7 @@ module _ (chases : FutureShape → Chase) (read : ReadsClosed chases) where
   operands_closed [] s a h = (h, omega arith)
   operands_closed (n ∷ ns) s a h = then_closed (length s) (λ t. operands_ready chases t ns) (λ t k le. operands_closed ns t (below_more (length s) (length t) le ns a.1) k) (operand_ready chases s n (cell s n)) (operand_closed s n (cell s n) a.0 h)
 
-  redex_closed : (s : Store) (r : Redex) → AreBelow (length s) r.places → IsClosedStore s → IsReadFrom (length s) (redex_ready chases s r)
+  pub redex_closed : (s : Store) (r : Redex) → AreBelow (length s) r.places → IsClosedStore s → IsReadFrom (length s) (redex_ready chases s r)
   redex_closed s r a h = then_closed (length s) (λ t. operands_ready chases t (strict_members t r.head r.places)) (λ t k le. operands_closed (strict_members t r.head r.places) t (waited_below t r.head r.places k) k) (operands_ready chases s (strict_operands r.head r.places)) (operands_closed (strict_operands r.head r.places) s (operands_below (length s) r.head r.places a) h)
 
 -- Effects
@@ -106,7 +106,7 @@ ClosedPlan (Rests status) = Unit {0}
 contexts_more : (j k : ℕ) → j ≤ k → (cs : List Context) → ContextsBelow j cs → ContextsBelow k cs
 contexts_more j k le = each_weaker (λ x. AreBelow j (places_round x)) (λ x. AreBelow k (places_round x)) (λ x. below_more j k le (places_round x))
 
-services_more : (j k : ℕ) → j ≤ k → (vs : List ServiceShape) → Each (λ v. ContextsBelow j v.contexts) vs → Each (λ v. ContextsBelow k v.contexts) vs
+pub services_more : (j k : ℕ) → j ≤ k → (vs : List ServiceShape) → Each (λ v. ContextsBelow j v.contexts) vs → Each (λ v. ContextsBelow k v.contexts) vs
 services_more j k le = each_weaker (λ v. ContextsBelow j v.contexts) (λ v. ContextsBelow k v.contexts) (λ v. contexts_more j k le v.contexts)
 
 alone_closed : (a : Activity) → IsClosedActivity a → IsClosedEffect (record { own = a; sent = None; made = None; filled = None })
@@ -121,7 +121,7 @@ going_on a contexts t s h k le round g b term store services active = record {
   active = subst (λ u. b.active < length u) (sym store) (omega (arith, h.active, le, active));
 }
 
-first_root : (p : ParcelShape) → IsClosedValue p → 0 < length p.cells
+pub first_root : (p : ParcelShape) → IsClosedValue p → 0 < length p.cells
 first_root p h = let x : AreBelow (length p.cells) (0 ∷ []) = subst (AreBelow (length p.cells)) h.root h.closed.roots in x.0
 
 start_below : (k : ℕ) (service : Option Text) → 0 < k → AreBelow k (locations (start_term service 0))

@@ -12,7 +12,7 @@ use Rattle.laws.proofs.NameLemmas.{no_some, some_is, none_true, true_false, futu
 use Rattle.laws.proofs.ChaseLemmas.{MoreFilled, IsFilled, awaited, walk_by, is_miss, lead_kept, IsEnd, is_end, cycle_filled, chase_by}
 
 -- the values of other futures
-abbrev others : FutureShape → Values → Values
+abbrev pub others : FutureShape → Values → Values
 others f vs = where_key future_cmp (λ g. not (same_future f g)) vs
 
 same_test : (f q x : FutureShape) → future_cmp q x ≡ Equal → not (same_future f x) ≡ not (same_future f q)
@@ -22,17 +22,17 @@ find_others : (f g : FutureShape) (vs : Values) → find future_cmp g (others f 
 find_others f g vs = find-where_key future_cmp (λ k. not (same_future f k)) g (same_test f g) vs
 
 -- leads of the others stay, and f has none
-lead_other : (f g : FutureShape) (vs : Values) → g ≢ f → lead (others f vs) g ≡ lead vs g
+pub lead_other : (f g : FutureShape) (vs : Values) → g ≢ f → lead (others f vs) g ≡ lead vs g
 lead_other f g vs apart = ap lead_of (find_others f g vs ∙ ap (λ b. cond (not b) (find future_cmp g vs) None) (futures_apart f g (λ e. apart (sym e))))
 
-lead_gone : (f : FutureShape) (vs : Values) → lead (others f vs) f ≡ Misses
+pub lead_gone : (f : FutureShape) (vs : Values) → lead (others f vs) f ≡ Misses
 lead_gone f vs = ap lead_of (find_others f f vs ∙ ap (λ b. cond (not b) (find future_cmp f vs) None) (future_itself f))
 
-fewer : (f : FutureShape) (vs : Values) → T (is_sorted future_cmp vs) → IsFilled vs f → suc (length (others f vs)) ≡ length vs
+pub fewer : (f : FutureShape) (vs : Values) → T (is_sorted future_cmp vs) → IsFilled vs f → suc (length (others f vs)) ≡ length vs
 fewer f vs sorted filled = let e : cond true 1 0 + length (others f vs) ≡ length vs = subst (λ b. cond b 1 0 + length (others f vs) ≡ length vs) filled (length_without future_cmp future_total f vs sorted) in omega (arith, e)
 
 module _ (f : FutureShape) (vs : Values) where
-  abbrev Others : Values
+  abbrev pub Others : Values
   Others = others f vs
 
   -- a walk that ends also ends among the others, or comes to f
@@ -50,7 +50,7 @@ module _ (f : FutureShape) (vs : Values) where
       (future_case g f)
 
   -- a walk among the others that does not end at f is one of all
-  ends_in_all : (n : ℕ) (g : FutureShape) (y : Chase) → y ≢ Unfilled f → walk_end n Others g ≡ Some y → walk_end n vs g ≡ Some y
+  pub ends_in_all : (n : ℕ) (g : FutureShape) (y : Chase) → y ≢ Unfilled f → walk_end n Others g ≡ Some y → walk_end n vs g ≡ Some y
   ends_in_all zero g y not h = no_some h
   ends_in_all (suc n) g y not h = ⊎_elim
       (λ same. absurd (not (some_is (sym h ∙ ap (λ l. walk_by l (walk_end n Others) g) (ap (lead Others) same ∙ lead_gone f vs) ∙ ap (λ k. Some (Unfilled k)) same))))
@@ -83,7 +83,7 @@ module _ (f : FutureShape) (vs : Values) where
       no_end g j goes back b x.0 (omega (arith, x.1, le)) y x.2
 
 -- it went to a filled future
-went_filled : (vs : Values) (f g : FutureShape) (o : Option ParcelShape) → lead_of o ≡ Goes g → is_some o ≡ true
+pub went_filled : (vs : Values) (f g : FutureShape) (o : Option ParcelShape) → lead_of o ≡ Goes g → is_some o ≡ true
 went_filled vs f g None h = none_true (sym (ap is_miss h))
 went_filled vs f g (Some p) h = refl
 
@@ -113,11 +113,11 @@ ends_soon (suc b) vs le sorted (suc n) f y h = elim (lead vs f) as (λ l. lead v
 ] refl h
 
 -- a walk that has not ended by then has not ended in any number of steps
-never_ends : (vs : Values) → T (is_sorted future_cmp vs) → (f : FutureShape) → walk_end (suc (length vs)) vs f ≡ None → (n : ℕ) → walk_end n vs f ≡ None
+pub never_ends : (vs : Values) → T (is_sorted future_cmp vs) → (f : FutureShape) → walk_end (suc (length vs)) vs f ≡ None → (n : ℕ) → walk_end n vs f ≡ None
 never_ends vs sorted f none n = elim (walk_end n vs f) as (λ o. walk_end n vs f ≡ o → o ≡ None) [ None ↦ λ is. refl | Some y ↦ λ is. no_some (sym none ∙ ends_soon (length vs) vs (omega arith) sorted n f y is) ] refl
 
 -- and so where more are filled
-goes_on : (vs ws : Values) → MoreFilled vs ws → (n : ℕ) (f : FutureShape) → walk_end n vs f ≡ None → walk_end n ws f ≡ None
+pub goes_on : (vs ws : Values) → MoreFilled vs ws → (n : ℕ) (f : FutureShape) → walk_end n vs f ≡ None → walk_end n ws f ≡ None
 goes_on vs ws more zero f h = refl
 goes_on vs ws more (suc n) f h = elim (lead vs f) as (λ l. lead vs f ≡ l → walk_by l (walk_end n vs) f ≡ None → walk_by (lead ws f) (walk_end n ws) f ≡ None) [
   | Ends p ↦ λ is h. no_some (sym h)

@@ -35,7 +35,7 @@ below_mapped : {X : Type 0} (g : Name × Activity → X) (k : Name) (es : List (
 below_mapped g k [] h = tt
 below_mapped g k (e ∷ es) h = both_of _ _ (first_of_both _ _ h) (below_mapped g k es (second_of_both _ _ h))
 
-sorted_mapped : {X : Type 0} (g : Name × Activity → X) (es : List (Name × Activity)) → T (is_sorted name_cmp es) → T (is_sorted name_cmp (map (λ x. (x.0, g x)) es))
+pub sorted_mapped : {X : Type 0} (g : Name × Activity → X) (es : List (Name × Activity)) → T (is_sorted name_cmp es) → T (is_sorted name_cmp (map (λ x. (x.0, g x)) es))
 sorted_mapped g [] h = tt
 sorted_mapped g (e ∷ es) h = both_of _ _ (below_mapped g e.0 es (first_of_both _ _ h)) (sorted_mapped g es (second_of_both _ _ h))
 

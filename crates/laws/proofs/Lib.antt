@@ -14,6 +14,7 @@ pub mod StartLemmas
 pub mod ExactLemmas
 pub mod TidyLemmas
 pub mod CommuteLemmas
+pub mod DeliveryLemmas
 pub mod ReachedLemmas
 pub mod FrameLemmas
 pub mod WakeLemmas

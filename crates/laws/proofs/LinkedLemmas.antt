@@ -1,27 +1,27 @@
 -- Each reference leads to an activity that is there, and each future in a cell was begun.
-use Rattle.std.specs.Prelude.{◌≡◌, ℕ, suc, ◌≤◌, ◌&&◌, ◌||◌, Bool, true, false, List, [], ◌∷◌, Option, Some, None, is_some, map, slice_get}
+use Rattle.std.specs.Prelude.{◌≡◌, ℕ, suc, ◌≤◌, ◌&&◌, ◌||◌, Bool, true, false, List, [], ◌∷◌, Option, Some, None, is_some, map, slice_get, length}
 use Rattle.std.specs.List.{list_any}
 use Rattle.std.proofs.Common.{refl, sym, ap, subst, ◌∙◌, arith, inl, inr, ⊎_elim, ◌⊎◌}
 use Rattle.std.proofs.lemmas.Bool.{or_right}
 use Rattle.std.specs.FinMap.{find, put}
 use Rattle.asp_model.specs.Names.{Name, FutureShape, name_cmp, future_cmp, main_name}
 use Rattle.asp_model.specs.Term.{Tree}
-use Rattle.asp_model.specs.Store.{CellShape, Number, Object, Reference, Future, Group, cell}
-use Rattle.asp_model.specs.Parcel.{ParcelShape}
+use Rattle.asp_model.specs.Store.{CellShape, Number, Object, Reference, Future, Group, cell, Store, moved_cell}
+use Rattle.asp_model.specs.Parcel.{ParcelShape, place_at, unpack_at}
 use Rattle.asp_model.specs.Chase.{Lead, Ends, Goes, lead_of, lead_by, chase}
 use Rattle.asp_model.specs.Configuration.{RequestShape, Activity, Configuration, requests_of, start}
 use Rattle.asp_model.specs.Plan.{StatusShape, Awaits, Running, Done, Serving, Faulted, Plan, Acts, Rests, Effect, plan}
 use Rattle.asp_model.specs.Step.{ListsShape, plan_in, put_some, with_effect, may_send, step}
 use Rattle.asp_model.specs.Status.{status_of_plan, status_of, is_running, IsStuck}
-use Rattle.laws.specs.Reached.{IsReached, IsThere, Move, Steps, Makes}
+use Rattle.laws.specs.Reached.{IsReached, IsThere, Move, Steps, Makes, Edges, Needs}
 use Rattle.laws.specs.Kept.{IsBegun, sends_of}
-use Rattle.laws.specs.Linked.{Each, IsKnown, IsLinked, CellsAreLinked, TargetsAreThere, AwaitedAreBegun, PlansStep, StuckIsStill}
+use Rattle.laws.specs.Linked.{Each, IsKnown, IsLinked, CellsAreLinked, TargetsAreThere, AwaitedAreBegun, PlansStep, StuckIsStill, AreKnown}
 use Rattle.runs.specs.Systems.{Leads}
 use Rattle.laws.proofs.NameLemmas.{name_total, name_same, future_total, future_same, name_case, future_case, no_some, some_is, none_true, is_there}
 use Rattle.laws.proofs.MapLemmas as Maps
 use Rattle.laws.proofs.StepLemmas.{step_taken, takes_step}
 use Rattle.laws.proofs.EachLemmas.{each_weaker}
-use Rattle.laws.proofs.ContractionLemmas.{IsOfNames, of_cell}
+use Rattle.laws.proofs.ContractionLemmas.{IsOfNames, of_cell, all_placed, all_moved}
 use Rattle.laws.proofs.ChaseLemmas.{KeepsLeads, chase_finds, chase_awaits}
 use Rattle.laws.proofs.FactLemmas.{acts_facts}
 use Rattle.laws.proofs.SoundLemmas.{Took, at_name, came, own_after}
@@ -33,6 +33,8 @@ use Rattle.laws.proofs.WakeLemmas.{none_rests_running}
 use Rattle.laws.proofs.NamesLaws.{sends_at, filled_begun}
 use Rattle.laws.proofs.EntryLemmas.{In, found_entry}
 use Rattle.laws.proofs.CleanLemmas.{AllRead, AllLacked, AllSent, Aims, plan_aims, NamesOf, Clean, plan_clean}
+use Rattle.laws.specs.Deliveries.{with_store, holders_from, unpack_each}
+use Rattle.laws.proofs.DeliveryLemmas.{same_there, same_face, found_delivered}
 
 knows_names : (c : Configuration) → IsOfNames (IsKnown c)
 knows_names c = record { number = λ z. tt; object = λ fields methods. tt; group = λ ns. tt }
@@ -162,8 +164,32 @@ linked_start program = record {
 step_linked : (lists : Option ListsShape) (n : Name) (c d : Configuration) → step lists c n ≡ Some d → Right c → IsLinked c → IsLinked d
 step_linked lists n c d h r l = let x = step_taken lists c n d h in subst IsLinked x.2 (linked_after c n x.0 r (took lists c n x.0 r.sound x.1) l x.1.plans)
 
+-- an activity over another store, in which all that stands is known
+store_linked : (c : Configuration) (n : Name) (a : Activity) (t : Store) (d : Configuration) → find name_cmp n c.activities ≡ Some a → d ≡ with_store c n a t → IsLinked c → AreKnown c t → IsLinked d
+store_linked c n a t d at is l known = subst IsLinked (sym is) (
+    let to : (cs : List CellShape) → AreKnown c cs → AreKnown (with_store c n a t) cs = each_weaker (IsKnown c) (IsKnown (with_store c n a t)) known_still in
+    record {
+      stores = λ m b h. to b.store (found_delivered c n a t at (λ x. AreKnown c x.store) known (λ k x is. l.stores k x is) m b h);
+      arguments = λ m k r st. to r.arguments.cells (l.arguments m k r st);
+      values = λ f p h. to p.cells (l.values f p h);
+    })
+  where
+    known_still : (x : CellShape) → IsKnown c x → IsKnown (with_store c n a t) x
+    known_still (Number z) h = tt
+    known_still (Object fields methods) h = tt
+    known_still (Reference m) h = same_there c n a t at m ∙ h
+    known_still (Future f) h = (h.0, omega (arith, h.1, sends_at c f.by, sends_at (with_store c n a t) f.by, ap (λ x. x.sends) (same_face c n a t at f.by)))
+    known_still (Group ns) h = tt
+
+-- what holds of all cells holds of them after a value was unpacked at places
+all_unpacked : (P : CellShape → Type 0) → IsOfNames P → (ns : List ℕ) (s : Store) (p : ParcelShape) → Each P s → Each P p.cells → Each P (unpack_each s ns p)
+all_unpacked P o [] s p h k = h
+all_unpacked P o (n ∷ ns) s p h k = all_unpacked P o ns (unpack_at s n p) p (all_placed P s n (map (moved_cell (place_at (length s) n)) p.cells) h (all_moved P o (place_at (length s) n) p.cells k)) k
+
 move_linked : (move : Move) (c d : Configuration) → Makes move c d → Right c → IsLinked c → IsLinked d
 move_linked (Steps lists n) c d h r l = step_linked lists n c d h r l
+move_linked (Edges f to) c d h r l = store_linked c to h.receiver _ d h.at h.result l (all_unpacked (IsKnown c) (knows_names c) (holders_from 0 f h.receiver.store) h.receiver.store h.value (l.stores to h.receiver h.at) (l.values f h.value h.filled))
+move_linked (Needs f to place) c d h r l = store_linked c to h.receiver _ d h.at h.result l (all_unpacked (IsKnown c) (knows_names c) (place ∷ []) h.receiver.store h.value (l.stores to h.receiver h.at) (l.values f h.value (chase_finds c.futures h.held f h.value h.chased).0))
 
 moves_linked : (moves : List Move) (c d : Configuration) → Leads Makes c moves d → Right c → IsLinked c → IsLinked d
 moves_linked [] c d h r l = subst IsLinked h l

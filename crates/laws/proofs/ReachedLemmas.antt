@@ -6,13 +6,19 @@ use Rattle.asp_model.specs.Names.{Name}
 use Rattle.asp_model.specs.Term.{Tree}
 use Rattle.asp_model.specs.Configuration.{Configuration, start}
 use Rattle.asp_model.specs.Step.{ListsShape, step}
-use Rattle.laws.specs.Reached.{Move, Steps, Makes, IsReached, RunsTo}
+use Rattle.laws.specs.Reached.{Move, Steps, Edges, Needs, Makes, IsReached, RunsTo}
 use Rattle.laws.proofs.StepLemmas.{step_taken}
 use Rattle.laws.proofs.SoundLemmas.{Sound}
 use Rattle.laws.proofs.KeptLemmas.{sound_after}
 use Rattle.laws.proofs.StartLemmas.{sound_start}
 use Rattle.laws.proofs.ExactLemmas.{Exact, exact_start, exact_after}
 use Rattle.laws.proofs.TidyLemmas.{Tidy, tidy_start, tidy_after}
+use Rattle.std.specs.FinMap.{find}
+use Rattle.asp_model.specs.Names.{name_cmp}
+use Rattle.asp_model.specs.Store.{Store}
+use Rattle.asp_model.specs.Configuration.{Activity}
+use Rattle.laws.specs.Deliveries.{with_store}
+use Rattle.laws.proofs.DeliveryLemmas.{sound_delivered, exact_delivered, tidy_delivered}
 use Rattle.laws.proofs.CommuteLemmas.{took}
 
 pub leads_on : {S L : Type 0} (R : L → S → S → Type 0) (ns ms : List L) (c d e : S) → Leads R c ns d → Leads R d ms e → Leads R c (ns ++ ms) e
@@ -42,8 +48,13 @@ step_right lists n c d h r =
     let t = took lists c n x.0 r.sound x.1 in
     subst Right x.2 (record { sound = sound_after c n x.0 t; exact = exact_after c n x.0 t r.exact; tidy = tidy_after lists c n x.0 t x.1 r.tidy })
 
+store_right : (c : Configuration) (n : Name) (a : Activity) (t : Store) (d : Configuration) → find name_cmp n c.activities ≡ Some a → d ≡ with_store c n a t → Right c → Right d
+store_right c n a t d at is r = subst Right (sym is) (record { sound = sound_delivered c n a t at r.sound; exact = exact_delivered c n a t at r.exact; tidy = tidy_delivered c n a t at r.tidy })
+
 pub move_right : (move : Move) (c d : Configuration) → Makes move c d → Right c → Right d
 move_right (Steps lists n) c d h r = step_right lists n c d h r
+move_right (Edges f to) c d h r = store_right c to h.receiver _ d h.at h.result r
+move_right (Needs f to place) c d h r = store_right c to h.receiver _ d h.at h.result r
 
 moves_right : (moves : List Move) (c d : Configuration) → Leads Makes c moves d → Right c → Right d
 moves_right [] c d r h = subst Right r h

@@ -14,7 +14,7 @@ pub record Takes (lists : Option ListsShape) (c : Configuration) (n : Name) (e :
   pub plans : plan_in c n ≡ Acts e
   pub may : may_send lists c n e.sent ≡ true
 
-abbrev step_by : Option ListsShape → Configuration → Name → Plan → Option Configuration
+abbrev pub step_by : Option ListsShape → Configuration → Name → Plan → Option Configuration
 step_by lists c n (Rests status) = None
 step_by lists c n (Acts e) = elim (may_send lists c n e.sent) [ true ↦ Some (with_effect n e c) | false ↦ None ]
 
@@ -22,7 +22,7 @@ abbrev if_may : Bool → Configuration → Option Configuration
 if_may true d = Some d
 if_may false d = None
 
-step_is : (lists : Option ListsShape) (c : Configuration) (n : Name) → step lists c n ≡ step_by lists c n (plan_in c n)
+pub step_is : (lists : Option ListsShape) (c : Configuration) (n : Name) → step lists c n ≡ step_by lists c n (plan_in c n)
 step_is lists c n = elim (plan_in c n) as (λ p. elim p [ Rests status ↦ None | Acts e ↦ elim (may_send lists c n e.sent) [ true ↦ Some (with_effect n e c) | false ↦ None ] ] ≡ step_by lists c n p) [ Rests status ↦ refl | Acts e ↦ refl ]
 
 if_taken : (b : Bool) (x d : Configuration) → elim b [ true ↦ Some x | false ↦ None ] ≡ Some d → (b ≡ true) × (x ≡ d)

@@ -68,16 +68,16 @@ unseen_most (suc k) seen = let e = elim (has_place k seen) as (λ b. weigh b ≤
 
 -- Visits
 
-abbrev AllSeen : List ℕ → List ℕ → Type 0
+abbrev pub AllSeen : List ℕ → List ℕ → Type 0
 AllSeen out = Each (λ q. has_place q out ≡ true)
 
 -- what a visit of these places leads to
-record Visited (s : Store) (todo seen out : List ℕ) : Type 0 where
-  more : List ℕ
-  front : seen ++ more ≡ out
-  came : AllSeen out todo
-  kept : (q : ℕ) → has_place q seen ≡ true → has_place q out ≡ true
-  round : (q : ℕ) → has_place q out ≡ true → (has_place q seen ≡ true) ⊎ AllSeen out (reached (cell s q))
+pub record Visited (s : Store) (todo seen out : List ℕ) : Type 0 where
+  pub more : List ℕ
+  pub front : seen ++ more ≡ out
+  pub came : AllSeen out todo
+  pub kept : (q : ℕ) → has_place q seen ≡ true → has_place q out ≡ true
+  pub round : (q : ℕ) → has_place q out ≡ true → (has_place q seen ≡ true) ⊎ AllSeen out (reached (cell s q))
 
 again : (s : Store) (p : ℕ) (ps seen out : List ℕ) → has_place p seen ≡ true → Visited s ps seen out → Visited s (p ∷ ps) seen out
 again s p ps seen out h v = record { more = v.more; front = v.front; came = (v.kept p h, v.came); kept = v.kept; round = v.round }
@@ -112,7 +112,7 @@ module _ (s : Store) (closed : IsClosedStore s) where
   visits zero ps seen h le = nothing_new s ps seen (each_weaker (λ i. i < length s) (λ q. has_place q seen ≡ true) (λ q lt. all_seen (length s) q seen lt le) ps h)
   visits (suc n) ps seen h le = walks (visit n s) seen (λ q qs g lt e. visits n qs (seen ++ q ∷ []) g (omega (arith, le, unseen_drops (length s) q seen lt e))) ps h
 
-  order_visited : (roots : List ℕ) → AreBelow (length s) roots → Visited s roots [] (visit_order s roots)
+  pub order_visited : (roots : List ℕ) → AreBelow (length s) roots → Visited s roots [] (visit_order s roots)
   order_visited roots h = visits (length s) roots [] h (unseen_most (length s) [])
 
 -- Numbers in an order
@@ -120,7 +120,7 @@ module _ (s : Store) (closed : IsClosedStore s) where
 abbrev numbered_by : Bool → ℕ → ℕ
 numbered_by b n = elim b [ true ↦ 0 | false ↦ suc n ]
 
-number_below : (order : List ℕ) (q : ℕ) → has_place q order ≡ true → number_in order q < length order
+pub number_below : (order : List ℕ) (q : ℕ) → has_place q order ≡ true → number_in order q < length order
 number_below [] q h = none_true h
 number_below (x ∷ xs) q h = elim (q == x) as (λ b. or_else b (has_place q xs) ≡ true → numbered_by b (number_in xs q) < suc (length xs)) [ true ↦ λ h. omega arith | false ↦ λ h. omega (arith, number_below xs q h) ] h
 
@@ -151,7 +151,7 @@ packed_closed s roots closed h =
     }
 
 -- a visit begins with its first place
-first_number : (s : Store) (i : ℕ) → IsClosedStore s → i < length s → number_in (visit_order s (i ∷ [])) i ≡ 0
+pub first_number : (s : Store) (i : ℕ) → IsClosedStore s → i < length s → number_in (visit_order s (i ∷ [])) i ≡ 0
 first_number s i closed lt = by_fuel (length s) refl
   where
     by_fuel : (n : ℕ) → length s ≡ n → number_in (visit n s (i ∷ []) []) i ≡ 0

@@ -1,4 +1,5 @@
 -- in reading order
+pub mod Deliveries
 pub mod Reached
 pub mod Kept
 pub mod Steps

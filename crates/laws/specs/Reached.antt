@@ -1,5 +1,5 @@
 -- How configurations are reached: by moves from the start of a program.
-use Rattle.std.specs.Prelude.{◌≡◌, true, List, Option, Some, is_some}
+use Rattle.std.specs.Prelude.{◌≡◌, ℕ, true, List, Option, Some, is_some}
 use Rattle.std.specs.FinMap.{find}
 use Rattle.runs.specs.Systems.{Leads}
 use Rattle.asp_model.specs.Names.{Name, FutureShape, name_cmp, future_cmp}
@@ -7,14 +7,21 @@ use Rattle.asp_model.specs.Term.{Tree}
 use Rattle.asp_model.specs.Parcel.{ParcelShape}
 use Rattle.asp_model.specs.Configuration.{Activity, Configuration, start}
 use Rattle.asp_model.specs.Step.{ListsShape, step}
+use Rattle.laws.specs.Deliveries.{IsEdge, IsNeed}
 
 pub data Move : Type 0 where
   -- a step of an activity, with sender lists or without
   Steps : (lists : Option ListsShape) (name : Name) → Move
+  -- a delivery of a future's own value, at each place of an activity that holds the future
+  Edges : (future : FutureShape) (to : Name) → Move
+  -- a delivery of the value that a future leads to, at one place
+  Needs : (future : FutureShape) (to : Name) (place : ℕ) → Move
 
 -- a move leads from the one configuration to the other
 abbrev pub Makes : Move → Configuration → Configuration → Type 0
 Makes (Steps lists n) c d = step lists c n ≡ Some d
+Makes (Edges f to) c d = IsEdge c f to d
+Makes (Needs f to place) c d = IsNeed c f to place d
 
 -- moves lead from the start of the program to the configuration
 pub record IsReached (program : Tree) (c : Configuration) : Type 0 where

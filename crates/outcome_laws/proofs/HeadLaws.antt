@@ -1,19 +1,19 @@
 -- What holds of each head of a program holds of each head of what it reaches.
-use Rattle.std.specs.Prelude.{◌≡◌, true, List, [], ◌∷◌, Option, Some, None}
+use Rattle.std.specs.Prelude.{◌≡◌, true, List, [], ◌∷◌, Option, Some, None, ℕ, map, length}
 use Rattle.std.specs.List.{list_all}
 use Rattle.std.proofs.Common.{refl, sym, subst, ⊎_elim}
 use Rattle.std.proofs.lemmas.Bool.{and_from}
 use Rattle.runs.specs.Systems.{Leads}
-use Rattle.asp_model.specs.Names.{Name, main_name}
+use Rattle.asp_model.specs.Names.{Name, main_name, name_cmp}
 use Rattle.asp_model.specs.Term.{Head, Tree}
-use Rattle.asp_model.specs.Store.{Object}
+use Rattle.asp_model.specs.Store.{Object, Store, moved_cell}
 use Rattle.asp_model.specs.Contraction.{LineShape, NumberLine, TextLine}
 use Rattle.asp_model.specs.Chase.{chase}
-use Rattle.asp_model.specs.Configuration.{Configuration, requests_of, begun, start}
+use Rattle.asp_model.specs.Configuration.{Configuration, requests_of, begun, start, Activity}
 use Rattle.asp_model.specs.WellFormed.{is_printable_line}
 use Rattle.asp_model.specs.Plan.{Acts, Effect}
 use Rattle.asp_model.specs.Step.{ListsShape, plan_in, step, with_effect}
-use Rattle.laws.specs.Reached.{Move, Steps, Makes, IsReached}
+use Rattle.laws.specs.Reached.{Move, Steps, Makes, IsReached, Edges, Needs}
 use Rattle.laws.specs.Linked.{Each}
 use Rattle.laws.proofs.NameLemmas.{no_some}
 use Rattle.laws.proofs.StepLemmas.{step_taken}
@@ -23,6 +23,12 @@ use Rattle.laws.proofs.LinkedLemmas.{acting, found_after, value_after}
 use Rattle.outcome_laws.specs.Heads.{EachHead, HoldsOfWritten, CellHas, LineHas, ActivityHas, HasEverywhere, Passes, ReachedHave}
 use Rattle.outcome_laws.specs.Texts.{has_printable_text, LinesArePrintable}
 use Rattle.outcome_laws.proofs.HeadPlanLemmas.{EffectHas, PlanHas, plan_has}
+use Rattle.laws.specs.Deliveries.{with_store, holders_from, unpack_each}
+use Rattle.laws.proofs.DeliveryLemmas.{found_delivered}
+use Rattle.laws.proofs.ContractionLemmas.{all_placed}
+use Rattle.outcome_laws.proofs.HeadLemmas.{all_moved}
+use Rattle.asp_model.specs.Parcel.{ParcelShape, place_at, unpack_at}
+use Rattle.std.specs.FinMap.{find}
 
 module _ (P : Head → Type 0) (w : HoldsOfWritten P) where
   effect_has : (c : Configuration) (n : Name) (e : Effect) → HasEverywhere P c → plan_in c n ≡ Acts e → EffectHas P e
@@ -59,8 +65,20 @@ module _ (P : Head → Type 0) (w : HoldsOfWritten P) where
   step_has : (lists : Option ListsShape) (n : Name) (c d : Configuration) → step lists c n ≡ Some d → HasEverywhere P c → HasEverywhere P d
   step_has lists n c d is h = let x = step_taken lists c n d is in subst (HasEverywhere P) x.2 (has_after c n x.0 h (effect_has c n x.0 h x.1.plans))
 
+  -- a value that is unpacked at places
+  unpacked_has : (ns : List ℕ) (s : Store) (p : ParcelShape) → Each (CellHas P) s → Each (CellHas P) p.cells → Each (CellHas P) (unpack_each s ns p)
+  unpacked_has [] s p h k = h
+  unpacked_has (n ∷ ns) s p h k = unpacked_has ns (unpack_at s n p) p (all_placed (CellHas P) s n (map (moved_cell (place_at (length s) n)) p.cells) h (all_moved P w (place_at (length s) n) p.cells k)) k
+
+  store_has : (c : Configuration) (n : Name) (a : Activity) (t : Store) (d : Configuration) → find name_cmp n c.activities ≡ Some a → d ≡ with_store c n a t → HasEverywhere P c → Each (CellHas P) t → HasEverywhere P d
+  store_has c n a t d at is h k =
+      let x = h.activities n a at in
+      subst (HasEverywhere P) (sym is) (record { activities = found_delivered c n a t at (ActivityHas P) (record { term = x.term; services = x.services; store = k; lines = x.lines }) h.activities; arguments = h.arguments; values = h.values })
+
   move_has : (move : Move) (c d : Configuration) → Makes move c d → HasEverywhere P c → HasEverywhere P d
   move_has (Steps lists n) c d is h = step_has lists n c d is h
+  move_has (Edges f to) c d is h = store_has c to is.receiver _ d is.at is.result h (unpacked_has (holders_from 0 f is.receiver.store) is.receiver.store is.value (h.activities to is.receiver is.at).store (h.values f is.value is.filled))
+  move_has (Needs f to place) c d is h = store_has c to is.receiver _ d is.at is.result h (unpacked_has (place ∷ []) is.receiver.store is.value (h.activities to is.receiver is.at).store (h.values f is.value (chase_finds c.futures is.held f is.value is.chased).0))
 
   moves_have : (moves : List Move) (c d : Configuration) → Leads Makes c moves d → HasEverywhere P c → HasEverywhere P d
   moves_have [] c d r h = subst (HasEverywhere P) r h

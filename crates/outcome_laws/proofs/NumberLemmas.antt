@@ -13,7 +13,7 @@ use Rattle.asp_model.specs.Plan.{Effect}
 use Rattle.asp_model.specs.Step.{ListsShape, step, with_effect}
 use Rattle.asp_model.specs.Replay.{total, counts_of}
 use Rattle.asp_model.specs.WellFormed.{is_index, is_name, is_future_name}
-use Rattle.laws.specs.Reached.{Move, Steps, Makes, IsReached, IsThere}
+use Rattle.laws.specs.Reached.{Move, Steps, Makes, IsReached, IsThere, Edges, Needs}
 use Rattle.laws.specs.Kept.{sends_of, IsBegun}
 use Rattle.laws.proofs.NameLemmas.{none_true}
 use Rattle.laws.proofs.StepLemmas.{step_taken}
@@ -27,6 +27,9 @@ use Rattle.laws.proofs.NamesLaws.{creations_at, sends_at}
 use Rattle.laws.proofs.EntryLemmas.{found_entry}
 use Rattle.laws.proofs.SpendLemmas.{within_total}
 use Rattle.outcome_laws.specs.Outcomes.{NumbersAreWithin}
+use Rattle.laws.specs.Deliveries.{with_store}
+use Rattle.laws.proofs.DeliveryLemmas.{same_face}
+use Rattle.asp_model.specs.Store.{Store}
 
 -- each creation and each send was a reduction of its own
 record Spent (c : Configuration) : Type 0 where
@@ -56,8 +59,16 @@ spent_after c n e t s = record {
 step_spent : (lists : Option ListsShape) (n : Name) (c d : Configuration) → step lists c n ≡ Some d → Right c → Spent c → Spent d
 step_spent lists n c d h r s = let x = step_taken lists c n d h in subst Spent x.2 (spent_after c n x.0 (took lists c n x.0 r.sound x.1) s)
 
+store_spent : (c : Configuration) (n : Name) (a : Activity) (t : Store) (d : Configuration) → find name_cmp n c.activities ≡ Some a → d ≡ with_store c n a t → Spent c → Spent d
+store_spent c n a t d at is s = subst Spent (sym is) (record {
+  creations = λ m. subst (λ x. x.creations ≤ x.reductions) (sym (same_face c n a t at m)) (s.creations m);
+  sends = λ m. subst (λ x. x.sends ≤ x.reductions) (sym (same_face c n a t at m)) (s.sends m);
+})
+
 move_spent : (move : Move) (c d : Configuration) → Makes move c d → Right c → Spent c → Spent d
 move_spent (Steps lists n) c d h r s = step_spent lists n c d h r s
+move_spent (Edges f to) c d h r s = store_spent c to h.receiver _ d h.at h.result s
+move_spent (Needs f to place) c d h r s = store_spent c to h.receiver _ d h.at h.result s
 
 moves_spent : (moves : List Move) (c d : Configuration) → Leads Makes c moves d → Right c → Spent c → Spent d
 moves_spent [] c d h r s = subst Spent h s
