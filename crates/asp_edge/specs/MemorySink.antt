@@ -17,8 +17,8 @@ abbrev pub sink_faults : MemorySink → ℕ
 sink_faults s = s.faults
 
 -- the numbers of the writes that fail, how many bytes such a write keeps, and the room
-abbrev pub sink_plan : MemorySink → List ℕ × ℕ × ℕ
-sink_plan s = (s.failing.items, s.keep, s.room)
+abbrev pub sink_intent : MemorySink → List ℕ × ℕ × ℕ
+sink_intent s = (s.failing.items, s.keep, s.room)
 
 -- the number of its next write, from 1
 abbrev pub next_write : MemorySink → ℕ

@@ -20,7 +20,7 @@ pub struct MemorySink {
 
 impl MemorySink {
     ghost use Rattle.std.specs.Prelude.{◌≡◌, [], ◌++◌, IfOk};
-    ghost use Rattle.asp_edge.specs.MemorySink.{sink_bytes, sink_faults, sink_plan, next_write, fits, fitting};
+    ghost use Rattle.asp_edge.specs.MemorySink.{sink_bytes, sink_faults, sink_intent, next_write, fits, fitting};
 
     /// An empty sink with room for `room` bytes. The writes are numbered from 1, and one of those in
     /// `failing` fails after its first `keep` bytes.
@@ -31,7 +31,7 @@ impl MemorySink {
         room: usize,
     ) -> Result<MemorySink, AllocError>
         ensures bytes { IfOk result (λ s. sink_bytes s ≡ []) }
-        ensures plan { IfOk result (λ s. sink_plan s ≡ (failing.items, keep, room)) }
+        ensures intent { IfOk result (λ s. sink_intent s ≡ (failing.items, keep, room)) }
         ensures first { IfOk result (λ s. next_write s ≡ 1) }
         ensures faults { IfOk result (λ s. sink_faults s ≡ 0) }
     {
@@ -56,7 +56,7 @@ impl MemorySink {
     fn append(&mut self, bytes: &[u8]) -> bool
         ensures fits { result ≡ fits self.old bytes.now }
         ensures bytes { sink_bytes self.new ≡ sink_bytes self.old ++ fitting self.old bytes.now }
-        ensures plan { sink_plan self.new ≡ sink_plan self.old }
+        ensures intent { sink_intent self.new ≡ sink_intent self.old }
         ensures next { self.new.writes ≡ self.old.writes }
         ensures faults { sink_faults self.new ≡ sink_faults self.old }
     {
@@ -71,7 +71,7 @@ impl MemorySink {
 impl Sink for MemorySink {
     ghost use Rattle.std.specs.Prelude.{◌≡◌, ◌≤◌, ◌++◌, OnOk, OnErr, is_ok, not};
     ghost use Rattle.asp_edge.specs.Causes.{Rose, next_number, counted, Appends, AppendsFront};
-    ghost use Rattle.asp_edge.specs.MemorySink.{told_bytes, sink_bytes, sink_faults, sink_plan, next_write, takes_all, taken_of};
+    ghost use Rattle.asp_edge.specs.MemorySink.{told_bytes, sink_bytes, sink_faults, sink_intent, next_write, takes_all, taken_of};
 
     ghost bytes = { told_bytes };
 
@@ -88,7 +88,7 @@ impl Sink for MemorySink {
         ensures taken { sink_bytes self.new ≡ sink_bytes self.old ++ taken_of self.old piece.now }
         ensures counted { sink_faults self.new
             ≡ counted (not (takes_all self.old piece.now)) (sink_faults self.old) }
-        ensures plan { sink_plan self.new ≡ sink_plan self.old }
+        ensures intent { sink_intent self.new ≡ sink_intent self.old }
         ensures next { next_write self.new ≡ next_number (next_write self.old) }
     {
         self.writes = self.writes.saturating_add(1);

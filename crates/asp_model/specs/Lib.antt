@@ -8,7 +8,7 @@ pub mod Parcel
 pub mod Contraction
 pub mod Chase
 pub mod Configuration
-pub mod Plan
+pub mod Intent
 pub mod Step
 pub mod Status
 pub mod Replay

@@ -4,7 +4,7 @@ use Rattle.std.specs.List.{list_any}
 use Rattle.asp_model.specs.Names.{Name}
 use Rattle.asp_model.specs.Contraction.{LineShape}
 use Rattle.asp_model.specs.Configuration.{Configuration, Activity, requests_of}
-use Rattle.asp_model.specs.Plan.{StatusShape, Faulted}
+use Rattle.asp_model.specs.Intent.{StatusShape, Faulted}
 use Rattle.asp_model.specs.Step.{ListsShape}
 use Rattle.asp_model.specs.Replay.{CountsShape}
 use Rattle.asp_model.specs.Status.{VerdictShape, End, Blocked, Budget, status_of, verdict_of}

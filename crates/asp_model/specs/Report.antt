@@ -4,7 +4,7 @@ use Rattle.std.specs.List.{flat_map, concat, join_with_byte}
 use Rattle.std.specs.Fmt.{decimal, signed_decimal}
 use Rattle.asp_model.specs.Names.{Name, FutureShape}
 use Rattle.asp_model.specs.Contraction.{FaultShape, NoField, NoMethod, NotObject, NotNumber, NotGroup, BadMember, ActiveField, Overflow, ZeroDivisor, LineShape, NumberLine, TextLine}
-use Rattle.asp_model.specs.Plan.{StatusShape, Done, Serving, Running, Awaits, Faulted}
+use Rattle.asp_model.specs.Intent.{StatusShape, Done, Serving, Running, Awaits, Faulted}
 use Rattle.asp_model.specs.Status.{VerdictShape, End, Blocked, Budget}
 use Rattle.asp_model.specs.Outcome.{ActivityReportShape, OutcomeShape}
 

@@ -35,8 +35,8 @@ use Rattle.asp_model.specs.Parcel.{ParcelShape}
 use Rattle.asp_model.specs.Configuration.{RequestShape}
 use Rattle.asp_model.specs.Contraction.{FaultShape, LineShape, NumberLine, TextLine}
 use Rattle.asp_model.specs.Contraction as contraction
-use Rattle.asp_model.specs.Plan.{StatusShape}
-use Rattle.asp_model.specs.Plan as plan
+use Rattle.asp_model.specs.Intent.{StatusShape}
+use Rattle.asp_model.specs.Intent as intent
 use Rattle.asp_model.specs.Step.{ListsShape}
 use Rattle.asp_model.specs.Replay.{CountsShape}
 use Rattle.asp_model.specs.Status.{VerdictShape}
@@ -137,11 +137,11 @@ fault_shape fault.Overflow = contraction.Overflow
 fault_shape fault.ZeroDivisor = contraction.ZeroDivisor
 
 abbrev pub status_shape : Status → StatusShape
-status_shape status.Done = plan.Done
-status_shape status.Serving = plan.Serving
-status_shape status.Running = plan.Running
-status_shape (status.Awaits f) = plan.Awaits (future_shape f)
-status_shape (status.Faulted f) = plan.Faulted (fault_shape f)
+status_shape status.Done = intent.Done
+status_shape status.Serving = intent.Serving
+status_shape status.Running = intent.Running
+status_shape (status.Awaits f) = intent.Awaits (future_shape f)
+status_shape (status.Faulted f) = intent.Faulted (fault_shape f)
 
 abbrev pub verdict_shape : Verdict → VerdictShape
 verdict_shape verdict.End = verdicts.End

@@ -3,15 +3,15 @@ use Rattle.std.specs.Prelude.{◌≡◌, Bool, true, false, List, map, cond}
 use Rattle.std.specs.List.{list_any}
 use Rattle.asp_model.specs.Names.{Name}
 use Rattle.asp_model.specs.Configuration.{Configuration}
-use Rattle.asp_model.specs.Plan.{StatusShape, Running, Awaits, Plan, Acts, Rests}
-use Rattle.asp_model.specs.Step.{plan_in}
+use Rattle.asp_model.specs.Intent.{StatusShape, Running, Awaits, Intent, Acts, Rests}
+use Rattle.asp_model.specs.Step.{intent_in}
 
-abbrev pub status_of_plan : Plan → StatusShape
-status_of_plan (Acts e) = Running
-status_of_plan (Rests status) = status
+abbrev pub status_of_intent : Intent → StatusShape
+status_of_intent (Acts e) = Running
+status_of_intent (Rests status) = status
 
 abbrev pub status_of : Configuration → Name → StatusShape
-status_of c n = status_of_plan (plan_in c n)
+status_of c n = status_of_intent (intent_in c n)
 
 abbrev pub statuses_of : Configuration → List StatusShape
 statuses_of c = map (λ x. status_of c x.0) c.activities

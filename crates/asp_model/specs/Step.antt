@@ -5,10 +5,10 @@ use Rattle.std.specs.FinMap.{find, put}
 use Rattle.asp_model.specs.Names.{Name, name_cmp, future_cmp, same_name}
 use Rattle.asp_model.specs.Chase.{chase}
 use Rattle.asp_model.specs.Configuration.{RequestShape, Configuration, or_none, requests_of}
-use Rattle.asp_model.specs.Plan.{Plan, Acts, Rests, Done, Effect, plan}
+use Rattle.asp_model.specs.Intent.{Intent, Acts, Rests, Done, Effect, intent}
 
-abbrev pub plan_in : Configuration → Name → Plan
-plan_in c n = elim (find name_cmp n c.activities) [ None ↦ Rests Done | Some a ↦ plan (chase c.futures) (requests_of c n) n a ]
+abbrev pub intent_in : Configuration → Name → Intent
+intent_in c n = elim (find name_cmp n c.activities) [ None ↦ Rests Done | Some a ↦ intent (chase c.futures) (requests_of c n) n a ]
 
 abbrev pub put_some : {K X : Type 0} → (K → K → Ordering) → Option (K × X) → List (K × X) → List (K × X)
 put_some R None entries = entries
@@ -55,7 +55,7 @@ may_send lists c n (Some x) = is_some (find name_cmp x.0 c.activities) && is_nex
 
 -- one reduction of an activity; none where it is not enabled
 abbrev pub step : Option ListsShape → Configuration → Name → Option Configuration
-step lists c n = elim (plan_in c n) [
+step lists c n = elim (intent_in c n) [
   | Rests status ↦ None
   | Acts e ↦ elim (may_send lists c n e.sent) [ true ↦ Some (with_effect n e c) | false ↦ None ]
 ]

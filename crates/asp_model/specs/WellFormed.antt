@@ -4,7 +4,7 @@ use Rattle.std.specs.List.{list_all}
 use Rattle.std.specs.FinMap.{is_sorted}
 use Rattle.asp_model.specs.Names.{Name, FutureShape, main_name, name_cmp, same_name}
 use Rattle.asp_model.specs.Contraction.{LineShape, NumberLine, TextLine}
-use Rattle.asp_model.specs.Plan.{StatusShape, Awaits}
+use Rattle.asp_model.specs.Intent.{StatusShape, Awaits}
 use Rattle.asp_model.specs.Replay.{total}
 use Rattle.asp_model.specs.Outcome.{ActivityReportShape, OutcomeShape, counts_in}
 

@@ -12,7 +12,7 @@ use Rattle.asp_check.specs.declared.checked.Checked.{Checked}
 use Rattle.outcome_laws.specs.Outcomes.{ShowsItsReplay}
 use Rattle.outcome_laws.proofs.OutcomeLemmas.{outcome_counts}
 use Rattle.outcome_laws.proofs.ReportLaws.{plain_runs_show_replays}
-use Rattle.program_laws.proofs.ProgramLaws.{program_texts_are_printable}
+use Rattle.outcome_laws.proofs.ProgramLaws.{program_texts_are_printable}
 use Rattle.run_report.specs.Summary.{summary_lines}
 use Rattle.replay_one.specs.Correct.{IsSpent}
 use Rattle.load_gen.specs.Generated.{generated}

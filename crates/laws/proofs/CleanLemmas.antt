@@ -1,4 +1,4 @@
--- What holds of the names in all cells holds in what a plan leaves and gives, of the target of a request
+-- What holds of the names in all cells holds in what an intent leaves and gives, of the target of a request
 -- and of an awaited future.
 use Rattle.std.specs.Prelude.{◌≡◌, ℕ, suc, ◌+◌, ◌&&◌, not, true, false, List, [], ◌∷◌, Option, Some, None, length, map}
 use Rattle.std.proofs.Common.{refl, sym, ap, subst, ◌∙◌}
@@ -10,7 +10,7 @@ use Rattle.asp_model.specs.Parcel.{ParcelShape, parcel_of, has_place, place_at}
 use Rattle.asp_model.specs.Contraction.{Contraction, Becomes, Faults, Needs, Communicates, Breaks, Creates, Sends, Serves, contract, strict_operands, strict_members}
 use Rattle.asp_model.specs.Chase.{Chase, Value, Unfilled, Cycle}
 use Rattle.asp_model.specs.Configuration.{RequestShape, ServiceShape, Activity}
-use Rattle.asp_model.specs.Plan.{Done, Serving, Running, Awaits, Faulted, Plan, Acts, Rests, Effect, Ready, Reads, Lacks, fetched, operand_ready, operands_ready, redex_ready, Numbered, oldest_match, labels_served, serves, newest, filling, ends_service, sends, creates, contracts, plan}
+use Rattle.asp_model.specs.Intent.{Done, Serving, Running, Awaits, Faulted, Intent, Acts, Rests, Effect, Ready, Reads, Lacks, fetched, operand_ready, operands_ready, redex_ready, Numbered, oldest_match, labels_served, serves, newest, filling, ends_service, sends, creates, contracts, intent}
 use Rattle.laws.specs.Linked.{Each}
 use Rattle.laws.proofs.NameLemmas.{no_some, some_is}
 use Rattle.laws.proofs.EachLemmas.{each_both}
@@ -60,10 +60,10 @@ module _ (P : CellShape → Type 0) (o : IsOfNames P) (chases : FutureShape → 
   pub redex_is : (s : Store) (r : Redex) → Each P s → IsRead P (redex_ready chases s r)
   redex_is s r h = then_is (λ t. operands_ready chases t (strict_members t r.head r.places)) (λ t k. operands_are (strict_members t r.head r.places) t k) (operands_ready chases s (strict_operands r.head r.places)) (operands_are (strict_operands r.head r.places) s h)
 
--- What a plan aims at
+-- What an intent aims at
 
 -- the target of its request, or what it awaits
-abbrev pub Aims : (CellShape → Type 0) → Plan → Type 0
+abbrev pub Aims : (CellShape → Type 0) → Intent → Type 0
 Aims P (Acts e) = (z : Name × RequestShape) → e.sent ≡ Some z → P (Reference z.0)
 Aims P (Rests (Awaits h)) = P (Future h)
 Aims P (Rests Done) = Unit {0}
@@ -101,10 +101,10 @@ module _ (P : CellShape → Type 0) (o : IsOfNames P) (chases : FutureShape → 
   split_aims (Stands place) = ends_aims P requests n a place (newest a.services)
   split_aims (Splits contexts redex) = ready_aims contexts redex (redex_ready chases a.store redex) (redex_is P o chases read lacked a.store redex h)
 
-  pub plan_aims : Aims P (plan chases requests n a)
-  plan_aims = split_aims (split a.term)
+  pub intent_aims : Aims P (intent chases requests n a)
+  intent_aims = split_aims (split a.term)
 
--- What a plan leaves and gives
+-- What an intent leaves and gives
 
 pub record Clean (P : CellShape → Type 0) (e : Effect) : Type 0 where
   pub own : Each P e.own.store
@@ -180,5 +180,5 @@ module _ (P : CellShape → Type 0) (o : IsOfNames P) (requests : List RequestSh
   split_clean chases read lacked (Stands place) e q names = ends_clean place (newest a.services) e q
   split_clean chases read lacked (Splits contexts redex) e q names = ready_clean contexts redex (redex_ready chases a.store redex) (redex_is P o chases read lacked a.store redex h) e q names
 
-  pub plan_clean : (chases : FutureShape → Chase) → AllRead P chases → AllLacked P chases → (e : Effect) → plan chases requests n a ≡ Acts e → NamesOf P e → Clean P e
-  plan_clean chases read lacked e q names = split_clean chases read lacked (split a.term) e q names
+  pub intent_clean : (chases : FutureShape → Chase) → AllRead P chases → AllLacked P chases → (e : Effect) → intent chases requests n a ≡ Acts e → NamesOf P e → Clean P e
+  intent_clean chases read lacked e q names = split_clean chases read lacked (split a.term) e q names

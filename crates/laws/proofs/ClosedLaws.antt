@@ -1,14 +1,14 @@
 -- All that a program reaches is closed.
 use Rattle.std.specs.Prelude.{◌≡◌, List, [], ◌∷◌, Option, Some, None, length, ℕ, zero, suc, ◌+◌, ◌<◌, ◌≤◌, true, false}
 use Rattle.std.proofs.Common.{sym, subst, arith, ⊎_elim, ap}
-use Rattle.runs.specs.Systems.{Leads}
+use Rattle.commuting_systems.specs.Systems.{Leads}
 use Rattle.asp_model.specs.Names.{Name, main_name, FutureShape, name_cmp}
 use Rattle.asp_model.specs.Term.{Tree, locations}
 use Rattle.asp_model.specs.Store.{Object, Store, cell, Future}
 use Rattle.asp_model.specs.Chase.{chase}
 use Rattle.asp_model.specs.Configuration.{Configuration, requests_of, begun, start, Activity}
-use Rattle.asp_model.specs.Plan.{Acts, Effect}
-use Rattle.asp_model.specs.Step.{ListsShape, plan_in, step, with_effect}
+use Rattle.asp_model.specs.Intent.{Acts, Effect}
+use Rattle.asp_model.specs.Step.{ListsShape, intent_in, step, with_effect}
 use Rattle.laws.specs.Reached.{Move, Steps, Edges, Needs, Makes}
 use Rattle.laws.specs.Closed.{AreBelow, IsClosedActivity, IsClosedParcel, IsClosedValue, IsClosed, ReachedAreClosed, SplitsAreBelow, CopiesAreClosed, ValuesAreClosed, IsClosedStore}
 use Rattle.laws.proofs.NameLemmas.{no_some, none_true}
@@ -18,7 +18,7 @@ use Rattle.laws.proofs.SoundLemmas.{came}
 use Rattle.laws.proofs.LinkedLemmas.{acting, found_after, value_after}
 use Rattle.laws.proofs.VisitLemmas.{packed_closed, value_closed}
 use Rattle.laws.proofs.PlacesLemmas.{split_is_below}
-use Rattle.laws.proofs.ClosedLemmas.{IsClosedEffect, ClosedPlan, plan_closed, services_more}
+use Rattle.laws.proofs.ClosedLemmas.{IsClosedEffect, ClosedIntent, intent_closed, services_more}
 use Rattle.std.specs.FinMap.{find}
 use Rattle.asp_model.specs.Parcel.{ParcelShape, unpack_at}
 use Rattle.asp_model.specs.Contraction.{is_future}
@@ -27,10 +27,10 @@ use Rattle.laws.proofs.DeliveryLemmas.{found_delivered}
 use Rattle.laws.proofs.EachLemmas.{below_more}
 use Rattle.laws.proofs.MovedLemmas.{unpacked_at_closed}
 
-pub effect_closed : (c : Configuration) (n : Name) (e : Effect) → IsClosed c → plan_in c n ≡ Acts e → IsClosedEffect e
-effect_closed c n e h plans =
-    let x = acting c n e plans in
-    subst ClosedPlan x.2 (plan_closed (requests_of c n) (λ k r st. h.arguments n k r st) n x.0 (h.activities n x.0 x.1) (chase c.futures) (λ f y p is. (h.values y p (chase_finds c.futures f y p is).0).closed))
+pub effect_closed : (c : Configuration) (n : Name) (e : Effect) → IsClosed c → intent_in c n ≡ Acts e → IsClosedEffect e
+effect_closed c n e h intends =
+    let x = acting c n e intends in
+    subst ClosedIntent x.2 (intent_closed (requests_of c n) (λ k r st. h.arguments n k r st) n x.0 (h.activities n x.0 x.1) (chase c.futures) (λ f y p is. (h.values y p (chase_finds c.futures f y p is).0).closed))
 
 pub closed_after : (c : Configuration) (n : Name) (e : Effect) → IsClosed c → IsClosedEffect e → IsClosed (with_effect n e c)
 closed_after c n e h x = record {
@@ -62,7 +62,7 @@ closed_start program none = record {
 }
 
 step_closed : (lists : Option ListsShape) (n : Name) (c d : Configuration) → step lists c n ≡ Some d → IsClosed c → IsClosed d
-step_closed lists n c d is h = let x = step_taken lists c n d is in subst IsClosed x.2 (closed_after c n x.0 h (effect_closed c n x.0 h x.1.plans))
+step_closed lists n c d is h = let x = step_taken lists c n d is in subst IsClosed x.2 (closed_after c n x.0 h (effect_closed c n x.0 h x.1.intends))
 
 -- values that are unpacked at places of the store
 unpacked_each_closed : (ns : List ℕ) (s : Store) (p : ParcelShape) → IsClosedStore s → IsClosedStore p.cells → AreBelow (length s) ns → IsClosedStore (unpack_each s ns p) × (length s ≤ length (unpack_each s ns p))

@@ -9,7 +9,7 @@ use Rattle.asp_model.specs.Parcel.{ParcelShape, parcel_of, unpack, unpacked_root
 use Rattle.asp_model.specs.Contraction.{Contraction, Becomes, Faults, Needs, Communicates, Breaks, Creates, Sends, Serves, contract, first_of, strict_operands, strict_members, members_of, members_at}
 use Rattle.asp_model.specs.Chase.{Chase, Value, Unfilled, Cycle}
 use Rattle.asp_model.specs.Configuration.{RequestShape, ServiceShape, Activity, begun}
-use Rattle.asp_model.specs.Plan.{Plan, Acts, Rests, Awaits, Effect, Ready, Reads, Lacks, fetched, operand_ready, operands_ready, redex_ready, start_term, creates, sends, Numbered, oldest_match, labels_served, serves, newest, but_newest, filling, ends_service, contracts, plan}
+use Rattle.asp_model.specs.Intent.{Intent, Acts, Rests, Awaits, Effect, Ready, Reads, Lacks, fetched, operand_ready, operands_ready, redex_ready, start_term, creates, sends, Numbered, oldest_match, labels_served, serves, newest, but_newest, filling, ends_service, contracts, intent}
 use Rattle.laws.specs.Linked.{Each}
 use Rattle.laws.specs.Closed.{AreBelow, IsClosedStore, IsClosedParcel, IsClosedValue, ContextsBelow, SplitBelow, places_round, places_of, IsClosedActivity}
 use Rattle.laws.proofs.NameLemmas.{no_some, some_is}
@@ -99,9 +99,9 @@ pub record IsClosedEffect (e : Effect) : Type 0 where
   pub sent : (z : Name × RequestShape) → e.sent ≡ Some z → IsClosedParcel z.1.arguments
   pub filled : (z : FutureShape × ParcelShape) → e.filled ≡ Some z → IsClosedValue z.1
 
-abbrev pub ClosedPlan : Plan → Type 0
-ClosedPlan (Acts e) = IsClosedEffect e
-ClosedPlan (Rests status) = Unit {0}
+abbrev pub ClosedIntent : Intent → Type 0
+ClosedIntent (Acts e) = IsClosedEffect e
+ClosedIntent (Rests status) = Unit {0}
 
 contexts_more : (j k : ℕ) → j ≤ k → (cs : List Context) → ContextsBelow j cs → ContextsBelow k cs
 contexts_more j k le = each_weaker (λ x. AreBelow j (places_round x)) (λ x. AreBelow k (places_round x)) (λ x. below_more j k le (places_round x))
@@ -151,7 +151,7 @@ one_longer : (s : Store) (c : CellShape) → length (s ++ c ∷ []) ≡ suc (len
 one_longer s c = omega (arith, length-append s (c ∷ []))
 
 module _ (requests : List RequestShape) (received : (k : ℕ) (r : RequestShape) → slice_get requests k ≡ Some r → IsClosedParcel r.arguments) (n : Name) (a : Activity) (h : IsClosedActivity a) where
-  creates_closed : (contexts : List Context) (s : Store) (object : ℕ) (service : Option Text) → IsClosedStore s → length a.store ≤ length s → ContextsBelow (length a.store) contexts → object < length s → ClosedPlan (creates n a contexts s object service)
+  creates_closed : (contexts : List Context) (s : Store) (object : ℕ) (service : Option Text) → IsClosedStore s → length a.store ≤ length s → ContextsBelow (length a.store) contexts → object < length s → ClosedIntent (creates n a contexts s object service)
   creates_closed contexts s object service k le round lt =
       let c : CellShape = Reference (created_name n (suc a.creations)) in
       let e = one_longer s c in
@@ -162,7 +162,7 @@ module _ (requests : List RequestShape) (received : (k : ℕ) (r : RequestShape)
         filled = λ z is. no_some is;
       }
 
-  sends_closed : (contexts : List Context) (s : Store) (to : Name) (label : Text) (arguments : List ℕ) → IsClosedStore s → length a.store ≤ length s → ContextsBelow (length a.store) contexts → AreBelow (length s) arguments → ClosedPlan (sends n a contexts s to label arguments)
+  sends_closed : (contexts : List Context) (s : Store) (to : Name) (label : Text) (arguments : List ℕ) → IsClosedStore s → length a.store ≤ length s → ContextsBelow (length a.store) contexts → AreBelow (length s) arguments → ClosedIntent (sends n a contexts s to label arguments)
   sends_closed contexts s to label arguments k le round below =
       let c : CellShape = Future (record { by = n; index = suc a.sends }) in
       let e = one_longer s c in
@@ -173,7 +173,7 @@ module _ (requests : List RequestShape) (received : (k : ℕ) (r : RequestShape)
         filled = λ z is. no_some is;
       }
 
-  serves_closed : (contexts : List Context) (o : Option Numbered) → ContextsBelow (length a.store) contexts → ((x : Numbered) → o ≡ Some x → IsClosedParcel x.1.arguments) → ClosedPlan (serves a contexts o)
+  serves_closed : (contexts : List Context) (o : Option Numbered) → ContextsBelow (length a.store) contexts → ((x : Numbered) → o ≡ Some x → IsClosedParcel x.1.arguments) → ClosedIntent (serves a contexts o)
   serves_closed contexts None round k = tt
   serves_closed contexts (Some x) round k =
       let p = k x refl in
@@ -186,7 +186,7 @@ module _ (requests : List RequestShape) (received : (k : ℕ) (r : RequestShape)
         active = omega (arith, h.active, le);
       })
 
-  ends_closed : (place : ℕ) (o : Option ServiceShape) → place < length a.store → newest a.services ≡ o → ClosedPlan (ends_service a place o)
+  ends_closed : (place : ℕ) (o : Option ServiceShape) → place < length a.store → newest a.services ≡ o → ClosedIntent (ends_service a place o)
   ends_closed place None lt is = tt
   ends_closed place (Some v) lt is = record {
     own = record {
@@ -200,7 +200,7 @@ module _ (requests : List RequestShape) (received : (k : ℕ) (r : RequestShape)
     filled = filled_closed a.present (parcel_of a.store (place ∷ [])) (value_closed a.store place h.store lt);
   }
 
-  contraction_closed : (contexts : List Context) (s : Store) (r : Contraction) → IsClosedStore s → length a.store ≤ length s → ContextsBelow (length a.store) contexts → Closes s r → ClosedPlan (contracts requests n a contexts s r)
+  contraction_closed : (contexts : List Context) (s : Store) (r : Contraction) → IsClosedStore s → length a.store ≤ length s → ContextsBelow (length a.store) contexts → Closes s r → ClosedIntent (contracts requests n a contexts s r)
   contraction_closed contexts s (Becomes t store lines) k le round c = alone_closed _ (going_on a contexts t store h c.0 (omega (arith, le, c.2)) round c.1 _ refl refl refl refl)
   contraction_closed contexts s (Faults x) k le round c = tt
   contraction_closed contexts s (Needs place) k le round c = tt
@@ -209,11 +209,11 @@ module _ (requests : List RequestShape) (received : (k : ℕ) (r : RequestShape)
   contraction_closed contexts s (Communicates (Serves labels)) k le round c = serves_closed contexts (oldest_match (labels_served labels (cell s a.active)) a.served 0 requests) round (λ x is. let m = match_is (labels_served labels (cell s a.active)) a.served 0 requests x is in received m.0 x.1 m.2)
   contraction_closed contexts s Breaks k le round c = tt
 
-  ready_closed : (contexts : List Context) (redex : Redex) (r : Ready) → ContextsBelow (length a.store) contexts → AreBelow (length a.store) (places_of redex) → IsReadFrom (length a.store) r → ClosedPlan (elim r [ Lacks f ↦ Rests (Awaits f) | Reads s ↦ contracts requests n a contexts s (contract s redex) ])
+  ready_closed : (contexts : List Context) (redex : Redex) (r : Ready) → ContextsBelow (length a.store) contexts → AreBelow (length a.store) (places_of redex) → IsReadFrom (length a.store) r → ClosedIntent (elim r [ Lacks f ↦ Rests (Awaits f) | Reads s ↦ contracts requests n a contexts s (contract s redex) ])
   ready_closed contexts redex (Lacks f) round below k = tt
   ready_closed contexts redex (Reads s) round below k = contraction_closed contexts s (contract s redex) k.0 k.1 round (contract_closes s k.0 redex (below_more (length a.store) (length s) k.1 (places_of redex) below))
 
-  split_closed : (chases : FutureShape → Chase) → ReadsClosed chases → (t : Split) → SplitBelow (length a.store) t → ClosedPlan (elim t [
+  split_closed : (chases : FutureShape → Chase) → ReadsClosed chases → (t : Split) → SplitBelow (length a.store) t → ClosedIntent (elim t [
     | Stands place ↦ ends_service a place (newest a.services)
     | Splits contexts redex ↦ elim (redex_ready chases a.store redex) [ Lacks f ↦ Rests (Awaits f) | Reads s ↦ contracts requests n a contexts s (contract s redex) ]
   ])
@@ -222,6 +222,6 @@ module _ (requests : List RequestShape) (received : (k : ℕ) (r : RequestShape)
       let places = front (length a.store) redex.places (locations_below redex.behind) (back (length a.store) (own_locations redex.head) (redex.places ++ locations_below redex.behind) below.1) in
       ready_closed contexts redex (redex_ready chases a.store redex) below.0 below.1 (redex_closed chases read a.store redex places h.store)
 
-  -- an activity, requests and values that are closed have a closed plan
-  pub plan_closed : (chases : FutureShape → Chase) → ReadsClosed chases → ClosedPlan (plan chases requests n a)
-  plan_closed chases read = split_closed chases read (split a.term) (split_is_below (length a.store) a.term h.term)
+  -- an activity, requests and values that are closed have a closed intent
+  pub intent_closed : (chases : FutureShape → Chase) → ReadsClosed chases → ClosedIntent (intent chases requests n a)
+  intent_closed chases read = split_closed chases read (split a.term) (split_is_below (length a.store) a.term h.term)

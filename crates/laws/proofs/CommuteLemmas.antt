@@ -1,4 +1,4 @@
--- Steps of two activities: what each leaves of the other's plan, and that they may be taken in either order.
+-- Steps of two activities: what each leaves of the other's intent, and that they may be taken in either order.
 use Rattle.std.specs.Prelude.{◌≡◌, ◌≢◌, true, T, List, [], ◌∷◌, ◌++◌, Option, Some, None, length, is_some}
 use Rattle.std.proofs.Common.{refl, sym, ap, subst, ◌∙◌}
 use Rattle.std.proofs.lemmas.Bool.{and_parts, and_from}
@@ -7,51 +7,51 @@ use Rattle.std.specs.FinMap.Entries.{is_sorted-put}
 use Rattle.asp_model.specs.Names.{Name, FutureShape, name_cmp, future_cmp}
 use Rattle.asp_model.specs.Chase.{chase}
 use Rattle.asp_model.specs.Configuration.{RequestShape, Activity, Configuration, or_none, requests_of}
-use Rattle.asp_model.specs.Plan.{Acts, Rests, Done, Effect, plan}
-use Rattle.asp_model.specs.Step.{ListsShape, plan_in, put_some, with_sent, with_effect, name_at, is_named, names_or_none, is_next, may_send}
+use Rattle.asp_model.specs.Intent.{Acts, Rests, Done, Effect, intent}
+use Rattle.asp_model.specs.Step.{ListsShape, intent_in, put_some, with_sent, with_effect, name_at, is_named, names_or_none, is_next, may_send}
 use Rattle.laws.specs.Waking.{labels_wanted}
 use Rattle.laws.proofs.NameLemmas.{named_is, name_total, name_same, future_total, future_same, no_some, some_is, is_there}
 use Rattle.laws.proofs.MapLemmas as Maps
 use Rattle.laws.proofs.StepLemmas.{Takes}
 use Rattle.laws.proofs.ChaseLemmas.{chase_value}
-use Rattle.laws.proofs.PersistLemmas.{KeepsValues, GoesOn, plan_on}
+use Rattle.laws.proofs.PersistLemmas.{KeepsValues, GoesOn, intent_on}
 use Rattle.laws.proofs.OrderLemmas.{IsNew, KeysApart, fills_extend, fills_longer, own_kept, box_grows, still_there, swap_some}
 use Rattle.laws.proofs.FactLemmas.{acts_facts}
 use Rattle.laws.proofs.SoundLemmas.{Sound, Took}
 use Rattle.laws.proofs.KeptLemmas.{fresh, made_apart, filled_apart}
 
 pub took : (lists : Option ListsShape) (c : Configuration) (n : Name) (e : Effect) → Sound c → Takes lists c n e → Took c n e
-took lists c n e s t = let p = acts_facts c n e t.plans in record { sound = s; there = p.0; facts = p.1 }
+took lists c n e s t = let p = acts_facts c n e t.intends in record { sound = s; there = p.0; facts = p.1 }
 
--- The plan of another
+-- The intent of another
 
-pub planned_is : (c : Configuration) (n : Name) (a : Activity) → find name_cmp n c.activities ≡ Some a → plan_in c n ≡ plan (chase c.futures) (requests_of c n) n a
-planned_is c n a h = ap (λ o. elim o [ None ↦ Rests Done | Some a ↦ plan (chase c.futures) (requests_of c n) n a ]) h
+pub intended_is : (c : Configuration) (n : Name) (a : Activity) → find name_cmp n c.activities ≡ Some a → intent_in c n ≡ intent (chase c.futures) (requests_of c n) n a
+intended_is c n a h = ap (λ o. elim o [ None ↦ Rests Done | Some a ↦ intent (chase c.futures) (requests_of c n) n a ]) h
 
 pub values_kept : (c : Configuration) (m : Name) (d : Effect) → Took c m d → KeepsValues (chase c.futures) (chase (with_effect m d c).futures)
 values_kept c m d t x y p = chase_value c.futures (put_some future_cmp d.filled c.futures) (fills_extend d.filled c.futures (fresh c m d t).filled) (fills_longer d.filled c.futures t.sound.ordered.futures) x y p
 
--- what a step of m leaves of the plan of n, which received these requests in it
-pub plan_beside : (c : Configuration) (n m : Name) (d : Effect) (a : Activity) (holds : FutureShape → FutureShape → Type 0) → n ≢ m → (t : Took c m d) → find name_cmp n c.activities ≡ Some a
-    → (qs : List RequestShape) × (requests_of (with_effect m d c) n ≡ requests_of c n ++ qs) × GoesOn (chase c.futures) (chase (with_effect m d c).futures) (values_kept c m d t) holds (requests_of c n) qs n a (labels_wanted a) (plan_in c n) (plan_in (with_effect m d c) n)
-plan_beside c n m d a holds apart t is =
+-- what a step of m leaves of the intent of n, which received these requests in it
+pub intent_beside : (c : Configuration) (n m : Name) (d : Effect) (a : Activity) (holds : FutureShape → FutureShape → Type 0) → n ≢ m → (t : Took c m d) → find name_cmp n c.activities ≡ Some a
+    → (qs : List RequestShape) × (requests_of (with_effect m d c) n ≡ requests_of c n ++ qs) × GoesOn (chase c.futures) (chase (with_effect m d c).futures) (values_kept c m d t) holds (requests_of c n) qs n a (labels_wanted a) (intent_in c n) (intent_in (with_effect m d c) n)
+intent_beside c n m d a holds apart t is =
     let grown = box_grows n d.sent c.received in
     let g = chase (with_effect m d c).futures in
     let keeps = values_kept c m d t in
     let own : find name_cmp n (with_effect m d c).activities ≡ Some a = own_kept c n m d apart (fresh c m d t) (ap is_some is) ∙ is in
-    let later : plan_in (with_effect m d c) n ≡ plan g (requests_of c n ++ grown.0) n a = planned_is (with_effect m d c) n a own ∙ ap (λ rs. plan g rs n a) grown.1 in (
+    let later : intent_in (with_effect m d c) n ≡ intent g (requests_of c n ++ grown.0) n a = intended_is (with_effect m d c) n a own ∙ ap (λ rs. intent g rs n a) grown.1 in (
       grown.0,
       grown.1,
-      subst (λ p. GoesOn (chase c.futures) g keeps holds (requests_of c n) grown.0 n a (labels_wanted a) p (plan_in (with_effect m d c) n)) (sym (planned_is c n a is))
-          (subst (GoesOn (chase c.futures) g keeps holds (requests_of c n) grown.0 n a (labels_wanted a) (plan (chase c.futures) (requests_of c n) n a)) (sym later) (plan_on (chase c.futures) g keeps holds (requests_of c n) grown.0 n a)),
+      subst (λ p. GoesOn (chase c.futures) g keeps holds (requests_of c n) grown.0 n a (labels_wanted a) p (intent_in (with_effect m d c) n)) (sym (intended_is c n a is))
+          (subst (GoesOn (chase c.futures) g keeps holds (requests_of c n) grown.0 n a (labels_wanted a) (intent (chase c.futures) (requests_of c n) n a)) (sym later) (intent_on (chase c.futures) g keeps holds (requests_of c n) grown.0 n a)),
     )
 
 -- who acts still does, with the same effect
-pub acts_still : (c : Configuration) (n m : Name) (e d : Effect) → n ≢ m → Took c m d → plan_in c n ≡ Acts e → plan_in (with_effect m d c) n ≡ Acts e
-acts_still c n m e d apart t plans =
-    let a = is_there (find name_cmp n c.activities) (acts_facts c n e plans).0 in
-    let x = plan_beside c n m d a.0 (λ h k. Unit {0}) apart t a.1 in
-    subst (λ p. GoesOn (chase c.futures) (chase (with_effect m d c).futures) (values_kept c m d t) (λ h k. Unit {0}) (requests_of c n) x.0 n a.0 (labels_wanted a.0) p (plan_in (with_effect m d c) n)) plans x.2
+pub acts_still : (c : Configuration) (n m : Name) (e d : Effect) → n ≢ m → Took c m d → intent_in c n ≡ Acts e → intent_in (with_effect m d c) n ≡ Acts e
+acts_still c n m e d apart t intends =
+    let a = is_there (find name_cmp n c.activities) (acts_facts c n e intends).0 in
+    let x = intent_beside c n m d a.0 (λ h k. Unit {0}) apart t a.1 in
+    subst (λ p. GoesOn (chase c.futures) (chase (with_effect m d c).futures) (values_kept c m d t) (λ h k. Unit {0}) (requests_of c n) x.0 n a.0 (labels_wanted a.0) p (intent_in (with_effect m d c) n)) intends x.2
 
 -- Sends to different activities
 
@@ -65,10 +65,10 @@ sends_apart_by : (lists : ListsShape) (c : Configuration) (n m : Name) (o p : Op
 sends_apart_by lists c n m None p apart a b = tt
 sends_apart_by lists c n m (Some x) None apart a b = tt
 sends_apart_by lists c n m (Some x) (Some y) apart a b = λ e.
-    let turn : Name → Option Name = λ k. name_at (names_or_none (find name_cmp k lists)) (length (requests_of c k)) in
-    let n_next : turn x.0 ≡ Some n = named_is n (turn x.0) (and_parts (is_some (find name_cmp x.0 c.activities)) (is_next (Some lists) c x.0 n) a).1 in
-    let m_next : turn y.0 ≡ Some m = named_is m (turn y.0) (and_parts (is_some (find name_cmp y.0 c.activities)) (is_next (Some lists) c y.0 m) b).1 in
-    apart (some_is (sym n_next ∙ ap turn e ∙ m_next))
+    let expected : Name → Option Name = λ k. name_at (names_or_none (find name_cmp k lists)) (length (requests_of c k)) in
+    let n_next : expected x.0 ≡ Some n = named_is n (expected x.0) (and_parts (is_some (find name_cmp x.0 c.activities)) (is_next (Some lists) c x.0 n) a).1 in
+    let m_next : expected y.0 ≡ Some m = named_is m (expected y.0) (and_parts (is_some (find name_cmp y.0 c.activities)) (is_next (Some lists) c y.0 m) b).1 in
+    apart (some_is (sym n_next ∙ ap expected e ∙ m_next))
 
 -- with lists one sender at a time is next
 pub sends_apart : (lists : ListsShape) (c : Configuration) (n m : Name) (e d : Effect) → n ≢ m → Takes (Some lists) c n e → Takes (Some lists) c m d → SendsApart e.sent d.sent
@@ -92,7 +92,7 @@ may_kept lists c n m d (Some x) a h =
     (next_same lists c (with_effect m d c) x.0 n (box_kept (Some x) d.sent x refl a c.received) ∙ b.1)
 
 pub takes_still : (lists : Option ListsShape) (c : Configuration) (n m : Name) (e d : Effect) → n ≢ m → Took c m d → SendsApart e.sent d.sent → Takes lists c n e → Takes lists (with_effect m d c) n e
-takes_still lists c n m e d apart t sends x = record { plans = acts_still c n m e d apart t x.plans; may = may_kept lists c n m d e.sent sends x.may }
+takes_still lists c n m e d apart t sends x = record { intends = acts_still c n m e d apart t x.intends; may = may_kept lists c n m d e.sent sends x.may }
 
 -- The two orders leave the same
 

@@ -4,7 +4,7 @@ use Rattle.std.proofs.Common.{refl, sym, ap, subst, ◌∙◌, arith, ⊎_elim, 
 use Rattle.std.specs.FinMap.{find}
 use Rattle.asp_model.specs.Names.{Name, name_cmp}
 use Rattle.asp_model.specs.Configuration.{RequestShape, Configuration, or_none, requests_of}
-use Rattle.asp_model.specs.Plan.{Effect}
+use Rattle.asp_model.specs.Intent.{Effect}
 use Rattle.asp_model.specs.Step.{ListsShape, with_sent, with_effect, step}
 use Rattle.laws.specs.Commuting.{Commute, StepsCommute, ReceiveApart, FreeStepsCommute}
 use Rattle.laws.proofs.NameLemmas.{name_total, name_same}

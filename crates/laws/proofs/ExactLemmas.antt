@@ -5,7 +5,7 @@ use Rattle.std.specs.FinMap.{find, put}
 use Rattle.asp_model.specs.Names.{Name, name_cmp}
 use Rattle.asp_model.specs.Term.{Tree}
 use Rattle.asp_model.specs.Configuration.{RequestShape, Activity, Configuration, or_none, requests_of, start}
-use Rattle.asp_model.specs.Plan.{Effect}
+use Rattle.asp_model.specs.Intent.{Effect}
 use Rattle.asp_model.specs.Step.{put_some, with_sent, with_effect}
 use Rattle.laws.specs.Reached.{IsThere}
 use Rattle.laws.specs.Kept.{Stands}

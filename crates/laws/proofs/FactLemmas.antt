@@ -10,8 +10,8 @@ use Rattle.asp_model.specs.Parcel.{ParcelShape, parcel_of, has_place}
 use Rattle.asp_model.specs.Contraction.{Contraction, Becomes, Faults, Needs, Communicates, Breaks, Creates, Sends, Serves, contract}
 use Rattle.asp_model.specs.Chase.{Chase, chase}
 use Rattle.asp_model.specs.Configuration.{RequestShape, ServiceShape, Activity, Configuration, requests_of}
-use Rattle.asp_model.specs.Plan.{Plan, Acts, Rests, Done, Effect, StatusShape, Ready, Reads, Lacks, Awaits, redex_ready, Numbered, oldest_match, labels_served, serves, newest, but_newest, filling, ends_service, creates, sends, contracts, plan}
-use Rattle.asp_model.specs.Step.{plan_in}
+use Rattle.asp_model.specs.Intent.{Intent, Acts, Rests, Done, Effect, StatusShape, Ready, Reads, Lacks, Awaits, redex_ready, Numbered, oldest_match, labels_served, serves, newest, but_newest, filling, ends_service, creates, sends, contracts, intent}
+use Rattle.asp_model.specs.Step.{intent_in}
 use Rattle.laws.specs.Kept.{tally, tally_all}
 use Rattle.laws.proofs.NameLemmas.{no_some, some_is}
 
@@ -57,9 +57,9 @@ pub record Facts (requests : List RequestShape) (n : Name) (x : Face) (e : Effec
   pub sent : IsSent n x (face_of e.own) e.sent
   pub holding : Holding requests x (face_of e.own) e.filled
 
--- Plans
+-- Intents
 
-abbrev is_acts : Plan → Bool
+abbrev is_acts : Intent → Bool
 is_acts (Acts e) = true
 is_acts (Rests status) = false
 
@@ -176,13 +176,13 @@ module _ (requests : List RequestShape) (n : Name) (a : Activity) where
   split_facts chases (Stands place) e h = end_facts place (newest a.services) refl e h
   split_facts chases (Splits contexts redex) e h = ready_facts contexts redex (redex_ready chases a.store redex) e h
 
-  pub plan_facts : (chases : FutureShape → Chase) (e : Effect) → plan chases requests n a ≡ Acts e → Facts requests n (face_of a) e
-  plan_facts chases e h = split_facts chases (split a.term) e h
+  pub intent_facts : (chases : FutureShape → Chase) (e : Effect) → intent chases requests n a ≡ Acts e → Facts requests n (face_of a) e
+  intent_facts chases e h = split_facts chases (split a.term) e h
 
-planned : (c : Configuration) (n : Name) (o : Option Activity) (e : Effect) → elim o [ None ↦ Rests Done | Some a ↦ plan (chase c.futures) (requests_of c n) n a ] ≡ Acts e → (is_some o ≡ true) × Facts (requests_of c n) n (face o) e
-planned c n None e h = no_acts h
-planned c n (Some a) e h = (refl, plan_facts (requests_of c n) n a (chase c.futures) e h)
+intended : (c : Configuration) (n : Name) (o : Option Activity) (e : Effect) → elim o [ None ↦ Rests Done | Some a ↦ intent (chase c.futures) (requests_of c n) n a ] ≡ Acts e → (is_some o ≡ true) × Facts (requests_of c n) n (face o) e
+intended c n None e h = no_acts h
+intended c n (Some a) e h = (refl, intent_facts (requests_of c n) n a (chase c.futures) e h)
 
 -- who acts is there, and has these facts
-pub acts_facts : (c : Configuration) (n : Name) (e : Effect) → plan_in c n ≡ Acts e → (is_some (find name_cmp n c.activities) ≡ true) × Facts (requests_of c n) n (face (find name_cmp n c.activities)) e
-acts_facts c n e h = planned c n (find name_cmp n c.activities) e h
+pub acts_facts : (c : Configuration) (n : Name) (e : Effect) → intent_in c n ≡ Acts e → (is_some (find name_cmp n c.activities) ≡ true) × Facts (requests_of c n) n (face (find name_cmp n c.activities)) e
+acts_facts c n e h = intended c n (find name_cmp n c.activities) e h

@@ -4,13 +4,13 @@ use Rattle.std.proofs.Common.{refl, sym, ap, subst, ◌∙◌, arith, ⊎_elim, 
 use Rattle.std.proofs.lemmas.Bool.{and_from}
 use Rattle.std.proofs.lemmas.List.{length-map}
 use Rattle.std.specs.FinMap.{find}
-use Rattle.runs.specs.Systems.{System, hit, count}
-use Rattle.runs.proofs.Counts.{hit_same, hit_other}
-use Rattle.runs.proofs.Joins.{one_end}
+use Rattle.commuting_systems.specs.Systems.{System, hit, count}
+use Rattle.commuting_systems.proofs.Counts.{hit_same, hit_other}
+use Rattle.commuting_systems.proofs.Joins.{one_end}
 use Rattle.asp_model.specs.Names.{Name, name_cmp}
 use Rattle.asp_model.specs.Term.{Tree}
 use Rattle.asp_model.specs.Configuration.{RequestShape, Configuration, or_none, requests_of, start}
-use Rattle.asp_model.specs.Plan.{Effect}
+use Rattle.asp_model.specs.Intent.{Effect}
 use Rattle.asp_model.specs.Step.{ListsShape, with_sent, with_effect, name_at, is_named, is_next, may_send, step}
 use Rattle.asp_model.specs.Replay.{senders_in, lists_of, counts_of, count_in}
 use Rattle.laws.specs.Reached.{RunsTo}
@@ -62,7 +62,7 @@ listed_step lists n c d r h within =
     let t = took None c n x.0 r.sound x.1 in
     let after : (m : Name) → IsPrefix (senders (with_effect n x.0 c) m) (senders_in lists m) = subst (λ z. Within z lists) (sym x.2) within in
     let may = may_in lists c n x.0.sent (λ z p. ((is_sent c n x.0 t z p).2, target_there None c n x.0 x.1 z p)) after in (
-      takes_step (Some lists) c n x.0 (record { plans = x.1.plans; may = may }) ∙ ap Some x.2,
+      takes_step (Some lists) c n x.0 (record { intends = x.1.intends; may = may }) ∙ ap Some x.2,
       λ m. prefix_both _ _ _ (grown_by x.0.sent c m) (after m),
     )
 

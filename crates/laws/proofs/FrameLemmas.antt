@@ -6,8 +6,8 @@ use Rattle.std.specs.FinMap.{find, put}
 use Rattle.asp_model.specs.Names.{Name, FutureShape, name_cmp, future_cmp, created_name}
 use Rattle.asp_model.specs.Parcel.{ParcelShape}
 use Rattle.asp_model.specs.Configuration.{RequestShape, Activity, Configuration, or_none, requests_of}
-use Rattle.asp_model.specs.Step.{plan_in, put_some, with_sent}
-use Rattle.laws.specs.Steps.{ListedIsFree, StepsCount, OthersStay, OneIsMade, RequestsGrow, FuturesFill, PlansStay, EffectsAreNew}
+use Rattle.asp_model.specs.Step.{intent_in, put_some, with_sent}
+use Rattle.laws.specs.Steps.{ListedIsFree, StepsCount, OthersStay, OneIsMade, RequestsGrow, FuturesFill, IntentsStay, EffectsAreNew}
 use Rattle.laws.proofs.NameLemmas.{name_total, name_same, name_case, no_some, is_there}
 use Rattle.laws.proofs.MapLemmas as Maps
 use Rattle.laws.proofs.StepLemmas.{step_taken, listed_is_free}
@@ -64,7 +64,7 @@ sender_of n x y o s z p = (subst (IsSent n x y) p s).2
 pub requests_grow : RequestsGrow
 requests_grow lists c d n m h =
     let x = step_taken lists c n d h in
-    let facts = (acts_facts c n x.0 x.1.plans).1 in
+    let facts = (acts_facts c n x.0 x.1.intends).1 in
     subst (λ z. (requests_of z m ≡ requests_of c m) ⊎ ((r : RequestShape) × (requests_of z m ≡ requests_of c m ++ r ∷ []) × (r.sender ≡ n))) x.2
     (grows_by c n m x.0.sent (sender_of n (at_name c n) (face_of x.0.own) x.0.sent facts.sent))
 
@@ -80,18 +80,18 @@ futures_fill program c d n s =
     subst (λ z. (z.futures ≡ c.futures) ⊎ ((f : FutureShape) × (value : ParcelShape) × (find future_cmp f c.futures ≡ None) × (z.futures ≡ put future_cmp f value c.futures))) x.2
     (fills_by c.futures x.0.filled (fresh c n x.0 t).filled)
 
-pub plans_stay : PlansStay
-plans_stay program c d n m e s apart plans =
+pub intends_stay : IntentsStay
+intends_stay program c d n m e s apart intends =
     let x = step_taken s.lists c n d s.steps in
     let t = took s.lists c n x.0 (reached_sound program c s.reached) x.1 in
-    ap (λ z. plan_in z m) (sym x.2) ∙ acts_still c m n e x.0 apart t plans
+    ap (λ z. intent_in z m) (sym x.2) ∙ acts_still c m n e x.0 apart t intends
 
 new_key : {K X : Type 0} (R : K → K → Ordering) (o : Option (K × X)) (es : List (K × X)) → IsNew R o es → (z : K × X) → o ≡ Some z → find R z.0 es ≡ None
 new_key R o es new z is = subst (λ o. IsNew R o es) is new
 
 pub effects_are_new : EffectsAreNew
-effects_are_new program c n e reached plans =
-    let p = acts_facts c n e plans in
+effects_are_new program c n e reached intends =
+    let p = acts_facts c n e intends in
     let t : Took c n e = record { sound = reached_sound program c reached; there = p.0; facts = p.1 } in
     let new = fresh c n e t in
     record {

@@ -4,9 +4,9 @@ use Rattle.std.proofs.Common.{refl, sym, ap, subst, ◌∙◌, arith, inl, inr, 
 use Rattle.std.proofs.lemmas.Bool.{and_parts}
 use Rattle.std.proofs.lemmas.List.{append-nil, length-map}
 use Rattle.std.specs.FinMap.{find}
-use Rattle.runs.specs.Systems.{count}
-use Rattle.runs.proofs.Counts.{run_both, count_both, hit_same}
-use Rattle.runs.proofs.Joins.{Joined, runs_join, stopped_end}
+use Rattle.commuting_systems.specs.Systems.{count}
+use Rattle.commuting_systems.proofs.Counts.{run_both, count_both, hit_same}
+use Rattle.commuting_systems.proofs.Joins.{Joined, runs_join, stopped_end}
 use Rattle.asp_model.specs.Names.{Name, name_cmp}
 use Rattle.asp_model.specs.Term.{Tree}
 use Rattle.asp_model.specs.Configuration.{RequestShape, Configuration, or_none, requests_of, start}
@@ -36,8 +36,8 @@ within_by lists n c None by may w m = w m
 within_by lists n c (Some z) by may w m = ⊎_elim
     (λ x.
     let p = w m in
-    let turn : name_at (senders_in lists z.0) (length (requests_of c z.0)) ≡ Some n = named_is n (name_at (senders_in lists z.0) (length (requests_of c z.0))) (and_parts (is_some (find name_cmp z.0 c.activities)) (is_next (Some lists) c z.0 n) may).1 in
-    let next : name_at (senders c m ++ p.0) (length (senders c m)) ≡ Some n = ap (λ l. name_at l (length (senders c m))) p.1 ∙ ap (name_at (senders_in lists m)) (length-map (requests_of c m) (λ r. r.sender)) ∙ ap (λ k. name_at (senders_in lists k) (length (requests_of c k))) (sym x.0) ∙ turn in
+    let expected : name_at (senders_in lists z.0) (length (requests_of c z.0)) ≡ Some n = named_is n (name_at (senders_in lists z.0) (length (requests_of c z.0))) (and_parts (is_some (find name_cmp z.0 c.activities)) (is_next (Some lists) c z.0 n) may).1 in
+    let next : name_at (senders c m ++ p.0) (length (senders c m)) ≡ Some n = ap (λ l. name_at l (length (senders c m))) p.1 ∙ ap (name_at (senders_in lists m)) (length-map (requests_of c m) (λ r. r.sender)) ∙ ap (λ k. name_at (senders_in lists k) (length (requests_of c k))) (sym x.0) ∙ expected in
     let q = prefix_next (senders c m) p.0 n next in
     (q.0, ap (λ l. l ++ q.0) (x.1 ∙ ap (λ k. senders c m ++ k ∷ []) (by z refl)) ∙ q.1 ∙ p.1))
     (λ x. subst (λ l. IsPrefix l (senders_in lists m)) (sym x) (w m))

@@ -7,7 +7,7 @@ use Rattle.std.specs.FinMap.Entries.{is_sorted-put}
 use Rattle.asp_model.specs.Names.{Name, FutureShape, name_cmp, future_cmp}
 use Rattle.asp_model.specs.Parcel.{ParcelShape, has_place}
 use Rattle.asp_model.specs.Configuration.{RequestShape, Activity, Configuration, or_none, requests_of}
-use Rattle.asp_model.specs.Plan.{Effect, filling}
+use Rattle.asp_model.specs.Intent.{Effect, filling}
 use Rattle.asp_model.specs.Step.{put_some, with_sent, with_effect}
 use Rattle.laws.specs.Kept.{Stands, mark, tally, one_where, one_unless}
 use Rattle.laws.proofs.NameLemmas.{name_total, name_same, future_total, future_same, name_case, future_case, no_some, some_is, last_same}

@@ -10,13 +10,13 @@ use Rattle.asp_model.specs.Store.{CellShape, Number, Object, Reference, Future, 
 use Rattle.asp_model.specs.Parcel.{ParcelShape, place_at, unpack_at}
 use Rattle.asp_model.specs.Chase.{Lead, Ends, Goes, lead_of, lead_by, chase}
 use Rattle.asp_model.specs.Configuration.{RequestShape, Activity, Configuration, requests_of, start}
-use Rattle.asp_model.specs.Plan.{StatusShape, Awaits, Running, Done, Serving, Faulted, Plan, Acts, Rests, Effect, plan}
-use Rattle.asp_model.specs.Step.{ListsShape, plan_in, put_some, with_effect, may_send, step}
-use Rattle.asp_model.specs.Status.{status_of_plan, status_of, is_running, IsStuck}
+use Rattle.asp_model.specs.Intent.{StatusShape, Awaits, Running, Done, Serving, Faulted, Intent, Acts, Rests, Effect, intent}
+use Rattle.asp_model.specs.Step.{ListsShape, intent_in, put_some, with_effect, may_send, step}
+use Rattle.asp_model.specs.Status.{status_of_intent, status_of, is_running, IsStuck}
 use Rattle.laws.specs.Reached.{IsReached, IsThere, Move, Steps, Makes, Edges, Needs}
 use Rattle.laws.specs.Kept.{IsBegun, sends_of}
-use Rattle.laws.specs.Linked.{Each, IsKnown, IsLinked, CellsAreLinked, TargetsAreThere, AwaitedAreBegun, PlansStep, StuckIsStill, AreKnown}
-use Rattle.runs.specs.Systems.{Leads}
+use Rattle.laws.specs.Linked.{Each, IsKnown, IsLinked, CellsAreLinked, TargetsAreThere, AwaitedAreBegun, IntentsStep, StuckIsStill, AreKnown}
+use Rattle.commuting_systems.specs.Systems.{Leads}
 use Rattle.laws.proofs.NameLemmas.{name_total, name_same, future_total, future_same, name_case, future_case, no_some, some_is, none_true, is_there}
 use Rattle.laws.proofs.MapLemmas as Maps
 use Rattle.laws.proofs.StepLemmas.{step_taken, takes_step}
@@ -27,12 +27,12 @@ use Rattle.laws.proofs.FactLemmas.{acts_facts}
 use Rattle.laws.proofs.SoundLemmas.{Took, at_name, came, own_after}
 use Rattle.laws.proofs.KeptLemmas.{sends_grow, is_sent}
 use Rattle.laws.proofs.ExactLemmas.{here_after}
-use Rattle.laws.proofs.CommuteLemmas.{took, planned_is}
+use Rattle.laws.proofs.CommuteLemmas.{took, intended_is}
 use Rattle.laws.proofs.ReachedLemmas.{Right, start_right, move_right, reached_right}
 use Rattle.laws.proofs.WakeLemmas.{none_rests_running}
 use Rattle.laws.proofs.NamesLaws.{sends_at, filled_begun}
 use Rattle.laws.proofs.EntryLemmas.{In, found_entry}
-use Rattle.laws.proofs.CleanLemmas.{AllRead, AllLacked, AllSent, Aims, plan_aims, NamesOf, Clean, plan_clean}
+use Rattle.laws.proofs.CleanLemmas.{AllRead, AllLacked, AllSent, Aims, intent_aims, NamesOf, Clean, intent_clean}
 use Rattle.laws.specs.Deliveries.{with_store, holders_from, unpack_each}
 use Rattle.laws.proofs.DeliveryLemmas.{same_there, same_face, found_delivered}
 
@@ -119,26 +119,26 @@ value_after (Some z) vs f p h = ⊎_elim
     (λ d. inl (sym (Maps.find_other future_cmp future_total future_same f z.0 z.1 vs d) ∙ h))
     (future_case f z.0)
 
--- who acts is found, and acts by its plan
-pub acting : (c : Configuration) (n : Name) (e : Effect) → plan_in c n ≡ Acts e → (a : Activity) × (find name_cmp n c.activities ≡ Some a) × (plan (chase c.futures) (requests_of c n) n a ≡ Acts e)
-acting c n e h = let a = is_there (find name_cmp n c.activities) (acts_facts c n e h).0 in (a.0, a.1, sym (planned_is c n a.0 a.1) ∙ h)
+-- who acts is found, and acts by its intent
+pub acting : (c : Configuration) (n : Name) (e : Effect) → intent_in c n ≡ Acts e → (a : Activity) × (find name_cmp n c.activities ≡ Some a) × (intent (chase c.futures) (requests_of c n) n a ≡ Acts e)
+acting c n e h = let a = is_there (find name_cmp n c.activities) (acts_facts c n e h).0 in (a.0, a.1, sym (intended_is c n a.0 a.1) ∙ h)
 
-clean_after : (c : Configuration) (n : Name) (e : Effect) → Right c → Took c n e → IsLinked c → plan_in c n ≡ Acts e → Clean (IsKnown (with_effect n e c)) e
-clean_after c n e r t l plans =
+clean_after : (c : Configuration) (n : Name) (e : Effect) → Right c → Took c n e → IsLinked c → intent_in c n ≡ Acts e → Clean (IsKnown (with_effect n e c)) e
+clean_after c n e r t l intends =
     let d = with_effect n e c in
     let to : (cs : List CellShape) → Each (IsKnown c) cs → Each (IsKnown d) cs = each_weaker (IsKnown c) (IsKnown d) (knows_after c n e t) in
     let values : (f : FutureShape) (p : ParcelShape) → find future_cmp f c.futures ≡ Some p → Each (IsKnown d) p.cells = λ f p h. to p.cells (l.values f p h) in
-    let x = acting c n e plans in
-    plan_clean (IsKnown d) (knows_names d) (requests_of c n) (all_sent (IsKnown d) (requests_of c n) (λ k r st. to r.arguments.cells (l.arguments n k r st))) n x.0 (to x.0.store (l.stores n x.0 x.1)) (chase c.futures)
+    let x = acting c n e intends in
+    intent_clean (IsKnown d) (knows_names d) (requests_of c n) (all_sent (IsKnown d) (requests_of c n) (λ k r st. to r.arguments.cells (l.arguments n k r st))) n x.0 (to x.0.store (l.stores n x.0 x.1)) (chase c.futures)
     (all_read (IsKnown d) c values)
     (all_lacked (IsKnown d) (knows_names d) c values (λ f h. knows_after c n e t (Future f) (filled_begun c r f h)))
     e x.2 (names_after c n e t)
 
-linked_after : (c : Configuration) (n : Name) (e : Effect) → Right c → Took c n e → IsLinked c → plan_in c n ≡ Acts e → IsLinked (with_effect n e c)
-linked_after c n e r t l plans =
+linked_after : (c : Configuration) (n : Name) (e : Effect) → Right c → Took c n e → IsLinked c → intent_in c n ≡ Acts e → IsLinked (with_effect n e c)
+linked_after c n e r t l intends =
     let d = with_effect n e c in
     let to : (cs : List CellShape) → Each (IsKnown c) cs → Each (IsKnown d) cs = each_weaker (IsKnown c) (IsKnown d) (knows_after c n e t) in
-    let clean = clean_after c n e r t l plans in
+    let clean = clean_after c n e r t l intends in
     record {
       stores = λ m a h. ⊎_elim
           (λ old. to a.store (l.stores m a old))
@@ -162,7 +162,7 @@ linked_start program = record {
 }
 
 step_linked : (lists : Option ListsShape) (n : Name) (c d : Configuration) → step lists c n ≡ Some d → Right c → IsLinked c → IsLinked d
-step_linked lists n c d h r l = let x = step_taken lists c n d h in subst IsLinked x.2 (linked_after c n x.0 r (took lists c n x.0 r.sound x.1) l x.1.plans)
+step_linked lists n c d h r l = let x = step_taken lists c n d h in subst IsLinked x.2 (linked_after c n x.0 r (took lists c n x.0 r.sound x.1) l x.1.intends)
 
 -- an activity over another store, in which all that stands is known
 store_linked : (c : Configuration) (n : Name) (a : Activity) (t : Store) (d : Configuration) → find name_cmp n c.activities ≡ Some a → d ≡ with_store c n a t → IsLinked c → AreKnown c t → IsLinked d
@@ -200,13 +200,13 @@ moves_linked (m ∷ moves) c d h r l = moves_linked moves h.0 d h.2 (move_right 
 pub cells_are_linked : CellsAreLinked
 cells_are_linked program c r = moves_linked r.moves (start program) c r.run (start_right program) (linked_start program)
 
-aims_at : (c : Configuration) (n : Name) (a : Activity) → Right c → IsLinked c → find name_cmp n c.activities ≡ Some a → Aims (IsKnown c) (plan_in c n)
-aims_at c n a r l is = subst (Aims (IsKnown c)) (sym (planned_is c n a is)) (plan_aims (IsKnown c) (knows_names c) (chase c.futures) (all_read (IsKnown c) c l.values) (all_lacked (IsKnown c) (knows_names c) c l.values (filled_begun c r)) (requests_of c n) n a (l.stores n a is))
+aims_at : (c : Configuration) (n : Name) (a : Activity) → Right c → IsLinked c → find name_cmp n c.activities ≡ Some a → Aims (IsKnown c) (intent_in c n)
+aims_at c n a r l is = subst (Aims (IsKnown c)) (sym (intended_is c n a is)) (intent_aims (IsKnown c) (knows_names c) (chase c.futures) (all_read (IsKnown c) c l.values) (all_lacked (IsKnown c) (knows_names c) c l.values (filled_begun c r)) (requests_of c n) n a (l.stores n a is))
 
 pub targets_are_there : TargetsAreThere
-targets_are_there program c n e x reached plans sent =
-    let a = acting c n e plans in
-    subst (Aims (IsKnown c)) plans (aims_at c n a.0 (reached_right program c reached) (cells_are_linked program c reached) a.1) x sent
+targets_are_there program c n e x reached intends sent =
+    let a = acting c n e intends in
+    subst (Aims (IsKnown c)) intends (aims_at c n a.0 (reached_right program c reached) (cells_are_linked program c reached) a.1) x sent
 
 abbrev is_await : StatusShape → Bool
 is_await (Awaits f) = true
@@ -219,8 +219,8 @@ awaited_or f s = f
 awaits_at : {f g : FutureShape} → Awaits f ≡ Awaits g → f ≡ g
 awaits_at {f} h = ap (awaited_or f) h
 
--- of a plan with this status
-awaiting : (P : CellShape → Type 0) (p : Plan) (f : FutureShape) → Aims P p → status_of_plan p ≡ Awaits f → P (Future f)
+-- of an intent with this status
+awaiting : (P : CellShape → Type 0) (p : Intent) (f : FutureShape) → Aims P p → status_of_intent p ≡ Awaits f → P (Future f)
 awaiting P (Acts e) f aims h = none_true (ap is_await h)
 awaiting P (Rests (Awaits g)) f aims h = subst (λ k. P (Future k)) (awaits_at h) aims
 awaiting P (Rests Done) f aims h = none_true (ap is_await h)
@@ -232,15 +232,15 @@ pub awaited_are_begun : AwaitedAreBegun
 awaited_are_begun program c n f reached st = by_entry (find name_cmp n c.activities) refl
   where
     by_entry : (o : Option Activity) → find name_cmp n c.activities ≡ o → IsBegun c f
-    by_entry None is = none_true (ap is_await (sym (ap (λ o. status_of_plan (elim o [ None ↦ Rests Done | Some a ↦ plan (chase c.futures) (requests_of c n) n a ])) is) ∙ st))
-    by_entry (Some a) is = awaiting (IsKnown c) (plan_in c n) f (aims_at c n a (reached_right program c reached) (cells_are_linked program c reached) is) st
+    by_entry None is = none_true (ap is_await (sym (ap (λ o. status_of_intent (elim o [ None ↦ Rests Done | Some a ↦ intent (chase c.futures) (requests_of c n) n a ])) is) ∙ st))
+    by_entry (Some a) is = awaiting (IsKnown c) (intent_in c n) f (aims_at c n a (reached_right program c reached) (cells_are_linked program c reached) is) st
 
 may_freely : (c : Configuration) (n : Name) (o : Option (Name × RequestShape)) → ((x : Name × RequestShape) → o ≡ Some x → IsThere c x.0) → may_send None c n o ≡ true
 may_freely c n None there = refl
 may_freely c n (Some x) there = ap (λ b. b && true) (there x refl)
 
-pub plans_step : PlansStep
-plans_step program c n e reached plans = takes_step None c n e (record { plans = plans; may = may_freely c n e.sent (λ x sent. targets_are_there program c n e x reached plans sent) })
+pub intends_step : IntentsStep
+intends_step program c n e reached intends = takes_step None c n e (record { intends = intends; may = may_freely c n e.sent (λ x sent. targets_are_there program c n e x reached intends sent) })
 
 -- Stuck configurations
 
@@ -260,12 +260,12 @@ still_where_stuck c stuck n = by_step (step None c n) refl
     by_step None is = refl
     by_step (Some d) is =
         let x = step_taken None c n d is in
-        let a = acting c n x.0 x.1.plans in
+        let a = acting c n x.0 x.1.intends in
         let y = found_entry c.activities n a.0 a.1 in
-        none_true (sym stuck ∙ any_in c c.activities y.0 y.1 (ap (λ k. is_running (status_of c k)) y.2 ∙ ap (λ p. is_running (status_of_plan p)) x.1.plans))
+        none_true (sym stuck ∙ any_in c c.activities y.0 y.1 (ap (λ k. is_running (status_of c k)) y.2 ∙ ap (λ p. is_running (status_of_intent p)) x.1.intends))
 
-not_running : (program : Tree) (c : Configuration) (n : Name) → IsReached program c → step None c n ≡ None → (p : Plan) → plan_in c n ≡ p → is_running (status_of_plan p) ≡ false
-not_running program c n reached none (Acts e) is = no_some (sym none ∙ plans_step program c n e reached is)
+not_running : (program : Tree) (c : Configuration) (n : Name) → IsReached program c → step None c n ≡ None → (p : Intent) → intent_in c n ≡ p → is_running (status_of_intent p) ≡ false
+not_running program c n reached none (Acts e) is = no_some (sym none ∙ intends_step program c n e reached is)
 not_running program c n reached none (Rests Running) is = absurd (none_rests_running c n is)
 not_running program c n reached none (Rests Done) is = refl
 not_running program c n reached none (Rests Serving) is = refl
@@ -273,4 +273,4 @@ not_running program c n reached none (Rests (Awaits f)) is = refl
 not_running program c n reached none (Rests (Faulted x)) is = refl
 
 pub stuck_is_still : StuckIsStill
-stuck_is_still program c reached = (still_where_stuck c, λ none. none_in c c.activities (λ n. not_running program c n reached (none n) (plan_in c n) refl))
+stuck_is_still program c reached = (still_where_stuck c, λ none. none_in c c.activities (λ n. not_running program c n reached (none n) (intent_in c n) refl))

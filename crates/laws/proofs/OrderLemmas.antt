@@ -9,7 +9,7 @@ use Rattle.std.specs.FinMap.Entries.{is_sorted-put}
 use Rattle.asp_model.specs.Names.{Name, FutureShape, name_cmp, future_cmp}
 use Rattle.asp_model.specs.Parcel.{ParcelShape}
 use Rattle.asp_model.specs.Configuration.{RequestShape, Activity, Configuration, or_none}
-use Rattle.asp_model.specs.Plan.{Effect}
+use Rattle.asp_model.specs.Intent.{Effect}
 use Rattle.asp_model.specs.Step.{put_some, with_sent, with_effect}
 use Rattle.laws.proofs.NameLemmas.{name_total, name_same, future_total, future_same, name_case}
 use Rattle.laws.proofs.ChaseLemmas.{MoreFilled}

@@ -1,4 +1,4 @@
--- What more filled futures and more requests leave of a plan.
+-- What more filled futures and more requests leave of an intent.
 use Rattle.std.specs.Prelude.{◌≡◌, ℕ, suc, ◌&&◌, not, Bool, true, false, List, [], ◌∷◌, ◌++◌, Option, Some, None}
 use Rattle.std.proofs.Common.{refl, sym, ap, subst, ◌∙◌}
 use Rattle.std.proofs.lemmas.Bool.{or_parts, and_right}
@@ -10,7 +10,7 @@ use Rattle.asp_model.specs.Parcel.{ParcelShape, has_place}
 use Rattle.asp_model.specs.Contraction.{Contraction, Becomes, Faults, Needs, Communicates, Breaks, Creates, Sends, Serves, contract, strict_operands, strict_members}
 use Rattle.asp_model.specs.Chase.{Chase, Value, Unfilled, Cycle}
 use Rattle.asp_model.specs.Configuration.{RequestShape, ServiceShape, Activity}
-use Rattle.asp_model.specs.Plan.{Done, Serving, Running, Awaits, Faulted, Plan, Acts, Rests, Ready, Reads, Lacks, fetched, operand_ready, operands_ready, redex_ready, Numbered, oldest_match, labels_served, serves, newest, ends_service, contracts, plan}
+use Rattle.asp_model.specs.Intent.{Done, Serving, Running, Awaits, Faulted, Intent, Acts, Rests, Ready, Reads, Lacks, fetched, operand_ready, operands_ready, redex_ready, Numbered, oldest_match, labels_served, serves, newest, ends_service, contracts, intent}
 use Rattle.laws.specs.Waking.{labels_of_head, labels_at, labels_wanted, has_wanted}
 use Rattle.laws.proofs.NameLemmas.{no_some, some_is}
 use Rattle.laws.proofs.ContractionLemmas.{serves_by_head}
@@ -92,11 +92,11 @@ none_more labels served k (r ∷ rs) qs h w =
       | false ↦ λ h. none_more labels served (suc k) rs qs h w
     ] h
 
--- Plans
+-- Intents
 
 module _ (f g : FutureShape → Chase) (keeps : KeepsValues f g) (holds : FutureShape → FutureShape → Type 0) (rs qs : List RequestShape) (n : Name) (a : Activity) where
-  -- what becomes of a plan, where these labels are asked for
-  abbrev pub GoesOn : List Text → Plan → Plan → Type 0
+  -- what becomes of an intent, where these labels are asked for
+  abbrev pub GoesOn : List Text → Intent → Intent → Type 0
   GoesOn labels (Acts e) p = p ≡ Acts e
   GoesOn labels (Rests Done) p = p ≡ Rests Done
   GoesOn labels (Rests (Faulted x)) p = p ≡ Rests (Faulted x)
@@ -120,7 +120,7 @@ module _ (f g : FutureShape → Chase) (keeps : KeepsValues f g) (holds : Future
   reads_it : (s : Store) (r : Redex) (labels : List Text) → r.head ≡ Serve labels → redex_ready f s r ≡ Reads s
   reads_it s r labels h = ap (λ k. elim (operands_ready f s (strict_operands k r.places)) [ Reads t ↦ operands_ready f t (strict_members t k r.places) | Lacks x ↦ Lacks x ]) h
 
-  abbrev contracts_by : List RequestShape → List Context → Redex → Ready → Plan
+  abbrev contracts_by : List RequestShape → List Context → Redex → Ready → Intent
   contracts_by ps contexts redex o = elim o [ Lacks x ↦ Rests (Awaits x) | Reads s ↦ contracts ps n a contexts s (contract s redex) ]
 
   abbrev store_of : Ready → Store → Store
@@ -140,16 +140,16 @@ module _ (f g : FutureShape → Chase) (keeps : KeepsValues f g) (holds : Future
   ends_on place None = refl
   ends_on place (Some x) = refl
 
-  abbrev plan_by : (FutureShape → Chase) → List RequestShape → Split → Plan
-  plan_by chases ps t = elim t [
+  abbrev intent_by : (FutureShape → Chase) → List RequestShape → Split → Intent
+  intent_by chases ps t = elim t [
     | Stands place ↦ ends_service a place (newest a.services)
     | Splits contexts redex ↦ contracts_by ps contexts redex (redex_ready chases a.store redex)
   ]
 
-  split_on : (t : Split) → GoesOn (labels_at t (cell a.store a.active)) (plan_by f rs t) (plan_by g (rs ++ qs) t)
+  split_on : (t : Split) → GoesOn (labels_at t (cell a.store a.active)) (intent_by f rs t) (intent_by g (rs ++ qs) t)
   split_on (Stands place) = ends_on place (newest a.services)
   split_on (Splits contexts redex) = ready_on contexts redex (redex_ready f a.store redex) (redex_ready g a.store redex) refl (redex_on f g keeps holds a.store redex)
 
-  -- a plan where more futures are filled and more requests are there
-  pub plan_on : GoesOn (labels_wanted a) (plan f rs n a) (plan g (rs ++ qs) n a)
-  plan_on = split_on (split a.term)
+  -- an intent where more futures are filled and more requests are there
+  pub intent_on : GoesOn (labels_wanted a) (intent f rs n a) (intent g (rs ++ qs) n a)
+  intent_on = split_on (split a.term)

@@ -1,7 +1,7 @@
 -- Reached configurations keep what a step keeps.
 use Rattle.std.specs.Prelude.{◌≡◌, List, [], ◌∷◌, ◌++◌, Option, Some}
 use Rattle.std.proofs.Common.{refl, sym, subst}
-use Rattle.runs.specs.Systems.{Leads}
+use Rattle.commuting_systems.specs.Systems.{Leads}
 use Rattle.asp_model.specs.Names.{Name}
 use Rattle.asp_model.specs.Term.{Tree}
 use Rattle.asp_model.specs.Configuration.{Configuration, start}

@@ -3,11 +3,11 @@ use Rattle.std.specs.Prelude.{◌≡◌, ℕ, zero, suc, ◌-◌, ◌<◌, ◌�
 use Rattle.std.proofs.Common.{refl, sym, ap, subst, ◌∙◌, arith, inl, inr, ⊎_elim}
 use Rattle.std.proofs.lemmas.Bool.{ltb-true, ltb-false}
 use Rattle.std.specs.FinMap.{find}
-use Rattle.runs.specs.Systems.{count, Covers}
-use Rattle.runs.specs.Systems as runs
-use Rattle.runs.specs.Rules.{Rule, repeated}
-use Rattle.runs.proofs.Counts.{hit_same, run_length}
-use Rattle.runs.proofs.Rules.{rule_reaches}
+use Rattle.commuting_systems.specs.Systems.{count, Covers}
+use Rattle.commuting_systems.specs.Systems as runs
+use Rattle.commuting_systems.specs.Rules.{Rule, repeated}
+use Rattle.commuting_systems.proofs.Counts.{hit_same, run_length}
+use Rattle.commuting_systems.proofs.Rules.{rule_reaches}
 use Rattle.asp_model.specs.Names.{Name, name_cmp}
 use Rattle.asp_model.specs.Term.{Tree}
 use Rattle.asp_model.specs.Configuration.{Activity, Configuration, start}

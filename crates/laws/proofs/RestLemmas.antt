@@ -2,10 +2,10 @@
 use Rattle.std.specs.Prelude.{◌≡◌, ◌≢◌, ℕ, ◌≤◌, Bool, true, false, cond, List, [], ◌∷◌, Some}
 use Rattle.std.proofs.Common.{refl, sym, ap, ◌∙◌, arith, ⊎_elim}
 use Rattle.std.specs.FinMap.{find}
-use Rattle.runs.specs.Systems.{Covers, count}
-use Rattle.runs.specs.Systems as runs
-use Rattle.runs.proofs.Counts.{hit_same, hit_other}
-use Rattle.runs.proofs.Rules.{rule_stops}
+use Rattle.commuting_systems.specs.Systems.{Covers, count}
+use Rattle.commuting_systems.specs.Systems as runs
+use Rattle.commuting_systems.proofs.Counts.{hit_same, hit_other}
+use Rattle.commuting_systems.proofs.Rules.{rule_stops}
 use Rattle.asp_model.specs.Names.{Name, name_cmp, same_name}
 use Rattle.asp_model.specs.Configuration.{start}
 use Rattle.asp_model.specs.Step.{ListsShape}

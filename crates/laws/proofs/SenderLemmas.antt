@@ -4,13 +4,13 @@ use Rattle.std.proofs.Common.{refl, sym, ap, subst, ◌∙◌, arith, inl, inr, 
 use Rattle.std.proofs.lemmas.Bool.{and_parts}
 use Rattle.std.proofs.lemmas.List.{append-nil, length-map}
 use Rattle.std.specs.FinMap.{find}
-use Rattle.runs.proofs.Counts.{run_both}
-use Rattle.runs.proofs.Joins.{stopped_end, one_end}
+use Rattle.commuting_systems.proofs.Counts.{run_both}
+use Rattle.commuting_systems.proofs.Joins.{stopped_end, one_end}
 use Rattle.asp_model.specs.Names.{Name, name_cmp}
 use Rattle.asp_model.specs.Term.{Tree}
 use Rattle.asp_model.specs.Configuration.{RequestShape, Configuration, requests_of, start}
-use Rattle.asp_model.specs.Plan.{Effect}
-use Rattle.asp_model.specs.Step.{ListsShape, plan_in, with_effect, name_at, is_named, is_next, may_send, step}
+use Rattle.asp_model.specs.Intent.{Effect}
+use Rattle.asp_model.specs.Step.{ListsShape, intent_in, with_effect, name_at, is_named, is_next, may_send, step}
 use Rattle.asp_model.specs.Replay.{lists_of, senders_in}
 use Rattle.laws.specs.Reached.{IsThere, RunsTo}
 use Rattle.laws.specs.Joins.{HasOneSender, IsOneSenderEnd, OneSenderBounds, OneSenderEnds}
@@ -30,7 +30,7 @@ use Rattle.laws.proofs.JoinLaws.{still}
 
 -- who can step without lists can when another has stepped
 free_still : (c : Configuration) (n m : Name) (e d : Effect) → n ≢ m → Took c m d → Takes None c n e → Takes None (with_effect m d c) n e
-free_still c n m e d apart t x = record { plans = acts_still c n m e d apart t x.plans; may = kept e.sent x.may }
+free_still c n m e d apart t x = record { intends = acts_still c n m e d apart t x.intends; may = kept e.sent x.may }
   where
     kept : (o : Option (Name × RequestShape)) → may_send None c n o ≡ true → may_send None (with_effect m d c) n o ≡ true
     kept None h = refl
@@ -46,7 +46,7 @@ steps_later lists (l ∷ ls) c d n e r can run =
     let x = step_taken (Some lists) c l run.0 run.1 in
     ⊎_elim
     (λ p.
-    let same : x.0 ≡ e = acts_is (sym x.1.plans ∙ ap (plan_in c) (sym p) ∙ can.plans) in
+    let same : x.0 ≡ e = acts_is (sym x.1.intends ∙ ap (intent_in c) (sym p) ∙ can.intends) in
     inr (c, λ m. ([], append-nil _), subst (λ f. may_send (Some lists) c n f.sent ≡ true) same (subst (λ k. may_send (Some lists) c k x.0.sent ≡ true) (sym p) x.1.may)))
     (λ apart.
     let keeps = subst (λ z. Takes None z n e) x.2 (free_still c n l e x.0 apart (took (Some lists) c l x.0 r.sound x.1) can) in
@@ -62,10 +62,10 @@ name_earlier (x ∷ xs) zero j n h le = (x, refl)
 name_earlier (x ∷ xs) (suc i) zero n h le = absurd (omega (arith, le))
 name_earlier (x ∷ xs) (suc i) (suc j) n h le = name_earlier xs i j n h (omega (arith, le))
 
--- with one sender in each list, whose turn it is later, his turn it is
-earlier_turn : (lists : ListsShape) (c x : Configuration) (n : Name) (o : Option (Name × RequestShape)) → ((m : Name) → HasOneSender (senders_in lists m)) → ((m : Name) → IsPrefix (senders c m) (senders x m)) → ((z : Name × RequestShape) → o ≡ Some z → IsThere c z.0) → may_send (Some lists) x n o ≡ true → may_send (Some lists) c n o ≡ true
-earlier_turn lists c x n None one grown there may = refl
-earlier_turn lists c x n (Some z) one grown there may =
+-- with one sender in each list, who is next later is next
+earlier_next : (lists : ListsShape) (c x : Configuration) (n : Name) (o : Option (Name × RequestShape)) → ((m : Name) → HasOneSender (senders_in lists m)) → ((m : Name) → IsPrefix (senders c m) (senders x m)) → ((z : Name × RequestShape) → o ≡ Some z → IsThere c z.0) → may_send (Some lists) x n o ≡ true → may_send (Some lists) c n o ≡ true
+earlier_next lists c x n None one grown there may = refl
+earlier_next lists c x n (Some z) one grown there may =
     let at : name_at (senders_in lists z.0) (length (requests_of x z.0)) ≡ Some n = named_is n (name_at (senders_in lists z.0) (length (requests_of x z.0))) (and_parts (is_some (find name_cmp z.0 x.activities)) (is_next (Some lists) x z.0 n) may).1 in
     let le : length (requests_of c z.0) ≤ length (requests_of x z.0) = omega (arith, prefix_length _ _ (grown z.0), length-map (requests_of c z.0) (λ r. r.sender), length-map (requests_of x z.0) (λ r. r.sender)) in
     let y = name_earlier (senders_in lists z.0) (length (requests_of c z.0)) (length (requests_of x z.0)) n at le in
@@ -82,9 +82,9 @@ beside_run program ns d run stuck one (n ∷ ms) done c e r before rest =
     let left = stopped_end (machine lists) ns done (start program) d c (start_right program) a before (λ q f st. absurd (stuck q f (listed_is_free (Some lists) d q f st))) in
     let may : may_send (Some lists) c n x.0.sent ≡ true = ⊎_elim
     (λ h. absurd (stuck n (with_effect n x.0 d) (takes_step None d n x.0 h)))
-    (λ h. earlier_turn lists c h.0 n x.0.sent one h.1 (target_there None c n x.0 x.1) h.2)
+    (λ h. earlier_next lists c h.0 n x.0.sent one h.1 (target_there None c n x.0 x.1) h.2)
     (steps_later lists left.labels c d n x.0 r x.1 left.run) in
-    let st : step (Some lists) c n ≡ Some rest.0 = takes_step (Some lists) c n x.0 (record { plans = x.1.plans; may = may }) ∙ ap Some x.2 in
+    let st : step (Some lists) c n ≡ Some rest.0 = takes_step (Some lists) c n x.0 (record { intends = x.1.intends; may = may }) ∙ ap Some x.2 in
     subst (λ l. RunsTo (Some lists) (start program) l e) (append_assoc done (n ∷ []) ms)
     (beside_run program ns d run stuck one ms (done ++ n ∷ []) rest.0 e (step_right (Some lists) n c rest.0 st r) (run_both (machine lists) done (n ∷ []) (start program) c rest.0 before (rest.0, st, refl)) rest.2)
 

@@ -5,7 +5,7 @@ use Rattle.std.specs.FinMap.{find, put}
 use Rattle.asp_model.specs.Names.{Name, FutureShape, name_cmp, future_cmp}
 use Rattle.asp_model.specs.Parcel.{ParcelShape, has_place}
 use Rattle.asp_model.specs.Configuration.{RequestShape, Activity, Configuration, or_none, requests_of}
-use Rattle.asp_model.specs.Plan.{Effect}
+use Rattle.asp_model.specs.Intent.{Effect}
 use Rattle.asp_model.specs.Step.{put_some, with_sent, with_effect}
 use Rattle.laws.specs.Kept.{IsOrdered, Stands, mark, one_where, one_unless}
 use Rattle.laws.proofs.NameLemmas.{name_total, name_same, name_case, future_itself, futures_apart, no_some, some_is, true_false, not_some}

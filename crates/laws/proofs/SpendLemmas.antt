@@ -4,8 +4,8 @@ use Rattle.std.proofs.Common.{refl, sym, ap, ◌∙◌, arith, inl, inr, ⊎_eli
 use Rattle.std.proofs.lemmas.Bool.{cases_lt}
 use Rattle.std.specs.FinMap.{is_sorted}
 use Rattle.std.specs.FinMap.Entries.{below_all}
-use Rattle.runs.specs.Systems.{count}
-use Rattle.runs.proofs.Counts.{hit_same, hit_other, run_sum}
+use Rattle.commuting_systems.specs.Systems.{count}
+use Rattle.commuting_systems.proofs.Counts.{hit_same, hit_other, run_sum}
 use Rattle.asp_model.specs.Names.{Name, name_cmp}
 use Rattle.asp_model.specs.Term.{Tree}
 use Rattle.asp_model.specs.Configuration.{Activity, Configuration, start}
@@ -77,7 +77,7 @@ nobody : (n : ℕ) (c : Configuration) → total (counts_of c) < n → next_by N
 nobody n c less none m None is = refl
 nobody n c less none m (Some d) is =
     let x = step_taken None c m d is in
-    let a = acting c m x.0 x.1.plans in
+    let a = acting c m x.0 x.1.intends in
     let y = found_entry c.activities m a.0 a.1 in
     let le = least_rests None (λ name. n) c c.activities none y.0 y.1 d (ap (step None c) y.2 ∙ is) in
     absurd (omega (arith, le, less, within_total c.activities y.0 y.1))

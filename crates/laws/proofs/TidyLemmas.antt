@@ -6,7 +6,7 @@ use Rattle.std.specs.FinMap.{find}
 use Rattle.asp_model.specs.Names.{Name, name_cmp, main_name}
 use Rattle.asp_model.specs.Term.{Tree}
 use Rattle.asp_model.specs.Configuration.{RequestShape, Configuration, requests_of, start}
-use Rattle.asp_model.specs.Plan.{Effect}
+use Rattle.asp_model.specs.Intent.{Effect}
 use Rattle.asp_model.specs.Step.{ListsShape, is_next, may_send, with_effect}
 use Rattle.laws.specs.Reached.{IsThere}
 use Rattle.laws.specs.Kept.{Stands, AreDistinct}

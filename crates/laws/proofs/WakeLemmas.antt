@@ -8,44 +8,44 @@ use Rattle.asp_model.specs.Names.{Name, FutureShape, name_cmp, future_cmp}
 use Rattle.asp_model.specs.Chase.{chase}
 use Rattle.asp_model.specs.Parcel.{ParcelShape}
 use Rattle.asp_model.specs.Configuration.{RequestShape, Activity, Configuration, requests_of}
-use Rattle.asp_model.specs.Plan.{StatusShape, Done, Serving, Running, Awaits, Faulted, Plan, Acts, Rests, Effect, plan}
-use Rattle.asp_model.specs.Step.{ListsShape, plan_in, put_some, with_effect, may_send, is_next, step}
-use Rattle.asp_model.specs.Status.{status_of_plan, status_of, is_running}
+use Rattle.asp_model.specs.Intent.{StatusShape, Done, Serving, Running, Awaits, Faulted, Intent, Acts, Rests, Effect, intent}
+use Rattle.asp_model.specs.Step.{ListsShape, intent_in, put_some, with_effect, may_send, is_next, step}
+use Rattle.asp_model.specs.Status.{status_of_intent, status_of, is_running}
 use Rattle.laws.specs.Reached.{IsFilled}
-use Rattle.laws.specs.Waking.{labels_wanted, has_wanted, NoneRestsRunning, DoneStays, FaultStays, ServingStays, AwaitingStays, TurnsStay, CyclesStay}
+use Rattle.laws.specs.Waking.{labels_wanted, has_wanted, NoneRestsRunning, DoneStays, FaultStays, ServingStays, AwaitingStays, OthersStayNext, CyclesStay}
 use Rattle.laws.proofs.NameLemmas.{none_true, no_some}
 use Rattle.laws.proofs.StepLemmas.{Takes, step_taken, held_back, holds_back}
 use Rattle.laws.proofs.ChaseLemmas.{chase_unfilled}
 use Rattle.laws.proofs.CycleLemmas.{chase_cycle}
-use Rattle.laws.proofs.PersistLemmas.{GoesOn, KeepsLack, KeepsValues, plan_on}
+use Rattle.laws.proofs.PersistLemmas.{GoesOn, KeepsLack, KeepsValues, intent_on}
 use Rattle.laws.proofs.OrderLemmas.{fills_extend, fills_longer}
 use Rattle.laws.proofs.SoundLemmas.{Sound, Took}
 use Rattle.laws.proofs.KeptLemmas.{fresh}
-use Rattle.laws.proofs.CommuteLemmas.{took, plan_beside, values_kept, next_same}
+use Rattle.laws.proofs.CommuteLemmas.{took, intent_beside, values_kept, next_same}
 use Rattle.laws.proofs.ReachedLemmas.{reached_sound}
-use Rattle.laws.proofs.FrameLemmas.{plans_stay}
+use Rattle.laws.proofs.FrameLemmas.{intends_stay}
 
--- a plan with a status other than Running rests
-rests : (p : Plan) (status : StatusShape) → is_running status ≡ false → status_of_plan p ≡ status → p ≡ Rests status
+-- an intent with a status other than Running rests
+rests : (p : Intent) (status : StatusShape) → is_running status ≡ false → status_of_intent p ≡ status → p ≡ Rests status
 rests (Acts e) status not h = none_true (sym (ap is_running h ∙ not))
 rests (Rests s) status not h = ap Rests h
 
 -- it is done
-abbrev IsDone : Plan → Type 0
+abbrev IsDone : Intent → Type 0
 IsDone (Rests Done) = Unit {0}
 IsDone p = ⊥
 
-never_running : (c : Configuration) (n : Name) (o : Option Activity) → elim o [ None ↦ Rests Done | Some a ↦ plan (chase c.futures) (requests_of c n) n a ] ≡ Rests Running → ⊥
+never_running : (c : Configuration) (n : Name) (o : Option Activity) → elim o [ None ↦ Rests Done | Some a ↦ intent (chase c.futures) (requests_of c n) n a ] ≡ Rests Running → ⊥
 never_running c n None h = subst IsDone h tt
 never_running c n (Some a) h =
     let f = chase c.futures in
     let keeps : KeepsValues f f = λ x y p q. q in
-    subst (λ p. GoesOn f f keeps (λ x y. Unit {0}) (requests_of c n) [] n a (labels_wanted a) p (plan f (requests_of c n ++ []) n a)) h (plan_on f f keeps (λ x y. Unit {0}) (requests_of c n) [] n a)
+    subst (λ p. GoesOn f f keeps (λ x y. Unit {0}) (requests_of c n) [] n a (labels_wanted a) p (intent f (requests_of c n ++ []) n a)) h (intent_on f f keeps (λ x y. Unit {0}) (requests_of c n) [] n a)
 
 pub none_rests_running : NoneRestsRunning
 none_rests_running c n h = never_running c n (find name_cmp n c.activities) h
 
--- the other's plan after a step, where this is what may come of lacks
+-- the other's intent after a step, where this is what may come of lacks
 module _ (lists : Option ListsShape) (c d : Configuration) (n m : Name) (a : Activity) (s : Sound c) (h : step lists c n ≡ Some d) (apart : m ≢ n) (is : find name_cmp m c.activities ≡ Some a) where
   abbrev stepped : (e : Effect) × Takes lists c n e × (with_effect n e c ≡ d)
   stepped = step_taken lists c n d h
@@ -54,29 +54,29 @@ module _ (lists : Option ListsShape) (c d : Configuration) (n m : Name) (a : Act
   it_took = took lists c n stepped.0 s stepped.1
 
   -- a status that others cannot change
-  pub kept_status : (status : StatusShape) → is_running status ≡ false → ((p : Plan) (qs : List RequestShape) → GoesOn (chase c.futures) (chase (with_effect n stepped.0 c).futures) (values_kept c n stepped.0 it_took) (λ x y. Unit {0}) (requests_of c m) qs m a (labels_wanted a) (Rests status) p → p ≡ Rests status) → status_of c m ≡ status → status_of d m ≡ status
+  pub kept_status : (status : StatusShape) → is_running status ≡ false → ((p : Intent) (qs : List RequestShape) → GoesOn (chase c.futures) (chase (with_effect n stepped.0 c).futures) (values_kept c n stepped.0 it_took) (λ x y. Unit {0}) (requests_of c m) qs m a (labels_wanted a) (Rests status) p → p ≡ Rests status) → status_of c m ≡ status → status_of d m ≡ status
   kept_status status not goes st =
-      let x = plan_beside c m n stepped.0 a (λ x y. Unit {0}) apart it_took is in
-      let p = plan_in (with_effect n stepped.0 c) m in
-      let on = subst (λ q. GoesOn (chase c.futures) (chase (with_effect n stepped.0 c).futures) (values_kept c n stepped.0 it_took) (λ x y. Unit {0}) (requests_of c m) x.0 m a (labels_wanted a) q p) (rests (plan_in c m) status not st) x.2 in
-      ap (λ z. status_of z m) (sym stepped.2) ∙ ap status_of_plan (goes p x.0 on)
+      let x = intent_beside c m n stepped.0 a (λ x y. Unit {0}) apart it_took is in
+      let p = intent_in (with_effect n stepped.0 c) m in
+      let on = subst (λ q. GoesOn (chase c.futures) (chase (with_effect n stepped.0 c).futures) (values_kept c n stepped.0 it_took) (λ x y. Unit {0}) (requests_of c m) x.0 m a (labels_wanted a) q p) (rests (intent_in c m) status not st) x.2 in
+      ap (λ z. status_of z m) (sym stepped.2) ∙ ap status_of_intent (goes p x.0 on)
 
   pub served_status : (more : List RequestShape) → requests_of d m ≡ requests_of c m ++ more → has_wanted (labels_wanted a) more ≡ false → status_of c m ≡ Serving → status_of d m ≡ Serving
   served_status more grown none st =
-      let x = plan_beside c m n stepped.0 a (λ x y. Unit {0}) apart it_took is in
-      let p = plan_in (with_effect n stepped.0 c) m in
-      let on = subst (λ q. GoesOn (chase c.futures) (chase (with_effect n stepped.0 c).futures) (values_kept c n stepped.0 it_took) (λ x y. Unit {0}) (requests_of c m) x.0 m a (labels_wanted a) q p) (rests (plan_in c m) Serving refl st) x.2 in
+      let x = intent_beside c m n stepped.0 a (λ x y. Unit {0}) apart it_took is in
+      let p = intent_in (with_effect n stepped.0 c) m in
+      let on = subst (λ q. GoesOn (chase c.futures) (chase (with_effect n stepped.0 c).futures) (values_kept c n stepped.0 it_took) (λ x y. Unit {0}) (requests_of c m) x.0 m a (labels_wanted a) q p) (rests (intent_in c m) Serving refl st) x.2 in
       let same : x.0 ≡ more = append_cancel_left (requests_of c m) x.0 more (sym x.1 ∙ ap (λ z. requests_of z m) stepped.2 ∙ grown) in
-      ap (λ z. status_of z m) (sym stepped.2) ∙ ap status_of_plan (on (ap (has_wanted (labels_wanted a)) same ∙ none))
+      ap (λ z. status_of z m) (sym stepped.2) ∙ ap status_of_intent (on (ap (has_wanted (labels_wanted a)) same ∙ none))
 
   -- where what is lacked comes to a future for which this holds
   pub awaited_status : (holds : FutureShape → FutureShape → Type 0) (f : FutureShape) → KeepsLack (chase c.futures) (chase (with_effect n stepped.0 c).futures) holds f → status_of c m ≡ Awaits f → (g : FutureShape) × (status_of d m ≡ Awaits g) × holds f g
   awaited_status holds f lack st =
-      let x = plan_beside c m n stepped.0 a holds apart it_took is in
-      let p = plan_in (with_effect n stepped.0 c) m in
-      let on = subst (λ q. GoesOn (chase c.futures) (chase (with_effect n stepped.0 c).futures) (values_kept c n stepped.0 it_took) holds (requests_of c m) x.0 m a (labels_wanted a) q p) (rests (plan_in c m) (Awaits f) refl st) x.2 in
+      let x = intent_beside c m n stepped.0 a holds apart it_took is in
+      let p = intent_in (with_effect n stepped.0 c) m in
+      let on = subst (λ q. GoesOn (chase c.futures) (chase (with_effect n stepped.0 c).futures) (values_kept c n stepped.0 it_took) holds (requests_of c m) x.0 m a (labels_wanted a) q p) (rests (intent_in c m) (Awaits f) refl st) x.2 in
       let z = on lack in
-      (z.0, ap (λ z. status_of z m) (sym stepped.2) ∙ ap status_of_plan z.1, z.2)
+      (z.0, ap (λ z. status_of z m) (sym stepped.2) ∙ ap status_of_intent z.1, z.2)
 
 pub done_stays : DoneStays
 done_stays program c d n m a s apart is st = kept_status s.lists c d n m a (reached_sound program c s.reached) s.steps apart is Done refl (λ p qs on. on) st
@@ -108,12 +108,12 @@ and_second : (a b : Bool) → a ≡ true → (a && b) ≡ false → b ≡ false
 and_second true b p h = h
 and_second false b p h = none_true p
 
-pub turns_stay : TurnsStay
-turns_stay program lists c d n m e x s apart plans sent there same none =
-    let before : may_send lists c m (Some x) ≡ false = ap (may_send lists c m) (sym sent) ∙ held_back lists c m e plans none in
+pub others_stay_next : OthersStayNext
+others_stay_next program lists c d n m e x s apart intends sent there same none =
+    let before : may_send lists c m (Some x) ≡ false = ap (may_send lists c m) (sym sent) ∙ held_back lists c m e intends none in
     let next : is_next lists c x.0 m ≡ false = and_second (is_some (find name_cmp x.0 c.activities)) (is_next lists c x.0 m) there before in
     let after : may_send lists d m (Some x) ≡ false = and_right (is_some (find name_cmp x.0 d.activities)) (is_next lists d x.0 m) (next_same lists c d x.0 m same ∙ next) in
-    holds_back lists d m e (plans_stay program c d n m e s apart plans) (ap (may_send lists d m) sent ∙ after)
+    holds_back lists d m e (intends_stay program c d n m e s apart intends) (ap (may_send lists d m) sent ∙ after)
 
 pub cycles_stay : CyclesStay
 cycles_stay program c d n m a f s apart is filled st =

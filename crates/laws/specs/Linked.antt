@@ -5,8 +5,8 @@ use Rattle.asp_model.specs.Term.{Tree}
 use Rattle.asp_model.specs.Store.{CellShape, Reference, Future}
 use Rattle.asp_model.specs.Parcel.{ParcelShape}
 use Rattle.asp_model.specs.Configuration.{RequestShape, Activity, Configuration}
-use Rattle.asp_model.specs.Plan.{Effect, Acts, Awaits}
-use Rattle.asp_model.specs.Step.{plan_in, step, with_effect}
+use Rattle.asp_model.specs.Intent.{Effect, Acts, Awaits}
+use Rattle.asp_model.specs.Step.{intent_in, step, with_effect}
 use Rattle.asp_model.specs.Status.{status_of, IsStuck}
 use Rattle.laws.specs.Reached.{IsReached, IsAt, IsThere, HasValue}
 use Rattle.laws.specs.Kept.{Stands, IsBegun}
@@ -39,17 +39,17 @@ CellsAreLinked = (program : Tree) (c : Configuration) → IsReached program c �
 abbrev pub TargetsAreThere : Type 0
 TargetsAreThere = (program : Tree) (c : Configuration) (n : Name) (e : Effect)
     (x : Name × RequestShape)
-    → IsReached program c → plan_in c n ≡ Acts e → e.sent ≡ Some x → IsThere c x.0
+    → IsReached program c → intent_in c n ≡ Acts e → e.sent ≡ Some x → IsThere c x.0
 
 -- what is awaited was begun
 abbrev pub AwaitedAreBegun : Type 0
 AwaitedAreBegun = (program : Tree) (c : Configuration) (n : Name) (f : FutureShape)
     → IsReached program c → status_of c n ≡ Awaits f → IsBegun c f
 
--- without lists, who plans to act steps
-abbrev pub PlansStep : Type 0
-PlansStep = (program : Tree) (c : Configuration) (n : Name) (e : Effect)
-    → IsReached program c → plan_in c n ≡ Acts e → step None c n ≡ Some (with_effect n e c)
+-- without lists, who intends to act steps
+abbrev pub IntentsStep : Type 0
+IntentsStep = (program : Tree) (c : Configuration) (n : Name) (e : Effect)
+    → IsReached program c → intent_in c n ≡ Acts e → step None c n ≡ Some (with_effect n e c)
 
 -- nobody steps without lists
 abbrev pub IsStill : Configuration → Type 0

@@ -1,7 +1,7 @@
 -- How configurations are reached: by moves from the start of a program.
 use Rattle.std.specs.Prelude.{◌≡◌, ℕ, true, List, Option, Some, is_some}
 use Rattle.std.specs.FinMap.{find}
-use Rattle.runs.specs.Systems.{Leads}
+use Rattle.commuting_systems.specs.Systems.{Leads}
 use Rattle.asp_model.specs.Names.{Name, FutureShape, name_cmp, future_cmp}
 use Rattle.asp_model.specs.Term.{Tree}
 use Rattle.asp_model.specs.Parcel.{ParcelShape}

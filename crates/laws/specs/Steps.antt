@@ -5,8 +5,8 @@ use Rattle.asp_model.specs.Names.{Name, FutureShape, name_cmp, future_cmp, creat
 use Rattle.asp_model.specs.Term.{Tree}
 use Rattle.asp_model.specs.Parcel.{ParcelShape}
 use Rattle.asp_model.specs.Configuration.{RequestShape, Activity, Configuration, requests_of}
-use Rattle.asp_model.specs.Plan.{Effect, Acts}
-use Rattle.asp_model.specs.Step.{ListsShape, plan_in, step}
+use Rattle.asp_model.specs.Intent.{Effect, Acts}
+use Rattle.asp_model.specs.Step.{ListsShape, intent_in, step}
 use Rattle.laws.specs.Reached.{IsReached, IsStep, IsAt}
 use Rattle.laws.specs.Kept.{Stands}
 
@@ -51,10 +51,10 @@ abbrev pub FuturesFill : Type 0
 FuturesFill = (program : Tree) (c d : Configuration) (n : Name)
     → IsStep program c d n → (d.futures ≡ c.futures) ⊎ FillsOne c d
 
--- what another activity plans to do, it does after the step too
-abbrev pub PlansStay : Type 0
-PlansStay = (program : Tree) (c d : Configuration) (n m : Name) (e : Effect)
-    → IsStep program c d n → m ≢ n → plan_in c m ≡ Acts e → plan_in d m ≡ Acts e
+-- what another activity intends to do, it does after the step too
+abbrev pub IntentsStay : Type 0
+IntentsStay = (program : Tree) (c d : Configuration) (n m : Name) (e : Effect)
+    → IsStep program c d n → m ≢ n → intent_in c m ≡ Acts e → intent_in d m ≡ Acts e
 
 -- what an effect makes, sends and fills is new: the activity, the request's future and the value
 pub record IsNewTo (c : Configuration) (e : Effect) : Type 0 where
@@ -64,7 +64,7 @@ pub record IsNewTo (c : Configuration) (e : Effect) : Type 0 where
   pub filled : (z : FutureShape × ParcelShape) → e.filled ≡ Some z
       → find future_cmp z.0 c.futures ≡ None
 
--- what an activity plans to make, send and fill is new
+-- what an activity intends to make, send and fill is new
 abbrev pub EffectsAreNew : Type 0
 EffectsAreNew = (program : Tree) (c : Configuration) (n : Name) (e : Effect)
-    → IsReached program c → plan_in c n ≡ Acts e → IsNewTo c e
+    → IsReached program c → intent_in c n ≡ Acts e → IsNewTo c e

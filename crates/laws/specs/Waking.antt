@@ -8,8 +8,8 @@ use Rattle.asp_model.specs.Split.{Split, Stands, Splits, split}
 use Rattle.asp_model.specs.Store.{CellShape, cell}
 use Rattle.asp_model.specs.Contraction.{FaultShape}
 use Rattle.asp_model.specs.Configuration.{RequestShape, Activity, Configuration, requests_of}
-use Rattle.asp_model.specs.Plan.{Effect, Acts, labels_served, Done, Serving, Running, Awaits, Faulted, Rests}
-use Rattle.asp_model.specs.Step.{ListsShape, plan_in, step}
+use Rattle.asp_model.specs.Intent.{Effect, Acts, labels_served, Done, Serving, Running, Awaits, Faulted, Rests}
+use Rattle.asp_model.specs.Step.{ListsShape, intent_in, step}
 use Rattle.asp_model.specs.Status.{status_of}
 use Rattle.laws.specs.Reached.{IsStep, IsAt, IsFilled, IsThere}
 
@@ -29,9 +29,9 @@ labels_wanted a = labels_at (split a.term) (cell a.store a.active)
 abbrev pub has_wanted : List Text → List RequestShape → Bool
 has_wanted labels = list_any (λ r. has_text r.label labels)
 
--- no plan rests as one that runs
+-- no intent rests as one that runs
 abbrev pub NoneRestsRunning : Type 0
-NoneRestsRunning = (c : Configuration) (n : Name) → plan_in c n ≢ Rests Running
+NoneRestsRunning = (c : Configuration) (n : Name) → intent_in c n ≢ Rests Running
 
 -- who is done stays so
 abbrev pub DoneStays : Type 0
@@ -64,10 +64,10 @@ CyclesStay = (program : Tree) (c d : Configuration) (n m : Name) (a : Activity) 
     → IsStep program c d n → m ≢ n → IsAt c m a → IsFilled c f
     → status_of c m ≡ Awaits f → (g : FutureShape) × IsFilled d g × (status_of d m ≡ Awaits g)
 
--- who plans to send, and is not next in the lists, is not next until its target receives a request
-abbrev pub TurnsStay : Type 0
-TurnsStay = (program : Tree) (lists : Option ListsShape) (c d : Configuration) (n m : Name)
+-- who intends to send, and is not next in the lists, is not next until its target receives a request
+abbrev pub OthersStayNext : Type 0
+OthersStayNext = (program : Tree) (lists : Option ListsShape) (c d : Configuration) (n m : Name)
     (e : Effect) (x : Name × RequestShape)
-    → IsStep program c d n → m ≢ n → plan_in c m ≡ Acts e → e.sent ≡ Some x
+    → IsStep program c d n → m ≢ n → intent_in c m ≡ Acts e → e.sent ≡ Some x
     → IsThere c x.0 → requests_of d x.0 ≡ requests_of c x.0
     → step lists c m ≡ None → step lists d m ≡ None

@@ -21,7 +21,7 @@ pub use joins::{
     joined_fits, one_sender_bounds, one_sender_ends, stuck_is_joined, stuck_runs_agree,
 };
 pub use linked::{
-    awaited_are_begun, cells_are_linked, plans_step, stuck_is_still, targets_are_there,
+    awaited_are_begun, cells_are_linked, intends_step, stuck_is_still, targets_are_there,
 };
 pub use names::{
     entries_ascend, futures_stand_once, futures_were_begun, names_are_creations,
@@ -34,10 +34,10 @@ pub use replays::{
     runs_replay, runs_under_own_lists,
 };
 pub use steps::{
-    effects_are_new, futures_fill, listed_is_free, one_is_made, others_stay, plans_stay,
+    effects_are_new, futures_fill, listed_is_free, one_is_made, others_stay, intends_stay,
     requests_grow, steps_count,
 };
 pub use waking::{
     awaiting_stays, cycles_stay, done_stays, fault_stays, none_rests_running, serving_stays,
-    turns_stay,
+    others_stay_next,
 };

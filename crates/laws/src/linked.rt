@@ -1,6 +1,6 @@
-//! What stands in cells is there, so that each plan without lists is a step.
+//! What stands in cells is there, so that each intent without lists is a step.
 
-ghost use Rattle.laws.specs.Linked.{AwaitedAreBegun, CellsAreLinked, PlansStep, StuckIsStill, TargetsAreThere};
+ghost use Rattle.laws.specs.Linked.{AwaitedAreBegun, CellsAreLinked, IntentsStep, StuckIsStill, TargetsAreThere};
 
 /// The activities of references are there, and the futures in cells were begun.
 pub fn cells_are_linked()
@@ -17,9 +17,9 @@ pub fn awaited_are_begun()
     ensures { AwaitedAreBegun }
 {}
 
-/// Without lists, who plans to act steps.
-pub fn plans_step()
-    ensures { PlansStep }
+/// Without lists, who intends to act steps.
+pub fn intends_step()
+    ensures { IntentsStep }
 {}
 
 /// A configuration is stuck exactly where nobody steps without lists.

@@ -1,6 +1,6 @@
 //! What a step does, and what it leaves of the others.
 
-ghost use Rattle.laws.specs.Steps.{EffectsAreNew, FuturesFill, ListedIsFree, OneIsMade, OthersStay, PlansStay, RequestsGrow, StepsCount};
+ghost use Rattle.laws.specs.Steps.{EffectsAreNew, FuturesFill, ListedIsFree, OneIsMade, OthersStay, IntentsStay, RequestsGrow, StepsCount};
 
 /// A step with lists is the step without.
 pub fn listed_is_free()
@@ -32,12 +32,12 @@ pub fn futures_fill()
     ensures { FuturesFill }
 {}
 
-/// What another activity plans to do, it does after the step too.
-pub fn plans_stay()
-    ensures { PlansStay }
+/// What another activity intends to do, it does after the step too.
+pub fn intends_stay()
+    ensures { IntentsStay }
 {}
 
-/// What an activity plans to make, send and fill is new.
+/// What an activity intends to make, send and fill is new.
 pub fn effects_are_new()
     ensures { EffectsAreNew }
 {}

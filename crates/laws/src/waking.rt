@@ -1,6 +1,6 @@
 //! What wakes an activity that rests.
 
-ghost use Rattle.laws.specs.Waking.{AwaitingStays, CyclesStay, DoneStays, FaultStays, NoneRestsRunning, ServingStays, TurnsStay};
+ghost use Rattle.laws.specs.Waking.{AwaitingStays, CyclesStay, DoneStays, FaultStays, NoneRestsRunning, ServingStays, OthersStayNext};
 
 /// No activity rests as one that runs.
 pub fn none_rests_running()
@@ -33,6 +33,6 @@ pub fn cycles_stay()
 {}
 
 /// Who is not next in the list of its target is not, until the target receives a request.
-pub fn turns_stay()
-    ensures { TurnsStay }
+pub fn others_stay_next()
+    ensures { OthersStayNext }
 {}

@@ -3,7 +3,7 @@ use Rattle.std.specs.Prelude.{◌≡◌, true, List, [], ◌∷◌, Option, Some
 use Rattle.std.specs.List.{list_all}
 use Rattle.std.proofs.Common.{refl, sym, subst, ⊎_elim}
 use Rattle.std.proofs.lemmas.Bool.{and_from}
-use Rattle.runs.specs.Systems.{Leads}
+use Rattle.commuting_systems.specs.Systems.{Leads}
 use Rattle.asp_model.specs.Names.{Name, main_name, name_cmp}
 use Rattle.asp_model.specs.Term.{Head, Tree}
 use Rattle.asp_model.specs.Store.{Object, Store, moved_cell}
@@ -11,8 +11,8 @@ use Rattle.asp_model.specs.Contraction.{LineShape, NumberLine, TextLine}
 use Rattle.asp_model.specs.Chase.{chase}
 use Rattle.asp_model.specs.Configuration.{Configuration, requests_of, begun, start, Activity}
 use Rattle.asp_model.specs.WellFormed.{is_printable_line}
-use Rattle.asp_model.specs.Plan.{Acts, Effect}
-use Rattle.asp_model.specs.Step.{ListsShape, plan_in, step, with_effect}
+use Rattle.asp_model.specs.Intent.{Acts, Effect}
+use Rattle.asp_model.specs.Step.{ListsShape, intent_in, step, with_effect}
 use Rattle.laws.specs.Reached.{Move, Steps, Makes, IsReached, Edges, Needs}
 use Rattle.laws.specs.Linked.{Each}
 use Rattle.laws.proofs.NameLemmas.{no_some}
@@ -22,7 +22,7 @@ use Rattle.laws.proofs.SoundLemmas.{came}
 use Rattle.laws.proofs.LinkedLemmas.{acting, found_after, value_after}
 use Rattle.outcome_laws.specs.Heads.{EachHead, HoldsOfWritten, CellHas, LineHas, ActivityHas, HasEverywhere, Passes, ReachedHave}
 use Rattle.outcome_laws.specs.Texts.{has_printable_text, LinesArePrintable}
-use Rattle.outcome_laws.proofs.HeadPlanLemmas.{EffectHas, PlanHas, plan_has}
+use Rattle.outcome_laws.proofs.HeadIntentLemmas.{EffectHas, IntentHas, intent_has}
 use Rattle.laws.specs.Deliveries.{with_store, holders_from, unpack_each}
 use Rattle.laws.proofs.DeliveryLemmas.{found_delivered}
 use Rattle.laws.proofs.ContractionLemmas.{all_placed}
@@ -31,10 +31,10 @@ use Rattle.asp_model.specs.Parcel.{ParcelShape, place_at, unpack_at}
 use Rattle.std.specs.FinMap.{find}
 
 module _ (P : Head → Type 0) (w : HoldsOfWritten P) where
-  effect_has : (c : Configuration) (n : Name) (e : Effect) → HasEverywhere P c → plan_in c n ≡ Acts e → EffectHas P e
-  effect_has c n e h plans =
-      let x = acting c n e plans in
-      subst (PlanHas P) x.2 (plan_has P w (requests_of c n) (λ k r st. h.arguments n k r st) n x.0 (h.activities n x.0 x.1) (chase c.futures) (λ f y p is. h.values y p (chase_finds c.futures f y p is).0))
+  effect_has : (c : Configuration) (n : Name) (e : Effect) → HasEverywhere P c → intent_in c n ≡ Acts e → EffectHas P e
+  effect_has c n e h intends =
+      let x = acting c n e intends in
+      subst (IntentHas P) x.2 (intent_has P w (requests_of c n) (λ k r st. h.arguments n k r st) n x.0 (h.activities n x.0 x.1) (chase c.futures) (λ f y p is. h.values y p (chase_finds c.futures f y p is).0))
 
   has_after : (c : Configuration) (n : Name) (e : Effect) → HasEverywhere P c → EffectHas P e → HasEverywhere P (with_effect n e c)
   has_after c n e h x = record {
@@ -63,7 +63,7 @@ module _ (P : Head → Type 0) (w : HoldsOfWritten P) where
   }
 
   step_has : (lists : Option ListsShape) (n : Name) (c d : Configuration) → step lists c n ≡ Some d → HasEverywhere P c → HasEverywhere P d
-  step_has lists n c d is h = let x = step_taken lists c n d is in subst (HasEverywhere P) x.2 (has_after c n x.0 h (effect_has c n x.0 h x.1.plans))
+  step_has lists n c d is h = let x = step_taken lists c n d is in subst (HasEverywhere P) x.2 (has_after c n x.0 h (effect_has c n x.0 h x.1.intends))
 
   -- a value that is unpacked at places
   unpacked_has : (ns : List ℕ) (s : Store) (p : ParcelShape) → Each (CellHas P) s → Each (CellHas P) p.cells → Each (CellHas P) (unpack_each s ns p)

@@ -5,11 +5,11 @@ use Rattle.std.proofs.Common.{refl, sym, ap, subst, ◌∙◌, arith, ⊎_elim, 
 use Rattle.std.proofs.lemmas.Bool.{and_parts, and_from, le-leb, lt-ltb}
 use Rattle.std.proofs.lemmas.List.Folds.{list_all-append}
 use Rattle.std.specs.FinMap.{find}
-use Rattle.runs.specs.Systems.{Leads}
+use Rattle.commuting_systems.specs.Systems.{Leads}
 use Rattle.asp_model.specs.Names.{Name, FutureShape, name_cmp}
 use Rattle.asp_model.specs.Term.{Tree}
 use Rattle.asp_model.specs.Configuration.{Activity, Configuration, start}
-use Rattle.asp_model.specs.Plan.{Effect}
+use Rattle.asp_model.specs.Intent.{Effect}
 use Rattle.asp_model.specs.Step.{ListsShape, step, with_effect}
 use Rattle.asp_model.specs.Replay.{total, counts_of}
 use Rattle.asp_model.specs.WellFormed.{is_index, is_name, is_future_name}

@@ -9,7 +9,7 @@ use Rattle.std.specs.Ordering.{is_lt}
 use Rattle.asp_model.specs.Names.{Name, FutureShape, main_name, name_cmp, same_name}
 use Rattle.asp_model.specs.Term.{Tree}
 use Rattle.asp_model.specs.Configuration.{RequestShape, Activity, Configuration, requests_of}
-use Rattle.asp_model.specs.Plan.{StatusShape, Awaits}
+use Rattle.asp_model.specs.Intent.{StatusShape, Awaits}
 use Rattle.asp_model.specs.Status.{status_of}
 use Rattle.asp_model.specs.Replay.{total, lists_of, counts_of}
 use Rattle.asp_model.specs.Outcome.{activity_report, outcome_of, lists_in, counts_in}

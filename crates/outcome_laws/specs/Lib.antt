@@ -2,3 +2,4 @@
 pub mod Heads
 pub mod Texts
 pub mod Outcomes
+pub mod Programs

@@ -4,7 +4,7 @@ use Rattle.std.specs.FinMap.{find}
 use Rattle.asp_model.specs.Names.{FutureShape, future_cmp}
 use Rattle.asp_model.specs.Store.{CellShape, Number, Object, Reference, Future, Group, Store, cell}
 use Rattle.asp_model.specs.Parcel.{ParcelShape, unpack_at}
-use Rattle.asp_model.specs.Plan.{Reads, operand_ready, fetched}
+use Rattle.asp_model.specs.Intent.{Reads, operand_ready, fetched}
 use Rattle.future_table.specs.Values as table
 use Rattle.future_table.specs.Values.{told}
 use Rattle.asp_model.specs.Contraction.{is_future}

@@ -8,7 +8,7 @@ use Rattle.asp_model.specs.Term.{Tree, Trees, more, locs_then, locations, locati
 use Rattle.asp_model.specs.Store.{Store}
 use Rattle.asp_model.specs.Configuration as model
 use Rattle.asp_model.specs.Configuration.{RequestShape}
-use Rattle.asp_model.specs.Plan.{Numbered}
+use Rattle.asp_model.specs.Intent.{Numbered}
 use Rattle.asp_model.specs.Shapes.{parcel_shape}
 use Rattle.laws.specs.Closed.{AreBelow, IsClosedActivity, IsClosedParcel, IsClosedStore}
 use Rattle.object_store.specs.View.{store_of}
@@ -54,7 +54,7 @@ entries_closed : (es : List (ℕ × Request)) → AreClosed (map numbered_shape 
 entries_closed [] h = tt
 entries_closed (e ∷ es) h = (h.0, entries_closed es h.1)
 
--- what is asked of a pool's configuration gives the conditions of `act` and of `outlook`
+-- what is asked of a population's configuration gives the conditions of `act` and of `outlook`
 pub stands_closed : (x : Activity) (a : model.Activity) (rs : List RequestShape) → Stands x a rs → IsClosedActivity a → ((k : ℕ) (r : RequestShape) → slice_get rs k ≡ Some r → IsClosedParcel r.arguments) → IsClosedState x
 stands_closed x a rs h closed requests =
     let own : store_of x.store ≡ a.store = ap (λ (v : model.Activity). v.store) h.shape in

@@ -1,6 +1,6 @@
--- Results of calls that carry out a plan.
+-- Results of calls that carry out an intent.
 use Rattle.std.proofs.Common.{◌≡◌, Result, Ok, Err, IfOk, OnOk, List, sym, subst}
-use Rattle.asp_model.specs.Plan.{Rests, StatusShape}
+use Rattle.asp_model.specs.Intent.{Rests, StatusShape}
 use Rattle.asp_model.specs.Configuration.{RequestShape}
 use Rattle.plain_activity.specs.declared.activity.Activity.{Activity}
 use Rattle.plain_activity.specs.declared.act.Given.{Given}
@@ -12,7 +12,7 @@ pub nothing_done : {E P : Type 0} (r : Result Given E) (Q : Given → Type 0) �
 nothing_done (Ok g) Q e p f = subst Q (sym e) (f p)
 nothing_done (Err x) Q e p f = tt
 
--- no plan that rests asks for anything
+-- no intent that rests asks for anything
 pub rests_done : {E : Type 0} (r : Result Given E) (status : StatusShape) (rs : List RequestShape) (new : Activity) → IfOk r (IsDoneBy (Rests status) rs new)
 rests_done (Ok g) status rs new = tt
 rests_done (Err x) status rs new = tt

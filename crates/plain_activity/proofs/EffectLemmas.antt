@@ -1,4 +1,4 @@
--- What is left after a reduction stands for what the plan leaves.
+-- What is left after a reduction stands for what the intent leaves.
 use Rattle.std.proofs.Common.{◌≡◌, ℕ, suc, List, [], ◌∷◌, ◌++◌, Option, Some, length, map, refl, sym, ap, ◌∙◌, subst}
 use Rattle.std.specs.Option.{option_map}
 use Rattle.asp_model.specs.declared.store.Request.{Request}
@@ -10,7 +10,7 @@ use Rattle.asp_model.specs.Parcel.{parcel_of, unpack}
 use Rattle.asp_model.specs.Contraction.{LineShape, Becomes}
 use Rattle.asp_model.specs.Configuration as model
 use Rattle.asp_model.specs.Configuration.{RequestShape, ServiceShape, begun}
-use Rattle.asp_model.specs.Plan.{contracts, creates, sends, start_term}
+use Rattle.asp_model.specs.Intent.{contracts, creates, sends, start_term}
 use Rattle.asp_model.specs.Shapes.{future_shape, line_shape, request_shape}
 use Rattle.object_store.specs.View.{store_of}
 use Rattle.plain_term.specs.Frames.{contexts_of, nested}

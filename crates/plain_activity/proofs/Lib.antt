@@ -11,7 +11,7 @@ pub mod NodeLemmas
 pub mod NumberLemmas
 pub mod OutlookLemmas
 pub mod PlacesLemmas
-pub mod PlanLemmas
+pub mod IntentLemmas
 pub mod ServiceLemmas
 pub mod SightLemmas
 pub mod TellingLemmas

@@ -4,7 +4,7 @@ use Rattle.asp_model.specs.Names.{FutureShape}
 use Rattle.asp_model.specs.Store.{Store, cell}
 use Rattle.asp_model.specs.Contraction.{strict_operands, strict_members}
 use Rattle.asp_model.specs.Chase.{Chase}
-use Rattle.asp_model.specs.Plan.{Ready, Reads, Lacks, operand_ready, operands_ready, redex_ready}
+use Rattle.asp_model.specs.Intent.{Ready, Reads, Lacks, operand_ready, operands_ready, redex_ready}
 use Rattle.plain_term.specs.declared.redex.Redex.{Redex}
 use Rattle.plain_term.specs.declared.redex.Redex.TheVariants as redex
 use Rattle.plain_term.specs.Redexes.{redex_shape}

@@ -1,4 +1,4 @@
--- What a contraction's kind says of the plan.
+-- What a contraction's kind says of the intent.
 use Rattle.std.proofs.Common.{◌≡◌, ◌++◌, ℕ, false, List, [], ◌∷◌, Option, Some, None, length, map, refl, sym, ap, ◌∙◌, subst}
 use Rattle.std.proofs.lemmas.List.{append-nil, length-map}
 use Rattle.asp_model.specs.declared.name.FutureName.{FutureName}
@@ -11,7 +11,7 @@ use Rattle.asp_model.specs.Contraction.{Contraction, Becomes, Faults, Needs, Com
 use Rattle.asp_model.specs.Chase.{Chase, Values, chase}
 use Rattle.asp_model.specs.Configuration as model
 use Rattle.asp_model.specs.Configuration.{RequestShape, ServiceShape}
-use Rattle.asp_model.specs.Plan.{Plan, Ready, Reads, Lacks, contracts, ends_service, labels_served, newest, oldest_match, plan, redex_ready, serves}
+use Rattle.asp_model.specs.Intent.{Intent, Ready, Reads, Lacks, contracts, ends_service, labels_served, newest, oldest_match, intent, redex_ready, serves}
 use Rattle.asp_model.specs.Shapes.{fault_shape, future_shape}
 use Rattle.asp_model.specs.declared.outcome.Fault.{Fault}
 use Rattle.laws.specs.Closed.{AreBelow}
@@ -34,7 +34,7 @@ use Rattle.plain_activity.specs.Outlook.{AreSeen, IsOutlook, Sight, first_missed
 use Rattle.plain_activity.proofs.ChaseLemmas.{chase_value}
 use Rattle.plain_activity.proofs.KindLemmas.{AreFaces, row_kind}
 use Rattle.plain_activity.proofs.OperandLemmas.{no_members, ready_by}
-use Rattle.plain_activity.proofs.PlanLemmas.{plan_redex, planned}
+use Rattle.plain_activity.proofs.IntentLemmas.{intent_redex, intended}
 use Rattle.plain_activity.proofs.SightLemmas.{AreUnpacked, HaveRoots, missed_lacks, no_future, none_missed, shown}
 
 -- By the contraction
@@ -180,29 +180,29 @@ store_below x ns h =
     let size : length (store_of x.store) ≡ length x.store.cells = simp length-map in
     subst (λ (k : ℕ). AreBelow k ns) (sym size) h
 
--- where a future is missed, the plan awaits it
+-- where a future is missed, the intent awaits it
 pub redex_awaits : (x : Activity) (values : Values) (r : Redex) (g : Bor FutureName) → AreClosedValues values → AreBelow (length x.store.cells) (redex_shape r).places
     → first_missed (chase values) (store_of x.store) (strict_operands (redex_shape r).head (redex_shape r).places) ≡ Some (future_shape g.now)
-    → (a : model.Activity) (rs : List RequestShape) (n : Name) → Stands x a rs → a.term ≡ nested x.frames.items (redex_node (redex_shape r)) → IsOutlook (plan (chase values) rs n a) (outlook.Awaits g)
+    → (a : model.Activity) (rs : List RequestShape) (n : Name) → Stands x a rs → a.term ≡ nested x.frames.items (redex_node (redex_shape r)) → IsOutlook (intent (chase values) rs n a) (outlook.Awaits g)
 redex_awaits x values r g closed below missed a rs n h term =
     let s : Store = store_of x.store in
     let own : a.store ≡ s = sym (ap (λ (v : model.Activity). v.store) h.shape) in
     let lacks : redex_ready (chase values) s (redex_shape r) ≡ Lacks (future_shape g.now) = awaits (chase values) (roots_of values closed) s r (future_shape g.now) (store_below x (redex_shape r).places below) missed in
-    let e : plan (chase values) rs n a ≡ planned rs n a (contexts_of x.frames.items) (redex_shape r) (Lacks (future_shape g.now)) = plan_redex (chase values) rs n a x.frames.items r s term own ∙ ap (planned rs n a (contexts_of x.frames.items) (redex_shape r)) lacks in
-    subst (λ (p : Plan). IsOutlook p (outlook.Awaits g)) (sym e) refl
+    let e : intent (chase values) rs n a ≡ intended rs n a (contexts_of x.frames.items) (redex_shape r) (Lacks (future_shape g.now)) = intent_redex (chase values) rs n a x.frames.items r s term own ∙ ap (intended rs n a (contexts_of x.frames.items) (redex_shape r)) lacks in
+    subst (λ (p : Intent). IsOutlook p (outlook.Awaits g)) (sym e) refl
 
--- else the plan's outlook is the contraction's
+-- else the intent's outlook is the contraction's
 pub redex_outlook : (x : Activity) (values : Values) (r : Redex) (f g : Face) (k : KindShape) (o : Outlook) → AreClosedValues values → AreBelow (length x.store.cells) (redex_shape r).places
     → AreSeen (chase values) (store_of x.store) (strict_operands (redex_shape r).head (redex_shape r).places) f g → k ≡ kind_at r f g
     → ((a : model.Activity) (rs : List RequestShape) (n : Name) (t : Store) (c : Contraction) → Stands x a rs → redex_ready (chase values) (store_of x.store) (redex_shape r) ≡ Reads t → c ≡ contract t (redex_shape r) → kind_of c ≡ k
     → IsOutlook (contracts rs n a (contexts_of x.frames.items) t c) o)
-    → (a : model.Activity) (rs : List RequestShape) (n : Name) → Stands x a rs → a.term ≡ nested x.frames.items (redex_node (redex_shape r)) → IsOutlook (plan (chase values) rs n a) o
+    → (a : model.Activity) (rs : List RequestShape) (n : Name) → Stands x a rs → a.term ≡ nested x.frames.items (redex_node (redex_shape r)) → IsOutlook (intent (chase values) rs n a) o
 redex_outlook x values r f g k o closed below seen is then a rs n h term =
     let s : Store = store_of x.store in
     let own : a.store ≡ s = sym (ap (λ (v : model.Activity). v.store) h.shape) in
     let through = seen_through (chase values) (roots_of values closed) s r f g (store_below x (redex_shape r).places below) seen in
-    let e : plan (chase values) rs n a ≡ contracts rs n a (contexts_of x.frames.items) through.store (contract through.store (redex_shape r)) = plan_redex (chase values) rs n a x.frames.items r s term own ∙ ap (planned rs n a (contexts_of x.frames.items) (redex_shape r)) through.ready in
-    subst (λ (p : Plan). IsOutlook p o) (sym e) (then a rs n through.store (contract through.store (redex_shape r)) h through.ready refl (through.kind ∙ sym is))
+    let e : intent (chase values) rs n a ≡ contracts rs n a (contexts_of x.frames.items) through.store (contract through.store (redex_shape r)) = intent_redex (chase values) rs n a x.frames.items r s term own ∙ ap (intended rs n a (contexts_of x.frames.items) (redex_shape r)) through.ready in
+    subst (λ (p : Intent). IsOutlook p o) (sym e) (then a rs n through.store (contract through.store (redex_shape r)) h through.ready refl (through.kind ∙ sym is))
 
 -- a `serve` is read in the store as it is
 pub asks : (chases : FutureShape → Chase) (rs : List RequestShape) (n : Name) (a : model.Activity) (ks : List Context) (s t : Store) (r : Redex) (c : Contraction) (o : Outlook) → redex_ready chases s (redex_shape r) ≡ Reads t → c ≡ contract t (redex_shape r) → kind_of c ≡ Asks

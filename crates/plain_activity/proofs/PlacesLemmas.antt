@@ -7,7 +7,7 @@ use Rattle.asp_model.specs.Store as store
 use Rattle.asp_model.specs.Split as split
 use Rattle.asp_model.specs.Parcel.{place_at, unpack_at, with_cells_at}
 use Rattle.asp_model.specs.Chase.{Chase, Value, Unfilled, Cycle}
-use Rattle.asp_model.specs.Plan.{Ready, Reads, Lacks, fetched, operand_ready, operands_ready}
+use Rattle.asp_model.specs.Intent.{Ready, Reads, Lacks, fetched, operand_ready, operands_ready}
 use Rattle.laws.specs.Closed.{AreBelow}
 use Rattle.plain_term.specs.Redexes.{redex_node}
 use Rattle.plain_activity.proofs.OperandLemmas.{then_operands, more_ready}

@@ -17,7 +17,7 @@ use Rattle.asp_model.specs.Names.{Text}
 use Rattle.asp_model.specs.Term.{has_text}
 use Rattle.asp_model.specs.Parcel.{has_place}
 use Rattle.asp_model.specs.Configuration.{RequestShape}
-use Rattle.asp_model.specs.Plan.{Numbered, oldest_match}
+use Rattle.asp_model.specs.Intent.{Numbered, oldest_match}
 use Rattle.asp_model.specs.Shapes.{request_shape}
 use Rattle.laws.specs.Closed.{AreBelow}
 use Rattle.plain_activity.specs.Queue.{IsMatch, pending, pending_at, numbered_shape, unless_served}

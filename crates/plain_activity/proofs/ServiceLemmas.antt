@@ -10,7 +10,7 @@ use Rattle.asp_model.specs.Split.{plug}
 use Rattle.asp_model.specs.Parcel.{ParcelShape, parcel_of, unpack, unpacked_roots}
 use Rattle.asp_model.specs.Configuration as model
 use Rattle.asp_model.specs.Configuration.{RequestShape, ServiceShape}
-use Rattle.asp_model.specs.Plan.{Numbered, serves, ends_service, newest, but_newest, filling}
+use Rattle.asp_model.specs.Intent.{Numbered, serves, ends_service, newest, but_newest, filling}
 use Rattle.asp_model.specs.Shapes.{future_shape, line_shape, parcel_shape}
 use Rattle.object_store.specs.View.{store_of}
 use Rattle.plain_term.specs.declared.frame.Frame.{Frame}

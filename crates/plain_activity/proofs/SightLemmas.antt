@@ -7,7 +7,7 @@ use Rattle.asp_model.specs.Store.{CellShape, Number, Object, Reference, Future, 
 use Rattle.asp_model.specs.Parcel.{ParcelShape, place_at, unpack_at, with_cells_at}
 use Rattle.asp_model.specs.Contraction.{first_future, is_future}
 use Rattle.asp_model.specs.Chase.{Chase, Value, Unfilled, Cycle}
-use Rattle.asp_model.specs.Plan.{Ready, Reads, Lacks, fetched, operand_ready, operands_ready}
+use Rattle.asp_model.specs.Intent.{Ready, Reads, Lacks, fetched, operand_ready, operands_ready}
 use Rattle.laws.specs.Closed.{AreBelow}
 use Rattle.laws.specs.Linked.{Each}
 use Rattle.laws.proofs.EachLemmas.{below_more}

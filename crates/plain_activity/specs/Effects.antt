@@ -6,7 +6,7 @@ use Rattle.asp_model.specs.Names.{Name, Text}
 use Rattle.asp_model.specs.Term.{Tree, Call, node, more, none, loc, locs_then, locations}
 use Rattle.asp_model.specs.Configuration as model
 use Rattle.asp_model.specs.Configuration.{RequestShape}
-use Rattle.asp_model.specs.Plan.{Effect, Plan, Acts, Rests}
+use Rattle.asp_model.specs.Intent.{Effect, Intent, Acts, Rests}
 use Rattle.asp_model.specs.Shapes.{future_shape, parcel_shape, request_shape}
 use Rattle.laws.specs.Closed.{AreBelow, IsClosedStore}
 use Rattle.object_store.specs.View.{store_of}
@@ -41,8 +41,8 @@ IsGiven e (given.Made n x) = (e.sent ≡ None) × IsMade e.made n x × (e.filled
 IsGiven e (given.Sent n r) = (e.sent ≡ Some (n, request_shape r)) × (e.made ≡ None) × (e.filled ≡ None)
 IsGiven e (given.Filled f p) = (e.sent ≡ None) × (e.made ≡ None) × (e.filled ≡ Some (future_shape f, parcel_shape p))
 
--- a plan that acts is carried out
-abbrev pub IsDoneBy : Plan → List RequestShape → Activity → Given → Type 0
+-- an intent that acts is carried out
+abbrev pub IsDoneBy : Intent → List RequestShape → Activity → Given → Type 0
 IsDoneBy (Acts e) rs new g = Stands new e.own rs × IsGiven e g
 IsDoneBy (Rests status) rs new g = Unit {0}
 

@@ -5,7 +5,7 @@ use Rattle.asp_model.specs.Names.{FutureShape, future_cmp}
 use Rattle.asp_model.specs.Store.{Store}
 use Rattle.asp_model.specs.Parcel.{ParcelShape}
 use Rattle.asp_model.specs.Chase.{Values}
-use Rattle.asp_model.specs.Plan.{Ready, Reads, Lacks}
+use Rattle.asp_model.specs.Intent.{Ready, Reads, Lacks}
 use Rattle.laws.specs.Closed.{IsClosedValue}
 use Rattle.plain_activity.specs.declared.operands.Strict.{Strict}
 use Rattle.plain_activity.specs.declared.operands.Strict.TheVariants as strict

@@ -5,8 +5,8 @@ use Rattle.asp_model.specs.Store.{CellShape, Future, Store, cell}
 use Rattle.asp_model.specs.Configuration.{RequestShape}
 use Rattle.asp_model.specs.Chase as chase
 use Rattle.asp_model.specs.Chase.{Chase}
-use Rattle.asp_model.specs.Plan as plan
-use Rattle.asp_model.specs.Plan.{Plan, Acts, Rests}
+use Rattle.asp_model.specs.Intent as intent
+use Rattle.asp_model.specs.Intent.{Intent, Acts, Rests}
 use Rattle.asp_model.specs.Shapes.{fault_shape, future_shape}
 use Rattle.plain_activity.specs.declared.reading.Operand.{Operand}
 use Rattle.plain_activity.specs.declared.reading.Operand.TheVariants as operand
@@ -22,14 +22,14 @@ abbrev pub IsTo : Option (Name × RequestShape) → Name → Type 0
 IsTo None n = ⊥
 IsTo (Some x) n = x.0 ≡ n
 
--- the plan acts, and sends to no other or to this one; or it rests so
-abbrev pub IsOutlook : Plan → Outlook → Type 0
+-- the intent acts, and sends to no other or to this one; or it rests so
+abbrev pub IsOutlook : Intent → Outlook → Type 0
 IsOutlook (Acts e) outlook.Steps = e.sent ≡ None
 IsOutlook (Acts e) (outlook.Sends n) = IsTo e.sent n.now
-IsOutlook (Rests (plan.Awaits f)) (outlook.Awaits g) = f ≡ future_shape g.now
-IsOutlook (Rests (plan.Faulted x)) (outlook.Faulted y) = x ≡ fault_shape y
-IsOutlook (Rests plan.Serving) outlook.Serving = Unit {0}
-IsOutlook (Rests plan.Done) outlook.Done = Unit {0}
+IsOutlook (Rests (intent.Awaits f)) (outlook.Awaits g) = f ≡ future_shape g.now
+IsOutlook (Rests (intent.Faulted x)) (outlook.Faulted y) = x ≡ fault_shape y
+IsOutlook (Rests intent.Serving) outlook.Serving = Unit {0}
+IsOutlook (Rests intent.Done) outlook.Done = Unit {0}
 IsOutlook p o = ⊥
 
 -- How operands are seen

@@ -7,7 +7,7 @@ use Rattle.std.specs.BTreeMap.{is_at}
 use Rattle.asp_model.specs.declared.store.Request.{Request}
 use Rattle.asp_model.specs.Parcel.{has_place}
 use Rattle.asp_model.specs.Configuration.{RequestShape}
-use Rattle.asp_model.specs.Plan.{Numbered}
+use Rattle.asp_model.specs.Intent.{Numbered}
 use Rattle.asp_model.specs.Shapes.{parcel_shape, request_shape}
 use Rattle.laws.specs.Closed.{AreBelow, IsClosedParcel}
 use Rattle.plain_activity.specs.declared.queue.Queue.{Queue}

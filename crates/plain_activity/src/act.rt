@@ -5,7 +5,7 @@ ghost use Rattle.asp_model.specs.Chase.{chase};
 ghost use Rattle.asp_model.specs.Configuration.{RequestShape};
 ghost use Rattle.asp_model.specs.Configuration as model;
 ghost use Rattle.asp_model.specs.Store.{cell as cell_at};
-ghost use Rattle.asp_model.specs.Plan.{
+ghost use Rattle.asp_model.specs.Intent.{
   communicates,
   contracts,
   creates,
@@ -13,7 +13,7 @@ ghost use Rattle.asp_model.specs.Plan.{
   labels_served,
   newest,
   oldest_match,
-  plan,
+  intent,
   sends,
   serves,
 };
@@ -68,8 +68,8 @@ pub enum Given {
 }
 
 impl Activity {
-    /// Takes the reduction that the activity plans, and answers what it gives to others. Where it
-    /// plans none, no clause says what is left: look at `outlook` first.
+    /// Takes the reduction that the activity intends, and answers what it gives to others. Where it
+    /// intends none, no clause says what is left: look at `outlook` first.
     pub fn act(
         &mut self,
         alloc: Global,
@@ -79,8 +79,8 @@ impl Activity {
         requires closed { IsClosedState self.old }
         requires values { AreClosedValues (values_of futures.now) }
         ensures acts { (a : model.Activity) (rs : List RequestShape) → Stands self.old a rs →
-            let planned = plan (chase (values_of futures.now)) rs name.now a in
-            IfOk result (IsDoneBy planned rs self.new) }
+            let intended = intent (chase (values_of futures.now)) rs name.now a in
+            IfOk result (IsDoneBy intended rs self.new) }
     {
         match mem::replace(&mut self.focus, Focus::Place(0)) {
             Focus::Place(place) => self.end_service(alloc, place),
@@ -102,8 +102,8 @@ impl Activity {
         ensures done { (a : model.Activity) (rs : List RequestShape) → StandsAside self.old a rs →
             a.store ≡ store_of self.old.store →
             a.term ≡ nested self.old.frames.items (redex_node (redex_shape redex)) →
-            let planned = plan (chase (values_of futures.now)) rs name.now a in
-            IfOk result (IsDoneBy planned rs self.new) }
+            let intended = intent (chase (values_of futures.now)) rs name.now a in
+            IfOk result (IsDoneBy intended rs self.new) }
     {
         let ready = fetch_all(alloc, &mut self.store, futures, &redex)?;
         if ready {
@@ -126,8 +126,8 @@ impl Activity {
             IsOwn a.store (store_of self.old.store) contracted →
             let s = store_of self.old.store in
             let contexts = contexts_of self.old.frames.items in
-            let planned = contracts rs name.now a contexts s (contraction_of s contracted) in
-            IfOk result (IsDoneBy planned rs self.new) }
+            let intended = contracts rs name.now a contexts s (contraction_of s contracted) in
+            IfOk result (IsDoneBy intended rs self.new) }
     {
         match contracted {
             Contracted::Becomes(term) => self.go_on(alloc, term),
@@ -159,8 +159,8 @@ impl Activity {
             IsOwnFor a.store (store_of self.old.store) communication →
             let s = store_of self.old.store in
             let contexts = contexts_of self.old.frames.items in
-            let planned = communicates rs name.now a contexts s (communication_shape communication) in
-            IfOk result (IsDoneBy planned rs self.new) }
+            let intended = communicates rs name.now a contexts s (communication_shape communication) in
+            IfOk result (IsDoneBy intended rs self.new) }
     {
         match communication {
             Communication::Creates(object, service) => self.create(alloc, name, object, service),
@@ -201,8 +201,8 @@ impl Activity {
         ensures done { (a : model.Activity) (rs : List RequestShape) → StandsAside self.old a rs →
             let s = store_of self.old.store in
             let contexts = contexts_of self.old.frames.items in
-            let planned = creates name.now a contexts s object (service_text service) in
-            IfOk result (IsDoneBy planned rs self.new) }
+            let intended = creates name.now a contexts s object (service_text service) in
+            IfOk result (IsDoneBy intended rs self.new) }
     {
         let number = next_number(self.creations)?;
         let created = name.created(alloc, number)?;
@@ -228,8 +228,8 @@ impl Activity {
         ensures done { (a : model.Activity) (rs : List RequestShape) → StandsAside self.old a rs →
             let s = store_of self.old.store in
             let contexts = contexts_of self.old.frames.items in
-            let planned = sends name.now a contexts s to label.text arguments.now in
-            IfOk result (IsDoneBy planned rs self.new) }
+            let intended = sends name.now a contexts s to label.text arguments.now in
+            IfOk result (IsDoneBy intended rs self.new) }
     {
         let number = next_number(self.sends)?;
         let request = Request {
@@ -253,8 +253,8 @@ impl Activity {
             let s = store_of self.old.store in
             let contexts = contexts_of self.old.frames.items in
             let wanted = labels_served (map label_text labels.now) (cell_at s a.active) in
-            let planned = serves a contexts (oldest_match wanted a.served 0 rs) in
-            IfOk result (IsDoneBy planned rs self.new) }
+            let intended = serves a contexts (oldest_match wanted a.served 0 rs) in
+            IfOk result (IsDoneBy intended rs self.new) }
     {
         let Some(number) = self.queue.oldest(labels, read(&self.store, self.active)) else {
             return Ok(Given::Nothing);
@@ -302,8 +302,8 @@ impl Activity {
         requires within { place < length self.old.store.cells }
         ensures done { (a : model.Activity) (rs : List RequestShape) → StandsAside self.old a rs →
             a.store ≡ store_of self.old.store →
-            let planned = ends_service a place (newest a.services) in
-            IfOk result (IsDoneBy planned rs self.new) }
+            let intended = ends_service a place (newest a.services) in
+            IfOk result (IsDoneBy intended rs self.new) }
     {
         let Some(service) = self.services.pop() else {
             return Ok(Given::Nothing);

@@ -4,7 +4,7 @@ ghost use Rattle.std.specs.Prelude.{◌≡◌, ◌∷◌, ◌++◌, [], IfOk, Li
 ghost use Rattle.asp_model.specs.Configuration as model;
 ghost use Rattle.asp_model.specs.Configuration.{RequestShape, begun};
 ghost use Rattle.asp_model.specs.Parcel.{unpack as unpack_in};
-ghost use Rattle.asp_model.specs.Plan.{start_term};
+ghost use Rattle.asp_model.specs.Intent.{start_term};
 ghost use Rattle.asp_model.specs.Shapes.{
   activity_shape as report_shape,
   parcel_shape,

@@ -4,7 +4,7 @@ ghost use Rattle.std.specs.Prelude.{◌≡◌, ◌≤◌, IfOk, OnOk, length, ma
 ghost use Rattle.asp_model.specs.Store.{cell as cell_at};
 ghost use Rattle.asp_model.specs.Chase.{chase};
 ghost use Rattle.asp_model.specs.Contraction.{strict_operands};
-ghost use Rattle.asp_model.specs.Plan.{operand_ready, redex_ready};
+ghost use Rattle.asp_model.specs.Intent.{operand_ready, redex_ready};
 ghost use Rattle.future_table.specs.Values.{values_of};
 ghost use Rattle.laws.specs.Closed.{IsClosedStore};
 ghost use Rattle.object_store.specs.View.{store_of};

@@ -8,7 +8,7 @@ ghost use Rattle.asp_model.specs.Split.{Context};
 ghost use Rattle.asp_model.specs.Chase.{chase};
 ghost use Rattle.asp_model.specs.Configuration as model;
 ghost use Rattle.asp_model.specs.Configuration.{RequestShape};
-ghost use Rattle.asp_model.specs.Plan.{ends_service, labels_served, newest, oldest_match, plan, serves};
+ghost use Rattle.asp_model.specs.Intent.{ends_service, labels_served, newest, oldest_match, intent, serves};
 ghost use Rattle.future_table.specs.Values.{values_of};
 ghost use Rattle.laws.specs.Closed.{AreBelow};
 ghost use Rattle.object_store.specs.View.{store_of};
@@ -51,7 +51,7 @@ impl Activity {
         requires values { AreClosedValues (values_of futures.now) }
         ensures outlook { (a : model.Activity) (rs : List RequestShape) (n : Name) →
             Stands self.now a rs →
-            IsOutlook (plan (chase (values_of futures.now)) rs n a) result }
+            IsOutlook (intent (chase (values_of futures.now)) rs n a) result }
     {
         match &self.focus {
             Focus::Place(_) => self.at_place(),
@@ -77,7 +77,7 @@ impl Activity {
         ensures outlook { (a : model.Activity) (rs : List RequestShape) (n : Name) →
             Stands self.now a rs →
             a.term ≡ nested self.now.frames.items (redex_node (redex_shape redex.now)) →
-            IsOutlook (plan (chase (values_of futures.now)) rs n a) result }
+            IsOutlook (intent (chase (values_of futures.now)) rs n a) result }
     {
         match operands_of(&self.store, futures, redex) {
             Operands::Awaits(future) => Outlook::Awaits(future),

@@ -14,7 +14,7 @@ ghost use Rattle.std.specs.Prelude.{
 };
 ghost use Rattle.asp_model.specs.Term.{has_text};
 ghost use Rattle.asp_model.specs.Configuration.{RequestShape};
-ghost use Rattle.asp_model.specs.Plan.{labels_served, oldest_match};
+ghost use Rattle.asp_model.specs.Intent.{labels_served, oldest_match};
 ghost use Rattle.asp_model.specs.Shapes.{parcel_shape, request_shape, stored_method};
 ghost use Rattle.laws.specs.Closed.{IsClosedParcel};
 ghost use Rattle.substitution.specs.Bindings.{label_text};

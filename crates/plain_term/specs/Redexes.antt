@@ -17,8 +17,8 @@ use Rattle.plain_term.specs.declared.redex.Found.{Found}
 use Rattle.plain_term.specs.declared.redex.Found.TheVariants as found
 use Rattle.plain_term.specs.declared.focus.Next.{Next}
 use Rattle.plain_term.specs.declared.focus.Next.TheVariants as next
-use Rattle.plain_term.specs.declared.focus.Turn.{Turn}
-use Rattle.plain_term.specs.declared.focus.Turn.TheVariants as turn
+use Rattle.plain_term.specs.declared.focus.Round.{Round}
+use Rattle.plain_term.specs.declared.focus.Round.TheVariants as round
 use Rattle.plain_term.specs.Frames.{frame_shape, nested}
 
 -- an object whose fields are all done
@@ -70,7 +70,7 @@ abbrev pub next_tree : Next → Tree
 next_tree (next.Enter t) = tree_of t
 next_tree (next.Fill p) = loc p
 
--- a turn ends in these contexts, where the whole term is this one
-abbrev pub IsTurned : List Frame → Tree → Turn → Type 0
-IsTurned fs t (turn.Goes x) = nested fs (next_tree x) ≡ t
-IsTurned fs t (turn.Rests f) = (nested fs (focus_tree f) ≡ t) × IsSettled fs f
+-- a round ends in these contexts, where the whole term is this one
+abbrev pub IsRounded : List Frame → Tree → Round → Type 0
+IsRounded fs t (round.Goes x) = nested fs (next_tree x) ≡ t
+IsRounded fs t (round.Rests f) = (nested fs (focus_tree f) ≡ t) × IsSettled fs f

@@ -3,7 +3,7 @@
 ghost use Rattle.std.specs.Prelude.{◌≡◌, IfOk};
 ghost use Rattle.asp_model.specs.Shapes.{tree_of};
 ghost use Rattle.plain_term.specs.Frames.{nested};
-ghost use Rattle.plain_term.specs.Redexes.{IsSettled, IsTurned, focus_tree, found_tree, next_tree};
+ghost use Rattle.plain_term.specs.Redexes.{IsSettled, IsRounded, focus_tree, found_tree, next_tree};
 
 use crate::enter::enter;
 use crate::fill::fill;
@@ -19,35 +19,35 @@ pub enum Next {
     Fill(Place),
 }
 
-/// What a turn leads to.
+/// What a round leads to.
 #[derive(Drop)]
-pub enum Turn {
+pub enum Round {
     Goes(Next),
     Rests(Focus),
 }
 
-fn follow(frames: &mut Vec<Frame>, found: Found) -> Result<Turn, AllocError>
-    ensures turn { IfOk result (IsTurned frames.new.items
+fn follow(frames: &mut Vec<Frame>, found: Found) -> Result<Round, AllocError>
+    ensures round { IfOk result (IsRounded frames.new.items
         (nested frames.old.items (found_tree found))) }
 {
     match found {
-        Found::Place(place) => Ok(Turn::Goes(Next::Fill(place))),
+        Found::Place(place) => Ok(Round::Goes(Next::Fill(place))),
         Found::Inner(frame, term) => {
             frames.push(frame)?;
-            Ok(Turn::Goes(Next::Enter(term)))
+            Ok(Round::Goes(Next::Enter(term)))
         }
-        Found::Redex(redex) => Ok(Turn::Rests(Focus::Redex(redex))),
+        Found::Redex(redex) => Ok(Round::Rests(Focus::Redex(redex))),
     }
 }
 
-fn take_turn(alloc: Global, frames: &mut Vec<Frame>, next: Next) -> Result<Turn, AllocError>
-    ensures turn { IfOk result (IsTurned frames.new.items
+fn take_round(alloc: Global, frames: &mut Vec<Frame>, next: Next) -> Result<Round, AllocError>
+    ensures round { IfOk result (IsRounded frames.new.items
         (nested frames.old.items (next_tree next))) }
 {
     match next {
         Next::Enter(term) => follow(frames, enter(alloc, term)),
         Next::Fill(place) => match frames.pop() {
-            None => Ok(Turn::Rests(Focus::Place(place))),
+            None => Ok(Round::Rests(Focus::Place(place))),
             Some(frame) => {
                 let found = fill(alloc, frame, place)?;
                 follow(frames, found)
@@ -65,9 +65,9 @@ pub fn settle(alloc: Global, frames: &mut Vec<Frame>, term: Term) -> Result<Focu
 {
     let mut next = Next::Enter(term);
     for _ in 0..u64::MAX {
-        match take_turn(alloc, frames, next)? {
-            Turn::Goes(further) => next = further,
-            Turn::Rests(focus) => return Ok(focus),
+        match take_round(alloc, frames, next)? {
+            Round::Goes(further) => next = further,
+            Round::Rests(focus) => return Ok(focus),
         }
     }
     Err(AllocError)

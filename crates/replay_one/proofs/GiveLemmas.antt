@@ -10,14 +10,14 @@ use Rattle.asp_model.specs.Parcel.{ParcelShape}
 use Rattle.asp_model.specs.Chase.{Values}
 use Rattle.asp_model.specs.Configuration as model
 use Rattle.asp_model.specs.Configuration.{Configuration, RequestShape, requests_of}
-use Rattle.asp_model.specs.Plan.{Effect}
+use Rattle.asp_model.specs.Intent.{Effect}
 use Rattle.asp_model.specs.Step.{ListsShape, put_some, with_effect, with_sent}
 use Rattle.asp_model.specs.Shapes.{future_shape, parcel_shape, request_shape}
 use Rattle.future_table.specs.Values.{values_of}
 use Rattle.laws.specs.Reached.{IsThere, Steps}
 use Rattle.laws.proofs.ClosedLaws.{reached_are_closed}
 use Rattle.laws.proofs.FrameLemmas.{effects_are_new}
-use Rattle.laws.proofs.LinkedLemmas.{plans_step, targets_are_there}
+use Rattle.laws.proofs.LinkedLemmas.{intends_step, targets_are_there}
 use Rattle.laws.proofs.MapLemmas.{find_same, stays_there}
 use Rattle.laws.proofs.NameLemmas.{future_total, future_same, name_total, name_same, no_some, some_is}
 use Rattle.laws.proofs.ReachedLemmas.{moves_go_on}
@@ -27,20 +27,20 @@ use Rattle.plain_activity.specs.Activity.{Stands}
 use Rattle.plain_activity.specs.Effects.{IsMade}
 use Rattle.schedules.specs.Schedules.{IsNextIn, IsSentTo}
 use Rattle.schedules.proofs.EffectLemmas.{absent_received_none}
-use Rattle.replay_one.specs.declared.pool.Pool.{Pool}
+use Rattle.replay_one.specs.declared.population.Population.{Population}
 use Rattle.replay_one.specs.declared.schedule.Schedule.{Schedule}
-use Rattle.replay_one.specs.Pool.{IsGiving, IsPool, with_activity, with_request, with_value}
+use Rattle.replay_one.specs.Population.{IsGiving, IsPopulation, with_activity, with_request, with_value}
 use Rattle.replay_one.specs.Schedule.{IsMoreReady, noted_in, ready_in}
-use Rattle.replay_one.specs.Turn.{IsHandedOn}
+use Rattle.replay_one.specs.Round.{IsHandedOn}
 
 -- the effect's configuration, by what it gives
 effect_of : (n : Name) (e : Effect) (c : Configuration) (s : Option (Name × RequestShape)) (m : Option (Name × model.Activity)) (f : Option (FutureShape × ParcelShape)) → e.sent ≡ s → e.made ≡ m → e.filled ≡ f
     → record { activities = put_some name_cmp m (put name_cmp n e.own c.activities); received = with_sent s c.received; futures = put_some future_cmp f c.futures } ≡ with_effect n e c
 effect_of n e c s m f p q r = sym (λ i. record { activities = put_some name_cmp (q i) (put name_cmp n e.own c.activities); received = with_sent (p i) c.received; futures = put_some future_cmp (r i) c.futures })
 
-module _ (p : Pool) (n : Name) (program : Tree) (c : Configuration) (e : Effect) where
-  pub nothing_pool : IsGiving p n given.Nothing program c e → IsPool p (with_effect n e c)
-  nothing_pool h = subst (IsPool p) (effect_of n e c None None None h.given.0 h.given.1 h.given.2) h.pool
+module _ (p : Population) (n : Name) (program : Tree) (c : Configuration) (e : Effect) where
+  pub nothing_population : IsGiving p n given.Nothing program c e → IsPopulation p (with_effect n e c)
+  nothing_population h = subst (IsPopulation p) (effect_of n e c None None None h.given.0 h.given.1 h.given.2) h.population
 
   -- what is made
   made_is : (o : Option (Name × model.Activity)) (m : Name) (x : Activity) → IsMade o m x → (b : model.Activity) × (o ≡ Some (m, b)) × Stands x b []
@@ -54,15 +54,15 @@ module _ (p : Pool) (n : Name) (program : Tree) (c : Configuration) (e : Effect)
   pub made_alone : (m : Name) (x : Activity) → IsGiving p n (given.Made m x) program c e → requests_of (with_activity n e.own c) m ≡ []
   made_alone m x h =
       let b = made_given m x h in
-      absent_received_none program c m h.reached ((effects_are_new program c n e h.reached h.plans).made (m, b.0) b.1)
+      absent_received_none program c m h.reached ((effects_are_new program c n e h.reached h.intends).made (m, b.0) b.1)
 
-  pub made_pool : (q : Pool) (m : Name) (x : Activity) (h : IsGiving p n (given.Made m x) program c e) → IsPool q (with_activity m (made_given m x h).0 (with_activity n e.own c)) → IsPool q (with_effect n e c)
-  made_pool q m x h k =
+  pub made_population : (q : Population) (m : Name) (x : Activity) (h : IsGiving p n (given.Made m x) program c e) → IsPopulation q (with_activity m (made_given m x h).0 (with_activity n e.own c)) → IsPopulation q (with_effect n e c)
+  made_population q m x h k =
       let b = made_given m x h in
-      subst (IsPool q) (effect_of n e c None (Some (m, b.0)) None h.given.0 b.1 h.given.2) k
+      subst (IsPopulation q) (effect_of n e c None (Some (m, b.0)) None h.given.0 b.1 h.given.2) k
 
   pub sent_there : (to : Name) (r : Request) → IsGiving p n (given.Sent to r) program c e → IsThere (with_activity n e.own c) to
-  sent_there to r h = stays_there name_cmp name_total name_same n e.own c.activities to (targets_are_there program c n e (to, request_shape r) h.reached h.plans h.given.0)
+  sent_there to r h = stays_there name_cmp name_total name_same n e.own c.activities to (targets_are_there program c n e (to, request_shape r) h.reached h.intends h.given.0)
 
   pub sent_is : (to : Name) (r : Request) → IsGiving p n (given.Sent to r) program c e → with_request to (request_shape r) (with_activity n e.own c) ≡ with_effect n e c
   sent_is to r h = effect_of n e c (Some (to, request_shape r)) None None h.given.0 h.given.1 h.given.2
@@ -72,13 +72,13 @@ module _ (p : Pool) (n : Name) (program : Tree) (c : Configuration) (e : Effect)
 
   -- the future was not filled
   pub filled_new : (f : FutureName) (v : Parcel) → IsGiving p n (given.Filled f v) program c e → find future_cmp (future_shape f) (values_of p.futures) ≡ None
-  filled_new f v h = ap (λ (vs : Values). find future_cmp (future_shape f) vs) h.pool.futures ∙ (effects_are_new program c n e h.reached h.plans).filled (future_shape f, parcel_shape v) h.given.2
+  filled_new f v h = ap (λ (vs : Values). find future_cmp (future_shape f) vs) h.population.futures ∙ (effects_are_new program c n e h.reached h.intends).filled (future_shape f, parcel_shape v) h.given.2
 
   -- its value has one root
   pub filled_root : (f : FutureName) (v : Parcel) → IsGiving p n (given.Filled f v) program c e → length v.roots.items ≡ 1
   filled_root f v h =
       let d : Configuration = with_effect n e c in
-      let reached = moves_go_on program c d (Steps None n) h.reached (plans_step program c n e h.reached h.plans) in
+      let reached = moves_go_on program c d (Steps None n) h.reached (intends_step program c n e h.reached h.intends) in
       let value = (reached_are_closed program d h.bare reached).values (future_shape f) (parcel_shape v) (ap (λ o. find future_cmp (future_shape f) (put_some future_cmp o c.futures)) h.given.2 ∙ find_same future_cmp future_total future_same (future_shape f) (parcel_shape v) c.futures) in
       ap (λ (ns : List ℕ). length ns) value.root
 

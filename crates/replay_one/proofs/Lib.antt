@@ -1,6 +1,6 @@
 pub mod EntryLemmas
 pub mod ScheduleLemmas
-pub mod PoolLemmas
+pub mod PopulationLemmas
 pub mod LookLemmas
 pub mod GiveLemmas
 pub mod RunLemmas

@@ -9,9 +9,9 @@ use Rattle.asp_model.specs.Term.{Tree}
 use Rattle.asp_model.specs.Chase.{Values, chase}
 use Rattle.asp_model.specs.Configuration as model
 use Rattle.asp_model.specs.Configuration.{Configuration, RequestShape, requests_of}
-use Rattle.asp_model.specs.Plan.{Effect, Plan, Acts, Rests, StatusShape, Done, Serving, Running, Awaits, Faulted, plan}
-use Rattle.asp_model.specs.Step.{ListsShape, is_named, is_next, may_send, name_at, plan_in, step, with_effect}
-use Rattle.asp_model.specs.Status.{status_of, status_of_plan}
+use Rattle.asp_model.specs.Intent.{Effect, Intent, Acts, Rests, StatusShape, Done, Serving, Running, Awaits, Faulted, intent}
+use Rattle.asp_model.specs.Step.{ListsShape, is_named, is_next, may_send, name_at, intent_in, step, with_effect}
+use Rattle.asp_model.specs.Status.{status_of, status_of_intent}
 use Rattle.asp_model.specs.Replay.{senders_in}
 use Rattle.asp_model.specs.Shapes.{fault_shape, future_shape}
 use Rattle.future_table.specs.Values.{values_of}
@@ -26,87 +26,87 @@ use Rattle.plain_activity.specs.Activity.{Stands}
 use Rattle.plain_activity.specs.Outlook.{IsOutlook, IsTo}
 use Rattle.schedules.specs.Schedules.{IsNextIn, RestsIn}
 use Rattle.replay_one.specs.declared.bounds.Next.TheVariants as next
-use Rattle.replay_one.specs.declared.pool.Pool.{Pool}
+use Rattle.replay_one.specs.declared.population.Population.{Population}
 use Rattle.replay_one.specs.Bounds.{IsNextAt}
-use Rattle.replay_one.specs.Pool.{IsPool, StandsAt, found_in}
-use Rattle.replay_one.specs.Turn.{CanStep, Leaves}
-use Rattle.replay_one.proofs.PoolLemmas.{found_stands, stands_none}
+use Rattle.replay_one.specs.Population.{IsPopulation, StandsAt, found_in}
+use Rattle.replay_one.specs.Round.{CanStep, Leaves}
+use Rattle.replay_one.proofs.PopulationLemmas.{found_stands, stands_none}
 
--- Plans by their outlook
+-- Intents by their outlook
 
--- the plan of an activity of the pool
-pub planned : (p : Pool) (c : Configuration) (n : Name) (x : Activity) (o : Outlook) → IsPool p c → found_in p n ≡ Some x → ((a : model.Activity) (rs : List RequestShape) (m : Name) → Stands x a rs → IsOutlook (plan (chase (values_of p.futures)) rs m a) o) → IsOutlook (plan_in c n) o
-planned p c n x o h is looks =
+-- the intent of an activity of the population
+pub intended : (p : Population) (c : Configuration) (n : Name) (x : Activity) (o : Outlook) → IsPopulation p c → found_in p n ≡ Some x → ((a : model.Activity) (rs : List RequestShape) (m : Name) → Stands x a rs → IsOutlook (intent (chase (values_of p.futures)) rs m a) o) → IsOutlook (intent_in c n) o
+intended p c n x o h is looks =
     let s = found_stands p c n x h is in
-    let e : plan_in c n ≡ plan (chase c.futures) (requests_of c n) n s.0 = ap (λ (q : Option model.Activity). elim q [ None ↦ Rests Done | Some a ↦ plan (chase c.futures) (requests_of c n) n a ]) s.1 in
+    let e : intent_in c n ≡ intent (chase c.futures) (requests_of c n) n s.0 = ap (λ (q : Option model.Activity). elim q [ None ↦ Rests Done | Some a ↦ intent (chase c.futures) (requests_of c n) n a ]) s.1 in
     let v = looks s.0 (requests_of c n) n s.2 in
-    subst (λ q. IsOutlook q o) (ap (λ (vs : Values). plan (chase vs) (requests_of c n) n s.0) h.futures ∙ sym e) v
+    subst (λ q. IsOutlook q o) (ap (λ (vs : Values). intent (chase vs) (requests_of c n) n s.0) h.futures ∙ sym e) v
 
-steps_plan : (p : Plan) → IsOutlook p outlook.Steps → (e : Effect) × (p ≡ Acts e) × (e.sent ≡ None)
-steps_plan (Acts e) h = (e, refl, h)
-steps_plan (Rests Done) h = absurd h
-steps_plan (Rests Serving) h = absurd h
-steps_plan (Rests Running) h = absurd h
-steps_plan (Rests (Awaits f)) h = absurd h
-steps_plan (Rests (Faulted x)) h = absurd h
+steps_intent : (p : Intent) → IsOutlook p outlook.Steps → (e : Effect) × (p ≡ Acts e) × (e.sent ≡ None)
+steps_intent (Acts e) h = (e, refl, h)
+steps_intent (Rests Done) h = absurd h
+steps_intent (Rests Serving) h = absurd h
+steps_intent (Rests Running) h = absurd h
+steps_intent (Rests (Awaits f)) h = absurd h
+steps_intent (Rests (Faulted x)) h = absurd h
 
 sent_to : (o : Option (Name × RequestShape)) (n : Name) → IsTo o n → (x : Name × RequestShape) × (o ≡ Some x) × (x.0 ≡ n)
 sent_to None n h = absurd h
 sent_to (Some x) n h = (x, refl, h)
 
-sends_plan : (p : Plan) (n : Bor ActivityName) → IsOutlook p (outlook.Sends n) → (e : Effect) × (p ≡ Acts e) × (x : Name × RequestShape) × (e.sent ≡ Some x) × (x.0 ≡ n.now)
-sends_plan (Acts e) n h = let s = sent_to e.sent n.now h in (e, refl, s.0, s.1, s.2)
-sends_plan (Rests Done) n h = absurd h
-sends_plan (Rests Serving) n h = absurd h
-sends_plan (Rests Running) n h = absurd h
-sends_plan (Rests (Awaits f)) n h = absurd h
-sends_plan (Rests (Faulted x)) n h = absurd h
+sends_intent : (p : Intent) (n : Bor ActivityName) → IsOutlook p (outlook.Sends n) → (e : Effect) × (p ≡ Acts e) × (x : Name × RequestShape) × (e.sent ≡ Some x) × (x.0 ≡ n.now)
+sends_intent (Acts e) n h = let s = sent_to e.sent n.now h in (e, refl, s.0, s.1, s.2)
+sends_intent (Rests Done) n h = absurd h
+sends_intent (Rests Serving) n h = absurd h
+sends_intent (Rests Running) n h = absurd h
+sends_intent (Rests (Awaits f)) n h = absurd h
+sends_intent (Rests (Faulted x)) n h = absurd h
 
-pub awaits_plan : (p : Plan) (g : Bor FutureName) → IsOutlook p (outlook.Awaits g) → p ≡ Rests (Awaits (future_shape g.now))
-awaits_plan (Acts e) g h = absurd h
-awaits_plan (Rests Done) g h = absurd h
-awaits_plan (Rests Serving) g h = absurd h
-awaits_plan (Rests Running) g h = absurd h
-awaits_plan (Rests (Awaits f)) g h = ap (λ k. Rests (Awaits k)) h
-awaits_plan (Rests (Faulted x)) g h = absurd h
+pub awaits_intent : (p : Intent) (g : Bor FutureName) → IsOutlook p (outlook.Awaits g) → p ≡ Rests (Awaits (future_shape g.now))
+awaits_intent (Acts e) g h = absurd h
+awaits_intent (Rests Done) g h = absurd h
+awaits_intent (Rests Serving) g h = absurd h
+awaits_intent (Rests Running) g h = absurd h
+awaits_intent (Rests (Awaits f)) g h = ap (λ k. Rests (Awaits k)) h
+awaits_intent (Rests (Faulted x)) g h = absurd h
 
-pub faulted_plan : (p : Plan) (y : Fault) → IsOutlook p (outlook.Faulted y) → p ≡ Rests (Faulted (fault_shape y))
-faulted_plan (Acts e) y h = absurd h
-faulted_plan (Rests Done) y h = absurd h
-faulted_plan (Rests Serving) y h = absurd h
-faulted_plan (Rests Running) y h = absurd h
-faulted_plan (Rests (Awaits f)) y h = absurd h
-faulted_plan (Rests (Faulted x)) y h = ap (λ k. Rests (Faulted k)) h
+pub faulted_intent : (p : Intent) (y : Fault) → IsOutlook p (outlook.Faulted y) → p ≡ Rests (Faulted (fault_shape y))
+faulted_intent (Acts e) y h = absurd h
+faulted_intent (Rests Done) y h = absurd h
+faulted_intent (Rests Serving) y h = absurd h
+faulted_intent (Rests Running) y h = absurd h
+faulted_intent (Rests (Awaits f)) y h = absurd h
+faulted_intent (Rests (Faulted x)) y h = ap (λ k. Rests (Faulted k)) h
 
-pub serving_plan : (p : Plan) → IsOutlook p outlook.Serving → p ≡ Rests Serving
-serving_plan (Acts e) h = absurd h
-serving_plan (Rests Done) h = absurd h
-serving_plan (Rests Serving) h = refl
-serving_plan (Rests Running) h = absurd h
-serving_plan (Rests (Awaits f)) h = absurd h
-serving_plan (Rests (Faulted x)) h = absurd h
+pub serving_intent : (p : Intent) → IsOutlook p outlook.Serving → p ≡ Rests Serving
+serving_intent (Acts e) h = absurd h
+serving_intent (Rests Done) h = absurd h
+serving_intent (Rests Serving) h = refl
+serving_intent (Rests Running) h = absurd h
+serving_intent (Rests (Awaits f)) h = absurd h
+serving_intent (Rests (Faulted x)) h = absurd h
 
-pub done_plan : (p : Plan) → IsOutlook p outlook.Done → p ≡ Rests Done
-done_plan (Acts e) h = absurd h
-done_plan (Rests Done) h = refl
-done_plan (Rests Serving) h = absurd h
-done_plan (Rests Running) h = absurd h
-done_plan (Rests (Awaits f)) h = absurd h
-done_plan (Rests (Faulted x)) h = absurd h
+pub done_intent : (p : Intent) → IsOutlook p outlook.Done → p ≡ Rests Done
+done_intent (Acts e) h = absurd h
+done_intent (Rests Done) h = refl
+done_intent (Rests Serving) h = absurd h
+done_intent (Rests Running) h = absurd h
+done_intent (Rests (Awaits f)) h = absurd h
+done_intent (Rests (Faulted x)) h = absurd h
 
 -- Who rests
 
-abbrev stepped : Option ListsShape → Configuration → Name → Plan → Option Configuration
+abbrev stepped : Option ListsShape → Configuration → Name → Intent → Option Configuration
 stepped lists c n p = elim p [
   | Rests status ↦ None
   | Acts e ↦ elim (may_send lists c n e.sent) [ true ↦ Some (with_effect n e c) | false ↦ None ]
 ]
 
-pub resting : (lists : Option ListsShape) (c : Configuration) (n : Name) (s : StatusShape) → plan_in c n ≡ Rests s → step lists c n ≡ None
+pub resting : (lists : Option ListsShape) (c : Configuration) (n : Name) (s : StatusShape) → intent_in c n ≡ Rests s → step lists c n ≡ None
 resting lists c n s e = ap (stepped lists c n) e
 
 -- nobody is there
-pub absent_leaves : (lists : Option ListsShape) (count : Name → ℕ) (p : Pool) (c : Configuration) (n : Name) → IsPool p c → found_in p n ≡ None → Leaves lists count c n
+pub absent_leaves : (lists : Option ListsShape) (count : Name → ℕ) (p : Population) (c : Configuration) (n : Name) → IsPopulation p c → found_in p n ≡ None → Leaves lists count c n
 absent_leaves lists count p c n h is =
     let none = stands_none (find name_cmp n c.activities) (requests_of c n) (subst (λ o. StandsAt o (find name_cmp n c.activities) (requests_of c n)) is (h.activities n)) in
     record { rests = inl (λ a at. no_some (sym none ∙ at)); waits = λ f a at below w. no_some (sym none ∙ at) }
@@ -119,40 +119,40 @@ counted_leaves lists count c n a is le = record {
 }
 
 -- it rests, and not at a future
-pub done_leaves : (lists : Option ListsShape) (count : Name → ℕ) (c : Configuration) (n : Name) (s : StatusShape) → plan_in c n ≡ Rests s → ((f : FutureShape) → s ≢ Awaits f) → Leaves lists count c n
-done_leaves lists count c n s e d = record { rests = inr (resting lists c n s e); waits = λ f a at below w. d f (sym (ap status_of_plan e) ∙ w.0) }
+pub done_leaves : (lists : Option ListsShape) (count : Name → ℕ) (c : Configuration) (n : Name) (s : StatusShape) → intent_in c n ≡ Rests s → ((f : FutureShape) → s ≢ Awaits f) → Leaves lists count c n
+done_leaves lists count c n s e d = record { rests = inr (resting lists c n s e); waits = λ f a at below w. d f (sym (ap status_of_intent e) ∙ w.0) }
 
-pub awaits_rests : (lists : Option ListsShape) (count : Name → ℕ) (c : Configuration) (n : Name) (f : FutureShape) → plan_in c n ≡ Rests (Awaits f) → RestsIn lists count c n × (status_of c n ≡ Awaits f)
-awaits_rests lists count c n f e = (inr (resting lists c n (Awaits f) e), ap status_of_plan e)
+pub awaits_rests : (lists : Option ListsShape) (count : Name → ℕ) (c : Configuration) (n : Name) (f : FutureShape) → intent_in c n ≡ Rests (Awaits f) → RestsIn lists count c n × (status_of c n ≡ Awaits f)
+awaits_rests lists count c n f e = (inr (resting lists c n (Awaits f) e), ap status_of_intent e)
 
 -- Who steps
 
-pub steps_now : (lists : Option ListsShape) (count : Name → ℕ) (c : Configuration) (n : Name) (a : model.Activity) → IsAt c n a → a.reductions < count n → IsOutlook (plan_in c n) outlook.Steps → CanStep lists count c n
+pub steps_now : (lists : Option ListsShape) (count : Name → ℕ) (c : Configuration) (n : Name) (a : model.Activity) → IsAt c n a → a.reductions < count n → IsOutlook (intent_in c n) outlook.Steps → CanStep lists count c n
 steps_now lists count c n a is below o =
-    let p = steps_plan (plan_in c n) o in
+    let p = steps_intent (intent_in c n) o in
     let may : may_send lists c n p.0.sent ≡ true = ap (may_send lists c n) p.2 in
-    record { activity = a; there = is; below = below; effect = p.0; plans = p.1; steps = takes_step lists c n p.0 (record { plans = p.1; may = may }) }
+    record { activity = a; there = is; below = below; effect = p.0; intends = p.1; steps = takes_step lists c n p.0 (record { intends = p.1; may = may }) }
 
 -- who is sent to is there
-pub target_there : (program : Tree) (c : Configuration) (n : Name) (to : Bor ActivityName) → IsReached program c → IsOutlook (plan_in c n) (outlook.Sends to) → IsThere c to.now
+pub target_there : (program : Tree) (c : Configuration) (n : Name) (to : Bor ActivityName) → IsReached program c → IsOutlook (intent_in c n) (outlook.Sends to) → IsThere c to.now
 target_there program c n to r o =
-    let p = sends_plan (plan_in c n) to o in
+    let p = sends_intent (intent_in c n) to o in
     subst (IsThere c) p.4 (targets_are_there program c n p.0 p.2 r p.1 p.3)
 
-pub sends_now : (lists : Option ListsShape) (count : Name → ℕ) (program : Tree) (c : Configuration) (n : Name) (a : model.Activity) (to : Bor ActivityName) → IsReached program c → IsAt c n a → a.reductions < count n → IsOutlook (plan_in c n) (outlook.Sends to) → is_next lists c to.now n ≡ true → CanStep lists count c n
-sends_now lists count program c n a to r is below o turn =
-    let p = sends_plan (plan_in c n) to o in
+pub sends_now : (lists : Option ListsShape) (count : Name → ℕ) (program : Tree) (c : Configuration) (n : Name) (a : model.Activity) (to : Bor ActivityName) → IsReached program c → IsAt c n a → a.reductions < count n → IsOutlook (intent_in c n) (outlook.Sends to) → is_next lists c to.now n ≡ true → CanStep lists count c n
+sends_now lists count program c n a to r is below o round =
+    let p = sends_intent (intent_in c n) to o in
     let there = target_there program c n to r o in
-    let may : may_send lists c n p.0.sent ≡ true = ap (may_send lists c n) p.3 ∙ (λ i. is_some (find name_cmp (p.4 i) c.activities) && is_next lists c (p.4 i) n) ∙ (λ i. there i && turn i) in
-    record { activity = a; there = is; below = below; effect = p.0; plans = p.1; steps = takes_step lists c n p.0 (record { plans = p.1; may = may }) }
+    let may : may_send lists c n p.0.sent ≡ true = ap (may_send lists c n) p.3 ∙ (λ i. is_some (find name_cmp (p.4 i) c.activities) && is_next lists c (p.4 i) n) ∙ (λ i. there i && round i) in
+    record { activity = a; there = is; below = below; effect = p.0; intends = p.1; steps = takes_step lists c n p.0 (record { intends = p.1; may = may }) }
 
--- it sends out of turn
-pub held_leaves : (lists : Option ListsShape) (count : Name → ℕ) (program : Tree) (c : Configuration) (n : Name) (to : Bor ActivityName) → IsReached program c → IsOutlook (plan_in c n) (outlook.Sends to) → is_next lists c to.now n ≡ false → Leaves lists count c n
-held_leaves lists count program c n to r o turn =
-    let p = sends_plan (plan_in c n) to o in
+-- it sends out of round
+pub held_leaves : (lists : Option ListsShape) (count : Name → ℕ) (program : Tree) (c : Configuration) (n : Name) (to : Bor ActivityName) → IsReached program c → IsOutlook (intent_in c n) (outlook.Sends to) → is_next lists c to.now n ≡ false → Leaves lists count c n
+held_leaves lists count program c n to r o round =
+    let p = sends_intent (intent_in c n) to o in
     let there = target_there program c n to r o in
-    let may : may_send lists c n p.0.sent ≡ false = ap (may_send lists c n) p.3 ∙ (λ i. is_some (find name_cmp (p.4 i) c.activities) && is_next lists c (p.4 i) n) ∙ (λ i. there i && turn i) in
-    let running : status_of c n ≡ Running = ap status_of_plan p.1 in
+    let may : may_send lists c n p.0.sent ≡ false = ap (may_send lists c n) p.3 ∙ (λ i. is_some (find name_cmp (p.4 i) c.activities) && is_next lists c (p.4 i) n) ∙ (λ i. there i && round i) in
+    let running : status_of c n ≡ Running = ap status_of_intent p.1 in
     record { rests = inr (holds_back lists c n p.0 p.1 may); waits = λ f a at below w. not_awaiting f (sym running ∙ w.0) }
   where
     not_awaiting : (f : FutureShape) → Running ≢ Awaits f

@@ -13,20 +13,20 @@ use Rattle.laws.proofs.ReplayLemmas.{plain_runs_replay}
 use Rattle.laws.proofs.SpendLemmas.{plain_runs_spend}
 use Rattle.schedules.proofs.LeastLemmas.{main_is_ready}
 use Rattle.replay_one.specs.declared.bounds.Bounds.{Bounds}
-use Rattle.replay_one.specs.declared.turn.Machine.{Machine}
+use Rattle.replay_one.specs.declared.round.Machine.{Machine}
 use Rattle.replay_one.specs.Bounds.{count_within, lists_within}
 use Rattle.replay_one.specs.Correct.{IsReplayed, IsSpent}
-use Rattle.replay_one.specs.Pool.{IsPool}
+use Rattle.replay_one.specs.Population.{IsPopulation}
 use Rattle.replay_one.specs.Schedule.{noted_in, ready_in}
-use Rattle.replay_one.specs.Turn.{IsRunAt}
+use Rattle.replay_one.specs.Round.{IsRunAt}
 use Rattle.replay_one.proofs.ReportLemmas.{counts_shown, lists_shown}
 
 -- the machine at the start
-pub begins_run : (b : Bounds) (m : Machine) (program copied : Tree) → copied ≡ program → locations program ≡ [] → IsPool m.pool (start copied) → ready_in m.schedule main_name ≡ true → IsRunAt b m program (start program)
-begins_run b m program copied same bare pool ready = record {
+pub begins_run : (b : Bounds) (m : Machine) (program copied : Tree) → copied ≡ program → locations program ≡ [] → IsPopulation m.population (start copied) → ready_in m.schedule main_name ≡ true → IsRunAt b m program (start program)
+begins_run b m program copied same bare population ready = record {
   bare = bare;
   reached = start_is_reached program;
-  pool = subst (λ t. IsPool m.pool (start t)) same pool;
+  population = subst (λ t. IsPopulation m.population (start t)) same population;
   scheduled = main_is_ready program (lists_within b) (count_within b) (ready_in m.schedule) (noted_in m.schedule) ready;
 }
 

@@ -1,4 +1,4 @@
--- The reports of the activities of a pool are those of its configuration.
+-- The reports of the activities of a population are those of its configuration.
 use Rattle.std.proofs.Common.{◌≡◌, ◌<◌, ◌||◌, ◌∷◌, [], Bool, T, List, Option, Some, None, length, map, refl, sym, ap, subst, ◌∙◌, inl, inr, ⊎_elim, arith}
 use Rattle.std.specs.List.{list_any}
 use Rattle.std.specs.List.Sorted.{IsStrictlySortedBy}
@@ -13,8 +13,8 @@ use Rattle.asp_model.specs.Order.{name_cmp_same}
 use Rattle.asp_model.specs.Chase.{Values, chase}
 use Rattle.asp_model.specs.Configuration as model
 use Rattle.asp_model.specs.Configuration.{Configuration, RequestShape, requests_of}
-use Rattle.asp_model.specs.Plan.{Rests, Done, plan}
-use Rattle.asp_model.specs.Status.{status_of, status_of_plan, statuses_of}
+use Rattle.asp_model.specs.Intent.{Rests, Done, intent}
+use Rattle.asp_model.specs.Status.{status_of, status_of_intent, statuses_of}
 use Rattle.asp_model.specs.Replay.{counts_of, lists_of}
 use Rattle.asp_model.specs.Outcome.{ActivityReportShape, activity_report, counts_in, lists_in, outcome_of}
 use Rattle.asp_model.specs.Shapes.{activity_shape, status_shape}
@@ -29,11 +29,11 @@ use Rattle.laws.proofs.NamesLaws.{entries_ascend}
 use Rattle.plain_activity.specs.declared.activity.Activity.{Activity}
 use Rattle.plain_activity.specs.Activity.{Stands}
 use Rattle.plain_activity.proofs.ClosedLemmas.{stands_closed}
-use Rattle.replay_one.specs.declared.pool.Pool.{Pool}
-use Rattle.replay_one.specs.Pool.{IsReachedPool, StandsAt}
+use Rattle.replay_one.specs.declared.population.Population.{Population}
+use Rattle.replay_one.specs.Population.{IsReachedPopulation, StandsAt}
 use Rattle.replay_one.specs.Reports.{AreClosedStates, AreReportsOf, IsReportOf, report_with}
 use Rattle.replay_one.proofs.EntryLemmas.{absent_below, absent_less, find_head, find_skip, lookup_find, sorted_by}
-use Rattle.replay_one.proofs.PoolLemmas.{stands_no, stands_none}
+use Rattle.replay_one.proofs.PopulationLemmas.{stands_no, stands_none}
 
 pub list_any_map : {X Y : Type 0} (p : Y → Bool) (f : X → Y) (xs : List X) → list_any p (map f xs) ≡ list_any (λ x. p (f x)) xs
 list_any_map p f [] = refl
@@ -93,9 +93,9 @@ AreThere c ys = (y : Name × model.Activity) → In y ys → IsAt c y.0 y.1
 
 report_is : (c : Configuration) (n : Name) (y : Name × model.Activity) → n ≡ y.0 → IsAt c y.0 y.1 → activity_report c y ≡ report_with c.futures n y.1 (requests_of c y.0)
 report_is c n y e is =
-    let status : status_of c y.0 ≡ status_of_plan (plan (chase c.futures) (requests_of c y.0) y.0 y.1) = ap (λ (q : Option model.Activity). status_of_plan (elim q [ None ↦ Rests Done | Some a ↦ plan (chase c.futures) (requests_of c y.0) y.0 a ])) is in
+    let status : status_of c y.0 ≡ status_of_intent (intent (chase c.futures) (requests_of c y.0) y.0 y.1) = ap (λ (q : Option model.Activity). status_of_intent (elim q [ None ↦ Rests Done | Some a ↦ intent (chase c.futures) (requests_of c y.0) y.0 a ])) is in
     (λ i. record { name = y.0; count = y.1.reductions; status = status i; senders = map (λ r. r.sender) (requests_of c y.0); lines = y.1.lines })
-    ∙ (λ i. record { name = sym e i; count = y.1.reductions; status = status_of_plan (plan (chase c.futures) (requests_of c y.0) (sym e i) y.1); senders = map (λ r. r.sender) (requests_of c y.0); lines = y.1.lines })
+    ∙ (λ i. record { name = sym e i; count = y.1.reductions; status = status_of_intent (intent (chase c.futures) (requests_of c y.0) (sym e i) y.1); senders = map (λ r. r.sender) (requests_of c y.0); lines = y.1.lines })
 
 reports_paired : (c : Configuration) (xs : List (Name × Activity)) (ys : List (Name × model.Activity)) → ArePaired c xs ys → AreThere c ys → AreReportsOf c.futures xs (map (activity_report c) ys)
 reports_paired c [] [] h t = tt
@@ -109,19 +109,19 @@ closed_paired c [] (y ∷ ys) k h t = absurd h
 closed_paired c (x ∷ xs) [] k h t = absurd h
 closed_paired c (x ∷ xs) (y ∷ ys) k h t = (stands_closed x.1 y.1 (requests_of c y.0) h.1 (k.activities y.0 y.1 (t y (inl refl))) (k.arguments y.0), closed_paired c xs ys k h.2 (λ z i. t z (inr i)))
 
-module _ (p : Pool) (program : Tree) (c : Configuration) (h : IsReachedPool p program c) (sorted : IsStrictlySortedBy name_cmp (keys_of p.activities.entries)) where
-  pool_paired : ArePaired c p.activities.entries c.activities
-  pool_paired = paired c p.activities.entries c.activities (sorted_by p.activities.entries sorted) (entries_ascend program c h.reached).activities
-      (λ n. subst (λ o. StandsAt o (find name_cmp n c.activities) (requests_of c n)) (lookup_find n p.activities.entries) (h.pool.activities n))
+module _ (p : Population) (program : Tree) (c : Configuration) (h : IsReachedPopulation p program c) (sorted : IsStrictlySortedBy name_cmp (keys_of p.activities.entries)) where
+  population_paired : ArePaired c p.activities.entries c.activities
+  population_paired = paired c p.activities.entries c.activities (sorted_by p.activities.entries sorted) (entries_ascend program c h.reached).activities
+      (λ n. subst (λ o. StandsAt o (find name_cmp n c.activities) (requests_of c n)) (lookup_find n p.activities.entries) (h.population.activities n))
 
   all_there : AreThere c c.activities
   all_there y i = entry_found c.activities y (entries_ascend program c h.reached).activities i
 
-  pub pool_reports : AreReportsOf (values_of p.futures) p.activities.entries (map (activity_report c) c.activities)
-  pool_reports = subst (λ (vs : Values). AreReportsOf vs p.activities.entries (map (activity_report c) c.activities)) (sym h.pool.futures) (reports_paired c p.activities.entries c.activities pool_paired all_there)
+  pub population_reports : AreReportsOf (values_of p.futures) p.activities.entries (map (activity_report c) c.activities)
+  population_reports = subst (λ (vs : Values). AreReportsOf vs p.activities.entries (map (activity_report c) c.activities)) (sym h.population.futures) (reports_paired c p.activities.entries c.activities population_paired all_there)
 
-  pub pool_closed : AreClosedStates p.activities.entries
-  pool_closed = closed_paired c p.activities.entries c.activities (reached_are_closed program c h.bare h.reached) pool_paired all_there
+  pub population_closed : AreClosedStates p.activities.entries
+  population_closed = closed_paired c p.activities.entries c.activities (reached_are_closed program c h.bare h.reached) population_paired all_there
 
 -- One report after the other
 

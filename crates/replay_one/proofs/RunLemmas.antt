@@ -1,10 +1,10 @@
--- Turns and runs of the machine.
+-- Rounds and runs of the machine.
 use Rattle.std.proofs.Common.{◌≡◌, ℕ, zero, suc, true, Option, Some, None, refl, sym, ap, subst, ◌∙◌, ⊎_elim}
 use Rattle.std.specs.FinMap.{find}
 use Rattle.asp_model.specs.Names.{Name, FutureShape, future_cmp}
 use Rattle.asp_model.specs.Term.{Tree}
 use Rattle.asp_model.specs.Configuration.{Configuration}
-use Rattle.asp_model.specs.Plan.{StatusShape, Awaits}
+use Rattle.asp_model.specs.Intent.{StatusShape, Awaits}
 use Rattle.asp_model.specs.Step.{ListsShape, put_some, with_effect}
 use Rattle.asp_model.specs.Status.{status_of}
 use Rattle.asp_model.specs.Replay.{least_step, steps_from}
@@ -16,16 +16,16 @@ use Rattle.schedules.specs.Schedules.{IsFilledBy, IsScheduled, RestsIn}
 use Rattle.schedules.proofs.LeastLemmas.{least_steps, notes_leave, resters_leave}
 use Rattle.schedules.proofs.WokenLemmas.{woken_are_scheduled}
 use Rattle.replay_one.specs.declared.bounds.Bounds.{Bounds}
-use Rattle.replay_one.specs.declared.pool.Pool.{Pool}
+use Rattle.replay_one.specs.declared.population.Population.{Population}
 use Rattle.replay_one.specs.declared.schedule.Schedule.{Schedule}
-use Rattle.replay_one.specs.declared.turn.Machine.{Machine}
+use Rattle.replay_one.specs.declared.round.Machine.{Machine}
 use Rattle.replay_one.specs.Bounds.{count_within, lists_within}
-use Rattle.replay_one.specs.Pool.{IsPool, IsReachedPool}
+use Rattle.replay_one.specs.Population.{IsPopulation, IsReachedPopulation}
 use Rattle.replay_one.specs.Schedule.{IsMoreReady, IsNoted, IsTaken, noted_in, ready_in}
-use Rattle.replay_one.specs.Turn.{CanStep, IsHandedOn, IsRunAt, Leaves, next_by}
+use Rattle.replay_one.specs.Round.{CanStep, IsHandedOn, IsRunAt, Leaves, next_by}
 
-pub reached_pool : (b : Bounds) (m : Machine) (program : Tree) (c : Configuration) → IsRunAt b m program c → IsReachedPool m.pool program c
-reached_pool b m program c h = record { bare = h.bare; reached = h.reached; pool = h.pool }
+pub reached_population : (b : Bounds) (m : Machine) (program : Tree) (c : Configuration) → IsRunAt b m program c → IsReachedPopulation m.population program c
+reached_population b m program c h = record { bare = h.bare; reached = h.reached; population = h.population }
 
 awaits_is : (f g : FutureShape) → Awaits f ≡ Awaits g → f ≡ g
 awaits_is f g e = ap (awaited f) e
@@ -34,21 +34,21 @@ awaits_is f g e = ap (awaited f) e
     awaited f (Awaits g) = g
     awaited f s = f
 
-module _ (b : Bounds) (program : Tree) (c : Configuration) (n : Name) (p : Pool) (old : Schedule) where
+module _ (b : Bounds) (program : Tree) (c : Configuration) (n : Name) (p : Population) (old : Schedule) where
   -- who rests leaves
-  pub leaves_turn : (new : Schedule) → IsRunAt b (record { pool = p; schedule = old }) program c → IsTaken old n new → Leaves (lists_within b) (count_within b) c n → IsRunAt b (record { pool = p; schedule = new }) program c
-  leaves_turn new h t l = record {
+  pub leaves_round : (new : Schedule) → IsRunAt b (record { population = p; schedule = old }) program c → IsTaken old n new → Leaves (lists_within b) (count_within b) c n → IsRunAt b (record { population = p; schedule = new }) program c
+  leaves_round new h t l = record {
     bare = h.bare;
     reached = h.reached;
-    pool = h.pool;
+    population = h.population;
     scheduled = resters_leave (lists_within b) (count_within b) c n (noted_in old) (noted_in new) (ready_in old) (ready_in new) h.scheduled l.rests t.others (λ f m k. ap (λ g. g f m) t.noted ∙ k) (λ f a at below w. absurd (l.waits f a at below w));
   }
 
-  pub awaits_turn : (f : FutureShape) (mid new : Schedule) → IsRunAt b (record { pool = p; schedule = old }) program c → IsTaken old n mid → IsNoted mid f n new → RestsIn (lists_within b) (count_within b) c n → status_of c n ≡ Awaits f → IsRunAt b (record { pool = p; schedule = new }) program c
-  awaits_turn f mid new h t k rests s = record {
+  pub awaits_round : (f : FutureShape) (mid new : Schedule) → IsRunAt b (record { population = p; schedule = old }) program c → IsTaken old n mid → IsNoted mid f n new → RestsIn (lists_within b) (count_within b) c n → status_of c n ≡ Awaits f → IsRunAt b (record { population = p; schedule = new }) program c
+  awaits_round f mid new h t k rests s = record {
     bare = h.bare;
     reached = h.reached;
-    pool = h.pool;
+    population = h.population;
     scheduled = resters_leave (lists_within b) (count_within b) c n (noted_in old) (noted_in new) (ready_in old) (ready_in new) h.scheduled rests
         (λ m d. ready_by m ∙ t.others m d)
         (λ g m is. k.noted g m (ap (λ r. r g m) t.noted ∙ is))
@@ -59,9 +59,9 @@ module _ (b : Bounds) (program : Tree) (c : Configuration) (n : Name) (p : Pool)
       ready_by m = ap (λ r. ready_in (record new { ready = r }) m) k.ready
 
   -- a step is taken
-  pub steps_turn : (q : Pool) (mid given new : Schedule) (x : CanStep (lists_within b) (count_within b) c n) → IsRunAt b (record { pool = p; schedule = old }) program c → IsTaken old n mid → IsPool q (with_effect n x.effect c) → IsHandedOn (lists_within b) c n x.effect mid given → IsMoreReady given None new → ready_in new n ≡ true
-      → (d : Configuration) × (next_by b c ≡ Some d) × IsRunAt b (record { pool = q; schedule = new }) program d
-  steps_turn q mid given new x h t pool handed more woken =
+  pub steps_round : (q : Population) (mid given new : Schedule) (x : CanStep (lists_within b) (count_within b) c n) → IsRunAt b (record { population = p; schedule = old }) program c → IsTaken old n mid → IsPopulation q (with_effect n x.effect c) → IsHandedOn (lists_within b) c n x.effect mid given → IsMoreReady given None new → ready_in new n ≡ true
+      → (d : Configuration) × (next_by b c ≡ Some d) × IsRunAt b (record { population = q; schedule = new }) program d
+  steps_round q mid given new x h t population handed more woken =
       let lists = lists_within b in
       let count = count_within b in
       let e = x.effect in
@@ -72,7 +72,7 @@ module _ (b : Bounds) (program : Tree) (c : Configuration) (n : Name) (p : Pool)
       (λ k. more.ready m (handed.ready m (t.others m k ∙ r)))
       (name_case m n) in
       let before : IsScheduled lists count c (ready_in old) (noted_in mid) = subst (λ r. IsScheduled lists count c (ready_in old) r) (sym t.noted) h.scheduled in
-      let after : IsScheduled lists count d (ready_in new) (noted_in mid) = woken_are_scheduled program lists count c n e (noted_in mid) (ready_in old) (ready_in new) h.reached x.plans x.steps before now (record {
+      let after : IsScheduled lists count d (ready_in new) (noted_in mid) = woken_are_scheduled program lists count c n e (noted_in mid) (ready_in old) (ready_in new) h.reached x.intends x.steps before now (record {
         stepper = woken;
         made = λ m a is. more.ready m (handed.made m a is);
         target = λ m is. more.ready m (handed.target m is);
@@ -85,7 +85,7 @@ module _ (b : Bounds) (program : Tree) (c : Configuration) (n : Name) (p : Pool)
         record {
           bare = h.bare;
           reached = reached;
-          pool = pool;
+          population = population;
           scheduled = notes_leave lists count d (ready_in new) (noted_in mid) (noted_in new) after (λ f m none is. more.noted f m no_some ∙ handed.noted f m (unfilled f none) ∙ is);
         },
       )

@@ -26,14 +26,14 @@ future_order = ordering.ghosts.cmp
 abbrev pub named : FutureShape → FutureName
 named f = record { by = f.by; index = f.index }
 
-turned : (r : Ordering) → is_gt r ≡ false → is_lt (ordering_reverse r) ≡ false
-turned Less e = refl
-turned Equal e = refl
-turned Greater e = e
+rounded : (r : Ordering) → is_gt r ≡ false → is_lt (ordering_reverse r) ≡ false
+rounded Less e = refl
+rounded Equal e = refl
+rounded Greater e = e
 
 -- from a lower bound
 above : (m n : Name) → is_gt (name_cmp n m) ≡ false → is_lt (name_cmp m n) ≡ false
-above m n e = ap is_lt (nat_list_cmp_total.antisymm m n) ∙ turned (name_cmp n m) e
+above m n e = ap is_lt (nat_list_cmp_total.antisymm m n) ∙ rounded (name_cmp n m) e
 
 none_among : (m : Name) (ks : List Name) → (0 < length ks → ⊥) → list_any (is_at (name_cmp m)) ks ≡ false
 none_among m [] h = refl

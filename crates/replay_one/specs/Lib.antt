@@ -1,8 +1,8 @@
 -- in reading order
 pub mod Bounds
-pub mod Pool
+pub mod Population
 pub mod Schedule
-pub mod Turn
+pub mod Round
 pub mod Reports
 pub mod Rows
 pub mod Listed

@@ -1,12 +1,12 @@
--- The reports of the activities of a pool.
+-- The reports of the activities of a population.
 use Rattle.std.specs.Prelude.{◌≡◌, List, [], ◌∷◌, map}
 use Rattle.std.specs.List.{AllByRecursion}
 use Rattle.asp_model.specs.Names.{Name}
 use Rattle.asp_model.specs.Chase.{Values, chase}
 use Rattle.asp_model.specs.Configuration as model
 use Rattle.asp_model.specs.Configuration.{RequestShape}
-use Rattle.asp_model.specs.Plan.{plan}
-use Rattle.asp_model.specs.Status.{status_of_plan}
+use Rattle.asp_model.specs.Intent.{intent}
+use Rattle.asp_model.specs.Status.{status_of_intent}
 use Rattle.asp_model.specs.Outcome.{ActivityReportShape}
 use Rattle.plain_activity.specs.declared.activity.Activity.{Activity}
 use Rattle.plain_activity.specs.Activity.{Stands}
@@ -16,7 +16,7 @@ abbrev pub report_with : Values → Name → model.Activity → List RequestShap
 report_with values n a rs = record {
   name = n;
   count = a.reductions;
-  status = status_of_plan (plan (chase values) rs n a);
+  status = status_of_intent (intent (chase values) rs n a);
   senders = map (λ r. r.sender) rs;
   lines = a.lines;
 }

@@ -7,12 +7,12 @@ mod bounds;
 mod difference;
 mod listed;
 mod outcome;
-mod pool;
+mod population;
 mod replays;
 mod run;
 mod schedule;
 mod splitting;
-mod turn;
+mod round;
 
 pub use listed::{are_replayable, counts_in, lists_in};
 pub use replays::{ReplayStop, replay};

@@ -7,11 +7,11 @@ ghost use Rattle.asp_model.specs.Term.{Tree};
 ghost use Rattle.asp_model.specs.Chase.{chase};
 ghost use Rattle.asp_model.specs.Configuration as model;
 ghost use Rattle.asp_model.specs.Configuration.{Configuration, RequestShape};
-ghost use Rattle.asp_model.specs.Plan.{plan};
+ghost use Rattle.asp_model.specs.Intent.{intent};
 ghost use Rattle.asp_model.specs.Status.{
   is_awaiting,
   is_running,
-  status_of_plan,
+  status_of_intent,
   verdict_among as verdict_of,
 };
 ghost use Rattle.asp_model.specs.Outcome.{activity_report, outcome_of as outcome_shown};
@@ -25,9 +25,9 @@ ghost use Rattle.future_table.specs.Values.{values_of};
 ghost use Rattle.plain_activity.specs.Activity.{Stands};
 ghost use Rattle.plain_activity.specs.Effects.{IsClosedState};
 ghost use Rattle.plain_activity.specs.Operands.{AreClosedValues};
-ghost use Rattle.replay_one.specs.Pool.{IsReachedBySome, IsReachedPool};
+ghost use Rattle.replay_one.specs.Population.{IsReachedBySome, IsReachedPopulation};
 
-use crate::pool::Pool;
+use crate::population::Population;
 use asp_model::{ActivityReport, Outcome, Status, Verdict};
 use future_table::FutureTable;
 use plain_activity::{Activity, Outlook};
@@ -42,8 +42,8 @@ fn status_of(
     requires values { AreClosedValues (values_of futures.now) }
     ensures status { (a : model.Activity) (rs : List RequestShape) (n : Name) →
         Stands activity.now a rs →
-        let planned = plan (chase (values_of futures.now)) rs n a in
-        IfOk result (λ s. status_shape s ≡ status_of_plan planned) }
+        let intended = intent (chase (values_of futures.now)) rs n a in
+        IfOk result (λ s. status_shape s ≡ status_of_intent intended) }
 {
     match activity.outlook(futures) {
         Outlook::Steps | Outlook::Sends(_) => Ok(Status::Running),
@@ -55,15 +55,15 @@ fn status_of(
 }
 
 /// The activities in ascending order of names.
-fn reports_of(alloc: Global, pool: Pool) -> Result<Vec<ActivityReport>, AllocError>
-    requires reached { IsReachedBySome pool }
-    ensures reports { (program : Tree) (c : Configuration) → IsReachedPool pool program c →
+fn reports_of(alloc: Global, population: Population) -> Result<Vec<ActivityReport>, AllocError>
+    requires reached { IsReachedBySome population }
+    ensures reports { (program : Tree) (c : Configuration) → IsReachedPopulation population program c →
         IfOk result (λ v. map activity_shape v.items ≡ map (activity_report c) c.activities) }
 {
-    let Pool {
+    let Population {
         mut activities,
         futures,
-    } = pool;
+    } = population;
     let mut reports = Vec::with_capacity(alloc, activities.len())?;
     while let Some((name, activity)) = activities.pop_first() {
         let status = status_of(alloc, &activity, &futures)?;
@@ -110,12 +110,12 @@ fn verdict_among(reports: &[ActivityReport]) -> Verdict
 }
 
 /// What the activities leave.
-pub fn outcome_of(alloc: Global, pool: Pool) -> Result<Outcome, AllocError>
-    requires reached { IsReachedBySome pool }
-    ensures outcome { (program : Tree) (c : Configuration) → IsReachedPool pool program c →
+pub fn outcome_of(alloc: Global, population: Population) -> Result<Outcome, AllocError>
+    requires reached { IsReachedBySome population }
+    ensures outcome { (program : Tree) (c : Configuration) → IsReachedPopulation population program c →
         IfOk result (λ o. outcome_shape o ≡ outcome_shown c) }
 {
-    let activities = reports_of(alloc, pool)?;
+    let activities = reports_of(alloc, population)?;
     Ok(Outcome {
         verdict: verdict_among(&activities),
         activities,

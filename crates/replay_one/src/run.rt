@@ -8,12 +8,12 @@ ghost use Rattle.asp_model.specs.Replay.{plain_run, steps_from, total as total_o
 ghost use Rattle.asp_model.specs.Shapes.{outcome_shape, tree_of};
 ghost use Rattle.replay_one.specs.Bounds.{IsAscending, count_within, lists_within};
 ghost use Rattle.replay_one.specs.Correct.{IsReplayed, IsSpent};
-ghost use Rattle.replay_one.specs.Pool.{IsReachedPool};
-ghost use Rattle.replay_one.specs.Turn.{IsRunAt, IsRunSomewhere};
+ghost use Rattle.replay_one.specs.Population.{IsReachedPopulation};
+ghost use Rattle.replay_one.specs.Round.{IsRunAt, IsRunSomewhere};
 
 use crate::bounds::Bounds;
 use crate::outcome::outcome_of;
-use crate::turn::Machine;
+use crate::round::Machine;
 use asp_check::Checked;
 use asp_model::{Outcome, Term};
 use std::alloc::{AllocError, Global};
@@ -27,7 +27,7 @@ impl Machine {
         ensures runs { (program : Tree) (c : Configuration) →
             IsRunAt bounds.now self.old program c →
             let d = steps_from total (lists_within bounds.now) (count_within bounds.now) c in
-            OnOk result (IsReachedPool self.new.pool program d) }
+            OnOk result (IsReachedPopulation self.new.population program d) }
     {
         for taken in 0..total {
             if !self.step(alloc, bounds)? {
@@ -53,7 +53,7 @@ pub fn run_term(
 {
     let mut machine = Machine::start(alloc, copy_term(alloc, program)?)?;
     machine.run(alloc, bounds, total)?;
-    outcome_of(alloc, machine.pool)
+    outcome_of(alloc, machine.population)
 }
 
 /// Runs a program with at most as many reductions as the budget says.

@@ -7,7 +7,7 @@ use Rattle.std.proofs.lemmas.Bool.{and_parts, and_from, ne_eqb, leb-true}
 use Rattle.std.proofs.lemmas.List.{append-nil}
 use Rattle.asp_model.specs.Names.{Name, Text}
 use Rattle.asp_model.specs.Contraction.{FaultShape, NoField, NoMethod, NotObject, NotNumber, NotGroup, BadMember, ActiveField, Overflow, ZeroDivisor, LineShape, NumberLine, TextLine}
-use Rattle.asp_model.specs.Plan.{StatusShape, Done, Serving, Running, Awaits, Faulted}
+use Rattle.asp_model.specs.Intent.{StatusShape, Done, Serving, Running, Awaits, Faulted}
 use Rattle.asp_model.specs.Status.{VerdictShape, End, Blocked, Budget}
 use Rattle.asp_model.specs.Outcome.{ActivityReportShape}
 use Rattle.asp_model.specs.WellFormed.{is_name, is_named_status, is_printable, is_printable_line}

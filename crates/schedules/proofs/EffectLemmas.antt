@@ -4,7 +4,7 @@ use Rattle.std.proofs.Common.{refl, sym, ap, ◌∙◌, ⊎_elim}
 use Rattle.std.specs.FinMap.{find, put}
 use Rattle.asp_model.specs.Names.{Name, name_cmp}
 use Rattle.asp_model.specs.Configuration.{RequestShape, Activity, Configuration, or_none, requests_of}
-use Rattle.asp_model.specs.Plan.{Effect}
+use Rattle.asp_model.specs.Intent.{Effect}
 use Rattle.asp_model.specs.Step.{put_some, with_sent}
 use Rattle.schedules.specs.Effects.{NobodyReceives, TargetsReceive, OthersReceiveNone, AbsentReceivedNone, MadeReceivedNone, OwnIsThere, MadeIsThere, OthersAreKept}
 use Rattle.laws.proofs.NameLemmas.{name_total, name_same, name_case, true_false}
@@ -35,21 +35,21 @@ pub absent_received_none : AbsentReceivedNone
 absent_received_none program c m reached none = empty_where_absent c (reached_right program c reached).tidy m none
 
 pub made_received_none : MadeReceivedNone
-made_received_none program c n m b e reached plans made = by_sent e.sent refl
+made_received_none program c n m b e reached intends made = by_sent e.sent refl
   where
     absent : find name_cmp m c.activities ≡ None
-    absent = (effects_are_new program c n e reached plans).made (m, b) made
+    absent = (effects_are_new program c n e reached intends).made (m, b) made
 
     by_sent : (o : Option (Name × RequestShape)) → e.sent ≡ o → received_by c m e.sent ≡ []
     by_sent None is = nobody_receives c n m e is ∙ absent_received_none program c m reached absent
     by_sent (Some x) is =
-        let there = targets_are_there program c n e x reached plans is in
+        let there = targets_are_there program c n e x reached intends is in
         others_receive_none c n m x.0 e x.1 is (λ p. true_false (is_some (find name_cmp x.0 c.activities)) there (ap (λ k. is_some (find name_cmp k c.activities)) (sym p) ∙ ap is_some absent))
         ∙ absent_received_none program c m reached absent
 
 pub own_is_there : OwnIsThere
-own_is_there program c n e reached plans =
-    let facts = acts_facts c n e plans in
+own_is_there program c n e reached intends =
+    let facts = acts_facts c n e intends in
     let t : Took c n e = record { sound = reached_sound program c reached; there = facts.0; facts = facts.1 } in
     own_by n e.made e.own c.activities t.there (made_new c n e t)
 

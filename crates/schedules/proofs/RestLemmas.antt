@@ -8,18 +8,18 @@ use Rattle.asp_model.specs.Names.{Name, FutureShape, name_cmp, future_cmp}
 use Rattle.asp_model.specs.Parcel.{ParcelShape}
 use Rattle.asp_model.specs.Term.{Tree}
 use Rattle.asp_model.specs.Configuration.{RequestShape, Activity, Configuration, requests_of}
-use Rattle.asp_model.specs.Plan.{StatusShape, Done, Serving, Running, Awaits, Faulted, Plan, Acts, Rests, Effect}
-use Rattle.asp_model.specs.Step.{ListsShape, plan_in, put_some, with_effect, may_send, is_next, name_at, step}
-use Rattle.asp_model.specs.Status.{status_of_plan, status_of, is_running, is_awaiting}
+use Rattle.asp_model.specs.Intent.{StatusShape, Done, Serving, Running, Awaits, Faulted, Intent, Acts, Rests, Effect}
+use Rattle.asp_model.specs.Step.{ListsShape, intent_in, put_some, with_effect, may_send, is_next, name_at, step}
+use Rattle.asp_model.specs.Status.{status_of_intent, status_of, is_running, is_awaiting}
 use Rattle.asp_model.specs.Replay.{senders_in}
 use Rattle.laws.specs.Reached.{IsReached, IsAt, IsStep}
 use Rattle.schedules.specs.Schedules.{WaitsFor, IsSentTo, IsFilledBy, IsNextIn}
 use Rattle.laws.proofs.NameLemmas.{name_case, future_case, future_total, future_same, none_true, no_some, true_false, named_is}
 use Rattle.laws.proofs.MapLemmas as Maps
 use Rattle.laws.proofs.StepLemmas.{step_taken, held_back, holds_back}
-use Rattle.laws.proofs.FrameLemmas.{plans_stay}
+use Rattle.laws.proofs.FrameLemmas.{intends_stay}
 use Rattle.laws.proofs.LinkedLemmas.{targets_are_there}
-use Rattle.laws.proofs.WakeLemmas.{none_rests_running, done_stays, fault_stays, serving_stays, awaiting_stays, cycles_stay, turns_stay}
+use Rattle.laws.proofs.WakeLemmas.{none_rests_running, done_stays, fault_stays, serving_stays, awaiting_stays, cycles_stay, others_stay_next}
 use Rattle.schedules.proofs.EffectLemmas.{nobody_receives, others_receive_none}
 
 -- Statuses
@@ -40,7 +40,7 @@ rests_step lists d m s not is = by_step (step lists d m) refl
     by_step None e = refl
     by_step (Some x) e =
         let y = step_taken lists d m x e in
-        none_true (sym not ∙ ap is_running (sym is ∙ ap status_of_plan y.1.plans))
+        none_true (sym not ∙ ap is_running (sym is ∙ ap status_of_intent y.1.intends))
 
 -- Sends and fills
 
@@ -77,7 +77,7 @@ unfilled_after c n e f none not = by_filled e.filled refl
         (λ a. ap (λ o. find future_cmp f (put_some future_cmp o c.futures)) is ∙ Maps.find_other future_cmp future_total future_same f z.0 z.1 c.futures a ∙ none)
         (future_case f z.0)
 
--- Turns
+-- Who is next
 
 next_refused : (a b : Bool) → a ≡ true → (a && b) ≡ false → b ≡ false
 next_refused true b p h = h
@@ -85,12 +85,12 @@ next_refused false b p h = none_true p
 
 -- who was not next, and is not in the list now, is not next
 still_not_next : (lists : Option ListsShape) (c d : Configuration) (k m : Name) → is_next lists c k m ≡ false → (IsNextIn lists d k m → ⊥) → is_next lists d k m ≡ false
-still_not_next None c d k m not unturned = not
-still_not_next (Some lists) c d k m not unturned =
+still_not_next None c d k m not unsent = not
+still_not_next (Some lists) c d k m not unsent =
     let o : Option Name = name_at (senders_in lists k) (length (requests_of d k)) in
-    false_from_ne_true (is_next (Some lists) d k m) (λ h. unturned (named_is m o h))
+    false_from_ne_true (is_next (Some lists) d k m) (λ h. unsent (named_is m o h))
 
-module _ (program : Tree) (lists : Option ListsShape) (c : Configuration) (n m : Name) (e : Effect) (a : Activity) (noted : FutureShape → Name → Bool) (reached : IsReached program c) (steps : step lists c n ≡ Some (with_effect n e c)) (apart : m ≢ n) (is : IsAt c m a) (unsent : (r : RequestShape) → e.sent ≢ Some (m, r)) (unturned : (k : Name) → IsSentTo e k → IsNextIn lists (with_effect n e c) k m → ⊥) (unfilled : (f : FutureShape) → IsFilledBy e f → noted f m ≡ true → ⊥) (waits : (f : FutureShape) → WaitsFor c m f → noted f m ≡ true) (none : step lists c m ≡ None) where
+module _ (program : Tree) (lists : Option ListsShape) (c : Configuration) (n m : Name) (e : Effect) (a : Activity) (noted : FutureShape → Name → Bool) (reached : IsReached program c) (steps : step lists c n ≡ Some (with_effect n e c)) (apart : m ≢ n) (is : IsAt c m a) (unsent : (r : RequestShape) → e.sent ≢ Some (m, r)) (unsent : (k : Name) → IsSentTo e k → IsNextIn lists (with_effect n e c) k m → ⊥) (unfilled : (f : FutureShape) → IsFilledBy e f → noted f m ≡ true → ⊥) (waits : (f : FutureShape) → WaitsFor c m f → noted f m ≡ true) (none : step lists c m ≡ None) where
   abbrev d : Configuration
   d = with_effect n e c
 
@@ -122,32 +122,32 @@ module _ (program : Tree) (lists : Option ListsShape) (c : Configuration) (n m :
       let x = cycles_stay program c d n m a f stepped apart is (ap is_some filled) st in
       awaiting x.0 (λ z. absurd (true_false (is_some (find future_cmp x.0 d.futures)) x.1 (ap is_some z))) x.2
 
-  refused : (g : Effect) → plan_in c m ≡ Acts g → (o : Option (Name × RequestShape)) → g.sent ≡ o → step lists d m ≡ None
-  refused g plans None sent = absurd (true_false (may_send lists c m g.sent) (ap (may_send lists c m) sent) (held_back lists c m g plans none))
-  refused g plans (Some x) sent =
-      let there = targets_are_there program c m g x reached plans sent in
-      let before : may_send lists c m (Some x) ≡ false = ap (may_send lists c m) (sym sent) ∙ held_back lists c m g plans none in
+  refused : (g : Effect) → intent_in c m ≡ Acts g → (o : Option (Name × RequestShape)) → g.sent ≡ o → step lists d m ≡ None
+  refused g intends None sent = absurd (true_false (may_send lists c m g.sent) (ap (may_send lists c m) sent) (held_back lists c m g intends none))
+  refused g intends (Some x) sent =
+      let there = targets_are_there program c m g x reached intends sent in
+      let before : may_send lists c m (Some x) ≡ false = ap (may_send lists c m) (sym sent) ∙ held_back lists c m g intends none in
       let not : is_next lists c x.0 m ≡ false = next_refused (is_some (find name_cmp x.0 c.activities)) (is_next lists c x.0 m) there before in
       ⊎_elim
       (λ to.
-      let next = still_not_next lists c d x.0 m not (unturned x.0 to) in
+      let next = still_not_next lists c d x.0 m not (unsent x.0 to) in
       let may : may_send lists d m (Some x) ≡ false = and_right (is_some (find name_cmp x.0 d.activities)) (is_next lists d x.0 m) next in
-      holds_back lists d m g (plans_stay program c d n m g stepped apart plans) (ap (may_send lists d m) sent ∙ may))
-      (λ other. turns_stay program lists c d n m g x stepped apart plans sent there (unsent_same c n x.0 e other) none)
+      holds_back lists d m g (intends_stay program c d n m g stepped apart intends) (ap (may_send lists d m) sent ∙ may))
+      (λ other. others_stay_next program lists c d n m g x stepped apart intends sent there (unsent_same c n x.0 e other) none)
       (sent_to e x.0)
 
-  by_plan : (p : Plan) → plan_in c m ≡ p → StillRests
-  by_plan (Acts g) plans = (
-    refused g plans g.sent refl,
+  by_intent : (p : Intent) → intent_in c m ≡ p → StillRests
+  by_intent (Acts g) intends = (
+    refused g intends g.sent refl,
     λ f w.
-        none_true (ap is_awaiting (sym (ap status_of_plan (plans_stay program c d n m g stepped apart plans)) ∙ w.0)),
+        none_true (ap is_awaiting (sym (ap status_of_intent (intends_stay program c d n m g stepped apart intends)) ∙ w.0)),
   )
-  by_plan (Rests Done) plans = quiet Done refl refl (done_stays program c d n m a stepped apart is (ap status_of_plan plans))
-  by_plan (Rests Serving) plans = quiet Serving refl refl (serving_stays program c d n m a [] stepped apart is (unsent_same c n m e unsent ∙ sym (append-nil (requests_of c m))) refl (ap status_of_plan plans))
-  by_plan (Rests Running) plans = absurd (none_rests_running c m plans)
-  by_plan (Rests (Awaits f)) plans = awaits_by f (find future_cmp f c.futures) refl (ap status_of_plan plans)
-  by_plan (Rests (Faulted fault)) plans = quiet (Faulted fault) refl refl (fault_stays program c d n m a fault stepped apart is (ap status_of_plan plans))
+  by_intent (Rests Done) intends = quiet Done refl refl (done_stays program c d n m a stepped apart is (ap status_of_intent intends))
+  by_intent (Rests Serving) intends = quiet Serving refl refl (serving_stays program c d n m a [] stepped apart is (unsent_same c n m e unsent ∙ sym (append-nil (requests_of c m))) refl (ap status_of_intent intends))
+  by_intent (Rests Running) intends = absurd (none_rests_running c m intends)
+  by_intent (Rests (Awaits f)) intends = awaits_by f (find future_cmp f c.futures) refl (ap status_of_intent intends)
+  by_intent (Rests (Faulted fault)) intends = quiet (Faulted fault) refl refl (fault_stays program c d n m a fault stepped apart is (ap status_of_intent intends))
 
   -- who does not step before does not step after, and is noted at the unfilled future that it awaits
   pub rests_still : (step lists (with_effect n e c) m ≡ None) × ((f : FutureShape) → WaitsFor (with_effect n e c) m f → noted f m ≡ true)
-  rests_still = by_plan (plan_in c m) refl
+  rests_still = by_intent (intent_in c m) refl

@@ -6,7 +6,7 @@ use Rattle.std.specs.FinMap.{find}
 use Rattle.asp_model.specs.Names.{Name, FutureShape, name_cmp}
 use Rattle.asp_model.specs.Term.{Tree}
 use Rattle.asp_model.specs.Configuration.{Activity, Configuration}
-use Rattle.asp_model.specs.Plan.{Effect}
+use Rattle.asp_model.specs.Intent.{Effect}
 use Rattle.asp_model.specs.Step.{ListsShape, with_effect, step}
 use Rattle.laws.specs.Reached.{IsReached, IsAt, IsThere}
 use Rattle.schedules.specs.Schedules.{RestsIn, WaitsFor, IsScheduled, IsWokenBy, WokenAreScheduled}
@@ -67,4 +67,4 @@ module _ (program : Tree) (lists : Option ListsShape) (count : Name → ℕ) (c 
   }
 
 pub woken_are_scheduled : WokenAreScheduled
-woken_are_scheduled program lists count c n e noted before after reached plans steps scheduled kept woken = scheduled_after program lists count c n e noted before after reached steps scheduled kept woken
+woken_are_scheduled program lists count c n e noted before after reached intends steps scheduled kept woken = scheduled_after program lists count c n e noted before after reached steps scheduled kept woken

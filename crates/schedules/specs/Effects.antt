@@ -4,8 +4,8 @@ use Rattle.std.specs.FinMap.{find}
 use Rattle.asp_model.specs.Names.{Name, name_cmp}
 use Rattle.asp_model.specs.Term.{Tree}
 use Rattle.asp_model.specs.Configuration.{RequestShape, Activity, Configuration, requests_of}
-use Rattle.asp_model.specs.Plan.{Effect, Acts}
-use Rattle.asp_model.specs.Step.{plan_in, with_effect}
+use Rattle.asp_model.specs.Intent.{Effect, Acts}
+use Rattle.asp_model.specs.Step.{intent_in, with_effect}
 use Rattle.laws.specs.Reached.{IsReached, IsAt}
 
 -- Requests
@@ -33,7 +33,7 @@ AbsentReceivedNone = (program : Tree) (c : Configuration) (m : Name)
 -- who is made begins with no requests
 abbrev pub MadeReceivedNone : Type 0
 MadeReceivedNone = (program : Tree) (c : Configuration) (n m : Name) (b : Activity) (e : Effect)
-    → IsReached program c → plan_in c n ≡ Acts e → e.made ≡ Some (m, b)
+    → IsReached program c → intent_in c n ≡ Acts e → e.made ≡ Some (m, b)
     → requests_of (with_effect n e c) m ≡ []
 
 -- Activities
@@ -41,7 +41,7 @@ MadeReceivedNone = (program : Tree) (c : Configuration) (n m : Name) (b : Activi
 -- at the stepper stands what the effect leaves of it
 abbrev pub OwnIsThere : Type 0
 OwnIsThere = (program : Tree) (c : Configuration) (n : Name) (e : Effect)
-    → IsReached program c → plan_in c n ≡ Acts e → IsAt (with_effect n e c) n e.own
+    → IsReached program c → intent_in c n ≡ Acts e → IsAt (with_effect n e c) n e.own
 
 -- who is made stands at its name
 abbrev pub MadeIsThere : Type 0

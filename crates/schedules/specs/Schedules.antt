@@ -6,8 +6,8 @@ use Rattle.asp_model.specs.Names.{Name, FutureShape, name_cmp, future_cmp, main_
 use Rattle.asp_model.specs.Parcel.{ParcelShape}
 use Rattle.asp_model.specs.Term.{Tree}
 use Rattle.asp_model.specs.Configuration.{RequestShape, Activity, Configuration, start, requests_of}
-use Rattle.asp_model.specs.Plan.{Effect, Acts, Awaits}
-use Rattle.asp_model.specs.Step.{ListsShape, name_at, plan_in, step, with_effect}
+use Rattle.asp_model.specs.Intent.{Effect, Acts, Awaits}
+use Rattle.asp_model.specs.Step.{ListsShape, name_at, intent_in, step, with_effect}
 use Rattle.asp_model.specs.Status.{status_of}
 use Rattle.asp_model.specs.Replay.{senders_in, least_step}
 use Rattle.laws.specs.Reached.{IsReached, IsAt, IsThere}
@@ -57,7 +57,7 @@ pub record IsWokenBy (lists : Option ListsShape) (c : Configuration) (n : Name) 
 abbrev pub WokenAreScheduled : Type 0
 WokenAreScheduled = (program : Tree) (lists : Option ListsShape) (count : Name → ℕ) (c : Configuration)
     (n : Name) (e : Effect) (noted : FutureShape → Name → Bool) (before after : Name → Bool)
-    → IsReached program c → plan_in c n ≡ Acts e → step lists c n ≡ Some (with_effect n e c)
+    → IsReached program c → intent_in c n ≡ Acts e → step lists c n ≡ Some (with_effect n e c)
     → IsScheduled lists count c before noted
     → ((m : Name) → before m ≡ true → after m ≡ true) → IsWokenBy lists c n e noted after
     → IsScheduled lists count (with_effect n e c) after noted

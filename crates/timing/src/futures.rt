@@ -8,7 +8,7 @@ use object_store::Store;
 use std::alloc::{AllocError, Global};
 
 /// The step from a replaced place to the next one, going round the store. It is a prime, so that all
-/// places have their turn, in an order that neither rises nor falls.
+/// places have their round, in an order that neither rises nor falls.
 const STEP: u64 = 7_919;
 
 // Puts a number in the place of a cell, if there is one.
@@ -19,7 +19,7 @@ fn put_number(store: &mut Store, place: Place) -> Result<(), AllocError> {
     Ok(())
 }
 
-fn turn(number: u32, size: u32) -> Place
+fn round(number: u32, size: u32) -> Place
     requires { number < size }
 {
     (u64::from(number) * STEP % u64::from(size)) as Place
@@ -42,7 +42,7 @@ pub fn many_futures(alloc: Global, size: u32) -> Result<usize, AllocError> {
     let mut store = filled(alloc, Kind::Future, size)?;
     let before = held(alloc, &store, size)?;
     for number in 0..size {
-        put_number(&mut store, turn(number, size))?;
+        put_number(&mut store, round(number, size))?;
     }
     Ok(before.saturating_sub(held(alloc, &store, size)?))
 }
@@ -63,7 +63,7 @@ pub fn one_future(alloc: Global, size: u32) -> Result<usize, AllocError> {
     let mut places: usize = 0;
     for number in 0..size {
         places = places.saturating_add(store.holders_of(&name).len());
-        put_number(&mut store, turn(number, size))?;
+        put_number(&mut store, round(number, size))?;
     }
     Ok(places)
 }

@@ -4,7 +4,7 @@ use Rattle.asp_model.specs.Names.{FutureShape, future_cmp}
 use Rattle.asp_model.specs.Store.{Future, Store, cell}
 use Rattle.asp_model.specs.Parcel.{unpack_at}
 use Rattle.asp_model.specs.Chase.{Values, chase}
-use Rattle.asp_model.specs.Plan.{Ready, Reads, operand_ready}
+use Rattle.asp_model.specs.Intent.{Ready, Reads, operand_ready}
 use Rattle.asp_model.specs.Shapes.{future_shape, parcel_shape}
 use Rattle.future_table.specs.Values.{values_of, chase_shape}
 use Rattle.object_store.specs.View.{store_of}

@@ -11,6 +11,6 @@ pub returns-in_ok-push-in-Inner : goal.returns-in_ok-push-in-Inner
 returns-in_ok-push-in-Inner c =
     let i = c.in-Inner in
     record {
-      turn = pushed c.args.frames.now.items c.push.new.self.items i.frame (tree_of i.term) (plugged (frame_shape i.frame) (tree_of i.term)) c.in_ok-push-in-Inner.ensures.items refl
+      round = pushed c.args.frames.now.items c.push.new.self.items i.frame (tree_of i.term) (plugged (frame_shape i.frame) (tree_of i.term)) c.in_ok-push-in-Inner.ensures.items refl
           ∙ ap (λ (f : Found). nested c.args.frames.now.items (found_tree f)) (sym i.is);
     }

@@ -8,20 +8,20 @@ use Rattle.asp_model.specs.Outcome.{ActivityReportShape, activity_report}
 use Rattle.asp_model.specs.Shapes.{activity_shape}
 use Rattle.future_table.specs.Values.{values_of}
 use Rattle.plain_activity.specs.declared.activity.Activity.{Activity}
-use Rattle.replay_one.specs.declared.pool.Pool.{Pool}
+use Rattle.replay_one.specs.declared.population.Population.{Population}
 use Rattle.replay_one.specs.Reports.{AreClosedStates, AreReportsOf}
-use Rattle.replay_one.proofs.PoolLemmas.{values_closed}
-use Rattle.replay_one.proofs.ReportLemmas.{empty_if, first_report, no_report, pool_closed, pool_reports}
+use Rattle.replay_one.proofs.PopulationLemmas.{values_closed}
+use Rattle.replay_one.proofs.ReportLemmas.{empty_if, first_report, no_report, population_closed, population_reports}
 use Rattle.replay_one.proofs.outcome.reports_of.Goals as goal
 
 pub loop-name-init : goal.loop-name-init
 loop-name-init c =
-    let p : Pool = c.args.pool in
+    let p : Population = c.args.population in
     let r = c.requires.reached in (
-      pool_closed p r.0 r.1 r.2 c.len.ensures.ordered,
+      population_closed p r.0 r.1 r.2 c.len.ensures.ordered,
       (λ program k h.
           let rest = map (activity_report k) k.activities in
-          (rest, pool_reports p program k h c.len.ensures.ordered, ap (λ (xs : List ActivityReport). map activity_shape xs ++ rest) c.in_ok-reports.ensures.items)),
+          (rest, population_reports p program k h c.len.ensures.ordered, ap (λ (xs : List ActivityReport). map activity_shape xs ++ rest) c.in_ok-reports.ensures.items)),
     )
 
 pub status_of-requires-clause-closed : goal.status_of-requires-clause-closed
@@ -30,11 +30,11 @@ status_of-requires-clause-closed c = (subst AreClosedStates c.in-Some.ensures.re
 pub status_of-requires-clause-values : goal.status_of-requires-clause-values
 status_of-requires-clause-values c =
     let r = c.requires.reached in
-    values_closed c.args.pool r.0 r.1 r.2
+    values_closed c.args.population r.0 r.1 r.2
 
 pub loop-name-preserved : goal.loop-name-preserved
 loop-name-preserved c =
-    let values : Values = values_of c.args.pool.futures in
+    let values : Values = values_of c.args.population.futures in
     let x : Name × Activity = (c.in-Some.name, c.in-Some.activity) in
     let xs : List (Name × Activity) = c.pop_first.new.self.entries in
     let old : List ActivityReport = c.loop-name.reports.items in
@@ -63,7 +63,7 @@ loop-name-preserved c =
 pub returns : goal.returns
 returns c = record {
   reports = λ program k h.
-      let values : Values = values_of c.args.pool.futures in
+      let values : Values = values_of c.args.population.futures in
       let i = c.loop-name.invariant.1 program k h in
       let none = empty_if c.loop-name.activities.entries (λ h. false≢true (c.in_default.ensures.variant.1 h)) in
       let rest : i.0 ≡ [] = no_report values i.0 (subst (λ (es : List (Name × Activity)). AreReportsOf values es i.0) none i.1) in

@@ -6,7 +6,7 @@ use Rattle.asp_model.specs.Replay.{plain_run}
 use Rattle.asp_model.specs.Shapes.{marked_of, outcome_shape, tree_of}
 use Rattle.asp_check.proofs.PlaceLemmas.{checked_has_no_places}
 use Rattle.replay_one.proofs.PlainLemmas.{plain_replays, plain_spent, plain_within}
-use Rattle.replay_one.proofs.PoolLemmas.{if_ok}
+use Rattle.replay_one.proofs.PopulationLemmas.{if_ok}
 use Rattle.replay_one.proofs.run.run_plain.Goals as goal
 
 pub run_term-requires-clause-bare : goal.run_term-requires-clause-bare

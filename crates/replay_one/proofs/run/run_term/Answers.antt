@@ -10,18 +10,18 @@ use Rattle.replay_one.proofs.run.run_term.Goals as goal
 pub run-requires-clause-running : goal.run-requires-clause-running
 run-requires-clause-running c =
     let t : Tree = tree_of c.args.program.now in
-    (t, start t, begins_run c.args.bounds.now c.in_ok-machine.machine t (tree_of c.in_ok-copy_term.field-0) c.in_ok-copy_term.ensures.same c.requires.bare c.in_ok-machine.ensures.pool c.in_ok-machine.ensures.ready)
+    (t, start t, begins_run c.args.bounds.now c.in_ok-machine.machine t (tree_of c.in_ok-copy_term.field-0) c.in_ok-copy_term.ensures.same c.requires.bare c.in_ok-machine.ensures.population c.in_ok-machine.ensures.ready)
 
 pub outcome_of-requires : goal.outcome_of-requires
 outcome_of-requires c =
     let t : Tree = tree_of c.args.program.now in
     let b : Bounds = c.args.bounds.now in
-    let begun = begins_run b c.in_ok-machine.machine t (tree_of c.in_ok-copy_term.field-0) c.in_ok-copy_term.ensures.same c.requires.bare c.in_ok-machine.ensures.pool c.in_ok-machine.ensures.ready in
+    let begun = begins_run b c.in_ok-machine.machine t (tree_of c.in_ok-copy_term.field-0) c.in_ok-copy_term.ensures.same c.requires.bare c.in_ok-machine.ensures.population c.in_ok-machine.ensures.ready in
     record { reached = (t, steps_from c.args.total (lists_within b) (count_within b) (start t), c.in_ok-run.ensures.runs t (start t) begun) }
 
 pub returns : goal.returns
 returns c =
     let t : Tree = tree_of c.args.program.now in
     let b : Bounds = c.args.bounds.now in
-    let begun = begins_run b c.in_ok-machine.machine t (tree_of c.in_ok-copy_term.field-0) c.in_ok-copy_term.ensures.same c.requires.bare c.in_ok-machine.ensures.pool c.in_ok-machine.ensures.ready in
+    let begun = begins_run b c.in_ok-machine.machine t (tree_of c.in_ok-copy_term.field-0) c.in_ok-copy_term.ensures.same c.requires.bare c.in_ok-machine.ensures.population c.in_ok-machine.ensures.ready in
     record { outcome = c.outcome_of.ensures.outcome t (steps_from c.args.total (lists_within b) (count_within b) (start t)) (c.in_ok-run.ensures.runs t (start t) begun) }

@@ -2,7 +2,7 @@ use Rattle.std.proofs.Common.{◌≡◌, [], List, length, sym, ap, ◌∙◌, s
 use Rattle.asp_model.specs.Configuration as model
 use Rattle.asp_model.specs.Term.{loc, locations}
 use Rattle.asp_model.specs.Chase.{chase}
-use Rattle.asp_model.specs.Plan.{Plan}
+use Rattle.asp_model.specs.Intent.{Intent}
 use Rattle.future_table.specs.Values.{values_of}
 use Rattle.laws.specs.Closed.{AreBelow}
 use Rattle.object_store.specs.View.{store_of}
@@ -13,7 +13,7 @@ use Rattle.plain_term.specs.Redexes.{IsSettled, focus_tree, redex_shape, redex_n
 use Rattle.plain_activity.specs.declared.activity.Activity.{Activity}
 use Rattle.plain_activity.specs.Effects.{IsDoneBy, StandsAside}
 use Rattle.plain_activity.proofs.PlacesLemmas.{redex_below}
-use Rattle.plain_activity.proofs.PlanLemmas.{plan_place}
+use Rattle.plain_activity.proofs.IntentLemmas.{intent_place}
 use Rattle.plain_activity.proofs.activity.Activity.act.Goals as goal
 
 pub returns-in-Place : goal.returns-in-Place
@@ -31,7 +31,7 @@ returns-in-Place c =
           let own : a.store ≡ store_of old.store = sym (ap (λ (v : model.Activity). v.store) h.shape) in
           let empty : fs ≡ [] = subst (IsSettled fs) here h.settled in
           let term : a.term ≡ loc p = sym (ap (λ (v : model.Activity). v.term) h.shape) ∙ (λ i. nested fs (focus_tree (here i))) ∙ ap (λ (gs : List Frame). nested gs (loc p)) empty in
-          subst (λ (q : Plan). IfOk c.end_service.result (IsDoneBy q rs new)) (sym (plan_place chases rs n a p term)) (c.end_service.ensures.done a rs aside own);
+          subst (λ (q : Intent). IfOk c.end_service.result (IsDoneBy q rs new)) (sym (intent_place chases rs n a p term)) (c.end_service.ensures.done a rs aside own);
     }
 
 pub reduce-requires-clause-within : goal.reduce-requires-clause-within

@@ -1,6 +1,6 @@
 use Rattle.std.proofs.Common.{◌≡◌, ◌∷◌, ◌++◌, [], map, refl, sym, ap, ◌∙◌, subst}
 use Rattle.std.proofs.lemmas.List.{map-append, append-nil}
-use Rattle.asp_model.specs.Plan.{contracts}
+use Rattle.asp_model.specs.Intent.{contracts}
 use Rattle.asp_model.specs.Split.{plugged}
 use Rattle.asp_model.specs.Store.{Store}
 use Rattle.asp_model.specs.Shapes.{line_shape, tree_of}

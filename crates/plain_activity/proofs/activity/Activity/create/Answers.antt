@@ -4,7 +4,7 @@ use Rattle.asp_model.specs.Names.{Name, created_name}
 use Rattle.asp_model.specs.Term.{loc}
 use Rattle.asp_model.specs.Parcel.{ParcelShape, unpack}
 use Rattle.asp_model.specs.Configuration.{begun}
-use Rattle.asp_model.specs.Plan.{start_term}
+use Rattle.asp_model.specs.Intent.{start_term}
 use Rattle.asp_model.specs.Store.{Store, Reference}
 use Rattle.asp_model.specs.Shapes.{tree_of}
 use Rattle.object_store.specs.View.{store_of}

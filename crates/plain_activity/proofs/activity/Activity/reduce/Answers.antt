@@ -3,7 +3,7 @@ use Rattle.std.proofs.lemmas.List.{length-map}
 use Rattle.asp_model.specs.Contraction.{strict_operands}
 use Rattle.asp_model.specs.Store.{Store}
 use Rattle.asp_model.specs.Chase.{chase}
-use Rattle.asp_model.specs.Plan.{Plan, Done, Reads, redex_ready}
+use Rattle.asp_model.specs.Intent.{Intent, Done, Reads, redex_ready}
 use Rattle.future_table.specs.Values.{values_of}
 use Rattle.laws.proofs.EachLemmas.{below_more}
 use Rattle.object_store.specs.View.{store_of}
@@ -17,7 +17,7 @@ use Rattle.plain_activity.specs.Operands.{IsFetched}
 use Rattle.plain_activity.proofs.DoneLemmas.{rests_done}
 use Rattle.plain_activity.proofs.OperandLemmas.{fetched_lacks, fetched_reads, ready_by}
 use Rattle.plain_activity.proofs.PlacesLemmas.{ready_grows}
-use Rattle.plain_activity.proofs.PlanLemmas.{contracts_done, own_store, plan_redex, planned, ready_for}
+use Rattle.plain_activity.proofs.IntentLemmas.{contracts_done, own_store, intent_redex, intended, ready_for}
 use Rattle.plain_activity.proofs.activity.Activity.reduce.Goals as goal
 
 pub returns-else-ready : goal.returns-else-ready
@@ -29,8 +29,8 @@ returns-else-ready c =
     let n = c.args.name.now in
     let lacks = fetched_lacks (redex_ready chases s r) (store_of c.fetch_all.new.store) (subst (λ (b : Bool). IsFetched (redex_ready chases s r) (store_of c.fetch_all.new.store) b) c.if-ready.false c.in_ok-ready.ensures.fetched) in
     record {
-      done = λ a rs h own term. subst (λ (p : Plan). IsDoneBy p rs (record old { store = c.fetch_all.new.store }) given.Nothing)
-          (sym (plan_redex chases rs n a old.frames.items c.args.redex s term own ∙ ap (planned rs n a (contexts_of old.frames.items) r) lacks.1)) tt;
+      done = λ a rs h own term. subst (λ (p : Intent). IsDoneBy p rs (record old { store = c.fetch_all.new.store }) given.Nothing)
+          (sym (intent_redex chases rs n a old.frames.items c.args.redex s term own ∙ ap (intended rs n a (contexts_of old.frames.items) r) lacks.1)) tt;
     }
 
 pub contract-requires : goal.contract-requires
@@ -67,10 +67,10 @@ returns-in_ok-contracted c =
     let reads : redex_ready chases s r ≡ Reads t = fetched_reads (redex_ready chases s r) t (subst (λ (b : Bool). IsFetched (redex_ready chases s r) t b) c.if-ready.true c.in_ok-ready.ensures.fetched) in
     record {
       done = λ a rs h own term.
-          let Q : Plan → Type 0 = λ p. IfOk c.carry_out.result (IsDoneBy p rs new) in
+          let Q : Intent → Type 0 = λ p. IfOk c.carry_out.result (IsDoneBy p rs new) in
           let aside : StandsAside (record old { store = c.contract.new.store }) a rs = record { shape = λ i. record (h.shape i) { store = u }; queue = h.queue } in
           let kept = c.in_ok-contracted.ensures.kept in
-          subst Q (sym (plan_redex chases rs n a old.frames.items c.args.redex s term own ∙ ap (planned rs n a ks r) reads))
+          subst Q (sym (intent_redex chases rs n a old.frames.items c.args.redex s term own ∙ ap (intended rs n a ks r) reads))
           (contracts_done Q rs n a ks t u r x (rests_done c.carry_out.result Done rs new) c.in_ok-contracted.ensures.row kept
           (λ by. c.carry_out.ensures.done a rs aside (own_store chases a.store t u c.args.redex x (ap (λ (v : Store). redex_ready chases v r) own ∙ reads) kept by)));
     }

@@ -3,7 +3,7 @@ use Rattle.asp_model.specs.Store.{CellShape, Store, cell}
 use Rattle.asp_model.specs.Parcel.{unpack, unpacked_roots}
 use Rattle.asp_model.specs.Configuration as model
 use Rattle.asp_model.specs.Configuration.{RequestShape}
-use Rattle.asp_model.specs.Plan.{Numbered, labels_served, oldest_match, serves}
+use Rattle.asp_model.specs.Intent.{Numbered, labels_served, oldest_match, serves}
 use Rattle.asp_model.specs.Shapes.{request_shape}
 use Rattle.object_store.specs.View.{store_of}
 use Rattle.plain_term.specs.Frames.{contexts_of}

@@ -4,7 +4,7 @@ use Rattle.std.proofs.lemmas.Map.Iter.{rest_more, rest_all}
 use Rattle.asp_model.specs.declared.store.Request.{Request}
 use Rattle.asp_model.specs.Names.{Text}
 use Rattle.asp_model.specs.Term.{has_text}
-use Rattle.asp_model.specs.Plan.{Numbered, labels_served}
+use Rattle.asp_model.specs.Intent.{Numbered, labels_served}
 use Rattle.substitution.specs.Bindings.{label_text}
 use Rattle.plain_activity.specs.Queue.{IsMatch, numbered_shape}
 use Rattle.plain_activity.specs.Seen.{seen_shape}

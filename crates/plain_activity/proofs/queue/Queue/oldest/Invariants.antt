@@ -1,5 +1,5 @@
 use Rattle.std.proofs.Common.{◌≡◌, map}
-use Rattle.asp_model.specs.Plan.{labels_served}
+use Rattle.asp_model.specs.Intent.{labels_served}
 use Rattle.substitution.specs.Bindings.{label_text}
 use Rattle.plain_activity.specs.Queue.{numbered_shape}
 use Rattle.plain_activity.specs.Seen.{seen_shape}

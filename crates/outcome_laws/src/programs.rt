@@ -1,0 +1,13 @@
+//! What holds of each program that stands in bytes.
+
+ghost use Rattle.outcome_laws.specs.Programs.{ProgramTextsArePrintable, ProgramsHaveNoPlaces};
+
+/// No program in bytes has places of its own.
+pub fn programs_have_no_places()
+    ensures { ProgramsHaveNoPlaces }
+{}
+
+/// Each text in a program in bytes has printable bytes alone.
+pub fn program_texts_are_printable()
+    ensures { ProgramTextsArePrintable }
+{}

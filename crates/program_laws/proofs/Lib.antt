@@ -1,4 +1,0 @@
--- in reading order
-pub mod TokenLemmas
-pub mod GrammarLemmas
-pub mod ProgramLaws
