@@ -16,6 +16,10 @@ pub record RequestShape : Type 0 where
   pub future : FutureShape
   pub arguments : ParcelShape
 
+-- what a request asks for
+abbrev pub label_of : RequestShape → Text
+label_of r = r.label
+
 -- a term that waits for a service to end: the contexts of its `serve`, and the future that it had to answer
 pub record ServiceShape : Type 0 where
   pub contexts : List Context

@@ -7,7 +7,7 @@ use Rattle.asp_model.specs.Store.{CellShape, Object, Reference, Future, Store, c
 use Rattle.asp_model.specs.Parcel.{ParcelShape, parcel_of, unpack, unpacked_roots, unpack_at, has_place}
 use Rattle.asp_model.specs.Contraction.{FaultShape, Communication, Creates, Sends, Serves, Contraction, Becomes, Faults, Needs, Communicates, Breaks, contract, strict_operands, strict_members}
 use Rattle.asp_model.specs.Chase.{Chase, Value, Unfilled, Cycle}
-use Rattle.asp_model.specs.Configuration.{RequestShape, ServiceShape, Activity, begun}
+use Rattle.asp_model.specs.Configuration.{RequestShape, ServiceShape, Activity, begun, label_of}
 
 pub data StatusShape : Type 0 where
   -- the term is a location, and no service is suspended
@@ -98,7 +98,7 @@ Numbered = ℕ × RequestShape
 -- the oldest request, from this number on, that was not served and has one of the labels
 abbrev pub oldest_match : List Text → List ℕ → ℕ → List RequestShape → Option Numbered
 oldest_match labels served k [] = None
-oldest_match labels served k (r ∷ rs) = elim (not (has_place k served) && has_text r.label labels) [ true ↦ Some (k, r) | false ↦ oldest_match labels served (suc k) rs ]
+oldest_match labels served k (r ∷ rs) = elim (not (has_place k served) && has_text (label_of r) labels) [ true ↦ Some (k, r) | false ↦ oldest_match labels served (suc k) rs ]
 
 abbrev pub method_labels : CellShape → List Text
 method_labels (Object fields methods) = map (λ m. m.head.label) methods
@@ -113,7 +113,7 @@ labels_served (l ∷ ls) c = l ∷ ls
 abbrev pub serves : Activity → List Context → Option Numbered → Intent
 serves a contexts None = Rests Serving
 serves a contexts (Some x) = alone (record a {
-  term = node (Call x.1.label) (more (loc a.active) (locs_then (unpacked_roots a.store x.1.arguments) none));
+  term = node (Call (label_of x.1)) (more (loc a.active) (locs_then (unpacked_roots a.store x.1.arguments) none));
   services = a.services ++ record { contexts = contexts; future = a.present } ∷ [];
   present = Some x.1.future;
   store = unpack a.store x.1.arguments;

@@ -17,6 +17,8 @@ pub mod WellFormed
 pub mod Report
 pub mod ReportLines
 pub mod ReadReport
+pub mod Codes
+pub mod History
 pub mod Marked
 pub mod Shapes
 pub mod FutureOrder

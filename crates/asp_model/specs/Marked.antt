@@ -8,6 +8,10 @@ pub record MarkShape : Type 0 where
   pub left : ℕ
   pub names : List ℕ
 
+-- the mark of a node that stood in no source text
+abbrev pub blank_mark : MarkShape
+blank_mark = record { at = 0; parentheses = 0; left = 0; names = [] }
+
 mutual
   pub data Marked : Type 0 where
     marked : (head : Head) (mark : MarkShape) (children : MarkedList) → Marked

@@ -43,3 +43,7 @@ Text = List ℕ
 
 abbrev pub same_text : Text → Text → Bool
 same_text = bytes_eq
+
+-- words and labels in lexicographic order of their bytes
+abbrev pub text_cmp : Text → Text → Ordering
+text_cmp = slice_cmp nat_cmp

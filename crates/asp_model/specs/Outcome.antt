@@ -3,10 +3,10 @@ use Rattle.std.specs.Prelude.{ℕ, Bool, true, false, List, map, cond}
 use Rattle.std.specs.List.{list_any}
 use Rattle.asp_model.specs.Names.{Name}
 use Rattle.asp_model.specs.Contraction.{LineShape}
-use Rattle.asp_model.specs.Configuration.{Configuration, Activity, requests_of}
+use Rattle.asp_model.specs.Configuration.{Configuration, Activity}
 use Rattle.asp_model.specs.Intent.{StatusShape, Faulted}
 use Rattle.asp_model.specs.Step.{ListsShape}
-use Rattle.asp_model.specs.Replay.{CountsShape}
+use Rattle.asp_model.specs.Replay.{CountsShape, log_of}
 use Rattle.asp_model.specs.Status.{VerdictShape, End, Blocked, Budget, status_of, verdict_of}
 
 pub record ActivityReportShape : Type 0 where
@@ -26,7 +26,7 @@ activity_report c x = record {
   name = x.0;
   count = x.1.reductions;
   status = status_of c x.0;
-  senders = map (λ r. r.sender) (requests_of c x.0);
+  senders = log_of c x.0;
   lines = x.1.lines;
 }
 

@@ -1,6 +1,7 @@
 -- What a report says of a run: its sender lists and its counts, or its first line that cannot stand in its place.
 use Rattle.std.specs.Prelude.{ℕ, suc, nat_le, ◌&&◌, Bool, true, false, List, [], ◌∷◌, ◌++◌, Option, Some, None, codes}
 use Rattle.std.specs.Ordering.{is_lt}
+use Rattle.asp_model.specs.declared.limits.TheConstants.{MOST_REDUCTIONS}
 use Rattle.asp_model.specs.Names.{Name, Text, main_name, name_cmp, same_name, same_text}
 use Rattle.asp_model.specs.Term.{has_text}
 use Rattle.asp_model.specs.Step.{ListsShape}
@@ -30,7 +31,7 @@ goes_on next p false = None
 -- with an activity line whose name fits here; the counts up to it sum to at most 10,000,000
 abbrev pub with_activity : (Name → Bool) → Progress → Option (Name × ℕ) → Option Progress
 with_activity fits p None = None
-with_activity fits p (Some a) = elim (fits a.0 && nat_le (total (p.counts ++ a ∷ [])) 10000000) [
+with_activity fits p (Some a) = elim (fits a.0 && nat_le (total (p.counts ++ a ∷ [])) MOST_REDUCTIONS) [
   | true ↦ Some (record { next = Senders a.0; lists = p.lists; counts = p.counts ++ a ∷ [] })
   | false ↦ None
 ]

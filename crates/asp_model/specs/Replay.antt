@@ -12,8 +12,12 @@ use Rattle.asp_model.specs.Step.{ListsShape, step, names_or_none}
 abbrev pub CountsShape : Type 0
 CountsShape = List (Name × ℕ)
 
+-- what an activity received, in order of arrival: the senders of its requests
+abbrev pub log_of : Configuration → Name → List Name
+log_of c n = map (λ r. r.sender) (requests_of c n)
+
 abbrev pub lists_of : Configuration → ListsShape
-lists_of c = map (λ x. (x.0, map (λ r. r.sender) (requests_of c x.0))) c.activities
+lists_of c = map (λ x. (x.0, log_of c x.0)) c.activities
 
 abbrev pub counts_of : Configuration → CountsShape
 counts_of c = map (λ x. (x.0, x.1.reductions)) c.activities

@@ -23,7 +23,7 @@ use Rattle.asp_model.specs.declared.outcome.Lists.{Lists}
 use Rattle.asp_model.specs.declared.outcome.Counts.{Counts}
 use Rattle.asp_model.specs.declared.name.FutureName.{FutureName}
 use Rattle.asp_model.specs.Names.{FutureShape, Text}
-use Rattle.asp_model.specs.Term.{SignShape, MethodHead, Tree, Loc, Hole, Var, Number, Make, Get, Put, Call, Clone, Active, Serve, Let, Steps, If, Repeat, Operate, Print, Echo}
+use Rattle.asp_model.specs.Term.{SignShape, MethodHead, Tree, Loc, Hole, Var, Number, Make, Get, Put, Call, Clone, Active, Serve, Let, Steps, If, Repeat, Operate, Print, Echo, Scatter, Size, Member, WaitAll}
 use Rattle.asp_model.specs.Term as term
 use Rattle.asp_model.specs.declared.store.Cell.{Cell}
 use Rattle.asp_model.specs.declared.store.Cell.TheVariants as cells
@@ -88,6 +88,11 @@ term_step (open_term.Repeat a m) = marked Repeat (mark_shape m) (one_marked a.va
 term_step (open_term.Operate s a b m) = marked (Operate (sign_shape s)) (mark_shape m) (two_marked a.value b.value)
 term_step (open_term.Print a m) = marked Print (mark_shape m) (one_marked a.value)
 term_step (open_term.Echo x m) = marked (Echo x) (mark_shape m) no_marked
+term_step (open_term.Group ts m) = marked term.Group (mark_shape m) (all_marked ts.items)
+term_step (open_term.Scatter a l b m) = marked (Scatter l.text) (mark_shape m) (two_marked a.value b.value)
+term_step (open_term.Size a m) = marked Size (mark_shape m) (one_marked a.value)
+term_step (open_term.Member a b m) = marked Member (mark_shape m) (two_marked a.value b.value)
+term_step (open_term.WaitAll a m) = marked WaitAll (mark_shape m) (one_marked a.value)
 
 -- a term with its marks
 abbrev pub marked_of : Term → Marked
@@ -132,6 +137,8 @@ fault_shape fault.NoField = contraction.NoField
 fault_shape fault.NoMethod = contraction.NoMethod
 fault_shape fault.NotObject = contraction.NotObject
 fault_shape fault.NotNumber = contraction.NotNumber
+fault_shape fault.NotGroup = contraction.NotGroup
+fault_shape fault.BadMember = contraction.BadMember
 fault_shape fault.ActiveField = contraction.ActiveField
 fault_shape fault.Overflow = contraction.Overflow
 fault_shape fault.ZeroDivisor = contraction.ZeroDivisor

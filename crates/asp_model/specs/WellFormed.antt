@@ -2,6 +2,7 @@
 use Rattle.std.specs.Prelude.{◌≡◌, ℕ, ◌≤◌, ◌^◌, nat_le, nat_lt, ◌==◌, ◌&&◌, Bool, true, false, List, [], ◌∷◌}
 use Rattle.std.specs.List.{list_all}
 use Rattle.std.specs.FinMap.{is_sorted}
+use Rattle.asp_model.specs.declared.limits.TheConstants.{MOST_REDUCTIONS}
 use Rattle.asp_model.specs.Names.{Name, FutureShape, main_name, name_cmp, same_name}
 use Rattle.asp_model.specs.Contraction.{LineShape, NumberLine, TextLine}
 use Rattle.asp_model.specs.Intent.{StatusShape, Awaits}
@@ -45,4 +46,4 @@ pub record IsWellFormed (o : OutcomeShape) : Type 0 where
   pub main : begins_with_main o.activities ≡ true
   pub ascending : is_sorted name_cmp (counts_in o) ≡ true
   pub sound : list_all is_sound_report o.activities ≡ true
-  pub within : total (counts_in o) ≤ 10000000
+  pub within : total (counts_in o) ≤ MOST_REDUCTIONS

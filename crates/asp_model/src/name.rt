@@ -10,15 +10,17 @@ ghost use Rattle.std.specs.Ordering.{as_partial_cmp};
 ghost use Rattle.asp_model.specs.Order.{same_name_same};
 ghost use Rattle.asp_model.specs.Names.{created_name, main_name, name_cmp, same_name};
 
+use smallvec::SmallVec;
 use std::alloc::{AllocError, Global};
 use std::cmp::Ordering;
 use std::hash::{Hash, Hasher};
 use std::marker::Model;
 
-/// The name of an activity, seen as a list of numbers that begins with 0.
+/// The name of an activity, seen as a list of numbers that begins with 0. A name of at most four
+/// numbers is made and copied without an allocation.
 #[derive(Debug, Drop)]
 pub struct ActivityName {
-    path: Vec<u32>,
+    path: SmallVec<u32, 4>,
 }
 
 impl Model for ActivityName {
@@ -40,7 +42,7 @@ impl ActivityName {
     pub fn main(alloc: Global) -> Result<ActivityName, AllocError>
         ensures name { IfOk result (λ n. n ≡ main_name) }
     {
-        let mut path = Vec::new(alloc);
+        let mut path = SmallVec::new(alloc);
         path.push(0)?;
         Ok(ActivityName { path })
     }
@@ -49,23 +51,25 @@ impl ActivityName {
     pub fn of_path(path: Vec<u32>) -> ActivityName
         ensures name { result ≡ path.items }
     {
-        ActivityName { path }
+        ActivityName {
+            path: SmallVec::from_vec(path),
+        }
     }
 
     /// The numbers of the name, in order.
     pub fn path(&self) -> &[u32]
         ensures path { result.now ≡ self.now }
     {
-        &self.path
+        self.path.as_slice()
     }
 
     /// The same name.
     pub fn copy(&self, alloc: Global) -> Result<ActivityName, AllocError>
         ensures name { IfOk result (λ n. n ≡ self.now) }
     {
-        let mut path = Vec::new(alloc);
-        path.extend_from_slice(&self.path)?;
-        Ok(ActivityName { path })
+        Ok(ActivityName {
+            path: SmallVec::from_slice(alloc, self.path())?,
+        })
     }
 
     /// The name of the activity that this one creates under a number, from 1.
@@ -96,7 +100,7 @@ impl PartialEq for ActivityName {
     ghost laws = { partial_equiv_from_equiv (eq_by_cmp_equiv nat_list_cmp_total) };
 
     fn eq(&self, other: &ActivityName) -> bool {
-        self.path.cmp(&other.path) == Ordering::Equal
+        self.path().cmp(other.path()) == Ordering::Equal
     }
 }
 
@@ -110,7 +114,7 @@ impl Hash for ActivityName {
     ghost respects_eq = { λ x y e. ap (fed.slice fed.u32) (same_name_same x y e) };
 
     fn hash<H: Hasher>(&self, state: &mut H) {
-        self.path.hash(state);
+        self.path().hash(state);
     }
 }
 
@@ -135,6 +139,6 @@ impl Ord for ActivityName {
     ghost matches_eq = { Prim.search (comparing, rules) };
 
     fn cmp(&self, other: &ActivityName) -> Ordering {
-        self.path.cmp(&other.path)
+        self.path().cmp(other.path())
     }
 }

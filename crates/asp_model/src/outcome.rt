@@ -18,6 +18,10 @@ pub enum Fault {
     NotObject,
     /// A number was asked for, and another cell stood there.
     NotNumber,
+    /// A group was asked for, and another cell stood there.
+    NotGroup,
+    /// The group has no member at that number, or two groups differ in size.
+    BadMember,
     /// A field of an activity was asked for.
     ActiveField,
     /// The result of an operator lies outside 64 bits.

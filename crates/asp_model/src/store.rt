@@ -1,6 +1,10 @@
 //! Cells of a store, and what passes between two activities.
 
+ghost use Rattle.std.specs.Prelude.{◌≡◌, IfOk, map};
+ghost use Rattle.asp_model.specs.Shapes.{cell_shape, parcel_shape};
+
 use crate::{ActivityName, FutureName, Label, Method, Place};
+use std::alloc::{AllocError, Global};
 
 /// An object: its fields' places, and its methods, whose bodies hold places in place of the variables
 /// that were bound round the object.
@@ -27,8 +31,32 @@ pub enum Cell {
 /// between two activities, or is the value of a future.
 #[derive(Debug, Drop)]
 pub struct Parcel {
-    pub cells: Vec<Cell>,
-    pub roots: Vec<Place>,
+    cells: Vec<Cell>,
+    roots: Vec<Place>,
+}
+
+impl Parcel {
+    /// A parcel of these cells, with these numbers as its roots.
+    pub fn of(_alloc: Global, cells: Vec<Cell>, roots: Vec<Place>) -> Result<Parcel, AllocError>
+        ensures parcel { IfOk result (λ p. parcel_shape p
+            ≡ record { cells = map cell_shape cells.items; roots = roots.items }) }
+    {
+        Ok(Parcel { cells, roots })
+    }
+
+    /// Its cells, by their numbers.
+    pub fn cells(&self) -> &[Cell]
+        ensures cells { map cell_shape result.now ≡ (parcel_shape self.now).cells }
+    {
+        &self.cells
+    }
+
+    /// The numbers of its roots.
+    pub fn roots(&self) -> &[Place]
+        ensures roots { result.now ≡ (parcel_shape self.now).roots }
+    {
+        &self.roots
+    }
 }
 
 /// What is asked of an activity. The arguments stay a closed copy until they are served.

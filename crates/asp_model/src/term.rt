@@ -1,6 +1,11 @@
 //! Programs as trees.
 
+ghost use Rattle.std.specs.Prelude.{◌≡◌, [], IfOk};
+ghost use Rattle.asp_model.specs.Marked.{blank_mark};
+ghost use Rattle.asp_model.specs.Shapes.{mark_shape};
+
 use crate::{Label, Word};
+use std::alloc::{AllocError, Global};
 
 /// The number of a cell in a store.
 pub type Place = u128;
@@ -28,6 +33,29 @@ pub struct Mark {
     pub left: u32,
     /// The places of the labels and names that stand in the node itself, in text order.
     pub names: Vec<usize>,
+}
+
+impl Mark {
+    /// The mark of a node that stood in no source text.
+    pub fn blank(alloc: Global) -> Mark
+        ensures blank { mark_shape result ≡ blank_mark }
+    {
+        Mark {
+            at: 0,
+            parentheses: 0,
+            left: 0,
+            names: Vec::new(alloc),
+        }
+    }
+
+    /// The same mark.
+    pub fn copy(&self, alloc: Global) -> Result<Mark, AllocError>
+        ensures mark { IfOk result (λ m. mark_shape m ≡ mark_shape self.now) }
+    {
+        let mut names = Vec::new(alloc);
+        names.extend_from_slice(&self.names)?;
+        Ok(Mark { names, ..*self })
+    }
 }
 
 /// A method of an object.
@@ -69,6 +97,14 @@ pub enum Term {
     Operate(Sign, Box<Term>, Box<Term>, Mark),
     Print(Box<Term>, Mark),
     Echo(Word, Mark),
+    Group(Vec<Term>, Mark),
+    /// A call to each member of a group, each with an argument of its own from another group.
+    Scatter(Box<Term>, Label, Box<Term>, Mark),
+    Size(Box<Term>, Mark),
+    /// The member of a group at a number, from 0.
+    Member(Box<Term>, Box<Term>, Mark),
+    /// Waits until no member of a group is a future.
+    WaitAll(Box<Term>, Mark),
 }
 
 /// A program as it was read: it has neither places nor holes.

@@ -12,7 +12,7 @@ use Rattle.asp_model.specs.Term.{Tree}
 use Rattle.asp_model.specs.Configuration.{RequestShape, Configuration, or_none, requests_of, start}
 use Rattle.asp_model.specs.Intent.{Effect}
 use Rattle.asp_model.specs.Step.{ListsShape, with_sent, with_effect, name_at, is_named, is_next, may_send, step}
-use Rattle.asp_model.specs.Replay.{senders_in, lists_of, counts_of, count_in}
+use Rattle.asp_model.specs.Replay.{senders_in, lists_of, counts_of, count_in, log_of}
 use Rattle.laws.specs.Reached.{RunsTo}
 use Rattle.laws.proofs.NameLemmas.{name_case, name_itself, some_is}
 use Rattle.laws.proofs.StepLemmas.{step_taken, takes_step}
@@ -22,7 +22,7 @@ use Rattle.laws.proofs.TidyLemmas.{target_there}
 use Rattle.laws.proofs.CommuteLemmas.{took}
 use Rattle.laws.proofs.ReachedLemmas.{Right, step_right, start_right}
 use Rattle.laws.proofs.DiamondLemmas.{listed_commute}
-use Rattle.laws.proofs.ListLemmas.{senders, IsPrefix, prefix_both, prefix_same, name_next, senders_own, count_own, grown_by, sent_list}
+use Rattle.laws.proofs.ListLemmas.{IsPrefix, prefix_both, prefix_same, name_next, senders_own, count_own, grown_by, sent_list}
 
 -- the steps with these lists
 abbrev pub StepOf : ListsShape → Name → Configuration → Configuration → Type 0
@@ -44,12 +44,12 @@ machine lists = record {
 
 -- the lists begin with the senders
 abbrev pub Within : Configuration → ListsShape → Type 0
-Within c lists = (m : Name) → IsPrefix (senders c m) (senders_in lists m)
+Within c lists = (m : Name) → IsPrefix (log_of c m) (senders_in lists m)
 
 next_in : (lists : ListsShape) (c : Configuration) (n : Name) (z : Name × RequestShape) → z.1.sender ≡ n → IsPrefix (map (λ r. r.sender) (or_none (find name_cmp z.0 (with_sent (Some z) c.received)))) (senders_in lists z.0) → is_next (Some lists) c z.0 n ≡ true
 next_in lists c n z by p =
-    let q : senders c z.0 ++ n ∷ p.0 ≡ senders_in lists z.0 = ap (λ k. senders c z.0 ++ k ∷ p.0) (sym by) ∙ sym (append_assoc (senders c z.0) (z.1.sender ∷ []) p.0) ∙ ap (λ l. l ++ p.0) (sym (sent_list z c)) ∙ p.1 in
-    let at : name_at (senders_in lists z.0) (length (requests_of c z.0)) ≡ Some n = ap (λ l. name_at l (length (requests_of c z.0))) (sym q) ∙ ap (name_at (senders c z.0 ++ n ∷ p.0)) (sym (length-map (requests_of c z.0) (λ r. r.sender))) ∙ name_next (senders c z.0) n p.0 in
+    let q : log_of c z.0 ++ n ∷ p.0 ≡ senders_in lists z.0 = ap (λ k. log_of c z.0 ++ k ∷ p.0) (sym by) ∙ sym (append_assoc (log_of c z.0) (z.1.sender ∷ []) p.0) ∙ ap (λ l. l ++ p.0) (sym (sent_list z c)) ∙ p.1 in
+    let at : name_at (senders_in lists z.0) (length (requests_of c z.0)) ≡ Some n = ap (λ l. name_at l (length (requests_of c z.0))) (sym q) ∙ ap (name_at (log_of c z.0 ++ n ∷ p.0)) (sym (length-map (requests_of c z.0) (λ r. r.sender))) ∙ name_next (log_of c z.0) n p.0 in
     ap (is_named n) at ∙ name_itself n
 
 may_in : (lists : ListsShape) (c : Configuration) (n : Name) (o : Option (Name × RequestShape)) → ((z : Name × RequestShape) → o ≡ Some z → (z.1.sender ≡ n) × (is_some (find name_cmp z.0 c.activities) ≡ true)) → ((m : Name) → IsPrefix (map (λ r. r.sender) (or_none (find name_cmp m (with_sent o c.received)))) (senders_in lists m)) → may_send (Some lists) c n o ≡ true
@@ -60,7 +60,7 @@ pub listed_step : (lists : ListsShape) (n : Name) (c d : Configuration) → Righ
 listed_step lists n c d r h within =
     let x = step_taken None c n d h in
     let t = took None c n x.0 r.sound x.1 in
-    let after : (m : Name) → IsPrefix (senders (with_effect n x.0 c) m) (senders_in lists m) = subst (λ z. Within z lists) (sym x.2) within in
+    let after : (m : Name) → IsPrefix (log_of (with_effect n x.0 c) m) (senders_in lists m) = subst (λ z. Within z lists) (sym x.2) within in
     let may = may_in lists c n x.0.sent (λ z p. ((is_sent c n x.0 t z p).2, target_there None c n x.0 x.1 z p)) after in (
       takes_step (Some lists) c n x.0 (record { intends = x.1.intends; may = may }) ∙ ap Some x.2,
       λ m. prefix_both _ _ _ (grown_by x.0.sent c m) (after m),
@@ -78,7 +78,7 @@ right_run lists [] c d r run = subst Right run r
 right_run lists (n ∷ ns) c d r run = right_run lists ns run.0 d (step_right lists n c run.0 run.1 r) run.2
 
 pub within_own : (c : Configuration) → Right c → Within c (lists_of c)
-within_own c r m = prefix_same (senders c m) (senders_in (lists_of c) m) (sym (senders_own c r.tidy m))
+within_own c r m = prefix_same (log_of c m) (senders_in (lists_of c) m) (sym (senders_own c r.tidy m))
 
 -- a run is one under the lists that it leaves
 pub own_run : (program : Tree) (ns : List Name) (c : Configuration) → RunsTo None (start program) ns c → RunsTo (Some (lists_of c)) (start program) ns c

@@ -9,14 +9,14 @@ use Rattle.asp_model.specs.Term.{Tree}
 use Rattle.asp_model.specs.Configuration.{Activity, Configuration, start}
 use Rattle.asp_model.specs.Step.{names_or_none}
 use Rattle.asp_model.specs.Status.{IsStuck}
-use Rattle.asp_model.specs.Replay.{lists_of, counts_of, senders_in, zero_or, longer}
+use Rattle.asp_model.specs.Replay.{lists_of, counts_of, senders_in, zero_or, longer, log_of}
 use Rattle.laws.specs.Reached.{RunsTo}
 use Rattle.laws.specs.Replays.{ListedRunsStayWithin}
 use Rattle.laws.specs.Joins.{AreCompatibleRuns, lists_of_both, counts_of_both, JoinedFits, StuckIsJoined, StuckRunsAgree}
 use Rattle.laws.proofs.NameLemmas.{name_total, name_same, no_some, none_true}
 use Rattle.laws.proofs.SoundLemmas.{at_name}
 use Rattle.laws.proofs.ReachedLemmas.{Right, start_right, start_is_reached, runs_go_on}
-use Rattle.laws.proofs.ListLemmas.{senders, IsPrefix, with_name, find_mapped, senders_own, count_own}
+use Rattle.laws.proofs.ListLemmas.{IsPrefix, with_name, find_mapped, senders_own, count_own}
 use Rattle.laws.proofs.FlowLemmas.{right_run}
 use Rattle.laws.proofs.FlowLemmas as flow
 use Rattle.laws.proofs.ReplayLemmas.{fits_exactly}
@@ -40,7 +40,7 @@ sorted_mapped g [] h = tt
 sorted_mapped g (e ∷ es) h = both_of _ _ (below_mapped g e.0 es (first_of_both _ _ h)) (sorted_mapped g es (second_of_both _ _ h))
 
 lists_sorted : (c : Configuration) → Right c → T (is_sorted name_cmp (lists_of c))
-lists_sorted c r = sorted_mapped (λ x. senders c x.0) c.activities r.sound.ordered.activities
+lists_sorted c r = sorted_mapped (λ x. log_of c x.0) c.activities r.sound.ordered.activities
 
 counts_sorted : (c : Configuration) → Right c → T (is_sorted name_cmp (counts_of c))
 counts_sorted c r = sorted_mapped (λ x. x.1.reductions) c.activities r.sound.ordered.activities
@@ -87,10 +87,10 @@ same_count None (Some y) h e = none_true h
 same_count (Some x) None h e = none_true (sym h)
 same_count (Some x) (Some y) h e = ap Some e
 
--- a configuration that has the activities, senders and counts of two has their joined lists and counts
+-- a configuration that has the activities, log_of and counts of two has their joined lists and counts
 record IsBoth (c d e : Configuration) : Type 0 where
   there : (q : Name) → is_some (find name_cmp q e.activities) ≡ (is_some (find name_cmp q c.activities) || is_some (find name_cmp q d.activities))
-  received : (q : Name) → senders e q ≡ senders_in (lists_of_both c d) q
+  received : (q : Name) → log_of e q ≡ senders_in (lists_of_both c d) q
   counts : (q : Name) → (at_name e q).reductions ≡ max (at_name c q).reductions (at_name d q).reductions
 
 -- the same with the entries of lists, or of counts
@@ -106,7 +106,7 @@ both_lists c d e rc rd re b =
     let is = lists_joined (lists_of c) (lists_of d) in
     same_entries name_cmp name_total name_same (lists_of e) (lists_of_both c d) (lists_sorted e re) (subst (λ l. T (is_sorted name_cmp l)) (sym is) (joined_sorted join_names (lists_of c) (lists_of d) (lists_sorted c rc)))
     (λ q. same_list (find name_cmp q (lists_of e)) (find name_cmp q (lists_of_both c d))
-    (there_both (λ z x. senders z x.0) join_names c d e b (lists_sorted d rd) q ∙ sym (ap (λ l. is_some (find name_cmp q l)) is ∙ ap is_some (find_joined join_names (lists_of c) (lists_of d) (lists_sorted d rd) q)))
+    (there_both (λ z x. log_of z x.0) join_names c d e b (lists_sorted d rd) q ∙ sym (ap (λ l. is_some (find name_cmp q l)) is ∙ ap is_some (find_joined join_names (lists_of c) (lists_of d) (lists_sorted d rd) q)))
     (senders_own e re.tidy q ∙ b.received q))
 
 both_counts : (c d e : Configuration) → Right c → Right d → Right e → IsBoth c d e → counts_of e ≡ counts_of_both c d
@@ -134,8 +134,8 @@ joined_both : (program : Tree) (c d : Configuration) → AreCompatibleRuns progr
 joined_both program c d r =
     let rc = run_right program r.names c r.run in
     let rd = run_right program r.others d r.other in
-    λ m. subst (IsJoin (senders c m) (senders d m)) (sym (senders_joined (lists_of c) (lists_of d) (lists_sorted d rd) m))
-    (subst (λ l. IsJoin l (senders d m) (longer (senders_in (lists_of c) m) (senders_in (lists_of d) m))) (senders_own c rc.tidy m)
+    λ m. subst (IsJoin (log_of c m) (log_of d m)) (sym (senders_joined (lists_of c) (lists_of d) (lists_sorted d rd) m))
+    (subst (λ l. IsJoin l (log_of d m) (longer (senders_in (lists_of c) m) (senders_in (lists_of d) m))) (senders_own c rc.tidy m)
     (subst (λ l. IsJoin (senders_in (lists_of c) m) l (longer (senders_in (lists_of c) m) (senders_in (lists_of d) m))) (senders_own d rd.tidy m)
     (longer_joins (senders_in (lists_of c) m) (senders_in (lists_of d) m) (r.compatible m))))
 
@@ -185,7 +185,7 @@ second_is_joined program c d r stuck =
     let rc = run_right program r.names c r.run in
     let rd = run_right program r.others d r.other in
     let joins = joined_both program c d r in
-    let x = still_joined program r.others r.names d c (lists_of_both c d) r.other r.run (λ m. other_way (senders c m) (senders d m) (senders_in (lists_of_both c d) m) (joins m)) (still program r.others d r.other stuck) in
+    let x = still_joined program r.others r.names d c (lists_of_both c d) r.other r.run (λ m. other_way (log_of c m) (log_of d m) (senders_in (lists_of_both c d) m) (joins m)) (still program r.others d r.other stuck) in
     let b : IsBoth c d d = record {
       there = λ q. same_truth (is_some (find name_cmp q d.activities)) (is_some (find name_cmp q c.activities) || is_some (find name_cmp q d.activities)) (λ h. or_true _ _ (inr h)) (λ h. ⊎_elim (x.2 q) (λ p. p) (or_cases _ _ h));
       received = x.0;

@@ -11,7 +11,7 @@ use Rattle.asp_model.specs.Names.{Name, name_cmp}
 use Rattle.asp_model.specs.Term.{Tree}
 use Rattle.asp_model.specs.Configuration.{RequestShape, Configuration, or_none, requests_of, start}
 use Rattle.asp_model.specs.Step.{ListsShape, with_sent, name_at, is_next, may_send, step}
-use Rattle.asp_model.specs.Replay.{senders_in}
+use Rattle.asp_model.specs.Replay.{senders_in, log_of}
 use Rattle.laws.specs.Reached.{IsThere, RunsTo}
 use Rattle.laws.proofs.NameLemmas.{named_is, no_some, some_is}
 use Rattle.laws.proofs.StepLemmas.{step_taken, listed_is_free}
@@ -20,7 +20,7 @@ use Rattle.laws.proofs.KeptLemmas.{is_sent}
 use Rattle.laws.proofs.ExactLemmas.{Child, here_after}
 use Rattle.laws.proofs.CommuteLemmas.{took}
 use Rattle.laws.proofs.ReachedLemmas.{Right, start_right, step_right}
-use Rattle.laws.proofs.ListLemmas.{senders, IsPrefix, prefix_both, sender_by, grown_by}
+use Rattle.laws.proofs.ListLemmas.{IsPrefix, prefix_both, sender_by, grown_by}
 use Rattle.laws.proofs.FlowLemmas.{StepOf, machine, Within, listed_run, right_run, counts_run}
 use Rattle.laws.proofs.MergeLemmas.{IsJoin, prefix_anti}
 
@@ -37,9 +37,9 @@ within_by lists n c (Some z) by may w m = ⊎_elim
     (λ x.
     let p = w m in
     let expected : name_at (senders_in lists z.0) (length (requests_of c z.0)) ≡ Some n = named_is n (name_at (senders_in lists z.0) (length (requests_of c z.0))) (and_parts (is_some (find name_cmp z.0 c.activities)) (is_next (Some lists) c z.0 n) may).1 in
-    let next : name_at (senders c m ++ p.0) (length (senders c m)) ≡ Some n = ap (λ l. name_at l (length (senders c m))) p.1 ∙ ap (name_at (senders_in lists m)) (length-map (requests_of c m) (λ r. r.sender)) ∙ ap (λ k. name_at (senders_in lists k) (length (requests_of c k))) (sym x.0) ∙ expected in
-    let q = prefix_next (senders c m) p.0 n next in
-    (q.0, ap (λ l. l ++ q.0) (x.1 ∙ ap (λ k. senders c m ++ k ∷ []) (by z refl)) ∙ q.1 ∙ p.1))
+    let next : name_at (log_of c m ++ p.0) (length (log_of c m)) ≡ Some n = ap (λ l. name_at l (length (log_of c m))) p.1 ∙ ap (name_at (senders_in lists m)) (length-map (requests_of c m) (λ r. r.sender)) ∙ ap (λ k. name_at (senders_in lists k) (length (requests_of c k))) (sym x.0) ∙ expected in
+    let q = prefix_next (log_of c m) p.0 n next in
+    (q.0, ap (λ l. l ++ q.0) (x.1 ∙ ap (λ k. log_of c m ++ k ∷ []) (by z refl)) ∙ q.1 ∙ p.1))
     (λ x. subst (λ l. IsPrefix l (senders_in lists m)) (sym x) (w m))
     (sender_by z c m)
 
@@ -53,11 +53,11 @@ pub within_run : (lists : ListsShape) (ns : List Name) (c d : Configuration) →
 within_run lists [] c d r run w = subst (λ z. Within z lists) run w
 within_run lists (n ∷ ns) c d r run w = within_run lists ns run.0 d (step_right (Some lists) n c run.0 run.1 r) run.2 (within_step lists n c run.0 r run.1 w)
 
-grown_step : (lists : Option ListsShape) (n : Name) (c d : Configuration) → step lists c n ≡ Some d → (m : Name) → IsPrefix (senders c m) (senders d m)
-grown_step lists n c d h m = let x = step_taken lists c n d h in subst (λ z. IsPrefix (senders c m) (senders z m)) x.2 (grown_by x.0.sent c m)
+grown_step : (lists : Option ListsShape) (n : Name) (c d : Configuration) → step lists c n ≡ Some d → (m : Name) → IsPrefix (log_of c m) (log_of d m)
+grown_step lists n c d h m = let x = step_taken lists c n d h in subst (λ z. IsPrefix (log_of c m) (log_of z m)) x.2 (grown_by x.0.sent c m)
 
-pub grown_run : (lists : Option ListsShape) (ns : List Name) (c d : Configuration) → RunsTo lists c ns d → (m : Name) → IsPrefix (senders c m) (senders d m)
-grown_run lists [] c d run m = ([], append-nil _ ∙ ap (λ z. senders z m) run)
+pub grown_run : (lists : Option ListsShape) (ns : List Name) (c d : Configuration) → RunsTo lists c ns d → (m : Name) → IsPrefix (log_of c m) (log_of d m)
+grown_run lists [] c d run m = ([], append-nil _ ∙ ap (λ z. log_of z m) run)
 grown_run lists (n ∷ ns) c d run m = prefix_both _ _ _ (grown_step lists n c run.0 run.1 m) (grown_run lists ns run.0 d run.2 m)
 
 -- Joining
@@ -79,13 +79,13 @@ pub record JoinedRun (program : Tree) (c d : Configuration) (lists : ListsShape)
   pub end : Configuration
   pub names : List Name
   pub run : RunsTo (Some lists) (start program) names end
-  pub met : (m : Name) → senders end m ≡ senders_in lists m
+  pub met : (m : Name) → log_of end m ≡ senders_in lists m
   pub counts : (q : Name) → (at_name end q).reductions ≡ max (at_name c q).reductions (at_name d q).reductions
   pub created : (q : Name) → IsThere end q → IsThere c q ⊎ IsThere d q
   pub kept : (q : Name) → IsThere c q ⊎ IsThere d q → IsThere end q
 
 abbrev pub AreJoined : (c d : Configuration) → ListsShape → Type 0
-AreJoined c d lists = (m : Name) → IsJoin (senders c m) (senders d m) (senders_in lists m)
+AreJoined c d lists = (m : Name) → IsJoin (log_of c m) (log_of d m) (senders_in lists m)
 
 pub left_run : (program : Tree) (ns : List Name) (c d : Configuration) (lists : ListsShape) → RunsTo None (start program) ns c → AreJoined c d lists → RunsTo (Some lists) (start program) ns c
 left_run program ns c d lists run j = (listed_run lists ns (start program) c (start_right program) run (λ m. join_left _ _ _ (j m))).0
@@ -134,7 +134,7 @@ runs_joined program ns ms c d lists run other joins =
       end = j.end;
       names = ns ++ j.left;
       run = whole;
-      met = λ m. prefix_anti (senders j.end m) (senders_in lists m) (within_run lists (ns ++ j.left) (start program) j.end r whole (within_start program lists) m)
+      met = λ m. prefix_anti (log_of j.end m) (senders_in lists m) (within_run lists (ns ++ j.left) (start program) j.end r whole (within_start program lists) m)
           (join_least _ _ _ _ (joins m) (grown_run (Some lists) j.left c j.end j.on_left m) (grown_run (Some lists) j.right d j.end j.on_right m));
       counts = λ q. omega (arith, j.counts_left q, count_both (machine lists) q ns j.left, counts_run lists (ns ++ j.left) (start program) j.end r whole q, counts_run lists ns (start program) c r a q, counts_run lists ms (start program) d r b q);
       created = created_in program lists ns ms c d rc rd j (right_run (Some lists) j.left c j.end rc j.on_left);
@@ -146,13 +146,13 @@ abbrev pub NobodySteps : Configuration → Type 0
 NobodySteps c = (n : Name) (d : Configuration) → step None c n ≡ Some d → ⊥
 
 -- where the one is still, its lists and counts are the joined ones
-pub still_joined : (program : Tree) (ns ms : List Name) (c d : Configuration) (lists : ListsShape) → RunsTo None (start program) ns c → RunsTo None (start program) ms d → AreJoined c d lists → NobodySteps c → ((m : Name) → senders c m ≡ senders_in lists m) × ((q : Name) → (at_name d q).reductions ≤ (at_name c q).reductions) × ((q : Name) → IsThere d q → IsThere c q)
+pub still_joined : (program : Tree) (ns ms : List Name) (c d : Configuration) (lists : ListsShape) → RunsTo None (start program) ns c → RunsTo None (start program) ms d → AreJoined c d lists → NobodySteps c → ((m : Name) → log_of c m ≡ senders_in lists m) × ((q : Name) → (at_name d q).reductions ≤ (at_name c q).reductions) × ((q : Name) → IsThere d q → IsThere c q)
 still_joined program ns ms c d lists run other joins still =
     let r = start_right program in
     let a = left_run program ns c d lists run joins in
     let b = right_side program ms c d lists other joins in
     let x = stopped_end (machine lists) ns ms (start program) c d r a b (λ q e st. absurd (still q e (listed_is_free (Some lists) c q e st))) in (
-      λ m. prefix_anti (senders c m) (senders_in lists m) (join_left _ _ _ (joins m)) (join_least _ _ _ _ (joins m) ([], append-nil _) (grown_run (Some lists) x.labels d c x.run m)),
+      λ m. prefix_anti (log_of c m) (senders_in lists m) (join_left _ _ _ (joins m)) (join_least _ _ _ _ (joins m) ([], append-nil _) (grown_run (Some lists) x.labels d c x.run m)),
       λ q. omega (arith, x.counts q, counts_run lists ns (start program) c r a q, counts_run lists ms (start program) d r b q),
       there_run (Some lists) x.labels d c x.run,
     )

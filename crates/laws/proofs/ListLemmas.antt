@@ -7,16 +7,12 @@ use Rattle.std.specs.Ordering.{eq_by_cmp}
 use Rattle.asp_model.specs.Names.{Name, name_cmp}
 use Rattle.asp_model.specs.Configuration.{RequestShape, Activity, Configuration, or_none, requests_of}
 use Rattle.asp_model.specs.Step.{name_at, names_or_none, with_sent}
-use Rattle.asp_model.specs.Replay.{lists_of, counts_of, senders_in, count_in, zero_or}
+use Rattle.asp_model.specs.Replay.{lists_of, counts_of, log_of, senders_in, count_in, zero_or}
 use Rattle.laws.proofs.NameLemmas.{name_total, name_same, names_tied}
 use Rattle.laws.proofs.MapLemmas as Maps
 use Rattle.laws.proofs.FactLemmas.{face}
 use Rattle.laws.proofs.SoundLemmas.{at_name, box_sent}
 use Rattle.laws.proofs.TidyLemmas.{Tidy, empty_where_absent}
-
--- the senders of all requests received
-abbrev pub senders : Configuration → Name → List Name
-senders c m = map (λ r. r.sender) (requests_of c m)
 
 abbrev pub IsPrefix : List Name → List Name → Type 0
 IsPrefix xs ys = (zs : List Name) × (xs ++ zs ≡ ys)
@@ -45,10 +41,10 @@ find_mapped {X} g q (e ∷ es) = elim (eq_by_cmp name_cmp q e.0) as (λ b. eq_by
 ] refl
 
 -- a configuration's own lists have its senders
-pub senders_own : (c : Configuration) → Tidy c → (m : Name) → senders_in (lists_of c) m ≡ senders c m
-senders_own c y m = ap names_or_none (find_mapped (λ x. senders c x.0) m c.activities) ∙ by_entry (find name_cmp m c.activities) refl
+pub senders_own : (c : Configuration) → Tidy c → (m : Name) → senders_in (lists_of c) m ≡ log_of c m
+senders_own c y m = ap names_or_none (find_mapped (λ x. log_of c x.0) m c.activities) ∙ by_entry (find name_cmp m c.activities) refl
   where
-    by_entry : (o : Option Activity) → find name_cmp m c.activities ≡ o → names_or_none (with_name (λ x. senders c x.0) m o) ≡ senders c m
+    by_entry : (o : Option Activity) → find name_cmp m c.activities ≡ o → names_or_none (with_name (λ x. log_of c x.0) m o) ≡ log_of c m
     by_entry None is = sym (ap (map (λ r. r.sender)) (empty_where_absent c y m is))
     by_entry (Some a) is = refl
 
@@ -62,16 +58,16 @@ count_own c q = ap zero_or (find_mapped (λ x. x.1.reductions) q c.activities) �
 -- What was sent
 
 -- the list of m after a send is the list before, or that and the sender
-pub sender_by : (z : Name × RequestShape) (c : Configuration) (m : Name) → ((z.0 ≡ m) × (map (λ r. r.sender) (or_none (find name_cmp m (with_sent (Some z) c.received))) ≡ senders c m ++ z.1.sender ∷ [])) ⊎ (map (λ r. r.sender) (or_none (find name_cmp m (with_sent (Some z) c.received))) ≡ senders c m)
+pub sender_by : (z : Name × RequestShape) (c : Configuration) (m : Name) → ((z.0 ≡ m) × (map (λ r. r.sender) (or_none (find name_cmp m (with_sent (Some z) c.received))) ≡ log_of c m ++ z.1.sender ∷ [])) ⊎ (map (λ r. r.sender) (or_none (find name_cmp m (with_sent (Some z) c.received))) ≡ log_of c m)
 sender_by z c m = ⊎_elim
     (λ x. inl (x.0, ap (map (λ r. r.sender)) x.1 ∙ map-append (λ r. r.sender) (requests_of c m) (z.1 ∷ [])))
     (λ x. inr (ap (map (λ r. r.sender)) x))
     (box_sent z c.received m)
 
-pub grown_by : (o : Option (Name × RequestShape)) (c : Configuration) (m : Name) → IsPrefix (senders c m) (map (λ r. r.sender) (or_none (find name_cmp m (with_sent o c.received))))
+pub grown_by : (o : Option (Name × RequestShape)) (c : Configuration) (m : Name) → IsPrefix (log_of c m) (map (λ r. r.sender) (or_none (find name_cmp m (with_sent o c.received))))
 grown_by None c m = ([], append-nil _)
 grown_by (Some z) c m = ⊎_elim (λ x. (z.1.sender ∷ [], sym x.1)) (λ x. ([], append-nil _ ∙ sym x)) (sender_by z c m)
 
 -- the target's list after a send
-pub sent_list : (z : Name × RequestShape) (c : Configuration) → map (λ r. r.sender) (or_none (find name_cmp z.0 (with_sent (Some z) c.received))) ≡ senders c z.0 ++ z.1.sender ∷ []
+pub sent_list : (z : Name × RequestShape) (c : Configuration) → map (λ r. r.sender) (or_none (find name_cmp z.0 (with_sent (Some z) c.received))) ≡ log_of c z.0 ++ z.1.sender ∷ []
 sent_list z c = ap (λ o. map (λ r. r.sender) (or_none o)) (Maps.find_same name_cmp name_total name_same z.0 (or_none (find name_cmp z.0 c.received) ++ z.1 ∷ []) c.received) ∙ map-append (λ r. r.sender) (requests_of c z.0) (z.1 ∷ [])

@@ -11,7 +11,7 @@ use Rattle.asp_model.specs.Term.{Tree}
 use Rattle.asp_model.specs.Configuration.{RequestShape, Configuration, requests_of, start}
 use Rattle.asp_model.specs.Intent.{Effect}
 use Rattle.asp_model.specs.Step.{ListsShape, intent_in, with_effect, name_at, is_named, is_next, may_send, step}
-use Rattle.asp_model.specs.Replay.{lists_of, senders_in}
+use Rattle.asp_model.specs.Replay.{lists_of, senders_in, log_of}
 use Rattle.laws.specs.Reached.{IsThere, RunsTo}
 use Rattle.laws.specs.Joins.{HasOneSender, IsOneSenderEnd, OneSenderBounds, OneSenderEnds}
 use Rattle.laws.proofs.NameLemmas.{named_is, name_case, name_itself, no_some}
@@ -22,7 +22,7 @@ use Rattle.laws.proofs.ExactLemmas.{here_after}
 use Rattle.laws.proofs.TidyLemmas.{target_there}
 use Rattle.laws.proofs.CommuteLemmas.{took, acts_still}
 use Rattle.laws.proofs.ReachedLemmas.{Right, start_right, step_right}
-use Rattle.laws.proofs.ListLemmas.{senders, IsPrefix, prefix_both, grown_by, senders_own}
+use Rattle.laws.proofs.ListLemmas.{IsPrefix, prefix_both, grown_by, senders_own}
 use Rattle.laws.proofs.FlowLemmas.{machine, right_run, own_run}
 use Rattle.laws.proofs.MergeLemmas.{prefix_length, test_of_prefix}
 use Rattle.laws.proofs.JoinLemmas.{NobodySteps, within_run, within_start}
@@ -38,7 +38,7 @@ free_still c n m e d apart t x = record { intends = acts_still c n m e d apart t
 
 -- where n steps next on a run, or that it can step at its end
 abbrev Later : ListsShape → (c d : Configuration) → Name → Effect → Type 0
-Later lists c d n e = Takes None d n e ⊎ ((x : Configuration) × ((m : Name) → IsPrefix (senders c m) (senders x m)) × (may_send (Some lists) x n e.sent ≡ true))
+Later lists c d n e = Takes None d n e ⊎ ((x : Configuration) × ((m : Name) → IsPrefix (log_of c m) (log_of x m)) × (may_send (Some lists) x n e.sent ≡ true))
 
 steps_later : (lists : ListsShape) (ls : List Name) (c d : Configuration) (n : Name) (e : Effect) → Right c → Takes None c n e → RunsTo (Some lists) c ls d → Later lists c d n e
 steps_later lists [] c d n e r can run = inl (subst (λ z. Takes None z n e) run can)
@@ -52,7 +52,7 @@ steps_later lists (l ∷ ls) c d n e r can run =
     let keeps = subst (λ z. Takes None z n e) x.2 (free_still c n l e x.0 apart (took (Some lists) c l x.0 r.sound x.1) can) in
     ⊎_elim
     (λ h. inl h)
-    (λ h. inr (h.0, λ m. prefix_both _ _ _ (subst (λ z. IsPrefix (senders c m) (senders z m)) x.2 (grown_by x.0.sent c m)) (h.1 m), h.2))
+    (λ h. inr (h.0, λ m. prefix_both _ _ _ (subst (λ z. IsPrefix (log_of c m) (log_of z m)) x.2 (grown_by x.0.sent c m)) (h.1 m), h.2))
     (steps_later lists ls run.0 d n e (step_right (Some lists) l c run.0 run.1 r) keeps run.2))
     (name_case n l)
 
@@ -63,7 +63,7 @@ name_earlier (x ∷ xs) (suc i) zero n h le = absurd (omega (arith, le))
 name_earlier (x ∷ xs) (suc i) (suc j) n h le = name_earlier xs i j n h (omega (arith, le))
 
 -- with one sender in each list, who is next later is next
-earlier_next : (lists : ListsShape) (c x : Configuration) (n : Name) (o : Option (Name × RequestShape)) → ((m : Name) → HasOneSender (senders_in lists m)) → ((m : Name) → IsPrefix (senders c m) (senders x m)) → ((z : Name × RequestShape) → o ≡ Some z → IsThere c z.0) → may_send (Some lists) x n o ≡ true → may_send (Some lists) c n o ≡ true
+earlier_next : (lists : ListsShape) (c x : Configuration) (n : Name) (o : Option (Name × RequestShape)) → ((m : Name) → HasOneSender (senders_in lists m)) → ((m : Name) → IsPrefix (log_of c m) (log_of x m)) → ((z : Name × RequestShape) → o ≡ Some z → IsThere c z.0) → may_send (Some lists) x n o ≡ true → may_send (Some lists) c n o ≡ true
 earlier_next lists c x n None one grown there may = refl
 earlier_next lists c x n (Some z) one grown there may =
     let at : name_at (senders_in lists z.0) (length (requests_of x z.0)) ≡ Some n = named_is n (name_at (senders_in lists z.0) (length (requests_of x z.0))) (and_parts (is_some (find name_cmp z.0 x.activities)) (is_next (Some lists) x z.0 n) may).1 in

@@ -19,7 +19,7 @@ abbrev pub RunsUnderOwnLists : Type 0
 RunsUnderOwnLists = (program : Tree) (names : List Name) (c : Configuration)
     → RunsTo None (start program) names c → RunsTo (Some (lists_of c)) (start program) names c
 
--- under lists, each activity's senders are a beginning of its list
+-- under lists, each activity's log_of are a beginning of its list
 abbrev pub ListedRunsStayWithin : Type 0
 ListedRunsStayWithin = (program : Tree) (lists : ListsShape) (names : List Name) (c : Configuration)
     → RunsTo (Some lists) (start program) names c → (m : Name)
