@@ -20,5 +20,6 @@ pub mod ReadReport
 pub mod Codes
 pub mod History
 pub mod Marked
+pub mod Readable
 pub mod Shapes
 pub mod FutureOrder
