@@ -42,6 +42,15 @@ use Rattle.asp_model.specs.Replay.{CountsShape}
 use Rattle.asp_model.specs.Status.{VerdictShape}
 use Rattle.asp_model.specs.Status as verdicts
 use Rattle.asp_model.specs.Outcome.{ActivityReportShape, OutcomeShape}
+use Rattle.asp_model.specs.declared.journal.Choice.{Choice}
+use Rattle.asp_model.specs.declared.journal.Choice.TheVariants as choice
+use Rattle.asp_model.specs.declared.journal.Delivery.{Delivery}
+use Rattle.asp_model.specs.declared.journal.Delivery.TheVariants as delivery
+use Rattle.asp_model.specs.declared.journal.Entry.{Entry}
+use Rattle.asp_model.specs.declared.journal.Entry.TheVariants as entry
+use Rattle.asp_model.specs.declared.journal.Start.{Start}
+use Rattle.asp_model.specs.History.{ChoiceShape, DeliveryShape, EntryShape, HistoryShape}
+use Rattle.asp_model.specs.History as history
 use Rattle.asp_model.specs.Marked.{MarkShape, Marked, marked, no_marked, and_marked, one_marked, two_marked, all_marked, plain}
 
 abbrev pub sign_shape : Sign → SignShape
@@ -170,3 +179,21 @@ lists_shape l = map (λ x. (x.0, x.1.items)) l.entries.items
 
 abbrev pub counts_shape : Counts → CountsShape
 counts_shape c = c.entries.items
+
+abbrev pub choice_shape : Choice → ChoiceShape
+choice_shape choice.Forward = history.Forward
+choice_shape choice.FromHome = history.FromHome
+choice_shape choice.Leave = history.Leave
+
+abbrev pub delivery_shape : Delivery → DeliveryShape
+delivery_shape (delivery.Edge f from to) = history.Edge (future_shape f) from to
+delivery_shape (delivery.Need f to place) = history.Need (future_shape f) to place
+
+abbrev pub entry_shape : Entry → EntryShape
+entry_shape (entry.Lent k) = history.Lent k
+entry_shape (entry.Committed k r) = history.Committed k r
+entry_shape (entry.Delivered d) = history.Delivered (delivery_shape d.value)
+
+-- what began so, with these entries since
+abbrev pub history_of : Start → List Entry → HistoryShape
+history_of start entries = record { program = tree_of start.program.root; budget = start.budget; entries = map entry_shape entries }

@@ -9,7 +9,8 @@ ghost use Rattle.substitution.specs.Objects.{field_tree};
 use asp_model::{Label, Method, Place, Term};
 use std::alloc::AllocError;
 
-/// Appends the places of a term.
+/// Appends the places of a term. A node of groups, which no program that is read has yet, is
+/// answered as want of memory.
 #[cycle(noting)]
 pub fn note_term(places: &mut Vec<Place>, term: &Term) -> Result<(), AllocError>
     ensures noted { OnOk result
@@ -53,6 +54,8 @@ pub fn note_term(places: &mut Vec<Place>, term: &Term) -> Result<(), AllocError>
             note_term(places, second)
         }
         Term::Print(value, _) => note_term(places, value),
+        Term::Group(_, _) | Term::Size(_, _) | Term::WaitAll(_, _) => Err(AllocError),
+        Term::Scatter(_, _, _, _) | Term::Member(_, _, _) => Err(AllocError),
     }
 }
 

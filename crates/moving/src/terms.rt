@@ -12,7 +12,8 @@ use asp_model::{Label, Method, Term};
 use std::alloc::{AllocError, Global};
 use substitution::{blank_mark, copy_label, copy_labels, copy_service, copy_word, copy_words};
 
-/// The term with each of its places moved.
+/// The term with each of its places moved. A node of groups, which no program that is read has yet,
+/// is answered as want of memory.
 #[cycle(moving)]
 pub fn moved_term(alloc: Global, moves: &Moves, term: &Term) -> Result<Term, AllocError>
     ensures moved { IfOk result
@@ -87,6 +88,8 @@ pub fn moved_term(alloc: Global, moves: &Moves, term: &Term) -> Result<Term, All
         )),
         Term::Print(term, _) => Ok(Term::Print(moved_box(alloc, moves, term)?, blank_mark(alloc))),
         Term::Echo(text, _) => Ok(Term::Echo(copy_word(alloc, text)?, blank_mark(alloc))),
+        Term::Group(_, _) | Term::Size(_, _) | Term::WaitAll(_, _) => Err(AllocError),
+        Term::Scatter(_, _, _, _) | Term::Member(_, _, _) => Err(AllocError),
     }
 }
 

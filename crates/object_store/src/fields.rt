@@ -2,18 +2,11 @@
 
 ghost use Rattle.std.specs.Prelude.{◌≡◌, ◌<◌, is_some, length, map};
 ghost use Rattle.asp_model.specs.Contraction.{field_place, with_field};
-ghost use Rattle.asp_model.specs.Names.{same_text};
 ghost use Rattle.asp_model.specs.Shapes.{cell_shape, field_shape};
 ghost use Rattle.asp_model.specs.Store.{cell as cell_at, with_cell};
 ghost use Rattle.object_store.specs.View.{field_in, with_field_in};
 
 use asp_model::{Cell, Label, Place};
-
-fn is_same(first: &Label, second: &Label) -> bool
-    ensures { result ≡ same_text first.now.text second.now.text }
-{
-    first.text.as_str() == second.text.as_str()
-}
 
 fn set_in_fields(fields: &mut [(Label, Place)], label: &Label, to: Place) -> bool
     ensures found { let old = map field_shape fields.old in
@@ -22,7 +15,7 @@ fn set_in_fields(fields: &mut [(Label, Place)], label: &Label, to: Place) -> boo
         map field_shape fields.new ≡ with_field label.now.text to old }
 {
     for i in 0..fields.len() {
-        if is_same(label, &fields[i].0) {
+        if *label == fields[i].0 {
             fields[i].1 = to;
             return true;
         }

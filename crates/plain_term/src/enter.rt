@@ -1,6 +1,6 @@
 //! What is found at a term.
 
-ghost use Rattle.std.specs.Prelude.{◌≡◌, map, reverse};
+ghost use Rattle.std.specs.Prelude.{◌≡◌, IfOk, map, reverse};
 ghost use Rattle.asp_model.specs.Term.{node, trees, Steps};
 ghost use Rattle.asp_model.specs.Split.{plugged};
 ghost use Rattle.asp_model.specs.Shapes.{tree_of};
@@ -10,7 +10,7 @@ ghost use Rattle.plain_term.specs.Redexes.{found_tree};
 use crate::frame::Frame;
 use crate::redex::{Found, Redex};
 use asp_model::{Label, Method, Object, Place, Term};
-use std::alloc::Global;
+use std::alloc::{AllocError, Global};
 
 /// The next field of an object that is made, or the object.
 pub fn next_field(
@@ -53,47 +53,51 @@ fn inner(frame: Frame, term: Box<Term>) -> Found
     Found::Inner(frame, Box::into_inner(term))
 }
 
-pub fn enter(alloc: Global, term: Term) -> Found
-    ensures found { found_tree result ≡ tree_of term }
+/// What is found at a term. A node of groups, which no program that is read has yet, is answered as
+/// want of memory.
+pub fn enter(alloc: Global, term: Term) -> Result<Found, AllocError>
+    ensures found { IfOk result (λ f. found_tree f ≡ tree_of term) }
 {
     match term {
-        Term::Loc(place, _) => Found::Place(place),
-        Term::Hole(_) => Found::Redex(Redex::Hole),
-        Term::Var(name, _) => Found::Redex(Redex::Variable(name)),
-        Term::Number(n, _) => Found::Redex(Redex::Number(n)),
+        Term::Loc(place, _) => Ok(Found::Place(place)),
+        Term::Hole(_) => Ok(Found::Redex(Redex::Hole)),
+        Term::Var(name, _) => Ok(Found::Redex(Redex::Variable(name))),
+        Term::Number(n, _) => Ok(Found::Redex(Redex::Number(n))),
         Term::Make {
             mut fields,
             methods,
             ..
         } => {
             fields.reverse();
-            next_field(Vec::new(alloc), fields, methods)
+            Ok(next_field(Vec::new(alloc), fields, methods))
         }
-        Term::Get(object, label, _) => inner(Frame::Get(label), object),
+        Term::Get(object, label, _) => Ok(inner(Frame::Get(label), object)),
         Term::Put(object, label, value, _) => {
-            inner(Frame::PutObject(label, Box::into_inner(value)), object)
+            Ok(inner(Frame::PutObject(label, Box::into_inner(value)), object))
         }
         Term::Call(object, label, mut arguments, _) => {
             arguments.reverse();
-            inner(Frame::Receiver(label, arguments), object)
+            Ok(inner(Frame::Receiver(label, arguments), object))
         }
-        Term::Clone(object, _) => inner(Frame::Clone, object),
-        Term::Active(object, service, _) => inner(Frame::Active(service), object),
-        Term::Serve(labels, _) => Found::Redex(Redex::Serve(labels)),
-        Term::Let(name, bound, body, _) => inner(Frame::Let(name, Box::into_inner(body)), bound),
+        Term::Clone(object, _) => Ok(inner(Frame::Clone, object)),
+        Term::Active(object, service, _) => Ok(inner(Frame::Active(service), object)),
+        Term::Serve(labels, _) => Ok(Found::Redex(Redex::Serve(labels))),
+        Term::Let(name, bound, body, _) => Ok(inner(Frame::Let(name, Box::into_inner(body)), bound)),
         Term::Steps(mut steps, _) => {
             steps.reverse();
-            first_step(steps)
+            Ok(first_step(steps))
         }
-        Term::If(test, first, second, _) => inner(
+        Term::If(test, first, second, _) => Ok(inner(
             Frame::If(Box::into_inner(first), Box::into_inner(second)),
             test,
-        ),
-        Term::Repeat(body, _) => Found::Redex(Redex::Repeat(body)),
+        )),
+        Term::Repeat(body, _) => Ok(Found::Redex(Redex::Repeat(body))),
         Term::Operate(sign, first, second, _) => {
-            inner(Frame::Left(sign, Box::into_inner(second)), first)
+            Ok(inner(Frame::Left(sign, Box::into_inner(second)), first))
         }
-        Term::Print(term, _) => inner(Frame::Print, term),
-        Term::Echo(text, _) => Found::Redex(Redex::Echo(text)),
+        Term::Print(term, _) => Ok(inner(Frame::Print, term)),
+        Term::Echo(text, _) => Ok(Found::Redex(Redex::Echo(text))),
+        Term::Group(_, _) | Term::Size(_, _) | Term::WaitAll(_, _) => Err(AllocError),
+        Term::Scatter(_, _, _, _) | Term::Member(_, _, _) => Err(AllocError),
     }
 }

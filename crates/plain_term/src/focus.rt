@@ -40,12 +40,20 @@ fn follow(frames: &mut Vec<Frame>, found: Found) -> Result<Round, AllocError>
     }
 }
 
+fn go_into(alloc: Global, frames: &mut Vec<Frame>, term: Term) -> Result<Round, AllocError>
+    ensures round { IfOk result (IsRounded frames.new.items
+        (nested frames.old.items (tree_of term))) }
+{
+    let found = enter(alloc, term)?;
+    follow(frames, found)
+}
+
 fn take_round(alloc: Global, frames: &mut Vec<Frame>, next: Next) -> Result<Round, AllocError>
     ensures round { IfOk result (IsRounded frames.new.items
         (nested frames.old.items (next_tree next))) }
 {
     match next {
-        Next::Enter(term) => follow(frames, enter(alloc, term)),
+        Next::Enter(term) => go_into(alloc, frames, term),
         Next::Fill(place) => match frames.pop() {
             None => Ok(Round::Rests(Focus::Place(place))),
             Some(frame) => {

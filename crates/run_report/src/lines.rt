@@ -88,6 +88,8 @@ fn fault_text(fault: Fault) -> &'static str
         Fault::NoMethod => "NoMethod",
         Fault::NotObject => "NotObject",
         Fault::NotNumber => "NotNumber",
+        Fault::NotGroup => "NotGroup",
+        Fault::BadMember => "BadMember",
         Fault::ActiveField => "ActiveField",
         Fault::Overflow => "Overflow",
         Fault::ZeroDivisor => "ZeroDivisor",

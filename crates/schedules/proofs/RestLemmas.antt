@@ -85,12 +85,12 @@ next_refused false b p h = none_true p
 
 -- who was not next, and is not in the list now, is not next
 still_not_next : (lists : Option ListsShape) (c d : Configuration) (k m : Name) → is_next lists c k m ≡ false → (IsNextIn lists d k m → ⊥) → is_next lists d k m ≡ false
-still_not_next None c d k m not unsent = not
-still_not_next (Some lists) c d k m not unsent =
+still_not_next None c d k m not uncalled = not
+still_not_next (Some lists) c d k m not uncalled =
     let o : Option Name = name_at (senders_in lists k) (length (requests_of d k)) in
-    false_from_ne_true (is_next (Some lists) d k m) (λ h. unsent (named_is m o h))
+    false_from_ne_true (is_next (Some lists) d k m) (λ h. uncalled (named_is m o h))
 
-module _ (program : Tree) (lists : Option ListsShape) (c : Configuration) (n m : Name) (e : Effect) (a : Activity) (noted : FutureShape → Name → Bool) (reached : IsReached program c) (steps : step lists c n ≡ Some (with_effect n e c)) (apart : m ≢ n) (is : IsAt c m a) (unsent : (r : RequestShape) → e.sent ≢ Some (m, r)) (unsent : (k : Name) → IsSentTo e k → IsNextIn lists (with_effect n e c) k m → ⊥) (unfilled : (f : FutureShape) → IsFilledBy e f → noted f m ≡ true → ⊥) (waits : (f : FutureShape) → WaitsFor c m f → noted f m ≡ true) (none : step lists c m ≡ None) where
+module _ (program : Tree) (lists : Option ListsShape) (c : Configuration) (n m : Name) (e : Effect) (a : Activity) (noted : FutureShape → Name → Bool) (reached : IsReached program c) (steps : step lists c n ≡ Some (with_effect n e c)) (apart : m ≢ n) (is : IsAt c m a) (unsent : (r : RequestShape) → e.sent ≢ Some (m, r)) (uncalled : (k : Name) → IsSentTo e k → IsNextIn lists (with_effect n e c) k m → ⊥) (unfilled : (f : FutureShape) → IsFilledBy e f → noted f m ≡ true → ⊥) (waits : (f : FutureShape) → WaitsFor c m f → noted f m ≡ true) (none : step lists c m ≡ None) where
   abbrev d : Configuration
   d = with_effect n e c
 
@@ -130,7 +130,7 @@ module _ (program : Tree) (lists : Option ListsShape) (c : Configuration) (n m :
       let not : is_next lists c x.0 m ≡ false = next_refused (is_some (find name_cmp x.0 c.activities)) (is_next lists c x.0 m) there before in
       ⊎_elim
       (λ to.
-      let next = still_not_next lists c d x.0 m not (unsent x.0 to) in
+      let next = still_not_next lists c d x.0 m not (uncalled x.0 to) in
       let may : may_send lists d m (Some x) ≡ false = and_right (is_some (find name_cmp x.0 d.activities)) (is_next lists d x.0 m) next in
       holds_back lists d m g (intends_stay program c d n m g stepped apart intends) (ap (may_send lists d m) sent ∙ may))
       (λ other. others_stay_next program lists c d n m g x stepped apart intends sent there (unsent_same c n x.0 e other) none)

@@ -80,6 +80,11 @@ layer_copied (layer.Repeat a m) = λ i. one term.Repeat (a.value.1 i)
 layer_copied (layer.Operate s a b m) = λ i. two (term.Operate (sign_shape s)) (a.value.1 i) (b.value.1 i)
 layer_copied (layer.Print a m) = λ i. one term.Print (a.value.1 i)
 layer_copied (layer.Echo x m) = refl
+layer_copied (layer.Group ts m) = λ i. node term.Group (terms_copied ts.items i)
+layer_copied (layer.Scatter a l b m) = λ i. two (term.Scatter l.text) (a.value.1 i) (b.value.1 i)
+layer_copied (layer.Size a m) = λ i. one term.Size (a.value.1 i)
+layer_copied (layer.Member a b m) = λ i. two term.Member (a.value.1 i) (b.value.1 i)
+layer_copied (layer.WaitAll a m) = λ i. one term.WaitAll (a.value.1 i)
 
 term_rolled : (x : Term-F Term Method) (y : Term-F Copied BodyCopied) → map-Term Copied BodyCopied Term Method first_term first_method y ≡ x → IsCopied (roll-Term x)
 term_rolled x y is = subst (λ z. IsCopied (roll-Term z)) is (subst (λ u. put_in [] u ≡ u) (sym (ap plain (fold-roll-Term Marked MarkedMethod term_step method_step _))) (layer_copied y))

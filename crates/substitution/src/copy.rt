@@ -24,7 +24,8 @@ pub fn blank_mark(alloc: Global) -> Mark
     }
 }
 
-/// The term with places in place of the variables that it leaves free.
+/// The term with places in place of the variables that it leaves free. A node of groups, which no
+/// program that is read has yet, is answered as want of memory.
 #[cycle(substitution)]
 pub fn put_in(alloc: Global, bindings: &[Binding], term: &Term) -> Result<Term, AllocError>
     ensures copied { IfOk result
@@ -105,6 +106,8 @@ pub fn put_in(alloc: Global, bindings: &[Binding], term: &Term) -> Result<Term, 
             blank_mark(alloc),
         )),
         Term::Echo(text, _) => Ok(Term::Echo(copy_word(alloc, text)?, blank_mark(alloc))),
+        Term::Group(_, _) | Term::Size(_, _) | Term::WaitAll(_, _) => Err(AllocError),
+        Term::Scatter(_, _, _, _) | Term::Member(_, _, _) => Err(AllocError),
     }
 }
 
