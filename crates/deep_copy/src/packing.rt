@@ -24,10 +24,9 @@ pub fn pack(alloc: Global, store: &Store, roots: &[Place]) -> Result<Parcel, All
 {
     let order = visit_order(alloc, store, roots)?;
     let moves = Moves::ToNumber(&order);
-    Ok(Parcel {
-        cells: copied_cells(alloc, store, &moves, order.as_slice())?,
-        roots: moved_places(alloc, &moves, roots)?,
-    })
+    let cells = copied_cells(alloc, store, &moves, order.as_slice())?;
+    let numbers = moved_places(alloc, &moves, roots)?;
+    Parcel::of(alloc, cells, numbers)
 }
 
 fn copied_cells(

@@ -29,8 +29,8 @@ pub fn unpack(alloc: Global, store: &mut Store, parcel: &Parcel) -> Result<Vec<P
         (IsClosedStore (store_of store.old) → IsClosedStore (store_of store.new)) }
 {
     let moves = Moves::Up(store.len());
-    let roots = moved_places(alloc, &moves, &parcel.roots)?;
-    let cells = moved_cells(alloc, &moves, &parcel.cells)?;
+    let roots = moved_places(alloc, &moves, parcel.roots())?;
+    let cells = moved_cells(alloc, &moves, parcel.cells())?;
     store.graft(None, cells)?;
     Ok(roots)
 }
@@ -54,7 +54,7 @@ pub fn unpack_at(
         root: loc,
         size: store.len(),
     };
-    let cells = moved_cells(alloc, &moves, &parcel.cells)?;
+    let cells = moved_cells(alloc, &moves, parcel.cells())?;
     store.graft(Some(loc), cells)?;
     Ok(())
 }

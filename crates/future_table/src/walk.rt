@@ -75,7 +75,7 @@ fn step_from<'a>(filled: &'a Filled, name: &FutureName) -> Step<'a>
 fn root_step(value: &Parcel) -> Step
     ensures { step_shape result ≡ step_of (root_lead value.now) }
 {
-    match value.cells.first() {
+    match value.cells().first() {
         Some(Cell::Future(next)) => Step::Goes(next),
         _ => Step::Ends,
     }

@@ -35,7 +35,7 @@ pub enum Operands<'a> {
 fn root_of(parcel: &Parcel) -> Seen
     ensures root { seen_shape result ≡ cell_at (parcel_shape parcel.now).cells 0 }
 {
-    match parcel.cells.first() {
+    match parcel.cells().first() {
         Some(cell) => see(cell),
         None => Seen::Number(0),
     }

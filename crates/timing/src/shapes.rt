@@ -78,7 +78,7 @@ pub fn pack_part(alloc: Global, size: u32, times: u32) -> Result<usize> {
     let (store, _) = chain(alloc, size)?;
     let mut cells: usize = 0;
     for _ in 0..times {
-        cells = cells.saturating_add(store.packed(alloc, PART - 1)?.cells.len());
+        cells = cells.saturating_add(store.packed(alloc, PART - 1)?.cells().len());
     }
     Ok(cells)
 }
