@@ -1,0 +1,7 @@
+-- in reading order
+pub mod History
+pub mod Deliveries
+pub mod Communications
+pub mod Journals
+pub mod Edges
+pub mod Passing
