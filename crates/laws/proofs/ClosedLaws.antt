@@ -22,8 +22,8 @@ use Rattle.laws.proofs.ClosedLemmas.{IsClosedEffect, ClosedIntent, intent_closed
 use Rattle.std.specs.FinMap.{find}
 use Rattle.asp_model.specs.Parcel.{ParcelShape, unpack_at}
 use Rattle.asp_model.specs.Contraction.{is_future}
-use Rattle.laws.specs.Deliveries.{with_store, is_held, holders_from, unpack_each}
-use Rattle.laws.proofs.DeliveryLemmas.{found_delivered}
+use Rattle.journals.specs.Deliveries.{with_store, is_held, holders_from, unpack_each}
+use Rattle.laws.proofs.DeliveryLemmas.{found_delivered, edge_done, need_done}
 use Rattle.laws.proofs.EachLemmas.{below_more}
 use Rattle.laws.proofs.MovedLemmas.{unpacked_at_closed}
 
@@ -98,8 +98,8 @@ store_closed c n a t d at is h k =
 
 move_closed : (move : Move) (c d : Configuration) → Makes move c d → IsClosed c → IsClosed d
 move_closed (Steps lists n) c d is h = step_closed lists n c d is h
-move_closed (Edges f to) c d is h = store_closed c to is.receiver _ d is.at is.result h (unpacked_each_closed (holders_from 0 f is.receiver.store) is.receiver.store is.value (h.activities to is.receiver is.at).store (h.values f is.value is.filled).closed.cells (let e : 0 + length is.receiver.store ≡ length is.receiver.store = omega arith in subst (λ n. AreBelow n (holders_from 0 f is.receiver.store)) e (holders_below 0 f is.receiver.store)))
-move_closed (Needs f to place) c d is h = store_closed c to is.receiver _ d is.at is.result h (unpacked_each_closed (place ∷ []) is.receiver.store is.value (h.activities to is.receiver is.at).store (h.values f is.value (chase_finds c.futures is.held f is.value is.chased).0).closed.cells (in_store is.receiver.store place is.held is.holds, tt))
+move_closed (Edges f to) c d e h = let is = edge_done c f to d e in store_closed c to is.receiver _ d is.at is.result h (unpacked_each_closed (holders_from 0 f is.receiver.store) is.receiver.store is.value (h.activities to is.receiver is.at).store (h.values f is.value is.filled).closed.cells (let e : 0 + length is.receiver.store ≡ length is.receiver.store = omega arith in subst (λ n. AreBelow n (holders_from 0 f is.receiver.store)) e (holders_below 0 f is.receiver.store)))
+move_closed (Needs f to place) c d e h = let is = need_done c f to place d e in store_closed c to is.receiver _ d is.at is.result h (unpacked_each_closed (place ∷ []) is.receiver.store is.value (h.activities to is.receiver is.at).store (h.values f is.value (chase_finds c.futures is.held f is.value is.chased).0).closed.cells (in_store is.receiver.store place is.held is.holds, tt))
 
 moves_closed : (moves : List Move) (c d : Configuration) → Leads Makes c moves d → IsClosed c → IsClosed d
 moves_closed [] c d r h = subst IsClosed r h

@@ -33,8 +33,8 @@ use Rattle.laws.proofs.WakeLemmas.{none_rests_running}
 use Rattle.laws.proofs.NamesLaws.{sends_at, filled_begun}
 use Rattle.laws.proofs.EntryLemmas.{In, found_entry}
 use Rattle.laws.proofs.CleanLemmas.{AllRead, AllLacked, AllSent, Aims, intent_aims, NamesOf, Clean, intent_clean}
-use Rattle.laws.specs.Deliveries.{with_store, holders_from, unpack_each}
-use Rattle.laws.proofs.DeliveryLemmas.{same_there, same_face, found_delivered}
+use Rattle.journals.specs.Deliveries.{with_store, holders_from, unpack_each}
+use Rattle.laws.proofs.DeliveryLemmas.{same_there, same_face, found_delivered, edge_done, need_done}
 
 knows_names : (c : Configuration) → IsOfNames (IsKnown c)
 knows_names c = record { number = λ z. tt; object = λ fields methods. tt; group = λ ns. tt }
@@ -188,8 +188,8 @@ all_unpacked P o (n ∷ ns) s p h k = all_unpacked P o ns (unpack_at s n p) p (a
 
 move_linked : (move : Move) (c d : Configuration) → Makes move c d → Right c → IsLinked c → IsLinked d
 move_linked (Steps lists n) c d h r l = step_linked lists n c d h r l
-move_linked (Edges f to) c d h r l = store_linked c to h.receiver _ d h.at h.result l (all_unpacked (IsKnown c) (knows_names c) (holders_from 0 f h.receiver.store) h.receiver.store h.value (l.stores to h.receiver h.at) (l.values f h.value h.filled))
-move_linked (Needs f to place) c d h r l = store_linked c to h.receiver _ d h.at h.result l (all_unpacked (IsKnown c) (knows_names c) (place ∷ []) h.receiver.store h.value (l.stores to h.receiver h.at) (l.values f h.value (chase_finds c.futures h.held f h.value h.chased).0))
+move_linked (Edges f to) c d e r l = let h = edge_done c f to d e in store_linked c to h.receiver _ d h.at h.result l (all_unpacked (IsKnown c) (knows_names c) (holders_from 0 f h.receiver.store) h.receiver.store h.value (l.stores to h.receiver h.at) (l.values f h.value h.filled))
+move_linked (Needs f to place) c d e r l = let h = need_done c f to place d e in store_linked c to h.receiver _ d h.at h.result l (all_unpacked (IsKnown c) (knows_names c) (place ∷ []) h.receiver.store h.value (l.stores to h.receiver h.at) (l.values f h.value (chase_finds c.futures h.held f h.value h.chased).0))
 
 moves_linked : (moves : List Move) (c d : Configuration) → Leads Makes c moves d → Right c → IsLinked c → IsLinked d
 moves_linked [] c d h r l = subst IsLinked h l

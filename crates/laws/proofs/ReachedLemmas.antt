@@ -17,8 +17,8 @@ use Rattle.std.specs.FinMap.{find}
 use Rattle.asp_model.specs.Names.{name_cmp}
 use Rattle.asp_model.specs.Store.{Store}
 use Rattle.asp_model.specs.Configuration.{Activity}
-use Rattle.laws.specs.Deliveries.{with_store}
-use Rattle.laws.proofs.DeliveryLemmas.{sound_delivered, exact_delivered, tidy_delivered}
+use Rattle.journals.specs.Deliveries.{with_store}
+use Rattle.laws.proofs.DeliveryLemmas.{sound_delivered, exact_delivered, tidy_delivered, edge_done, need_done}
 use Rattle.laws.proofs.CommuteLemmas.{took}
 
 pub leads_on : {S L : Type 0} (R : L → S → S → Type 0) (ns ms : List L) (c d e : S) → Leads R c ns d → Leads R d ms e → Leads R c (ns ++ ms) e
@@ -53,8 +53,8 @@ store_right c n a t d at is r = subst Right (sym is) (record { sound = sound_del
 
 pub move_right : (move : Move) (c d : Configuration) → Makes move c d → Right c → Right d
 move_right (Steps lists n) c d h r = step_right lists n c d h r
-move_right (Edges f to) c d h r = store_right c to h.receiver _ d h.at h.result r
-move_right (Needs f to place) c d h r = store_right c to h.receiver _ d h.at h.result r
+move_right (Edges f to) c d h r = let x = edge_done c f to d h in store_right c to x.receiver _ d x.at x.result r
+move_right (Needs f to place) c d h r = let x = need_done c f to place d h in store_right c to x.receiver _ d x.at x.result r
 
 moves_right : (moves : List Move) (c d : Configuration) → Leads Makes c moves d → Right c → Right d
 moves_right [] c d r h = subst Right r h

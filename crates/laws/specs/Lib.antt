@@ -1,5 +1,4 @@
 -- in reading order
-pub mod Deliveries
 pub mod Reached
 pub mod Kept
 pub mod Steps

@@ -7,7 +7,7 @@ use Rattle.asp_model.specs.Term.{Tree}
 use Rattle.asp_model.specs.Parcel.{ParcelShape}
 use Rattle.asp_model.specs.Configuration.{Activity, Configuration, start}
 use Rattle.asp_model.specs.Step.{ListsShape, step}
-use Rattle.laws.specs.Deliveries.{IsEdge, IsNeed}
+use Rattle.journals.specs.Deliveries.{edge_delivered, need_delivered}
 
 pub data Move : Type 0 where
   -- a step of an activity, with sender lists or without
@@ -20,8 +20,8 @@ pub data Move : Type 0 where
 -- a move leads from the one configuration to the other
 abbrev pub Makes : Move → Configuration → Configuration → Type 0
 Makes (Steps lists n) c d = step lists c n ≡ Some d
-Makes (Edges f to) c d = IsEdge c f to d
-Makes (Needs f to place) c d = IsNeed c f to place d
+Makes (Edges f to) c d = edge_delivered c f to ≡ Some d
+Makes (Needs f to place) c d = need_delivered c f to place ≡ Some d
 
 -- moves lead from the start of the program to the configuration
 pub record IsReached (program : Tree) (c : Configuration) : Type 0 where

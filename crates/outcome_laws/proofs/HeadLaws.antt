@@ -23,8 +23,8 @@ use Rattle.laws.proofs.LinkedLemmas.{acting, found_after, value_after}
 use Rattle.outcome_laws.specs.Heads.{EachHead, HoldsOfWritten, CellHas, LineHas, ActivityHas, HasEverywhere, Passes, ReachedHave}
 use Rattle.outcome_laws.specs.Texts.{has_printable_text, LinesArePrintable}
 use Rattle.outcome_laws.proofs.HeadIntentLemmas.{EffectHas, IntentHas, intent_has}
-use Rattle.laws.specs.Deliveries.{with_store, holders_from, unpack_each}
-use Rattle.laws.proofs.DeliveryLemmas.{found_delivered}
+use Rattle.journals.specs.Deliveries.{with_store, holders_from, unpack_each}
+use Rattle.laws.proofs.DeliveryLemmas.{found_delivered, edge_done, need_done}
 use Rattle.laws.proofs.ContractionLemmas.{all_placed}
 use Rattle.outcome_laws.proofs.HeadLemmas.{all_moved}
 use Rattle.asp_model.specs.Parcel.{ParcelShape, place_at, unpack_at}
@@ -77,8 +77,8 @@ module _ (P : Head → Type 0) (w : HoldsOfWritten P) where
 
   move_has : (move : Move) (c d : Configuration) → Makes move c d → HasEverywhere P c → HasEverywhere P d
   move_has (Steps lists n) c d is h = step_has lists n c d is h
-  move_has (Edges f to) c d is h = store_has c to is.receiver _ d is.at is.result h (unpacked_has (holders_from 0 f is.receiver.store) is.receiver.store is.value (h.activities to is.receiver is.at).store (h.values f is.value is.filled))
-  move_has (Needs f to place) c d is h = store_has c to is.receiver _ d is.at is.result h (unpacked_has (place ∷ []) is.receiver.store is.value (h.activities to is.receiver is.at).store (h.values f is.value (chase_finds c.futures is.held f is.value is.chased).0))
+  move_has (Edges f to) c d e h = let is = edge_done c f to d e in store_has c to is.receiver _ d is.at is.result h (unpacked_has (holders_from 0 f is.receiver.store) is.receiver.store is.value (h.activities to is.receiver is.at).store (h.values f is.value is.filled))
+  move_has (Needs f to place) c d e h = let is = need_done c f to place d e in store_has c to is.receiver _ d is.at is.result h (unpacked_has (place ∷ []) is.receiver.store is.value (h.activities to is.receiver is.at).store (h.values f is.value (chase_finds c.futures is.held f is.value is.chased).0))
 
   moves_have : (moves : List Move) (c d : Configuration) → Leads Makes c moves d → HasEverywhere P c → HasEverywhere P d
   moves_have [] c d r h = subst (HasEverywhere P) r h

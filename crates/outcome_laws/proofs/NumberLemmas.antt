@@ -27,8 +27,8 @@ use Rattle.laws.proofs.NamesLaws.{creations_at, sends_at}
 use Rattle.laws.proofs.EntryLemmas.{found_entry}
 use Rattle.laws.proofs.SpendLemmas.{within_total}
 use Rattle.outcome_laws.specs.Outcomes.{NumbersAreWithin}
-use Rattle.laws.specs.Deliveries.{with_store}
-use Rattle.laws.proofs.DeliveryLemmas.{same_face}
+use Rattle.journals.specs.Deliveries.{with_store}
+use Rattle.laws.proofs.DeliveryLemmas.{same_face, edge_done, need_done}
 use Rattle.asp_model.specs.Store.{Store}
 
 -- each creation and each send was a reduction of its own
@@ -67,8 +67,8 @@ store_spent c n a t d at is s = subst Spent (sym is) (record {
 
 move_spent : (move : Move) (c d : Configuration) → Makes move c d → Right c → Spent c → Spent d
 move_spent (Steps lists n) c d h r s = step_spent lists n c d h r s
-move_spent (Edges f to) c d h r s = store_spent c to h.receiver _ d h.at h.result s
-move_spent (Needs f to place) c d h r s = store_spent c to h.receiver _ d h.at h.result s
+move_spent (Edges f to) c d e r s = let h = edge_done c f to d e in store_spent c to h.receiver _ d h.at h.result s
+move_spent (Needs f to place) c d e r s = let h = need_done c f to place d e in store_spent c to h.receiver _ d h.at h.result s
 
 moves_spent : (moves : List Move) (c d : Configuration) → Leads Makes c moves d → Right c → Spent c → Spent d
 moves_spent [] c d h r s = subst Spent h s

@@ -37,7 +37,7 @@ use Rattle.laws.proofs.ListLemmas.{find_mapped, senders, with_name}
 use Rattle.laws.proofs.JoinLaws.{sorted_mapped}
 use Rattle.laws.proofs.ReplayLemmas.{runs_replay}
 use Rattle.paths.specs.Agree.{Pairs, no_pair, pair, MayBoth, neither, both, ActivitiesAgree, RequestsAgree, Agrees}
-use Rattle.laws.specs.Deliveries.{with_store}
+use Rattle.journals.specs.Deliveries.{with_store}
 use Rattle.path_laws.specs.Laws.{IsFit}
 use Rattle.path_laws.specs.Journals.{Entry, Stepped, Edge, Need, Enters, JournalTo, JournalsReplay, JournalsVerdicts, JournalsJoin, JournalsOneSender, JournalsAreReached}
 use Rattle.path_laws.proofs.ActiveLemmas.{ActivePlain, EffectPlain, acts_plain}
