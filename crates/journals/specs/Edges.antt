@@ -2,18 +2,13 @@
 use Rattle.std.specs.Prelude.{◌&&◌, ◌||◌, not, Bool, true, false, List, [], ◌∷◌, ◌++◌, Option, Some, None}
 use Rattle.std.specs.List.{list_any}
 use Rattle.asp_model.specs.Names.{Name, FutureShape, same_name, same_future}
+use Rattle.asp_model.specs.History.{ChoiceShape, Forward, FromHome, Leave}
 
 -- a future was passed from one activity to another
 pub record EdgeShape : Type 0 where
   pub future : FutureShape
   pub from : Name
   pub to : Name
-
--- what a policy answers for an edge
-pub data ChoiceShape : Type 0 where
-  Forward : ChoiceShape
-  FromHome : ChoiceShape
-  Leave : ChoiceShape
 
 -- what a step or a delivery does to futures
 pub data Event : Type 0 where

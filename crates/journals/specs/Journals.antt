@@ -6,7 +6,8 @@ use Rattle.asp_model.specs.Term.{Tree}
 use Rattle.asp_model.specs.Configuration.{Configuration, start}
 use Rattle.asp_model.specs.Step.{name_at, step}
 use Rattle.asp_model.specs.Status.{is_running, status_of}
-use Rattle.journals.specs.History.{DeliveryShape, Edge, Need, EntryShape, Lent, Committed, Delivered, most_granted}
+use Rattle.asp_model.specs.History.{DeliveryShape, Edge, Need, EntryShape, Lent, Committed, Delivered}
+use Rattle.asp_model.specs.declared.limits.TheConstants.{MOST_GRANTED}
 use Rattle.journals.specs.Deliveries.{edge_delivered, need_delivered}
 use Rattle.journals.specs.Communications.{communicates_next}
 
@@ -51,7 +52,7 @@ abbrev pub may_lend : RunShape → ℕ → Name → Bool
 may_lend s k n = is_none (grant_of k s.out) && is_running (status_of s.configuration n) && nat_lt 0 s.left
 
 abbrev pub granted : RunShape → ℕ
-granted s = min most_granted s.left
+granted s = min MOST_GRANTED s.left
 
 abbrev pub lent : ℕ → RunShape → Option Name → Option RunShape
 lent k s None = None

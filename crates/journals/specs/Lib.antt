@@ -1,5 +1,4 @@
 -- in reading order
-pub mod History
 pub mod Deliveries
 pub mod Communications
 pub mod Journals

@@ -12,7 +12,7 @@ use Rattle.asp_model.specs.Chase.{Chase, Value, Unfilled, Cycle, chase}
 use Rattle.asp_model.specs.Configuration.{RequestShape, Activity, Configuration}
 use Rattle.asp_model.specs.Intent.{Effect, Acts, Rests, Reads, Lacks, operand_ready, operands_ready}
 use Rattle.asp_model.specs.Step.{intent_in, step}
-use Rattle.journals.specs.History.{Edge, Need, EntryShape, Lent, Committed, Delivered}
+use Rattle.asp_model.specs.History.{Edge, Need, EntryShape, Lent, Committed, Delivered}
 use Rattle.journals.specs.Journals.{RunShape, begun, entered}
 use Rattle.journals.specs.Edges.{Event, Begins, Passes, Fills, Receives, Delivers, HoldersShape, no_holders, after_events}
 use Rattle.asp_model.specs.Step.{name_at}
