@@ -82,7 +82,10 @@ pub fn enter(alloc: Global, term: Term) -> Result<Found, AllocError>
         Term::Clone(object, _) => Ok(inner(Frame::Clone, object)),
         Term::Active(object, service, _) => Ok(inner(Frame::Active(service), object)),
         Term::Serve(labels, _) => Ok(Found::Redex(Redex::Serve(labels))),
-        Term::Let(name, bound, body, _) => Ok(inner(Frame::Let(name, Box::into_inner(body)), bound)),
+        Term::Let(name, bound, body, _) => Ok(inner(
+            Frame::Let(name, Box::into_inner(body)),
+            bound,
+        )),
         Term::Steps(mut steps, _) => {
             steps.reverse();
             Ok(first_step(steps))
