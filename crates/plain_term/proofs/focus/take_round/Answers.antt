@@ -13,7 +13,7 @@ returns-in_ok-found-in-Some c =
     let popped = c.pop.new.self.items in
     let f = c.in-Some.frame in
     let p = c.in-Fill.place in
-    let new = c.follow-in-Some.new.frames.items in
+    let new = c.follow.new.frames.items in
     let whole : nested popped (found_tree c.in_ok-found-in-Some.found) ≡ nested old (next_tree c.args.next) =
     ap (nested popped) c.in_ok-found-in-Some.ensures.found ∙ sym (pushed popped old f (loc p) (plugged (frame_shape f) (loc p)) c.in-Some.ensures.items refl) ∙ ap (λ (x : Next). nested old (next_tree x)) (sym c.in-Fill.is) in
-    record { round = subst (λ (t : Tree). IfOk c.follow-in-Some.result (IsRounded new t)) whole c.follow-in-Some.ensures.round }
+    record { round = subst (λ (t : Tree). IfOk c.follow.result (IsRounded new t)) whole c.follow.ensures.round }
