@@ -26,7 +26,8 @@ pub fn pack(alloc: Global, store: &Store, roots: &[Place]) -> Result<Parcel, All
     let moves = Moves::ToNumber(&order);
     let cells = copied_cells(alloc, store, &moves, order.as_slice())?;
     let numbers = moved_places(alloc, &moves, roots)?;
-    Parcel::of(alloc, cells, numbers)
+    let parcel = Parcel::of(alloc, cells, numbers)?;
+    Ok(parcel)
 }
 
 fn copied_cells(

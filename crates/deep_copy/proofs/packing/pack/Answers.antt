@@ -13,8 +13,8 @@ returns-clause-parcel c =
     let s : Store = store_of c.args.store.now in
     let keys = c.in_ok-order.order.keys in
     let order : keys ≡ visit_order s c.args.roots.now = c.in_ok-order.ensures.order in
-    let cells : map cell_shape c.in_ok-copied_cells.field-0.items ≡ map (λ p. moved_cell (number_in keys) (cell s p)) keys = c.in_ok-copied_cells.ensures ∙ ap (map (λ p. moved_cell (number_in keys) (cell s p))) c.as_slice.ensures.keys in
-    let parcel : parcel_shape (record { cells = c.in_ok-copied_cells.field-0; roots = c.in_ok-moved_places.field-0 }) ≡ numbered s keys c.args.roots.now = λ i. record { cells = cells i; roots = c.in_ok-moved_places.ensures i } in
+    let cells : map cell_shape c.in_ok-cells.cells.items ≡ map (λ p. moved_cell (number_in keys) (cell s p)) keys = c.in_ok-cells.ensures ∙ ap (map (λ p. moved_cell (number_in keys) (cell s p))) c.as_slice.ensures.keys in
+    let parcel : parcel_shape c.in_ok-parcel.parcel ≡ numbered s keys c.args.roots.now = c.in_ok-parcel.ensures.parcel ∙ (λ i. record { cells = cells i; roots = c.in_ok-numbers.ensures i }) in
     parcel ∙ ap (λ ks. numbered s ks c.args.roots.now) order
 
 pub returns-clause-closed : goal.returns-clause-closed

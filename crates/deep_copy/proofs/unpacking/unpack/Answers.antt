@@ -1,6 +1,5 @@
-use Rattle.std.proofs.Common.{◌∙◌, List, map, sym, ap}
+use Rattle.std.proofs.Common.{◌∙◌, map, sym, ap}
 use Rattle.std.proofs.lemmas.List.{length-map}
-use Rattle.asp_model.specs.declared.store.Cell.{Cell}
 use Rattle.asp_model.specs.Shapes.{cell_shape, parcel_shape}
 use Rattle.asp_model.specs.Store.{Store, moved_cell}
 use Rattle.moving.specs.Moves.{raised}
@@ -12,20 +11,20 @@ pub returns-clause-cells : goal.returns-clause-cells
 returns-clause-cells c =
     let s : Store = store_of c.args.store.now in
     let size = c.len.ensures ∙ sym (length-map c.args.store.now.cells cell_shape) in
-    let copied = c.in_ok-cells.ensures ∙ ap (λ (cs : List Cell). map (moved_cell (λ n. raised n c.len.result)) (map cell_shape cs)) c.deref-2.ensures.value in
+    let copied = c.in_ok-cells.ensures ∙ ap (map (moved_cell (λ n. raised n c.len.result))) c.cells.ensures.cells in
     unpacked s (store_of c.graft.new.self) (parcel_shape c.args.parcel.now) (map cell_shape c.in_ok-cells.cells.items) c.len.result size c.in_ok-graft.ensures.cells copied c.in_ok-graft.ensures.fits c.requires.closed
 
 pub returns-clause-roots : goal.returns-clause-roots
 returns-clause-roots c =
     let s : Store = store_of c.args.store.now in
     let size = c.len.ensures ∙ sym (length-map c.args.store.now.cells cell_shape) in
-    let copied = c.in_ok-cells.ensures ∙ ap (λ (cs : List Cell). map (moved_cell (λ n. raised n c.len.result)) (map cell_shape cs)) c.deref-2.ensures.value in
-    c.in_ok-roots.ensures ∙ ap (map (λ n. raised n c.len.result)) c.deref.ensures.value
+    let copied = c.in_ok-cells.ensures ∙ ap (map (moved_cell (λ n. raised n c.len.result))) c.cells.ensures.cells in
+    c.in_ok-roots.ensures ∙ ap (map (λ n. raised n c.len.result)) c.roots.ensures.roots
     ∙ roots_unpacked s (store_of c.graft.new.self) (parcel_shape c.args.parcel.now) (map cell_shape c.in_ok-cells.cells.items) c.len.result size c.in_ok-graft.ensures.cells copied c.in_ok-graft.ensures.fits c.requires.closed
 
 pub returns-clause-closed : goal.returns-clause-closed
 returns-clause-closed c =
     let s : Store = store_of c.args.store.now in
     let size = c.len.ensures ∙ sym (length-map c.args.store.now.cells cell_shape) in
-    let copied = c.in_ok-cells.ensures ∙ ap (λ (cs : List Cell). map (moved_cell (λ n. raised n c.len.result)) (map cell_shape cs)) c.deref-2.ensures.value in
+    let copied = c.in_ok-cells.ensures ∙ ap (map (moved_cell (λ n. raised n c.len.result))) c.cells.ensures.cells in
     closed_unpacked s (store_of c.graft.new.self) (parcel_shape c.args.parcel.now) (map cell_shape c.in_ok-cells.cells.items) c.len.result size c.in_ok-graft.ensures.cells copied c.in_ok-graft.ensures.fits c.requires.closed

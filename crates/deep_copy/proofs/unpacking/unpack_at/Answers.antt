@@ -1,6 +1,5 @@
-use Rattle.std.proofs.Common.{◌<◌, ◌∙◌, List, map, sym, ap, subst}
+use Rattle.std.proofs.Common.{◌<◌, ◌∙◌, map, sym, ap, subst}
 use Rattle.std.proofs.lemmas.List.{length-map}
-use Rattle.asp_model.specs.declared.store.Cell.{Cell}
 use Rattle.asp_model.specs.Parcel.{with_cells_at}
 use Rattle.asp_model.specs.Shapes.{cell_shape, parcel_shape}
 use Rattle.asp_model.specs.Store.{Store, moved_cell}
@@ -14,7 +13,7 @@ returns-clause-cells c =
     let s : Store = store_of c.args.store.now in
     let loc = c.args.loc in
     let size = c.len.ensures ∙ sym (length-map c.args.store.now.cells cell_shape) in
-    let copied = c.in_ok-cells.ensures ∙ ap (λ (cs : List Cell). map (moved_cell (raised_at c.len.result loc)) (map cell_shape cs)) c.deref.ensures.value in
+    let copied = c.in_ok-cells.ensures ∙ ap (map (moved_cell (raised_at c.len.result loc))) c.cells.ensures.cells in
     unpacked_root s (store_of c.graft.new.self) loc c.len.result (parcel_shape c.args.parcel.now) size (c.in_ok-graft.ensures.cells ∙ ap (with_cells_at s loc) copied) c.in_ok-graft.ensures.fits c.requires.value.closed.cells
 
 pub returns-clause-closed : goal.returns-clause-closed
