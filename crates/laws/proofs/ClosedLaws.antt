@@ -96,7 +96,7 @@ store_closed c n a t d at is h k =
     } in
     subst IsClosed (sym is) (record { activities = found_delivered c n a t at IsClosedActivity own h.activities; arguments = h.arguments; values = h.values })
 
-move_closed : (move : Move) (c d : Configuration) → Makes move c d → IsClosed c → IsClosed d
+pub move_closed : (move : Move) (c d : Configuration) → Makes move c d → IsClosed c → IsClosed d
 move_closed (Steps lists n) c d is h = step_closed lists n c d is h
 move_closed (Edges f to) c d e h = let is = edge_done c f to d e in store_closed c to is.receiver _ d is.at is.result h (unpacked_each_closed (holders_from 0 f is.receiver.store) is.receiver.store is.value (h.activities to is.receiver is.at).store (h.values f is.value is.filled).closed.cells (let e : 0 + length is.receiver.store ≡ length is.receiver.store = omega arith in subst (λ n. AreBelow n (holders_from 0 f is.receiver.store)) e (holders_below 0 f is.receiver.store)))
 move_closed (Needs f to place) c d e h = let is = need_done c f to place d e in store_closed c to is.receiver _ d is.at is.result h (unpacked_each_closed (place ∷ []) is.receiver.store is.value (h.activities to is.receiver is.at).store (h.values f is.value (chase_finds c.futures is.held f is.value is.chased).0).closed.cells (in_store is.receiver.store place is.held is.holds, tt))

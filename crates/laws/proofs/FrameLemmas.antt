@@ -1,19 +1,21 @@
 -- What a step leaves of the others.
-use Rattle.std.specs.Prelude.{◌≡◌, suc, List, [], ◌∷◌, ◌++◌, Option, Some, None, is_some}
+use Rattle.std.specs.Prelude.{◌≡◌, ◌≢◌, suc, List, [], ◌∷◌, ◌++◌, Option, Some, None, is_some}
 use Rattle.std.proofs.Common.{refl, sym, ap, subst, ◌∙◌, inl, inr, ⊎_elim, ◌⊎◌}
 use Rattle.std.specs.declared.cmp.Ordering.{Ordering}
 use Rattle.std.specs.FinMap.{find, put}
 use Rattle.asp_model.specs.Names.{Name, FutureShape, name_cmp, future_cmp, created_name}
 use Rattle.asp_model.specs.Parcel.{ParcelShape}
 use Rattle.asp_model.specs.Configuration.{RequestShape, Activity, Configuration, or_none, requests_of}
-use Rattle.asp_model.specs.Step.{intent_in, put_some, with_sent}
-use Rattle.laws.specs.Steps.{ListedIsFree, StepsCount, OthersStay, OneIsMade, RequestsGrow, FuturesFill, IntentsStay, EffectsAreNew}
+use Rattle.asp_model.specs.Intent.{Acts, Effect}
+use Rattle.asp_model.specs.Step.{ListsShape, intent_in, step, put_some, with_sent}
+use Rattle.laws.specs.Reached.{IsAt}
+use Rattle.laws.specs.Steps.{FillsOne, IsNewTo, ListedIsFree, StepsCount, OthersStay, OneIsMade, RequestsGrow, FuturesFill, IntentsStay, EffectsAreNew}
 use Rattle.laws.proofs.NameLemmas.{name_total, name_same, name_case, no_some, is_there}
 use Rattle.laws.proofs.MapLemmas as Maps
 use Rattle.laws.proofs.StepLemmas.{step_taken, listed_is_free}
 use Rattle.laws.proofs.OrderLemmas.{IsNew, own_kept}
 use Rattle.laws.proofs.FactLemmas.{Face, face, face_of, IsMade, IsSent, acts_facts}
-use Rattle.laws.proofs.SoundLemmas.{Took, at_name, made_new, own_by, box_sent}
+use Rattle.laws.proofs.SoundLemmas.{Sound, Took, at_name, made_new, own_by, box_sent}
 use Rattle.laws.proofs.KeptLemmas.{fresh, not_begun}
 use Rattle.laws.proofs.CommuteLemmas.{took, acts_still}
 use Rattle.laws.proofs.ReachedLemmas.{reached_sound}
@@ -28,11 +30,14 @@ steps_count program c d n s =
     let a = is_there (find name_cmp n c.activities) t.there in
     (a.0, x.0.own, a.1, ap (λ z. find name_cmp n z.activities) (sym x.2) ∙ own_by n x.0.made x.0.own c.activities t.there (made_new c n x.0 t), t.facts.counted ∙ ap (λ o. suc (face o).reductions) a.1)
 
-pub others_stay : OthersStay
-others_stay program c d n m a s apart is =
-    let x = step_taken s.lists c n d s.steps in
-    let t = took s.lists c n x.0 (reached_sound program c s.reached) x.1 in
+pub others_on : (lists : Option ListsShape) (c d : Configuration) (n m : Name) (a : Activity) → Sound c → step lists c n ≡ Some d → m ≢ n → IsAt c m a → IsAt d m a
+others_on lists c d n m a sound steps apart is =
+    let x = step_taken lists c n d steps in
+    let t = took lists c n x.0 sound x.1 in
     ap (λ z. find name_cmp m z.activities) (sym x.2) ∙ own_kept c m n x.0 apart (fresh c n x.0 t) (ap is_some is) ∙ is
+
+pub others_stay : OthersStay
+others_stay program c d n m a s apart is = others_on s.lists c d n m a (reached_sound program c s.reached) s.steps apart is
 
 not_new : (c : Configuration) (n m : Name) (own a b : Activity) → find name_cmp n c.activities ≡ Some a → find name_cmp m c.activities ≡ None → find name_cmp m (put name_cmp n own c.activities) ≡ Some b → ⊥
 not_new c n m own a b is none there = ⊎_elim
@@ -73,29 +78,38 @@ fills_by : (values : List (FutureShape × ParcelShape)) (o : Option (FutureShape
 fills_by values None new = inl refl
 fills_by values (Some z) new = inr (z.0, z.1, new, refl)
 
-pub futures_fill : FuturesFill
-futures_fill program c d n s =
-    let x = step_taken s.lists c n d s.steps in
-    let t = took s.lists c n x.0 (reached_sound program c s.reached) x.1 in
+pub fills_on : (lists : Option ListsShape) (c d : Configuration) (n : Name) → Sound c → step lists c n ≡ Some d → (d.futures ≡ c.futures) ⊎ FillsOne c d
+fills_on lists c d n sound steps =
+    let x = step_taken lists c n d steps in
+    let t = took lists c n x.0 sound x.1 in
     subst (λ z. (z.futures ≡ c.futures) ⊎ ((f : FutureShape) × (value : ParcelShape) × (find future_cmp f c.futures ≡ None) × (z.futures ≡ put future_cmp f value c.futures))) x.2
     (fills_by c.futures x.0.filled (fresh c n x.0 t).filled)
 
-pub intends_stay : IntentsStay
-intends_stay program c d n m e s apart intends =
-    let x = step_taken s.lists c n d s.steps in
-    let t = took s.lists c n x.0 (reached_sound program c s.reached) x.1 in
+pub futures_fill : FuturesFill
+futures_fill program c d n s = fills_on s.lists c d n (reached_sound program c s.reached) s.steps
+
+pub intents_on : (lists : Option ListsShape) (c d : Configuration) (n m : Name) (e : Effect) → Sound c → step lists c n ≡ Some d → m ≢ n → intent_in c m ≡ Acts e → intent_in d m ≡ Acts e
+intents_on lists c d n m e sound steps apart intends =
+    let x = step_taken lists c n d steps in
+    let t = took lists c n x.0 sound x.1 in
     ap (λ z. intent_in z m) (sym x.2) ∙ acts_still c m n e x.0 apart t intends
+
+pub intends_stay : IntentsStay
+intends_stay program c d n m e s apart intends = intents_on s.lists c d n m e (reached_sound program c s.reached) s.steps apart intends
 
 new_key : {K X : Type 0} (R : K → K → Ordering) (o : Option (K × X)) (es : List (K × X)) → IsNew R o es → (z : K × X) → o ≡ Some z → find R z.0 es ≡ None
 new_key R o es new z is = subst (λ o. IsNew R o es) is new
 
-pub effects_are_new : EffectsAreNew
-effects_are_new program c n e reached intends =
+pub effects_on : (c : Configuration) (n : Name) (e : Effect) → Sound c → intent_in c n ≡ Acts e → IsNewTo c e
+effects_on c n e sound intends =
     let p = acts_facts c n e intends in
-    let t : Took c n e = record { sound = reached_sound program c reached; there = p.0; facts = p.1 } in
+    let t : Took c n e = record { sound = sound; there = p.0; facts = p.1 } in
     let new = fresh c n e t in
     record {
       made = new_key name_cmp e.made c.activities new.made;
       sent = λ z is m k r st. not_begun c n e t z is m k r st;
       filled = new_key future_cmp e.filled c.futures new.filled;
     }
+
+pub effects_are_new : EffectsAreNew
+effects_are_new program c n e reached intends = effects_on c n e (reached_sound program c reached) intends

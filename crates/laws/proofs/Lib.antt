@@ -29,6 +29,7 @@ pub mod PlacesLemmas
 pub mod RowLemmas
 pub mod ClosedLemmas
 pub mod ClosedLaws
+pub mod WholeLemmas
 pub mod ListLemmas
 pub mod FlowLemmas
 pub mod ReplayLemmas

@@ -13,9 +13,9 @@ use Rattle.asp_model.specs.Configuration.{RequestShape, Activity, Configuration,
 use Rattle.asp_model.specs.Intent.{StatusShape, Awaits, Running, Done, Serving, Faulted, Intent, Acts, Rests, Effect, intent}
 use Rattle.asp_model.specs.Step.{ListsShape, intent_in, put_some, with_effect, may_send, step}
 use Rattle.asp_model.specs.Status.{status_of_intent, status_of, is_running, IsStuck}
-use Rattle.laws.specs.Reached.{IsReached, IsThere, Move, Steps, Makes, Edges, Needs}
+use Rattle.laws.specs.Reached.{IsThere, Move, Steps, Makes, Edges, Needs}
 use Rattle.laws.specs.Kept.{IsBegun, sends_of}
-use Rattle.laws.specs.Linked.{Each, IsKnown, IsLinked, CellsAreLinked, TargetsAreThere, AwaitedAreBegun, IntentsStep, StuckIsStill, AreKnown}
+use Rattle.laws.specs.Linked.{Each, IsKnown, IsLinked, CellsAreLinked, TargetsAreThere, AwaitedAreBegun, IntentsStep, StuckIsStill, IsStill, AreKnown}
 use Rattle.commuting_systems.specs.Systems.{Leads}
 use Rattle.laws.proofs.NameLemmas.{name_total, name_same, future_total, future_same, name_case, future_case, no_some, some_is, none_true, is_there}
 use Rattle.laws.proofs.MapLemmas as Maps
@@ -154,7 +154,7 @@ linked_after c n e r t l intends =
           (value_after e.filled c.futures f q h);
     }
 
-linked_start : (program : Tree) → IsLinked (start program)
+pub linked_start : (program : Tree) → IsLinked (start program)
 linked_start program = record {
   stores = λ m a h. ⊎_elim (λ old. no_some old) (λ x. ⊎_elim (λ own. subst (λ b. Each (IsKnown (start program)) b.store) own (tt, tt)) (λ z. no_some z.1) x) (found_after main_name _ None [] m a h);
   arguments = λ m k r st. no_some st;
@@ -186,7 +186,7 @@ all_unpacked : (P : CellShape → Type 0) → IsOfNames P → (ns : List ℕ) (s
 all_unpacked P o [] s p h k = h
 all_unpacked P o (n ∷ ns) s p h k = all_unpacked P o ns (unpack_at s n p) p (all_placed P s n (map (moved_cell (place_at (length s) n)) p.cells) h (all_moved P o (place_at (length s) n) p.cells k)) k
 
-move_linked : (move : Move) (c d : Configuration) → Makes move c d → Right c → IsLinked c → IsLinked d
+pub move_linked : (move : Move) (c d : Configuration) → Makes move c d → Right c → IsLinked c → IsLinked d
 move_linked (Steps lists n) c d h r l = step_linked lists n c d h r l
 move_linked (Edges f to) c d e r l = let h = edge_done c f to d e in store_linked c to h.receiver _ d h.at h.result l (all_unpacked (IsKnown c) (knows_names c) (holders_from 0 f h.receiver.store) h.receiver.store h.value (l.stores to h.receiver h.at) (l.values f h.value h.filled))
 move_linked (Needs f to place) c d e r l = let h = need_done c f to place d e in store_linked c to h.receiver _ d h.at h.result l (all_unpacked (IsKnown c) (knows_names c) (place ∷ []) h.receiver.store h.value (l.stores to h.receiver h.at) (l.values f h.value (chase_finds c.futures h.held f h.value h.chased).0))
@@ -203,10 +203,13 @@ cells_are_linked program c r = moves_linked r.moves (start program) c r.run (sta
 aims_at : (c : Configuration) (n : Name) (a : Activity) → Right c → IsLinked c → find name_cmp n c.activities ≡ Some a → Aims (IsKnown c) (intent_in c n)
 aims_at c n a r l is = subst (Aims (IsKnown c)) (sym (intended_is c n a is)) (intent_aims (IsKnown c) (knows_names c) (chase c.futures) (all_read (IsKnown c) c l.values) (all_lacked (IsKnown c) (knows_names c) c l.values (filled_begun c r)) (requests_of c n) n a (l.stores n a is))
 
-pub targets_are_there : TargetsAreThere
-targets_are_there program c n e x reached intends sent =
+pub targets_on : (c : Configuration) (n : Name) (e : Effect) (x : Name × RequestShape) → Right c → IsLinked c → intent_in c n ≡ Acts e → e.sent ≡ Some x → IsThere c x.0
+targets_on c n e x r l intends sent =
     let a = acting c n e intends in
-    subst (Aims (IsKnown c)) intends (aims_at c n a.0 (reached_right program c reached) (cells_are_linked program c reached) a.1) x sent
+    subst (Aims (IsKnown c)) intends (aims_at c n a.0 r l a.1) x sent
+
+pub targets_are_there : TargetsAreThere
+targets_are_there program c n e x reached intends sent = targets_on c n e x (reached_right program c reached) (cells_are_linked program c reached) intends sent
 
 abbrev is_await : StatusShape → Bool
 is_await (Awaits f) = true
@@ -228,19 +231,25 @@ awaiting P (Rests Serving) f aims h = none_true (ap is_await h)
 awaiting P (Rests Running) f aims h = none_true (ap is_await h)
 awaiting P (Rests (Faulted x)) f aims h = none_true (ap is_await h)
 
-pub awaited_are_begun : AwaitedAreBegun
-awaited_are_begun program c n f reached st = by_entry (find name_cmp n c.activities) refl
+pub awaited_on : (c : Configuration) (n : Name) (f : FutureShape) → Right c → IsLinked c → status_of c n ≡ Awaits f → IsBegun c f
+awaited_on c n f r l st = by_entry (find name_cmp n c.activities) refl
   where
     by_entry : (o : Option Activity) → find name_cmp n c.activities ≡ o → IsBegun c f
     by_entry None is = none_true (ap is_await (sym (ap (λ o. status_of_intent (elim o [ None ↦ Rests Done | Some a ↦ intent (chase c.futures) (requests_of c n) n a ])) is) ∙ st))
-    by_entry (Some a) is = awaiting (IsKnown c) (intent_in c n) f (aims_at c n a (reached_right program c reached) (cells_are_linked program c reached) is) st
+    by_entry (Some a) is = awaiting (IsKnown c) (intent_in c n) f (aims_at c n a r l is) st
+
+pub awaited_are_begun : AwaitedAreBegun
+awaited_are_begun program c n f reached st = awaited_on c n f (reached_right program c reached) (cells_are_linked program c reached) st
 
 may_freely : (c : Configuration) (n : Name) (o : Option (Name × RequestShape)) → ((x : Name × RequestShape) → o ≡ Some x → IsThere c x.0) → may_send None c n o ≡ true
 may_freely c n None there = refl
 may_freely c n (Some x) there = ap (λ b. b && true) (there x refl)
 
+pub step_on : (c : Configuration) (n : Name) (e : Effect) → Right c → IsLinked c → intent_in c n ≡ Acts e → step None c n ≡ Some (with_effect n e c)
+step_on c n e r l intends = takes_step None c n e (record { intends = intends; may = may_freely c n e.sent (λ x sent. targets_on c n e x r l intends sent) })
+
 pub intends_step : IntentsStep
-intends_step program c n e reached intends = takes_step None c n e (record { intends = intends; may = may_freely c n e.sent (λ x sent. targets_are_there program c n e x reached intends sent) })
+intends_step program c n e reached intends = step_on c n e (reached_right program c reached) (cells_are_linked program c reached) intends
 
 -- Stuck configurations
 
@@ -264,13 +273,16 @@ still_where_stuck c stuck n = by_step (step None c n) refl
         let y = found_entry c.activities n a.0 a.1 in
         none_true (sym stuck ∙ any_in c c.activities y.0 y.1 (ap (λ k. is_running (status_of c k)) y.2 ∙ ap (λ p. is_running (status_of_intent p)) x.1.intends))
 
-not_running : (program : Tree) (c : Configuration) (n : Name) → IsReached program c → step None c n ≡ None → (p : Intent) → intent_in c n ≡ p → is_running (status_of_intent p) ≡ false
-not_running program c n reached none (Acts e) is = no_some (sym none ∙ intends_step program c n e reached is)
-not_running program c n reached none (Rests Running) is = absurd (none_rests_running c n is)
-not_running program c n reached none (Rests Done) is = refl
-not_running program c n reached none (Rests Serving) is = refl
-not_running program c n reached none (Rests (Awaits f)) is = refl
-not_running program c n reached none (Rests (Faulted x)) is = refl
+not_running : (c : Configuration) (n : Name) → Right c → IsLinked c → step None c n ≡ None → (p : Intent) → intent_in c n ≡ p → is_running (status_of_intent p) ≡ false
+not_running c n r l none (Acts e) is = no_some (sym none ∙ step_on c n e r l is)
+not_running c n r l none (Rests Running) is = absurd (none_rests_running c n is)
+not_running c n r l none (Rests Done) is = refl
+not_running c n r l none (Rests Serving) is = refl
+not_running c n r l none (Rests (Awaits f)) is = refl
+not_running c n r l none (Rests (Faulted x)) is = refl
+
+pub stuck_on : (c : Configuration) → Right c → IsLinked c → (IsStuck c → IsStill c) × (IsStill c → IsStuck c)
+stuck_on c r l = (still_where_stuck c, λ none. none_in c c.activities (λ n. not_running c n r l (none n) (intent_in c n) refl))
 
 pub stuck_is_still : StuckIsStill
-stuck_is_still program c reached = (still_where_stuck c, λ none. none_in c c.activities (λ n. not_running program c n reached (none n) (intent_in c n) refl))
+stuck_is_still program c reached = stuck_on c (reached_right program c reached) (cells_are_linked program c reached)

@@ -1,12 +1,12 @@
 -- The laws of names, requests and futures.
 use Rattle.std.specs.Prelude.{◌≡◌, ℕ, zero, suc, ◌≤◌, ◌+◌, true, Option, Some, None, is_some}
-use Rattle.std.proofs.Common.{refl, sym, subst, ◌∙◌, arith, inl, inr, ⊎_elim}
+use Rattle.std.proofs.Common.{refl, sym, subst, ◌∙◌, arith, inl, inr, ⊎_elim, ◌⊎◌}
 use Rattle.std.specs.FinMap.{find}
 use Rattle.asp_model.specs.Names.{Name, FutureShape, name_cmp, future_cmp}
 use Rattle.asp_model.specs.Parcel.{has_place}
-use Rattle.asp_model.specs.Configuration.{Activity, Configuration}
-use Rattle.laws.specs.Reached.{IsThere}
-use Rattle.laws.specs.Kept.{EntriesAscend, number_of, creations_of, sends_of, NamesAreCreations, RequestsAreSends, AreDistinct, ServedOnce, one_unless, mark, answers_of, is_served, FuturesStandOnce, FuturesWereBegun}
+use Rattle.asp_model.specs.Configuration.{RequestShape, Activity, Configuration}
+use Rattle.laws.specs.Reached.{IsThere, IsAt, IsFilled}
+use Rattle.laws.specs.Kept.{Stands, IsCreated, IsRightRequest, ServesOnce, StandsOnce, IsBegun, answers_at, EntriesAscend, number_of, creations_of, sends_of, NamesAreCreations, RequestsAreSends, AreDistinct, ServedOnce, one_unless, mark, answers_of, is_served, FuturesStandOnce, FuturesWereBegun}
 use Rattle.laws.proofs.FactLemmas.{face, holds}
 use Rattle.laws.proofs.SoundLemmas.{at_name, Placed, in_map}
 use Rattle.laws.proofs.ReachedLemmas.{Right, reached_right, reached_sound}
@@ -21,11 +21,11 @@ sends_by : (o : Option Activity) → number_of (λ a. a.sends) o ≡ (face o).se
 sends_by None = refl
 sends_by (Some a) = refl
 
-answers_by : (f : FutureShape) (o : Option Activity) → answers_of f o ≡ holds (mark f) (face o)
+pub answers_by : (f : FutureShape) (o : Option Activity) → answers_of f o ≡ holds (mark f) (face o)
 answers_by f None = refl
 answers_by f (Some a) = refl
 
-served_by : (k : ℕ) (o : Option Activity) → is_served k o ≡ has_place k (face o).served
+pub served_by : (k : ℕ) (o : Option Activity) → is_served k o ≡ has_place k (face o).served
 served_by k None = refl
 served_by k (Some a) = refl
 
@@ -40,16 +40,17 @@ sends_at c n = sends_by (find name_cmp n c.activities)
 pub entries_ascend : EntriesAscend
 entries_ascend program c r = (reached_sound program c r).ordered
 
-pub names_are_creations : NamesAreCreations
-names_are_creations program c n r =
-    let x = reached_right program c r in (
-      λ h. ⊎_elim (λ p. inl p) (λ k. inr (k.0, k.1, k.2, subst (λ j. suc k.1 ≤ j) (sym (creations_at c k.0)) k.3)) (x.exact.known n h),
-      λ h. ⊎_elim (λ p. subst (IsThere c) (sym p) x.tidy.main) (λ k. subst (IsThere c) (sym k.2) (x.exact.made k.0 k.1 (subst (λ j. suc k.1 ≤ j) (creations_at c k.0) k.3))) h,
-    )
+pub names_on : (c : Configuration) (n : Name) → Right c → (IsThere c n → IsCreated c n) × (IsCreated c n → IsThere c n)
+names_on c n x = (
+  λ h. ⊎_elim (λ p. inl p) (λ k. inr (k.0, k.1, k.2, subst (λ j. suc k.1 ≤ j) (sym (creations_at c k.0)) k.3)) (x.exact.known n h),
+  λ h. ⊎_elim (λ p. subst (IsThere c) (sym p) x.tidy.main) (λ k. subst (IsThere c) (sym k.2) (x.exact.made k.0 k.1 (subst (λ j. suc k.1 ≤ j) (creations_at c k.0) k.3))) h,
+)
 
-pub requests_are_sends : RequestsAreSends
-requests_are_sends program c m k r reached st =
-    let x = reached_right program c reached in
+pub names_are_creations : NamesAreCreations
+names_are_creations program c n r = names_on c n (reached_right program c r)
+
+pub requests_on : (c : Configuration) (m : Name) (k : ℕ) (r : RequestShape) → Right c → Stands c m k r → IsRightRequest c m r
+requests_on c m k r x st =
     let by = x.tidy.by m k r st in
     record {
       received = x.tidy.housed m k r st;
@@ -58,20 +59,24 @@ requests_are_sends program c m k r reached st =
       last = subst (λ n. r.future.index ≤ sends_of c n) (sym by) (subst (λ j. r.future.index ≤ j) (sym (sends_at c r.future.by)) (x.sound.begun m k r st));
     }
 
+pub requests_are_sends : RequestsAreSends
+requests_are_sends program c m k r reached st = requests_on c m k r (reached_right program c reached) st
+
+pub served_on : (c : Configuration) (m : Name) (a : Activity) → Right c → IsAt c m a → ServesOnce c m a
+served_on c m a x is = (
+  subst (λ o. AreDistinct (face o).served) is (x.tidy.distinct m),
+  λ k h. x.sound.served m k (subst (λ o. has_place k (face o).served ≡ true) (sym is) h),
+)
+
 pub served_once : ServedOnce
-served_once program c m a reached is =
-    let x = reached_right program c reached in (
-      subst (λ o. AreDistinct (face o).served) is (x.tidy.distinct m),
-      λ k h. x.sound.served m k (subst (λ o. has_place k (face o).served ≡ true) (sym is) h),
-    )
+served_once program c m a reached is = served_on c m a (reached_right program c reached) is
 
 small : (a : ℕ) → (1 ≤ a → ⊥) → a ≡ 0
 small zero f = refl
 small (suc a) f = absurd (f (omega arith))
 
-pub futures_stand_once : FuturesStandOnce
-futures_stand_once program c n i reached le =
-    let x = reached_right program c reached in
+pub stand_on : (c : Configuration) (n : Name) (i : ℕ) → Right c → suc i ≤ sends_of c n → StandsOnce c (record { by = n; index = suc i })
+stand_on c n i x le =
     let f : FutureShape = record { by = n; index = suc i } in
     let s = x.exact.sent n i (subst (λ j. suc i ≤ j) (sends_at c n) le) in
     let p = s.1 in
@@ -91,6 +96,9 @@ futures_stand_once program c n i reached le =
           apart (x.sound.apart m y.0 y.1 s.0 p.0 p.1 y.2 p.2 (y.3 ∙ sym p.3)).0);
     }
 
+pub futures_stand_once : FuturesStandOnce
+futures_stand_once program c n i reached le = stand_on c n i (reached_right program c reached) le
+
 begun : (c : Configuration) → Right c → (m : Name) (f : FutureShape) → Placed c m f → (1 ≤ f.index) × (f.index ≤ sends_of c f.by)
 begun c x m f p = (
   subst (λ g. 1 ≤ g.index) p.3 (x.exact.positive m p.0 p.1 p.2),
@@ -100,10 +108,12 @@ begun c x m f p = (
 pub filled_begun : (c : Configuration) → Right c → (f : FutureShape) → is_some (find future_cmp f c.futures) ≡ true → (1 ≤ f.index) × (f.index ≤ sends_of c f.by)
 filled_begun c x f filled = let y = x.sound.filled f filled in begun c x y.0 f y.1
 
-pub futures_were_begun : FuturesWereBegun
-futures_were_begun program c f reached h =
-    let x = reached_right program c reached in
+pub begun_on : (c : Configuration) (f : FutureShape) → Right c → IsFilled c f ⊎ ((m : Name) × (1 ≤ answers_at c m f)) → IsBegun c f
+begun_on c f x h =
     ⊎_elim
     (filled_begun c x f)
     (λ k. begun c x k.0 f (x.sound.held k.0 f (subst (λ j. 1 ≤ j) (answers_by f (find name_cmp k.0 c.activities)) k.1)))
     h
+
+pub futures_were_begun : FuturesWereBegun
+futures_were_begun program c f reached h = begun_on c f (reached_right program c reached) h

@@ -62,10 +62,13 @@ AreDistinct [] = Unit {0}
 AreDistinct (k ∷ ks) = (has_place k ks ≡ false) × AreDistinct ks
 
 -- an activity serves requests that it received, each once
+abbrev pub ServesOnce : Configuration → Name → Activity → Type 0
+ServesOnce c m a = AreDistinct a.served
+    × ((k : ℕ) → has_place k a.served ≡ true → k < length (requests_of c m))
+
 abbrev pub ServedOnce : Type 0
 ServedOnce = (program : Tree) (c : Configuration) (m : Name) (a : Activity)
-    → IsReached program c → IsAt c m a
-    → AreDistinct a.served × ((k : ℕ) → has_place k a.served ≡ true → k < length (requests_of c m))
+    → IsReached program c → IsAt c m a → ServesOnce c m a
 
 -- Futures
 

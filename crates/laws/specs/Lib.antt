@@ -4,6 +4,7 @@ pub mod Kept
 pub mod Steps
 pub mod Linked
 pub mod Closed
+pub mod Sound
 pub mod Chases
 pub mod Waking
 pub mod Commuting

@@ -11,6 +11,7 @@ mod linked;
 mod names;
 mod reached;
 mod replays;
+mod sound;
 mod steps;
 mod waking;
 
@@ -33,11 +34,15 @@ pub use replays::{
     plain_runs_replay, plain_runs_spend, replays_are_runs, replays_lead, replays_rest, runs_agree,
     runs_replay, runs_under_own_lists,
 };
+pub use sound::{
+    moves_keep_closed, moves_keep_sound, reached_are_sound, sound_intents, sound_steps,
+    start_is_closed, start_is_sound,
+};
 pub use steps::{
-    effects_are_new, futures_fill, listed_is_free, one_is_made, others_stay, intends_stay,
+    effects_are_new, futures_fill, intends_stay, listed_is_free, one_is_made, others_stay,
     requests_grow, steps_count,
 };
 pub use waking::{
-    awaiting_stays, cycles_stay, done_stays, fault_stays, none_rests_running, serving_stays,
-    others_stay_next,
+    awaiting_stays, cycles_stay, done_stays, fault_stays, none_rests_running, others_stay_next,
+    serving_stays,
 };
