@@ -1,0 +1,6 @@
+use Rattle.std.proofs.Common.{◌≡◌}
+use Rattle.turn_hub.proofs.turns.look_for_turn.Given as goal
+
+-- nothing was gained yet
+abbrev pub invariant-loop-look : goal.invariant-loop-look
+invariant-loop-look g l = (l.place.table_id ≡ l.fn.place.table_id) × (l.place.id ≡ l.fn.place.id) × (l.place.me ≡ l.fn.place.me)
