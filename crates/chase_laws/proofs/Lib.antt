@@ -1,0 +1,9 @@
+pub mod MapLemmas
+pub mod FutureLemmas
+pub mod ChaseLemmas
+pub mod EndLemmas
+pub mod CycleLemmas
+pub mod MeetLemmas
+pub mod FilledLemmas
+pub mod NamedLemmas
+pub mod FillLemmas
