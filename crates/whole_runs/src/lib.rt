@@ -1,31 +1,12 @@
-//! Whole runs of the top call over files and sinks in memory: what users meet, and what no clause says.
+//! Whole runs of which no command shows what is tested: reads and writes that fail, marks, printed
+//! programs, and replays under lists that no report has.
 #![tactic(auto)]
 
 #[cfg(test)]
-mod activities;
+mod faults_of_the_outside;
 #[cfg(test)]
-mod budgets;
+mod marks;
 #[cfg(test)]
-mod checking;
-#[cfg(test)]
-mod crowds;
-#[cfg(test)]
-mod faulty_texts;
-#[cfg(test)]
-mod futures;
-#[cfg(test)]
-mod levels;
-#[cfg(test)]
-mod objects;
-#[cfg(test)]
-mod reading;
+mod printing;
 #[cfg(test)]
 mod replays;
-#[cfg(test)]
-mod services;
-#[cfg(test)]
-mod setting;
-#[cfg(test)]
-mod sums;
-#[cfg(test)]
-mod texts;

@@ -25,8 +25,8 @@ fn holds(cell: &Cell, next: Place) -> bool {
 
 // The cells of the parcel are the ring.
 fn is_ring(parcel: &Parcel) -> bool {
-    let mut same = parcel.cells.len() as u128 == DEPTH;
-    for (number, cell) in parcel.cells.iter().enumerate() {
+    let mut same = parcel.cells().len() as u128 == DEPTH;
+    for (number, cell) in parcel.cells().iter().enumerate() {
         same = same && holds(cell, (number as u128 + 1) % DEPTH);
     }
     same
@@ -38,7 +38,7 @@ fn a_deep_object_is_copied_and_dropped(rt: HostRuntime) -> Result<(), Fail> {
     let from = ring(alloc, DEPTH)?;
     let parcel = packed(&rt, alloc, &from, &[DEPTH / 2])?;
     assert!(rt; is_ring(&parcel));
-    assert_eq!(rt; parcel.roots.as_slice(), [0].as_slice());
+    assert_eq!(rt; parcel.roots(), [0].as_slice());
     // into another store, and behind the ring itself
     let mut to = store(alloc, &[Given::Future(1), Given::Number(3)])?;
     unpacked_at(&rt, alloc, &mut to, 0, &parcel)?;

@@ -63,8 +63,8 @@ pub fn is_closed_store(alloc: Global, store: &Store, roots: &[Place]) -> Result<
 pub fn is_closed_parcel(alloc: Global, parcel: &Parcel) -> Result<bool, AllocError>
     ensures { IfOk result (λ b. IsTrue b → IsClosedParcel (parcel_shape parcel.now)) }
 {
-    let count = parcel.cells.len() as u128;
-    Ok(are_cells_below(alloc, &parcel.cells, count)? && are_below(&parcel.roots, count))
+    let count = parcel.cells().len() as u128;
+    Ok(are_cells_below(alloc, parcel.cells(), count)? && are_below(parcel.roots(), count))
 }
 
 /// The copy of what the roots reach.
@@ -106,7 +106,7 @@ pub fn unpacked_at(
 ) -> Result<(), AllocError> {
     assert!(rt; is_closed_store(alloc, store, &[place])?);
     assert!(rt; is_closed_parcel(alloc, parcel)?);
-    assert_eq!(rt; parcel.roots.as_slice(), [0].as_slice());
+    assert_eq!(rt; parcel.roots(), [0].as_slice());
     unpack_at(alloc, store, place, parcel)?;
     assert!(rt; is_closed_store(alloc, store, &[place])?);
     Ok(())

@@ -1,10 +1,11 @@
 //! Cells as a test states them, the cells that they stand for, and whether cells are those.
 
-use asp_model::{ActivityName, Cell, FutureName, Label, Method, Object, Parcel, Place, Term, Word};
+use asp_model::{
+    ActivityName, Cell, FutureName, Label, Mark, Method, Object, Parcel, Place, Term, Word,
+};
 use object_store::Store;
 use std::alloc::{AllocError, Global};
 use std::collections::BTreeSet;
-use substitution::blank_mark;
 
 /// A cell as a test states it.
 #[derive(Clone, Copy)]
@@ -48,20 +49,20 @@ fn fields(alloc: Global, given: &[(&str, Place)]) -> Result<Vec<(Label, Place)>,
 fn arguments(alloc: Global, places: &[Place]) -> Result<Vec<Term>, AllocError> {
     let mut terms = Vec::new(alloc);
     for place in places {
-        terms.push(Term::Loc(*place, blank_mark(alloc)))?;
+        terms.push(Term::Loc(*place, Mark::blank(alloc)))?;
     }
     Ok(terms)
 }
 
 // The method `m(s) = s.m(..)` with these places.
 fn method(alloc: Global, places: &[Place]) -> Result<Method, AllocError> {
-    let slf = Box::new(alloc, Term::Var(word(alloc, "s")?, blank_mark(alloc)))?;
+    let slf = Box::new(alloc, Term::Var(word(alloc, "s")?, Mark::blank(alloc)))?;
     let terms = arguments(alloc, places)?;
     Ok(Method {
         label: label(alloc, "m")?,
         slf: word(alloc, "s")?,
         parameters: Vec::new(alloc),
-        body: Term::Call(slf, label(alloc, "m")?, terms, blank_mark(alloc)),
+        body: Term::Call(slf, label(alloc, "m")?, terms, Mark::blank(alloc)),
     })
 }
 
@@ -107,10 +108,7 @@ pub fn store(alloc: Global, given: &[Given]) -> Result<Store, AllocError> {
 }
 
 pub fn parcel(alloc: Global, given: &[Given], roots: &[Place]) -> Result<Parcel, AllocError> {
-    Ok(Parcel {
-        cells: cells(alloc, given)?,
-        roots: roots.to_vec(alloc)?,
-    })
+    Parcel::of(alloc, cells(alloc, given)?, roots.to_vec(alloc)?)
 }
 
 fn are_fields(fields: &[(Label, Place)], given: &[(&str, Place)]) -> bool {
@@ -184,9 +182,9 @@ pub fn are_holders(holders: &BTreeSet<Place>, places: &[Place]) -> bool {
 
 /// The cells and roots are the stated ones.
 pub fn is_parcel(parcel: &Parcel, given: &[Given], roots: &[Place]) -> bool {
-    let mut same = parcel.cells.len() == given.len();
-    for (cell, wanted) in parcel.cells.iter().zip(given.iter()) {
+    let mut same = parcel.cells().len() == given.len();
+    for (cell, wanted) in parcel.cells().iter().zip(given.iter()) {
         same = same && is_cell(cell, wanted);
     }
-    same && parcel.roots.as_slice() == roots
+    same && parcel.roots() == roots
 }

@@ -3,16 +3,20 @@
 #![tactic(auto)]
 
 #[cfg(test)]
+mod cases;
+#[cfg(test)]
 mod chains;
+#[cfg(test)]
+mod changes;
 #[cfg(test)]
 mod closed;
 #[cfg(test)]
-mod copies;
-#[cfg(test)]
 mod given;
 #[cfg(test)]
-mod refusals;
+mod landings;
+#[cfg(test)]
+mod made;
+#[cfg(test)]
+mod packings;
 #[cfg(test)]
 mod sizes;
-#[cfg(test)]
-mod stores;

@@ -1,0 +1,151 @@
+//! Reads and writes that fail.
+
+use asp_edge::{MemorySink, MemorySource};
+use asp_model::Word;
+use asp_top::run_asp;
+use std::alloc::{AllocError, Global};
+use std::test::Fail;
+
+const PROGRAM: &str = "print(1 + 2)";
+
+const REPORT: &str = "asp report 1\nverdict end\nactivity 0 4 done\nsenders\n> 3\n";
+
+/// The bytes for which a sink has room.
+const ROOM: usize = 65_536;
+
+/// A command, where `a.asp` is the program and `r` its report. Which reads and writes fail, by number
+/// from 1, and how many bytes a failing write keeps; the status, and what is written.
+#[derive(Clone, Copy)]
+struct Case {
+    words: &'static [&'static str],
+    reads: &'static [u64],
+    outs: &'static [u64],
+    errs: &'static [u64],
+    keep: usize,
+    status: u8,
+    out: &'static str,
+    err: &'static str,
+}
+
+/// Nothing fails.
+const SOUND: Case = Case {
+    words: &["a.asp"],
+    reads: &[],
+    outs: &[],
+    errs: &[],
+    keep: 0,
+    status: 0,
+    out: REPORT,
+    err: "",
+};
+
+/// A write of the report fails.
+const UNWRITTEN: Case = Case {
+    status: 7,
+    out: "",
+    err: "asp: cannot write\n",
+    ..SOUND
+};
+
+static CASES: [Case; 12] = [
+    SOUND,
+    Case {
+        words: &["a.asp", "--replay", "r"],
+        ..SOUND
+    },
+    // a read that fails is told
+    Case {
+        reads: &[1],
+        status: 6,
+        out: "",
+        err: "asp: cannot read a.asp\n",
+        ..SOUND
+    },
+    Case {
+        words: &["a.asp", "--replay", "r"],
+        reads: &[2],
+        status: 6,
+        out: "",
+        err: "asp: cannot read r\n",
+        ..SOUND
+    },
+    // a write that fails leaves the lines before it
+    Case {
+        outs: &[1],
+        ..UNWRITTEN
+    },
+    Case {
+        outs: &[2],
+        out: "asp report 1\n",
+        ..UNWRITTEN
+    },
+    Case {
+        outs: &[3],
+        out: "asp report 1\nverdict end\n",
+        ..UNWRITTEN
+    },
+    Case {
+        outs: &[3],
+        keep: 3,
+        out: "asp report 1\nverdict end\nact",
+        ..UNWRITTEN
+    },
+    Case {
+        outs: &[4],
+        out: "asp report 1\nverdict end\nactivity 0 4 done\n",
+        ..UNWRITTEN
+    },
+    Case {
+        outs: &[5],
+        keep: 2,
+        out: "asp report 1\nverdict end\nactivity 0 4 done\nsenders\n> ",
+        ..UNWRITTEN
+    },
+    // a message that cannot be written is not tried again
+    Case {
+        words: &[],
+        errs: &[1],
+        keep: 4,
+        err: "asp:",
+        ..UNWRITTEN
+    },
+    Case {
+        outs: &[1],
+        errs: &[1],
+        err: "",
+        ..UNWRITTEN
+    },
+];
+
+fn source(alloc: Global, reads: &[u64]) -> Result<MemorySource, AllocError> {
+    let mut files = Vec::new(alloc);
+    for (name, text) in [("a.asp", PROGRAM), ("r", REPORT)] {
+        let name = Word::new(String::from_str(alloc, name)?);
+        files.push((name, text.as_bytes().to_vec(alloc)?))?;
+    }
+    Ok(MemorySource::new(alloc, files, reads.to_vec(alloc)?))
+}
+
+fn owned(alloc: Global, words: &[&str]) -> Result<Vec<String>, AllocError> {
+    let mut owned = Vec::new(alloc);
+    for word in words {
+        owned.push(String::from_str(alloc, word)?)?;
+    }
+    Ok(owned)
+}
+
+#[test]
+fn what_fails_is_told_and_what_was_written_stays(rt: HostRuntime) -> Result<(), Fail> {
+    let alloc = rt.alloc();
+    for case in &CASES {
+        let mut source = source(alloc, case.reads)?;
+        let mut out = MemorySink::new(alloc, case.outs.to_vec(alloc)?, case.keep, ROOM)?;
+        let mut err = MemorySink::new(alloc, case.errs.to_vec(alloc)?, case.keep, ROOM)?;
+        let words = owned(alloc, case.words)?;
+        let status = run_asp(&rt, &words, &mut source, &mut out, &mut err);
+        assert_eq!(rt; status, case.status);
+        assert_eq!(rt; out.bytes(), case.out.as_bytes());
+        assert_eq!(rt; err.bytes(), case.err.as_bytes());
+    }
+    Ok(())
+}

@@ -1,0 +1,105 @@
+//! Whether each change of the tables leaves what is stated there; also where a request for memory was
+//! refused. The README says how each request is refused in turn.
+
+use crate::cases::CASES;
+use crate::changes::Change::Pack;
+use crate::changes::{Case, Step, asks};
+use crate::closed::is_closed_store;
+use crate::given::{Given, future, is_store, store};
+use crate::landings::LANDINGS;
+use crate::packings::{PACKINGS, Packing};
+use asp_model::{FutureName, Place};
+use object_store::Store;
+use std::alloc::{AllocError, Global};
+use std::collections::BTreeSet;
+use std::process::Abort;
+
+fn is_one(given: &Given) -> bool {
+    matches!(given, Given::Future(1))
+}
+
+// The places are those of the future 1 among these cells.
+fn are_places_of_one(places: &BTreeSet<Place>, given: &[Given]) -> bool {
+    let ones = given.iter().filter(|one| is_one(one)).count();
+    let mut same = places.len() == ones;
+    for (place, one) in given.iter().enumerate() {
+        same = same && (!is_one(one) || places.contains(&(place as u128)));
+    }
+    same
+}
+
+// The store is closed, has these cells, and knows where the future 1 stands among them.
+fn is_as_stated(alloc: Global, first: &FutureName, store: &Store, given: &[Given]) -> bool {
+    is_store(store, given)
+        && are_places_of_one(store.holders_of(first), given)
+        && is_closed_store(alloc, store, &[]).unwrap_or(true)
+}
+
+// Asks for each change, and once more for one that was refused. Whether none was refused twice.
+fn is_made(
+    rt: &impl Abort,
+    alloc: Global,
+    row: usize,
+    given: &[Given],
+    steps: &[Step],
+) -> Result<bool, AllocError> {
+    let first = future(alloc, 1)?;
+    let mut store = store(alloc, given)?;
+    let mut before = given;
+    for (change, after) in steps {
+        assert!(rt; is_as_stated(alloc, &first, &store, before), "row {row}");
+        let mut answer = asks(rt, alloc, &mut store, change);
+        if answer.is_err() {
+            assert!(rt; is_as_stated(alloc, &first, &store, before), "row {row}");
+            answer = asks(rt, alloc, &mut store, change);
+        }
+        let Ok(is_right) = answer else {
+            assert!(rt; is_as_stated(alloc, &first, &store, before), "row {row}");
+            return Ok(false);
+        };
+        assert!(rt;
+            is_right && is_as_stated(alloc, &first, &store, after),
+            "row {row}"
+        );
+        before = after;
+    }
+    Ok(true)
+}
+
+fn are_made(rt: &impl Abort, alloc: Global, cases: &[Case]) -> bool {
+    let mut all = true;
+    for (row, (given, steps)) in cases.iter().enumerate() {
+        all = is_made(rt, alloc, row, given, steps).unwrap_or(false) && all;
+    }
+    all
+}
+
+// A store stays as it is where something is packed from it.
+fn are_packed(rt: &impl Abort, alloc: Global, packings: &[Packing]) -> bool {
+    let mut all = true;
+    for (row, packing) in packings.iter().enumerate() {
+        let pack = Pack {
+            roots: packing.roots,
+            cells: packing.cells,
+            packed: packing.packed,
+        };
+        let steps = [(pack, packing.store)];
+        all = is_made(rt, alloc, row, packing.store, &steps).unwrap_or(false) && all;
+    }
+    all
+}
+
+#[test]
+fn each_change_leaves_what_is_stated(rt: HostRuntime) {
+    assert!(rt; are_made(&rt, rt.alloc(), &CASES));
+    assert!(rt; are_made(&rt, rt.alloc(), &LANDINGS));
+    assert!(rt; are_packed(&rt, rt.alloc(), &PACKINGS));
+}
+
+// Passes too where requests for memory are refused.
+#[test]
+fn a_refused_change_leaves_the_cells(rt: HostRuntime) {
+    let _changed = are_made(&rt, rt.alloc(), &CASES);
+    let _landed = are_made(&rt, rt.alloc(), &LANDINGS);
+    let _packed = are_packed(&rt, rt.alloc(), &PACKINGS);
+}
