@@ -18,7 +18,7 @@ ROOT = os.path.dirname(os.path.dirname(os.path.abspath(__file__)))
 PROGRAM = os.path.join(ROOT, "crates", "asp", "out", "asp")
 TIMING = os.path.join(ROOT, "crates", "timing", "out", "timing")
 BUILD = """measure: build both programs first, at the top of the repository:
-    ./asp examples/sums.asp
+    rt ci, or (cd crates/asp && rt run -- data/one.asp)
     (cd crates/timing && rt run -- pack grid 10)"""
 MEBIBYTE = 1 << 20
 MOST = ["--budget", "10000000"]
