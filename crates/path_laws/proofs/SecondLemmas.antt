@@ -22,7 +22,7 @@ use Rattle.laws.proofs.ClosedLaws.{effect_closed, closed_after}
 use Rattle.paths.specs.Places.{side_by, AreReadAlike, value_by, name_by}
 use Rattle.paths.specs.Agree.{Pairs, no_pair, pair, MayBoth, neither, both, roots_of, ActivitiesAgree, ParcelsAgree, RequestsAgree, Agrees}
 use Rattle.path_laws.specs.Agreeing.{EffectsAgree, IntentsAgree, both_act, both_rest}
-use Rattle.path_laws.specs.Laws.{IsFit, SecondLaw, StatusesAgree}
+use Rattle.path_laws.proofs.FitLemmas.{IsFit, SecondFit, StatusesFit}
 use Rattle.path_laws.proofs.PairLemmas.{pairs_length, pairs_more}
 use Rattle.path_laws.proofs.ActivityLemmas.{roots_below, agree_linked, OnePathOf}
 use Rattle.path_laws.proofs.StatusLemmas.{ValuesClosed, side_closed}
@@ -289,11 +289,11 @@ module _ (c d : Configuration) (fc : IsFit c) (fd : IsFit d) (g : Agrees c d) (n
       let f = follows e t.intends in
       (with_effect n f.0 d, takes_step lists d n f.0 (record { intends = f.1; may = sym (may_too lists e.sent f.0.sent f.2.sent) ∙ t.may }), results e f.0 t.intends f.1 f.2)
 
-pub second_law : SecondLaw
+pub second_law : SecondFit
 second_law c d c' lists n fc fd g is =
     let x = step_taken lists c n c' is in
     let y = steps_too c d fc fd g n lists x.0 x.1 in
     (y.0, y.1, subst (λ z. Agrees z y.0) x.2 y.2)
 
-pub statuses_agree : StatusesAgree
+pub statuses_agree : StatusesFit
 statuses_agree c d fc fd g n = statuses_alike c d fc fd g n
