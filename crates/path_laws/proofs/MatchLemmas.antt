@@ -7,14 +7,8 @@ use Rattle.paths.specs.Agree.{Pairs}
 use Rattle.paths.specs.PathLabels.{PathLabel, number_by, numbered_child, leads_by, from_by}
 use Rattle.path_laws.specs.Reading.{LabelsReadAlike}
 use Rattle.path_laws.proofs.PairLemmas.{Ends, nowhere, somewhere, nth_pairs, pairs_nth}
+use Rattle.path_laws.specs.Links.{Matching}
 use Rattle.path_laws.proofs.PathLemmas.{RootsAlike, then_ends, from_on, then_some}
-
--- a link, but for places that are there
-pub record Matching (a b : Side) (R : Place → Place → Type 0) : Type 0 where
-  pub same : (p q : Place) → R p q → found a p ≡ found b q
-  pub next : (p q : Place) → R p q → Pairs R (children a p) (children b q)
-  pub once : (p q r : Place) → R p q → R p r → q ≡ r
-  pub back : (p q r : Place) → R p r → R q r → p ≡ q
 
 module _ (a b : Side) (xs ys : List ℕ) (alike : AreReadAlike a b xs ys) where
   -- one path leads to both

@@ -6,7 +6,7 @@ use Rattle.laws.proofs.NameLemmas.{none_true}
 use Rattle.paths.specs.Places.{Place, In_store, In_value, Side, found, children}
 use Rattle.paths.specs.Agree.{Pairs, no_pair, pair}
 use Rattle.paths.specs.StateLines.{same_place, Path, is_compound, what_text, state_line, Shown, path_of, with_line, with_place, by_labels, by_numbers, shown_below, show_each, show_place, show_to, show_result, state_shown}
-use Rattle.path_laws.proofs.MatchLemmas.{Matching}
+use Rattle.path_laws.specs.Links.{Matching}
 
 -- Places can be told apart
 
