@@ -1,5 +1,6 @@
 -- Faults of arities: too many parameters or arguments, and an arity that is not the label's.
 use Rattle.std.specs.Prelude.{ℕ, suc, Bool, true, false, nat_lt, nat_eq, List, [], ◌∷◌, ◌++◌, Option, Some, None, length, map}
+use Rattle.asp_model.specs.declared.limits.TheConstants.{MOST_PARAMETERS}
 use Rattle.asp_model.specs.Names.{Text, same_text}
 use Rattle.asp_model.specs.Term.{Head, Make, Call, Active, Scatter, MethodHead}
 use Rattle.asp_model.specs.Marked.{MarkShape, Marked, MarkedList, marked, no_marked, and_marked}
@@ -72,7 +73,7 @@ is_arity n None = false
 is_arity n (Some k) = nat_eq n k
 
 abbrev pub arity_faults_at : LabelArity → Option ℕ → List CheckFault
-arity_faults_at x first = when (nat_lt 8 x.arity) (fault_at x.place TooManyParameters) ++ unless (is_arity x.arity first) (fault_at x.place x.kind)
+arity_faults_at x first = when (nat_lt MOST_PARAMETERS x.arity) (fault_at x.place TooManyParameters) ++ unless (is_arity x.arity first) (fault_at x.place x.kind)
 
 -- at each of these places, against the first in the whole text
 abbrev pub arity_faults : List LabelArity → List LabelArity → List CheckFault

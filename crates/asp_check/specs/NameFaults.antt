@@ -1,8 +1,7 @@
--- Faults of names: a variable that nothing binds, a place, which no program has, a label of an object and a name of
--- a head that stood earlier.
+-- Faults of names: a variable that nothing binds, a label of an object and a name of a head that stood earlier.
 use Rattle.std.specs.Prelude.{ℕ, Bool, true, false, ◌||◌, List, [], ◌∷◌, ◌++◌}
 use Rattle.asp_model.specs.Names.{Text, same_text}
-use Rattle.asp_model.specs.Term.{Head, Loc, Var, Make, MethodHead, binders}
+use Rattle.asp_model.specs.Term.{Head, Var, Make, MethodHead, binders}
 use Rattle.asp_model.specs.Marked.{MarkShape, Marked, MarkedList, marked, no_marked, and_marked}
 use Rattle.asp_check.specs.declared.fault.CheckFault.{CheckFault}
 use Rattle.asp_check.specs.declared.fault.CheckKind.{CheckKind}
@@ -50,7 +49,6 @@ object_faults at fields methods ps = repeats DoubleLabel no_names (placed at fie
 
 -- those of a node alone, under the names that are bound round it
 abbrev pub faults_at : NameSet → Head → MarkShape → List CheckFault
-faults_at bound (Loc n) m = fault_at m.at Unbound ∷ []
 faults_at bound (Var x) m = unless (bound x) (fault_at m.at Unbound)
 faults_at bound (Make fields methods) m = object_faults m.at fields methods m.names
 faults_at bound h m = []

@@ -1,9 +1,7 @@
--- A checked program has no places.
+-- A program that was read has no places.
 use Rattle.std.specs.Prelude.{◌≡◌, []}
-use Rattle.asp_model.specs.Term.{locations}
-use Rattle.asp_model.specs.Marked.{Marked, plain}
-use Rattle.asp_check.specs.Faults.{IsChecked}
+use Rattle.asp_model.specs.Term.{Tree, locations}
+use Rattle.asp_model.specs.Readable.{IsReadable}
 
--- a place is a fault, so what is checked has none
-abbrev pub CheckedHasNoPlaces : Type 0
-CheckedHasNoPlaces = (program : Marked) → IsChecked program → locations (plain program) ≡ []
+abbrev pub ReadableHasNoPlaces : Type 0
+ReadableHasNoPlaces = (program : Tree) → IsReadable program → locations program ≡ []

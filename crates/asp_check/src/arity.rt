@@ -8,6 +8,7 @@ ghost use Rattle.asp_check.specs.Walk.{arity_of};
 
 use crate::fault::{CheckFault, CheckKind};
 use crate::least::note;
+use asp_model::MOST_PARAMETERS;
 use std::alloc::{AllocError, Global};
 use std::collections::BTreeMap;
 
@@ -20,8 +21,6 @@ pub struct ArityPlace<'a> {
     /// The fault where an earlier place fixed another arity.
     pub kind: CheckKind,
 }
-
-const MOST_PARAMETERS: usize = 8;
 
 /// The arity of each label, by the first of its places.
 pub fn first_arities<'a>(

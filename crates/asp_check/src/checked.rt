@@ -1,21 +1,25 @@
 //! Checked programs.
 
 ghost use Rattle.std.specs.Prelude.{◌≡◌, IfOk, IfErr};
-ghost use Rattle.asp_model.specs.Shapes.{marked_of};
+ghost use Rattle.asp_model.specs.Readable.{IsReadable};
+ghost use Rattle.asp_model.specs.Shapes.{marked_of, tree_of};
 ghost use Rattle.asp_check.specs.Faults.{IsChecked};
+ghost use Rattle.asp_check.specs.ReadableProp.{readable_prop};
 
 use asp_model::Program;
 
-/// A program without faults.
+/// A program that was read, and has no fault.
 #[derive(Debug, Drop)]
 pub struct Checked {
     program: Program,
+    ghost readable: { IsReadable (tree_of program.root) } by { readable_prop (tree_of program.root) },
     ghost checked: { IsChecked (marked_of program.root) },
 }
 
 impl Checked {
     pub(crate) fn new(program: Program) -> Checked
-        requires { IsChecked (marked_of program.root) }
+        requires readable { IsReadable (tree_of program.root) }
+        requires checked { IsChecked (marked_of program.root) }
         ensures { result.program ≡ program }
     {
         Checked { program }
@@ -24,6 +28,7 @@ impl Checked {
     /// The program.
     pub fn program(&self) -> &Program
         ensures program { result.now ≡ self.now.program }
+        ensures readable { IsReadable (tree_of result.now.root) }
         ensures checked { IsChecked (marked_of result.now.root) }
     {
         &self.program

@@ -11,7 +11,7 @@ use thiserror::Error;
 /// What is wrong.
 #[derive(Clone, Copy, Debug, PartialEq, Eq)]
 pub enum CheckKind {
-    /// A variable that nothing round it binds, or a place, which nothing binds.
+    /// A variable that nothing round it binds.
     Unbound,
     /// A label that an earlier field or method of the object has.
     DoubleLabel,
@@ -19,7 +19,7 @@ pub enum CheckKind {
     DoubleParameter,
     /// A method or call with more than 8 parameters or arguments.
     TooManyParameters,
-    /// A method or call with another arity than the first of its label.
+    /// A method, call or `scatter` with another arity than the first of its label.
     Arity,
     /// A method that an activity begins with, where the label's first arity is not 0.
     ServiceArity,

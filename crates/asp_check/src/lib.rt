@@ -16,5 +16,5 @@ mod whole;
 
 pub use checked::Checked;
 pub use fault::{CheckError, CheckFault, CheckKind};
-pub use no_places::checked_has_no_places;
+pub use no_places::readable_has_no_places;
 pub use whole::check;

@@ -1,8 +1,8 @@
 //! What running a checked program rests on.
 
-ghost use Rattle.asp_check.specs.NoPlaces.{CheckedHasNoPlaces};
+ghost use Rattle.asp_check.specs.NoPlaces.{ReadableHasNoPlaces};
 
-/// A checked program has no places of its own.
-pub fn checked_has_no_places()
-    ensures { CheckedHasNoPlaces }
+/// A program that was read has no places of its own.
+pub fn readable_has_no_places()
+    ensures { ReadableHasNoPlaces }
 {}

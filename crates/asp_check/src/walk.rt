@@ -51,18 +51,9 @@ impl<'a> Walk<'a> {
         ensures least { Finds self.old (unless (bound_in self.old name.entry.now) (fault_at at kind.Unbound)) self.new }
     {
         if !has_name(&self.bound, name.as_str()) {
-            self.note_unbound(at);
+            let kind = CheckKind::Unbound;
+            note(&mut self.least, CheckFault { at, kind });
         }
-    }
-
-    /// Notes what nothing binds: a variable, or a place.
-    fn note_unbound(&mut self, at: usize)
-        ensures bound { bound_in self.new ≡ bound_in self.old }
-        ensures arities { self.new.arities.items ≡ self.old.arities.items }
-        ensures least { Finds self.old (fault_at at kind.Unbound ∷ []) self.new }
-    {
-        let kind = CheckKind::Unbound;
-        note(&mut self.least, CheckFault { at, kind });
     }
 
     fn add_arity(
@@ -109,11 +100,11 @@ impl<'a> Walk<'a> {
         ensures least { OnOk result (Finds self.old (name_faults (bound_in self.old) (marked_of term.entry.now)) self.new) }
     {
         match term {
-            Term::Loc(_, mark) => {
-                self.note_unbound(mark.at);
-                Ok(())
-            }
-            Term::Hole(_) | Term::Number(_, _) | Term::Serve(_, _) | Term::Echo(_, _) => Ok(()),
+            Term::Loc(_, _)
+            | Term::Hole(_)
+            | Term::Number(_, _)
+            | Term::Serve(_, _)
+            | Term::Echo(_, _) => Ok(()),
             Term::Var(name, mark) => {
                 self.visit_variable(name, mark.at);
                 Ok(())
@@ -141,11 +132,20 @@ impl<'a> Walk<'a> {
                 self.visit(binding)?;
                 self.visit_let(name, body)
             }
-            Term::Steps(steps, _) => self.visit_all(steps),
-            Term::Get(a, _, _) | Term::Clone(a, _) | Term::Repeat(a, _) | Term::Print(a, _) => {
-                self.visit(a)
+            Term::Steps(terms, _) | Term::Group(terms, _) => self.visit_all(terms),
+            Term::Scatter(a, label, b, mark) => {
+                self.visit(a)?;
+                let at = Places::of(mark).next();
+                self.add_arity(CheckKind::Arity, label, 1, at)?;
+                self.visit(b)
             }
-            Term::Put(a, _, b, _) | Term::Operate(_, a, b, _) => {
+            Term::Get(a, _, _)
+            | Term::Clone(a, _)
+            | Term::Repeat(a, _)
+            | Term::Print(a, _)
+            | Term::Size(a, _)
+            | Term::WaitAll(a, _) => self.visit(a),
+            Term::Put(a, _, b, _) | Term::Operate(_, a, b, _) | Term::Member(a, b, _) => {
                 self.visit(a)?;
                 self.visit(b)
             }

@@ -1,7 +1,8 @@
 //! The check of a program.
 
 ghost use Rattle.std.specs.Prelude.{◌≡◌, IfOk, IfErr, None};
-ghost use Rattle.asp_model.specs.Shapes.{marked_of};
+ghost use Rattle.asp_model.specs.Readable.{IsReadable};
+ghost use Rattle.asp_model.specs.Shapes.{marked_of, tree_of};
 ghost use Rattle.asp_check.specs.Faults.{faults_of, IsChecked, IsFirstFault};
 ghost use Rattle.asp_check.specs.Least.{least_of};
 ghost use Rattle.asp_check.specs.declared.fault.CheckFault.{CheckFault};
@@ -14,8 +15,9 @@ use crate::walk::Walk;
 use asp_model::Program;
 use std::alloc::{AllocError, Global};
 
-/// Checks a program. One that is refused is dropped.
+/// Checks a program that was read. One that is refused is dropped.
 pub fn check(alloc: Global, program: Program) -> Result<Checked, CheckError>
+    requires readable { IsReadable (tree_of program.root) }
     ensures checked { IfOk result (λ c. c.program ≡ program × IsChecked (marked_of program.root)) }
     ensures fault { IfErr result (λ e. (f : CheckFault) → e ≡ errors.Fault f → IsFirstFault (marked_of program.root) f) }
     ensures only { IfErr result (λ e. IsChecked (marked_of program.root) → e ≡ errors.Memory) }

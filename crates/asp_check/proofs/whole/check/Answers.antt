@@ -4,8 +4,8 @@ use Rattle.asp_check.specs.Faults.{faults_of}
 use Rattle.asp_check.proofs.Firsts.{least_none, least_some}
 use Rattle.asp_check.proofs.whole.check.Goals as goal
 
-pub new-requires : goal.new-requires
-new-requires c = least_none (faults_of (marked_of c.args.program.root)) (sym c.in_ok-fault.ensures ∙ c.in-None.is)
+pub new-requires-clause-checked : goal.new-requires-clause-checked
+new-requires-clause-checked c = least_none (faults_of (marked_of c.args.program.root)) (sym c.in_ok-fault.ensures ∙ c.in-None.is)
 
 pub returns-in-Some-clause-fault : goal.returns-in-Some-clause-fault
 returns-in-Some-clause-fault c = λ f e.
