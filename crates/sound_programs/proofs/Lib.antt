@@ -1,0 +1,11 @@
+pub mod ScopeLemmas
+pub mod TermLemmas
+pub mod NodeLemmas
+pub mod CellLemmas
+pub mod RowLemmas
+pub mod IntentLemmas
+pub mod ReachedLemmas
+pub mod ReadyLemmas
+pub mod CheckLemmas
+pub mod SoundLaws
+pub mod DoneLemmas

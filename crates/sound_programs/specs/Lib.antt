@@ -1,2 +1,4 @@
 -- in reading order
+pub mod Sound
+pub mod Programs
 pub mod Worked
