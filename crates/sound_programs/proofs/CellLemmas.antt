@@ -1,4 +1,4 @@
--- Sound cells: read, written, copied, and made of sound nodes.
+-- Proper cells: read, written, copied, and made of proper nodes.
 use Rattle.std.specs.Prelude.{◌≡◌, ℕ, zero, suc, Bool, true, false, List, [], ◌∷◌, ◌++◌, Option, Some, None, length, map}
 use Rattle.std.proofs.Common.{refl, sym, ap, subst, ◌∙◌, arith}
 use Rattle.std.proofs.lemmas.Bool.{eq-eqb}
@@ -9,20 +9,20 @@ use Rattle.asp_model.specs.Parcel.{parcel_of, visit_order, number_in, visit, wal
 use Rattle.asp_model.specs.Contraction.{fields_at, methods_with, with_field, method_at}
 use Rattle.laws.specs.Linked.{Each}
 use Rattle.laws.proofs.EachLemmas.{each_mapped}
-use Rattle.sound_programs.specs.Sound.{names_bound, are_single, IsSound, AreSound, IsSoundMethod, IsSoundCell, IsSoundParcel, BeginsWithRoot}
-use Rattle.sound_programs.proofs.ScopeLemmas.{moved_sound}
+use Rattle.sound_programs.specs.Proper.{names_bound, are_single, IsProper, AreProper, IsProperMethod, IsProperCell, IsProperParcel, BeginsWithRoot}
+use Rattle.sound_programs.proofs.ScopeLemmas.{moved_proper}
 
 -- Stores
 
-pub cell_sound : (s : Store) → Each IsSoundCell s → (n : ℕ) → IsSoundCell (cell s n)
-cell_sound [] h n = tt
-cell_sound (c ∷ cs) h zero = h.0
-cell_sound (c ∷ cs) h (suc n) = cell_sound cs h.1 n
+pub cell_proper : (s : Store) → Each IsProperCell s → (n : ℕ) → IsProperCell (cell s n)
+cell_proper [] h n = tt
+cell_proper (c ∷ cs) h zero = h.0
+cell_proper (c ∷ cs) h (suc n) = cell_proper cs h.1 n
 
-pub written_sound : (s : Store) (n : ℕ) (d : CellShape) → Each IsSoundCell s → IsSoundCell d → Each IsSoundCell (with_cell s n d)
-written_sound [] n d h k = tt
-written_sound (c ∷ cs) zero d h k = (k, h.1)
-written_sound (c ∷ cs) (suc n) d h k = (h.0, written_sound cs n d h.1 k)
+pub written_proper : (s : Store) (n : ℕ) (d : CellShape) → Each IsProperCell s → IsProperCell d → Each IsProperCell (with_cell s n d)
+written_proper [] n d h k = tt
+written_proper (c ∷ cs) zero d h k = (k, h.1)
+written_proper (c ∷ cs) (suc n) d h k = (h.0, written_proper cs n d h.1 k)
 
 -- Copies
 
@@ -41,19 +41,19 @@ module _ (f : ℕ → ℕ) where
   method_heads [] = refl
   method_heads (m ∷ methods) = ap (λ hs. m.head ∷ hs) (method_heads methods)
 
-  moved_cell_sound : (c : CellShape) → IsSoundCell c → IsSoundCell (moved_cell f c)
-  moved_cell_sound (Object fields methods) h = (
+  moved_cell_proper : (c : CellShape) → IsProperCell c → IsProperCell (moved_cell f c)
+  moved_cell_proper (Object fields methods) h = (
     (λ i. are_single (field_labels fields i) (method_heads methods i)) ∙ h.0,
-    each_mapped IsSoundMethod IsSoundMethod moved_method (λ m k. moved_sound f (names_bound m.head) m.body k) methods h.1,
+    each_mapped IsProperMethod IsProperMethod moved_method (λ m k. moved_proper f (names_bound m.head) m.body k) methods h.1,
   )
-  moved_cell_sound c h = tt
+  moved_cell_proper c h = tt
 
-  pub all_moved : (cs : List CellShape) → Each IsSoundCell cs → Each IsSoundCell (map (moved_cell f) cs)
-  all_moved = each_mapped IsSoundCell IsSoundCell (moved_cell f) moved_cell_sound
+  pub all_moved : (cs : List CellShape) → Each IsProperCell cs → Each IsProperCell (map (moved_cell f) cs)
+  all_moved = each_mapped IsProperCell IsProperCell (moved_cell f) moved_cell_proper
 
-  all_taken : (s : Store) → Each IsSoundCell s → (ns : List ℕ) → Each IsSoundCell (map (λ p. moved_cell f (cell s p)) ns)
+  all_taken : (s : Store) → Each IsProperCell s → (ns : List ℕ) → Each IsProperCell (map (λ p. moved_cell f (cell s p)) ns)
   all_taken s h [] = tt
-  all_taken s h (n ∷ ns) = (moved_cell_sound (cell s n) (cell_sound s h n), all_taken s h ns)
+  all_taken s h (n ∷ ns) = (moved_cell_proper (cell s n) (cell_proper s h n), all_taken s h ns)
 
 -- what a visit has seen first stays first
 module _ (s : Store) (i : ℕ) where
@@ -87,8 +87,8 @@ one_root s (i ∷ []) k e = sym (first_of e) ∙ first_number s i
 one_root s (i ∷ j ∷ roots) k e = cc
 
 -- a deep copy
-pub parcel_sound : (s : Store) (roots : List ℕ) → Each IsSoundCell s → IsSoundParcel (parcel_of s roots)
-parcel_sound s roots h = record { cells = all_taken (number_in (visit_order s roots)) s h (visit_order s roots); root = one_root s roots }
+pub parcel_proper : (s : Store) (roots : List ℕ) → Each IsProperCell s → IsProperParcel (parcel_of s roots)
+parcel_proper s roots h = record { cells = all_taken (number_in (visit_order s roots)) s h (visit_order s roots); root = one_root s roots }
 
 -- Objects
 
@@ -113,22 +113,22 @@ nothing_more : (xs : List Text) → xs ++ [] ≡ xs
 nothing_more [] = refl
 nothing_more (x ∷ xs) = ap (λ ys. x ∷ ys) (nothing_more xs)
 
-pub bodies_sound : (ms : List MethodHead) (ts : Trees) → AreSound [] (map names_bound ms) ts → Each IsSoundMethod (methods_with ms ts)
-bodies_sound [] ts h = tt
-bodies_sound (m ∷ ms) none h = tt
-bodies_sound (m ∷ ms) (more t ts) h = (subst (λ xs. IsSound xs t) (nothing_more (names_bound m)) h.0, bodies_sound ms ts h.1)
+pub bodies_proper : (ms : List MethodHead) (ts : Trees) → AreProper [] (map names_bound ms) ts → Each IsProperMethod (methods_with ms ts)
+bodies_proper [] ts h = tt
+bodies_proper (m ∷ ms) none h = tt
+bodies_proper (m ∷ ms) (more t ts) h = (subst (λ xs. IsProper xs t) (nothing_more (names_bound m)) h.0, bodies_proper ms ts h.1)
 
 -- the terms behind those of the fields
-pub behind_fields : (fields : List Text) (ns : List ℕ) (names : List (List Text)) (ts : Trees) → length ns ≡ length fields → AreSound [] (map (λ f. []) fields ++ names) (locs_then ns ts) → AreSound [] names ts
+pub behind_fields : (fields : List Text) (ns : List ℕ) (names : List (List Text)) (ts : Trees) → length ns ≡ length fields → AreProper [] (map (λ f. []) fields ++ names) (locs_then ns ts) → AreProper [] names ts
 behind_fields [] [] names ts e h = h
 behind_fields [] (n ∷ ns) names ts e h = absurd (omega (arith, e))
 behind_fields (f ∷ fields) [] names ts e h = absurd (omega (arith, e))
 behind_fields (f ∷ fields) (n ∷ ns) names ts e h = behind_fields fields ns names ts (omega (arith, e)) h.1
 
-abbrev pub FoundSound : Option MethodShape → Type 0
-FoundSound None = Unit {0}
-FoundSound (Some m) = IsSoundMethod m
+abbrev pub FoundProper : Option MethodShape → Type 0
+FoundProper None = Unit {0}
+FoundProper (Some m) = IsProperMethod m
 
-pub found_sound : (l : Text) (ms : List MethodShape) → Each IsSoundMethod ms → FoundSound (method_at l ms)
-found_sound l [] h = tt
-found_sound l (m ∷ ms) h = elim (same_text l m.head.label) as (λ b. FoundSound (elim b [ true ↦ Some m | false ↦ method_at l ms ])) [ true ↦ h.0 | false ↦ found_sound l ms h.1 ]
+pub found_proper : (l : Text) (ms : List MethodShape) → Each IsProperMethod ms → FoundProper (method_at l ms)
+found_proper l [] h = tt
+found_proper l (m ∷ ms) h = elim (same_text l m.head.label) as (λ b. FoundProper (elim b [ true ↦ Some m | false ↦ method_at l ms ])) [ true ↦ h.0 | false ↦ found_proper l ms h.1 ]

@@ -1,4 +1,4 @@
--- A program that was read and checked is sound.
+-- A program that was read and checked is proper.
 use Rattle.std.specs.Prelude.{◌≡◌, ℕ, ◌&&◌, not, Bool, true, false, List, [], ◌∷◌, ◌++◌, map, ◌⊎◌}
 use Rattle.std.specs.List.{list_all}
 use Rattle.std.proofs.Common.{refl, sym, ap, subst, ◌∙◌, inl, inr, ⊎_elim}
@@ -15,7 +15,7 @@ use Rattle.asp_check.specs.Placed.{place_or, later, placed, behind}
 use Rattle.asp_check.specs.NameFaults.{NameSet, no_names, with_name, with_names, fault_at, when, unless, repeats, method_faults, object_faults, faults_at, name_faults, name_faults_below}
 use Rattle.asp_check.specs.Faults.{IsChecked}
 use Rattle.laws.proofs.NameLemmas.{none_true}
-use Rattle.sound_programs.specs.Sound.{are_distinct, names_bound, are_single, is_sound_node, IsSound, AreSound}
+use Rattle.sound_programs.specs.Proper.{are_distinct, names_bound, are_single, is_proper_node, IsProper, AreProper}
 use Rattle.sound_programs.proofs.ScopeLemmas.{equal_texts, or_cases, or_left, or_right, text_both}
 
 -- Lists of faults
@@ -144,20 +144,20 @@ Covers set xs = (x : Text) → set x ≡ true → has_text x xs ≡ true
 more_covers : (ys : List Text) (set : NameSet) (xs : List Text) → Covers set xs → Covers (with_names ys set) (ys ++ xs)
 more_covers ys set xs c x e = text_both x ys xs ∙ ⊎_elim (or_left (has_text x ys) (has_text x xs)) (λ s. or_right (has_text x ys) (has_text x xs) (c x s)) (in_names ys set x e)
 
-node_sound : (set : NameSet) (xs : List Text) → Covers set xs → (h : Head) (m : MarkShape) → is_written h ≡ true → faults_at set h m ≡ [] → is_sound_node xs h ≡ true
-node_sound set xs c Hole m w e = none_true w
-node_sound set xs c (Var x) m w e = c x (none_unless (set x) _ e)
-node_sound set xs c (Make fields methods) m w e = none_doubled m.at fields methods m.names e
-node_sound set xs c h m w e = refl
+node_proper : (set : NameSet) (xs : List Text) → Covers set xs → (h : Head) (m : MarkShape) → is_written h ≡ true → faults_at set h m ≡ [] → is_proper_node xs h ≡ true
+node_proper set xs c Hole m w e = none_true w
+node_proper set xs c (Var x) m w e = c x (none_unless (set x) _ e)
+node_proper set xs c (Make fields methods) m w e = none_doubled m.at fields methods m.names e
+node_proper set xs c h m w e = refl
 
 mutual
-  term_sound : (set : NameSet) (xs : List Text) → Covers set xs → (t : Marked) → IsReadable (plain t) → name_faults set t ≡ [] → IsSound xs (plain t)
-  term_sound set xs c (marked h m ts) r e = (node_sound set xs c h m r.0 (left_empty _ _ e), r.1, below_sound set xs c (binders h) ts r.2 (right_empty (faults_at set h m) _ e))
+  term_proper : (set : NameSet) (xs : List Text) → Covers set xs → (t : Marked) → IsReadable (plain t) → name_faults set t ≡ [] → IsProper xs (plain t)
+  term_proper set xs c (marked h m ts) r e = (node_proper set xs c h m r.0 (left_empty _ _ e), r.1, below_proper set xs c (binders h) ts r.2 (right_empty (faults_at set h m) _ e))
 
-  below_sound : (set : NameSet) (xs : List Text) → Covers set xs → (names : List (List Text)) (ts : MarkedList) → AreReadable (plain_below ts) → name_faults_below set names ts ≡ [] → AreSound xs names (plain_below ts)
-  below_sound set xs c names no_marked r e = tt
-  below_sound set xs c [] (and_marked t ts) r e = (term_sound set xs c t r.0 (left_empty _ _ e), below_sound set xs c [] ts r.1 (right_empty (name_faults set t) _ e))
-  below_sound set xs c (ys ∷ names) (and_marked t ts) r e = (term_sound (with_names ys set) (ys ++ xs) (more_covers ys set xs c) t r.0 (left_empty _ _ e), below_sound set xs c names ts r.1 (right_empty (name_faults (with_names ys set) t) _ e))
+  below_proper : (set : NameSet) (xs : List Text) → Covers set xs → (names : List (List Text)) (ts : MarkedList) → AreReadable (plain_below ts) → name_faults_below set names ts ≡ [] → AreProper xs names (plain_below ts)
+  below_proper set xs c names no_marked r e = tt
+  below_proper set xs c [] (and_marked t ts) r e = (term_proper set xs c t r.0 (left_empty _ _ e), below_proper set xs c [] ts r.1 (right_empty (name_faults set t) _ e))
+  below_proper set xs c (ys ∷ names) (and_marked t ts) r e = (term_proper (with_names ys set) (ys ++ xs) (more_covers ys set xs c) t r.0 (left_empty _ _ e), below_proper set xs c names ts r.1 (right_empty (name_faults (with_names ys set) t) _ e))
 
-pub program_sound : (program : Marked) → IsReadable (plain program) → IsChecked program → IsSound [] (plain program)
-program_sound program r c = term_sound no_names [] (λ x e. e) program r (left_empty (name_faults no_names program) _ c)
+pub program_proper : (program : Marked) → IsReadable (plain program) → IsChecked program → IsProper [] (plain program)
+program_proper program r c = term_proper no_names [] (λ x e. e) program r (left_empty (name_faults no_names program) _ c)

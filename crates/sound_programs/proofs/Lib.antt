@@ -7,5 +7,5 @@ pub mod IntentLemmas
 pub mod ReachedLemmas
 pub mod ReadyLemmas
 pub mod CheckLemmas
-pub mod SoundLaws
-pub mod DoneLemmas
+pub mod WholeLaws
+pub mod BreakLaws

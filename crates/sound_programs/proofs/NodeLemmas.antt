@@ -1,4 +1,4 @@
--- A sound redex has the places and terms that its head's row asks for.
+-- A proper redex has the places and terms that its head's row asks for.
 use Rattle.std.specs.Prelude.{◌≡◌, ◌≤◌, ℕ, ◌+◌, true, false, List, [], ◌∷◌, length}
 use Rattle.std.proofs.Common.{sym, subst, arith}
 use Rattle.asp_model.specs.Term.{Head, Loc, Hole, Var, Number, Make, Get, Put, Call, Clone, Active, Serve, Let, Steps, If, Repeat, Operate, Print, Echo, Scatter, Size, Member, WaitAll, Tree, Trees, none, more, locs_then, child_count}
@@ -6,8 +6,8 @@ use Rattle.asp_model.specs.Term as term
 use Rattle.asp_model.specs.Readable.{HasArity}
 use Rattle.asp_model.specs.Split.{Redex, reduced_count}
 use Rattle.laws.proofs.NameLemmas.{none_true}
-use Rattle.sound_programs.specs.Sound.{is_sound_node}
-use Rattle.sound_programs.proofs.TermLemmas.{IsSoundRedex, is_place, count_behind}
+use Rattle.sound_programs.specs.Proper.{is_proper_node}
+use Rattle.sound_programs.proofs.TermLemmas.{IsProperRedex, is_place, count_behind}
 
 -- what a head's row asks for
 abbrev pub Shaped : Head → List ℕ → Trees → Type 0
@@ -85,7 +85,7 @@ module _ (h : Head) where
   at_none : (ns : List ℕ) (ts : Trees) → length ns + child_count ts ≡ 0 → Shaped h [] none → Shaped h ns ts
   at_none ns ts a x = no_places (λ us. Shaped h us ts) (no_terms (Shaped h []) x ts (omega (arith, a))) ns (omega (arith, a))
 
-head_shaped : (h : Head) (ns : List ℕ) (ts : Trees) → is_place h ≡ false → is_sound_node [] h ≡ true → HasArity h (length ns + child_count ts) → length ns ≡ reduced_count h (locs_then ns ts) → Shaped h ns ts
+head_shaped : (h : Head) (ns : List ℕ) (ts : Trees) → is_place h ≡ false → is_proper_node [] h ≡ true → HasArity h (length ns + child_count ts) → length ns ≡ reduced_count h (locs_then ns ts) → Shaped h ns ts
 head_shaped (Loc n) ns ts p w a e = none_true (sym p)
 head_shaped Hole ns ts p w a e = none_true w
 head_shaped (Var x) ns ts p w a e = none_true w
@@ -112,5 +112,5 @@ head_shaped Size ns ts p w a e = at_one Size ns ts e a (λ i. tt)
 head_shaped Member ns ts p w a e = at_two Member ns ts e a (λ i k. tt)
 head_shaped WaitAll ns ts p w a e = at_one WaitAll ns ts e a (λ i. tt)
 
-pub redex_shaped : (r : Redex) → IsSoundRedex r → Shaped r.head r.places r.behind
+pub redex_shaped : (r : Redex) → IsProperRedex r → Shaped r.head r.places r.behind
 redex_shaped r h = head_shaped r.head r.places r.behind h.reduced h.node.0 (subst (HasArity r.head) (count_behind r.places r.behind) h.node.1) h.count

@@ -1,4 +1,4 @@
--- Sound terms under more names, with locations in place of names, and with other locations.
+-- Proper terms under more names, with locations in place of names, and with other locations.
 use Rattle.std.specs.Prelude.{◌≡◌, ℕ, suc, ◌||◌, Bool, true, false, List, [], ◌∷◌, ◌++◌, Option, Some, None, ◌⊎◌}
 use Rattle.std.proofs.Common.{refl, sym, ap, subst, ◌∙◌, inl, inr, ⊎_elim}
 use Rattle.std.proofs.lemmas.Slice.Eq.{bytes_eq-Decides}
@@ -6,7 +6,7 @@ use Rattle.asp_model.specs.Names.{Text, same_text}
 use Rattle.asp_model.specs.Term.{Loc, Var, Tree, Trees, node, none, more, binders, child_count, has_text, Environment, location_of, without, variable_or, put_in, put_below, moved, moved_below}
 use Rattle.asp_model.specs.Readable.{HasArity}
 use Rattle.laws.proofs.NameLemmas.{none_true}
-use Rattle.sound_programs.specs.Sound.{IsSound, AreSound}
+use Rattle.sound_programs.specs.Proper.{IsProper, AreProper}
 
 -- Texts
 
@@ -46,17 +46,17 @@ within_both zs xs ys w x e = text_both x zs ys ∙ ⊎_elim
     (or_cases (has_text x zs) (has_text x xs) (sym (text_both x zs xs) ∙ e))
 
 mutual
-  pub wider : (xs ys : List Text) → Within xs ys → (t : Tree) → IsSound xs t → IsSound ys t
+  pub wider : (xs ys : List Text) → Within xs ys → (t : Tree) → IsProper xs t → IsProper ys t
   wider xs ys w (node (Var x) ts) h = (w x h.0, h.1, wider_below xs ys w [] ts h.2)
   wider xs ys w (node hd ts) h = (h.0, h.1, wider_below xs ys w (binders hd) ts h.2)
 
-  pub wider_below : (xs ys : List Text) → Within xs ys → (names : List (List Text)) (ts : Trees) → AreSound xs names ts → AreSound ys names ts
+  pub wider_below : (xs ys : List Text) → Within xs ys → (names : List (List Text)) (ts : Trees) → AreProper xs names ts → AreProper ys names ts
   wider_below xs ys w names none h = tt
   wider_below xs ys w [] (more t ts) h = (wider xs ys w t h.0, wider_below xs ys w [] ts h.1)
   wider_below xs ys w (zs ∷ names) (more t ts) h = (wider (zs ++ xs) (zs ++ ys) (within_both zs xs ys w) t h.0, wider_below xs ys w names ts h.1)
 
--- what is sound where nothing is bound is so under all names
-pub from_none : (ys : List Text) (t : Tree) → IsSound [] t → IsSound ys t
+-- what is proper where nothing is bound is so under all names
+pub from_none : (ys : List Text) (t : Tree) → IsProper [] t → IsProper ys t
 from_none ys = wider [] ys (λ x e. none_true e)
 
 -- Locations in place of names
@@ -85,19 +85,19 @@ put_count bs names none = refl
 put_count bs [] (more t ts) = ap (λ k. suc k) (put_count bs [] ts)
 put_count bs (xs ∷ names) (more t ts) = ap (λ k. suc k) (put_count bs names ts)
 
-found_sound : (ys : List Text) (x : Text) (o : Option ℕ) → (o ≡ None → has_text x ys ≡ true) → IsSound ys (variable_or x o)
-found_sound ys x None h = (h refl, refl, tt)
-found_sound ys x (Some n) h = (refl, refl, tt)
+found_proper : (ys : List Text) (x : Text) (o : Option ℕ) → (o ≡ None → has_text x ys ≡ true) → IsProper ys (variable_or x o)
+found_proper ys x None h = (h refl, refl, tt)
+found_proper ys x (Some n) h = (refl, refl, tt)
 
 mutual
-  pub put_sound : (bs : Environment) (xs ys : List Text) → Leaves bs xs ys → (t : Tree) → IsSound xs t → IsSound ys (put_in bs t)
-  put_sound bs xs ys w (node (Var x) ts) h = found_sound ys x (location_of x bs) (w x h.0)
-  put_sound bs xs ys w (node hd ts) h = (h.0, subst (HasArity hd) (sym (put_count bs (binders hd) ts)) h.1, put_below_sound bs xs ys w (binders hd) ts h.2)
+  pub put_proper : (bs : Environment) (xs ys : List Text) → Leaves bs xs ys → (t : Tree) → IsProper xs t → IsProper ys (put_in bs t)
+  put_proper bs xs ys w (node (Var x) ts) h = found_proper ys x (location_of x bs) (w x h.0)
+  put_proper bs xs ys w (node hd ts) h = (h.0, subst (HasArity hd) (sym (put_count bs (binders hd) ts)) h.1, put_below_proper bs xs ys w (binders hd) ts h.2)
 
-  put_below_sound : (bs : Environment) (xs ys : List Text) → Leaves bs xs ys → (names : List (List Text)) (ts : Trees) → AreSound xs names ts → AreSound ys names (put_below bs names ts)
-  put_below_sound bs xs ys w names none h = tt
-  put_below_sound bs xs ys w [] (more t ts) h = (put_sound bs xs ys w t h.0, put_below_sound bs xs ys w [] ts h.1)
-  put_below_sound bs xs ys w (zs ∷ names) (more t ts) h = (put_sound (without zs bs) (zs ++ xs) (zs ++ ys) (leaves_inside bs zs xs ys w) t h.0, put_below_sound bs xs ys w names ts h.1)
+  put_below_proper : (bs : Environment) (xs ys : List Text) → Leaves bs xs ys → (names : List (List Text)) (ts : Trees) → AreProper xs names ts → AreProper ys names (put_below bs names ts)
+  put_below_proper bs xs ys w names none h = tt
+  put_below_proper bs xs ys w [] (more t ts) h = (put_proper bs xs ys w t h.0, put_below_proper bs xs ys w [] ts h.1)
+  put_below_proper bs xs ys w (zs ∷ names) (more t ts) h = (put_proper (without zs bs) (zs ++ xs) (zs ++ ys) (leaves_inside bs zs xs ys w) t h.0, put_below_proper bs xs ys w names ts h.1)
 
 -- Other locations
 
@@ -106,11 +106,11 @@ moved_count f none = refl
 moved_count f (more t ts) = ap (λ k. suc k) (moved_count f ts)
 
 mutual
-  pub moved_sound : (f : ℕ → ℕ) (xs : List Text) (t : Tree) → IsSound xs t → IsSound xs (moved f t)
-  moved_sound f xs (node (Loc n) ts) h = (refl, moved_count f ts ∙ h.1, moved_below_sound f xs [] ts h.2)
-  moved_sound f xs (node hd ts) h = (h.0, subst (HasArity hd) (sym (moved_count f ts)) h.1, moved_below_sound f xs (binders hd) ts h.2)
+  pub moved_proper : (f : ℕ → ℕ) (xs : List Text) (t : Tree) → IsProper xs t → IsProper xs (moved f t)
+  moved_proper f xs (node (Loc n) ts) h = (refl, moved_count f ts ∙ h.1, moved_below_proper f xs [] ts h.2)
+  moved_proper f xs (node hd ts) h = (h.0, subst (HasArity hd) (sym (moved_count f ts)) h.1, moved_below_proper f xs (binders hd) ts h.2)
 
-  moved_below_sound : (f : ℕ → ℕ) (xs : List Text) (names : List (List Text)) (ts : Trees) → AreSound xs names ts → AreSound xs names (moved_below f ts)
-  moved_below_sound f xs names none h = tt
-  moved_below_sound f xs [] (more t ts) h = (moved_sound f xs t h.0, moved_below_sound f xs [] ts h.1)
-  moved_below_sound f xs (zs ∷ names) (more t ts) h = (moved_sound f (zs ++ xs) t h.0, moved_below_sound f xs names ts h.1)
+  moved_below_proper : (f : ℕ → ℕ) (xs : List Text) (names : List (List Text)) (ts : Trees) → AreProper xs names ts → AreProper xs names (moved_below f ts)
+  moved_below_proper f xs names none h = tt
+  moved_below_proper f xs [] (more t ts) h = (moved_proper f xs t h.0, moved_below_proper f xs [] ts h.1)
+  moved_below_proper f xs (zs ∷ names) (more t ts) h = (moved_proper f (zs ++ xs) t h.0, moved_below_proper f xs names ts h.1)

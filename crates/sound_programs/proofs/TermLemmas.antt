@@ -1,5 +1,5 @@
--- A sound term splits into sound contexts and a redex with the places that its head asks for, and is put together
--- from sound parts.
+-- A proper term splits into proper contexts and a redex with the places that its head asks for, and is put together
+-- from proper parts.
 use Rattle.std.specs.Prelude.{◌≡◌, ◌≤◌, ℕ, zero, suc, ◌+◌, Bool, true, false, List, [], ◌∷◌, ◌++◌, length}
 use Rattle.std.proofs.Common.{refl, sym, ap, subst, ◌∙◌, arith, length-append}
 use Rattle.asp_model.specs.Names.{Text}
@@ -9,15 +9,15 @@ use Rattle.asp_model.specs.Readable.{HasArity}
 use Rattle.asp_model.specs.Split.{Context, Redex, Split, Stands, Splits, split, split_below, reduced_count, plugged, plug}
 use Rattle.laws.specs.Linked.{Each}
 use Rattle.laws.proofs.EachLemmas.{each_both}
-use Rattle.sound_programs.specs.Sound.{IsSound, AreSound, IsSoundContext}
+use Rattle.sound_programs.specs.Proper.{IsProper, AreProper, IsProperContext}
 use Rattle.sound_programs.proofs.ScopeLemmas.{from_none}
 
-pub loc_sound : (xs : List Text) (n : ℕ) → IsSound xs (loc n)
-loc_sound xs n = (refl, refl, tt)
+pub loc_proper : (xs : List Text) (n : ℕ) → IsProper xs (loc n)
+loc_proper xs n = (refl, refl, tt)
 
 -- Another term at a place among those below a node
 
-refill : (bound : List Text) (names : List (List Text)) (ns : List ℕ) (t u : Tree) (ts : Trees) → IsSound [] u → AreSound bound names (locs_then ns (more t ts)) → AreSound bound names (locs_then ns (more u ts))
+refill : (bound : List Text) (names : List (List Text)) (ns : List ℕ) (t u : Tree) (ts : Trees) → IsProper [] u → AreProper bound names (locs_then ns (more t ts)) → AreProper bound names (locs_then ns (more u ts))
 refill bound [] [] t u ts s h = (from_none bound u s, h.1)
 refill bound (xs ∷ names) [] t u ts s h = (from_none (xs ++ bound) u s, h.1)
 refill bound [] (n ∷ ns) t u ts s h = (h.0, refill bound [] ns t u ts s h.1)
@@ -31,16 +31,16 @@ refilled_count : (ns : List ℕ) (t u : Tree) (ts : Trees) → child_count (locs
 refilled_count ns t u ts = count_behind ns (more t ts) ∙ sym (count_behind ns (more u ts))
 
 -- a node, with another term at a place
-refilled : (h : Head) (ns : List ℕ) (t u : Tree) (ts : Trees) → IsSound [] u → IsSound [] (node h (locs_then ns (more t ts))) → IsSound [] (node h (locs_then ns (more u ts)))
+refilled : (h : Head) (ns : List ℕ) (t u : Tree) (ts : Trees) → IsProper [] u → IsProper [] (node h (locs_then ns (more t ts))) → IsProper [] (node h (locs_then ns (more u ts)))
 refilled h ns t u ts s g = (g.0, subst (HasArity h) (refilled_count ns t u ts) g.1, refill [] (binders h) ns t u ts s g.2)
 
 locs_more : (ns : List ℕ) (n : ℕ) (ts : Trees) → locs_then ns (more (loc n) ts) ≡ locs_then (ns ++ n ∷ []) ts
 locs_more [] n ts = refl
 locs_more (m ∷ ns) n ts = ap (more (loc m)) (locs_more ns n ts)
 
-pub plug_sound : (cs : List Context) (t : Tree) → Each IsSoundContext cs → IsSound [] t → IsSound [] (plug cs t)
-plug_sound [] t h g = g
-plug_sound (c ∷ cs) t h g = plug_sound cs (plugged c t) h.1 (refilled c.head c.before (loc 0) t c.behind g h.0)
+pub plug_proper : (cs : List Context) (t : Tree) → Each IsProperContext cs → IsProper [] t → IsProper [] (plug cs t)
+plug_proper [] t h g = g
+plug_proper (c ∷ cs) t h g = plug_proper cs (plugged c t) h.1 (refilled c.head c.before (loc 0) t c.behind g h.0)
 
 -- What is reduced in place
 
@@ -93,25 +93,25 @@ abbrev pub is_place : Head → Bool
 is_place (Loc n) = true
 is_place h = false
 
--- as many places as are reduced, in a sound node
-pub record IsSoundRedex (r : Redex) : Type 0 where
+-- as many places as are reduced, in a proper node
+pub record IsProperRedex (r : Redex) : Type 0 where
   pub reduced : is_place r.head ≡ false
-  pub node : IsSound [] (node r.head (locs_then r.places r.behind))
+  pub node : IsProper [] (node r.head (locs_then r.places r.behind))
   pub count : length r.places ≡ reduced_count r.head (locs_then r.places r.behind)
 
-abbrev pub SoundSplit : Split → Type 0
-SoundSplit (Stands place) = Unit {0}
-SoundSplit (Splits contexts redex) = Each IsSoundContext contexts × IsSoundRedex redex
+abbrev pub ProperSplit : Split → Type 0
+ProperSplit (Stands place) = Unit {0}
+ProperSplit (Splits contexts redex) = Each IsProperContext contexts × IsProperRedex redex
 
-goes_on : (h : Head) (places : List ℕ) (t : Tree) (ts : Trees) (next : List ℕ → Split) → IsSound [] (node h (locs_then places (more t ts))) → ((p : ℕ) → SoundSplit (next (places ++ p ∷ []))) → (x : Split) → SoundSplit x → SoundSplit (elim x [
+goes_on : (h : Head) (places : List ℕ) (t : Tree) (ts : Trees) (next : List ℕ → Split) → IsProper [] (node h (locs_then places (more t ts))) → ((p : ℕ) → ProperSplit (next (places ++ p ∷ []))) → (x : Split) → ProperSplit x → ProperSplit (elim x [
   | Stands p ↦ next (places ++ p ∷ [])
   | Splits contexts redex ↦ Splits (contexts ++ record { head = h; before = places; behind = ts } ∷ []) redex
 ])
 goes_on h places t ts next g to (Stands p) x = to p
-goes_on h places t ts next g to (Splits contexts redex) x = (each_both IsSoundContext contexts (record { head = h; before = places; behind = ts } ∷ []) x.0 (refilled h places t (loc 0) ts (loc_sound [] 0) g, tt), x.1)
+goes_on h places t ts next g to (Splits contexts redex) x = (each_both IsProperContext contexts (record { head = h; before = places; behind = ts } ∷ []) x.0 (refilled h places t (loc 0) ts (loc_proper [] 0) g, tt), x.1)
 
-one_more : (h : Head) (places : List ℕ) (t : Tree) (ts : Trees) (p : ℕ) → IsSound [] (node h (locs_then places (more t ts))) → IsSound [] (node h (locs_then (places ++ p ∷ []) ts))
-one_more h places t ts p g = subst (λ us. IsSound [] (node h us)) (locs_more places p ts) (refilled h places t (loc p) ts (loc_sound [] p) g)
+one_more : (h : Head) (places : List ℕ) (t : Tree) (ts : Trees) (p : ℕ) → IsProper [] (node h (locs_then places (more t ts))) → IsProper [] (node h (locs_then (places ++ p ∷ []) ts))
+one_more h places t ts p g = subst (λ us. IsProper [] (node h us)) (locs_more places p ts) (refilled h places t (loc p) ts (loc_proper [] p) g)
 
 still_reduced : (h : Head) (places : List ℕ) (t : Tree) (ts : Trees) (p n : ℕ) → length places + suc n ≡ reduced_count h (locs_then places (more t ts)) → length (places ++ p ∷ []) + n ≡ reduced_count h (locs_then (places ++ p ∷ []) ts)
 still_reduced h places t ts p n e =
@@ -119,14 +119,14 @@ still_reduced h places t ts p n e =
     omega (arith, e, same, length-append places (p ∷ []))
 
 mutual
-  pub split_sound : (t : Tree) → IsSound [] t → SoundSplit (split t)
-  split_sound (node (Loc n) ts) g = tt
-  split_sound (node h ts) g = below_splits h (reduced_count h ts) [] ts (binders h) g (omega arith) refl (reduced_within h ts g.1) (binds_none h ts) g.2
+  pub split_proper : (t : Tree) → IsProper [] t → ProperSplit (split t)
+  split_proper (node (Loc n) ts) g = tt
+  split_proper (node h ts) g = below_splits h (reduced_count h ts) [] ts (binders h) g (omega arith) refl (reduced_within h ts g.1) (binds_none h ts) g.2
 
-  below_splits : (h : Head) (n : ℕ) (places : List ℕ) (ts : Trees) (names : List (List Text)) → IsSound [] (node h (locs_then places ts)) → length places + n ≡ reduced_count h (locs_then places ts) → is_place h ≡ false → n ≤ child_count ts → BindsNone n names → AreSound [] names ts → SoundSplit (split_below h n places ts)
+  below_splits : (h : Head) (n : ℕ) (places : List ℕ) (ts : Trees) (names : List (List Text)) → IsProper [] (node h (locs_then places ts)) → length places + n ≡ reduced_count h (locs_then places ts) → is_place h ≡ false → n ≤ child_count ts → BindsNone n names → AreProper [] names ts → ProperSplit (split_below h n places ts)
   below_splits h n places none names g e q le b k = (tt, record { reduced = q; node = g; count = omega (arith, e, le) })
   below_splits h zero places (more t ts) names g e q le b k = (tt, record { reduced = q; node = g; count = omega (arith, e) })
   below_splits h (suc n) places (more t ts) [] g e q le b k =
-      goes_on h places t ts (λ ns. split_below h n ns ts) g (λ p. below_splits h n (places ++ p ∷ []) ts [] (one_more h places t ts p g) (still_reduced h places t ts p n e) q (omega (arith, le)) (none_bound n) k.1) (split t) (split_sound t k.0)
+      goes_on h places t ts (λ ns. split_below h n ns ts) g (λ p. below_splits h n (places ++ p ∷ []) ts [] (one_more h places t ts p g) (still_reduced h places t ts p n e) q (omega (arith, le)) (none_bound n) k.1) (split t) (split_proper t k.0)
   below_splits h (suc n) places (more t ts) (xs ∷ names) g e q le b k =
-      goes_on h places t ts (λ ns. split_below h n ns ts) g (λ p. below_splits h n (places ++ p ∷ []) ts names (one_more h places t ts p g) (still_reduced h places t ts p n e) q (omega (arith, le)) b.1 k.1) (split t) (split_sound t (subst (λ ys. IsSound (ys ++ []) t) b.0 k.0))
+      goes_on h places t ts (λ ns. split_below h n ns ts) g (λ p. below_splits h n (places ++ p ∷ []) ts names (one_more h places t ts p g) (still_reduced h places t ts p n e) q (omega (arith, le)) b.1 k.1) (split t) (split_proper t (subst (λ ys. IsProper (ys ++ []) t) b.0 k.0))

@@ -1,4 +1,4 @@
 -- in reading order
-pub mod Sound
+pub mod Proper
 pub mod Programs
 pub mod Worked

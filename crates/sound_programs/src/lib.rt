@@ -6,6 +6,7 @@ mod programs;
 mod worked;
 
 pub use programs::{
-    done_have_ended, none_asks_again, none_breaks, programs_are_sound, reached_are_whole,
+    moves_keep_whole, programs_are_proper, reached_are_whole, reached_never_break, start_is_whole,
+    whole_never_break,
 };
 pub use worked::{readable_programs, unreadable_programs};

@@ -1,28 +1,34 @@
 //! What programs that were read and checked reach.
 
-ghost use Rattle.sound_programs.specs.Programs.{ProgramsAreSound, ReachedAreWhole, NoneBreaks, NoneAsksAgain, DoneHaveEnded};
+ghost use Rattle.sound_programs.specs.Programs.{ProgramsAreProper, StartIsWhole, MovesKeepWhole, ReachedAreWhole, WholeNeverBreak, ReachedNeverBreak};
 
-/// A program that was read and checked is sound.
-pub fn programs_are_sound()
-    ensures { ProgramsAreSound }
+/// A program that was read and checked is a proper term.
+pub fn programs_are_proper()
+    ensures { ProgramsAreProper }
 {}
 
-/// All that it reaches is closed in every sense.
+/// Its start is closed in every sense.
+pub fn start_is_whole()
+    ensures { StartIsWhole }
+{}
+
+/// Each move keeps that.
+pub fn moves_keep_whole()
+    ensures { MovesKeepWhole }
+{}
+
+/// All that the program reaches is closed in every sense.
 pub fn reached_are_whole()
     ensures { ReachedAreWhole }
 {}
 
-/// No activity of it comes to a broken redex.
-pub fn none_breaks()
-    ensures { NoneBreaks }
+/// What is so comes to no broken redex, asks for no operand that is unpacked, and is done only at
+/// an end.
+pub fn whole_never_break()
+    ensures { WholeNeverBreak }
 {}
 
-/// Where strict operands are unpacked, none of them is asked for again.
-pub fn none_asks_again()
-    ensures { NoneAsksAgain }
-{}
-
-/// Who is done has ended: its term is a place, and no service is suspended.
-pub fn done_have_ended()
-    ensures { DoneHaveEnded }
+/// So is it of all that a program which was read and checked reaches.
+pub fn reached_never_break()
+    ensures { ReachedNeverBreak }
 {}

@@ -1,4 +1,4 @@
-use Rattle.sound_programs.proofs.SoundLaws.{reached_are_whole}
+use Rattle.sound_programs.proofs.WholeLaws.{reached_are_whole}
 use Rattle.sound_programs.proofs.programs.reached_are_whole.Goals as goal
 
 pub returns : goal.returns
