@@ -1,0 +1,67 @@
+//! The labels that a `serve` asks for, as an ordered set.
+
+ghost use Rattle.std.specs.Prelude.{◌≡◌, IfOk, map};
+ghost use Rattle.asp_model.specs.Intent.{method_labels};
+ghost use Rattle.asp_model.specs.Shapes.{cell_shape};
+ghost use Rattle.asp_model.specs.Store.{Object};
+ghost use Rattle.asp_model.specs.Term.{has_text};
+ghost use Rattle.serve_rules.specs.Labels.{HaveSame, label_text, methods_of};
+
+use asp_model::{Label, Object};
+use std::alloc::{AllocError, Global};
+use std::collections::BTreeSet;
+use std::marker::Model;
+
+/// Labels, seen as the list of their texts in ascending order.
+#[derive(Drop)]
+pub struct LabelSet {
+    labels: BTreeSet<Label>,
+}
+
+impl Model for LabelSet {
+    ghost use Rattle.std.specs.Prelude.{List, map};
+    ghost use Rattle.asp_model.specs.Names.{Text};
+    ghost use Rattle.serve_rules.specs.Labels.{label_text};
+
+    ghost Value = { List Text };
+
+    ghost view = { λ s. map label_text s.labels.keys };
+}
+
+impl LabelSet {
+    /// The labels of an object's methods.
+    pub fn of_object(alloc: Global, object: &Object) -> Result<LabelSet, AllocError>
+        ensures labels { IfOk result (λ s. HaveSame s (methods_of object.now)) }
+    {
+        let mut labels = BTreeSet::new(alloc);
+        for method in &object.methods {
+            labels.insert(method.label.copy(alloc)?)?;
+        }
+        Ok(LabelSet { labels })
+    }
+
+    /// These labels.
+    pub fn of_labels(alloc: Global, labels: &[Label]) -> Result<LabelSet, AllocError>
+        ensures labels { IfOk result (λ s. HaveSame s (map label_text labels.now)) }
+    {
+        let mut set = BTreeSet::new(alloc);
+        for label in labels {
+            set.insert(label.copy(alloc)?)?;
+        }
+        Ok(LabelSet { labels: set })
+    }
+
+    /// Whether the set has a label.
+    pub fn has(&self, label: &Label) -> bool
+        ensures member { result ≡ has_text label.now.text self.now }
+    {
+        self.labels.contains(label)
+    }
+
+    /// The labels, in ascending order.
+    pub fn labels(&self) -> &BTreeSet<Label>
+        ensures labels { map label_text result.now.keys ≡ self.now }
+    {
+        &self.labels
+    }
+}
