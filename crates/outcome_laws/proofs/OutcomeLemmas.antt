@@ -6,6 +6,7 @@ use Rattle.std.proofs.lemmas.Bool.{and_from, and_parts, eqb-true}
 use Rattle.std.specs.FinMap.{find, is_sorted}
 use Rattle.std.specs.FinMap.Entries.{below_all}
 use Rattle.std.specs.Ordering.{is_lt}
+use Rattle.asp_model.specs.declared.limits.TheConstants.{MOST_REDUCTIONS}
 use Rattle.asp_model.specs.Names.{Name, FutureShape, main_name, name_cmp, same_name}
 use Rattle.asp_model.specs.Term.{Tree}
 use Rattle.asp_model.specs.Configuration.{RequestShape, Activity, Configuration, requests_of}
@@ -104,5 +105,5 @@ outcomes_are_well_formed program c s =
       main = main_first c c.activities entry.0 sorted (λ x i. there_is_named program c s.reached s.within x.0 (ap is_some (at x i))) entry.1 entry.2;
       ascending = ap (is_sorted name_cmp) (outcome_counts c) ∙ counts_sorted c.activities ∙ true_is (is_sorted name_cmp c.activities) sorted;
       sound = all_sound c c.activities (λ x i. sound_report program c s x (at x i));
-      within = subst (λ counts. total counts ≤ 10000000) (sym (outcome_counts c)) s.within;
+      within = subst (λ counts. total counts ≤ MOST_REDUCTIONS) (sym (outcome_counts c)) s.within;
     }

@@ -1,9 +1,11 @@
 -- The outcomes of runs, and their reports.
 use Rattle.std.specs.Prelude.{◌≡◌, ◌≤◌, ℕ, List, None, length}
+use Rattle.asp_model.specs.declared.limits.TheConstants.{MOST_REDUCTIONS}
 use Rattle.asp_model.specs.Names.{Name}
 use Rattle.asp_model.specs.Term.{Tree}
 use Rattle.asp_model.specs.Configuration.{Configuration, start}
 use Rattle.asp_model.specs.Step.{ListsShape}
+use Rattle.asp_model.specs.Status.{IsStuck}
 use Rattle.asp_model.specs.Replay.{CountsShape, total, lists_of, counts_of, plain_run, replay, Fits}
 use Rattle.asp_model.specs.Outcome.{OutcomeShape, outcome_of}
 use Rattle.asp_model.specs.WellFormed.{IsWellFormed}
@@ -23,7 +25,7 @@ NumbersAreWithin = (program : Tree) (c : Configuration) (n : Name) → IsReached
 pub record IsShown (program : Tree) (c : Configuration) : Type 0 where
   pub texts : HasPrintableTexts program
   pub reached : IsReached program c
-  pub within : total (counts_of c) ≤ 10000000
+  pub within : total (counts_of c) ≤ MOST_REDUCTIONS
 
 -- the outcome of such a configuration is well formed
 abbrev pub OutcomesAreWellFormed : Type 0
@@ -51,17 +53,31 @@ ReportsShowReplays = (program : Tree) (c : Configuration)
 -- a run without lists shows its replay, in whatever order its activities stepped
 abbrev pub RunsShowReplays : Type 0
 RunsShowReplays = (program : Tree) (names : List Name) (c : Configuration)
-    → HasPrintableTexts program → RunsTo None (start program) names c → length names ≤ 10000000
+    → HasPrintableTexts program → RunsTo None (start program) names c → length names ≤ MOST_REDUCTIONS
     → ShowsItsReplay program (outcome_of c)
 
 -- and so does the run of one thread
 abbrev pub PlainRunsShowReplays : Type 0
 PlainRunsShowReplays = (n : ℕ) (program : Tree)
-    → HasPrintableTexts program → n ≤ 10000000
+    → HasPrintableTexts program → n ≤ MOST_REDUCTIONS
     → ShowsItsReplay program (outcome_of (plain_run n program))
 
 -- the report of a replay reads as the lists and counts that it was made under, where they fit
 abbrev pub ReplayReportsAreRead : Type 0
 ReplayReportsAreRead = (program : Tree) (lists : ListsShape) (counts : CountsShape)
-    → HasPrintableTexts program → Fits program lists counts → total counts ≤ 10000000
+    → HasPrintableTexts program → Fits program lists counts → total counts ≤ MOST_REDUCTIONS
     → read_report (report_of (outcome_of (replay program lists counts))) ≡ Reads lists counts
+
+-- the report of a run of the program that ended: it reads as these sender lists, with counts that fit
+-- beside them, and is that of the replay under them, which is stuck
+pub record IsEndReport (program : Tree) (lists : ListsShape) (report : List ℕ) : Type 0 where
+  pub counts : CountsShape
+  pub read : read_report report ≡ Reads lists counts
+  pub fits : Fits program lists counts
+  pub same : report ≡ report_of (outcome_of (replay program lists counts))
+  pub stuck : IsStuck (replay program lists counts)
+
+-- two such reports with equal lists are equal bytes
+abbrev pub EndReportsAgree : Type 0
+EndReportsAgree = (program : Tree) (lists : ListsShape) (report other : List ℕ)
+    → IsEndReport program lists report → IsEndReport program lists other → report ≡ other

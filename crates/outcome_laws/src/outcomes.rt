@@ -1,6 +1,6 @@
 //! The outcomes of runs, and their reports.
 
-ghost use Rattle.outcome_laws.specs.Outcomes.{NumbersAreWithin, OutcomesAreWellFormed, PlainRunsShowReplays, ReplayReportsAreRead, ReportsOfRunsAreRead, ReportsShowReplays, RunsShowReplays};
+ghost use Rattle.outcome_laws.specs.Outcomes.{EndReportsAgree, NumbersAreWithin, OutcomesAreWellFormed, PlainRunsShowReplays, ReplayReportsAreRead, ReportsOfRunsAreRead, ReportsShowReplays, RunsShowReplays};
 
 /// No activity has created, or has sent, more often than all together have reduced.
 pub fn numbers_are_within()
@@ -36,4 +36,9 @@ pub fn plain_runs_show_replays()
 /// The report of a replay reads as the lists and counts that it was made under, where they fit.
 pub fn replay_reports_are_read()
     ensures { ReplayReportsAreRead }
+{}
+
+/// Two ended runs of one program whose reports read as equal sender lists print the same bytes.
+pub fn end_reports_agree()
+    ensures { EndReportsAgree }
 {}
