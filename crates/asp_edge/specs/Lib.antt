@@ -1,4 +1,5 @@
 -- in reading order
+pub mod Told
 pub mod Causes
 pub mod MemorySource
 pub mod MemorySink

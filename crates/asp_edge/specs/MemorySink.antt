@@ -1,6 +1,7 @@
 -- What a sink in memory holds, and what a write appends to it.
 use Rattle.std.specs.Prelude.{ℕ, ◌+◌, List, [], length, take, Bool, ◌&&◌, not, if◌then◌else◌, nat_eq, nat_le, Option, Some}
 use Rattle.std.specs.List.{list_any}
+use Rattle.asp_edge.specs.Told.{SinkTells}
 use Rattle.asp_edge.specs.Causes.{next_number}
 use Rattle.asp_edge.specs.declared.memory_sink.MemorySink.{MemorySink}
 
@@ -8,13 +9,17 @@ use Rattle.asp_edge.specs.declared.memory_sink.MemorySink.{MemorySink}
 abbrev pub sink_bytes : MemorySink → List ℕ
 sink_bytes s = s.bytes.items
 
--- what the sink tells
+-- the bytes that it tells: all of them
 abbrev pub told_bytes : MemorySink → Option (List ℕ)
 told_bytes s = Some (sink_bytes s)
 
 -- how often it failed
 abbrev pub sink_faults : MemorySink → ℕ
 sink_faults s = s.faults
+
+-- what the sink tells
+abbrev pub memory_told : MemorySink → SinkTells
+memory_told s = record { bytes = told_bytes s; faults = sink_faults s }
 
 -- the numbers of the writes that fail, how many bytes such a write keeps, and the room
 abbrev pub sink_intent : MemorySink → List ℕ × ℕ × ℕ

@@ -2,6 +2,7 @@
 //! not tell is left open, but each failure has its cause: the count of faults rose in that call.
 
 ghost use Rattle.std.specs.Prelude.{◌≡◌, ℕ, List, Option, Some, IfOk, IfErr, OnOk, OnErr, vec_len, ◌≤◌, ◌<◌};
+ghost use Rattle.asp_edge.specs.Told.{SourceTells, SinkTells};
 ghost use Rattle.asp_edge.specs.Causes.{Rose, IsContent, IsLonger, Appends, AppendsFront, FailedOnly};
 
 use thiserror::Error;
@@ -25,20 +26,19 @@ pub enum ReadError {
 
 /// A source of named contents.
 pub trait Source {
-    /// The bytes under a name, where the source tells them.
-    ghost content: { Self → List ℕ → Option (List ℕ) };
-
-    /// How often it failed. The count stays at the last number of 64 bits.
-    ghost faults: { Self → ℕ };
+    /// What it tells: the bytes under each name, where it tells them, and how often it failed. That
+    /// count stays at the last number of 64 bits.
+    ghost told: { Self → SourceTells };
 
     /// All bytes under a name, if there are at most so many.
     fn read(&mut self, name: &str, most: usize) -> Result<Vec<u8>, ReadError>
-        ensures same { content self.new ≡ content self.old }
-        ensures bytes { IfOk result (λ v. IsContent (content self.old name.now) v.items) }
+        ensures same { (told self.new).content ≡ (told self.old).content }
+        ensures bytes { IfOk result (λ v. IsContent ((told self.old).content name.now) v.items) }
         ensures short { IfOk result (λ v. vec_len v ≤ most) }
-        ensures long { IfErr result (IsLonger (content self.old name.now) most) }
-        ensures later { faults self.old ≤ faults self.new }
-        ensures cause { IfErr result (FailedOnly (Rose (faults self.old) (faults self.new))) };
+        ensures long { IfErr result (IsLonger ((told self.old).content name.now) most) }
+        ensures later { (told self.old).faults ≤ (told self.new).faults }
+        ensures cause { IfErr result
+            (FailedOnly (Rose (told self.old).faults (told self.new).faults)) };
 }
 
 /// The sink took a front part of a piece, and no more.
@@ -48,16 +48,16 @@ pub struct WriteFailed;
 
 /// A sink of bytes.
 pub trait Sink {
-    /// The bytes taken so far, where the sink tells them.
-    ghost bytes: { Self → Option (List ℕ) };
-
-    /// How often it failed. The count stays at the last number of 64 bits.
-    ghost faults: { Self → ℕ };
+    /// What it tells: the bytes taken so far, where it tells them, and how often it failed. That
+    /// count stays at the last number of 64 bits.
+    ghost told: { Self → SinkTells };
 
     /// Appends the whole piece, or fails after a front part of it.
     fn write(&mut self, piece: &[u8]) -> Result<(), WriteFailed>
-        ensures all { OnOk result (Appends (bytes self.old) (bytes self.new) piece.now) }
-        ensures front { OnErr result (AppendsFront (bytes self.old) (bytes self.new) piece.now) }
-        ensures later { faults self.old ≤ faults self.new }
-        ensures cause { OnErr result (Rose (faults self.old) (faults self.new)) };
+        ensures all { OnOk result
+            (Appends (told self.old).bytes (told self.new).bytes piece.now) }
+        ensures front { OnErr result
+            (AppendsFront (told self.old).bytes (told self.new).bytes piece.now) }
+        ensures later { (told self.old).faults ≤ (told self.new).faults }
+        ensures cause { OnErr result (Rose (told self.old).faults (told self.new).faults) };
 }

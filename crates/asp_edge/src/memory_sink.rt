@@ -71,15 +71,14 @@ impl MemorySink {
 impl Sink for MemorySink {
     ghost use Rattle.std.specs.Prelude.{◌≡◌, ◌≤◌, ◌++◌, OnOk, OnErr, is_ok, not};
     ghost use Rattle.asp_edge.specs.Causes.{Rose, next_number, counted, Appends, AppendsFront};
-    ghost use Rattle.asp_edge.specs.MemorySink.{told_bytes, sink_bytes, sink_faults, sink_intent, next_write, takes_all, taken_of};
+    ghost use Rattle.asp_edge.specs.MemorySink.{memory_told, told_bytes, sink_bytes, sink_faults, sink_intent, next_write, takes_all, taken_of};
 
-    ghost bytes = { told_bytes };
-
-    ghost faults = { sink_faults };
+    ghost told = { memory_told };
 
     fn write(&mut self, piece: &[u8]) -> Result<(), WriteFailed>
         ensures all { OnOk result (Appends (told_bytes self.old) (told_bytes self.new) piece.now) }
-        ensures front { OnErr result (AppendsFront (told_bytes self.old) (told_bytes self.new) piece.now) }
+        ensures front { OnErr result
+            (AppendsFront (told_bytes self.old) (told_bytes self.new) piece.now) }
         ensures later { sink_faults self.old ≤ sink_faults self.new }
         ensures cause { OnErr result (Rose (sink_faults self.old) (sink_faults self.new)) }
 

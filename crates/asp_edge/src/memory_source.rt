@@ -2,7 +2,7 @@
 
 ghost use Rattle.std.specs.Prelude.{◌≡◌, ◌≤◌, Some, IfOk, IfErr, option_map, vec_len};
 ghost use Rattle.asp_edge.specs.Causes.{Rose, IsContent, IsLonger, FailedOnly, TakesOneMore, is_failed, next_number, counted};
-ghost use Rattle.asp_edge.specs.MemorySource.{content_of, told_content, source_faults, failing_reads, next_read, read_fails};
+ghost use Rattle.asp_edge.specs.MemorySource.{content_of, memory_told, told_content, source_faults, failing_reads, next_read, read_fails};
 
 use crate::{ReadError, Source};
 use asp_model::Word;
@@ -73,9 +73,7 @@ fn find<'a>(files: &'a [(Word, Vec<u8>)], name: &str) -> Option<&'a Vec<u8>>
 }
 
 impl Source for MemorySource {
-    ghost content = { told_content };
-
-    ghost faults = { source_faults };
+    ghost told = { memory_told };
 
     fn read(&mut self, name: &str, most: usize) -> Result<Vec<u8>, ReadError>
         ensures same { told_content self.new ≡ told_content self.old }

@@ -1,9 +1,9 @@
 //! The files and the standard streams of the system. They count each fault of the system.
 
-ghost use Rattle.std.specs.Prelude.{None, ◌≡◌, ◌≤◌, ◌<◌, ◌^◌, ◌-◌, ◌+◌, IfOk, IfErr, length, take, vec_len};
+ghost use Rattle.std.specs.Prelude.{◌≡◌, ◌≤◌, ◌<◌, ◌^◌, ◌-◌, ◌+◌, IfOk, IfErr, length, take, vec_len};
 ghost use Rattle.std.specs.Io.KnownBytes as known;
 ghost use Rattle.asp_edge.specs.Causes.{IsContent, IsLonger, TakesOneMore, is_failed};
-ghost use Rattle.asp_edge.specs.System.{file_faults, stream_of, stream_faults};
+ghost use Rattle.asp_edge.specs.System.{file_faults, files_told, stream_of, stream_faults, stream_told};
 
 use crate::{ReadError, Sink, Source, WriteFailed};
 use std::alloc::Global;
@@ -70,9 +70,7 @@ fn read_all<T: Read>(alloc: Global, file: &mut T, most: usize) -> Result<Vec<u8>
 }
 
 impl<'a, R: Files + AllocGlobal> Source for FileSource<'a, R> {
-    ghost content = { λ s name. None };
-
-    ghost faults = { λ s. file_faults s };
+    ghost told = { λ s. files_told s };
 
     fn read(&mut self, name: &str, most: usize) -> Result<Vec<u8>, ReadError> {
         let answer = self.read_file(name, most);
@@ -133,9 +131,7 @@ impl<W: Write> StdSink<W> {
 }
 
 impl<W: Write> Sink for StdSink<W> {
-    ghost bytes = { λ s. W.contents (stream_of s) };
-
-    ghost faults = { λ s. stream_faults s };
+    ghost told = { λ s. stream_told (W.contents (stream_of s)) s };
 
     fn write(&mut self, piece: &[u8]) -> Result<(), WriteFailed> {
         let mut done = 0;
