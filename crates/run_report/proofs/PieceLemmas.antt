@@ -9,7 +9,7 @@ use Rattle.asp_model.specs.WellFormed.{IsWellFormed}
 use Rattle.asp_model.specs.Report.{name_text, report_lines, text_of}
 use Rattle.asp_model.specs.ReadReport.{read_report, Reads}
 use Rattle.report_laws.proofs.ReadingLemmas.{report_is_read}
-use Rattle.run_report.specs.Dotted.{dotted}
+use Rattle.run_report.specs.Pieces.{dotted}
 
 -- one more item that gives a list of lines
 pub mapped_more : {X Y : Type 0} (f : Y → List (List ℕ)) (s : X → Y) (xs : List X) (i : ℕ) (x : X) → i < length xs → x ≡ get_or xs i x

@@ -1,2 +1,2 @@
-pub mod Dotted
+pub mod Pieces
 pub mod Summary

@@ -1,9 +1,9 @@
 //! The lines of a report one by one, without their line feeds.
 
-ghost use Rattle.std.specs.Prelude.{◌≡◌, ◌++◌, codes, string_bytes, IfOk, OnOk};
-ghost use Rattle.std.specs.Fmt.{decimal};
-ghost use Rattle.asp_model.specs.Report.{fault_text as text_of_fault, name_text, status_text, verdict_line as line_of_verdict, senders_line as line_of_senders, output_line as line_of_output};
+ghost use Rattle.std.specs.Prelude.{◌≡◌, string_bytes, IfOk, OnOk};
+ghost use Rattle.asp_model.specs.Report.{fault_text as text_of_fault, status_text, verdict_line as line_of_verdict, senders_line as line_of_senders, output_line as line_of_output};
 ghost use Rattle.asp_model.specs.Shapes.{fault_shape, line_shape, status_shape, verdict_shape};
+ghost use Rattle.run_report.specs.Pieces.{Adds, activity_text};
 
 use crate::names::{push_future, push_name};
 use asp_model::{ActivityName, Fault, Line, Status, Verdict};
@@ -27,7 +27,8 @@ pub fn activity_line(
     count: u64,
     status: &Status,
 ) -> Result<String, AllocError>
-    ensures activity { IfOk result (λ s. string_bytes s ≡ codes "activity " ++ name_text name.now ++ codes " " ++ decimal count ++ codes " " ++ status_text (status_shape status.now)) }
+    ensures activity { IfOk result (λ s. string_bytes s
+        ≡ activity_text name.now count (status_shape status.now)) }
 {
     let mut text = String::from_str(alloc, "activity ")?;
     push_name(&mut text, name)?;
@@ -63,7 +64,7 @@ pub fn output_line(alloc: Global, line: &Line) -> Result<String, AllocError>
 
 // What an activity does at the end.
 fn push_status(text: &mut String, status: &Status) -> Result<(), AllocError>
-    ensures { OnOk result (string_bytes text.new ≡ string_bytes text.old ++ status_text (status_shape status.now)) }
+    ensures { OnOk result (Adds text.old text.new (status_text (status_shape status.now))) }
 {
     match status {
         Status::Done => text.push_str("done"),

@@ -17,7 +17,8 @@ pub fn render(alloc: Global, outcome: &Outcome) -> Result<Vec<Word>, AllocError>
     ensures lines { IfOk result (λ v. v.items ≡ report_lines (outcome_shape outcome.now)) }
 
     // What is written is read again as what it was written from.
-    ensures read { IsWellFormed (outcome_shape outcome.now) → IfOk result (λ v. read_report (text_of v.items) ≡ Reads (lists_in (outcome_shape outcome.now)) (counts_in (outcome_shape outcome.now))) }
+    ensures read { let o = outcome_shape outcome.now in IsWellFormed o
+        → IfOk result (λ v. read_report (text_of v.items) ≡ Reads (lists_in o) (counts_in o)) }
 {
     all_lines(alloc, outcome)
 }
@@ -38,7 +39,8 @@ fn push_activities(
     lines: &mut Vec<Word>,
     activities: &[ActivityReport],
 ) -> Result<(), AllocError>
-    ensures { OnOk result (lines.new.items ≡ lines.old.items ++ flat_map activity_lines (map activity_shape activities.now)) }
+    ensures { OnOk result (lines.new.items
+        ≡ lines.old.items ++ flat_map activity_lines (map activity_shape activities.now)) }
 {
     for activity in activities {
         push_activity(alloc, lines, activity)?;
@@ -52,7 +54,8 @@ fn push_activity(
     lines: &mut Vec<Word>,
     activity: &ActivityReport,
 ) -> Result<(), AllocError>
-    ensures { OnOk result (lines.new.items ≡ lines.old.items ++ activity_lines (activity_shape activity.now)) }
+    ensures { OnOk result (lines.new.items
+        ≡ lines.old.items ++ activity_lines (activity_shape activity.now)) }
 {
     let line = activity_line(alloc, &activity.name, activity.count, &activity.status)?;
     lines.push(Word::new(line))?;
@@ -66,7 +69,8 @@ pub fn push_outputs(
     lines: &mut Vec<Word>,
     outputs: &[Line],
 ) -> Result<(), AllocError>
-    ensures outputs { OnOk result (lines.new.items ≡ lines.old.items ++ map line_of_output (map line_shape outputs.now)) }
+    ensures outputs { OnOk result (lines.new.items
+        ≡ lines.old.items ++ map line_of_output (map line_shape outputs.now)) }
 {
     for output in outputs {
         lines.push(Word::new(output_line(alloc, output)?))?;

@@ -43,7 +43,8 @@ fn push_main_outputs(
     lines: &mut Vec<Word>,
     activities: &[ActivityReport],
 ) -> Result<(), AllocError>
-    ensures { OnOk result (lines.new.items ≡ lines.old.items ++ main_lines (map activity_shape activities.now)) }
+    ensures { OnOk result (lines.new.items
+        ≡ lines.old.items ++ main_lines (map activity_shape activities.now)) }
 {
     let main = ActivityName::main(alloc)?;
     for activity in activities {

@@ -1,7 +1,7 @@
 use Rattle.std.proofs.Common.{◌≡◌, ◌++◌, take}
 use Rattle.std.specs.Prelude.{string_bytes}
 use Rattle.std.specs.List.{flat_map}
-use Rattle.run_report.specs.Dotted.{dotted}
+use Rattle.run_report.specs.Pieces.{dotted}
 use Rattle.run_report.proofs.names.push_numbers.Given as goal
 
 abbrev pub invariant-loop-number : goal.invariant-loop-number
