@@ -18,6 +18,14 @@ at_place [] p d h = absurd (omega arith)
 at_place (c ∷ cs) zero d h = refl
 at_place (c ∷ cs) (suc p) d h = at_place cs p d (omega arith)
 
+-- the last cell behind the others
+pub last_shape : (cs : List Cell) (c : Cell) → map cell_shape (cs ++ c ∷ []) ≡ map cell_shape cs ++ cell_shape c ∷ []
+last_shape cs c = map-append cell_shape cs (c ∷ [])
+
+-- a place of the cells is one of their shapes
+pub shape_within : (cs : List Cell) (p : ℕ) → p < length (map cell_shape cs) → p < length cs
+shape_within cs p lt = subst (λ n. p < n) (length-map cs cell_shape) lt
+
 pub cell_set : (cs : List Cell) (p : ℕ) (d : Cell) → map cell_shape (slice_set cs p d) ≡ with_cell (map cell_shape cs) p (cell_shape d)
 cell_set [] p d = refl
 cell_set (c ∷ cs) zero d = refl
@@ -68,10 +76,8 @@ last_same (w ∷ xs) (z ∷ ys) x y e =
     (λ i. head i ∷ rest.0 i, rest.1)
 
 -- the first cell at a place, and the others behind
-pub grafted_at : (old cs rest : List Cell) (first : Cell) (p : ℕ) → p < length old → 0 < length cs → drop 1 cs ++ take 1 cs ≡ rest ++ first ∷ [] → with_cell (map cell_shape (old ++ rest)) p (cell_shape first) ≡ with_cells_at (map cell_shape old) p (map cell_shape cs)
-grafted_at old [] rest first p lt some e = absurd (omega arith)
-grafted_at old (c ∷ cs) rest first p lt some e =
+pub grafted_at : (s : Store) (cs rest : List Cell) (first : Cell) (p : ℕ) → p < length s → 0 < length cs → drop 1 cs ++ take 1 cs ≡ rest ++ first ∷ [] → with_cell (s ++ map cell_shape rest) p (cell_shape first) ≡ with_cells_at s p (map cell_shape cs)
+grafted_at s [] rest first p lt some e = absurd (omega arith)
+grafted_at s (c ∷ cs) rest first p lt some e =
     let same = last_same cs rest c first e in
-    let within : p < length (map cell_shape old) = subst (λ n. p < n) (sym (length-map old cell_shape)) lt in
-    ap (λ (s : Store). with_cell s p (cell_shape first)) (map-append cell_shape old rest) ∙ with_cell-append (map cell_shape old) (map cell_shape rest) p (cell_shape first) within
-    ∙ (λ i. with_cell (map cell_shape old) p (cell_shape (sym same.1 i)) ++ map cell_shape (sym same.0 i))
+    with_cell-append s (map cell_shape rest) p (cell_shape first) lt ∙ (λ i. with_cell s p (cell_shape (sym same.1 i)) ++ map cell_shape (sym same.0 i))

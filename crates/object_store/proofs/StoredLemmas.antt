@@ -1,44 +1,29 @@
 -- The index of a store, after each change of its cells.
-use Rattle.std.proofs.Common.{◌≡◌, ℕ, ◌<◌, Bool, true, false, not, List, [], ◌∷◌, ◌++◌, length, map, slice_set, refl, sym, ap, subst, ◌∙◌, T}
+use Rattle.std.proofs.Common.{◌≡◌, ℕ, ◌<◌, Bool, true, false, not, List, [], ◌∷◌, ◌++◌, length, refl, sym, ap, subst, ◌∙◌, T}
 use Rattle.std.specs.Prelude.{◌&&◌}
-use Rattle.std.proofs.lemmas.List.{map-append, length-map}
 use Rattle.std.proofs.lemmas.Cmp.{eq_by_cmp_equiv, then_total, on_total, nat_cmp_total}
 use Rattle.std.specs.Cmp.{IsTotalOrder}
 use Rattle.std.specs.Cmp.Lexicographic.{nat_list_cmp_total}
 use Rattle.asp_model.specs.declared.name.FutureName.{FutureName}
-use Rattle.asp_model.specs.declared.store.Cell.{Cell}
 use Rattle.asp_model.specs.Names.{FutureShape, Text, same_future, future_cmp}
 use Rattle.asp_model.specs.Order.{same_future_same}
 use Rattle.asp_model.specs.Store.{CellShape, Store, Number, Object, Reference, Future, Group, cell, with_cell}
-use Rattle.asp_model.specs.Shapes.{cell_shape, future_shape}
+use Rattle.asp_model.specs.Shapes.{future_shape}
 use Rattle.object_store.specs.Holders.{is_future, is_one_future, holders}
 use Rattle.object_store.specs.Index.{ChangesWhere, IsAlike, IsIndexed, is_given_up, is_in_cell, with_place, without_place}
 use Rattle.object_store.specs.View.{IsObject, with_field_in}
 use Rattle.object_store.specs.declared.index.Index.{Index}
 use Rattle.object_store.proofs.IndexLemmas.{changed_so}
 use Rattle.object_store.proofs.HoldersLemmas.{added, left, replaced, exchanged}
-use Rattle.object_store.proofs.CellLemmas.{cell_set}
 
-abbrev shapes : List Cell → Store
-shapes cs = map cell_shape cs
+pub alike : (old new : Index) (s : Store) → IsIndexed old s → IsAlike old new → IsIndexed new s
+alike old new s h e = λ f. e f ∙ h f
 
-pub alike : (old new : Index) (cs : List Cell) → IsIndexed old cs → IsAlike old new → IsIndexed new cs
-alike old new cs h e = λ f. e f ∙ h f
+pub indexed_more : (old new : Index) (s : Store) (c : CellShape) → IsIndexed old s → ChangesWhere (is_in_cell c) (with_place (length s)) old new → IsIndexed new (s ++ c ∷ [])
+indexed_more old new s c h changes = λ f. changes f ∙ ap (changed_so (with_place (length s)) (is_in_cell c f)) (h f) ∙ sym (added (future_shape f) s c)
 
-last_shape : (cs : List Cell) (c : Cell) → shapes (cs ++ c ∷ []) ≡ shapes cs ++ cell_shape c ∷ []
-last_shape cs c = map-append cell_shape cs (c ∷ [])
-
-pub indexed_more : (old new : Index) (cs : List Cell) (c : Cell) → IsIndexed old cs → ChangesWhere (is_in_cell c) (with_place (length cs)) old new → IsIndexed new (cs ++ c ∷ [])
-indexed_more old new cs c h changes = λ f.
-    changes f ∙ ap (changed_so (with_place (length cs)) (is_in_cell c f)) (h f)
-    ∙ ap (λ n. changed_so (with_place n) (is_in_cell c f) (holders (future_shape f) (shapes cs))) (sym (length-map cs cell_shape))
-    ∙ sym (ap (holders (future_shape f)) (last_shape cs c) ∙ added (future_shape f) (shapes cs) (cell_shape c))
-
-pub indexed_less : (old new : Index) (cs : List Cell) (c : Cell) → IsIndexed old (cs ++ c ∷ []) → ChangesWhere (is_in_cell c) (without_place (length cs)) old new → IsIndexed new cs
-indexed_less old new cs c h changes = λ f.
-    changes f ∙ ap (changed_so (without_place (length cs)) (is_in_cell c f)) (h f ∙ ap (holders (future_shape f)) (last_shape cs c))
-    ∙ ap (λ n. changed_so (without_place n) (is_in_cell c f) (holders (future_shape f) (shapes cs ++ cell_shape c ∷ []))) (sym (length-map cs cell_shape))
-    ∙ left (future_shape f) (shapes cs) (cell_shape c)
+pub indexed_less : (old new : Index) (s : Store) (c : CellShape) → IsIndexed old (s ++ c ∷ []) → ChangesWhere (is_in_cell c) (without_place (length s)) old new → IsIndexed new s
+indexed_less old new s c h changes = λ f. changes f ∙ ap (changed_so (without_place (length s)) (is_in_cell c f)) (h f) ∙ left (future_shape f) s c
 
 future_cmp_total : IsTotalOrder future_cmp
 future_cmp_total = then_total (on_total (λ (f : FutureShape). f.by) nat_list_cmp_total) (on_total (λ (f : FutureShape). f.index) nat_cmp_total)
@@ -78,25 +63,19 @@ both_exchanged true false p xs = refl
 both_exchanged false true p xs = refl
 both_exchanged false false p xs = refl
 
-set_holders : (cs : List Cell) (p : ℕ) (c : Cell) (f : FutureName) → p < length cs → holders (future_shape f) (shapes (slice_set cs p c)) ≡ exchanged (is_future (future_shape f) (cell (shapes cs) p)) (is_in_cell c f) p (holders (future_shape f) (shapes cs))
-set_holders cs p c f lt =
-    let within : p < length (shapes cs) = subst (λ n. p < n) (sym (length-map cs cell_shape)) lt in
-    ap (holders (future_shape f)) (cell_set cs p c) ∙ replaced (future_shape f) (shapes cs) p (cell_shape c) within
-
 -- one cell in the place of another
-pub indexed_replaced : (old mid new : Index) (cs : List Cell) (p : ℕ) (c d : Cell) → p < length cs → cell (shapes cs) p ≡ cell_shape d → IsIndexed old cs → ChangesWhere (is_in_cell c) (with_place p) old mid → ChangesWhere (is_given_up d c) (without_place p) mid new → IsIndexed new (slice_set cs p c)
-indexed_replaced old mid new cs p c d lt here h first second = λ f.
-    let xs = holders (future_shape f) (shapes cs) in
+pub indexed_replaced : (old mid new : Index) (s : Store) (p : ℕ) (c d : CellShape) → p < length s → cell s p ≡ d → IsIndexed old s → ChangesWhere (is_in_cell c) (with_place p) old mid → ChangesWhere (is_given_up d c) (without_place p) mid new → IsIndexed new (with_cell s p c)
+indexed_replaced old mid new s p c d lt here h first second = λ f.
+    let xs = holders (future_shape f) s in
     second f ∙ ap (changed_so (without_place p) (is_given_up d c f)) (first f ∙ ap (changed_so (with_place p) (is_in_cell c f)) (h f))
     ∙ both_exchanged (is_in_cell d f) (is_in_cell c f) p xs
-    ∙ ap (λ b. exchanged b (is_in_cell c f) p xs) (sym (ap (is_future (future_shape f)) here)) ∙ sym (set_holders cs p c f lt)
+    ∙ ap (λ b. exchanged b (is_in_cell c f) p xs) (sym (ap (is_future (future_shape f)) here)) ∙ sym (replaced (future_shape f) s p c lt)
 
 -- the field of an object set
-pub indexed_object : (index : Index) (cs ds : List Cell) (p n : ℕ) (l : Text) → p < length cs → IsObject (cell (shapes cs) p) → shapes ds ≡ with_cell (shapes cs) p (with_field_in l n (cell (shapes cs) p)) → IsIndexed index cs → IsIndexed index ds
-indexed_object index cs ds p n l lt object e h = λ f.
-    let within : p < length (shapes cs) = subst (λ k. p < k) (sym (length-map cs cell_shape)) lt in
-    let both = no_future (future_shape f) (cell (shapes cs) p) l n object in
-    h f ∙ sym (ap (holders (future_shape f)) e ∙ replaced (future_shape f) (shapes cs) p (with_field_in l n (cell (shapes cs) p)) within ∙ (λ i. exchanged (both.0 i) (both.1 i) p (holders (future_shape f) (shapes cs))))
+pub indexed_object : (index : Index) (s t : Store) (p n : ℕ) (l : Text) → p < length s → IsObject (cell s p) → t ≡ with_cell s p (with_field_in l n (cell s p)) → IsIndexed index s → IsIndexed index t
+indexed_object index s t p n l lt object e h = λ f.
+    let both = no_future (future_shape f) (cell s p) l n object in
+    h f ∙ sym (ap (holders (future_shape f)) e ∙ replaced (future_shape f) s p (with_field_in l n (cell s p)) lt ∙ (λ i. exchanged (both.0 i) (both.1 i) p (holders (future_shape f) s)))
   where
     no_future : (f : FutureShape) (c : CellShape) (l : Text) (n : ℕ) → IsObject c → (is_future f c ≡ false) × (is_future f (with_field_in l n c) ≡ false)
     no_future f (Object fs ms) l n h = (refl, refl)
@@ -106,15 +85,15 @@ indexed_object index cs ds p n l lt object e h = λ f.
     no_future f (Group ms) l n h = absurd h
 
 -- what one future gives up to another
-pub given_up_same : (c d : Cell) (f : FutureName) → is_one_future (cell_shape c) (cell_shape d) ≡ true → is_given_up c d f ≡ false
-given_up_same c d f e = ap (λ x. is_future (future_shape f) x && not (is_in_cell d f)) (one_future_same (cell_shape c) (cell_shape d) e) ∙ nothing (is_in_cell d f)
+pub given_up_same : (c d : CellShape) (f : FutureName) → is_one_future c d ≡ true → is_given_up c d f ≡ false
+given_up_same c d f e = ap (λ x. is_future (future_shape f) x && not (is_in_cell d f)) (one_future_same c d e) ∙ nothing (is_in_cell d f)
   where
     nothing : (b : Bool) → (b && not b) ≡ false
     nothing true = refl
     nothing false = refl
 
-pub given_up_other : (c d : Cell) (f : FutureName) → is_one_future (cell_shape c) (cell_shape d) ≡ false → is_given_up c d f ≡ is_in_cell c f
-given_up_other c d f e = by (is_in_cell c f) (is_in_cell d f) (λ x y. clash (both_hold (future_shape f) (cell_shape c) (cell_shape d) x y) e)
+pub given_up_other : (c d : CellShape) (f : FutureName) → is_one_future c d ≡ false → is_given_up c d f ≡ is_in_cell c f
+given_up_other c d f e = by (is_in_cell c f) (is_in_cell d f) (λ x y. clash (both_hold (future_shape f) c d x y) e)
   where
     by : (had has : Bool) → (had ≡ true → has ≡ true → ⊥) → (had && not has) ≡ had
     by true true h = absurd (h refl refl)

@@ -1,5 +1,5 @@
 -- What an index says of each future.
-use Rattle.std.specs.Prelude.{◌≡◌, ℕ, Bool, true, false, not, ◌&&◌, List, [], Option, Some, None, map}
+use Rattle.std.specs.Prelude.{◌≡◌, ℕ, Bool, true, false, not, ◌&&◌, List, [], Option, Some, None}
 use Rattle.std.specs.BTreeMap.{is_at}
 use Rattle.std.specs.BTreeSet.{BTreeSet, insert_key}
 use Rattle.std.specs.Set.{remove_key}
@@ -7,8 +7,8 @@ use Rattle.std.specs.Ordering.{nat_cmp}
 use Rattle.indexmap.specs.IndexMap.{get}
 use Rattle.asp_model.specs.declared.name.FutureName.{FutureName}
 use Rattle.asp_model.specs.contracts.name.FutureNamePartialEq.TheImpl as equality
-use Rattle.asp_model.specs.declared.store.Cell.{Cell}
-use Rattle.asp_model.specs.Shapes.{cell_shape, future_shape}
+use Rattle.asp_model.specs.Shapes.{future_shape}
+use Rattle.asp_model.specs.Store.{CellShape, Store}
 use Rattle.object_store.specs.Holders.{holders, is_future}
 use Rattle.object_store.specs.declared.index.Index.{Index}
 
@@ -40,13 +40,13 @@ abbrev pub Changes : FutureName → (List ℕ → List ℕ) → (old new : Index
 Changes f = ChangesWhere (is_same f)
 
 -- the cell is the future
-abbrev pub is_in_cell : Cell → FutureName → Bool
-is_in_cell c f = is_future (future_shape f) (cell_shape c)
+abbrev pub is_in_cell : CellShape → FutureName → Bool
+is_in_cell c f = is_future (future_shape f) c
 
 -- the cell is the future, and the one that takes its place is not
-abbrev pub is_given_up : Cell → Cell → FutureName → Bool
+abbrev pub is_given_up : CellShape → CellShape → FutureName → Bool
 is_given_up c d f = is_in_cell c f && not (is_in_cell d f)
 
--- the index says where the cells hold each future
-abbrev pub IsIndexed : Index → List Cell → Type 0
-IsIndexed index cells = (f : FutureName) → places_in index f ≡ holders (future_shape f) (map cell_shape cells)
+-- the index says where the store holds each future
+abbrev pub IsIndexed : Index → Store → Type 0
+IsIndexed index store = (f : FutureName) → places_in index f ≡ holders (future_shape f) store

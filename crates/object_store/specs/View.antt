@@ -1,24 +1,14 @@
 -- What contracts see of a store, and how it changes.
-use Rattle.std.specs.Prelude.{ℕ, Bool, true, false, List, ◌++◌, map, Option, Some, None}
-use Rattle.asp_model.specs.declared.store.Cell.{Cell}
-use Rattle.asp_model.specs.declared.store.Cell.TheVariants as cells
+use Rattle.std.specs.Prelude.{ℕ, List, ◌++◌, Option, Some, None}
 use Rattle.asp_model.specs.Names.{Text}
 use Rattle.asp_model.specs.Store.{CellShape, Store, Object}
 use Rattle.asp_model.specs.Parcel.{with_cells_at}
 use Rattle.asp_model.specs.Contraction.{field_place, with_field}
-use Rattle.asp_model.specs.Shapes.{cell_shape}
 
--- the cells, and how many more may be added without memory
+-- the definitions' store, and how many more cells may be added without memory
 pub record StoreView : Type 0 where
-  pub cells : List Cell
+  pub cells : Store
   pub spare : ℕ
-
-abbrev pub store_of : StoreView → Store
-store_of v = map cell_shape v.cells
-
-abbrev pub holds_future : Cell → Bool
-holds_future (cells.Future f) = true
-holds_future c = false
 
 abbrev pub IsObject : CellShape → Type 0
 IsObject (Object fields methods) = Unit {0}

@@ -3,6 +3,7 @@
 ghost use Rattle.std.specs.Prelude.{◌≡◌, None, Some, [], false, IsOk, IsSome, IsTrue, OnErr, OnOk};
 ghost use Rattle.std.specs.Option.{option_copied};
 ghost use Rattle.indexmap.specs.IndexMap.{get};
+ghost use Rattle.asp_model.specs.Contraction.{is_future};
 ghost use Rattle.asp_model.specs.Shapes.{cell_shape};
 ghost use Rattle.object_store.specs.Holders.{is_one_future as one_future};
 ghost use Rattle.object_store.specs.Index.{
@@ -17,7 +18,6 @@ ghost use Rattle.object_store.specs.Index.{
   with_place,
   without_place,
 };
-ghost use Rattle.object_store.specs.View.{holds_future};
 
 use asp_model::{Cell, FutureName, Place};
 use indexmap::IndexMap;
@@ -64,13 +64,13 @@ impl Index {
     pub fn remove(&mut self, future: &FutureName, place: Place)
         ensures places { Changes future.now (without_place place) self.old self.new }
     {
-        if self.is_last(future, place) {
+        if self.take_out(future, place) {
             self.held.swap_remove(future);
         }
     }
 
     // Takes a place from those of a future, and answers whether it was the last one.
-    fn is_last(&mut self, future: &FutureName, place: Place) -> bool
+    fn take_out(&mut self, future: &FutureName, place: Place) -> bool
         ensures places { Changes future.now (without_place place) self.old self.new }
         ensures none { IsTrue result → places_in self.new future.now ≡ [] }
     {
@@ -85,9 +85,9 @@ impl Index {
 
     /// Notes the place of a cell, where it is a future.
     pub fn hold(&mut self, cell: &Cell, place: Place) -> Result<(), AllocError>
-        ensures places { OnOk result
-            (ChangesWhere (is_in_cell cell.now) (with_place place) self.old self.new) }
-        ensures room { holds_future cell.now ≡ false → IsOk result }
+        ensures places { let here = is_in_cell (cell_shape cell.now) in
+            OnOk result (ChangesWhere here (with_place place) self.old self.new) }
+        ensures room { is_future (cell_shape cell.now) ≡ false → IsOk result }
         ensures err { OnErr result (IsAlike self.old self.new) }
     {
         match cell {
@@ -98,7 +98,8 @@ impl Index {
 
     /// Forgets the place of a cell, where it is a future.
     pub fn release(&mut self, cell: &Cell, place: Place)
-        ensures places { ChangesWhere (is_in_cell cell.now) (without_place place) self.old self.new }
+        ensures places { let here = is_in_cell (cell_shape cell.now) in
+            ChangesWhere here (without_place place) self.old self.new }
     {
         if let Cell::Future(future) = cell {
             self.remove(future, place);
@@ -107,7 +108,8 @@ impl Index {
 
     /// Forgets the place of a cell that another one takes.
     pub fn give_up(&mut self, old: Cell, new: &Cell, place: Place)
-        ensures places { ChangesWhere (is_given_up old new.now) (without_place place) self.old self.new }
+        ensures places { let gone = is_given_up (cell_shape old) (cell_shape new.now) in
+            ChangesWhere gone (without_place place) self.old self.new }
     {
         if !is_one_future(&old, new) {
             self.release(&old, place);

@@ -22,16 +22,10 @@ ghost use Rattle.std.specs.Prelude.{
 ghost use Rattle.std.specs.Option.{IfSome, OnSome};
 ghost use Rattle.asp_model.specs.Store.{cell as cell_at, with_cell};
 ghost use Rattle.asp_model.specs.Parcel.{with_cells_at};
+ghost use Rattle.asp_model.specs.Contraction.{is_future};
 ghost use Rattle.asp_model.specs.Shapes.{cell_shape, future_shape};
 ghost use Rattle.object_store.specs.Holders.{holders};
-ghost use Rattle.object_store.specs.View.{
-  IsObject,
-  field_in,
-  grafted,
-  holds_future,
-  store_of,
-  with_field_in,
-};
+ghost use Rattle.object_store.specs.View.{IsObject, field_in, grafted, with_field_in};
 
 use crate::fields::set_in_cells;
 use crate::index::Index;
@@ -57,11 +51,10 @@ impl Model for Store {
 
     ghost Value = { StoreView };
 
-    ghost use Rattle.asp_model.specs.contracts.term.Term as term;
-    ghost use Rattle.asp_model.specs.contracts.term.Method as method;
     ghost use Rattle.std.specs.Coded.{codes};
+    ghost use Rattle.asp_model.specs.Codes.{coded_cell};
 
-    ghost coded = { Prim.hlevel (codes, term.the_row.coded, method.the_row.coded) };
+    ghost coded = { Prim.hlevel (codes, coded_cell) };
 
     ghost use Rattle.object_store.specs.Stored.{IsStored, view_of};
 
@@ -93,10 +86,9 @@ impl Store {
     /// Appends a cell, and answers its place.
     pub fn add(&mut self, cell: Cell) -> Result<Place, AllocError>
         ensures place { IfOk result (λ place. place ≡ length self.old.cells) }
-        ensures cells { OnOk result
-            (store_of self.new ≡ store_of self.old ++ cell_shape cell ∷ []) }
+        ensures cells { OnOk result (self.new.cells ≡ self.old.cells ++ cell_shape cell ∷ []) }
         ensures spare { OnOk result (self.new.spare ≡ self.old.spare - 1) }
-        ensures room { 0 < self.old.spare → holds_future cell ≡ false → IsOk result }
+        ensures room { 0 < self.old.spare → is_future (cell_shape cell) ≡ false → IsOk result }
         ensures err { OnErr result (self.new ≡ self.old) }
     {
         let place = self.len();
@@ -118,7 +110,7 @@ impl Store {
 
     pub fn cell(&self, loc: Place) -> &Cell
         requires within { loc < length self.now.cells }
-        ensures cell { cell_shape result.now ≡ cell_at (store_of self.now) loc }
+        ensures cell { cell_shape result.now ≡ cell_at self.now.cells loc }
     {
         &self.cells[loc as usize]
     }
@@ -127,12 +119,11 @@ impl Store {
     pub fn set_field(&mut self, loc: Place, label: &Label, to: Place) -> bool
         requires within { loc < length self.old.cells }
         requires to_within { to < length self.old.cells }
-        requires object { IsObject (cell_at (store_of self.old) loc) }
-        ensures found { let object = cell_at (store_of self.old) loc in
+        requires object { IsObject (cell_at self.old.cells loc) }
+        ensures found { let object = cell_at self.old.cells loc in
             result ≡ is_some (field_in label.now.text object) }
-        ensures cells { let s = store_of self.old in
-            store_of self.new
-            ≡ with_cell s loc (with_field_in label.now.text to (cell_at s loc)) }
+        ensures cells { let s = self.old.cells in
+            self.new.cells ≡ with_cell s loc (with_field_in label.now.text to (cell_at s loc)) }
         ensures spare { self.new.spare ≡ self.old.spare }
     {
         set_in_cells(&mut self.cells, loc, label, to)
@@ -141,8 +132,8 @@ impl Store {
     /// Puts a cell in the place of another.
     pub fn replace(&mut self, loc: Place, cell: Cell) -> Result<(), AllocError>
         requires within { loc < length self.old.cells }
-        ensures cells { OnOk result
-            (store_of self.new ≡ with_cell (store_of self.old) loc (cell_shape cell)) }
+        ensures cells { let s = self.old.cells in
+            OnOk result (self.new.cells ≡ with_cell s loc (cell_shape cell)) }
         ensures spare { self.new.spare ≡ self.old.spare }
         ensures err { OnErr result (self.new ≡ self.old) }
     {
@@ -159,8 +150,8 @@ impl Store {
         requires some { OnSome at (0 < length cells.items) }
         ensures length { IfOk result (λ place. place ≡ length self.old.cells) }
         ensures cells { OnOk result
-            (store_of self.new ≡ grafted (store_of self.old) at (map cell_shape cells.items)) }
-        ensures fits { OnOk result (length (store_of self.new) < 2 ^ 128) }
+            (self.new.cells ≡ grafted self.old.cells at (map cell_shape cells.items)) }
+        ensures fits { OnOk result (length self.new.cells < 2 ^ 128) }
         ensures err { OnErr result (self.new.cells ≡ self.old.cells) }
     {
         let before = self.len();
@@ -175,15 +166,15 @@ impl Store {
 
     /// The places whose cell is this future, ascending.
     pub fn holders_of(&self, future: &FutureName) -> &BTreeSet<Place>
-        ensures holders { result.now.keys ≡ holders (future_shape future.now) (store_of self.now) }
+        ensures holders { result.now.keys ≡ holders (future_shape future.now) self.now.cells }
     {
         self.index.places(future).unwrap_or(&self.none)
     }
 
     fn append(&mut self, cell: Cell) -> Result<(), AllocError>
-        ensures cells { OnOk result (self.new.cells ≡ self.old.cells ++ cell ∷ []) }
+        ensures cells { OnOk result (self.new.cells ≡ self.old.cells ++ cell_shape cell ∷ []) }
         ensures spare { OnOk result (self.new.spare ≡ self.old.spare - 1) }
-        ensures room { 0 < self.old.spare → holds_future cell ≡ false → IsOk result }
+        ensures room { 0 < self.old.spare → is_future (cell_shape cell) ≡ false → IsOk result }
         ensures err { OnErr result (self.new ≡ self.old) }
     {
         self.cells.reserve(1)?;
@@ -214,7 +205,8 @@ impl Store {
 
     // Appends all cells or none.
     fn append_all(&mut self, cells: Vec<Cell>) -> Result<(), AllocError>
-        ensures cells { OnOk result (self.new.cells ≡ self.old.cells ++ cells.items) }
+        ensures cells { let cs = map cell_shape cells.items in
+            OnOk result (self.new.cells ≡ self.old.cells ++ cs) }
         ensures err { OnErr result (self.new.cells ≡ self.old.cells) }
     {
         let count = self.cells.len();
@@ -232,8 +224,8 @@ impl Store {
     fn graft_at(&mut self, loc: Place, mut cells: Vec<Cell>) -> Result<(), AllocError>
         requires within { loc < length self.old.cells }
         requires some { 0 < length cells.items }
-        ensures cells { let s = store_of self.old in
-            OnOk result (store_of self.new ≡ with_cells_at s loc (map cell_shape cells.items)) }
+        ensures cells { let cs = map cell_shape cells.items in
+            OnOk result (self.new.cells ≡ with_cells_at self.old.cells loc cs) }
         ensures err { OnErr result (self.new.cells ≡ self.old.cells) }
     {
         let count = self.cells.len();

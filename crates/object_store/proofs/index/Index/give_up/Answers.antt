@@ -1,4 +1,5 @@
 use Rattle.std.proofs.Common.{◌∙◌, sym, ap}
+use Rattle.asp_model.specs.Shapes.{cell_shape}
 use Rattle.object_store.specs.Index.{places_in, without_place}
 use Rattle.object_store.proofs.IndexLemmas.{changed_so}
 use Rattle.object_store.proofs.StoredLemmas.{given_up_other, given_up_same}
@@ -8,10 +9,10 @@ pub returns-then-not-is_one_future : goal.returns-then-not-is_one_future
 returns-then-not-is_one_future c =
     let other = sym c.is_one_future.ensures ∙ c.if-not-is_one_future.true in
     record {
-      places = λ f. c.release.ensures.places f ∙ ap (λ b. changed_so (without_place c.args.place) b (places_in c.args.self.now f)) (sym (given_up_other c.args.old c.args.new.now f other));
+      places = λ f. c.release.ensures.places f ∙ ap (λ b. changed_so (without_place c.args.place) b (places_in c.args.self.now f)) (sym (given_up_other (cell_shape c.args.old) (cell_shape c.args.new.now) f other));
     }
 
 pub returns : goal.returns
 returns c =
     let same = sym c.is_one_future.ensures ∙ c.if-not-is_one_future.false in
-    record { places = λ f. ap (λ b. changed_so (without_place c.args.place) b (places_in c.args.self.now f)) (sym (given_up_same c.args.old c.args.new.now f same)) }
+    record { places = λ f. ap (λ b. changed_so (without_place c.args.place) b (places_in c.args.self.now f)) (sym (given_up_same (cell_shape c.args.old) (cell_shape c.args.new.now) f same)) }

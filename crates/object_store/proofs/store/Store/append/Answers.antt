@@ -1,7 +1,9 @@
-use Rattle.std.proofs.Common.{◌≡◌, sym, subst, length, arith, rules, List, ◌++◌, ◌∷◌, []}
+use Rattle.std.proofs.Common.{◌≡◌, ◌∙◌, sym, ap, subst, length, map, arith, rules, ◌++◌, ◌∷◌, []}
 use Rattle.std.proofs.lemmas.Slice.{pushed}
-use Rattle.asp_model.specs.declared.store.Cell.{Cell}
+use Rattle.std.proofs.lemmas.List.{length-map}
+use Rattle.asp_model.specs.Shapes.{cell_shape}
 use Rattle.object_store.specs.Index.{ChangesWhere, IsIndexed, is_in_cell, with_place}
+use Rattle.object_store.proofs.CellLemmas.{last_shape}
 use Rattle.object_store.proofs.StoredLemmas.{indexed_more}
 use Rattle.object_store.proofs.store.Store.append.Goals as goal
 
@@ -10,11 +12,13 @@ invariant_of-self-2 c =
     let cs = c.self.inside.cells.items in
     let old = c.self.inside.index in
     let new = c.hold.new.self in
-    let count : c.len.result ≡ length cs = search rules in
+    let s = map cell_shape cs in
+    let count : c.len.result ≡ length s = (search rules) ∙ sym (length-map cs cell_shape) in
     let items : c.push.new.self.items ≡ cs ++ c.args.cell ∷ [] = pushed (c.args.cell ∷ []) c.in_ok-reserve.ensures.items c.unwrap.ensures c.push.ensures.items in
-    let changes = subst (λ n. ChangesWhere (is_in_cell c.args.cell) (with_place n) old new) count c.in_ok-hold.ensures.places in
+    let shapes : map cell_shape c.push.new.self.items ≡ s ++ cell_shape c.args.cell ∷ [] = ap (map cell_shape) items ∙ last_shape cs c.args.cell in
+    let changes = subst (λ n. ChangesWhere (is_in_cell (cell_shape c.args.cell)) (with_place n) old new) count c.in_ok-hold.ensures.places in
     record {
-      indexed = subst (λ (ds : List Cell). IsIndexed new ds) (sym items) (indexed_more old new cs c.args.cell c.self.invariant.indexed changes);
+      indexed = subst (IsIndexed new) (sym shapes) (indexed_more old new s (cell_shape c.args.cell) c.self.invariant.indexed changes);
       room = omega (arith, c.in_ok-reserve.ensures.len, c.in_ok-reserve.ensures.ok, c.in_ok-reserve.ensures.capacity);
       none = c.self.invariant.none;
     }

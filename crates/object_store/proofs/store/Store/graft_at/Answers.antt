@@ -1,6 +1,5 @@
-use Rattle.std.proofs.Common.{◌≡◌, ◌++◌, ◌∷◌, [], List, take, drop, map, option_to_list, ◌∙◌, ap, sym}
-use Rattle.asp_model.specs.declared.store.Cell.{Cell}
-use Rattle.asp_model.specs.Store.{with_cell}
+use Rattle.std.proofs.Common.{◌≡◌, ◌++◌, ◌∷◌, [], take, drop, option_to_list, ◌∙◌, ap, sym}
+use Rattle.asp_model.specs.Store.{Store, with_cell}
 use Rattle.asp_model.specs.Shapes.{cell_shape}
 use Rattle.object_store.proofs.CellLemmas.{grafted_at}
 use Rattle.object_store.proofs.store.Store.graft_at.Goals as goal
@@ -11,5 +10,5 @@ returns-in-Ok-clause-cells c =
     let rest = c.pop.new.self.items in
     let first = c.unwrap-first.result in
     let turned : drop 1 cs ++ take 1 cs ≡ rest ++ first ∷ [] = sym c.rotate_left.ensures.items ∙ c.pop.ensures.items ∙ ap (λ o. rest ++ option_to_list o) c.unwrap-first.ensures in
-    c.in-Ok.ensures.cells ∙ ap (λ (ds : List Cell). with_cell (map cell_shape ds) c.args.loc (cell_shape first)) c.in_ok-append_all.ensures.cells
+    c.in-Ok.ensures.cells ∙ ap (λ (s : Store). with_cell s c.args.loc (cell_shape first)) c.in_ok-append_all.ensures.cells
     ∙ grafted_at c.args.self.now.cells cs rest first c.args.loc c.requires.within c.requires.some turned

@@ -1,33 +1,36 @@
-use Rattle.std.proofs.Common.{◌≡◌, ◌<◌, ◌∙◌, length, map, slice_set, sym, ap, subst}
+use Rattle.std.proofs.Common.{◌≡◌, ◌<◌, ◌∙◌, length, map, sym, ap, subst}
 use Rattle.std.proofs.lemmas.List.{get_or-set_same}
 use Rattle.asp_model.specs.declared.store.Cell.{Cell}
 use Rattle.asp_model.specs.Store.{cell, with_cell}
 use Rattle.asp_model.specs.Shapes.{cell_shape}
 use Rattle.object_store.specs.Index.{ChangesWhere, IsIndexed, is_given_up, without_place}
-use Rattle.object_store.specs.View.{StoreView, store_of}
-use Rattle.object_store.proofs.CellLemmas.{at_place, cell_set}
+use Rattle.object_store.specs.View.{StoreView}
+use Rattle.object_store.proofs.CellLemmas.{at_place, cell_set, shape_within}
 use Rattle.object_store.proofs.StoredLemmas.{indexed_replaced}
 use Rattle.object_store.proofs.store.Store.replace.Goals as goal
 
 pub invariant_of-self-2 : goal.invariant_of-self-2
 invariant_of-self-2 c =
     let cs = c.self.inside.cells.items in
+    let s = map cell_shape cs in
     let p = c.args.loc in
     let old = c.replace-old.result in
     let mid = c.hold.new.self in
     let new = c.give_up.new.self in
     let within = subst (λ (v : StoreView). p < length v.cells) (sym c.self.view_is) c.requires.within in
-    let here : cell (map cell_shape cs) p ≡ cell_shape old = at_place cs p c.index_mut.result.now within ∙ ap cell_shape (sym c.index_mut.ensures.value ∙ sym c.replace-old.ensures.value) in
-    let there : c.index.result.now ≡ c.args.cell = c.index.ensures ∙ get_or-set_same cs p c.replace-old.new.dest c.index.result.now within ∙ c.replace-old.ensures.after in
-    let second = subst (λ (d : Cell). ChangesWhere (is_given_up old d) (without_place p) mid new) there c.give_up.ensures.places in
+    let below = shape_within cs p within in
+    let here : cell s p ≡ cell_shape old = at_place cs p c.index_mut.result.now below ∙ ap cell_shape (sym c.index_mut.ensures.value ∙ sym c.replace-old.ensures.value) in
+    let there : c.index.result.now ≡ c.args.cell = c.index.ensures ∙ get_or-set_same cs p c.replace-old.new.dest c.index.result.now below ∙ c.replace-old.ensures.after in
+    let second = subst (λ (d : Cell). ChangesWhere (is_given_up (cell_shape old) (cell_shape d)) (without_place p) mid new) there c.give_up.ensures.places in
+    let set = cell_set cs p c.replace-old.new.dest ∙ ap (λ (d : Cell). with_cell s p (cell_shape d)) c.replace-old.ensures.after in
     record {
-      indexed = subst (λ (d : Cell). IsIndexed new (slice_set cs p d)) (sym c.replace-old.ensures.after) (indexed_replaced c.self.inside.index mid new cs p c.args.cell old within here c.self.invariant.indexed c.in_ok-hold.ensures.places second);
+      indexed = subst (IsIndexed new) (sym set) (indexed_replaced c.self.inside.index mid new s p (cell_shape c.args.cell) (cell_shape old) within here c.self.invariant.indexed c.in_ok-hold.ensures.places second);
       room = c.self.invariant.room;
       none = c.self.invariant.none;
     }
 
 pub returns-clause-cells : goal.returns-clause-cells
 returns-clause-cells c =
-    cell_set c.self.inside.cells.items c.args.loc c.replace-old.new.dest
-    ∙ ap (λ (d : Cell). with_cell (map cell_shape c.self.inside.cells.items) c.args.loc (cell_shape d)) c.replace-old.ensures.after
-    ∙ ap (λ (v : StoreView). with_cell (store_of v) c.args.loc (cell_shape c.args.cell)) c.self.view_is
+    let s = map cell_shape c.self.inside.cells.items in
+    cell_set c.self.inside.cells.items c.args.loc c.replace-old.new.dest ∙ ap (λ (d : Cell). with_cell s c.args.loc (cell_shape d)) c.replace-old.ensures.after
+    ∙ ap (λ (v : StoreView). with_cell v.cells c.args.loc (cell_shape c.args.cell)) c.self.view_is

@@ -1,6 +1,8 @@
-use Rattle.std.proofs.Common.{◌≡◌, ◌∙◌, List, length, ◌++◌, ◌∷◌, [], option_to_list, ap, subst, arith, rules}
-use Rattle.asp_model.specs.declared.store.Cell.{Cell}
+use Rattle.std.proofs.Common.{◌≡◌, ◌∙◌, length, map, ◌++◌, ◌∷◌, [], option_to_list, sym, ap, subst, arith, rules}
+use Rattle.std.proofs.lemmas.List.{length-map}
+use Rattle.asp_model.specs.Shapes.{cell_shape}
 use Rattle.object_store.specs.Index.{ChangesWhere, IsIndexed, is_in_cell, without_place}
+use Rattle.object_store.proofs.CellLemmas.{last_shape}
 use Rattle.object_store.proofs.StoredLemmas.{indexed_less}
 use Rattle.object_store.proofs.store.Store.unappend.Goals as goal
 
@@ -11,10 +13,12 @@ invariant_of-self c =
     let cs = c.pop.new.self.items in
     let last = c.unwrap-last.result in
     let items : c.self.inside.cells.items ≡ cs ++ last ∷ [] = c.pop.ensures.items ∙ ap (λ o. cs ++ option_to_list o) c.unwrap-last.ensures in
-    let count : c.len.result ≡ length cs = search rules in
-    let changes = subst (λ n. ChangesWhere (is_in_cell last) (without_place n) old new) count c.release.ensures.places in
+    let s = map cell_shape cs in
+    let shapes : map cell_shape c.self.inside.cells.items ≡ s ++ cell_shape last ∷ [] = ap (map cell_shape) items ∙ last_shape cs last in
+    let count : c.len.result ≡ length s = (search rules) ∙ sym (length-map cs cell_shape) in
+    let changes = subst (λ n. ChangesWhere (is_in_cell (cell_shape last)) (without_place n) old new) count c.release.ensures.places in
     record {
-      indexed = indexed_less old new cs last (subst (λ (ds : List Cell). IsIndexed old ds) items c.self.invariant.indexed) changes;
+      indexed = indexed_less old new s (cell_shape last) (subst (IsIndexed old) shapes c.self.invariant.indexed) changes;
       room = omega (arith, c.pop.ensures.len, c.pop.ensures.capacity, c.self.invariant.room);
       none = c.self.invariant.none;
     }

@@ -2,7 +2,7 @@ use Rattle.std.proofs.Common.{◌∙◌, sym, ap}
 use Rattle.indexmap.specs.IndexMap.{get}
 use Rattle.object_store.specs.Index.{is_same, or_none, without_place}
 use Rattle.object_store.proofs.IndexLemmas.{unchanged, written}
-use Rattle.object_store.proofs.index.Index.is_last.Goals as goal
+use Rattle.object_store.proofs.index.Index.take_out.Goals as goal
 
 pub returns-in-None-clause-places : goal.returns-in-None-clause-places
 returns-in-None-clause-places c =
