@@ -6,7 +6,6 @@ ghost use Rattle.asp_model.specs.Shapes.{cell_shape, parcel_shape};
 ghost use Rattle.deep_copy.specs.Copied.{copied_cell};
 ghost use Rattle.laws.specs.Closed.{AreBelow, IsClosedParcel, IsClosedStore};
 ghost use Rattle.moving.specs.Moves.{move_of};
-ghost use Rattle.object_store.specs.View.{store_of};
 
 use crate::visiting::visit_order;
 use asp_model::{Cell, Parcel, Place};
@@ -16,10 +15,9 @@ use std::alloc::{AllocError, Global};
 
 /// The deep copy of what the roots reach, each cell once.
 pub fn pack(alloc: Global, store: &Store, roots: &[Place]) -> Result<Parcel, AllocError>
-    requires closed { IsClosedStore (store_of store.now) }
+    requires closed { IsClosedStore store.now.cells }
     requires within { AreBelow (length store.now.cells) roots.now }
-    ensures parcel { IfOk result
-        (λ p. parcel_shape p ≡ parcel_of (store_of store.now) roots.now) }
+    ensures parcel { IfOk result (λ p. parcel_shape p ≡ parcel_of store.now.cells roots.now) }
     ensures closed { IfOk result (λ p. IsClosedParcel (parcel_shape p)) }
 {
     let order = visit_order(alloc, store, roots)?;
@@ -37,7 +35,7 @@ fn copied_cells(
     places: &[Place],
 ) -> Result<Vec<Cell>, AllocError>
     requires within { AreBelow (length store.now.cells) places.now }
-    ensures { let copies = map (copied_cell moves.now store.now) places.now in
+    ensures { let copies = map (copied_cell moves.now store.now.cells) places.now in
         IfOk result (λ r. map cell_shape r.items ≡ copies) }
 {
     let mut cells = Vec::new(alloc);

@@ -10,7 +10,6 @@ ghost use Rattle.asp_model.specs.Shapes.{cell_shape, parcel_shape};
 ghost use Rattle.asp_model.specs.Store.{moved_cell as cell_with};
 ghost use Rattle.laws.specs.Closed.{IsClosedParcel, IsClosedStore, IsClosedValue};
 ghost use Rattle.moving.specs.Moves.{move_of};
-ghost use Rattle.object_store.specs.View.{store_of};
 
 use asp_model::{Cell, Parcel, Place};
 use moving::{Moves, moved_cell, moved_places};
@@ -21,12 +20,11 @@ use std::alloc::{AllocError, Global};
 pub fn unpack(alloc: Global, store: &mut Store, parcel: &Parcel) -> Result<Vec<Place>, AllocError>
     requires closed { IsClosedParcel (parcel_shape parcel.now) }
     ensures cells { let p = parcel_shape parcel.now in
-        OnOk result (store_of store.new ≡ unpacked_in (store_of store.old) p) }
+        OnOk result (store.new.cells ≡ unpacked_in store.old.cells p) }
     ensures roots { let p = parcel_shape parcel.now in
-        IfOk result (λ places. places.items ≡ unpacked_roots (store_of store.old) p) }
+        IfOk result (λ places. places.items ≡ unpacked_roots store.old.cells p) }
     ensures err { OnErr result (store.new.cells ≡ store.old.cells) }
-    ensures closed { OnOk result
-        (IsClosedStore (store_of store.old) → IsClosedStore (store_of store.new)) }
+    ensures closed { OnOk result (IsClosedStore store.old.cells → IsClosedStore store.new.cells) }
 {
     let moves = Moves::Up(store.len());
     let roots = moved_places(alloc, &moves, parcel.roots())?;
@@ -45,10 +43,9 @@ pub fn unpack_at(
     requires value { IsClosedValue (parcel_shape parcel.now) }
     requires within { loc < length store.old.cells }
     ensures cells { let p = parcel_shape parcel.now in
-        OnOk result (store_of store.new ≡ unpacked_at (store_of store.old) loc p) }
+        OnOk result (store.new.cells ≡ unpacked_at store.old.cells loc p) }
     ensures err { OnErr result (store.new.cells ≡ store.old.cells) }
-    ensures closed { OnOk result
-        (IsClosedStore (store_of store.old) → IsClosedStore (store_of store.new)) }
+    ensures closed { OnOk result (IsClosedStore store.old.cells → IsClosedStore store.new.cells) }
 {
     let moves = Moves::RootTo {
         root: loc,

@@ -5,7 +5,6 @@ ghost use Rattle.asp_model.specs.Parcel.{visit_order as order_of};
 ghost use Rattle.asp_model.specs.Shapes.{cell_shape};
 ghost use Rattle.asp_model.specs.Store.{reached};
 ghost use Rattle.laws.specs.Closed.{AreBelow, IsClosedStore};
-ghost use Rattle.object_store.specs.View.{store_of};
 
 use asp_model::{Cell, Place};
 use indexmap::IndexSet;
@@ -19,9 +18,9 @@ pub fn visit_order(
     store: &Store,
     roots: &[Place],
 ) -> Result<IndexSet<Place>, AllocError>
-    requires closed { IsClosedStore (store_of store.now) }
+    requires closed { IsClosedStore store.now.cells }
     requires within { AreBelow (length store.now.cells) roots.now }
-    ensures order { IfOk result (λ seen. seen.keys ≡ order_of (store_of store.now) roots.now) }
+    ensures order { IfOk result (λ seen. seen.keys ≡ order_of store.now.cells roots.now) }
     ensures within { IfOk result (λ seen. AreBelow (length store.now.cells) seen.keys) }
 {
     let mut seen = IndexSet::new(alloc);

@@ -1,16 +1,14 @@
 use Rattle.std.proofs.Common.{◌≡◌, ◌∙◌, map, sym, ap, subst}
-use Rattle.std.proofs.lemmas.List.{length-map}
 use Rattle.asp_model.specs.Parcel.{number_in, numbered, visit_order}
 use Rattle.asp_model.specs.Shapes.{cell_shape, parcel_shape}
 use Rattle.asp_model.specs.Store.{Store, cell, moved_cell}
-use Rattle.laws.specs.Closed.{AreBelow, IsClosedParcel}
+use Rattle.laws.specs.Closed.{IsClosedParcel}
 use Rattle.laws.proofs.VisitLemmas.{packed_closed}
-use Rattle.object_store.specs.View.{store_of}
 use Rattle.deep_copy.proofs.packing.pack.Goals as goal
 
 pub returns-clause-parcel : goal.returns-clause-parcel
 returns-clause-parcel c =
-    let s : Store = store_of c.args.store.now in
+    let s : Store = c.args.store.now.cells in
     let keys = c.in_ok-order.order.keys in
     let order : keys ≡ visit_order s c.args.roots.now = c.in_ok-order.ensures.order in
     let cells : map cell_shape c.in_ok-cells.cells.items ≡ map (λ p. moved_cell (number_in keys) (cell s p)) keys = c.in_ok-cells.ensures ∙ ap (map (λ p. moved_cell (number_in keys) (cell s p))) c.as_slice.ensures.keys in
@@ -18,7 +16,4 @@ returns-clause-parcel c =
     parcel ∙ ap (λ ks. numbered s ks c.args.roots.now) order
 
 pub returns-clause-closed : goal.returns-clause-closed
-returns-clause-closed c =
-    let s : Store = store_of c.args.store.now in
-    let within = subst (λ n. AreBelow n c.args.roots.now) (sym (length-map c.args.store.now.cells cell_shape)) c.requires.within in
-    subst IsClosedParcel (sym (returns-clause-parcel c)) (packed_closed s c.args.roots.now c.requires.closed within)
+returns-clause-closed c = subst IsClosedParcel (sym (returns-clause-parcel c)) (packed_closed c.args.store.now.cells c.args.roots.now c.requires.closed c.requires.within)

@@ -1,24 +1,19 @@
 use Rattle.std.specs.List.{list_any}
 use Rattle.std.proofs.Common.{◌≡◌, ◌∙◌, ◌+◌, ◌<◌, ◌++◌, ◌∷◌, [], true, false, length, reverse, cond, nat_eq, sym, ap, subst}
-use Rattle.std.proofs.lemmas.List.{length-map}
 use Rattle.asp_model.specs.Parcel.{has_place, visit_order}
-use Rattle.asp_model.specs.Shapes.{cell_shape}
 use Rattle.asp_model.specs.Store.{Store, reached, cell}
-use Rattle.laws.specs.Closed.{AreBelow}
-use Rattle.object_store.specs.View.{store_of}
 use Rattle.deep_copy.proofs.VisitLemmas.{Going, begins, falls, has_any, keeps_new, keeps_old, left, new_false, old_true}
 use Rattle.deep_copy.proofs.visiting.visit_order.Goals as goal
 
 pub loop-place-init : goal.loop-place-init
 loop-place-init c =
-    let s : Store = store_of c.args.store.now in
-    let within = subst (λ n. AreBelow n c.args.roots.now) (sym (length-map c.args.store.now.cells cell_shape)) c.requires.within in
+    let s : Store = c.args.store.now.cells in
     let stack : c.reverse.new.self.items ≡ reverse c.args.roots.now = c.reverse.ensures.items ∙ ap reverse (c.in_ok-extend_from_slice.ensures.items ∙ ap (λ xs. xs ++ c.args.roots.now) c.new-stack.ensures.items) in
-    begins s c.args.roots.now c.reverse.new.self.items c.new-seen.result.keys stack c.new-seen.ensures.empty c.requires.closed within
+    begins s c.args.roots.now c.reverse.new.self.items c.new-seen.result.keys stack c.new-seen.ensures.empty c.requires.closed c.requires.within
 
 pub loop-place-preserved : goal.loop-place-preserved
 loop-place-preserved c =
-    let s : Store = store_of c.args.store.now in
+    let s : Store = c.args.store.now.cells in
     let p = c.in-Some.place in
     let seen = c.loop-place.seen.keys in
     let out = visit_order s c.args.roots.now in
@@ -28,7 +23,7 @@ loop-place-preserved c =
 
 pub loop-place-preserved-in-Continue-branch-3 : goal.loop-place-preserved-in-Continue-branch-3
 loop-place-preserved-in-Continue-branch-3 c =
-    let s : Store = store_of c.args.store.now in
+    let s : Store = c.args.store.now.cells in
     let p = c.in-Some.place in
     let seen = c.loop-place.seen.keys in
     let mid = c.push_reached.new.stack.items in
@@ -40,7 +35,7 @@ loop-place-preserved-in-Continue-branch-3 c =
 
 pub loop-place-smaller-in-Continue-branch-3 : goal.loop-place-smaller-in-Continue-branch-3
 loop-place-smaller-in-Continue-branch-3 c =
-    let s : Store = store_of c.args.store.now in
+    let s : Store = c.args.store.now.cells in
     let p = c.in-Some.place in
     let seen = c.loop-place.seen.keys in
     let mid = c.push_reached.new.stack.items in
