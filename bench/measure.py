@@ -1,25 +1,29 @@
 #!/usr/bin/env python3
 """Measures the built programs at two sizes each: time, peak memory, and the ratio of the times.
 
-    bench/measure.py [PART ..]     with no PART all of them: reading runs replays reports printing stores
+    bench/measure.py [PART ..]     with no PART all of them: reading runs replays reports printing stores turns
 
 Nothing here is a test: figures depend on the machine, and only their ratios within one run mean
-something. The seconds are those of the processor, so that other work on the machine matters less.
+something. The seconds are those of the processor, so that other work on the machine matters less;
+only threads that contend for the turn are measured by the clock.
 A peak is never below that of this script, some 10 MiB, since a child begins as its copy.
 """
 import os
 import subprocess
 import sys
 import tempfile
+import time
 from itertools import repeat
 from typing import NamedTuple
 
 ROOT = os.path.dirname(os.path.dirname(os.path.abspath(__file__)))
 PROGRAM = os.path.join(ROOT, "crates", "asp", "out", "asp")
 TIMING = os.path.join(ROOT, "crates", "timing", "out", "timing")
-BUILD = """measure: build both programs first, at the top of the repository:
+TURN_TIMING = os.path.join(ROOT, "crates", "turn_timing", "out", "turn_timing")
+BUILD = """measure: build the programs first, at the top of the repository:
     rt ci, or (cd crates/asp && rt run -- data/one.asp)
-    (cd crates/timing && rt run -- pack grid 10)"""
+    (cd crates/timing && rt run -- pack grid 10)
+    (cd crates/turn_timing && rt run -- call 2 100 1 1)"""
 MEBIBYTE = 1 << 20
 MOST = ["--budget", "10000000"]
 
@@ -29,6 +33,7 @@ class Run(NamedTuple):
     peak: int  # in KiB
     status: int
     reductions: int  # as the report shows them, if there is one
+    elapsed: float  # seconds of the clock
 
 
 # Programs and reports
@@ -130,12 +135,14 @@ def reductions(out):
 
 def once(program, words, output=None):
     with open(output, "w+b") if output else tempfile.TemporaryFile() as out:
+        start = time.perf_counter()
         child = subprocess.Popen([program, *words], stdout=out, stderr=subprocess.DEVNULL)
         _, status, usage = os.wait4(child.pid, 0)
+        elapsed = time.perf_counter() - start
         child.returncode = os.waitstatus_to_exitcode(status)
         out.seek(0)
         count = reductions(out) if program == PROGRAM else 0
-    return Run(usage.ru_utime + usage.ru_stime, usage.ru_maxrss, child.returncode, count)
+    return Run(usage.ru_utime + usage.ru_stime, usage.ru_maxrss, child.returncode, count, elapsed)
 
 
 def best(program, words, turns):
@@ -260,6 +267,42 @@ def show_stores(_folder):
     show_cells()
 
 
+def turns_of(threads, count, inside=0, outside=0, runs=5):
+    """Runs of so many turns of each thread, by kind. The kinds alternate, so that all see the same machine."""
+    words = [str(word) for word in (threads, count, inside, outside)]
+    kinds = ("mutex", "hub", "call")
+    made = [[once(TURN_TIMING, [kind, *words]) for kind in kinds] for _ in range(runs)]
+    return {kind: [turn[place] for turn in made] for place, kind in enumerate(kinds)}
+
+
+def show_contended(threads, inside, outside):
+    """Threads that hold the turn for a tenth of their time, by the clock."""
+    count = 300_000
+    runs = turns_of(threads, count, inside, outside)
+    least = {kind: min(run.elapsed for run in of_kind) for kind, of_kind in runs.items()}
+    for kind in ("hub", "call"):
+        print(f"{threads} threads, 200 ns of 2 us, {kind}: {least[kind] / count * 1e9:,.0f} ns a turn of each, "
+              f"{least[kind] / least['mutex']:.2f} times a Mutex's {least['mutex'] / count * 1e9:,.0f} "
+              f"(at most 1.2 is wanted)", flush=True)
+
+
+def show_turns(_folder):
+    count = 5_000_000
+    runs = turns_of(1, count)
+    least = {kind: min(run.seconds for run in of_kind) for kind, of_kind in runs.items()}
+    for kind in ("hub", "call"):
+        print(f"a turn alone, {kind}: {least[kind] / count * 1e9:.1f} ns, {least[kind] / least['mutex']:.2f} times a "
+              f"Mutex's {least['mutex'] / count * 1e9:.1f} (at most 2.5 is wanted)", flush=True)
+    rounds = 20_000_000
+    spin = best(TURN_TIMING, ["spin", "1", str(rounds), "0", "0"], 5).seconds / rounds
+    for threads in (2, 4):
+        show_contended(threads, round(200e-9 / spin), round(1_800e-9 / spin))
+    for kind, name in (("wait", "wait for the turn"), ("rest", "rest")):
+        run = once(TURN_TIMING, [kind, "4", "3000", "0", "0"])
+        print(f"seats that {name} for {run.elapsed:.1f} s: {run.seconds:.3f} s of the processor "
+              f"(less than 0.1 is wanted)", flush=True)
+
+
 PARTS = {
     "reading": show_reading,
     "runs": show_runs,
@@ -267,6 +310,7 @@ PARTS = {
     "reports": show_reports,
     "printing": show_printing,
     "stores": show_stores,
+    "turns": show_turns,
 }
 
 
@@ -274,7 +318,7 @@ def main():
     wanted = sys.argv[1:] or list(PARTS)
     if not set(wanted) <= set(PARTS):
         sys.exit(f"measure: the parts are {' '.join(PARTS)}")
-    if not all(os.access(program, os.X_OK) for program in (PROGRAM, TIMING)):
+    if not all(os.access(program, os.X_OK) for program in (PROGRAM, TIMING, TURN_TIMING)):
         sys.exit(BUILD)
     with tempfile.TemporaryDirectory() as path:
         for name in wanted:
