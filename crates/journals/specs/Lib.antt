@@ -4,3 +4,4 @@ pub mod Communications
 pub mod Journals
 pub mod Edges
 pub mod Passing
+pub mod Owed

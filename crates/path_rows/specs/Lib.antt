@@ -1,0 +1,4 @@
+-- in reading order
+pub mod Lending
+pub mod Passed
+pub mod States
