@@ -3,7 +3,6 @@ use Rattle.std.specs.Prelude.{◌≡◌, ◌↔◌, ℕ, List, [], ◌∷◌, �
 use Rattle.std.proofs.Common.{refl, sym, ap, subst, ◌∙◌}
 use Rattle.laws.proofs.NameLemmas.{no_some, some_is}
 use Rattle.paths.specs.Places.{Place, In_store, Side, found, children, nth_place, from, found_at, AreReadAlike}
-use Rattle.paths.specs.Agree.{Pairs}
 use Rattle.paths.specs.PathLabels.{PathLabel, number_by, numbered_child, leads_by, from_by}
 use Rattle.path_laws.specs.Reading.{LabelsReadAlike}
 use Rattle.path_laws.proofs.PairLemmas.{Ends, nowhere, somewhere, nth_pairs, pairs_nth}

@@ -14,7 +14,7 @@ both_true : (a b : Bool) → (a && b) ≡ true → (a ≡ true) × (b ≡ true)
 both_true true b h = (refl, h)
 both_true false b h = none_true h
 
-place_tied : (p q : Place) → same_place p q ≡ true → p ≡ q
+pub place_tied : (p q : Place) → same_place p q ≡ true → p ≡ q
 place_tied (In_store i) (In_store j) h = ap In_store (grind (arith, h))
 place_tied (In_store i) (In_value q j) h = none_true h
 place_tied (In_value p i) (In_store j) h = none_true h
@@ -27,7 +27,7 @@ place_tied (In_value p i) (In_value q j) h =
 number_itself : (i : ℕ) → (i == i) ≡ true
 number_itself i = grind arith
 
-place_itself : (p : Place) → same_place p p ≡ true
+pub place_itself : (p : Place) → same_place p p ≡ true
 place_itself (In_store i) = number_itself i
 place_itself (In_value p i) = (λ k. number_itself i k && place_itself p k)
 

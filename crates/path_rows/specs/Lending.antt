@@ -1,12 +1,12 @@
 -- Journals: what a lease may be granted and commit, and a delivery that a run takes or does without.
-use Rattle.std.specs.Prelude.{◌≡◌, ℕ, List, [], ◌∷◌, ◌++◌, Option, Some, None, map}
+use Rattle.std.specs.Prelude.{◌≡◌, ℕ, List, [], ◌∷◌, ◌++◌, Option, Some, None}
 use Rattle.std.specs.List.{flat_map}
 use Rattle.asp_model.specs.Names.{Name, FutureShape, main_name}
 use Rattle.asp_model.specs.Term.{Tree}
 use Rattle.asp_model.specs.Intent.{StatusShape, Done, Serving, Running}
 use Rattle.asp_model.specs.Replay.{CountsShape, counts_of}
 use Rattle.asp_model.specs.Status.{VerdictShape, End, Budget, statuses_of, verdict_of}
-use Rattle.asp_model.specs.History.{DeliveryShape, Edge, Need, EntryShape, Lent, Committed, Delivered}
+use Rattle.asp_model.specs.History.{Edge, Need, EntryShape, Lent, Committed, Delivered}
 use Rattle.journals.specs.Journals.{RunShape, run_of}
 use Rattle.journals.specs.Passing.{holders_of}
 use Rattle.journals.specs.Owed.{next_owed, verdict_told}

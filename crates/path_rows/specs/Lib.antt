@@ -2,3 +2,4 @@
 pub mod Lending
 pub mod Passed
 pub mod States
+pub mod Reading

@@ -1,10 +1,10 @@
 -- A future that passes three activities unread: the ten edges that it and the answers of the calls give.
-use Rattle.std.specs.Prelude.{◌≡◌, ℕ, ◌&&◌, Bool, true, false, List, [], ◌∷◌, ◌++◌, Option, Some, None, map}
+use Rattle.std.specs.Prelude.{◌≡◌, ◌&&◌, Bool, true, false, List, [], ◌∷◌, ◌++◌, Some, None, map}
 use Rattle.std.specs.List.{list_any}
 use Rattle.asp_model.specs.Names.{Name, FutureShape, main_name}
 use Rattle.asp_model.specs.Intent.{Done, Serving}
 use Rattle.asp_model.specs.Status.{End}
-use Rattle.asp_model.specs.History.{ChoiceShape, Forward, FromHome, Leave, DeliveryShape, Edge, Need, EntryShape, Lent, Committed, Delivered}
+use Rattle.asp_model.specs.History.{ChoiceShape, Forward, FromHome, Leave, Edge, EntryShape, Delivered}
 use Rattle.journals.specs.Journals.{RunShape, begun, entered}
 use Rattle.journals.specs.Edges.{EdgeShape, HoldersShape, no_holders, after_events, is_owed}
 use Rattle.journals.specs.Passing.{entry_events, holders_of}

@@ -1,10 +1,10 @@
 -- State lines: what a report shows of each activity to a depth, with filled futures read as unpacked.
 use Prim.Native.String.{String}
-use Rattle.std.specs.Prelude.{◌≡◌, ℕ, List, [], ◌∷◌, Option, Some, None, map, codes}
+use Rattle.std.specs.Prelude.{◌≡◌, ℕ, List, [], ◌∷◌, Some, map, codes}
 use Rattle.asp_model.specs.Term.{Tree}
 use Rattle.asp_model.specs.Replay.{plain_run}
 use Rattle.paths.specs.Outcomes.{whole_outcome_of, report_lines_to}
-use Rattle.worked_rows.specs.Programs.{number, variable, field, object, get, put, let_in, steps, group}
+use Rattle.worked_rows.specs.Programs.{number, variable, field, object, put, let_in, steps, group}
 use Rattle.worked_rows.specs.Circles.{circling}
 use Rattle.worked_rows.specs.Passing.{keeping}
 
