@@ -1,5 +1,5 @@
 -- A try to get the turn keeps the rule: where the turn is free the seat gets it with the value, and else nothing changes.
-use Rattle.std.proofs.Common.{◌≡◌, ◌≢◌, ℕ, ◌<◌, List, [], ◌∷◌, length, set, slice_index, sym, refl, ap, ◌∙◌, subst, ⊎_elim, inr, arith, Option, Some}
+use Rattle.std.proofs.Common.{◌≡◌, ℕ, ◌<◌, List, length, set, slice_index, sym, refl, ap, ◌∙◌, subst, ⊎_elim, inr, arith, Option, Some}
 use mathlib.Core.Option.{none, some}
 use lib.ListN.{get_elem?}
 use Rattle.atomic_table.specs.Table.{Me, Step, step, Act, keeps, takes, Valid, stepped, carried_after, Allows}

@@ -1,5 +1,5 @@
 -- What every step rests on: a list has an element where it gives one, and the rule where one view changes.
-use Rattle.std.proofs.Common.{◌≡◌, ◌≢◌, ◌⊎◌, ℕ, zero, suc, ◌+◌, ◌<◌, ◌≤◌, List, [], ◌∷◌, ◌++◌, length, set, sym, ap, ◌∙◌, subst, ⊎_elim, inl, inr, arith, Option, Some, None}
+use Rattle.std.proofs.Common.{◌≡◌, ◌≢◌, ◌⊎◌, ℕ, zero, suc, ◌<◌, List, [], ◌∷◌, length, set, sym, ap, ◌∙◌, subst, ⊎_elim, inl, inr, arith, Option, None}
 use mathlib.Core.Option as maybe
 use mathlib.Core.Option.{some, some-injective, some-ne-none}
 use lib.ListN.{get_elem?}
@@ -10,7 +10,6 @@ use Rattle.asp_model.specs.History.{HistoryShape}
 use Rattle.turn_hub.specs.declared.view.View.{View}
 use Rattle.turn_hub.specs.Numbers.{times}
 use Rattle.turn_hub.specs.Sharing.{Covers, IsHome, IsAway, IsShared}
-use Rattle.turn_hub.proofs.NumberLemmas.{once_at_most}
 use Rattle.turn_hub.proofs.TotalLemmas.{total-set}
 
 -- a list has an element where it gives one
