@@ -5,6 +5,7 @@ use Rattle.std.specs.List.{list_all}
 use Rattle.std.specs.Char.{is_ascii_digit}
 use Rattle.std.specs.Str.Parse.{digits_value}
 use Rattle.clap.specs.Walk.{Text}
+use Rattle.asp_model.specs.declared.limits.TheConstants.{MOST_PAIRS, MOST_REDUCTIONS}
 use Rattle.command_line.specs.Command.{TextsShape, is_taken, texts_of}
 
 pub data TaskShape : Type 0 where
@@ -13,11 +14,14 @@ pub data TaskShape : Type 0 where
   Replays : (file report : Text) → TaskShape
   Makes : (pairs budget : ℕ) → TaskShape
 
--- the budget is 1 to 10000000, and the pairs are 1 to 2000
+-- a budget is 1 to the most reductions of a run
+abbrev pub IsBudget : ℕ → Type 0
+IsBudget budget = (1 ≤ budget) × (budget ≤ MOST_REDUCTIONS)
+
+-- the budget is one, and the pairs are 1 to the most
 abbrev pub IsWithin : TaskShape → Type 0
-IsWithin (Runs file budget) = (1 ≤ budget) × (budget ≤ 10000000)
-IsWithin (Makes pairs budget) =
-    ((1 ≤ pairs) × (pairs ≤ 2000)) × ((1 ≤ budget) × (budget ≤ 10000000))
+IsWithin (Runs file budget) = IsBudget budget
+IsWithin (Makes pairs budget) = ((1 ≤ pairs) × (pairs ≤ MOST_PAIRS)) × IsBudget budget
 IsWithin task = ⊤
 
 -- 1 to 8 decimal digits
@@ -33,14 +37,14 @@ number_in least most text =
 
 abbrev pub budget_of : Option Text → Option ℕ
 budget_of None = Some 1000000
-budget_of (Some text) = number_in 1 10000000 text
+budget_of (Some text) = number_in 1 MOST_REDUCTIONS text
 
 abbrev pub running : Text → Option Text → Option TaskShape
 running file budget = option_map (Runs file) (budget_of budget)
 
 abbrev pub making : Text → Option Text → Option TaskShape
 making pairs budget =
-    option_and_then (λ n. option_map (Makes n) (budget_of budget)) (number_in 1 2000 pairs)
+    option_and_then (λ n. option_map (Makes n) (budget_of budget)) (number_in 1 MOST_PAIRS pairs)
 
 -- which of FILE, --check, --replay, --make and --budget may stand together, and what they ask for
 abbrev pub asked_by :

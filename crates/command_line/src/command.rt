@@ -26,7 +26,8 @@ pub struct Texts<'a> {
 pub fn read_texts<'a>(alloc: Global, words: &'a [String]) -> Result<Texts<'a>, WordsError>
     ensures taken { IfOk result (λ _. is_taken (map string_bytes words.now) ≡ true) }
     ensures texts { IfOk result (λ t. texts_shape t ≡ texts_of (map string_bytes words.now)) }
-    ensures usage { IfErr result (λ e. e ≡ errors.Usage → is_taken (map string_bytes words.now) ≡ false) }
+    ensures usage { IfErr result
+        (λ e. e ≡ errors.Usage → is_taken (map string_bytes words.now) ≡ false) }
 {
     let matches = matches(alloc, words)?;
     Ok(texts_found(&matches))
@@ -36,8 +37,10 @@ pub fn read_texts<'a>(alloc: Global, words: &'a [String]) -> Result<Texts<'a>, W
 #[tactic(auto, unfolding(crate::specs::Command::is_taken, crate::specs::Command::rows_given))]
 fn matches<'a>(alloc: Global, words: &'a [String]) -> Result<ArgMatches<'a>, WordsError>
     ensures taken { IfOk result (λ _. is_taken (map string_bytes words.now) ≡ true) }
-    ensures rows { IfOk result (λ m. rows_of (found_of m) ≡ rows_given (map string_bytes words.now)) }
-    ensures usage { IfErr result (λ e. e ≡ errors.Usage → is_taken (map string_bytes words.now) ≡ false) }
+    ensures rows { IfOk result
+        (λ m. rows_of (found_of m) ≡ rows_given (map string_bytes words.now)) }
+    ensures usage { IfErr result
+        (λ e. e ≡ errors.Usage → is_taken (map string_bytes words.now) ≡ false) }
 {
     let command = command(alloc)?;
     match command.try_get_matches_from(words) {
@@ -61,7 +64,8 @@ fn command<'a>(alloc: Global) -> Result<Command<'a>, AllocError>
 
 // The program's name, FILE and `--check`.
 fn with_file_and_check<'a>(alloc: Global) -> Result<Command<'a>, AllocError>
-    ensures { IfOk result (λ c. app_of c ≡ with_rule (with_rule bare_command file_rule) check_rule) }
+    ensures { IfOk result
+        (λ c. app_of c ≡ with_rule (with_rule bare_command file_rule) check_rule) }
 {
     let command = Command::new(alloc, "asp")
         .no_binary_name(true)
@@ -76,7 +80,8 @@ fn with_option<'a>(
     command: Command<'a>,
     name: &'a str,
 ) -> Result<Command<'a>, AllocError>
-    ensures { IfOk result (λ c. app_of c ≡ with_rule (app_of command.entry) (option_rule name.entry.now)) }
+    ensures { IfOk result
+        (λ c. app_of c ≡ with_rule (app_of command.entry) (option_rule name.entry.now)) }
 {
     command.arg(option(alloc, name))
 }

@@ -1,20 +1,17 @@
 //! What the words ask for.
 
-ghost use Rattle.std.specs.Prelude.{◌≡◌, ◌≤◌, IfOk, IfErr, Some, None, map, string_bytes};
-ghost use Rattle.command_line.specs.Task.{IsWithin, budget_of, making, running, task_in, task_of};
+ghost use Rattle.std.specs.Prelude.{◌≡◌, IfOk, IfErr, Some, None, map, string_bytes};
+ghost use Rattle.command_line.specs.Task.{IsBudget, IsWithin, budget_of, making, running, task_in, task_of};
 ghost use Rattle.command_line.specs.Shapes.{task_shape, text_behind, texts_shape};
 ghost use Rattle.command_line.specs.declared.error.WordsError.TheVariants as errors;
 
 use crate::command::{Texts, read_texts};
 use crate::error::WordsError;
 use crate::number::number_in;
+use asp_model::{MOST_PAIRS, MOST_REDUCTIONS};
 use std::alloc::Global;
 
 const DEFAULT_BUDGET: u64 = 1_000_000;
-
-const MOST_BUDGET: u64 = 10_000_000;
-
-const MOST_PAIRS: u64 = 2000;
 
 /// What the words ask for.
 #[derive(Debug, Drop)]
@@ -51,7 +48,8 @@ pub enum Task<'a> {
 #[tactic(auto, unfolding(crate::specs::Task::task_of))]
 pub fn read_words<'a>(alloc: Global, words: &'a [String]) -> Result<Task<'a>, WordsError>
     ensures ok { IfOk result (λ t. task_of (map string_bytes words.now) ≡ Some (task_shape t)) }
-    ensures usage { IfErr result (λ e. e ≡ errors.Usage → task_of (map string_bytes words.now) ≡ None) }
+    ensures usage { IfErr result
+        (λ e. e ≡ errors.Usage → task_of (map string_bytes words.now) ≡ None) }
     ensures within { IfOk result (λ t. IsWithin (task_shape t)) }
 {
     let texts = read_texts(alloc, words)?;
@@ -80,7 +78,8 @@ fn task_from<'a>(texts: &Texts<'a>) -> Result<Task<'a>, WordsError>
 }
 
 fn run<'a>(file: &'a str, budget: Option<&str>) -> Result<Task<'a>, WordsError>
-    ensures ok { IfOk result (λ t. running file.entry.now (text_behind budget.entry) ≡ Some (task_shape t)) }
+    ensures ok { IfOk result
+        (λ t. running file.entry.now (text_behind budget.entry) ≡ Some (task_shape t)) }
     ensures usage { IfErr result (λ _. running file.entry.now (text_behind budget.entry) ≡ None) }
     ensures within { IfOk result (λ t. IsWithin (task_shape t)) }
 {
@@ -89,7 +88,8 @@ fn run<'a>(file: &'a str, budget: Option<&str>) -> Result<Task<'a>, WordsError>
 }
 
 fn make<'a>(pairs: &str, budget: Option<&str>) -> Result<Task<'a>, WordsError>
-    ensures ok { IfOk result (λ t. making pairs.now (text_behind budget.entry) ≡ Some (task_shape t)) }
+    ensures ok { IfOk result
+        (λ t. making pairs.now (text_behind budget.entry) ≡ Some (task_shape t)) }
     ensures usage { IfErr result (λ _. making pairs.now (text_behind budget.entry) ≡ None) }
     ensures within { IfOk result (λ t. IsWithin (task_shape t)) }
 {
@@ -101,10 +101,10 @@ fn make<'a>(pairs: &str, budget: Option<&str>) -> Result<Task<'a>, WordsError>
 fn budget_in(text: Option<&str>) -> Result<u64, WordsError>
     ensures ok { IfOk result (λ n. budget_of (text_behind text.entry) ≡ Some n) }
     ensures usage { IfErr result (λ _. budget_of (text_behind text.entry) ≡ None) }
-    ensures within { IfOk result (λ n. (1 ≤ n) × (n ≤ 10000000)) }
+    ensures within { IfOk result IsBudget }
 {
     match text {
-        Some(text) => number_in(text, 1, MOST_BUDGET).ok_or(WordsError::Usage),
+        Some(text) => number_in(text, 1, MOST_REDUCTIONS).ok_or(WordsError::Usage),
         None => Ok(DEFAULT_BUDGET),
     }
 }
