@@ -5,8 +5,8 @@ use Rattle.asp_model.specs.Term.{Tree}
 use Rattle.asp_model.specs.Configuration.{start}
 use Rattle.asp_model.specs.Outcome.{outcome_of}
 use Rattle.asp_model.specs.Replay.{CountsShape, IsLeastDiverging, count_in, replay, steps_from, total}
-use Rattle.asp_model.specs.Shapes.{marked_of, outcome_shape, tree_of}
-use Rattle.asp_check.proofs.PlaceLemmas.{checked_has_no_places}
+use Rattle.asp_model.specs.Shapes.{outcome_shape, tree_of}
+use Rattle.asp_check.proofs.PlaceLemmas.{readable_has_no_places}
 use Rattle.schedules.specs.Divergence.{AreInOrder, divergence_of}
 use Rattle.schedules.proofs.DivergenceLemmas.{diverges_where_first, fits_where_none_differs}
 use Rattle.replay_one.specs.Rows.{list_shape}
@@ -14,7 +14,7 @@ use Rattle.replay_one.proofs.DifferenceLemmas.{difference_in, divergence_is, in_
 use Rattle.replay_one.proofs.replays.replay.Goals as goal
 
 pub run_term-requires-clause-bare : goal.run_term-requires-clause-bare
-run_term-requires-clause-bare c = checked_has_no_places (marked_of c.program.result.now.root) c.program.ensures.checked
+run_term-requires-clause-bare c = readable_has_no_places (tree_of c.program.result.now.root) c.program.ensures.readable
 
 pub sum_of-sum-requires : goal.sum_of-sum-requires
 sum_of-sum-requires c = record { within = subst (λ (cs : CountsShape). total cs ≤ 10000000) (sym c.deref.ensures.value) c.requires.replayable.within }

@@ -3,14 +3,14 @@ use Rattle.asp_model.specs.declared.outcome.Outcome.{Outcome}
 use Rattle.asp_model.specs.Term.{Tree}
 use Rattle.asp_model.specs.Outcome.{outcome_of}
 use Rattle.asp_model.specs.Replay.{plain_run}
-use Rattle.asp_model.specs.Shapes.{marked_of, outcome_shape, tree_of}
-use Rattle.asp_check.proofs.PlaceLemmas.{checked_has_no_places}
+use Rattle.asp_model.specs.Shapes.{outcome_shape, tree_of}
+use Rattle.asp_check.proofs.PlaceLemmas.{readable_has_no_places}
 use Rattle.replay_one.proofs.PlainLemmas.{plain_replays, plain_spent, plain_within}
 use Rattle.replay_one.proofs.PopulationLemmas.{if_ok}
 use Rattle.replay_one.proofs.run.run_plain.Goals as goal
 
 pub run_term-requires-clause-bare : goal.run_term-requires-clause-bare
-run_term-requires-clause-bare c = checked_has_no_places (marked_of c.program.result.now.root) c.program.ensures.checked
+run_term-requires-clause-bare c = readable_has_no_places (tree_of c.program.result.now.root) c.program.ensures.readable
 
 pub returns-clause-outcome : goal.returns-clause-outcome
 returns-clause-outcome c =
