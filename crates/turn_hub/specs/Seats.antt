@@ -49,6 +49,10 @@ module _ {H : Type 0} where
       (after.place.table_id ≡ before.place.table_id) × (after.among ≡ before.among)
       × (after.number ≡ before.number) × (after.parts ≡ before.parts)
 
+  -- the seat keeps what it has seen and what it has out
+  abbrev pub KeepsView : Seat H → Seat H → Type 0
+  KeepsView before after = (seen_by after ≡ seen_by before) × (out_with after ≡ out_with before)
+
   -- a free seat of the hub, with this number and so many parts
   abbrev pub IsNew : Hub H → Seat H → ℕ → ℕ → Type 0
   IsNew hub seat number parts = IsOf hub seat × (seat.number ≡ number) × (seat.parts ≡ parts) × IsFree seat

@@ -39,8 +39,8 @@ impl Calls {
         }
     }
 
-    /// Sleeps until somebody is woken, where there was no call since so many. It may also return for
-    /// no reason.
+    /// Sleeps until somebody is woken, where there was no call since so many. It may also return
+    /// for no reason.
     pub(crate) fn rest<R: Wait>(&self, rt: &R, heard: u64) {
         if self.count() == heard {
             self.resting.fetch_add(1, SeqCst);

@@ -17,7 +17,8 @@ pub(crate) fn gather<H: Lends>(top: &Top<H>, seats: Vec<Seat<H>>) -> Place<H>
     requires seats { All (λ s. IsAt top.now.table_id top.now.key.seats s × IsFree s) seats.items }
     ensures same { (result.table_id ≡ top.now.table_id) × IsIdle result.me }
     ensures parts { length result.me.0.numbers ≡ sum_by (λ s. s.parts) seats.items }
-    ensures knows { (h : H) → Knows H.history H.out h result.me.0 → AllKnown H.history h seats.items }
+    ensures knows { (h : H) → Knows H.history H.out h result.me.0 →
+        AllKnown H.history h seats.items }
 {
     let mut rest = seats;
     let Some(first) = rest.pop() else {

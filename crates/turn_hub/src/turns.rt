@@ -68,8 +68,8 @@ fn look_for_turn<H: Lends>(top: &Top<H>, place: &mut Place<H>) -> bool
     false
 }
 
-// Sleeps until the turn is got. Each who sleeps leaves a word that says so, also with the turn: others
-// may sleep too.
+// Sleeps until the turn is got. Each who sleeps leaves a word that says so, also with the turn:
+// others may sleep too.
 fn wait_for_turn<H: Lends, R: Wait>(rt: &R, top: &Top<H>, place: &mut Place<H>)
     requires table { (place.old.table_id ≡ top.now.table_id) × IsSized top.now.table_id }
     requires live { 0 < length place.old.me.0.numbers }

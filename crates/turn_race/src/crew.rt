@@ -25,8 +25,8 @@ pub trait Work<H: Lends>: Sync {
 // Seats of two threads lie apart in memory.
 type PaddedSeat<H> = CachePadded<Seat<H>>;
 
-/// Makes a hub of the value, lets so many threads take their turns, each at its own seat, and answers
-/// the value. The seats have the numbers from 1.
+/// Makes a hub of the value, lets so many threads take their turns, each at its own seat, and
+/// answers the value. The seats have the numbers from 1.
 pub fn race<H: Lends + Send, W: Work<H>, R: Threads + Wait + Clock + Sync>(
     rt: &R,
     alloc: Global,

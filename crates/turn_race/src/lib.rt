@@ -1,5 +1,5 @@
-//! Racing seats: a hub is made, each of some threads takes its turns at a seat of its own, and the hub
-//! is closed. The tests of the hub stand here, and the bench takes `race`.
+//! Racing seats: a hub is made, each of some threads takes its turns at a seat of its own, and the
+//! hub is closed. The tests of the hub stand here, and the bench takes `race`.
 #![tactic(auto)]
 
 mod crew;

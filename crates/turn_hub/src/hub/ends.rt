@@ -1,6 +1,18 @@
 //! How a hub is made, how its seats come to be, and how it ends.
 
-ghost use Rattle.std.specs.Prelude.{◌≡◌, ◌≢◌, ◌+◌, ◌-◌, ◌<◌, ◌≤◌, All, sum_by, IfOk, MatchResult, None};
+ghost use Rattle.std.specs.Prelude.{
+  ◌≡◌,
+  ◌≢◌,
+  ◌+◌,
+  ◌-◌,
+  ◌<◌,
+  ◌≤◌,
+  All,
+  sum_by,
+  IfOk,
+  MatchResult,
+  None,
+};
 ghost use Rattle.asp_model.specs.History.{BeginsWith};
 ghost use Rattle.asp_model.specs.declared.limits.TheConstants.{MOST_SEATS};
 ghost use Rattle.turn_hub.specs.Seats.{
@@ -8,9 +20,8 @@ ghost use Rattle.turn_hub.specs.Seats.{
   IsFree,
   IsNew,
   IsOf,
-  IsSame,
+  KeepsView,
   opened_with,
-  out_with,
   seats_of,
   seen_by,
   taken_by,
@@ -73,7 +84,7 @@ impl<H: Lends> Hub<H> {
         ensures parts { MatchResult result
             (λ _. seat.new.parts + 1 ≡ seat.old.parts) (λ _. seat.new.parts ≡ seat.old.parts) }
         ensures seat { (seat.new.number ≡ seat.old.number) × IsOf self.now seat.new }
-        ensures kept { (seen_by seat.new ≡ seen_by seat.old) × (out_with seat.new ≡ out_with seat.old) }
+        ensures kept { KeepsView seat.old seat.new }
         ensures no_turn { taken_by seat.new ≡ None }
     {
         if seat.parts == 1 {

@@ -2,7 +2,7 @@
 
 ghost use Rattle.std.specs.Prelude.{◌≡◌, None, Some};
 ghost use Rattle.asp_model.specs.History.{BeginsWith};
-ghost use Rattle.turn_hub.specs.Seats.{IsOf, IsSame, MayGive, out_with, seen_by, taken_by};
+ghost use Rattle.turn_hub.specs.Seats.{IsOf, IsSame, KeepsView, MayGive, out_with, seen_by, taken_by};
 
 use super::Hub;
 use crate::lends::Lends;
@@ -11,8 +11,8 @@ use crate::turns::{get_turn, give_up, pick_up};
 use std::sync::Wait;
 
 impl<H: Lends> Hub<H> {
-    /// Takes the turn, and with it the value. While another seat has the turn it waits: it looks a few
-    /// times, and then sleeps until a turn is given back.
+    /// Takes the turn, and with it the value. While another seat has the turn it waits: it looks a
+    /// few times, and then sleeps until a turn is given back.
     pub fn take<R: Wait>(&self, rt: &R, seat: &mut Seat<H>) -> H
         requires hub { IsOf self.now seat.old }
         requires no_turn { taken_by seat.old ≡ None }
@@ -20,14 +20,14 @@ impl<H: Lends> Hub<H> {
         ensures taken { taken_by seat.new ≡ Some result }
         ensures history { BeginsWith (H.history result) (seen_by seat.old) }
         ensures out { H.out result seat.old.number ≡ out_with seat.old }
-        ensures kept { (seen_by seat.new ≡ seen_by seat.old) × (out_with seat.new ≡ out_with seat.old) }
+        ensures kept { KeepsView seat.old seat.new }
     {
         get_turn(rt, &self.table.shared, &mut seat.place);
         pick_up(&self.table.shared, &mut seat.place)
     }
 
-    /// Gives the value back, and the turn with it. With `more` others may find work now: one seat that
-    /// rests is woken, and each seat that was about to rest does not.
+    /// Gives the value back, and the turn with it. With `more` others may find work now: one seat
+    /// that rests is woken, and each seat that was about to rest does not.
     pub fn give(&self, seat: &mut Seat<H>, value: H, more: bool)
         requires hub { IsOf self.now seat.old }
         requires has_turn { MayGive H.history H.out seat.old value }
@@ -47,10 +47,10 @@ impl<H: Lends> Hub<H> {
         }
     }
 
-    /// For a seat that found nothing to do at its last turn. It returns at once where a turn was given
-    /// back with `more` since then, and else sleeps until one is. It may also return for no reason, so
-    /// the seat looks for work again in a turn. Who is woken and finds work, or ends, has to give with
-    /// `more` where work is left, or where the others are to end too.
+    /// For a seat that found nothing to do at its last turn. It returns at once where a turn was
+    /// given back with `more` since then, and else sleeps until one is. It may also return for no
+    /// reason, so the seat looks for work again in a turn. Who is woken and finds work, or ends, has
+    /// to give with `more` where work is left, or where the others are to end too.
     pub fn rest<R: Wait>(&self, rt: &R, seat: &Seat<H>)
         requires hub { IsOf self.now seat.now }
         requires no_turn { taken_by seat.now ≡ None }
