@@ -1,0 +1,4 @@
+pub mod NoteLemmas
+pub mod OldestLemmas
+pub mod PendingLemmas
+pub mod QueueLemmas

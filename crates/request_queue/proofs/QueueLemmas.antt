@@ -1,0 +1,207 @@
+-- What a queue keeps, when a request comes or leaves.
+use Rattle.std.proofs.Common.{◌≡◌, ◌&&◌, ◌+◌, ◌<◌, ◌≤◌, ℕ, Bool, true, false, cond, List, [], ◌∷◌, ◌++◌, Option, Some, None, map, nat_lt, nat_eq, refl, sym, ap, subst, ◌∙◌, T, arith}
+use Rattle.std.proofs.lemmas.Bool.Decides.{nat_tests}
+use Rattle.std.specs.List.{AllByRecursion}
+use Rattle.std.specs.List.Sorted.{IsStrictlySortedBy}
+use Rattle.std.specs.Option.{option_map}
+use Rattle.std.specs.Ordering.{eq_by_cmp, is_eq, nat_cmp, match_ordering}
+use Rattle.std.specs.declared.cmp.Ordering.TheVariants.{Less, Equal, Greater}
+use Rattle.std.specs.Cmp.Lexicographic.{nat_list_eq_equiv}
+use Rattle.std.specs.Map.{keys_of, remove_entry}
+use Rattle.std.specs.BTreeMap.{insert_entry}
+use Rattle.asp_model.specs.declared.word.Label.{Label}
+use Rattle.asp_model.specs.declared.store.Request.{Request}
+use Rattle.asp_model.specs.Names.{Text, same_text}
+use Rattle.asp_model.specs.Term.{has_text}
+use Rattle.asp_model.specs.Intent.{Numbered}
+use Rattle.asp_model.specs.Shapes.{request_shape}
+use Rattle.request_queue.specs.declared.notes.Notes.{Notes}
+use Rattle.request_queue.specs.Pending.{oldest, request_at}
+use Rattle.request_queue.specs.Notes.{IsOldest, IsUpTo, is_noted, is_that, label_order}
+use Rattle.request_queue.specs.Kept.{has_label, waits}
+use Rattle.request_queue.proofs.OldestLemmas.{text_same, tied}
+use Rattle.request_queue.proofs.PendingLemmas.{equal_numbers}
+
+abbrev Entries : Type 0
+Entries = List (ℕ × Request)
+
+-- Numbers below the next one
+
+abbrev pub AreBelow : ℕ → Entries → Type 0
+AreBelow n = AllByRecursion (λ e. e.0 < n)
+
+greater : (n k : ℕ) → k < n → nat_cmp n k ≡ Greater
+greater n k lt = by (nat_lt n k) refl (nat_eq n k) refl
+  where
+    by : (l : Bool) → nat_lt n k ≡ l → (e : Bool) → nat_eq n k ≡ e → cond l Less (cond e Equal Greater) ≡ Greater
+    by true p e q = absurd (grind (arith, nat_tests))
+    by false p true q = absurd (grind (arith, nat_tests))
+    by false p false q = refl
+
+pub added_last : (n : ℕ) (r : Request) (es : Entries) → AreBelow n es → insert_entry nat_cmp es n r ≡ es ++ (n, r) ∷ []
+added_last n r [] b = refl
+added_last n r (e ∷ es) b = ap (λ o. match_ordering o ((n, r) ∷ e ∷ es) ((e.0, r) ∷ es) (e ∷ insert_entry nat_cmp es n r)) (greater n e.0 b.0) ∙ ap (λ xs. e ∷ xs) (added_last n r es b.1)
+
+pub below_more : (n : ℕ) (r : Request) (es : Entries) → AreBelow n es → AreBelow (n + 1) (es ++ (n, r) ∷ [])
+below_more n r [] b = (omega arith, tt)
+below_more n r (e ∷ es) b = (omega (arith, b.0), below_more n r es b.1)
+
+pub below_less : (n : ℕ) (test : ℕ → Bool) (es : Entries) → AreBelow n es → AreBelow n (remove_entry test es)
+below_less n test [] b = tt
+below_less n test (e ∷ es) b = elim (test e.0) as (λ t. AreBelow n (cond t es (e ∷ remove_entry test es))) [ true ↦ b.1 | false ↦ (b.0, below_less n test es b.1) ]
+
+pub not_there : (n : ℕ) (es : Entries) → AreBelow n es → request_at n es ≡ None
+not_there n [] b = refl
+not_there n (e ∷ es) b = ap (λ o. cond (is_eq o) (Some e.1) (request_at n es)) (greater n e.0 b.0) ∙ not_there n es b.1
+
+-- Notes
+
+number_same : (n k : ℕ) → eq_by_cmp nat_cmp n k ≡ true → n ≡ k
+number_same n k e = let d : nat_eq n k ≡ true = equal_numbers n k ∙ e in grind (arith, nat_tests)
+
+that_label : (l m : Label) (b : Bool) → (eq_by_cmp label_order l m && b) ≡ (same_text m.text l.text && b)
+that_label l m b = ap (λ t. t && b) (tied l m ∙ nat_list_eq_equiv.symm l.text m.text)
+
+-- a request comes under the next number
+pub notes_more : (old new : Notes) (n : ℕ) (r : Request) (es after : Entries) → AreBelow n es → ((l : Label) (k : ℕ) → is_noted old l k ≡ waits es l k) → ((l : Label) (k : ℕ) → is_noted new l k ≡ cond (is_that r.label n l k) true (is_noted old l k))
+    → ((k : ℕ) → request_at k after ≡ cond (eq_by_cmp nat_cmp n k) (Some r) (request_at k es)) → (l : Label) (k : ℕ) → is_noted new l k ≡ waits after l k
+notes_more old new n r es after below kept changes updates l k = changes l k ∙ ap (λ b. cond b true (is_noted old l k)) (that_label r.label l (eq_by_cmp nat_cmp n k)) ∙ by (eq_by_cmp nat_cmp n k) refl ∙ ap (has_label l) (sym (updates k))
+  where
+    none : eq_by_cmp nat_cmp n k ≡ true → is_noted old l k ≡ false
+    none e = kept l k ∙ ap (λ m. has_label l (request_at m es)) (sym (number_same n k e)) ∙ ap (has_label l) (not_there n es below)
+
+    both : (b : Bool) → cond (b && true) true false ≡ b
+    both true = refl
+    both false = refl
+
+    neither : (b c : Bool) → cond (b && false) true c ≡ c
+    neither true c = refl
+    neither false c = refl
+
+    by : (b : Bool) → eq_by_cmp nat_cmp n k ≡ b → cond (same_text l.text r.label.text && b) true (is_noted old l k) ≡ has_label l (cond b (Some r) (request_at k es))
+    by true e = ap (λ c. cond (same_text l.text r.label.text && true) true c) (none e) ∙ both (same_text l.text r.label.text)
+    by false e = neither (same_text l.text r.label.text) (is_noted old l k) ∙ kept l k
+
+-- what was noted is forgotten
+pub notes_back : (old new back : Notes) (n : ℕ) (r : Request) (es : Entries) → AreBelow n es → ((l : Label) (k : ℕ) → is_noted old l k ≡ waits es l k) → ((l : Label) (k : ℕ) → is_noted new l k ≡ cond (is_that r.label n l k) true (is_noted old l k))
+    → ((l : Label) (k : ℕ) → is_noted back l k ≡ cond (is_that r.label n l k) false (is_noted new l k)) → (l : Label) (k : ℕ) → is_noted back l k ≡ waits es l k
+notes_back old new back n r es below kept changes forgets l k = forgets l k ∙ by (eq_by_cmp label_order r.label l) (eq_by_cmp nat_cmp n k) refl refl
+  where
+    none : eq_by_cmp nat_cmp n k ≡ true → waits es l k ≡ false
+    none e = ap (λ m. has_label l (request_at m es)) (sym (number_same n k e)) ∙ ap (has_label l) (not_there n es below)
+
+    by : (a b : Bool) → eq_by_cmp label_order r.label l ≡ a → eq_by_cmp nat_cmp n k ≡ b → cond (a && b) false (is_noted new l k) ≡ waits es l k
+    by true true p q = sym (none q)
+    by true false p q = changes l k ∙ (λ i. cond (p i && q i) true (is_noted old l k)) ∙ kept l k
+    by false b p q = changes l k ∙ (λ i. cond (p i && q i) true (is_noted old l k)) ∙ kept l k
+
+-- a request leaves
+pub notes_less : (old new : Notes) (n : ℕ) (r : Request) (es after : Entries) → request_at n es ≡ Some r → ((l : Label) (k : ℕ) → is_noted old l k ≡ waits es l k) → ((l : Label) (k : ℕ) → is_noted new l k ≡ cond (is_that r.label n l k) false (is_noted old l k))
+    → ((k : ℕ) → request_at k after ≡ cond (eq_by_cmp nat_cmp n k) None (request_at k es)) → (l : Label) (k : ℕ) → is_noted new l k ≡ waits after l k
+notes_less old new n r es after there kept changes updates l k = changes l k ∙ ap (λ b. cond b false (is_noted old l k)) (that_label r.label l (eq_by_cmp nat_cmp n k)) ∙ by (eq_by_cmp nat_cmp n k) refl ∙ ap (has_label l) (sym (updates k))
+  where
+    was : eq_by_cmp nat_cmp n k ≡ true → is_noted old l k ≡ same_text l.text r.label.text
+    was e = kept l k ∙ ap (λ m. has_label l (request_at m es)) (sym (number_same n k e)) ∙ ap (has_label l) there
+
+    gone : (b : Bool) → cond (b && true) false b ≡ false
+    gone true = refl
+    gone false = refl
+
+    neither : (b c : Bool) → cond (b && false) false c ≡ c
+    neither true c = refl
+    neither false c = refl
+
+    by : (b : Bool) → eq_by_cmp nat_cmp n k ≡ b → cond (same_text l.text r.label.text && b) false (is_noted old l k) ≡ has_label l (cond b None (request_at k es))
+    by true e = ap (λ c. cond (same_text l.text r.label.text && true) false c) (was e) ∙ gone (same_text l.text r.label.text)
+    by false e = neither (same_text l.text r.label.text) (is_noted old l k) ∙ kept l k
+
+-- The oldest match
+
+abbrev numbered : ℕ × Request → Numbered
+numbered e = (e.0, request_shape e.1)
+
+-- what is asked and pending among these entries
+abbrev IsMatch : List Text → Entries → Label → ℕ → Type 0
+IsMatch asked es l k = (has_text l.text asked ≡ true) × (waits es l k ≡ true)
+
+record IsFirst (asked : List Text) (es : Entries) (o : Option ℕ) : Type 0 where
+  pub found : (n : ℕ) → o ≡ Some n → (l : Label) × IsMatch asked es l n
+  pub least : (l : Label) (k : ℕ) → IsMatch asked es l k → IsUpTo k o
+
+contradiction : {A : Type 0} (b : Bool) → b ≡ true → b ≡ false → A
+contradiction b p q = absurd (subst T (sym p ∙ q) tt)
+
+abbrev Ascends : Entries → Type 0
+Ascends es = IsStrictlySortedBy nat_cmp (keys_of es)
+
+-- a pending number is above what is below all numbers
+waits_after : (k : ℕ) (es : Entries) (l : Label) (n : ℕ) → AllByRecursion (λ y. nat_cmp k y ≡ Less) (keys_of es) → waits es l n ≡ true → k < n
+waits_after k [] l n above h = contradiction false h refl
+waits_after k (e ∷ es) l n above h = by (is_eq (nat_cmp n e.0)) refl h (waits_after k es l n above.1)
+  where
+    less : (j : ℕ) → nat_cmp k j ≡ Less → k < j
+    less j d = go (nat_lt k j) refl d
+      where
+        go : (b : Bool) → nat_lt k j ≡ b → cond b Less (cond (nat_eq k j) Equal Greater) ≡ Less → k < j
+        go true p q = grind (arith, nat_tests)
+        go false p q = absurd (no (nat_eq k j) q)
+          where
+            no : (b : Bool) → cond b Equal Greater ≡ Less → ⊥
+            no true q = absurd cc
+            no false q = absurd cc
+
+    by : (b : Bool) → is_eq (nat_cmp n e.0) ≡ b → has_label l (cond b (Some e.1) (request_at n es)) ≡ true → (waits es l n ≡ true → k < n) → k < n
+    by true d h next = subst (λ m. k < m) (sym (number_same n e.0 d)) (less e.0 above.0)
+    by false d h next = next h
+
+itself : (k : ℕ) → is_eq (nat_cmp k k) ≡ true
+itself k = sym (equal_numbers k k) ∙ grind (arith, nat_tests)
+
+-- the least number that is asked for is that of the oldest match
+first_is : (asked : List Text) (es : Entries) (o : Option ℕ) → Ascends es → IsFirst asked es o → o ≡ option_map (λ x. x.0) (oldest asked (map numbered es))
+unfolding IsStrictlySortedBy
+first_is asked [] None up f = refl
+first_is asked [] (Some n) up f = contradiction false (f.found n refl).1.1 refl
+first_is asked (e ∷ es) o up f = by (has_text e.1.label.text asked) refl (first_is asked es o up.1)
+  where
+    here : waits (e ∷ es) e.1.label e.0 ≡ true
+    here = ap (λ b. has_label e.1.label (cond b (Some e.1) (request_at e.0 es))) (itself e.0) ∙ nat_list_eq_equiv.refl e.1.label.text
+
+    at_least : (l : Label) (n : ℕ) → waits (e ∷ es) l n ≡ true → e.0 ≤ n
+    at_least l n h = go (is_eq (nat_cmp n e.0)) refl h
+      where
+        go : (b : Bool) → is_eq (nat_cmp n e.0) ≡ b → has_label l (cond b (Some e.1) (request_at n es)) ≡ true → e.0 ≤ n
+        go true d h = let same : n ≡ e.0 = number_same n e.0 d in omega (arith, same)
+        go false d h = let lt : e.0 < n = waits_after e.0 es l n up.0 h in omega (arith, lt)
+
+    others : has_text e.1.label.text asked ≡ false → IsFirst asked es o
+    others apart = record { found = λ n d. found_there n (f.found n d); least = λ l k m. f.least l k (m.0, still l k m.1) }
+      where
+        found_there : (n : ℕ) → (l : Label) × IsMatch asked (e ∷ es) l n → (l : Label) × IsMatch asked es l n
+        found_there n x = (x.0, (x.1.0, go (is_eq (nat_cmp n e.0)) refl x.1.1))
+          where
+            go : (b : Bool) → is_eq (nat_cmp n e.0) ≡ b → has_label x.0 (cond b (Some e.1) (request_at n es)) ≡ true → waits es x.0 n ≡ true
+            go true d h = contradiction (has_text e.1.label.text asked) (ap (λ (m : Label). has_text m.text asked) (sym (text_same x.0 e.1.label h)) ∙ x.1.0) apart
+            go false d h = h
+
+        still : (l : Label) (k : ℕ) → waits es l k ≡ true → waits (e ∷ es) l k ≡ true
+        still l k h = go (is_eq (nat_cmp k e.0)) refl
+          where
+            go : (b : Bool) → is_eq (nat_cmp k e.0) ≡ b → has_label l (cond b (Some e.1) (request_at k es)) ≡ true
+            go true d = let lt : e.0 < k = waits_after e.0 es l k up.0 h in let same : k ≡ e.0 = number_same k e.0 d in absurd (omega (arith, lt, same))
+            go false d = h
+
+    by : (b : Bool) → has_text e.1.label.text asked ≡ b → (IsFirst asked es o → o ≡ option_map (λ x. x.0) (oldest asked (map numbered es))) → o ≡ option_map (λ x. x.0) (elim b [ true ↦ Some (numbered e) | false ↦ oldest asked (map numbered es) ])
+    by true d next =
+        let u = f.least e.1.label e.0 (d, here) in
+        let le : e.0 ≤ u.0 = at_least (f.found u.0 u.1).0 u.0 (f.found u.0 u.1).1.1 in
+        let same : u.0 ≡ e.0 = omega (arith, le, u.2) in
+        u.1 ∙ ap Some same
+    by false d next = next (others d)
+
+-- a queue's notes tell the oldest match
+pub oldest_is : (asked : List Text) (w : Notes) (es : Entries) (o : Option ℕ) → Ascends es → ((l : Label) (k : ℕ) → is_noted w l k ≡ waits es l k) → IsOldest asked w o → o ≡ option_map (λ x. x.0) (oldest asked (map numbered es))
+oldest_is asked w es o up kept old = first_is asked es o up (record {
+  found = λ n e. let x = old.found n e in (x.0, (x.1.0, sym (kept x.0 n) ∙ x.1.1));
+  least = λ l k m. old.least l k (m.0, kept l k ∙ m.1);
+})

@@ -1,0 +1,9 @@
+//! The pending requests of one activity, and which of them a service takes.
+#![tactic(auto)]
+
+mod laws;
+mod notes;
+mod queue;
+
+pub use laws::{arrivals_wait, matches_are_pending, served_leave};
+pub use queue::Queue;

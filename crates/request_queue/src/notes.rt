@@ -1,0 +1,160 @@
+//! The numbers of the pending requests, by their labels.
+
+ghost use Rattle.std.specs.Prelude.{◌≡◌, ℕ, IsSome, IsTrue, None, OnErr, OnOk, [], false, true};
+ghost use Rattle.std.specs.BTreeMap.{get};
+ghost use Rattle.asp_model.specs.declared.word.Label.{Label};
+ghost use Rattle.request_queue.specs.Notes.{
+  AreAlike,
+  Changes,
+  IsLeast,
+  IsOldest,
+  IsOldestWith,
+  earlier as earlier_of,
+  is_noted,
+  label_order,
+  numbers_in,
+};
+
+use asp_model::Label;
+use serve_rules::LabelSet;
+use std::alloc::{AllocError, Global};
+use std::collections::{BTreeMap, BTreeSet};
+
+/// For each label that is pending the numbers of its requests.
+#[derive(Drop)]
+pub struct Notes {
+    alloc: Global,
+    numbers: BTreeMap<Label, BTreeSet<u64>>,
+}
+
+impl Notes {
+    pub fn new(alloc: Global) -> Notes
+        ensures none { (l : Label) (k : ℕ) → is_noted result l k ≡ false }
+    {
+        Notes {
+            alloc,
+            numbers: BTreeMap::new(alloc),
+        }
+    }
+
+    /// Notes a number under a label.
+    pub fn note(&mut self, label: &Label, number: u64) -> Result<(), AllocError>
+        ensures noted { OnOk result (Changes label.now number true self.old self.new) }
+        ensures err { OnErr result (AreAlike self.old self.new) }
+    {
+        if self.numbers.contains_key(label) {
+            self.note_known(label, number)
+        } else {
+            self.note_new(label, number)
+        }
+    }
+
+    fn note_known(&mut self, label: &Label, number: u64) -> Result<(), AllocError>
+        requires known { IsSome (get label_order self.old.numbers label.now) }
+        ensures noted { OnOk result (Changes label.now number true self.old self.new) }
+        ensures err { OnErr result (AreAlike self.old self.new) }
+    {
+        match self.numbers.get_mut(label) {
+            Some(numbers) => {
+                numbers.insert(number)?;
+                Ok(())
+            }
+            None => Ok(()),
+        }
+    }
+
+    fn note_new(&mut self, label: &Label, number: u64) -> Result<(), AllocError>
+        requires new { get label_order self.old.numbers label.now ≡ None }
+        ensures noted { OnOk result (Changes label.now number true self.old self.new) }
+        ensures err { OnErr result (AreAlike self.old self.new) }
+    {
+        let label = label.copy(self.alloc)?;
+        let mut numbers = BTreeSet::new(self.alloc);
+        numbers.insert(number)?;
+        self.numbers.insert(label, numbers)?;
+        Ok(())
+    }
+
+    /// Forgets a number of a label, and the label with its last number.
+    pub fn forget(&mut self, label: &Label, number: u64)
+        ensures forgotten { Changes label.now number false self.old self.new }
+    {
+        if self.is_last(label, number) {
+            self.numbers.remove(label);
+        }
+    }
+
+    // Forgets a number of a label, and answers whether it was the last one.
+    fn is_last(&mut self, label: &Label, number: u64) -> bool
+        ensures forgotten { Changes label.now number false self.old self.new }
+        ensures none { IsTrue result → numbers_in self.new label.now ≡ [] }
+    {
+        match self.numbers.get_mut(label) {
+            Some(numbers) => {
+                numbers.remove(&number);
+                numbers.is_empty()
+            }
+            None => false,
+        }
+    }
+
+    /// The least number that one of the labels has. As many labels are looked up as the set has, or as
+    /// are pending, whichever are fewer.
+    pub fn oldest(&self, labels: &LabelSet) -> Option<u64>
+        ensures oldest { IsOldest labels.now self.now result }
+    {
+        if labels.labels().len() < self.numbers.len() {
+            self.oldest_asked(labels)
+        } else {
+            self.oldest_pending(labels)
+        }
+    }
+
+    fn oldest_asked(&self, labels: &LabelSet) -> Option<u64>
+        ensures oldest { IsOldest labels.now self.now result }
+    {
+        let mut best = None;
+        for label in labels.labels() {
+            best = earlier(best, self.oldest_with(label));
+        }
+        best
+    }
+
+    fn oldest_pending(&self, labels: &LabelSet) -> Option<u64>
+        ensures oldest { IsOldest labels.now self.now result }
+    {
+        let mut best = None;
+        for label in self.numbers.keys() {
+            if labels.has(label) {
+                best = earlier(best, self.oldest_with(label));
+            }
+        }
+        best
+    }
+
+    fn oldest_with(&self, label: &Label) -> Option<u64>
+        ensures oldest { IsOldestWith self.now label.now result }
+    {
+        match self.numbers.get(label) {
+            Some(numbers) => first(numbers),
+            None => None,
+        }
+    }
+}
+
+fn first(numbers: &BTreeSet<u64>) -> Option<u64>
+    ensures least { IsLeast numbers.now.keys result }
+{
+    numbers.first().copied()
+}
+
+// The lesser of two numbers, where there are both.
+fn earlier(best: Option<u64>, other: Option<u64>) -> Option<u64>
+    ensures { result ≡ earlier_of best other }
+{
+    match (best, other) {
+        (Some(one), Some(two)) => Some(if two < one { two } else { one }),
+        (None, other) => other,
+        (best, None) => best,
+    }
+}

@@ -1,0 +1,103 @@
+//! The queue. A served request leaves it, and the others keep their order and their numbers.
+
+ghost use Rattle.std.specs.Prelude.{◌≡◌, ◌+◌, ◌++◌, ◌∷◌, [], IsSome, OnErr, OnOk, Some, length};
+ghost use Rattle.std.specs.Option.{option_map};
+ghost use Rattle.request_queue.specs.Pending.{but, oldest, request_at, waiting};
+
+use crate::notes::Notes;
+use asp_model::Request;
+use serve_rules::LabelSet;
+use std::alloc::{AllocError, Global};
+use std::collections::BTreeMap;
+use std::marker::Model;
+
+/// The pending requests of one activity with their numbers in order of arrival, oldest first, and how
+/// many requests have arrived.
+#[derive(Drop)]
+pub struct Queue {
+    arrived: u64,
+    pending: BTreeMap<u64, Request>,
+    notes: Notes,
+}
+
+impl Model for Queue {
+    ghost use Rattle.request_queue.specs.Pending.{QueueView};
+
+    ghost Value = { QueueView };
+
+    ghost use Rattle.asp_model.specs.contracts.term.Term as term;
+    ghost use Rattle.asp_model.specs.contracts.term.Method as method;
+    ghost use Rattle.std.specs.Coded.{codes};
+
+    ghost coded = { Prim.hlevel (codes, term.the_row.coded, method.the_row.coded) };
+
+    ghost use Rattle.request_queue.specs.Kept.{IsKept, view_of};
+
+    ghost view = { view_of };
+
+    ghost invariant = { IsKept };
+}
+
+impl Queue {
+    /// No request.
+    pub fn new(alloc: Global) -> Queue
+        ensures pending { result.pending ≡ [] }
+        ensures arrived { result.arrived ≡ 0 }
+    {
+        Queue {
+            arrived: 0,
+            pending: BTreeMap::new(alloc),
+            notes: Notes::new(alloc),
+        }
+    }
+
+    /// How many requests are pending.
+    pub fn len(&self) -> usize
+        ensures len { result ≡ length self.now.pending }
+    {
+        self.pending.len()
+    }
+
+    /// Appends a request under the next number.
+    pub fn push(&mut self, request: Request) -> Result<(), AllocError>
+        ensures pending { let old = self.old in OnOk result
+            (self.new.pending ≡ old.pending ++ (old.arrived, request) ∷ []) }
+        ensures arrived { OnOk result (self.new.arrived ≡ self.old.arrived + 1) }
+        ensures err { OnErr result (self.new ≡ self.old) }
+    {
+        if self.arrived == u64::MAX {
+            return Err(AllocError);
+        }
+        self.notes.note(&request.label, self.arrived)?;
+        match self.pending.insert(self.arrived, request) {
+            Ok(_) => {
+                self.arrived += 1;
+                Ok(())
+            }
+            Err(failed) => {
+                self.notes.forget(&failed.value.1.label, self.arrived);
+                Err(AllocError)
+            }
+        }
+    }
+
+    /// The number of the oldest request with one of the labels.
+    pub fn first_of(&self, labels: &LabelSet) -> Option<u64>
+        ensures oldest { let found = oldest labels.now (waiting self.now) in
+            result ≡ option_map (λ x. x.0) found }
+    {
+        self.notes.oldest(labels)
+    }
+
+    /// Removes the request of a number, and returns it.
+    pub fn take(&mut self, number: u64) -> Request
+        requires pending { IsSome (request_at number self.old.pending) }
+        ensures taken { request_at number self.old.pending ≡ Some result }
+        ensures others { self.new.pending ≡ but number self.old.pending }
+        ensures arrived { self.new.arrived ≡ self.old.arrived }
+    {
+        let request = self.pending.remove(&number).unwrap();
+        self.notes.forget(&request.label, number);
+        request
+    }
+}
