@@ -5,6 +5,7 @@ use Rattle.std.specs.Option.{unwrap_or}
 use Rattle.std.specs.FinMap.{is_sorted}
 use Rattle.std.proofs.lemmas.Bool.{and_parts, leb-true}
 use Rattle.std.proofs.lemmas.List.{map-append}
+use Rattle.asp_model.specs.declared.limits.TheConstants.{MOST_REDUCTIONS}
 use Rattle.asp_model.specs.Names.{Name, Text, main_name, name_cmp, same_name, same_text}
 use Rattle.asp_model.specs.Term.{has_text}
 use Rattle.asp_model.specs.Step.{ListsShape}
@@ -21,7 +22,7 @@ names es = map (λ x. x.0) es
 pub record IsLog (lists : ListsShape) (counts : CountsShape) : Type 0 where
   pub same : map (λ x. x.0) lists ≡ map (λ x. x.0) counts
   pub ascending : is_sorted name_cmp counts ≡ true
-  pub within : total counts ≤ 10000000
+  pub within : total counts ≤ MOST_REDUCTIONS
 
 -- the counts end with that of this name
 record IsUpTo (n : Name) (counts : CountsShape) : Type 0 where
@@ -29,7 +30,7 @@ record IsUpTo (n : Name) (counts : CountsShape) : Type 0 where
   count : ℕ
   last : counts ≡ before ++ (n, count) ∷ []
   ascending : is_sorted name_cmp counts ≡ true
-  within : total counts ≤ 10000000
+  within : total counts ≤ MOST_REDUCTIONS
 
 abbrev IsEmpty : Progress → Type 0
 IsEmpty p = (p.lists ≡ []) × (p.counts ≡ [])
@@ -58,20 +59,20 @@ verdict_keeps p q false h e = absurd cc
 record Taken (fits : Name → Bool) (p q : Progress) : Type 0 where
   entry : Name × ℕ
   fitting : fits entry.0 ≡ true
-  within : total (p.counts ++ entry ∷ []) ≤ 10000000
+  within : total (p.counts ++ entry ∷ []) ≤ MOST_REDUCTIONS
   is : with_entry p entry.0 entry.1 ≡ q
 
-taken : (fits : Name → Bool) (p q : Progress) (a : Name × ℕ) (b : Bool) → (fits a.0 && nat_le (total (p.counts ++ a ∷ [])) 10000000) ≡ b → elim b [ true ↦ Some (with_entry p a.0 a.1) | false ↦ None ] ≡ Some q → Taken fits p q
+taken : (fits : Name → Bool) (p q : Progress) (a : Name × ℕ) (b : Bool) → (fits a.0 && nat_le (total (p.counts ++ a ∷ [])) MOST_REDUCTIONS) ≡ b → elim b [ true ↦ Some (with_entry p a.0 a.1) | false ↦ None ] ≡ Some q → Taken fits p q
 taken fits p q a true e h =
-    let t = and_parts (fits a.0) (nat_le (total (p.counts ++ a ∷ [])) 10000000) e in
-    record { entry = a; fitting = t.0; within = leb-true (total (p.counts ++ a ∷ [])) 10000000 t.1; is = some_is _ _ h }
+    let t = and_parts (fits a.0) (nat_le (total (p.counts ++ a ∷ [])) MOST_REDUCTIONS) e in
+    record { entry = a; fitting = t.0; within = leb-true (total (p.counts ++ a ∷ [])) MOST_REDUCTIONS t.1; is = some_is _ _ h }
 taken fits p q a false e h = absurd cc
 
 takes : (fits : Name → Bool) (p q : Progress) (o : Option (Name × ℕ)) → with_activity fits p o ≡ Some q → Taken fits p q
 takes fits p q None h = absurd cc
-takes fits p q (Some a) h = taken fits p q a (fits a.0 && nat_le (total (p.counts ++ a ∷ [])) 10000000) refl h
+takes fits p q (Some a) h = taken fits p q a (fits a.0 && nat_le (total (p.counts ++ a ∷ [])) MOST_REDUCTIONS) refl h
 
-entry_keeps : (p : Progress) (a : Name × ℕ) → names p.lists ≡ names p.counts → is_sorted name_cmp (p.counts ++ a ∷ []) ≡ true → total (p.counts ++ a ∷ []) ≤ 10000000 → Holds (Senders a.0) (with_entry p a.0 a.1)
+entry_keeps : (p : Progress) (a : Name × ℕ) → names p.lists ≡ names p.counts → is_sorted name_cmp (p.counts ++ a ∷ []) ≡ true → total (p.counts ++ a ∷ []) ≤ MOST_REDUCTIONS → Holds (Senders a.0) (with_entry p a.0 a.1)
 entry_keeps p a same sorted within = (
   record { before = p.counts; count = a.1; last = refl; ascending = sorted; within = within },
   ap (λ (ns : List Name). ns ++ a.0 ∷ []) same ∙ sym (map-append (λ (x : Name × ℕ). x.0) p.counts (a ∷ [])),

@@ -1,8 +1,15 @@
--- What an error tells of a text.
+-- What an answer tells of a text.
 use Rattle.std.specs.Prelude.{◌≡◌, ⊤, ℕ, Option, None}
-use Rattle.asp_model.specs.ReadReport.{Progress, Reading, BadLine}
+use Rattle.asp_model.specs.declared.outcome.Lists.{Lists}
+use Rattle.asp_model.specs.declared.outcome.Counts.{Counts}
+use Rattle.asp_model.specs.Shapes.{lists_shape, counts_shape}
+use Rattle.asp_model.specs.ReadReport.{Progress, Reading, Reads, BadLine}
 use Rattle.sender_log.specs.declared.error.LogError.{LogError}
 use Rattle.sender_log.specs.declared.error.LogError.TheVariants as errors
+
+-- the lists and counts are those that the definition reads
+abbrev pub Gives : Reading → Lists × Counts → Type 0
+Gives r log = r ≡ Reads (lists_shape log.0) (counts_shape log.1)
 
 -- the line is the one that the definition names; want of memory tells nothing
 abbrev pub TellsOf : Reading → LogError → Type 0

@@ -1,7 +1,8 @@
 -- What definitions see of how far a report has been read.
-use Rattle.std.specs.Prelude.{ℕ, Bool, false, [], ◌∷◌, ◌++◌, map}
-use Rattle.asp_model.specs.Names.{Name, main_name, same_name}
-use Rattle.asp_model.specs.ReadReport.{Next as NextShape, Title, Verdict, Main, Senders, Later, Progress as ProgressShape, is_behind}
+use Rattle.std.specs.Prelude.{◌≡◌, ℕ, Bool, false, [], ◌∷◌, ◌++◌, map, Option}
+use Rattle.std.specs.Option.{option_map}
+use Rattle.asp_model.specs.Names.{Name, Text, main_name, same_name}
+use Rattle.asp_model.specs.ReadReport.{Next as NextShape, Title, Verdict, Main, Senders, Later, Progress as ProgressShape, is_behind, behind, with_activity, ended, Reading}
 use Rattle.sender_log.specs.declared.progress.Next.{Next}
 use Rattle.sender_log.specs.declared.progress.Next.TheVariants as next
 use Rattle.sender_log.specs.declared.progress.Progress.{Progress}
@@ -14,7 +15,11 @@ next_shape (next.Senders n) = Senders n
 next_shape (next.Later n) = Later n
 
 abbrev pub progress_shape : Progress → ProgressShape
-progress_shape p = record { next = next_shape p.next; lists = map (λ x. (x.0, x.1.items)) p.lists.items; counts = p.counts.items }
+progress_shape p = record {
+  next = next_shape p.next;
+  lists = map (λ x. (x.0, x.1.items)) p.lists.items;
+  counts = p.counts.items;
+}
 
 -- before the first line
 abbrev pub before_lines : ProgressShape
@@ -22,10 +27,30 @@ before_lines = record { next = Title; lists = []; counts = [] }
 
 -- with the activity line of this name
 abbrev pub with_entry : ProgressShape → Name → ℕ → ProgressShape
-with_entry p name count = record { next = Senders name; lists = p.lists; counts = p.counts ++ (name, count) ∷ [] }
+with_entry p name count = record {
+  next = Senders name;
+  lists = p.lists;
+  counts = p.counts ++ (name, count) ∷ [];
+}
 
 -- whether the activity line of this name may be the next
 abbrev pub fits_at : NextShape → Name → Bool
 fits_at Main n = same_name main_name n
 fits_at (Later m) n = is_behind m n
 fits_at next n = false
+
+-- what was found is this
+abbrev pub Shows : Option ProgressShape → Option Progress → Type 0
+Shows shape found = option_map progress_shape found ≡ shape
+
+-- what stands behind one more line
+abbrev pub behind_line : Progress → Text → Option ProgressShape
+behind_line p line = behind (next_shape p.next) (progress_shape p) line
+
+-- with the activity line that was found, where it may be the next
+abbrev pub with_found : Progress → Option (Name × ℕ) → Option ProgressShape
+with_found p found = with_activity (fits_at (next_shape p.next)) (progress_shape p) found
+
+-- what is read at the end, with what stands behind the last line feed
+abbrev pub end_of : Progress → ℕ → Text → Reading
+end_of p number rest = ended (next_shape p.next) (progress_shape p) number rest

@@ -62,7 +62,8 @@ fn activity_with(
     count: &[u8],
     status: &[&[u8]],
 ) -> Result<Option<(ActivityName, u64)>, AllocError>
-    ensures { IfOk result (λ o. o ≡ activity_in_words (word.now ∷ name.now ∷ count.now ∷ map (λ w. w.now) status.now)) }
+    ensures { let words = word.now ∷ name.now ∷ count.now ∷ map (λ w. w.now) status.now in
+        IfOk result (λ o. o ≡ activity_in_words words) }
 {
     if word != b"activity".as_slice() {
         return Ok(None);
@@ -125,14 +126,16 @@ fn is_fault(text: &[u8]) -> bool
 
 /// The names that a senders line shows.
 pub fn senders_in(alloc: Global, line: &[u8]) -> Result<Option<Vec<ActivityName>>, AllocError>
-    ensures senders { IfOk result (λ o. option_map (λ v. v.items) o ≡ senders_in_words (parts 32 line.now)) }
+    ensures senders { IfOk result
+        (λ o. option_map (λ v. v.items) o ≡ senders_in_words (parts 32 line.now)) }
 {
     let words = cut(alloc, b' ', line)?;
     senders_of(alloc, &words)
 }
 
 fn senders_of(alloc: Global, words: &[&[u8]]) -> Result<Option<Vec<ActivityName>>, AllocError>
-    ensures { IfOk result (λ o. option_map (λ v. v.items) o ≡ senders_in_words (map (λ w. w.now) words.now)) }
+    ensures { IfOk result
+        (λ o. option_map (λ v. v.items) o ≡ senders_in_words (map (λ w. w.now) words.now)) }
 {
     if words.is_empty() || words[0] != b"senders".as_slice() {
         return Ok(None);
@@ -141,7 +144,8 @@ fn senders_of(alloc: Global, words: &[&[u8]]) -> Result<Option<Vec<ActivityName>
 }
 
 fn names_in(alloc: Global, words: &[&[u8]]) -> Result<Option<Vec<ActivityName>>, AllocError>
-    ensures { IfOk result (λ o. option_map (λ v. v.items) o ≡ all_found name_in (map (λ w. w.now) words.now)) }
+    ensures { IfOk result
+        (λ o. option_map (λ v. v.items) o ≡ all_found name_in (map (λ w. w.now) words.now)) }
 {
     let mut names = Vec::new(alloc);
     for word in words {

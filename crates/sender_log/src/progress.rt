@@ -1,13 +1,11 @@
 //! How far a report has been read.
 
 ghost use Rattle.std.specs.Prelude.{◌≡◌, ◌≤◌};
+ghost use Rattle.asp_model.specs.declared.limits.TheConstants.{MOST_REDUCTIONS};
 ghost use Rattle.asp_model.specs.Replay.{total as sum_of};
 
 use asp_model::ActivityName;
 use std::alloc::Global;
-
-/// The greatest sum of the counts of a report.
-pub const MOST: u64 = 10_000_000;
 
 /// What may stand in the next line.
 #[derive(Debug, Drop)]
@@ -31,7 +29,7 @@ pub struct Progress {
     /// The sum of the counts.
     pub total: u64,
     pub ghost sum: { total ≡ sum_of counts.items },
-    pub ghost within: { total ≤ 10000000 },
+    pub ghost within: { total ≤ MOST_REDUCTIONS },
 }
 
 impl Progress {

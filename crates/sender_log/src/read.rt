@@ -2,12 +2,13 @@
 
 ghost use Rattle.std.specs.Prelude.{◌≡◌, ◌<◌, ◌≤◌, true, length, map, IfOk, IfErr};
 ghost use Rattle.std.specs.FinMap.{is_sorted};
+ghost use Rattle.asp_model.specs.declared.limits.TheConstants.{MOST_REDUCTIONS};
 ghost use Rattle.asp_model.specs.Names.{name_cmp};
 ghost use Rattle.asp_model.specs.Replay.{total as sum_of};
-ghost use Rattle.asp_model.specs.ReadReport.{Reads, behind as behind_shape, ended as ended_shape, read_on, read_report as reading_of};
+ghost use Rattle.asp_model.specs.ReadReport.{Reads, read_on, read_report as reading_of};
 ghost use Rattle.asp_model.specs.Shapes.{counts_shape, lists_shape};
-ghost use Rattle.sender_log.specs.Answers.{IsRefusedAt, TellsOf};
-ghost use Rattle.sender_log.specs.Progress.{before_lines, next_shape, progress_shape};
+ghost use Rattle.sender_log.specs.Answers.{Gives, IsRefusedAt, TellsOf};
+ghost use Rattle.sender_log.specs.Progress.{before_lines, behind_line, end_of, progress_shape};
 
 use crate::error::LogError;
 use crate::parts::cut;
@@ -19,19 +20,21 @@ use std::alloc::Global;
 /// The sender lists and the counts that a report shows, or its first line that cannot stand in its
 /// place.
 pub fn read_report(alloc: Global, bytes: &[u8]) -> Result<(Lists, Counts), LogError>
-    ensures ok { IfOk result (λ r. reading_of bytes.now ≡ Reads (lists_shape r.0) (counts_shape r.1)) }
+    ensures ok { IfOk result
+        (λ r. reading_of bytes.now ≡ Reads (lists_shape r.0) (counts_shape r.1)) }
     ensures bad_line { IfErr result (TellsOf (reading_of bytes.now)) }
 
     // What is read can be run again.
-    ensures same { IfOk result (λ r. map (λ x. x.0) (lists_shape r.0) ≡ map (λ x. x.0) (counts_shape r.1)) }
+    ensures same { IfOk result
+        (λ r. map (λ x. x.0) (lists_shape r.0) ≡ map (λ x. x.0) (counts_shape r.1)) }
     ensures ascending { IfOk result (λ r. is_sorted name_cmp (counts_shape r.1) ≡ true) }
-    ensures within { IfOk result (λ r. sum_of (counts_shape r.1) ≤ 10000000) }
+    ensures within { IfOk result (λ r. sum_of (counts_shape r.1) ≤ MOST_REDUCTIONS) }
 {
     read_bytes(alloc, bytes)
 }
 
 fn read_bytes(alloc: Global, bytes: &[u8]) -> Result<(Lists, Counts), LogError>
-    ensures ok { IfOk result (λ r. reading_of bytes.now ≡ Reads (lists_shape r.0) (counts_shape r.1)) }
+    ensures ok { IfOk result (Gives (reading_of bytes.now)) }
     ensures bad_line { IfErr result (TellsOf (reading_of bytes.now)) }
 {
     let lines = cut(alloc, b'\n', bytes)?;
@@ -40,8 +43,9 @@ fn read_bytes(alloc: Global, bytes: &[u8]) -> Result<(Lists, Counts), LogError>
 
 fn read_lines(alloc: Global, lines: &[&[u8]]) -> Result<(Lists, Counts), LogError>
     requires { 0 < length lines.now }
-    ensures ok { IfOk result (λ r. read_on before_lines 1 (map (λ l. l.now) lines.now) ≡ Reads (lists_shape r.0) (counts_shape r.1)) }
-    ensures bad_line { IfErr result (TellsOf (read_on before_lines 1 (map (λ l. l.now) lines.now))) }
+    ensures ok { IfOk result (Gives (read_on before_lines 1 (map (λ l. l.now) lines.now))) }
+    ensures bad_line { IfErr result
+        (TellsOf (read_on before_lines 1 (map (λ l. l.now) lines.now))) }
 {
     let last = lines.len() - 1;
     let mut progress = Progress::new(alloc);
@@ -58,8 +62,8 @@ fn advance(
     line: &[u8],
     number: u64,
 ) -> Result<Progress, LogError>
-    ensures ok { IfOk result (λ q. behind_shape (next_shape progress.next) (progress_shape progress) line.now ≡ Some (progress_shape q)) }
-    ensures bad_line { IfErr result (IsRefusedAt number (behind_shape (next_shape progress.next) (progress_shape progress) line.now)) }
+    ensures ok { IfOk result (λ q. behind_line progress line.now ≡ Some (progress_shape q)) }
+    ensures bad_line { IfErr result (IsRefusedAt number (behind_line progress line.now)) }
 {
     match behind(alloc, progress, line)? {
         Some(progress) => Ok(progress),
@@ -69,8 +73,8 @@ fn advance(
 
 // At the end of a text, with what stands behind its last line feed.
 fn ended(progress: Progress, number: u64, rest: &[u8]) -> Result<(Lists, Counts), LogError>
-    ensures ok { IfOk result (λ r. ended_shape (next_shape progress.next) (progress_shape progress) number rest.now ≡ Reads (lists_shape r.0) (counts_shape r.1)) }
-    ensures bad_line { IfErr result (TellsOf (ended_shape (next_shape progress.next) (progress_shape progress) number rest.now)) }
+    ensures ok { IfOk result (Gives (end_of progress number rest.now)) }
+    ensures bad_line { IfErr result (TellsOf (end_of progress number rest.now)) }
 {
     let Progress {
         next,

@@ -1,14 +1,13 @@
 //! One line of a report behind others.
 
 ghost use Rattle.std.specs.Prelude.{◌≡◌, ◌+◌, ◌≤◌, IfOk};
-ghost use Rattle.std.specs.Option.{option_map};
 ghost use Rattle.asp_model.specs.ReportLines.{parts, activity_in as activity_in_words, senders_of as senders_in_words};
-ghost use Rattle.asp_model.specs.ReadReport.{behind as behind_shape, goes_on as goes_on_shape, with_activity as with_activity_shape, with_senders as with_senders_shape};
-ghost use Rattle.sender_log.specs.Progress.{next_shape, progress_shape, with_entry as with_entry_shape, fits_at};
+ghost use Rattle.asp_model.specs.ReadReport.{goes_on as goes_on_shape, with_senders as with_senders_shape};
+ghost use Rattle.sender_log.specs.Progress.{Shows, behind_line, fits_at, next_shape, progress_shape, with_entry as with_entry_shape, with_found};
 
 use crate::lines::{activity_in, is_output, is_title, is_verdict, senders_in};
-use crate::progress::{MOST, Next, Progress};
-use asp_model::ActivityName;
+use crate::progress::{Next, Progress};
+use asp_model::{ActivityName, MOST_REDUCTIONS};
 use std::alloc::{AllocError, Global};
 
 /// What was read behind one more line; nothing where it cannot stand there.
@@ -17,7 +16,7 @@ pub fn behind(
     progress: Progress,
     line: &[u8],
 ) -> Result<Option<Progress>, AllocError>
-    ensures behind { IfOk result (λ o. option_map progress_shape o ≡ behind_shape (next_shape progress.next) (progress_shape progress) line.now) }
+    ensures behind { IfOk result (Shows (behind_line progress line.now)) }
 {
     match &progress.next {
         Next::Title => Ok(goes_on(progress, Next::Verdict, is_title(line))),
@@ -38,7 +37,7 @@ pub fn behind(
 }
 
 fn goes_on(progress: Progress, next: Next, fits: bool) -> Option<Progress>
-    ensures { option_map progress_shape result ≡ goes_on_shape (next_shape next) (progress_shape progress) fits }
+    ensures { Shows (goes_on_shape (next_shape next) (progress_shape progress) fits) result }
 {
     if !fits {
         return None;
@@ -53,7 +52,7 @@ fn with_activity(
     progress: Progress,
     line: &[u8],
 ) -> Result<Option<Progress>, AllocError>
-    ensures { IfOk result (λ o. option_map progress_shape o ≡ with_activity_shape (fits_at (next_shape progress.next)) (progress_shape progress) (activity_in_words (parts 32 line.now))) }
+    ensures { IfOk result (Shows (with_found progress (activity_in_words (parts 32 line.now)))) }
 {
     match activity_in(alloc, line)? {
         None => Ok(None),
@@ -68,12 +67,12 @@ fn with_read(
     name: ActivityName,
     count: u64,
 ) -> Result<Option<Progress>, AllocError>
-    ensures { IfOk result (λ o. option_map progress_shape o ≡ with_activity_shape (fits_at (next_shape progress.next)) (progress_shape progress) (Some (name, count))) }
+    ensures { IfOk result (Shows (with_found progress (Some (name, count)))) }
 {
     if !fits(alloc, &progress.next, &name)? {
         return Ok(None);
     }
-    if count > MOST - progress.total {
+    if count > MOST_REDUCTIONS - progress.total {
         return Ok(None);
     }
     let progress = with_entry(alloc, progress, name, count)?;
@@ -97,8 +96,9 @@ fn with_entry(
     name: ActivityName,
     count: u64,
 ) -> Result<Progress, AllocError>
-    requires { progress.total + count ≤ MOST }
-    ensures { IfOk result (λ q. progress_shape q ≡ with_entry_shape (progress_shape progress) name count) }
+    requires { progress.total + count ≤ MOST_REDUCTIONS }
+    ensures { IfOk result
+        (λ q. progress_shape q ≡ with_entry_shape (progress_shape progress) name count) }
 {
     let Progress {
         next: _,
@@ -122,7 +122,8 @@ fn with_senders(
     name: ActivityName,
     line: &[u8],
 ) -> Result<Option<Progress>, AllocError>
-    ensures { IfOk result (λ o. option_map progress_shape o ≡ with_senders_shape name (progress_shape progress) (senders_in_words (parts 32 line.now))) }
+    ensures { let found = senders_in_words (parts 32 line.now) in
+        IfOk result (Shows (with_senders_shape name (progress_shape progress) found)) }
 {
     match senders_in(alloc, line)? {
         None => Ok(None),

@@ -1,5 +1,6 @@
 use Rattle.std.proofs.Common.{◌≡◌, ◌≤◌, true, map}
 use Rattle.std.specs.FinMap.{is_sorted}
+use Rattle.asp_model.specs.declared.limits.TheConstants.{MOST_REDUCTIONS}
 use Rattle.asp_model.specs.declared.outcome.Lists.{Lists}
 use Rattle.asp_model.specs.declared.outcome.Counts.{Counts}
 use Rattle.asp_model.specs.Names.{name_cmp}
@@ -21,5 +22,5 @@ returns c =
       bad_line = c.read_bytes.ensures.bad_line;
       same = if_then Log (λ (x : Lists × Counts). map (λ y. y.0) (lists_shape x.0) ≡ map (λ y. y.0) (counts_shape x.1)) r (λ x h. h.same) log;
       ascending = if_then Log (λ (x : Lists × Counts). is_sorted name_cmp (counts_shape x.1) ≡ true) r (λ x h. h.ascending) log;
-      within = if_then Log (λ (x : Lists × Counts). total (counts_shape x.1) ≤ 10000000) r (λ x h. h.within) log;
+      within = if_then Log (λ (x : Lists × Counts). total (counts_shape x.1) ≤ MOST_REDUCTIONS) r (λ x h. h.within) log;
     }
