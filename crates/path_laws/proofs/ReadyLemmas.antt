@@ -147,7 +147,7 @@ module _ (k k' : FutureShape → Chase) where
 
   module _ (s s' : Store) (R : Place → Place → Type 0) (both : Sides (side_by k s) (side_by k' s') R) (n m : ℕ) (r : Stored R n m) (ns ms : List ℕ) (rs : Pairs (Stored R) ns ms) where
     abbrev Next : Type 1
-    Next = (t u : Store) (R1 : Place → Place → Type 0) → Sides (side_by k t) (side_by k' u) R1 → Pairs (Stored R1) ns ms → AllReady t u R1 ns ms (operands_ready k t ns) (operands_ready k' u ms)
+    Next = (t u : Store) (Later : Place → Place → Type 0) → Sides (side_by k t) (side_by k' u) Later → Pairs (Stored Later) ns ms → AllReady t u Later ns ms (operands_ready k t ns) (operands_ready k' u ms)
 
     onward_from : (t u : Store) (x : Fetched (side_by k s) n t) (y : Fetched (side_by k' s') m u) (p q : Ready) → AllReady t u (Then (Then x.rel R) (Back y.rel)) ns ms p q → AllReady s s' R (n ∷ ns) (m ∷ ms) p q
     onward_from t u x y _ _ (both_lack f) = both_lack f
@@ -170,7 +170,7 @@ module _ (k k' : FutureShape → Chase) where
   operands_both [] (m ∷ ms) s s' R both ps = elim ps [ ]
   operands_both (n ∷ ns) [] s s' R both ps = elim ps [ ]
   operands_both (n ∷ ns) (m ∷ ms) s s' R both (pair r rs) = step_both s s' R both n m r ns ms rs _ _ (one_ready k s both.left n (low _ _ R both n m r)) (one_ready k' s' both.right m (low_too _ _ R both n m r))
-      (λ t u R1 sides qs. operands_both ns ms t u R1 sides qs)
+      (λ t u Later sides qs. operands_both ns ms t u Later sides qs)
 
 -- Which operands are strict
 
