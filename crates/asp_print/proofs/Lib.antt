@@ -5,7 +5,5 @@ pub mod WritingLemmas
 pub mod GrammarLemmas
 pub mod MovingLemmas
 pub mod GrammarMoves
-pub mod WordLemmas
-pub mod LexerLemmas
 pub mod PlaceLemmas
 pub mod PrintingLaws

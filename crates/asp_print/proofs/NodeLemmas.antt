@@ -8,14 +8,14 @@ use Rattle.asp_model.specs.declared.term.Sign.{Sign}
 use Rattle.asp_model.specs.declared.term.Term.{Term}
 use Rattle.asp_model.specs.declared.term.Method.{Method}
 use Rattle.asp_model.specs.declared.term.Term.TheOpen as layer
-use Rattle.asp_model.specs.declared.term.Term.TheVariants.{Make, Get, Put, Call, Serve, Let, Steps, If, Operate, rolls-Put, rolls-Let, rolls-If, rolls-Make, rolls-Get, rolls-Call, rolls-Serve, rolls-Steps, rolls-Operate}
+use Rattle.asp_model.specs.declared.term.Term.TheVariants.{Make, Get, Put, Call, Serve, Let, Steps, If, Operate, Group, Scatter, Member, rolls-Group, rolls-Scatter, rolls-Member, rolls-Put, rolls-Let, rolls-If, rolls-Make, rolls-Get, rolls-Call, rolls-Serve, rolls-Steps, rolls-Operate}
 use Rattle.asp_model.specs.declared.term.Term.TheFolds.{the_lemmas, fold-roll-Term, fold_out-Method}
 use Rattle.asp_model.specs.Names.{Text}
 use Rattle.asp_model.specs.Marked.{Marked, all_marked}
 use Rattle.asp_model.specs.Shapes.{MarkedMethod, marked_of, method_of, mark_shape, field_of, make_shape, sign_shape, term_step, method_step}
-use Rattle.asp_syntax.specs.declared.token.Token.{Token}
-use Rattle.asp_syntax.specs.declared.token.Token.TheVariants as tokens
-use Rattle.asp_print.specs.Tokens.{access_tokens, between, call_tokens, choice_tokens, enclosed, let_tokens, method_part, node_tokens, pieces_of, sign_of, word_tokens}
+use Rattle.asp_tokens.specs.declared.token.Token.{Token}
+use Rattle.asp_tokens.specs.declared.token.Token.TheVariants as tokens
+use Rattle.asp_print.specs.Tokens.{access_tokens, between, call_tokens, choice_tokens, enclosed, let_tokens, method_part, node_tokens, pieces_of, scatter_tokens, sign_of, word_tokens}
 use Rattle.asp_print.specs.Parts.{field_tokens, method_tokens, term_tokens, label_piece, field_piece, method_piece, object_pieces}
 use Rattle.asp_print.proofs.PieceLemmas.{make_node}
 
@@ -52,6 +52,17 @@ steps_is ts m =
     ap (λ (t : Term). node_tokens (marked_of t)) (sym (rolls-Steps ts m)) ∙ ap node_tokens (fold-roll-Term Marked MarkedMethod term_step method_step (layer.Steps ts m))
     ∙ ap (between tokens.Semicolon) (pieces_terms ts.items)
 
+pub group_is : (ts : Vec Term) (m : Mark) → node_tokens (marked_of (Group ts m)) ≡ word_tokens tokens.Group (between tokens.Comma (map term_tokens ts.items))
+group_is ts m =
+    ap (λ (t : Term). node_tokens (marked_of t)) (sym (rolls-Group ts m)) ∙ ap node_tokens (fold-roll-Term Marked MarkedMethod term_step method_step (layer.Group ts m))
+    ∙ ap (λ (ps : List (List Token)). word_tokens tokens.Group (between tokens.Comma ps)) (pieces_terms ts.items)
+
+pub scatter_is : (a : Box Term) (l : Label) (b : Box Term) (m : Mark) → node_tokens (marked_of (Scatter a l b m)) ≡ scatter_tokens (term_tokens a.value) l.text (term_tokens b.value)
+scatter_is a l b m = ap (λ (t : Term). node_tokens (marked_of t)) (sym (rolls-Scatter a l b m)) ∙ ap node_tokens (fold-roll-Term Marked MarkedMethod term_step method_step (layer.Scatter a l b m))
+
+pub member_is : (a b : Box Term) (m : Mark) → node_tokens (marked_of (Member a b m)) ≡ word_tokens tokens.Member (term_tokens a.value ++ tokens.Comma ∷ term_tokens b.value)
+member_is a b m = ap (λ (t : Term). node_tokens (marked_of t)) (sym (rolls-Member a b m)) ∙ ap node_tokens (fold-roll-Term Marked MarkedMethod term_step method_step (layer.Member a b m))
+
 pub serve_is : (ls : Vec Label) (m : Mark) → node_tokens (marked_of (Serve ls m)) ≡ word_tokens tokens.Serve (between tokens.Comma (map label_piece ls.items))
 serve_is ls m =
     ap (λ (t : Term). node_tokens (marked_of t)) (sym (rolls-Serve ls m)) ∙ ap node_tokens (fold-roll-Term Marked MarkedMethod term_step method_step (layer.Serve ls m))
@@ -69,4 +80,4 @@ make_is fs ms m =
     ∙ make_node (mark_shape m) (map field_of fs.items) (map method_of ms.items)
     ∙ (λ i. tokens.SquareOpen ∷ (between tokens.Comma (fields i) ++ (method_part (methods i) ++ tokens.SquareClose ∷ [])))
 
-pub ruleset nodes_are = (append-nil, append_assoc, get_is, operate_is, call_is, steps_is, serve_is, make_is, the_lemmas)
+pub ruleset nodes_are = (append-nil, append_assoc, get_is, operate_is, call_is, steps_is, group_is, scatter_is, member_is, serve_is, make_is, the_lemmas)

@@ -4,8 +4,8 @@ use Rattle.asp_model.specs.Names.{Text}
 use Rattle.asp_model.specs.Term as term
 use Rattle.asp_model.specs.Term.{Head, SignShape, MethodHead}
 use Rattle.asp_model.specs.Marked.{MarkShape, Marked, MarkedList, marked, no_marked, and_marked}
-use Rattle.asp_syntax.specs.declared.token.Token.{Token}
-use Rattle.asp_syntax.specs.declared.token.Token.TheVariants as tokens
+use Rattle.asp_tokens.specs.declared.token.Token.{Token}
+use Rattle.asp_tokens.specs.declared.token.Token.TheVariants as tokens
 
 -- in so many pairs of parentheses
 abbrev pub enclosed : ℕ → List Token → List Token
@@ -87,6 +87,9 @@ call_tokens label ts arguments = ts ++ tokens.Dot ∷ tokens.Name label ∷ toke
 abbrev pub let_tokens : Text → List Token → List Token → List Token
 let_tokens x ts body = tokens.Let ∷ tokens.Name x ∷ tokens.Equals ∷ (ts ++ tokens.In ∷ body)
 
+abbrev pub scatter_tokens : List Token → Text → List Token → List Token
+scatter_tokens ts label us = word_tokens tokens.Scatter (ts ++ tokens.Comma ∷ tokens.Name label ∷ tokens.Comma ∷ us)
+
 -- a node round the tokens of the terms below it, with so many pairs of parentheses on the left of its `:=`
 abbrev pub laid : Head → ℕ → List (List Token) → List Token
 laid (term.Var x) left ps = tokens.Name x ∷ []
@@ -105,6 +108,11 @@ laid term.Repeat left ps = word_tokens tokens.Repeat (first ps)
 laid (term.Operate sign) left ps = first ps ++ sign_of sign ∷ first (others ps)
 laid term.Print left ps = word_tokens tokens.Print (first ps)
 laid (term.Echo text) left ps = word_tokens tokens.Echo (tokens.Text text ∷ [])
+laid term.Group left ps = word_tokens tokens.Group (between tokens.Comma ps)
+laid (term.Scatter label) left ps = scatter_tokens (first ps) label (first (others ps))
+laid term.Size left ps = word_tokens tokens.Size (first ps)
+laid term.Member left ps = word_tokens tokens.Member (first ps ++ tokens.Comma ∷ first (others ps))
+laid term.WaitAll left ps = word_tokens tokens.WaitAll (first ps)
 -- what no program has
 laid h left ps = []
 

@@ -3,7 +3,7 @@
 
 ghost use Rattle.std.specs.Prelude.{◌∷◌, [], ◌++◌, OnOk, map, replicate};
 ghost use Rattle.asp_model.specs.Shapes.{sign_shape};
-ghost use Rattle.asp_syntax.specs.declared.token.Token.TheVariants as tokens;
+ghost use Rattle.asp_tokens.specs.declared.token.Token.TheVariants as tokens;
 ghost use Rattle.asp_print.specs.Tokens.{access_tokens, between, head_tokens, led_by, service_tokens, sign_of, word_tokens};
 ghost use Rattle.asp_print.specs.Parts.{Writes, head_of, label_piece, label_text, name_piece};
 
@@ -62,6 +62,16 @@ pub fn put_service(text: &mut String, service: &Option<Label>) -> Result<(), All
         }
         None => Ok(()),
     }
+}
+
+/// Writes a label between two terms of a `scatter`.
+pub fn put_between(text: &mut String, label: &Label) -> Result<(), AllocError>
+    ensures { let between = tokens.Comma ∷ tokens.Name label.now.text ∷ tokens.Comma ∷ [] in
+        OnOk result (Writes text.old between text.new) }
+{
+    put_point(text, Point::Comma)?;
+    put_name(text, &label.text)?;
+    put_point(text, Point::Comma)
 }
 
 /// Writes a `serve` with its labels.

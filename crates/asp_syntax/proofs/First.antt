@@ -3,27 +3,27 @@ use Rattle.std.proofs.Common.{◌≡◌, ◌≢◌, ◌≤◌, ◌<◌, Bool, tr
 use Rattle.std.proofs.lemmas.Bool.{ltb-true, ltb-false}
 use Rattle.std.specs.Prelude.{nat_lt}
 use Rattle.asp_model.specs.Marked.{Marked}
-use Rattle.asp_syntax.specs.declared.token.Token.{Token}
-use Rattle.asp_syntax.specs.declared.token.Token.TheVariants as tokens
+use Rattle.asp_tokens.specs.declared.token.Token.{Token}
+use Rattle.asp_tokens.specs.declared.token.Token.TheVariants as tokens
 use Rattle.asp_syntax.specs.declared.error.SyntaxKind.{SyntaxKind}
 use Rattle.asp_syntax.specs.declared.error.SyntaxKind.TheVariants.{BadByte, BadNumber, Unexpected, TooDeep, NotAField, NotYet}
 use Rattle.asp_syntax.specs.declared.error.SyntaxFault.{SyntaxFault}
-use Rattle.asp_syntax.specs.Tokens.{Lexeme}
-use Rattle.asp_syntax.specs.Grammar.{IsProgram, Begins}
-use Rattle.asp_syntax.specs.States.{ModeShape, OpenShape, StateShape, At, Done}
-use Rattle.asp_syntax.specs.Closings.{◌>>=◌}
-use Rattle.asp_syntax.specs.Machine.{step, run, start}
-use Rattle.asp_syntax.specs.Levels.{WalkShape, walked, walk, flat, level_after}
+use Rattle.asp_tokens.specs.Tokens.{Lexeme, is_later}
+use Rattle.asp_grammar.specs.Grammar.{IsProgram, Begins}
+use Rattle.asp_grammar.specs.States.{ModeShape, OpenShape, StateShape, At, Done}
+use Rattle.asp_grammar.specs.Closings.{◌>>=◌}
+use Rattle.asp_grammar.specs.Machine.{step, run, start}
+use Rattle.asp_tokens.specs.Levels.{WalkShape, walked, walk, flat, level_after}
 use Rattle.asp_syntax.specs.Faults.{number_of, IsFault, Clean, nowhere, nor_here, FirstFault}
-use Rattle.asp_syntax.specs.Cursors.{goes_on}
+use Rattle.asp_tokens.specs.Cursors.{goes_on}
 use Rattle.asp_syntax.specs.Read.{judged, bad, verdict, onto, read, read_all}
-use Rattle.asp_syntax.proofs.Endings.{EndsWell}
-use Rattle.asp_syntax.proofs.Running.{run_append}
-use Rattle.asp_syntax.proofs.Running as running
-use Rattle.asp_syntax.proofs.Complete as complete
-use Rattle.asp_syntax.proofs.Sound.{sound}
-use Rattle.asp_syntax.proofs.Viable.{viable}
-use Rattle.asp_syntax.proofs.Stepping.{strict_step, differs, end_not, done_end}
+use Rattle.asp_tokens.proofs.Endings.{EndsWell}
+use Rattle.asp_grammar.proofs.Running.{run_append}
+use Rattle.asp_grammar.proofs.Running as running
+use Rattle.asp_grammar.proofs.Complete as complete
+use Rattle.asp_grammar.proofs.Sound.{sound}
+use Rattle.asp_grammar.proofs.Viable.{viable}
+use Rattle.asp_grammar.proofs.Stepping.{strict_step, differs, end_not, done_end}
 
 one_more : (s : Bool) (ls : List Lexeme) (x : StateShape) (l : Lexeme) (z : Option StateShape) → run s start ls ≡ Some x → step s x l ≡ z → run s start (ls ++ l ∷ []) ≡ z
 one_more s ls x l None h g = running.goes_on s start x ls (l ∷ []) None h (ap (λ (z : Option StateShape). z >>= λ y. run s y []) g)
@@ -42,20 +42,32 @@ walk_one_more : (w : WalkShape) (ls : List Lexeme) (l : Lexeme) → walk w (ls +
 walk_one_more w [] l = refl
 walk_one_more w (k ∷ ls) l = walk_one_more (walked w k.token) ls l
 
--- a token that is not built changes no level
-unbuilt_flat : (ls : List Lexeme) (l : Lexeme) → l.token ≡ tokens.NotBuilt → level_after (ls ++ l ∷ []) ≡ level_after ls
-unbuilt_flat ls l e = ap (λ (w : WalkShape). w.level) (walk_one_more flat ls l ∙ ap (λ (t : Token). walked (walk flat ls) t) e)
+-- a token that no rule has changes no level
+later_walked : (w : WalkShape) (t : Token) → is_later t ≡ true → walked w t ≡ w
+later_walked w tokens.Group e = refl
+later_walked w tokens.Scatter e = refl
+later_walked w tokens.Size e = refl
+later_walked w tokens.Member e = refl
+later_walked w tokens.WaitAll e = refl
+later_walked w tokens.Pending e = refl
+later_walked w _ e = absurd cc
+
+later_flat : (ls : List Lexeme) (l : Lexeme) → is_later l.token ≡ true → level_after (ls ++ l ∷ []) ≡ level_after ls
+later_flat ls l e = ap (λ (w : WalkShape). w.level) (walk_one_more flat ls l ∙ later_walked (walk flat ls) l.token e)
+
+unlike : (t u : Token) → is_later t ≡ true → is_later u ≡ false → t ≡ u → ⊥
+unlike t u h k e = let f : is_later t ≡ is_later u = ap is_later e in absurd cc
 
 -- what a verdict says
 abbrev Says : List Lexeme → Lexeme → Option SyntaxKind → Type 0
 Says ls l None = (kind : SyntaxKind) → IsFault kind ls l → ⊥
 Says ls l (Some k) = IsFault k ls l × ((kind : SyntaxKind) → IsFault kind ls l → number_of k ≤ number_of kind)
 
--- a token that is built
+-- a token that stands in some rule
 record IsBuilt (t : Token) : Type 0 where
   not_byte : t ≢ tokens.BadByte
   not_number : t ≢ tokens.BadNumber
-  not_unbuilt : t ≢ tokens.NotBuilt
+  not_later : is_later t ≡ false
 
 module _ (ls : List Lexeme) (l : Lexeme) (x : StateShape) (strict : run true start ls ≡ Some x) (loose : run false start ls ≡ Some x) (low : level_after ls ≤ 200) (built : IsBuilt l.token) where
   none_at : (y z : StateShape) → step false x l ≡ Some y → nat_lt 200 (level_after (ls ++ l ∷ [])) ≡ false → step true x l ≡ Some z → (kind : SyntaxKind) → IsFault kind ls l → ⊥
@@ -64,7 +76,7 @@ module _ (ls : List Lexeme) (l : Lexeme) (x : StateShape) (strict : run true sta
   none_at y z f d g Unexpected i = i.2 (yet false ls x y l loose f)
   none_at y z f d g TooDeep i = let le : level_after (ls ++ l ∷ []) ≤ 200 = ltb-false 200 (level_after (ls ++ l ∷ [])) d in absurd (omega (arith, i.1, le))
   none_at y z f d g NotAField i = i.3 (yet true ls x z l strict g)
-  none_at y z f d g NotYet i = built.not_unbuilt i
+  none_at y z f d g NotYet i = let n : is_later l.token ≡ false = built.not_later in absurd cc
 
   least_unexpected : (kind : SyntaxKind) → IsFault kind ls l → 3 ≤ number_of kind
   least_unexpected BadByte i = absurd (built.not_byte i)
@@ -94,7 +106,7 @@ module _ (ls : List Lexeme) (l : Lexeme) (x : StateShape) (strict : run true sta
   assigns y f g = elim (differs x l) [ inl e ↦ absurd cc | inr e ↦ e ]
 
   judged_says : (y : Option StateShape) (d : Bool) (z : Option StateShape) → step false x l ≡ y → nat_lt 200 (level_after (ls ++ l ∷ [])) ≡ d → step true x l ≡ z → Says ls l (judged y d z)
-  judged_says None d z f e g = ((built.not_unbuilt, viable false ls x loose, no_more false ls x l loose f), least_unexpected)
+  judged_says None d z f e g = ((built.not_later, viable false ls x loose, no_more false ls x l loose f), least_unexpected)
   judged_says (Some y) true z f e g =
       let lt : 200 < level_after (ls ++ l ∷ []) = ltb-true 200 (level_after (ls ++ l ∷ [])) e in
       ((omega (arith, lt, low), lt), least_deep y f)
@@ -117,19 +129,24 @@ least_number ls l e TooDeep i = omega arith
 least_number ls l e NotAField i = omega arith
 least_number ls l e NotYet i = omega arith
 
-least_unbuilt : (ls : List Lexeme) (l : Lexeme) → l.token ≡ tokens.NotBuilt → (kind : SyntaxKind) → IsFault kind ls l → 6 ≤ number_of kind
-least_unbuilt ls l e BadByte i = absurd cc
-least_unbuilt ls l e BadNumber i = absurd cc
-least_unbuilt ls l e Unexpected i = absurd (i.0 e)
-least_unbuilt ls l e TooDeep i = absurd (omega (arith, i.0, unbuilt_flat ls l e))
-least_unbuilt ls l e NotAField i = let f : l.token ≡ tokens.Assign = i.0 in absurd cc
-least_unbuilt ls l e NotYet i = omega arith
+least_later : (ls : List Lexeme) (l : Lexeme) → is_later l.token ≡ true → (kind : SyntaxKind) → IsFault kind ls l → 6 ≤ number_of kind
+least_later ls l e BadByte i = absurd (unlike l.token tokens.BadByte e refl i)
+least_later ls l e BadNumber i = absurd (unlike l.token tokens.BadNumber e refl i)
+least_later ls l e Unexpected i = let n : is_later l.token ≡ false = i.0 in absurd cc
+least_later ls l e TooDeep i = absurd (omega (arith, i.0, later_flat ls l e))
+least_later ls l e NotAField i = absurd (unlike l.token tokens.Assign e refl i.0)
+least_later ls l e NotYet i = omega arith
 
 bad_says : (ls : List Lexeme) (l : Lexeme) (t : Token) (v : Option SyntaxKind) → l.token ≡ t → (IsBuilt t → Says ls l v) → Says ls l (bad t v)
 bad_says ls l tokens.BadByte v e h = (e, least_byte ls l)
 bad_says ls l tokens.BadNumber v e h = (e, least_number ls l e)
-bad_says ls l tokens.NotBuilt v e h = (e, least_unbuilt ls l e)
-bad_says ls l _ v e h = h (record { not_byte = λ g. absurd cc; not_number = λ g. absurd cc; not_unbuilt = λ g. absurd cc })
+bad_says ls l tokens.Group v e h = (ap is_later e, least_later ls l (ap is_later e))
+bad_says ls l tokens.Scatter v e h = (ap is_later e, least_later ls l (ap is_later e))
+bad_says ls l tokens.Size v e h = (ap is_later e, least_later ls l (ap is_later e))
+bad_says ls l tokens.Member v e h = (ap is_later e, least_later ls l (ap is_later e))
+bad_says ls l tokens.WaitAll v e h = (ap is_later e, least_later ls l (ap is_later e))
+bad_says ls l tokens.Pending v e h = (ap is_later e, least_later ls l (ap is_later e))
+bad_says ls l _ v e h = h (record { not_byte = λ g. absurd cc; not_number = λ g. absurd cc; not_later = refl })
 
 verdict_says : (ls : List Lexeme) (l : Lexeme) (x : StateShape) → run true start ls ≡ Some x → run false start ls ≡ Some x → level_after ls ≤ 200 → Says ls l (verdict x (walk flat ls) l)
 verdict_says ls l x strict loose low =
@@ -141,7 +158,6 @@ verdict_says ls l x strict loose low =
 pub goes : (t : Token) (y : Option StateShape) (d : Bool) → bad t (judged y d None) ≡ None → ⊥
 goes tokens.BadByte y d e = absurd cc
 goes tokens.BadNumber y d e = absurd cc
-goes tokens.NotBuilt y d e = absurd cc
 goes _ None d e = absurd cc
 goes _ (Some y) true e = absurd cc
 goes _ (Some y) false e = absurd cc
@@ -149,7 +165,6 @@ goes _ (Some y) false e = absurd cc
 pub shallow : (t : Token) (y : Option StateShape) (d : Bool) (z : Option StateShape) → bad t (judged y d z) ≡ None → d ≡ false
 shallow tokens.BadByte y d z e = absurd cc
 shallow tokens.BadNumber y d z e = absurd cc
-shallow tokens.NotBuilt y d z e = absurd cc
 shallow _ None d z e = absurd cc
 shallow _ (Some y) true z e = absurd cc
 shallow _ (Some y) false z e = refl

@@ -1,21 +1,4 @@
-pub mod TableLemmas
-pub mod Endings
-pub mod Lexing
-pub mod Running
-pub mod Complete
-pub mod Parts
-pub mod Wholes
-pub mod Ends
-pub mod Sound
-pub mod Viable
-pub mod Stepping
+-- in reading order
 pub mod First
 pub mod Only
-pub mod Ordering
-pub mod Depth
-pub mod Shallow
-pub mod Making
-pub mod Stacks
-pub mod Refused
 pub mod Turning
-pub mod Others

@@ -3,24 +3,24 @@ use Rattle.std.proofs.Common.{◌≡◌, ◌≤◌, Bool, true, false, List, [],
 use Rattle.std.specs.Prelude.{nat_lt}
 use Rattle.std.proofs.lemmas.Bool.{ltb-false}
 use Rattle.asp_model.specs.Marked.{Marked}
-use Rattle.asp_syntax.specs.declared.token.Token.{Token}
-use Rattle.asp_syntax.specs.declared.token.Token.TheVariants as tokens
+use Rattle.asp_tokens.specs.declared.token.Token.{Token}
+use Rattle.asp_tokens.specs.declared.token.Token.TheVariants as tokens
 use Rattle.asp_syntax.specs.declared.error.SyntaxKind.{SyntaxKind}
 use Rattle.asp_syntax.specs.declared.error.SyntaxKind.TheVariants.{BadByte, BadNumber, Unexpected, TooDeep, NotAField, NotYet}
 use Rattle.asp_syntax.specs.declared.error.SyntaxFault.{SyntaxFault}
-use Rattle.asp_syntax.specs.Tokens.{Lexeme}
-use Rattle.asp_syntax.specs.Grammar.{IsProgram, Begins}
-use Rattle.asp_syntax.specs.States.{StateShape, At, Done}
-use Rattle.asp_syntax.specs.Closings.{◌>>=◌}
-use Rattle.asp_syntax.specs.Machine.{step, run, start}
-use Rattle.asp_syntax.specs.Levels.{WalkShape, walked, walk, flat, level_after}
+use Rattle.asp_tokens.specs.Tokens.{Lexeme}
+use Rattle.asp_grammar.specs.Grammar.{IsProgram, Begins}
+use Rattle.asp_grammar.specs.States.{StateShape, At, Done}
+use Rattle.asp_grammar.specs.Closings.{◌>>=◌}
+use Rattle.asp_grammar.specs.Machine.{step, run, start}
+use Rattle.asp_tokens.specs.Levels.{WalkShape, walked, walk, flat, level_after}
 use Rattle.asp_syntax.specs.Faults.{IsFault}
 use Rattle.asp_syntax.specs.Read.{verdict, onto, read, read_all}
-use Rattle.asp_syntax.proofs.Endings.{EndsWell}
-use Rattle.asp_syntax.proofs.Running.{run_append}
-use Rattle.asp_syntax.proofs.Complete.{complete}
-use Rattle.asp_syntax.proofs.Sound.{sound}
-use Rattle.asp_syntax.proofs.Stepping.{strict_step, IsNone, none_steps, done_end}
+use Rattle.asp_tokens.proofs.Endings.{EndsWell}
+use Rattle.asp_grammar.proofs.Running.{run_append}
+use Rattle.asp_grammar.proofs.Complete.{complete}
+use Rattle.asp_grammar.proofs.Sound.{sound}
+use Rattle.asp_grammar.proofs.Stepping.{strict_step, IsNone, later_none, none_steps, done_end}
 use Rattle.asp_syntax.proofs.First.{Answer, answers, shallow, comes_on, ends_next, last_one}
 
 strict_run : (ls : List Lexeme) (x y : StateShape) → run true x ls ≡ Some y → run false x ls ≡ Some y
@@ -57,7 +57,7 @@ no_fault BadNumber before ls l u p low i = never before ls l u p (none_is l.toke
 no_fault Unexpected before ls l u p low i = i.2 (begun_by false before ls l u (freely (before ++ l ∷ ls) u p))
 no_fault TooDeep before ls l u p low i = absurd (omega (arith, i.1, low))
 no_fault NotAField before ls l u p low i = i.3 (begun_by true before ls l u p)
-no_fault NotYet before ls l u p low i = never before ls l u p (none_is l.token tokens.NotBuilt i tt)
+no_fault NotYet before ls l u p low i = never before ls l u p (later_none l.token i)
 
 abbrev pub IsLow : List Lexeme → Type 0
 IsLow ls = (before behind : List Lexeme) → ls ≡ before ++ behind → level_after before ≤ 200

@@ -1,30 +1,35 @@
 -- Reading, one lexeme on, and what the reader's answer says.
 use Rattle.std.proofs.Common.{◌≡◌, ◌≢◌, ℕ, ◌≤◌, Bool, true, false, Option, Some, None, Result, Ok, Err, refl, ap, sym, subst, ◌∙◌, List, [], if◌then◌else◌}
-use Rattle.std.specs.Prelude.{nat_lt}
+use Rattle.std.specs.Prelude.{nat_lt, OnOk}
 use Rattle.std.proofs.lemmas.Bool.{ltb-false}
 use Rattle.asp_model.specs.declared.term.Term.{Term}
 use Rattle.asp_model.specs.Marked.{Marked}
 use Rattle.asp_model.specs.Shapes.{marked_of}
-use Rattle.asp_syntax.specs.declared.token.Token.{Token}
-use Rattle.asp_syntax.specs.declared.token.Token.TheVariants as tokens
-use Rattle.asp_syntax.specs.declared.token.Cursor.{Cursor}
+use Rattle.asp_tokens.specs.declared.token.Token.{Token}
+use Rattle.asp_tokens.specs.declared.token.Token.TheVariants as tokens
+use Rattle.asp_tokens.specs.declared.token.Cursor.{Cursor}
 use Rattle.asp_syntax.specs.declared.error.SyntaxKind.{SyntaxKind}
 use Rattle.asp_syntax.specs.declared.error.SyntaxKind.TheVariants.{Unexpected, TooDeep, NotAField}
 use Rattle.asp_syntax.specs.declared.error.SyntaxFault.{SyntaxFault}
 use Rattle.asp_syntax.specs.declared.error.SyntaxError.{SyntaxError}
 use Rattle.asp_syntax.specs.declared.error.SyntaxError.TheVariants as errors
-use Rattle.asp_syntax.specs.declared.levels.Walk as code_walk
-use Rattle.asp_syntax.specs.declared.state.State as code_state
-use Rattle.asp_syntax.specs.Tokens.{Lexeme, Between, lexemes_of}
-use Rattle.asp_syntax.specs.Levels.{WalkShape, walked}
+use Rattle.std.specs.declared.alloc.Global.{Global}
+use Rattle.std.specs.declared.boxed.Box.{Box}
+use Rattle.asp_tokens.specs.declared.levels.Walk.{Walk}
+use Rattle.syntax_states.specs.declared.state.State.{State}
+use Rattle.asp_tokens.specs.Tokens.{Lexeme, Between, lexemes_of}
+use Rattle.asp_tokens.specs.Levels.{WalkShape, walked}
 use Rattle.asp_syntax.specs.Faults.{FirstFault}
 use Rattle.asp_syntax.specs.Correct.{IsProgramText, IfFault, IsOkWith}
-use Rattle.asp_syntax.specs.Cursors.{goes_on, from, lexeme_of, lexemes}
-use Rattle.asp_syntax.specs.States.{ModeShape, OpenShape, StateShape, At, Done}
-use Rattle.asp_syntax.specs.Machine.{step}
+use Rattle.asp_tokens.specs.Cursors.{goes_on, from, lexeme_of, lexemes}
+use Rattle.asp_grammar.specs.States.{ModeShape, OpenShape, StateShape, At, Done}
+use Rattle.asp_grammar.specs.Machine.{step}
 use Rattle.asp_syntax.specs.Read.{judged, bad, verdict, fault_at, onto, read, read_all}
-use Rattle.asp_syntax.specs.Steps.{GoesOn, Turns, Reads}
-use Rattle.asp_syntax.proofs.Endings.{text_ends}
+use Rattle.asp_syntax.specs.Answers.{judgement, is_deep, Judges, GoesOn, Turns, Reads}
+use Rattle.asp_tokens.proofs.Endings.{text_ends}
+use Rattle.asp_grammar.specs.Depth.{parentheses_in}
+use Rattle.asp_grammar.proofs.Shallow.{IsShallow, shallow_few}
+use Rattle.syntax_states.specs.Shapes.{state_shape}
 use Rattle.asp_syntax.proofs.First.{Answer, answers, comes_on}
 use Rattle.asp_syntax.proofs.Only.{only, low_read}
 
@@ -52,20 +57,43 @@ judged_shallow y z n e = ltb-false 200 n (shut y z (nat_lt 200 n) e) where
   shut (Some y) z true e = absurd cc
   shut (Some y) z false e = refl
 
-bad_not : (t : Token) (v : Option SyntaxKind) → t ≢ tokens.BadByte → t ≢ tokens.BadNumber → t ≢ tokens.NotBuilt → bad t v ≡ v
-bad_not tokens.BadByte v f g h = absurd (f refl)
-bad_not tokens.BadNumber v f g h = absurd (g refl)
-bad_not tokens.NotBuilt v f g h = absurd (h refl)
-bad_not _ v f g h = refl
+pub judged_on : (r : Result (Option (Box Term Global)) SyntaxError) (s : State) (x : StateShape) (n : ℕ) (l : Lexeme) → Judges r s x (nat_lt 200 n) l → OnOk r (n ≤ 200)
+judged_on (Ok t) s x n l h = judged_shallow (step false x l) (step true x l) n h.0
+judged_on (Err e) s x n l h = tt
 
-pub built_turns : (r : Result (code_state.State × code_walk.Walk) SyntaxError) (x : StateShape) (w : WalkShape) (l : Lexeme)
-    → l.token ≢ tokens.BadByte → l.token ≢ tokens.BadNumber → l.token ≢ tokens.NotBuilt → GoesOn r x w l → Turns r x w l
-built_turns (Ok y) x w l f g h (a, b, c) = (bad_not l.token (judged (step false x l) (nat_lt 200 (walked w l.token).level) (step true x l)) f g h ∙ a, b, c)
-built_turns (Err (errors.Fault e)) x w l f g h (a, b) = (bad_not l.token (judged (step false x l) (nat_lt 200 (walked w l.token).level) (step true x l)) f g h ∙ a, b)
-built_turns (Err errors.Memory) x w l f g h u = tt
+-- the fault of a token that no rule has does not depend on the state
+pub bad_some : (t : Token) (v : Option SyntaxKind) (k : SyntaxKind) → Some k ≡ bad t None → bad t v ≡ Some k
+bad_some tokens.BadByte v k e = sym e
+bad_some tokens.BadNumber v k e = sym e
+bad_some tokens.Group v k e = sym e
+bad_some tokens.Scatter v k e = sym e
+bad_some tokens.Size v k e = sym e
+bad_some tokens.Member v k e = sym e
+bad_some tokens.WaitAll v k e = sym e
+bad_some tokens.Pending v k e = sym e
+bad_some _ v k e = absurd cc
 
-pub bad_turns : (t u : Token) (v : Option SyntaxKind) (k : SyntaxKind) → t ≡ u → bad u v ≡ Some k → bad t v ≡ Some k
-bad_turns t u v k e h = rw e h
+bad_none : (t : Token) (v : Option SyntaxKind) → None ≡ bad t None → bad t v ≡ v
+bad_none tokens.BadByte v e = absurd cc
+bad_none tokens.BadNumber v e = absurd cc
+bad_none tokens.Group v e = absurd cc
+bad_none tokens.Scatter v e = absurd cc
+bad_none tokens.Size v e = absurd cc
+bad_none tokens.Member v e = absurd cc
+bad_none tokens.WaitAll v e = absurd cc
+bad_none tokens.Pending v e = absurd cc
+bad_none _ v e = refl
+
+pub bad_turns : (s : State) (v : Walk) (x : StateShape) (w : WalkShape) (l : Lexeme) (k : SyntaxKind) → Some k ≡ bad l.token None → Turns (Err (errors.Fault (fault_at l.at k))) s v x w l
+bad_turns s v x w l k e = (bad_some l.token (judgement x (is_deep w l) l) k e, refl)
+
+pub built_turns : (r : Result (Option (Box Term Global)) SyntaxError) (s : State) (v : Walk) (x : StateShape) (w : WalkShape) (l : Lexeme) → None ≡ bad l.token None → GoesOn r s v x w l → Turns r s v x w l
+built_turns (Ok t) s v x w l g (a, b, c) = (bad_none l.token (judgement x (is_deep w l) l) g ∙ a, b, c)
+built_turns (Err (errors.Fault e)) s v x w l g (a, b) = (bad_none l.token (judgement x (is_deep w l) l) g ∙ a, b)
+built_turns (Err errors.Memory) s v x w l g u = tt
+
+pub state_few : (s : State) (w : WalkShape) → IsShallow (state_shape s) w → parentheses_in (state_shape s) ≤ 200
+state_few s w h = shallow_few (state_shape s) w h
 
 module _ (bytes : List ℕ) (here : Cursor) (after : ℕ) (x : StateShape) (w : WalkShape) (next : lexemes bytes here ≡ from Between bytes after) where
   abbrev behind : List Lexeme

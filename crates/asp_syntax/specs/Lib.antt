@@ -1,20 +1,11 @@
 -- in reading order
-pub mod Bytes
-pub mod Tokens
-pub mod Nodes
-pub mod Signs
-pub mod Grammar
-pub mod Levels
+pub use Rattle.asp_tokens.specs.Bytes
+pub use Rattle.asp_tokens.specs.Tokens
+pub use Rattle.asp_tokens.specs.Levels
+pub use Rattle.asp_grammar.specs.Nodes
+pub use Rattle.asp_grammar.specs.Signs
+pub use Rattle.asp_grammar.specs.Grammar
 pub mod Faults
 pub mod Correct
-pub mod Cursors
-pub mod States
-pub mod Closings
-pub mod Changes
-pub mod Machine
 pub mod Read
-pub mod Ordered
-pub mod Depth
-pub mod WalkShapes
-pub mod Shapes
-pub mod Steps
+pub mod Answers

@@ -1,15 +1,15 @@
 -- Reading a list of lexemes, up to the first fault.
 use Rattle.std.specs.Prelude.{ℕ, nat_lt, Bool, true, false, List, [], ◌∷◌, Option, Some, None, Result, Ok, Err}
 use Rattle.asp_model.specs.Marked.{Marked}
-use Rattle.asp_syntax.specs.declared.token.Token.{Token}
-use Rattle.asp_syntax.specs.declared.token.Token.TheVariants as tokens
+use Rattle.asp_tokens.specs.declared.token.Token.{Token}
+use Rattle.asp_tokens.specs.declared.token.Token.TheVariants as tokens
 use Rattle.asp_syntax.specs.declared.error.SyntaxKind.{SyntaxKind}
 use Rattle.asp_syntax.specs.declared.error.SyntaxKind.TheVariants.{BadByte, BadNumber, Unexpected, TooDeep, NotAField, NotYet}
 use Rattle.asp_syntax.specs.declared.error.SyntaxFault.{SyntaxFault}
-use Rattle.asp_syntax.specs.Tokens.{Lexeme}
-use Rattle.asp_syntax.specs.States.{StateShape, At, Done}
-use Rattle.asp_syntax.specs.Machine.{step, start}
-use Rattle.asp_syntax.specs.Levels.{WalkShape, walked, flat}
+use Rattle.asp_tokens.specs.Tokens.{Lexeme}
+use Rattle.asp_grammar.specs.States.{StateShape, At, Done}
+use Rattle.asp_grammar.specs.Machine.{step, start}
+use Rattle.asp_tokens.specs.Levels.{WalkShape, walked, flat}
 
 abbrev pub field : Option StateShape → Option SyntaxKind
 field None = Some NotAField
@@ -28,7 +28,12 @@ judged (Some y) deep z = depth deep z
 abbrev pub bad : Token → Option SyntaxKind → Option SyntaxKind
 bad tokens.BadByte v = Some BadByte
 bad tokens.BadNumber v = Some BadNumber
-bad tokens.NotBuilt v = Some NotYet
+bad tokens.Group v = Some NotYet
+bad tokens.Scatter v = Some NotYet
+bad tokens.Size v = Some NotYet
+bad tokens.Member v = Some NotYet
+bad tokens.WaitAll v = Some NotYet
+bad tokens.Pending v = Some NotYet
 bad t v = v
 
 -- the fault at a lexeme, in a state

@@ -1,28 +1,25 @@
 //! Reads a text, one token at a time, up to its end or its first fault.
 
-ghost use Rattle.std.specs.Prelude.{◌≡◌, ◌≤◌, IfOk};
+ghost use Rattle.std.specs.Prelude.{◌≡◌, ◌≤◌, None, IfOk, OnOk};
 ghost use Rattle.asp_model.specs.Marked.{Marked};
 ghost use Rattle.asp_model.specs.Shapes.{marked_of};
-ghost use Rattle.asp_syntax.specs.Tokens.{lexemes_of};
+ghost use Rattle.asp_tokens.specs.Tokens.{lexemes_of};
+ghost use Rattle.asp_tokens.specs.Cursors.{lexeme_of};
+ghost use Rattle.asp_tokens.specs.Ordered.{IsOrdered};
+ghost use Rattle.asp_tokens.specs.WalkShapes.{walk_shape};
+ghost use Rattle.asp_grammar.specs.Depth.{parentheses_in};
+ghost use Rattle.syntax_states.specs.Shapes.{state_shape};
 ghost use Rattle.asp_syntax.specs.Faults.{FirstFault};
 ghost use Rattle.asp_syntax.specs.Correct.{IsProgramText, IfFault, IsOkWith};
-ghost use Rattle.asp_syntax.specs.Cursors.{lexeme_of};
-ghost use Rattle.asp_syntax.specs.Read.{read_all, fault_at};
-ghost use Rattle.asp_syntax.specs.Ordered.{IsOrdered};
-ghost use Rattle.asp_syntax.specs.Depth.{parentheses_in};
-ghost use Rattle.asp_syntax.specs.WalkShapes.{walk_shape};
-ghost use Rattle.asp_syntax.specs.Shapes.{state_shape};
-ghost use Rattle.asp_syntax.specs.Steps.{Judges, UnlessDeep, GoesOn, Turns, Reads};
+ghost use Rattle.asp_syntax.specs.Read.{bad, read_all, fault_at};
+ghost use Rattle.asp_syntax.specs.Answers.{Judges, UnlessDeep, GoesOn, Turns, Reads};
 
 use crate::error::{SyntaxError, SyntaxFault, SyntaxKind};
-use crate::levels::{Walk, flat_walk, walk_on};
-use crate::lexer::scan;
-use crate::machine::{start_state, step};
-use crate::state::State;
-use crate::stop::{Stop, stopped};
-use crate::token::{Cursor, Token};
 use asp_model::{Program, Term};
+use asp_tokens::{Cursor, Token, Walk, flat_walk, scan, walk_on};
+use open_terms::{Stop, stopped};
 use std::alloc::Global;
+use syntax_states::{State, start_state, step};
 
 /// The program that a text is, or its first fault. Time and memory are linear in the text, and only
 /// levels are nested.
@@ -37,7 +34,7 @@ pub fn read_program(alloc: Global, bytes: &[u8]) -> Result<Program, SyntaxError>
     }
 }
 
-#[tactic(auto, using(crate::proofs::Shallow::shallow_few))]
+#[tactic(auto, using(crate::proofs::Turning::state_few))]
 fn read(alloc: Global, bytes: &[u8]) -> Result<Term, SyntaxError>
     ensures { Reads result (read_all (lexemes_of bytes.now)) }
 {
@@ -47,57 +44,80 @@ fn read(alloc: Global, bytes: &[u8]) -> Result<Term, SyntaxError>
     loop {
         let here = scan(alloc, bytes, after)?;
         let behind = here.after;
-        let (next, on) = turn(alloc, state, walk, here)?;
-        match next {
-            State::Done(term) => return Ok(term),
-            State::At(mode, inner, outer) => {
-                state = State::At(mode, inner, outer);
-                walk = on;
-                after = behind;
-            }
+        if let Some(term) = turn(alloc, &mut state, &mut walk, here)? {
+            return Ok(Box::into_inner(term));
         }
+        after = behind;
     }
 }
 
-// The state and the walk one token on.
-fn turn(alloc: Global, state: State, walk: Walk, here: Cursor) -> Result<(State, Walk), SyntaxError>
-    requires low { walk.level ≤ 200 }
-    requires few { parentheses_in (state_shape state) ≤ 200 }
-    requires ordered { IsOrdered (walk_shape walk) }
-    ensures value { Turns result (state_shape state) (walk_shape walk) (lexeme_of here) }
-    ensures low { IfOk result (λ r. r.1.level ≤ 200) }
+// The state and the walk one token on, or the term that the end leaves.
+#[tactic(auto, using(crate::proofs::Turning::bad_turns, crate::proofs::Turning::built_turns))]
+fn turn(
+    alloc: Global,
+    state: &mut State,
+    walk: &mut Walk,
+    here: Cursor,
+) -> Result<Option<Box<Term>>, SyntaxError>
+    requires low { walk.now.level ≤ 200 }
+    requires few { parentheses_in (state_shape state.now) ≤ 200 }
+    requires ordered { IsOrdered (walk_shape walk.now) }
+    ensures value { let before = walk_shape walk.old in
+        Turns result state.new walk.new (state_shape state.old) before (lexeme_of here) }
+    ensures low { OnOk result (walk.new.level ≤ 200) }
 {
-    match here.token {
-        Token::BadByte => Err(fault(SyntaxKind::BadByte, here.at)),
-        Token::BadNumber => Err(fault(SyntaxKind::BadNumber, here.at)),
-        Token::NotBuilt => Err(fault(SyntaxKind::NotYet, here.at)),
-        _ => go_on(alloc, state, walk, here),
+    match unread(&here.token) {
+        Some(kind) => Err(fault(kind, here.at)),
+        None => go_on(alloc, state, walk, here),
     }
 }
 
-// The same of a token that is built.
+// The fault of a token that no rule has.
+fn unread(token: &Token) -> Option<SyntaxKind>
+    ensures { result ≡ bad token.now None }
+{
+    match token {
+        Token::BadByte => Some(SyntaxKind::BadByte),
+        Token::BadNumber => Some(SyntaxKind::BadNumber),
+        Token::Group
+        | Token::Scatter
+        | Token::Size
+        | Token::Member
+        | Token::WaitAll
+        | Token::Pending => Some(SyntaxKind::NotYet),
+        _ => None,
+    }
+}
+
+// The same of a token that some rule has.
 fn go_on(
     alloc: Global,
-    state: State,
-    walk: Walk,
+    state: &mut State,
+    walk: &mut Walk,
     here: Cursor,
-) -> Result<(State, Walk), SyntaxError>
-    requires low { walk.level ≤ 200 }
-    requires few { parentheses_in (state_shape state) ≤ 200 }
-    requires ordered { IsOrdered (walk_shape walk) }
-    ensures value { GoesOn result (state_shape state) (walk_shape walk) (lexeme_of here) }
-    ensures low { IfOk result (λ r. r.1.level ≤ 200) }
+) -> Result<Option<Box<Term>>, SyntaxError>
+    requires low { walk.now.level ≤ 200 }
+    requires few { parentheses_in (state_shape state.now) ≤ 200 }
+    requires ordered { IsOrdered (walk_shape walk.now) }
+    ensures value { let before = walk_shape walk.old in
+        GoesOn result state.new walk.new (state_shape state.old) before (lexeme_of here) }
+    ensures low { OnOk result (walk.new.level ≤ 200) }
 {
-    let walk = walk_on(walk, &here.token)?;
-    let is_deep = 200 < walk.level;
-    let state = judge(alloc, state, is_deep, here)?;
-    Ok((state, walk))
+    match walk_on(walk, &here.token) {
+        Ok(()) => judge(alloc, state, 200 < walk.level, here),
+        Err(_) => stopped(here, SyntaxError::Memory),
+    }
 }
 
 #[tactic(auto, using(crate::proofs::Turning::judged_none, crate::proofs::Turning::judged_deep, crate::proofs::Turning::judged_field, crate::proofs::Turning::judged_high, crate::proofs::Turning::judged_low))]
-fn judge(alloc: Global, state: State, is_deep: bool, here: Cursor) -> Result<State, SyntaxError>
-    requires few { parentheses_in (state_shape state) ≤ 200 }
-    ensures state { Judges result (state_shape state) is_deep (lexeme_of here) }
+fn judge(
+    alloc: Global,
+    state: &mut State,
+    is_deep: bool,
+    here: Cursor,
+) -> Result<Option<Box<Term>>, SyntaxError>
+    requires few { parentheses_in (state_shape state.now) ≤ 200 }
+    ensures state { Judges result state.new (state_shape state.old) is_deep (lexeme_of here) }
 {
     let Cursor {
         token,
@@ -118,9 +138,13 @@ fn judge(alloc: Global, state: State, is_deep: bool, here: Cursor) -> Result<Sta
     }
 }
 
-// A state, or the fault of a level that is too high.
-fn unless_deep(next: State, is_deep: bool, at: usize) -> Result<State, SyntaxError>
-    ensures { UnlessDeep result (state_shape next) is_deep at }
+// What was left, or the fault of a level that is too high.
+fn unless_deep(
+    next: Option<Box<Term>>,
+    is_deep: bool,
+    at: usize,
+) -> Result<Option<Box<Term>>, SyntaxError>
+    ensures { UnlessDeep result next is_deep at }
 {
     if is_deep {
         stopped(next, fault(SyntaxKind::TooDeep, at))

@@ -1,15 +1,15 @@
 use Rattle.std.proofs.Common.{◌≡◌, ◌≤◌, ◌-◌, length}
-use Rattle.asp_syntax.specs.Tokens.{Between, lexemes_of}
-use Rattle.asp_syntax.specs.Cursors.{from}
+use Rattle.asp_tokens.specs.Tokens.{Between, lexemes_of}
+use Rattle.asp_tokens.specs.Cursors.{from}
 use Rattle.asp_syntax.specs.Read.{read as read_from, read_all}
-use Rattle.asp_syntax.specs.WalkShapes.{walk_shape}
-use Rattle.asp_syntax.specs.Shapes.{state_shape}
-use Rattle.asp_syntax.specs.Ordered.{IsOrdered}
-use Rattle.asp_syntax.proofs.Shallow.{IsShallow}
+use Rattle.asp_tokens.specs.WalkShapes.{walk_shape}
+use Rattle.syntax_states.specs.Shapes.{state_shape}
+use Rattle.asp_tokens.specs.Ordered.{IsOrdered}
+use Rattle.asp_grammar.proofs.Shallow.{IsShallow}
 use Rattle.asp_syntax.proofs.reading.read.Given as goal
 
-abbrev pub invariant-loop-here : goal.invariant-loop-here
-invariant-loop-here l = record {
+abbrev pub invariant-loop-walk : goal.invariant-loop-walk
+invariant-loop-walk l = record {
   same : read_from (state_shape l.state) (walk_shape l.walk) (from Between l.bytes l.after) ≡ read_all (lexemes_of l.bytes);
   low : l.walk.level ≤ 200;
   ordered : IsOrdered (walk_shape l.walk);
@@ -17,5 +17,5 @@ invariant-loop-here l = record {
   within : l.after ≤ length l.bytes;
 }
 
-abbrev pub decreases-loop-here : goal.decreases-loop-here
-decreases-loop-here l = length l.bytes - l.after
+abbrev pub decreases-loop-walk : goal.decreases-loop-walk
+decreases-loop-walk l = length l.bytes - l.after

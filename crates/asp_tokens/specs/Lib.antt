@@ -1,0 +1,8 @@
+-- in reading order
+pub mod Bytes
+pub mod Tokens
+pub mod Texts
+pub mod Cursors
+pub mod Levels
+pub mod WalkShapes
+pub mod Ordered

@@ -1,0 +1,3 @@
+-- in reading order
+pub mod Shapes
+pub mod Answers
