@@ -2,10 +2,16 @@
 use Rattle.std.specs.Prelude.{◌≡◌, ℕ, List, []}
 use Rattle.asp_model.specs.Term.{locations}
 use Rattle.asp_model.specs.Marked.{Marked, plain}
-use Rattle.asp_syntax.specs.Correct.{IsProgramText}
+use Rattle.asp_model.specs.Readable.{IsReadable}
+use Rattle.asp_grammar.specs.Programs.{IsProgramText}
 use Rattle.outcome_laws.specs.Texts.{HasPrintableTexts}
 
--- a program in bytes has no places of its own
+-- a program in bytes is what a program that was read is
+abbrev pub ProgramsAreReadable : Type 0
+ProgramsAreReadable = (bytes : List ℕ) (program : Marked)
+    → IsProgramText bytes program → IsReadable (plain program)
+
+-- it has no places of its own
 abbrev pub ProgramsHaveNoPlaces : Type 0
 ProgramsHaveNoPlaces = (bytes : List ℕ) (program : Marked)
     → IsProgramText bytes program → locations (plain program) ≡ []

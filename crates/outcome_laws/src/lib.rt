@@ -11,5 +11,5 @@ pub use outcomes::{
     end_reports_agree, numbers_are_within, outcomes_are_well_formed, plain_runs_show_replays,
     replay_reports_are_read, reports_of_runs_are_read, reports_show_replays, runs_show_replays,
 };
-pub use programs::{program_texts_are_printable, programs_have_no_places};
+pub use programs::{program_texts_are_printable, programs_are_readable, programs_have_no_places};
 pub use texts::{lines_are_printable, reached_have};

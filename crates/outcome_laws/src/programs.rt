@@ -1,6 +1,11 @@
 //! What holds of each program that stands in bytes.
 
-ghost use Rattle.outcome_laws.specs.Programs.{ProgramTextsArePrintable, ProgramsHaveNoPlaces};
+ghost use Rattle.outcome_laws.specs.Programs.{ProgramTextsArePrintable, ProgramsAreReadable, ProgramsHaveNoPlaces};
+
+/// Each program in bytes is what a program that was read is.
+pub fn programs_are_readable()
+    ensures { ProgramsAreReadable }
+{}
 
 /// No program in bytes has places of its own.
 pub fn programs_have_no_places()
