@@ -1,21 +1,12 @@
 -- What a byte is to the lexer, and what a word is.
-use Rattle.std.specs.Prelude.{ℕ, Bool, ◌&&◌, ◌||◌, ◌==◌, nat_le, nat_eq, if◌then◌else◌, List, Option, Some, None, codes}
+use Rattle.std.specs.Prelude.{ℕ, Bool, ◌||◌, ◌==◌, nat_eq, if◌then◌else◌, List, Option, Some, None, codes}
 use Rattle.std.specs.Cmp.Lexicographic.{pointwise}
+pub use Rattle.asp_model.specs.Readable.{is_letter, is_digit, is_inner}
 use Rattle.asp_tokens.specs.declared.token.Token.{Token}
 use Rattle.asp_tokens.specs.declared.token.Token.TheVariants.{Name, Open, Close, SquareOpen, SquareClose, BraceOpen, BraceClose, Comma, Semicolon, Dot, Plus, Minus, Star, Percent, Less, Let, In, If, Else, Repeat, Clone, Active, Serve, Print, Echo, Group, Scatter, Size, Member, WaitAll, Pending}
 
-abbrev pub is_digit : ℕ → Bool
-is_digit b = nat_le 48 b && nat_le b 57
-
-abbrev pub is_letter : ℕ → Bool
-is_letter b = (nat_le 65 b && nat_le b 90) || (nat_le 97 b && nat_le b 122) || b == 95
-
 abbrev pub is_blank : ℕ → Bool
 is_blank b = b == 32 || b == 9 || b == 13 || b == 10
-
--- a byte of a word, from its second on
-abbrev pub is_inner : ℕ → Bool
-is_inner b = is_letter b || is_digit b
 
 -- the token that a byte is alone, whatever follows
 abbrev pub sign_token : ℕ → Option Token
