@@ -7,8 +7,8 @@ ghost use Rattle.asp_print.specs.Tokens.{between, mark_of, method_part, node_tok
 ghost use Rattle.asp_print.specs.Parts.{Writes, field_piece, label_text, method_piece, point_token, term_tokens, word_bytes};
 
 use crate::names::{
-    put_access, put_between, put_echo, put_else, put_equation, put_head, put_if, put_let, put_method, put_serve,
-    put_service, put_sign, put_target, put_then,
+    put_access, put_between, put_echo, put_else, put_equation, put_head, put_if, put_let,
+    put_method, put_serve, put_service, put_sign, put_target, put_then,
 };
 use crate::text::{Point, put, put_lead, put_name, put_number, put_point, put_times};
 use asp_model::{Label, Mark, Method, Term};

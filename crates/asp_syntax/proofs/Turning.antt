@@ -30,6 +30,7 @@ use Rattle.asp_tokens.proofs.Endings.{text_ends}
 use Rattle.asp_grammar.specs.Depth.{parentheses_in}
 use Rattle.asp_grammar.proofs.Shallow.{IsShallow, shallow_few}
 use Rattle.syntax_states.specs.Shapes.{state_shape}
+use Rattle.syntax_states.specs.Answers.{left}
 use Rattle.asp_syntax.proofs.First.{Answer, answers, comes_on}
 use Rattle.asp_syntax.proofs.Only.{only, low_read}
 
@@ -91,6 +92,10 @@ pub built_turns : (r : Result (Option (Box Term Global)) SyntaxError) (s : State
 built_turns (Ok t) s v x w l g (a, b, c) = (bad_none l.token (judgement x (is_deep w l) l) g ∙ a, b, c)
 built_turns (Err (errors.Fault e)) s v x w l g (a, b) = (bad_none l.token (judgement x (is_deep w l) l) g ∙ a, b)
 built_turns (Err errors.Memory) s v x w l g u = tt
+
+pub left_none : (o : Option (Box Term Global)) (s : State) → ((b : Box Term Global) → o ≢ Some b) → left o s ≡ state_shape s
+left_none None s h = refl
+left_none (Some b) s h = absurd (h b refl)
 
 pub state_few : (s : State) (w : WalkShape) → IsShallow (state_shape s) w → parentheses_in (state_shape s) ≤ 200
 state_few s w h = shallow_few (state_shape s) w h

@@ -7,6 +7,8 @@ ghost use Rattle.asp_tokens.specs.Tokens.{lexemes_of};
 ghost use Rattle.asp_tokens.specs.Cursors.{lexeme_of};
 ghost use Rattle.asp_tokens.specs.Ordered.{IsOrdered};
 ghost use Rattle.asp_tokens.specs.WalkShapes.{walk_shape};
+ghost use Rattle.asp_tokens.specs.Levels.{flat};
+ghost use Rattle.asp_grammar.specs.Machine.{start};
 ghost use Rattle.asp_grammar.specs.Depth.{parentheses_in};
 ghost use Rattle.syntax_states.specs.Shapes.{state_shape};
 ghost use Rattle.asp_syntax.specs.Faults.{FirstFault};
@@ -34,17 +36,33 @@ pub fn read_program(alloc: Global, bytes: &[u8]) -> Result<Program, SyntaxError>
     }
 }
 
-#[tactic(auto, using(crate::proofs::Turning::state_few))]
 fn read(alloc: Global, bytes: &[u8]) -> Result<Term, SyntaxError>
     ensures { Reads result (read_all (lexemes_of bytes.now)) }
 {
     let mut state = start_state(alloc);
     let mut walk = flat_walk(alloc);
+    let result = read_from(alloc, bytes, &mut state, &mut walk);
+    drop((state, walk));
+    result
+}
+
+// Reads a text from its first token on.
+#[tactic(auto, using(crate::proofs::Turning::state_few))]
+fn read_from(
+    alloc: Global,
+    bytes: &[u8],
+    state: &mut State,
+    walk: &mut Walk,
+) -> Result<Term, SyntaxError>
+    requires start { state_shape state.now ≡ start }
+    requires flat { walk_shape walk.now ≡ flat }
+    ensures { Reads result (read_all (lexemes_of bytes.now)) }
+{
     let mut after = 0;
     loop {
         let here = scan(alloc, bytes, after)?;
         let behind = here.after;
-        if let Some(term) = turn(alloc, &mut state, &mut walk, here)? {
+        if let Some(term) = turn(alloc, state, walk, here)? {
             return Ok(Box::into_inner(term));
         }
         after = behind;

@@ -3,11 +3,8 @@ use Rattle.std.proofs.Common.{◌≡◌, ◌≢◌, ℕ, List, [], ◌∷◌, �
 use Rattle.std.proofs.lemmas.List.{map-append, reverse-append}
 use Rattle.asp_model.specs.Term as term
 use Rattle.asp_model.specs.Marked.{Marked, marked, all_marked}
-
 use Rattle.open_terms.specs.declared.open.Open as declared_open
 use Rattle.asp_grammar.specs.Nodes.{terms_at, mark_at}
-
-
 use Rattle.open_terms.specs.Shapes.{open_shape, stack}
 
 more_than_one : (at : ℕ) (t u : Marked) (ts : List Marked) → terms_at at (t ∷ (ts ++ u ∷ [])) ≡ marked term.Steps (mark_at at) (all_marked (t ∷ (ts ++ u ∷ [])))

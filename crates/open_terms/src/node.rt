@@ -161,7 +161,11 @@ pub fn operated(alloc: Global, sign: Sign, left: Part, right: Part) -> Result<Pa
 {
     let start = left.start;
     let mark = mark_at(alloc, start);
-    part_of(alloc, start, Term::Operate(sign, left.term, right.term, mark))
+    part_of(
+        alloc,
+        start,
+        Term::Operate(sign, left.term, right.term, mark),
+    )
 }
 
 /// A field access.

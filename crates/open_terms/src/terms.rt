@@ -111,12 +111,7 @@ fn waits(slot: &mut Option<Pending>, sign: Sign, left: Part)
 }
 
 /// `*`, `/` or `%` behind an operand.
-pub fn multiply(
-    alloc: Global,
-    sign: Sign,
-    part: Part,
-    inner: &mut Open,
-) -> Result<(), AllocError>
+pub fn multiply(alloc: Global, sign: Sign, part: Part, inner: &mut Open) -> Result<(), AllocError>
     ensures { let next = with_product (sign_shape sign) (part_shape part) (open_shape inner.old) in
         OnOk result (open_shape inner.new ≡ next) }
 {

@@ -15,8 +15,9 @@ use crate::change::plain;
 use crate::state::{Mode, Opener, State, again, back, enter};
 use asp_model::{Label, Term};
 use open_terms::{
-    Binding, Choice, Kind, Object, Open, Part, Stop, active, binding, called, choice, enclose, first_start, made,
-    refused, stopped, term_in, value_of, with_field, with_method, with_term, wrapped,
+    Binding, Choice, Kind, Object, Open, Part, Stop, active, binding, called, choice, enclose,
+    first_start, made, refused, stopped, term_in, value_of, with_field, with_method, with_term,
+    wrapped,
 };
 use std::alloc::{AllocError, Global};
 use std::mem;

@@ -121,12 +121,7 @@ pub fn parameter_named(
     }
 }
 
-fn with_names(
-    object: &mut Object,
-    head: &mut Head,
-    at: usize,
-    name: Word,
-) -> Result<(), AllocError>
+fn with_names(object: &mut Object, head: &mut Head, at: usize, name: Word) -> Result<(), AllocError>
     ensures object { OnOk result (object_shape object.new ≡ one_name (object_shape object.old) at) }
     ensures head { OnOk result (head_shape head.new ≡ one_parameter (head_shape head.old) name) }
 {

@@ -6,10 +6,10 @@ use Rattle.asp_tokens.specs.WalkShapes.{walk_shape}
 use Rattle.syntax_states.specs.Shapes.{state_shape}
 use Rattle.asp_tokens.specs.Ordered.{IsOrdered}
 use Rattle.asp_grammar.proofs.Shallow.{IsShallow}
-use Rattle.asp_syntax.proofs.reading.read.Given as goal
+use Rattle.asp_syntax.proofs.reading.read_from.Given as goal
 
-abbrev pub invariant-loop-walk : goal.invariant-loop-walk
-invariant-loop-walk l = record {
+abbrev pub invariant-loop-here : goal.invariant-loop-here
+invariant-loop-here l = record {
   same : read_from (state_shape l.state) (walk_shape l.walk) (from Between l.bytes l.after) ≡ read_all (lexemes_of l.bytes);
   low : l.walk.level ≤ 200;
   ordered : IsOrdered (walk_shape l.walk);
@@ -17,5 +17,5 @@ invariant-loop-walk l = record {
   within : l.after ≤ length l.bytes;
 }
 
-abbrev pub decreases-loop-walk : goal.decreases-loop-walk
-decreases-loop-walk l = length l.bytes - l.after
+abbrev pub decreases-loop-here : goal.decreases-loop-here
+decreases-loop-here l = length l.bytes - l.after
