@@ -4,6 +4,7 @@ use asp_edge::{MemorySink, MemorySource};
 use asp_model::Word;
 use asp_top::run_asp;
 use std::alloc::{AllocError, Global};
+use std::process::Abort;
 use std::test::Fail;
 
 const PROGRAM: &str = "print(1 + 2)";
@@ -134,18 +135,38 @@ fn owned(alloc: Global, words: &[&str]) -> Result<Vec<String>, AllocError> {
     Ok(owned)
 }
 
+fn sink(alloc: Global, fails: &[u64], keep: usize) -> Result<MemorySink, AllocError> {
+    MemorySink::new(alloc, fails.to_vec(alloc)?, keep, ROOM)
+}
+
+// The one call of the command.
+fn answers<R: Abort + AllocGlobal>(
+    rt: &R,
+    case: &Case,
+    words: &[String],
+    source: &mut MemorySource,
+    out: &mut MemorySink,
+    err: &mut MemorySink,
+) {
+    let status = run_asp(rt, words, source, out, err);
+    assert_eq!(rt; status, case.status);
+    assert_eq!(rt; out.bytes(), case.out.as_bytes());
+    assert_eq!(rt; err.bytes(), case.err.as_bytes());
+}
+
+fn tries<R: Abort + AllocGlobal>(rt: &R, alloc: Global, case: &Case) -> Result<(), AllocError> {
+    let words = owned(alloc, case.words)?;
+    let mut source = source(alloc, case.reads)?;
+    let mut out = sink(alloc, case.outs, case.keep)?;
+    let mut err = sink(alloc, case.errs, case.keep)?;
+    answers(rt, case, &words, &mut source, &mut out, &mut err);
+    Ok(())
+}
+
 #[test]
 fn what_fails_is_told_and_what_was_written_stays(rt: HostRuntime) -> Result<(), Fail> {
-    let alloc = rt.alloc();
     for case in &CASES {
-        let mut source = source(alloc, case.reads)?;
-        let mut out = MemorySink::new(alloc, case.outs.to_vec(alloc)?, case.keep, ROOM)?;
-        let mut err = MemorySink::new(alloc, case.errs.to_vec(alloc)?, case.keep, ROOM)?;
-        let words = owned(alloc, case.words)?;
-        let status = run_asp(&rt, &words, &mut source, &mut out, &mut err);
-        assert_eq!(rt; status, case.status);
-        assert_eq!(rt; out.bytes(), case.out.as_bytes());
-        assert_eq!(rt; err.bytes(), case.err.as_bytes());
+        tries(&rt, rt.alloc(), case)?;
     }
     Ok(())
 }

@@ -1,6 +1,12 @@
 //! Terms as they are read, with their marks.
 
 use asp_syntax::{SyntaxError, read_program};
+use std::alloc::Global;
+
+fn shown(alloc: Global, text: &str) -> Result<String, SyntaxError> {
+    let program = read_program(alloc, text.as_bytes())?;
+    Ok(format!(in alloc; "{:?}", program.root)?)
+}
 
 #[test]
 fn terms_are_read_with_their_marks(rt: HostRuntime) -> Result<(), SyntaxError> {
@@ -32,9 +38,7 @@ fn terms_are_read_with_their_marks(rt: HostRuntime) -> Result<(), SyntaxError> {
         ),
     ];
     for (text, want) in cases {
-        let program = read_program(alloc, text.as_bytes())?;
-        let found = format!(in alloc; "{:?}", program.root)?;
-        assert_eq!(rt; found.as_str(), want);
+        assert_eq!(rt; shown(alloc, text)?.as_str(), want);
     }
     Ok(())
 }

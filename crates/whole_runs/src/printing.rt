@@ -2,6 +2,12 @@
 
 use asp_print::print_program;
 use asp_syntax::{SyntaxError, read_program};
+use std::alloc::Global;
+
+fn printed(alloc: Global, text: &str) -> Result<String, SyntaxError> {
+    let program = read_program(alloc, text.as_bytes())?;
+    Ok(print_program(alloc, &program)?)
+}
 
 #[test]
 fn one_blank_stands_between_two_tokens(rt: HostRuntime) -> Result<(), SyntaxError> {
@@ -24,11 +30,9 @@ fn one_blank_stands_between_two_tokens(rt: HostRuntime) -> Result<(), SyntaxErro
         ("9223372036854775807", "9223372036854775807"),
     ];
     for (text, want) in rows {
-        let program = read_program(alloc, text.as_bytes())?;
-        let printed = print_program(alloc, &program)?;
-        assert_eq!(rt; printed.as_str(), want);
-        let again = read_program(alloc, printed.as_bytes())?;
-        assert_eq!(rt; print_program(alloc, &again)?.as_str(), want);
+        let once = printed(alloc, text)?;
+        assert_eq!(rt; once.as_str(), want);
+        assert_eq!(rt; printed(alloc, &once)?.as_str(), want);
     }
     Ok(())
 }

@@ -5,7 +5,7 @@ use asp_model::{Counts, Lists, Outcome};
 use asp_syntax::read_program;
 use replay_one::{ReplayStop, are_replayable, counts_in, lists_in, replay, run_plain};
 use run_report::render;
-use std::alloc::Global;
+use std::alloc::{AllocError, Global};
 use std::process::Abort;
 use std::test::Fail;
 
@@ -29,16 +29,26 @@ fn replayed(
     replay(alloc, program, lists, counts)
 }
 
+// The replay under the outcome's own lists and counts.
+fn again(
+    rt: &impl Abort,
+    alloc: Global,
+    program: &Checked,
+    outcome: &Outcome,
+) -> Result<Outcome, ReplayStop> {
+    let lists = lists_in(alloc, outcome)?;
+    let counts = counts_in(alloc, outcome)?;
+    replayed(rt, alloc, program, &lists, &counts)
+}
+
+fn is_same(alloc: Global, one: &Outcome, other: &Outcome) -> Result<bool, AllocError> {
+    Ok(render(alloc, one)? == render(alloc, other)?)
+}
+
 fn repeats(rt: &impl Abort, alloc: Global, program: &Checked, budget: u64) -> Result<(), Fail> {
     let outcome = run_plain(alloc, program, budget)?;
-    let lists = lists_in(alloc, &outcome)?;
-    let counts = counts_in(alloc, &outcome)?;
-    let again = replayed(rt, alloc, program, &lists, &counts)?;
-    assert_eq!(rt;
-        render(alloc, &again)?,
-        render(alloc, &outcome)?,
-        "within {budget}"
-    );
+    let repeated = again(rt, alloc, program, &outcome)?;
+    assert!(rt; is_same(alloc, &outcome, &repeated)?, "within {budget}");
     Ok(())
 }
 

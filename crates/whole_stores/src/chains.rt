@@ -5,6 +5,7 @@ use crate::given::{Given, cell, is_cell, store};
 use asp_model::{Cell, Parcel, Place};
 use object_store::Store;
 use std::alloc::{AllocError, Global};
+use std::process::Abort;
 use std::test::Fail;
 
 const DEPTH: Place = 100_000;
@@ -32,22 +33,46 @@ fn is_ring(parcel: &Parcel) -> bool {
     same
 }
 
+// What the roots reach is the ring.
+fn packs_ring(
+    rt: &impl Abort,
+    alloc: Global,
+    store: &Store,
+    roots: &[Place],
+) -> Result<Parcel, AllocError> {
+    let parcel = packed(rt, alloc, store, roots)?;
+    assert!(rt; is_ring(&parcel));
+    Ok(parcel)
+}
+
+// Into another store.
+fn lands(rt: &impl Abort, alloc: Global, parcel: &Parcel) -> Result<(), AllocError> {
+    let mut to = store(alloc, &[Given::Future(1), Given::Number(3)])?;
+    unpacked_at(rt, alloc, &mut to, 0, parcel)?;
+    assert_eq!(rt; to.len(), DEPTH + 1);
+    packs_ring(rt, alloc, &to, &[0])?;
+    Ok(())
+}
+
+// Behind the ring itself.
+fn stands_behind(
+    rt: &impl Abort,
+    alloc: Global,
+    store: &mut Store,
+    parcel: &Parcel,
+) -> Result<(), AllocError> {
+    let places = unpacked(rt, alloc, store, parcel)?;
+    assert_eq!(rt; places.as_slice(), [DEPTH].as_slice());
+    assert_eq!(rt; store.len(), 2 * DEPTH);
+    packs_ring(rt, alloc, store, &places)?;
+    Ok(())
+}
+
 #[test]
 fn a_deep_object_is_copied_and_dropped(rt: HostRuntime) -> Result<(), Fail> {
-    let alloc = rt.alloc();
-    let from = ring(alloc, DEPTH)?;
-    let parcel = packed(&rt, alloc, &from, &[DEPTH / 2])?;
-    assert!(rt; is_ring(&parcel));
-    assert_eq!(rt; parcel.roots(), [0].as_slice());
-    // into another store, and behind the ring itself
-    let mut to = store(alloc, &[Given::Future(1), Given::Number(3)])?;
-    unpacked_at(&rt, alloc, &mut to, 0, &parcel)?;
-    assert_eq!(rt; to.len(), DEPTH + 1);
-    assert!(rt; is_ring(&packed(&rt, alloc, &to, &[0])?));
-    let mut twice = from;
-    let places = unpacked(&rt, alloc, &mut twice, &parcel)?;
-    assert_eq!(rt; places.as_slice(), [DEPTH].as_slice());
-    assert_eq!(rt; twice.len(), 2 * DEPTH);
-    assert!(rt; is_ring(&packed(&rt, alloc, &twice, &places)?));
+    let mut store = ring(rt.alloc(), DEPTH)?;
+    let parcel = packs_ring(&rt, rt.alloc(), &store, &[DEPTH / 2])?;
+    lands(&rt, rt.alloc(), &parcel)?;
+    stands_behind(&rt, rt.alloc(), &mut store, &parcel)?;
     Ok(())
 }

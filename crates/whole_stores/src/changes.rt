@@ -6,7 +6,7 @@ ghost use Rattle.object_store.specs.View.{IsObject, store_of};
 
 use crate::closed::{packed, unpacked, unpacked_at};
 use crate::given::{Given, cell, cells, is_parcel, label, parcel, store};
-use asp_model::{Cell, Place};
+use asp_model::{Cell, Parcel, Place};
 use object_store::Store;
 use std::alloc::{AllocError, Global};
 use std::process::Abort;
@@ -108,7 +108,20 @@ fn grafts(
     }
 }
 
-// What was unpacked is packed as the same copy.
+// What is unpacked into another store is packed as the same copy.
+fn repacks(
+    rt: &impl Abort,
+    alloc: Global,
+    copy: &Parcel,
+    given: &[Given],
+    wanted: &[Place],
+) -> Result<bool, AllocError> {
+    let mut to = store(alloc, &[Given::Number(0)])?;
+    let places = unpacked(rt, alloc, &mut to, copy)?;
+    let again = packed(rt, alloc, &to, &places)?;
+    Ok(is_parcel(&again, given, wanted))
+}
+
 fn packs(
     rt: &impl Abort,
     alloc: Global,
@@ -118,10 +131,7 @@ fn packs(
     wanted: &[Place],
 ) -> Result<bool, AllocError> {
     let copy = packed(rt, alloc, from, roots)?;
-    let mut to = store(alloc, &[Given::Number(0)])?;
-    let places = unpacked(rt, alloc, &mut to, &copy)?;
-    let again = packed(rt, alloc, &to, &places)?;
-    Ok(is_parcel(&copy, given, wanted) && is_parcel(&again, given, wanted))
+    Ok(is_parcel(&copy, given, wanted) && repacks(rt, alloc, &copy, given, wanted)?)
 }
 
 fn unpacks(

@@ -5,7 +5,6 @@ use asp_model::{
 };
 use object_store::Store;
 use std::alloc::{AllocError, Global};
-use std::collections::BTreeSet;
 
 /// A cell as a test states it.
 #[derive(Clone, Copy)]
@@ -173,11 +172,6 @@ pub fn is_store(store: &Store, given: &[Given]) -> bool {
         }
     }
     true
-}
-
-/// The places that hold a future are the stated ones, in this order.
-pub fn are_holders(holders: &BTreeSet<Place>, places: &[Place]) -> bool {
-    holders.iter().eq(places.iter())
 }
 
 /// The cells and roots are the stated ones.

@@ -40,7 +40,7 @@ fn is_made(
     rt: &impl Abort,
     alloc: Global,
     row: usize,
-    given: &[Given],
+    given: &'static [Given<'static>],
     steps: &[Step],
 ) -> Result<bool, AllocError> {
     let first = future(alloc, 1)?;
@@ -89,17 +89,20 @@ fn are_packed(rt: &impl Abort, alloc: Global, packings: &[Packing]) -> bool {
     all
 }
 
+// Whether each change of the tables is made.
+fn all_made(rt: &impl Abort, alloc: Global) -> bool {
+    let changed = are_made(rt, alloc, &CASES);
+    let landed = are_made(rt, alloc, &LANDINGS);
+    are_packed(rt, alloc, &PACKINGS) && changed && landed
+}
+
 #[test]
 fn each_change_leaves_what_is_stated(rt: HostRuntime) {
-    assert!(rt; are_made(&rt, rt.alloc(), &CASES));
-    assert!(rt; are_made(&rt, rt.alloc(), &LANDINGS));
-    assert!(rt; are_packed(&rt, rt.alloc(), &PACKINGS));
+    assert!(rt; all_made(&rt, rt.alloc()));
 }
 
 // Passes too where requests for memory are refused.
 #[test]
 fn a_refused_change_leaves_the_cells(rt: HostRuntime) {
-    let _changed = are_made(&rt, rt.alloc(), &CASES);
-    let _landed = are_made(&rt, rt.alloc(), &LANDINGS);
-    let _packed = are_packed(&rt, rt.alloc(), &PACKINGS);
+    let _all = all_made(&rt, rt.alloc());
 }

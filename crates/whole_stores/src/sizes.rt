@@ -4,7 +4,7 @@ use asp_model::{Cell, FutureName, Object, Place};
 
 const _: () = prove!(size_of::<Object>() == 48);
 
-const _: () = prove!(size_of::<FutureName>() == 32);
+const _: () = prove!(size_of::<FutureName>() == 40);
 
 const _: () = prove!(size_of::<Vec<Place>>() == 24);
 
