@@ -1,16 +1,9 @@
--- Cells of the machine's store.
-use Rattle.std.proofs.Common.{◌≡◌, ℕ, zero, suc, ◌<◌, ◌≤◌, List, [], ◌∷◌, length, map, get_or, refl, arith}
+-- Cells past the end of a store.
+use Rattle.std.proofs.Common.{◌≡◌, ℕ, zero, suc, ◌≤◌, [], ◌∷◌, length, refl, arith}
 use Rattle.std.specs.Prelude.{pos}
-use Rattle.asp_model.specs.declared.store.Cell.{Cell}
-use Rattle.asp_model.specs.Store.{Number, cell}
-use Rattle.asp_model.specs.Shapes.{cell_shape}
+use Rattle.asp_model.specs.Store.{Number, Store, cell}
 
-pub past_end : (cs : List Cell) (p : ℕ) → length cs ≤ p → cell (map cell_shape cs) p ≡ Number (pos 0)
+pub past_end : (s : Store) (p : ℕ) → length s ≤ p → cell s p ≡ Number (pos 0)
 past_end [] p h = refl
-past_end (c ∷ cs) zero h = absurd (omega arith)
-past_end (c ∷ cs) (suc p) h = past_end cs p (omega arith)
-
-pub at_place : (cs : List Cell) (p : ℕ) (d : Cell) → p < length cs → cell (map cell_shape cs) p ≡ cell_shape (get_or cs p d)
-at_place [] p d h = absurd (omega arith)
-at_place (c ∷ cs) zero d h = refl
-at_place (c ∷ cs) (suc p) d h = at_place cs p d (omega arith)
+past_end (c ∷ s) zero h = absurd (omega arith)
+past_end (c ∷ s) (suc p) h = past_end s p (omega arith)

@@ -1,6 +1,5 @@
 -- An activity of a closed configuration has a closed state.
-use Rattle.std.proofs.Common.{◌≡◌, ℕ, zero, suc, Bool, true, false, List, [], ◌∷◌, ◌++◌, Some, length, map, refl, sym, ap, ◌∙◌, subst}
-use Rattle.std.proofs.lemmas.List.{length-map}
+use Rattle.std.proofs.Common.{◌≡◌, ℕ, zero, suc, Bool, true, false, List, [], ◌∷◌, ◌++◌, Some, length, map, refl, sym, ap, subst}
 use Rattle.std.specs.Prelude.{slice_get}
 use Rattle.std.specs.List.{AllByRecursion}
 use Rattle.asp_model.specs.declared.store.Request.{Request}
@@ -11,7 +10,6 @@ use Rattle.asp_model.specs.Configuration.{RequestShape}
 use Rattle.asp_model.specs.Intent.{Numbered}
 use Rattle.asp_model.specs.Shapes.{parcel_shape}
 use Rattle.laws.specs.Closed.{AreBelow, IsClosedActivity, IsClosedParcel, IsClosedStore}
-use Rattle.object_store.specs.View.{store_of}
 use Rattle.plain_term.specs.declared.frame.Frame.{Frame}
 use Rattle.plain_term.specs.Frames.{frame_shape, nested}
 use Rattle.plain_term.specs.Redexes.{focus_tree}
@@ -57,13 +55,12 @@ entries_closed (e ∷ es) h = (h.0, entries_closed es h.1)
 -- what is asked of a population's configuration gives the conditions of `act` and of `outlook`
 pub stands_closed : (x : Activity) (a : model.Activity) (rs : List RequestShape) → Stands x a rs → IsClosedActivity a → ((k : ℕ) (r : RequestShape) → slice_get rs k ≡ Some r → IsClosedParcel r.arguments) → IsClosedState x
 stands_closed x a rs h closed requests =
-    let own : store_of x.store ≡ a.store = ap (λ (v : model.Activity). v.store) h.shape in
+    let own : x.store.cells ≡ a.store = ap (λ (v : model.Activity). v.store) h.shape in
     let same : nested x.frames.items (focus_tree x.focus) ≡ a.term = ap (λ (v : model.Activity). v.term) h.shape in
-    let size : length (store_of x.store) ≡ length x.store.cells = simp length-map in
     let term : AreBelow (length a.store) (locations (nested x.frames.items (focus_tree x.focus))) = subst (λ (t : Tree). AreBelow (length a.store) (locations t)) (sym same) closed.term in
     let below : AreBelow (length a.store) (locations (focus_tree x.focus)) = nested_below (length a.store) x.frames.items (focus_tree x.focus) term in
     record {
       store = subst IsClosedStore (sym own) closed.store;
-      focus = subst (λ (k : ℕ). AreBelow k (locations (focus_tree x.focus))) (ap (λ (s : Store). length s) (sym own) ∙ size) below;
+      focus = subst (λ (k : ℕ). AreBelow k (locations (focus_tree x.focus))) (ap (λ (s : Store). length s) (sym own)) below;
       pending = entries_closed x.queue.pending.entries (subst AreClosed (sym h.queue.pending) (pending_closed a.served 0 rs requests));
     }

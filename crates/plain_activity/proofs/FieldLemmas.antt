@@ -1,21 +1,19 @@
 -- Fields that are set, and cells that stand.
-use Rattle.std.proofs.Common.{◌≡◌, ◌<◌, ℕ, zero, suc, List, [], ◌∷◌, Option, Some, None, length, map, refl, arith}
-use Rattle.asp_model.specs.declared.store.Cell.{Cell}
+use Rattle.std.proofs.Common.{◌≡◌, ◌<◌, ℕ, zero, suc, [], ◌∷◌, Option, Some, None, length, refl, arith}
 use Rattle.asp_model.specs.Names.{Text, FutureShape}
 use Rattle.asp_model.specs.Store.{CellShape, Number, Object, Reference, Future, Group, Store, cell, with_cell}
 use Rattle.asp_model.specs.Contraction.{FaultShape, Faults, field_found, field_set, field_place, get_row, put_row, stays_at, with_field}
-use Rattle.asp_model.specs.Shapes.{cell_shape}
 use Rattle.object_store.specs.View.{IsObject, with_field_in}
 
-pub object_in : (cs : List Cell) (p : ℕ) → IsObject (cell (map cell_shape cs) p) → p < length cs
+pub object_in : (s : Store) (p : ℕ) → IsObject (cell s p) → p < length s
 object_in [] p h = absurd h
-object_in (c ∷ cs) zero h = omega arith
-object_in (c ∷ cs) (suc p) h = let below : p < length cs = object_in cs p h in omega (arith, below)
+object_in (c ∷ s) zero h = omega arith
+object_in (c ∷ s) (suc p) h = let below : p < length s = object_in s p h in omega (arith, below)
 
-pub future_in : (cs : List Cell) (p : ℕ) (f : FutureShape) → cell (map cell_shape cs) p ≡ Future f → p < length cs
+pub future_in : (s : Store) (p : ℕ) (f : FutureShape) → cell s p ≡ Future f → p < length s
 future_in [] p f h = absurd cc
-future_in (c ∷ cs) zero f h = omega arith
-future_in (c ∷ cs) (suc p) f h = let below : p < length cs = future_in cs p f h in omega (arith, below)
+future_in (c ∷ s) zero f h = omega arith
+future_in (c ∷ s) (suc p) f h = let below : p < length s = future_in s p f h in omega (arith, below)
 
 unset : (s : Store) (i : ℕ) (c : CellShape) (x : FaultShape) (o : Option ℕ) → Faults x ≡ field_found s o → Faults x ≡ field_set s i c o
 unset s i c x None e = e

@@ -12,7 +12,6 @@ use Rattle.asp_model.specs.Configuration.{RequestShape}
 use Rattle.asp_model.specs.Intent.{Intent, Rests, Done, Awaits, Ready, Reads, Lacks, redex_ready, intent, contracts, communicates, ends_service, newest}
 use Rattle.laws.specs.Closed.{IsClosedStore}
 use Rattle.laws.proofs.ContractionLemmas.{serves_by_head}
-use Rattle.object_store.specs.View.{StoreView, store_of}
 use Rattle.plain_term.specs.declared.frame.Frame.{Frame}
 use Rattle.plain_term.specs.declared.redex.Redex.{Redex}
 use Rattle.plain_term.specs.Frames.{contexts_of, nested}
@@ -81,7 +80,7 @@ own_store chases own s t r (contracted.Communicates (communication.Serves labels
     store ∙ sym kept
 own_store chases own s t r contracted.Breaks h kept e = tt
 
-pub ready_for : (old new : StoreView) (c : Contracted) → IsKeptFor (store_of old) (store_of new) c → IsClosedStore (store_of old) → IsWithin (length (store_of old)) c → IsReady (store_of new) c
+pub ready_for : (old new : Store) (c : Contracted) → IsKeptFor old new c → IsClosedStore old → IsWithin (length old) c → IsReady new c
 ready_for old new (contracted.Becomes u) kept closed within = tt
 ready_for old new (contracted.Enters f u) kept closed within = tt
 ready_for old new (contracted.Writes line u) kept closed within = tt

@@ -1,6 +1,6 @@
 -- What a contraction's kind says of the intent.
 use Rattle.std.proofs.Common.{◌≡◌, ◌++◌, ℕ, false, List, [], ◌∷◌, Option, Some, None, length, map, refl, sym, ap, ◌∙◌, subst}
-use Rattle.std.proofs.lemmas.List.{append-nil, length-map}
+use Rattle.std.proofs.lemmas.List.{append-nil}
 use Rattle.asp_model.specs.declared.name.FutureName.{FutureName}
 use Rattle.std.specs.Borrow.{Bor}
 use Rattle.asp_model.specs.Names.{Name, FutureShape, Text}
@@ -18,7 +18,6 @@ use Rattle.laws.specs.Closed.{AreBelow}
 use Rattle.laws.specs.Linked.{Each}
 use Rattle.laws.proofs.ContractionLemmas.{serves_by_head}
 use Rattle.deep_copy.proofs.UnpackLemmas.{some_cell}
-use Rattle.object_store.specs.View.{store_of}
 use Rattle.plain_term.specs.declared.redex.Redex.{Redex}
 use Rattle.plain_term.specs.declared.redex.Redex.TheVariants as redex
 use Rattle.plain_term.specs.Frames.{contexts_of, nested}
@@ -175,32 +174,27 @@ seen_through chases roots s r f g below e =
       kind = ap kind_of by_row ∙ row_kind u.store r f g (faces_at chases s ns f g _ u within e);
     }
 
-store_below : (x : Activity) (ns : List ℕ) → AreBelow (length x.store.cells) ns → AreBelow (length (store_of x.store)) ns
-store_below x ns h =
-    let size : length (store_of x.store) ≡ length x.store.cells = simp length-map in
-    subst (λ (k : ℕ). AreBelow k ns) (sym size) h
-
 -- where a future is missed, the intent awaits it
 pub redex_awaits : (x : Activity) (values : Values) (r : Redex) (g : Bor FutureName) → AreClosedValues values → AreBelow (length x.store.cells) (redex_shape r).places
-    → first_missed (chase values) (store_of x.store) (strict_operands (redex_shape r).head (redex_shape r).places) ≡ Some (future_shape g.now)
+    → first_missed (chase values) x.store.cells (strict_operands (redex_shape r).head (redex_shape r).places) ≡ Some (future_shape g.now)
     → (a : model.Activity) (rs : List RequestShape) (n : Name) → Stands x a rs → a.term ≡ nested x.frames.items (redex_node (redex_shape r)) → IsOutlook (intent (chase values) rs n a) (outlook.Awaits g)
 redex_awaits x values r g closed below missed a rs n h term =
-    let s : Store = store_of x.store in
+    let s : Store = x.store.cells in
     let own : a.store ≡ s = sym (ap (λ (v : model.Activity). v.store) h.shape) in
-    let lacks : redex_ready (chase values) s (redex_shape r) ≡ Lacks (future_shape g.now) = awaits (chase values) (roots_of values closed) s r (future_shape g.now) (store_below x (redex_shape r).places below) missed in
+    let lacks : redex_ready (chase values) s (redex_shape r) ≡ Lacks (future_shape g.now) = awaits (chase values) (roots_of values closed) s r (future_shape g.now) below missed in
     let e : intent (chase values) rs n a ≡ intended rs n a (contexts_of x.frames.items) (redex_shape r) (Lacks (future_shape g.now)) = intent_redex (chase values) rs n a x.frames.items r s term own ∙ ap (intended rs n a (contexts_of x.frames.items) (redex_shape r)) lacks in
     subst (λ (p : Intent). IsOutlook p (outlook.Awaits g)) (sym e) refl
 
 -- else the intent's outlook is the contraction's
 pub redex_outlook : (x : Activity) (values : Values) (r : Redex) (f g : Face) (k : KindShape) (o : Outlook) → AreClosedValues values → AreBelow (length x.store.cells) (redex_shape r).places
-    → AreSeen (chase values) (store_of x.store) (strict_operands (redex_shape r).head (redex_shape r).places) f g → k ≡ kind_at r f g
-    → ((a : model.Activity) (rs : List RequestShape) (n : Name) (t : Store) (c : Contraction) → Stands x a rs → redex_ready (chase values) (store_of x.store) (redex_shape r) ≡ Reads t → c ≡ contract t (redex_shape r) → kind_of c ≡ k
+    → AreSeen (chase values) x.store.cells (strict_operands (redex_shape r).head (redex_shape r).places) f g → k ≡ kind_at r f g
+    → ((a : model.Activity) (rs : List RequestShape) (n : Name) (t : Store) (c : Contraction) → Stands x a rs → redex_ready (chase values) x.store.cells (redex_shape r) ≡ Reads t → c ≡ contract t (redex_shape r) → kind_of c ≡ k
     → IsOutlook (contracts rs n a (contexts_of x.frames.items) t c) o)
     → (a : model.Activity) (rs : List RequestShape) (n : Name) → Stands x a rs → a.term ≡ nested x.frames.items (redex_node (redex_shape r)) → IsOutlook (intent (chase values) rs n a) o
 redex_outlook x values r f g k o closed below seen is then a rs n h term =
-    let s : Store = store_of x.store in
+    let s : Store = x.store.cells in
     let own : a.store ≡ s = sym (ap (λ (v : model.Activity). v.store) h.shape) in
-    let through = seen_through (chase values) (roots_of values closed) s r f g (store_below x (redex_shape r).places below) seen in
+    let through = seen_through (chase values) (roots_of values closed) s r f g below seen in
     let e : intent (chase values) rs n a ≡ contracts rs n a (contexts_of x.frames.items) through.store (contract through.store (redex_shape r)) = intent_redex (chase values) rs n a x.frames.items r s term own ∙ ap (intended rs n a (contexts_of x.frames.items) (redex_shape r)) through.ready in
     subst (λ (p : Intent). IsOutlook p o) (sym e) (then a rs n through.store (contract through.store (redex_shape r)) h through.ready refl (through.kind ∙ sym is))
 

@@ -12,7 +12,6 @@ use Rattle.asp_model.specs.Configuration as model
 use Rattle.asp_model.specs.Configuration.{RequestShape, ServiceShape}
 use Rattle.asp_model.specs.Intent.{Numbered, serves, ends_service, newest, but_newest, filling}
 use Rattle.asp_model.specs.Shapes.{future_shape, line_shape, parcel_shape}
-use Rattle.object_store.specs.View.{store_of}
 use Rattle.plain_term.specs.declared.frame.Frame.{Frame}
 use Rattle.plain_term.specs.declared.redex.Focus.{Focus}
 use Rattle.plain_term.specs.declared.redex.Focus.TheVariants as focus
@@ -33,9 +32,9 @@ pub settled_empty : (fs : List Frame) (f : Focus) → fs ≡ [] → IsSettled fs
 settled_empty fs (focus.Place p) e = e
 settled_empty fs (focus.Redex r) e = tt
 
-pub serves_done : (old mid sus new : Activity) (a : model.Activity) (rs : List RequestShape) (x : Numbered) (l : Text) (f : FutureName) (ks : List ℕ) → StandsAside old a rs → a.store ≡ store_of old.store
-    → mid ≡ record old { queue = mid.queue; store = mid.store } → store_of mid.store ≡ unpack (store_of old.store) x.1.arguments → IsQueue mid.queue (x.0 ∷ a.served) rs → IsSuspended mid l f ks sus → l ≡ x.1.label
-    → future_shape f ≡ x.1.future → ks ≡ unpacked_roots (store_of old.store) x.1.arguments → new ≡ record sus { count = suc sus.count } → IsDoneBy (serves a (contexts_of old.frames.items) (Some x)) rs new given.Nothing
+pub serves_done : (old mid sus new : Activity) (a : model.Activity) (rs : List RequestShape) (x : Numbered) (l : Text) (f : FutureName) (ks : List ℕ) → StandsAside old a rs → a.store ≡ old.store.cells
+    → mid ≡ record old { queue = mid.queue; store = mid.store } → mid.store.cells ≡ unpack old.store.cells x.1.arguments → IsQueue mid.queue (x.0 ∷ a.served) rs → IsSuspended mid l f ks sus → l ≡ x.1.label
+    → future_shape f ≡ x.1.future → ks ≡ unpacked_roots old.store.cells x.1.arguments → new ≡ record sus { count = suc sus.count } → IsDoneBy (serves a (contexts_of old.frames.items) (Some x)) rs new given.Nothing
 serves_done old mid sus new a rs x l f ks h own mi store queue su label future roots e =
     let r : new ≡ record old { frames = sus.frames; focus = sus.focus; services = sus.services; present = sus.present; queue = mid.queue; store = mid.store; count = suc old.count } =
     e ∙ (λ i. record (su.rest i) { count = suc (su.rest i).count })
@@ -56,7 +55,7 @@ serves_done old mid sus new a rs x l f ks h own mi store queue su label future r
           served = x.0 ∷ a.served;
         }) (ap (λ (y : Activity). nested y.frames.items (focus_tree y.focus)) e ∙ su.term ∙ (λ i. node (Call (label i)) (more (loc (active i)) (locs_then (places i) none))))
             (ap (λ (y : Activity). map service_shape y.services.items) r ∙ services) (ap (λ (y : Activity). option_map future_shape y.present) r ∙ present)
-            (ap (λ (y : Activity). store_of y.store) r ∙ store ∙ ap (λ (s : Store). unpack s x.1.arguments) (sym own)) (ap (λ (y : Activity). y.active) r ∙ ap (λ (v : model.Activity). v.active) h.shape)
+            (ap (λ (y : Activity). y.store.cells) r ∙ store ∙ ap (λ (s : Store). unpack s x.1.arguments) (sym own)) (ap (λ (y : Activity). y.active) r ∙ ap (λ (v : model.Activity). v.active) h.shape)
             (ap (λ (y : Activity). y.sends) r ∙ ap (λ (v : model.Activity). v.sends) h.shape) (ap (λ (y : Activity). y.creations) r ∙ ap (λ (v : model.Activity). v.creations) h.shape)
             (ap (λ (y : Activity). y.count) r ∙ ap (λ (v : model.Activity). suc v.reductions) h.shape) (ap (λ (y : Activity). map line_shape y.lines.items) r ∙ ap (λ (v : model.Activity). v.lines) h.shape);
         settled = subst (λ (y : Activity). IsSettled y.frames.items y.focus) (sym e) su.settled;
@@ -92,13 +91,13 @@ answered (Some f) s place (given.Filled g p) b h =
     let pair : FutureShape → ParcelShape → Option (FutureShape × ParcelShape) = λ k q. Some (k, q) in
     (refl, refl, (λ i. pair (sym h.0 i) (sym h.1 i)))
 
-ends_stands : (old new : Activity) (a : model.Activity) (rs : List RequestShape) (v : Service) → StandsAside old a rs → a.store ≡ store_of old.store → map service_shape new.services.items ≡ but_newest a.services
+ends_stands : (old new : Activity) (a : model.Activity) (rs : List RequestShape) (v : Service) → StandsAside old a rs → a.store ≡ old.store.cells → map service_shape new.services.items ≡ but_newest a.services
     → new ≡ record old { services = new.services; frames = v.frames; focus = new.focus; count = suc old.count; present = v.future } → focus_tree new.focus ≡ leaf (Make [] []) → IsSettled new.frames.items new.focus
     → Stands new (record a { term = plug (contexts_of v.frames.items) (leaf (Make [] [])); services = but_newest a.services; present = option_map future_shape v.future; reductions = suc a.reductions }) rs
 ends_stands old new a rs v h own services r term settled = record {
   shape = shape_by new (record a { term = plug (contexts_of v.frames.items) (leaf (Make [] [])); services = but_newest a.services; present = option_map future_shape v.future; reductions = suc a.reductions })
       (ap (λ (y : Activity). nested y.frames.items (focus_tree new.focus)) r ∙ ap (nested v.frames.items) term ∙ sym (plug_contexts v.frames.items (leaf (Make [] [])))) services
-      (ap (λ (y : Activity). option_map future_shape y.present) r) (ap (λ (y : Activity). store_of y.store) r ∙ sym own) (ap (λ (y : Activity). y.active) r ∙ ap (λ (b : model.Activity). b.active) h.shape)
+      (ap (λ (y : Activity). option_map future_shape y.present) r) (ap (λ (y : Activity). y.store.cells) r ∙ sym own) (ap (λ (y : Activity). y.active) r ∙ ap (λ (b : model.Activity). b.active) h.shape)
       (ap (λ (y : Activity). y.sends) r ∙ ap (λ (b : model.Activity). b.sends) h.shape) (ap (λ (y : Activity). y.creations) r ∙ ap (λ (b : model.Activity). b.creations) h.shape)
       (ap (λ (y : Activity). y.count) r ∙ ap (λ (b : model.Activity). suc b.reductions) h.shape) (ap (λ (y : Activity). map line_shape y.lines.items) r ∙ ap (λ (b : model.Activity). b.lines) h.shape);
   settled = settled;
@@ -106,13 +105,13 @@ ends_stands old new a rs v h own services r term settled = record {
 }
 
 -- a service ends with this answer
-pub ends_done : (old new : Activity) (a : model.Activity) (rs : List RequestShape) (place : ℕ) (v : Service) (g : Given) → StandsAside old a rs → a.store ≡ store_of old.store → old.services.items ≡ new.services.items ++ v ∷ []
+pub ends_done : (old new : Activity) (a : model.Activity) (rs : List RequestShape) (place : ℕ) (v : Service) (g : Given) → StandsAside old a rs → a.store ≡ old.store.cells → old.services.items ≡ new.services.items ++ v ∷ []
     → new ≡ record old { services = new.services; frames = v.frames; focus = new.focus; count = suc old.count; present = v.future } → focus_tree new.focus ≡ leaf (Make [] []) → IsSettled new.frames.items new.focus
-    → IsAnswered (option_map future_shape old.present) (store_of old.store) place g → IsDoneBy (ends_service a place (newest a.services)) rs new g
+    → IsAnswered (option_map future_shape old.present) old.store.cells place g → IsDoneBy (ends_service a place (newest a.services)) rs new g
 ends_done old new a rs place v g h own services r term settled gives =
     let vs : List ServiceShape = map service_shape new.services.items in
     let all : a.services ≡ vs ++ service_shape v ∷ [] = sym (ap (λ (b : model.Activity). b.services) h.shape) ∙ ap (map service_shape) services ∙ map-append service_shape new.services.items (v ∷ []) in
     let last : newest a.services ≡ Some (service_shape v) = ap newest all ∙ newest_last vs (service_shape v) in
     let others : vs ≡ but_newest a.services = sym (ap but_newest all ∙ all_but_last vs (service_shape v)) in
-    let own_answer : IsAnswered a.present a.store place g = subst (λ (s : Store). IsAnswered a.present s place g) (sym own) (subst (λ (o : Option FutureShape). IsAnswered o (store_of old.store) place g) (ap (λ (b : model.Activity). b.present) h.shape) gives) in
+    let own_answer : IsAnswered a.present a.store place g = subst (λ (s : Store). IsAnswered a.present s place g) (sym own) (subst (λ (o : Option FutureShape). IsAnswered o old.store.cells place g) (ap (λ (b : model.Activity). b.present) h.shape) gives) in
     subst (λ (o : Option ServiceShape). IsDoneBy (ends_service a place o) rs new g) (sym last) (ends_stands old new a rs v h own others r term settled, answered a.present a.store place g (record a { term = plug (contexts_of v.frames.items) (leaf (Make [] [])); services = but_newest a.services; present = option_map future_shape v.future; reductions = suc a.reductions }) own_answer)

@@ -5,7 +5,7 @@ use Rattle.std.specs.Global.{Vec}
 use Rattle.asp_model.specs.Configuration as model
 use Rattle.asp_model.specs.Configuration.{RequestShape, ServiceShape, begun}
 use Rattle.asp_model.specs.Shapes.{future_shape, line_shape}
-use Rattle.object_store.specs.View.{StoreView, store_of}
+use Rattle.object_store.specs.View.{StoreView}
 use Rattle.plain_term.specs.declared.frame.Frame.{Frame}
 use Rattle.plain_term.specs.declared.redex.Focus.{Focus}
 use Rattle.plain_term.specs.Frames.{contexts_of, nested}
@@ -23,7 +23,7 @@ activity_shape x served = record {
   term = nested x.frames.items (focus_tree x.focus);
   services = map service_shape x.services.items;
   present = option_map future_shape x.present;
-  store = store_of x.store;
+  store = x.store.cells;
   active = x.active;
   sends = x.sends;
   creations = x.creations;
@@ -40,7 +40,7 @@ pub record Stands (x : Activity) (a : model.Activity) (rs : List RequestShape) :
 
 -- the activity begins with this term and store
 pub record BeginsWith (fs : Vec Frame) (f : Focus) (s : StoreView) (x : Activity) : Type 0 where
-  pub shape : activity_shape x [] ≡ begun (nested fs.items (focus_tree f)) (store_of s)
+  pub shape : activity_shape x [] ≡ begun (nested fs.items (focus_tree f)) s.cells
   pub frames : x.frames ≡ fs
   pub focus : x.focus ≡ f
   pub queue : IsQueue x.queue [] []

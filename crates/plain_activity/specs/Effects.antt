@@ -9,7 +9,6 @@ use Rattle.asp_model.specs.Configuration.{RequestShape}
 use Rattle.asp_model.specs.Intent.{Effect, Intent, Acts, Rests}
 use Rattle.asp_model.specs.Shapes.{future_shape, parcel_shape, request_shape}
 use Rattle.laws.specs.Closed.{AreBelow, IsClosedStore}
-use Rattle.object_store.specs.View.{store_of}
 use Rattle.plain_term.specs.Frames.{contexts_of, nested}
 use Rattle.plain_term.specs.Redexes.{IsSettled, focus_tree}
 use Rattle.plain_activity.specs.declared.activity.Activity.{Activity}
@@ -20,13 +19,13 @@ use Rattle.plain_activity.specs.Queue.{ArePendingClosed, IsQueue}
 
 -- the places of the focus are in the store, whose cells are closed, and so are the pending requests
 pub record IsClosedState (x : Activity) : Type 0 where
-  pub store : IsClosedStore (store_of x.store)
+  pub store : IsClosedStore x.store.cells
   pub focus : AreBelow (length x.store.cells) (locations (focus_tree x.focus))
   pub pending : ArePendingClosed x.queue
 
 -- the activity as it stands, whatever its term and store
 pub record StandsAside (x : Activity) (a : model.Activity) (rs : List RequestShape) : Type 0 where
-  pub shape : activity_shape x a.served ≡ record a { term = nested x.frames.items (focus_tree x.focus); store = store_of x.store }
+  pub shape : activity_shape x a.served ≡ record a { term = nested x.frames.items (focus_tree x.focus); store = x.store.cells }
   pub queue : IsQueue x.queue a.served rs
 
 -- the activity that an effect makes

@@ -20,7 +20,6 @@ ghost use Rattle.asp_model.specs.Intent.{
 ghost use Rattle.asp_model.specs.Shapes.{future_shape, tree_of};
 ghost use Rattle.future_table.specs.Values.{values_of};
 ghost use Rattle.laws.specs.Closed.{AreBelow, IsClosedStore};
-ghost use Rattle.object_store.specs.View.{store_of};
 ghost use Rattle.plain_term.specs.Frames.{contexts_of, nested};
 ghost use Rattle.plain_term.specs.Redexes.{redex_node, redex_shape};
 ghost use Rattle.substitution.specs.Bindings.{label_text, service_text};
@@ -95,12 +94,12 @@ impl Activity {
         futures: &FutureTable,
         redex: Redex,
     ) -> Result<Given, AllocError>
-        requires closed { IsClosedStore (store_of self.old.store) }
+        requires closed { IsClosedStore self.old.store.cells }
         requires within { AreBelow (length self.old.store.cells) (redex_shape redex).places }
         requires pending { ArePendingClosed self.old.queue }
         requires values { AreClosedValues (values_of futures.now) }
         ensures done { (a : model.Activity) (rs : List RequestShape) → StandsAside self.old a rs →
-            a.store ≡ store_of self.old.store →
+            a.store ≡ self.old.store.cells →
             a.term ≡ nested self.old.frames.items (redex_node (redex_shape redex)) →
             let intended = intent (chase (values_of futures.now)) rs name.now a in
             IfOk result (IsDoneBy intended rs self.new) }
@@ -120,11 +119,11 @@ impl Activity {
         name: &ActivityName,
         contracted: Contracted,
     ) -> Result<Given, AllocError>
-        requires ready { IsReady (store_of self.old.store) contracted }
+        requires ready { IsReady self.old.store.cells contracted }
         requires pending { ArePendingClosed self.old.queue }
         ensures done { (a : model.Activity) (rs : List RequestShape) → StandsAside self.old a rs →
-            IsOwn a.store (store_of self.old.store) contracted →
-            let s = store_of self.old.store in
+            IsOwn a.store self.old.store.cells contracted →
+            let s = self.old.store.cells in
             let contexts = contexts_of self.old.frames.items in
             let intended = contracts rs name.now a contexts s (contraction_of s contracted) in
             IfOk result (IsDoneBy intended rs self.new) }
@@ -152,12 +151,12 @@ impl Activity {
         name: &ActivityName,
         communication: Communication,
     ) -> Result<Given, AllocError>
-        requires closed { IsClosedStore (store_of self.old.store) }
+        requires closed { IsClosedStore self.old.store.cells }
         requires within { IsAsked (length self.old.store.cells) communication }
         requires pending { ArePendingClosed self.old.queue }
         ensures done { (a : model.Activity) (rs : List RequestShape) → StandsAside self.old a rs →
-            IsOwnFor a.store (store_of self.old.store) communication →
-            let s = store_of self.old.store in
+            IsOwnFor a.store self.old.store.cells communication →
+            let s = self.old.store.cells in
             let contexts = contexts_of self.old.frames.items in
             let intended = communicates rs name.now a contexts s (communication_shape communication) in
             IfOk result (IsDoneBy intended rs self.new) }
@@ -196,10 +195,10 @@ impl Activity {
         object: Place,
         service: Option<Label>,
     ) -> Result<Given, AllocError>
-        requires closed { IsClosedStore (store_of self.old.store) }
+        requires closed { IsClosedStore self.old.store.cells }
         requires within { object < length self.old.store.cells }
         ensures done { (a : model.Activity) (rs : List RequestShape) → StandsAside self.old a rs →
-            let s = store_of self.old.store in
+            let s = self.old.store.cells in
             let contexts = contexts_of self.old.frames.items in
             let intended = creates name.now a contexts s object (service_text service) in
             IfOk result (IsDoneBy intended rs self.new) }
@@ -223,10 +222,10 @@ impl Activity {
         label: Label,
         arguments: &[Place],
     ) -> Result<Given, AllocError>
-        requires closed { IsClosedStore (store_of self.old.store) }
+        requires closed { IsClosedStore self.old.store.cells }
         requires within { AreBelow (length self.old.store.cells) arguments.now }
         ensures done { (a : model.Activity) (rs : List RequestShape) → StandsAside self.old a rs →
-            let s = store_of self.old.store in
+            let s = self.old.store.cells in
             let contexts = contexts_of self.old.frames.items in
             let intended = sends name.now a contexts s to label.text arguments.now in
             IfOk result (IsDoneBy intended rs self.new) }
@@ -249,8 +248,8 @@ impl Activity {
     fn serve(&mut self, alloc: Global, labels: &[Label]) -> Result<Given, AllocError>
         requires pending { ArePendingClosed self.old.queue }
         ensures done { (a : model.Activity) (rs : List RequestShape) → StandsAside self.old a rs →
-            a.store ≡ store_of self.old.store →
-            let s = store_of self.old.store in
+            a.store ≡ self.old.store.cells →
+            let s = self.old.store.cells in
             let contexts = contexts_of self.old.frames.items in
             let wanted = labels_served (map label_text labels.now) (cell_at s a.active) in
             let intended = serves a contexts (oldest_match wanted a.served 0 rs) in
@@ -298,10 +297,10 @@ impl Activity {
     /// The present future gets a copy of the result, and the newest suspended term goes on with an
     /// empty object.
     fn end_service(&mut self, alloc: Global, place: Place) -> Result<Given, AllocError>
-        requires closed { IsClosedStore (store_of self.old.store) }
+        requires closed { IsClosedStore self.old.store.cells }
         requires within { place < length self.old.store.cells }
         ensures done { (a : model.Activity) (rs : List RequestShape) → StandsAside self.old a rs →
-            a.store ≡ store_of self.old.store →
+            a.store ≡ self.old.store.cells →
             let intended = ends_service a place (newest a.services) in
             IfOk result (IsDoneBy intended rs self.new) }
     {

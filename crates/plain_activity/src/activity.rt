@@ -14,7 +14,6 @@ ghost use Rattle.asp_model.specs.Shapes.{
 };
 ghost use Rattle.asp_model.specs.Store.{Object as object_shape};
 ghost use Rattle.laws.specs.Closed.{IsClosedParcel};
-ghost use Rattle.object_store.specs.View.{store_of};
 ghost use Rattle.plain_term.specs.Redexes.{focus_tree};
 ghost use Rattle.substitution.specs.Bindings.{service_text};
 ghost use Rattle.plain_activity.specs.Activity.{BeginsWith, Stands};

@@ -17,7 +17,6 @@ ghost use Rattle.asp_model.specs.Term.{
 ghost use Rattle.asp_model.specs.Contraction.{Becomes, active_row, allots, operate_row, put_row, remaining, row};
 ghost use Rattle.asp_model.specs.Shapes.{cell_shape, sign_shape, tree_of};
 ghost use Rattle.laws.specs.Closed.{AreBelow};
-ghost use Rattle.object_store.specs.View.{store_of};
 ghost use Rattle.plain_term.specs.Redexes.{redex_shape};
 ghost use Rattle.substitution.specs.Bindings.{service_text};
 ghost use Rattle.plain_activity.specs.Contracted.{IsEachRow, IsKeptFor, IsWithin, contraction_of};
@@ -40,16 +39,16 @@ pub fn place_term(alloc: Global, place: Place) -> Term
 }
 
 fn allot(alloc: Global, store: &mut Store, cell: Cell) -> Result<Contracted, AllocError>
-    ensures row { let row = allots (store_of store.old) (cell_shape cell) [] in
-        IfOk result (λ c. contraction_of (store_of store.new) c ≡ row) }
+    ensures row { let row = allots store.old.cells (cell_shape cell) [] in
+        IfOk result (λ c. contraction_of store.new.cells c ≡ row) }
 {
     let place = store.add(cell)?;
     Ok(Contracted::Becomes(place_term(alloc, place)))
 }
 
 fn echo(alloc: Global, store: &mut Store, text: Word) -> Result<Contracted, AllocError>
-    ensures row { let s = store_of store.old in
-        IfOk result (λ c. contraction_of (store_of store.new) c ≡ row s (Echo text) [] none) }
+    ensures row { let s = store.old.cells in
+        IfOk result (λ c. contraction_of store.new.cells c ≡ row s (Echo text) [] none) }
 {
     let object = Object {
         fields: Vec::new(alloc),
@@ -108,9 +107,9 @@ fn operate_at(
     first: Place,
     second: Place,
 ) -> Result<Contracted, AllocError>
-    ensures row { let s = store_of store.old in
+    ensures row { let s = store.old.cells in
         let row = operate_row s (sign_shape sign) (cell_at s first) (cell_at s second) in
-        IfOk result (λ c. contraction_of (store_of store.new) c ≡ row) }
+        IfOk result (λ c. contraction_of store.new.cells c ≡ row) }
 {
     match operated(sign, read(store, first), read(store, second)) {
         Err(fault) => Ok(Contracted::Faults(fault)),
@@ -119,15 +118,15 @@ fn operate_at(
 }
 
 fn clone_at(alloc: Global, store: &mut Store, place: Place) -> Result<Contracted, AllocError>
-    ensures row { let s = store_of store.old in
-        IfOk result (λ c. contraction_of (store_of store.new) c ≡ allots s (cell_at s place) []) }
+    ensures row { let s = store.old.cells in
+        IfOk result (λ c. contraction_of store.new.cells c ≡ allots s (cell_at s place) []) }
 {
     let cell = copy_seen(alloc, read(store, place))?;
     allot(alloc, store, cell)
 }
 
 fn get(alloc: Global, store: &Store, place: Place, label: &Label) -> Contracted
-    ensures row { let s = store_of store.now in
+    ensures row { let s = store.now.cells in
         contraction_of s result ≡ row s (Get label.now.text) (place ∷ []) none }
 {
     match field_of(read(store, place), label) {
@@ -138,8 +137,8 @@ fn get(alloc: Global, store: &Store, place: Place, label: &Label) -> Contracted
 
 fn put(alloc: Global, store: &mut Store, place: Place, label: Label, value: Place) -> Contracted
     requires within { value < length store.old.cells }
-    ensures row { let s = store_of store.old in
-        contraction_of (store_of store.new) result ≡ put_row s label.text place value (cell_at s place) }
+    ensures row { let s = store.old.cells in
+        contraction_of store.new.cells result ≡ put_row s label.text place value (cell_at s place) }
 {
     match field_of(read(store, place), &label) {
         Err(fault) => Contracted::Faults(fault),
@@ -154,9 +153,9 @@ fn put(alloc: Global, store: &mut Store, place: Place, label: Label, value: Plac
 pub fn contract(alloc: Global, store: &mut Store, redex: Redex) -> Result<Contracted, AllocError>
     requires within { AreBelow (length store.old.cells) (redex_shape redex).places }
     ensures row { let r = redex_shape redex in
-        let row = row (store_of store.old) r.head r.places r.behind in
-        IfOk result (λ c. contraction_of (store_of store.new) c ≡ row) }
-    ensures kept { IfOk result (IsKeptFor (store_of store.old) (store_of store.new)) }
+        let row = row store.old.cells r.head r.places r.behind in
+        IfOk result (λ c. contraction_of store.new.cells c ≡ row) }
+    ensures kept { IfOk result (IsKeptFor store.old.cells store.new.cells) }
     ensures within { IfOk result (IsWithin (length store.old.cells)) }
 {
     match redex {

@@ -7,7 +7,6 @@ ghost use Rattle.asp_model.specs.Contraction.{strict_operands};
 ghost use Rattle.asp_model.specs.Intent.{operand_ready, redex_ready};
 ghost use Rattle.future_table.specs.Values.{values_of};
 ghost use Rattle.laws.specs.Closed.{IsClosedStore};
-ghost use Rattle.object_store.specs.View.{store_of};
 ghost use Rattle.plain_term.specs.Redexes.{redex_shape};
 ghost use Rattle.plain_activity.specs.Operands.{AreClosedValues, IsFetched, strict_places};
 
@@ -53,11 +52,10 @@ fn fetch(
     place: Place,
 ) -> Result<bool, AllocError>
     requires values { AreClosedValues (values_of futures.now) }
-    ensures fetched { let s = store_of store.old in
+    ensures fetched { let s = store.old.cells in
         let ready = operand_ready (chase (values_of futures.now)) s place (cell_at s place) in
-        IfOk result (IsFetched ready (store_of store.new)) }
-    ensures closed { OnOk result
-        (IsClosedStore (store_of store.old) → IsClosedStore (store_of store.new)) }
+        IfOk result (IsFetched ready store.new.cells) }
+    ensures closed { OnOk result (IsClosedStore store.old.cells → IsClosedStore store.new.cells) }
 {
     let Seen::Future(future) = read(store, place) else {
         return Ok(true);
@@ -81,11 +79,10 @@ pub fn fetch_all(
     redex: &Redex,
 ) -> Result<bool, AllocError>
     requires values { AreClosedValues (values_of futures.now) }
-    ensures fetched { let ready = redex_ready (chase (values_of futures.now)) (store_of store.old)
+    ensures fetched { let ready = redex_ready (chase (values_of futures.now)) store.old.cells
         (redex_shape redex.now) in
-        IfOk result (IsFetched ready (store_of store.new)) }
-    ensures closed { OnOk result
-        (IsClosedStore (store_of store.old) → IsClosedStore (store_of store.new)) }
+        IfOk result (IsFetched ready store.new.cells) }
+    ensures closed { OnOk result (IsClosedStore store.old.cells → IsClosedStore store.new.cells) }
 {
     match strict_of(redex) {
         Strict::Nothing => Ok(true),

@@ -11,7 +11,6 @@ ghost use Rattle.asp_model.specs.Configuration.{RequestShape};
 ghost use Rattle.asp_model.specs.Intent.{ends_service, labels_served, newest, oldest_match, intent, serves};
 ghost use Rattle.future_table.specs.Values.{values_of};
 ghost use Rattle.laws.specs.Closed.{AreBelow};
-ghost use Rattle.object_store.specs.View.{store_of};
 ghost use Rattle.plain_term.specs.Frames.{nested};
 ghost use Rattle.plain_term.specs.Redexes.{redex_node, redex_shape};
 ghost use Rattle.plain_activity.specs.Activity.{Stands, service_shape};
@@ -95,7 +94,7 @@ impl Activity {
         ensures outlook { (a : model.Activity) (rs : List RequestShape) (labels : List Text)
             (contexts : List Context) → Stands self.now a rs →
             (redex_shape redex.now).head ≡ Serve labels →
-            let wanted = labels_served labels (cell_at (store_of self.now.store) a.active) in
+            let wanted = labels_served labels (cell_at self.now.store.cells a.active) in
             IsOutlook (serves a contexts (oldest_match wanted a.served 0 rs)) result }
     {
         match redex {

@@ -6,7 +6,6 @@ ghost use Rattle.asp_model.specs.Chase.{chase};
 ghost use Rattle.asp_model.specs.Contraction.{strict_operands};
 ghost use Rattle.asp_model.specs.Shapes.{future_shape, parcel_shape};
 ghost use Rattle.future_table.specs.Values.{values_of};
-ghost use Rattle.object_store.specs.View.{store_of};
 ghost use Rattle.plain_term.specs.Redexes.{redex_shape};
 ghost use Rattle.plain_activity.specs.Outlook.{IsRead, operand_sight, sight, value_sight};
 ghost use Rattle.plain_activity.specs.Seen.{seen_shape};
@@ -56,7 +55,7 @@ fn value_of<'a>(futures: &'a FutureTable, future: &'a FutureName) -> Operand<'a>
 }
 
 fn read_operand<'a>(store: &'a Store, futures: &'a FutureTable, place: Place) -> Operand<'a>
-    ensures sight { let c = cell_at (store_of store.now) place in
+    ensures sight { let c = cell_at store.now.cells place in
         operand_sight result ≡ sight (chase (values_of futures.now)) c }
 {
     match read(store, place) {
@@ -72,7 +71,7 @@ fn read_operand<'a>(store: &'a Store, futures: &'a FutureTable, place: Place) ->
 pub fn operands_of<'a>(store: &'a Store, futures: &'a FutureTable, redex: &Redex) -> Operands<'a>
     ensures read { let r = redex_shape redex.now in
         let places = strict_operands r.head r.places in
-        IsRead (chase (values_of futures.now)) (store_of store.now) places result }
+        IsRead (chase (values_of futures.now)) store.now.cells places result }
 {
     match strict_of(redex) {
         Strict::Nothing => Operands::Read(Seen::Number(0), Seen::Number(0)),
@@ -91,7 +90,7 @@ fn two_operands<'a>(
     second: Place,
 ) -> Operands<'a>
     ensures read { let chases = chase (values_of futures.now) in
-        IsRead chases (store_of store.now) (first ∷ second ∷ []) result }
+        IsRead chases store.now.cells (first ∷ second ∷ []) result }
 {
     match read_operand(store, futures, first) {
         Operand::Awaits(future) => Operands::Awaits(future),

@@ -4,7 +4,6 @@ ghost use Rattle.std.specs.Prelude.{◌≡◌, map};
 ghost use Rattle.asp_model.specs.Store.{cell as cell_at};
 ghost use Rattle.asp_model.specs.Contraction.{field_place as place_in, method_at as method_in};
 ghost use Rattle.asp_model.specs.Shapes.{cell_shape, field_shape, stored_method};
-ghost use Rattle.object_store.specs.View.{store_of};
 ghost use Rattle.plain_activity.specs.Seen.{method_seen, seen_shape};
 
 use asp_model::{ActivityName, Cell, FutureName, Label, Method, Object, Place};
@@ -35,7 +34,7 @@ pub fn see(cell: &Cell) -> Seen
 }
 
 pub fn read(store: &Store, place: Place) -> Seen
-    ensures cell { seen_shape result ≡ cell_at (store_of store.now) place }
+    ensures cell { seen_shape result ≡ cell_at store.now.cells place }
 {
     if place >= store.len() {
         return Seen::Number(0);

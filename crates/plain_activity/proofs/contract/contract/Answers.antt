@@ -3,7 +3,6 @@ use Rattle.std.proofs.lemmas.Result.{IfOk-weaker}
 use Rattle.asp_model.specs.Store.{Store}
 use Rattle.laws.specs.Closed.{AreBelow}
 use Rattle.asp_model.specs.Contraction.{Contraction, row}
-use Rattle.object_store.specs.View.{store_of}
 use Rattle.plain_term.specs.declared.redex.Redex.{Redex}
 use Rattle.plain_term.specs.Redexes.{redex_shape}
 use Rattle.plain_activity.specs.declared.contracted.Contracted.{Contracted}
@@ -15,8 +14,8 @@ use Rattle.plain_activity.proofs.contract.contract.Goals as goal
 
 pub returns-in-Make-clause-row : goal.returns-in-Make-clause-row
 returns-in-Make-clause-row c =
-    let s = store_of c.args.store.now in
-    let new = store_of c.allot-in-Make.new.store in
+    let s = c.args.store.now.cells in
+    let new = c.allot-in-Make.new.store.cells in
     let o = c.in-Make.object in
     let whole = sym (object_row s o) ∙ ap (λ (r : Redex). row s (redex_shape r).head (redex_shape r).places (redex_shape r).behind) (sym c.in-Make.is) in
     subst (λ (k : Contraction). IfOk c.allot-in-Make.result (λ (x : Contracted). contraction_of new x ≡ k)) whole c.allot-in-Make.ensures.row

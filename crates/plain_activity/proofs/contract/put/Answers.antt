@@ -2,14 +2,13 @@ use Rattle.std.proofs.Common.{◌≡◌, [], sym, ap, ◌∙◌}
 use Rattle.asp_model.specs.Store.{Store, cell}
 use Rattle.asp_model.specs.Contraction.{Becomes, Faults, get_row, stays_at}
 use Rattle.asp_model.specs.Shapes.{fault_shape}
-use Rattle.object_store.specs.View.{store_of}
 use Rattle.plain_activity.specs.Rows.{place_or_fault}
 use Rattle.plain_activity.proofs.FieldLemmas.{object_in, put_faults, got_object, put_sets}
 use Rattle.plain_activity.proofs.contract.put.Goals as goal
 
 pub returns-in-Err : goal.returns-in-Err
 returns-in-Err c =
-    let s : Store = store_of c.args.store.now in
+    let s : Store = c.args.store.now.cells in
     let l = c.args.label.text in
     let i = c.args.place in
     let got : Faults (fault_shape c.in-Err.fault) ≡ get_row s l (cell s i) = sym (ap (place_or_fault s) c.in-Err.is) ∙ c.field_of.ensures.row s ∙ ap (get_row s l) c.read.ensures.cell in
@@ -17,7 +16,7 @@ returns-in-Err c =
 
 pub set_field-requires-clause-within : goal.set_field-requires-clause-within
 set_field-requires-clause-within c =
-    let s : Store = store_of c.args.store.now in
+    let s : Store = c.args.store.now.cells in
     let l = c.args.label.text in
     let i = c.args.place in
     let got : stays_at c.in-Ok.field-0 s ≡ get_row s l (cell s i) = sym (ap (place_or_fault s) c.in-Ok.is) ∙ c.field_of.ensures.row s ∙ ap (get_row s l) c.read.ensures.cell in
@@ -25,7 +24,7 @@ set_field-requires-clause-within c =
 
 pub set_field-requires-clause-object : goal.set_field-requires-clause-object
 set_field-requires-clause-object c =
-    let s : Store = store_of c.args.store.now in
+    let s : Store = c.args.store.now.cells in
     let l = c.args.label.text in
     let i = c.args.place in
     let got : stays_at c.in-Ok.field-0 s ≡ get_row s l (cell s i) = sym (ap (place_or_fault s) c.in-Ok.is) ∙ c.field_of.ensures.row s ∙ ap (get_row s l) c.read.ensures.cell in
@@ -33,7 +32,7 @@ set_field-requires-clause-object c =
 
 pub returns : goal.returns
 returns c =
-    let s : Store = store_of c.args.store.now in
+    let s : Store = c.args.store.now.cells in
     let l = c.args.label.text in
     let i = c.args.place in
     let got : stays_at c.in-Ok.field-0 s ≡ get_row s l (cell s i) = sym (ap (place_or_fault s) c.in-Ok.is) ∙ c.field_of.ensures.row s ∙ ap (get_row s l) c.read.ensures.cell in

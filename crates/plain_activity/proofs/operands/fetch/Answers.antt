@@ -7,7 +7,6 @@ use Rattle.asp_model.specs.Chase.{Values, chase}
 use Rattle.asp_model.specs.Intent.{Ready, Reads, operand_ready}
 use Rattle.asp_model.specs.Shapes.{future_shape, parcel_shape}
 use Rattle.future_table.specs.Values.{values_of, chase_shape}
-use Rattle.object_store.specs.View.{store_of}
 use Rattle.plain_activity.specs.Operands.{IsFetched}
 use Rattle.plain_activity.specs.Seen.{seen_shape}
 use Rattle.plain_activity.proofs.ChaseLemmas.{chase_value, told_value, ready_value}
@@ -31,7 +30,7 @@ unpack_at-requires-clause-within c = future_in c.args.store.now.cells c.args.pla
 pub returns-clause-fetched : goal.returns-clause-fetched
 returns-clause-fetched c =
     let values : Values = values_of c.args.futures.now in
-    let s : Store = store_of c.args.store.now in
+    let s : Store = c.args.store.now.cells in
     let n = c.args.place in
     let f : FutureShape = future_shape c.in-Future.future.now in
     let g : FutureShape = future_shape c.in-Value.name.now in
@@ -42,4 +41,4 @@ returns-clause-fetched c =
     let both : Some (parcel_shape c.in-Some.value.now) ≡ Some comes.0 = value ∙ held in
     let same : parcel_shape c.in-Some.value.now ≡ comes.0 = cc in
     let ready : operand_ready (chase values) s n (cell s n) ≡ Reads (unpack_at s n comes.0) = ready_value values s n f g comes.0 here comes.1 in
-    subst (λ (r : Ready). IsFetched r (store_of c.unpack_at.new.store) true) (sym ready) (refl, c.in_ok-unpack_at.ensures.cells ∙ ap (unpack_at s n) same)
+    subst (λ (r : Ready). IsFetched r c.unpack_at.new.store.cells true) (sym ready) (refl, c.in_ok-unpack_at.ensures.cells ∙ ap (unpack_at s n) same)

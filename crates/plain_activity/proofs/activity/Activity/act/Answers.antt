@@ -5,7 +5,6 @@ use Rattle.asp_model.specs.Chase.{chase}
 use Rattle.asp_model.specs.Intent.{Intent}
 use Rattle.future_table.specs.Values.{values_of}
 use Rattle.laws.specs.Closed.{AreBelow}
-use Rattle.object_store.specs.View.{store_of}
 use Rattle.plain_term.specs.declared.frame.Frame.{Frame}
 use Rattle.plain_term.specs.declared.redex.Focus.{Focus}
 use Rattle.plain_term.specs.Frames.{nested}
@@ -27,8 +26,8 @@ returns-in-Place c =
     let here : old.focus ≡ Focus.Place p = sym c.replace.ensures.value ∙ c.in-Place.is in
     record {
       acts = λ a rs h.
-          let aside : StandsAside (record old { focus = c.replace.new.dest }) a rs = record { shape = λ i. record (h.shape i) { term = nested fs (focus_tree c.replace.new.dest); store = store_of old.store }; queue = h.queue } in
-          let own : a.store ≡ store_of old.store = sym (ap (λ (v : model.Activity). v.store) h.shape) in
+          let aside : StandsAside (record old { focus = c.replace.new.dest }) a rs = record { shape = λ i. record (h.shape i) { term = nested fs (focus_tree c.replace.new.dest); store = old.store.cells }; queue = h.queue } in
+          let own : a.store ≡ old.store.cells = sym (ap (λ (v : model.Activity). v.store) h.shape) in
           let empty : fs ≡ [] = subst (IsSettled fs) here h.settled in
           let term : a.term ≡ loc p = sym (ap (λ (v : model.Activity). v.term) h.shape) ∙ (λ i. nested fs (focus_tree (here i))) ∙ ap (λ (gs : List Frame). nested gs (loc p)) empty in
           subst (λ (q : Intent). IfOk c.end_service.result (IsDoneBy q rs new)) (sym (intent_place chases rs n a p term)) (c.end_service.ensures.done a rs aside own);
@@ -48,8 +47,8 @@ returns-in-Redex c =
     let here : old.focus ≡ Focus.Redex r = sym c.replace.ensures.value ∙ c.in-Redex.is in
     record {
       acts = λ a rs h.
-          let aside : StandsAside (record old { focus = c.replace.new.dest }) a rs = record { shape = λ i. record (h.shape i) { term = nested fs (focus_tree c.replace.new.dest); store = store_of old.store }; queue = h.queue } in
-          let own : a.store ≡ store_of old.store = sym (ap (λ (v : model.Activity). v.store) h.shape) in
+          let aside : StandsAside (record old { focus = c.replace.new.dest }) a rs = record { shape = λ i. record (h.shape i) { term = nested fs (focus_tree c.replace.new.dest); store = old.store.cells }; queue = h.queue } in
+          let own : a.store ≡ old.store.cells = sym (ap (λ (v : model.Activity). v.store) h.shape) in
           let term : a.term ≡ nested fs (redex_node (redex_shape r)) = sym (ap (λ (v : model.Activity). v.term) h.shape) ∙ (λ i. nested fs (focus_tree (here i))) in
           c.reduce.ensures.done a rs aside own term;
     }

@@ -2,7 +2,6 @@ use Rattle.plain_activity.specs.declared.outlook.Outlook.TheVariants as outlook
 use Rattle.asp_model.specs.Chase.{chase}
 use Rattle.asp_model.specs.Shapes.{fault_shape}
 use Rattle.future_table.specs.Values.{values_of}
-use Rattle.object_store.specs.View.{store_of}
 use Rattle.plain_term.specs.Frames.{contexts_of}
 use Rattle.plain_activity.specs.Kinds.{Asks, Goes, GoesTo, Still, Stops, face}
 use Rattle.plain_activity.specs.Seen.{seen_shape}
@@ -34,7 +33,7 @@ pub returns-in-Asks : goal.returns-in-Asks
 returns-in-Asks c = record {
   outlook = redex_outlook c.args.self.now (values_of c.args.futures.now) c.args.redex.now (face (seen_shape c.in-Read.first)) (face (seen_shape c.in-Read.second)) Asks c.at_serve.result c.requires.values c.requires.within c.in-Read.ensures.read c.in-Asks.ensures.kind
       (λ a rs n t k h ready is e.
-      asks (chase (values_of c.args.futures.now)) rs n a (contexts_of c.args.self.now.frames.items) (store_of c.args.self.now.store) t c.args.redex.now k c.at_serve.result ready is e
+      asks (chase (values_of c.args.futures.now)) rs n a (contexts_of c.args.self.now.frames.items) c.args.self.now.store.cells t c.args.redex.now k c.at_serve.result ready is e
       (λ labels head. c.at_serve.ensures.outlook a rs labels (contexts_of c.args.self.now.frames.items) h head));
 }
 

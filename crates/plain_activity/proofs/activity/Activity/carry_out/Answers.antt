@@ -4,7 +4,6 @@ use Rattle.asp_model.specs.Intent.{contracts}
 use Rattle.asp_model.specs.Split.{plugged}
 use Rattle.asp_model.specs.Store.{Store}
 use Rattle.asp_model.specs.Shapes.{line_shape, tree_of}
-use Rattle.object_store.specs.View.{store_of}
 use Rattle.plain_term.specs.Frames.{contexts_of, frame_shape}
 use Rattle.plain_term.proofs.NestedLemmas.{pushed}
 use Rattle.plain_activity.specs.declared.activity.Activity.{Activity}
@@ -21,7 +20,7 @@ returns-in-Becomes c =
     let old : Activity = c.args.self.now in
     let new : Activity = c.go_on.new.self in
     let n = c.args.name.now in
-    let s : Store = store_of old.store in
+    let s : Store = old.store.cells in
     let ks = contexts_of old.frames.items in
     let t = tree_of c.in-Becomes.term in
     let none : map line_shape old.lines.items ≡ map line_shape old.lines.items ++ [] = sym (append-nil (map line_shape old.lines.items)) in
@@ -36,7 +35,7 @@ returns-in_ok-push-in-Enters c =
     let mid : Activity = record old { frames = c.push.new.self } in
     let new : Activity = c.go_on-in-Enters.new.self in
     let n = c.args.name.now in
-    let s : Store = store_of old.store in
+    let s : Store = old.store.cells in
     let ks = contexts_of old.frames.items in
     let f = c.in-Enters.frame in
     let t = tree_of c.in-Enters.term in
@@ -53,7 +52,7 @@ returns-in_ok-push-in-Writes c =
     let mid : Activity = record old { lines = c.push-in-Writes.new.self } in
     let new : Activity = c.go_on-in-Writes.new.self in
     let n = c.args.name.now in
-    let s : Store = store_of old.store in
+    let s : Store = old.store.cells in
     let ks = contexts_of old.frames.items in
     let line = c.in-Writes.line in
     let t = tree_of c.in-Writes.term in

@@ -5,7 +5,6 @@ use Rattle.asp_model.specs.declared.store.Object.{Object as CodeObject}
 use Rattle.asp_model.specs.Term.{Make, leaf, node, locs_then, trees}
 use Rattle.asp_model.specs.Store.{MethodShape}
 use Rattle.asp_model.specs.Shapes.{future_shape, stored_method}
-use Rattle.object_store.specs.View.{store_of}
 use Rattle.plain_term.specs.declared.redex.Focus.{Focus}
 use Rattle.plain_term.specs.Redexes.{IsSettled, focus_tree, object_shape, redex_node}
 use Rattle.plain_activity.specs.declared.activity.Activity.{Activity}
@@ -31,7 +30,7 @@ returns-in-None c =
     let settled : IsSettled new.frames.items new.focus = subst (λ (f : Focus). IsSettled v.frames.items f) (sym c.put_focus.ensures) tt in
     let none : old.present ≡ None = sym c.replace.ensures.value ∙ c.in-None.is in
     record {
-      done = λ a rs h own. ends_done old new a rs c.args.place v given.Nothing h own c.in-Some.ensures.items r term settled (subst (λ o. IsAnswered (option_map future_shape o) (store_of old.store) c.args.place given.Nothing) (sym none) refl);
+      done = λ a rs h own. ends_done old new a rs c.args.place v given.Nothing h own c.in-Some.ensures.items r term settled (subst (λ o. IsAnswered (option_map future_shape o) old.store.cells c.args.place given.Nothing) (sym none) refl);
     }
 
 pub returns-in_ok-value-in-Some-replace : goal.returns-in_ok-value-in-Some-replace
@@ -47,5 +46,5 @@ returns-in_ok-value-in-Some-replace c =
     let g : Given = given.Filled c.in-Some-replace.answered c.in_ok-value-in-Some-replace.value in
     record {
       done = λ a rs h own. ends_done old new a rs c.args.place v g h own c.in-Some.ensures.items r term settled
-          (subst (λ o. IsAnswered (option_map future_shape o) (store_of old.store) c.args.place g) (sym some) (refl, c.in_ok-value-in-Some-replace.ensures.parcel));
+          (subst (λ o. IsAnswered (option_map future_shape o) old.store.cells c.args.place g) (sym some) (refl, c.in_ok-value-in-Some-replace.ensures.parcel));
     }

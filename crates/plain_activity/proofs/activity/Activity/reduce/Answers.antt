@@ -1,17 +1,14 @@
-use Rattle.std.proofs.Common.{◌≡◌, ◌≤◌, ℕ, length, refl, sym, ap, ◌∙◌, subst, IfOk, Bool, arith}
-use Rattle.std.proofs.lemmas.List.{length-map}
+use Rattle.std.proofs.Common.{◌≡◌, ◌≤◌, length, refl, sym, ap, ◌∙◌, subst, IfOk, Bool}
 use Rattle.asp_model.specs.Contraction.{strict_operands}
 use Rattle.asp_model.specs.Store.{Store}
 use Rattle.asp_model.specs.Chase.{chase}
 use Rattle.asp_model.specs.Intent.{Intent, Done, Reads, redex_ready}
 use Rattle.future_table.specs.Values.{values_of}
 use Rattle.laws.proofs.EachLemmas.{below_more}
-use Rattle.object_store.specs.View.{store_of}
 use Rattle.plain_term.specs.Frames.{contexts_of}
 use Rattle.plain_term.specs.Redexes.{redex_shape}
 use Rattle.plain_activity.specs.declared.activity.Activity.{Activity}
 use Rattle.plain_activity.specs.declared.act.Given.TheVariants as given
-use Rattle.plain_activity.specs.Contracted.{IsWithin}
 use Rattle.plain_activity.specs.Effects.{IsDoneBy, StandsAside}
 use Rattle.plain_activity.specs.Operands.{IsFetched}
 use Rattle.plain_activity.proofs.DoneLemmas.{rests_done}
@@ -23,11 +20,11 @@ use Rattle.plain_activity.proofs.activity.Activity.reduce.Goals as goal
 pub returns-else-ready : goal.returns-else-ready
 returns-else-ready c =
     let old : Activity = c.args.self.now in
-    let s : Store = store_of old.store in
+    let s : Store = old.store.cells in
     let r = redex_shape c.args.redex in
     let chases = chase (values_of c.args.futures.now) in
     let n = c.args.name.now in
-    let lacks = fetched_lacks (redex_ready chases s r) (store_of c.fetch_all.new.store) (subst (λ (b : Bool). IsFetched (redex_ready chases s r) (store_of c.fetch_all.new.store) b) c.if-ready.false c.in_ok-ready.ensures.fetched) in
+    let lacks = fetched_lacks (redex_ready chases s r) c.fetch_all.new.store.cells (subst (λ (b : Bool). IsFetched (redex_ready chases s r) c.fetch_all.new.store.cells b) c.if-ready.false c.in_ok-ready.ensures.fetched) in
     record {
       done = λ a rs h own term. subst (λ (p : Intent). IsDoneBy p rs (record old { store = c.fetch_all.new.store }) given.Nothing)
           (sym (intent_redex chases rs n a old.frames.items c.args.redex s term own ∙ ap (intended rs n a (contexts_of old.frames.items) r) lacks.1)) tt;
@@ -35,29 +32,24 @@ returns-else-ready c =
 
 pub contract-requires : goal.contract-requires
 contract-requires c =
-    let s : Store = store_of c.args.self.now.store in
-    let t : Store = store_of c.fetch_all.new.store in
+    let s : Store = c.args.self.now.store.cells in
+    let t : Store = c.fetch_all.new.store.cells in
     let r = redex_shape c.args.redex in
     let chases = chase (values_of c.args.futures.now) in
     let reads : redex_ready chases s r ≡ Reads t = fetched_reads (redex_ready chases s r) t (subst (λ (b : Bool). IsFetched (redex_ready chases s r) t b) c.if-ready.true c.in_ok-ready.ensures.fetched) in
     let grows : length s ≤ length t = ready_grows chases s t (strict_operands r.head r.places) (sym (ready_by chases s c.args.redex (strict_operands r.head r.places) refl) ∙ reads) in
-    let old_size : length s ≡ length c.args.self.now.store.cells = simp length-map in
-    let new_size : length t ≡ length c.fetch_all.new.store.cells = simp length-map in
-    let more : length c.args.self.now.store.cells ≤ length c.fetch_all.new.store.cells = omega (arith, grows, old_size, new_size) in
-    record { within = below_more (length c.args.self.now.store.cells) (length c.fetch_all.new.store.cells) more r.places c.requires.within }
+    record { within = below_more (length s) (length t) grows r.places c.requires.within }
 
 pub carry_out-requires-clause-ready : goal.carry_out-requires-clause-ready
 carry_out-requires-clause-ready c =
-    let size : length (store_of c.fetch_all.new.store) ≡ length c.fetch_all.new.store.cells = simp length-map in
-    let x = c.in_ok-contracted.contracted in
-    ready_for c.fetch_all.new.store c.contract.new.store x c.in_ok-contracted.ensures.kept (c.in_ok-ready.ensures.closed c.requires.closed) (subst (λ (k : ℕ). IsWithin k x) (sym size) c.in_ok-contracted.ensures.within)
+    ready_for c.fetch_all.new.store.cells c.contract.new.store.cells c.in_ok-contracted.contracted c.in_ok-contracted.ensures.kept (c.in_ok-ready.ensures.closed c.requires.closed) c.in_ok-contracted.ensures.within
 
 pub returns-in_ok-contracted : goal.returns-in_ok-contracted
 returns-in_ok-contracted c =
     let old : Activity = c.args.self.now in
-    let s : Store = store_of old.store in
-    let t : Store = store_of c.fetch_all.new.store in
-    let u : Store = store_of c.contract.new.store in
+    let s : Store = old.store.cells in
+    let t : Store = c.fetch_all.new.store.cells in
+    let u : Store = c.contract.new.store.cells in
     let r = redex_shape c.args.redex in
     let chases = chase (values_of c.args.futures.now) in
     let n = c.args.name.now in

@@ -5,7 +5,6 @@ use Rattle.asp_model.specs.Configuration as model
 use Rattle.asp_model.specs.Configuration.{RequestShape}
 use Rattle.asp_model.specs.Intent.{Numbered, labels_served, oldest_match, serves}
 use Rattle.asp_model.specs.Shapes.{request_shape}
-use Rattle.object_store.specs.View.{store_of}
 use Rattle.plain_term.specs.Frames.{contexts_of}
 use Rattle.substitution.specs.Bindings.{label_text}
 use Rattle.plain_activity.specs.declared.activity.Activity.{Activity}
@@ -20,7 +19,7 @@ use Rattle.plain_activity.proofs.activity.Activity.serve.Goals as goal
 pub returns-in_default-take : goal.returns-in_default-take
 returns-in_default-take c =
     let old : Activity = c.args.self.now in
-    let s : Store = store_of old.store in
+    let s : Store = old.store.cells in
     let labels = map label_text c.args.labels.now in
     record {
       done = λ a rs h own.
@@ -42,7 +41,7 @@ returns c =
     let mid : Activity = record old { queue = c.take.new.self; store = c.unpack.new.store } in
     let sus : Activity = c.suspend.new.self in
     let new : Activity = record sus { count = c.in_ok-self.field-0 } in
-    let s : Store = store_of old.store in
+    let s : Store = old.store.cells in
     let labels = map label_text c.args.labels.now in
     let request = c.in-Some-take.request in
     let counted : c.in_ok-self.field-0 ≡ suc sus.count = c.in_ok-self.ensures in
@@ -56,7 +55,7 @@ returns c =
           let taken = c.in-Some-take.ensures.taken a.served rs h.queue in
           let both : Some (request_shape request) ≡ Some x.1 = sym taken.0 ∙ there in
           let is : request_shape request ≡ x.1 = cc in
-          let store : store_of c.unpack.new.store ≡ unpack s x.1.arguments = c.in_ok-places.ensures.cells ∙ ap (λ (r : RequestShape). unpack s r.arguments) is in
+          let store : c.unpack.new.store.cells ≡ unpack s x.1.arguments = c.in_ok-places.ensures.cells ∙ ap (λ (r : RequestShape). unpack s r.arguments) is in
           let roots : c.in_ok-places.places.items ≡ unpacked_roots s x.1.arguments = c.in_ok-places.ensures.roots ∙ ap (λ (r : RequestShape). unpacked_roots s r.arguments) is in
           let queue : IsQueue c.take.new.self (x.0 ∷ a.served) rs = subst (λ (k : ℕ). IsQueue c.take.new.self (k ∷ a.served) rs) m.2 taken.1 in
           subst (λ (o : Option Numbered). IsDoneBy (serves a (contexts_of old.frames.items) o) rs new given.Nothing) (sym m.1)
