@@ -4,7 +4,6 @@ ghost use Rattle.std.specs.Prelude.{◌≡◌, IfOk, length, true};
 ghost use Rattle.std.specs.List.{list_all};
 ghost use Rattle.asp_model.specs.Shapes.{parcel_shape};
 ghost use Rattle.laws.specs.Closed.{IsClosedParcel, IsClosedStore};
-ghost use Rattle.object_store.specs.View.{store_of};
 ghost use Rattle.timing.specs.Closed.{IsClosedStore-prop};
 ghost use Rattle.timing.specs.Fields.{leads_below};
 
@@ -18,7 +17,7 @@ use std::alloc::{AllocError, Global};
 #[derive(Drop)]
 pub struct ClosedStore {
     store: Store,
-    ghost closed: { IsClosedStore (store_of store) } by { IsClosedStore-prop (store_of store) },
+    ghost closed: { IsClosedStore store.cells } by { IsClosedStore-prop store.cells },
 }
 
 impl ClosedStore {

@@ -2,7 +2,7 @@
 
 ghost use Rattle.std.specs.Prelude.{◌≡◌, ◌<◌, IsTrue, length};
 ghost use Rattle.asp_model.specs.Store.{cell as cell_at};
-ghost use Rattle.object_store.specs.View.{IsObject, store_of};
+ghost use Rattle.object_store.specs.View.{IsObject};
 
 use crate::closed::{packed, unpacked, unpacked_at};
 use crate::given::{Given, cell, cells, is_parcel, label, parcel, store};
@@ -70,7 +70,7 @@ fn replaces(
 
 fn is_object(store: &Store, place: Place) -> bool
     requires { place < length store.now.cells }
-    ensures { IsTrue result → IsObject (cell_at (store_of store.now) place) }
+    ensures { IsTrue result → IsObject (cell_at store.now.cells place) }
 {
     match store.cell(place) {
         Cell::Object(_) => true,

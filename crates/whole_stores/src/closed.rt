@@ -5,7 +5,6 @@ ghost use Rattle.std.specs.Prelude.{◌≡◌, IfOk, IsTrue, length, map};
 ghost use Rattle.asp_model.specs.Shapes.{cell_shape, parcel_shape};
 ghost use Rattle.asp_model.specs.Store.{reached};
 ghost use Rattle.laws.specs.Closed.{AreBelow, CellsBelow, IsClosedParcel, IsClosedStore, IsClosedValue};
-ghost use Rattle.object_store.specs.View.{store_of};
 
 use asp_model::{Cell, Parcel, Place};
 use deep_copy::{pack, unpack, unpack_at};
@@ -48,7 +47,7 @@ fn are_cells_below(alloc: Global, cells: &[Cell], count: Place) -> Result<bool, 
 
 /// No place of the store, and no root, lies past its end.
 pub fn is_closed_store(alloc: Global, store: &Store, roots: &[Place]) -> Result<bool, AllocError>
-    ensures store { IfOk result (λ b. IsTrue b → IsClosedStore (store_of store.now)) }
+    ensures store { IfOk result (λ b. IsTrue b → IsClosedStore store.now.cells) }
     ensures roots { IfOk result (λ b. IsTrue b → AreBelow (length store.now.cells) roots.now) }
 {
     for place in 0..store.len() {
