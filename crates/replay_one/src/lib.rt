@@ -9,10 +9,10 @@ mod listed;
 mod outcome;
 mod population;
 mod replays;
+mod round;
 mod run;
 mod schedule;
 mod splitting;
-mod round;
 
 pub use listed::{are_replayable, counts_in, lists_in};
 pub use replays::{ReplayStop, replay};

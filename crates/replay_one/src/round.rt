@@ -63,7 +63,12 @@ pub struct Machine {
 }
 
 /// Whether a request to an activity may come from this one now.
-fn may_come(population: &Population, bounds: &Bounds, to: &ActivityName, name: &ActivityName) -> bool
+fn may_come(
+    population: &Population,
+    bounds: &Bounds,
+    to: &ActivityName,
+    name: &ActivityName,
+) -> bool
     requires ascending { IsAscending bounds.now }
     ensures { (c : Configuration) → IsPopulation population.now c → IsThere c to.now →
         result ≡ is_next (lists_within bounds.now) c to.now name.now }
