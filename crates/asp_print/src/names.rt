@@ -45,7 +45,8 @@ pub fn put_target(text: &mut String, label: &Label, left: u32) -> Result<(), All
 
 /// Writes the label of a method that is called, and opens the arguments.
 pub fn put_method(text: &mut String, label: &Label) -> Result<(), AllocError>
-    ensures { OnOk result (Writes text.old (access_tokens label.now.text [] ++ tokens.Open ∷ []) text.new) }
+    ensures { let opened = access_tokens label.now.text [] ++ tokens.Open ∷ [] in
+        OnOk result (Writes text.old opened text.new) }
 {
     put_access(text, label)?;
     put_point(text, Point::Open)
@@ -62,6 +63,22 @@ pub fn put_service(text: &mut String, service: &Option<Label>) -> Result<(), All
         }
         None => Ok(()),
     }
+}
+
+/// Writes what stands before the first term of a `scatter`.
+pub fn put_scatter(text: &mut String) -> Result<(), AllocError>
+    ensures { OnOk result (Writes text.old (tokens.Scatter ∷ tokens.Open ∷ []) text.new) }
+{
+    put(text, "scatter")?;
+    put_point(text, Point::Open)
+}
+
+/// Writes what stands before the group of a `member`.
+pub fn put_member(text: &mut String) -> Result<(), AllocError>
+    ensures { OnOk result (Writes text.old (tokens.Member ∷ tokens.Open ∷ []) text.new) }
+{
+    put(text, "member")?;
+    put_point(text, Point::Open)
 }
 
 /// Writes a label between two terms of a `scatter`.
@@ -124,7 +141,8 @@ pub fn put_else(text: &mut String) -> Result<(), AllocError>
 
 // Writes labels, with a comma between two.
 fn put_labels(text: &mut String, labels: &[Label]) -> Result<(), AllocError>
-    ensures { OnOk result (Writes text.old (between tokens.Comma (map label_piece labels.now)) text.new) }
+    ensures { let pieces = between tokens.Comma (map label_piece labels.now) in
+        OnOk result (Writes text.old pieces text.new) }
 {
     let mut lead = None;
     for label in labels {
@@ -154,7 +172,8 @@ pub fn put_let(text: &mut String, name: &Word) -> Result<(), AllocError>
 
 /// Writes the head of a method, and its `=`.
 pub fn put_head(text: &mut String, method: &Method) -> Result<(), AllocError>
-    ensures { OnOk result (Writes text.old (head_tokens (head_of method.now) ++ tokens.Equals ∷ []) text.new) }
+    ensures { let head = head_tokens (head_of method.now) ++ tokens.Equals ∷ [] in
+        OnOk result (Writes text.old head text.new) }
 {
     put_name(text, &method.label.text)?;
     put_point(text, Point::Open)?;
@@ -166,7 +185,8 @@ pub fn put_head(text: &mut String, method: &Method) -> Result<(), AllocError>
 
 // Writes a comma and a name for each parameter.
 fn put_parameters(text: &mut String, parameters: &[Word]) -> Result<(), AllocError>
-    ensures { OnOk result (Writes text.old (led_by (tokens.Comma ∷ []) tokens.Comma (map name_piece parameters.now)) text.new) }
+    ensures { let names = map name_piece parameters.now in
+        OnOk result (Writes text.old (led_by (tokens.Comma ∷ []) tokens.Comma names) text.new) }
 {
     for parameter in parameters {
         put_point(text, Point::Comma)?;

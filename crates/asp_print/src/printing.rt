@@ -13,7 +13,8 @@ use std::alloc::{AllocError, Global};
 /// The text of a program: its tokens, with one blank between two. Time and memory are linear in the
 /// text, and only its levels are nested.
 pub fn print_program(alloc: Global, program: &Program) -> Result<String, AllocError>
-    ensures text { IfOk result (λ s. string_bytes s ≡ text_of (tokens_of (marked_of program.now.root))) }
+    ensures text { let tokens = tokens_of (marked_of program.now.root) in
+        IfOk result (λ s. string_bytes s ≡ text_of tokens) }
     ensures same { IfOk result (λ s. IsPrintOf (marked_of program.now.root) (string_bytes s)) }
 {
     let mut text = String::new(alloc);

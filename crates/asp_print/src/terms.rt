@@ -1,14 +1,14 @@
 //! Terms, node by node. Only levels of the text are nested.
 
-ghost use Rattle.std.specs.Prelude.{◌≡◌, ◌∷◌, ◌++◌, OnOk, map, string_bytes};
+ghost use Rattle.std.specs.Prelude.{◌≡◌, ◌++◌, OnOk, map, string_bytes};
 ghost use Rattle.asp_model.specs.Shapes.{mark_shape, marked_of};
 ghost use Rattle.asp_tokens.specs.declared.token.Token.TheVariants as tokens;
-ghost use Rattle.asp_print.specs.Tokens.{between, mark_of, method_part, node_tokens, scatter_tokens, service_tokens, word_tokens};
+ghost use Rattle.asp_print.specs.Tokens.{between, mark_of, method_part, node_tokens, service_tokens, word_tokens};
 ghost use Rattle.asp_print.specs.Parts.{Writes, field_piece, label_text, method_piece, point_token, term_tokens, word_bytes};
 
 use crate::names::{
     put_access, put_between, put_echo, put_else, put_equation, put_head, put_if, put_let,
-    put_method, put_serve, put_service, put_sign, put_target, put_then,
+    put_member, put_method, put_scatter, put_serve, put_service, put_sign, put_target, put_then,
 };
 use crate::text::{Point, put, put_lead, put_name, put_number, put_point, put_times};
 use asp_model::{Label, Mark, Method, Term};
@@ -119,9 +119,21 @@ fn print_node(alloc: Global, text: &mut String, term: &Term) -> Result<(), Alloc
         Term::Print(printed, _) => print_word(alloc, text, "print", printed),
         Term::Echo(echoed, _) => put_echo(text, echoed),
         Term::Group(members, _) => print_group(alloc, text, members),
-        Term::Scatter(first, label, second, _) => print_scatter(alloc, text, first, label, second),
+        Term::Scatter(first, label, second, _) => {
+            put_scatter(text)?;
+            print_term(alloc, text, first)?;
+            put_between(text, label)?;
+            print_term(alloc, text, second)?;
+            put_point(text, Point::Close)
+        }
         Term::Size(group, _) => print_word(alloc, text, "size", group),
-        Term::Member(group, place, _) => print_member(alloc, text, group, place),
+        Term::Member(group, place, _) => {
+            put_member(text)?;
+            print_term(alloc, text, group)?;
+            put_point(text, Point::Comma)?;
+            print_term(alloc, text, place)?;
+            put_point(text, Point::Close)
+        }
         Term::WaitAll(group, _) => print_word(alloc, text, "waitall", group),
     }
 }
@@ -167,50 +179,13 @@ fn print_group(alloc: Global, text: &mut String, members: &[Term]) -> Result<(),
 }
 
 #[cycle(print)]
-fn print_scatter(
-    alloc: Global,
-    text: &mut String,
-    first: &Term,
-    label: &Label,
-    second: &Term,
-) -> Result<(), AllocError>
-    ensures { let first = term_tokens first.now in
-        let whole = scatter_tokens first label.now.text (term_tokens second.now) in
-        OnOk result (Writes text.old whole text.new) }
-{
-    put(text, "scatter")?;
-    put_point(text, Point::Open)?;
-    print_term(alloc, text, first)?;
-    put_between(text, label)?;
-    print_term(alloc, text, second)?;
-    put_point(text, Point::Close)
-}
-
-#[cycle(print)]
-fn print_member(
-    alloc: Global,
-    text: &mut String,
-    group: &Term,
-    place: &Term,
-) -> Result<(), AllocError>
-    ensures { let inside = term_tokens group.now ++ tokens.Comma ∷ term_tokens place.now in
-        OnOk result (Writes text.old (word_tokens tokens.Member inside) text.new) }
-{
-    put(text, "member")?;
-    put_point(text, Point::Open)?;
-    print_term(alloc, text, group)?;
-    put_point(text, Point::Comma)?;
-    print_term(alloc, text, place)?;
-    put_point(text, Point::Close)
-}
-
-#[cycle(print)]
 fn print_fields(
     alloc: Global,
     text: &mut String,
     fields: &[(Label, Term)],
 ) -> Result<(), AllocError>
-    ensures { OnOk result (Writes text.old (between tokens.Comma (map field_piece fields.now)) text.new) }
+    ensures { let pieces = between tokens.Comma (map field_piece fields.now) in
+        OnOk result (Writes text.old pieces text.new) }
 {
     let mut lead = None;
     for (label, term) in fields {
@@ -244,7 +219,8 @@ fn print_all(
     point: Point,
     terms: &[Term],
 ) -> Result<(), AllocError>
-    ensures { OnOk result (Writes text.old (between (point_token point) (map term_tokens terms.now)) text.new) }
+    ensures { let pieces = between (point_token point) (map term_tokens terms.now) in
+        OnOk result (Writes text.old pieces text.new) }
 {
     let mut lead = None;
     for term in terms {

@@ -10,7 +10,7 @@ use Rattle.asp_tokens.specs.declared.token.Token.{Token}
 use Rattle.asp_tokens.specs.declared.token.Token.TheVariants as tokens
 use Rattle.asp_print.specs.Tokens.{access_tokens, between, head_tokens, mark_of, method_part, node_tokens, sign_of}
 use Rattle.asp_print.specs.Parts.{written, field_piece, head_of, lead_tokens, method_piece, point_token, term_tokens}
-use Rattle.asp_print.proofs.NodeLemmas.{make_is, get_is, put_is, call_is, let_is, if_is, operate_is}
+use Rattle.asp_print.proofs.NodeLemmas.{make_is, get_is, put_is, call_is, let_is, if_is, operate_is, scatter_is, member_is}
 use Rattle.asp_print.proofs.WritingLemmas.{onward, led_more, term_is, put_laid}
 use Rattle.asp_print.proofs.terms.+print.Goals as goal
 
@@ -164,3 +164,40 @@ print_node-returns-in_ok-put_sign-in-Operate t c =
     (onward (string_bytes c.print_term-in-Operate.new.text) (sign ∷ []) us c.in_ok-put_sign-in-Operate.ensures (e ∙ ap (λ (u : Term). string_bytes c.put_sign.new.text ++ written (term_tokens u)) c.deref-in-Operate-2.ensures))
     ∙ ap (λ (us : List Token). old ++ written us) (sym all))
     c.print_term-in-Operate-2.ensures
+
+pub print_node-returns-in_ok-print_term-in-Scatter-2 : goal.print_node-returns-in_ok-print_term-in-Scatter-2
+print_node-returns-in_ok-print_term-in-Scatter-2 t c =
+    let old = string_bytes c.args.text.now in
+    let x = c.in-Scatter in
+    let ts = term_tokens x.first.value in
+    let us = term_tokens x.second.value in
+    let named = tokens.Comma ∷ tokens.Name x.label.text ∷ tokens.Comma ∷ [] in
+    let lasts = us ++ tokens.Close ∷ [] in
+    let first = (c.in_ok-print_term-in-Scatter.ensures ∙ ap (λ (u : Term). string_bytes c.put_scatter.new.text ++ written (term_tokens u)) c.deref-in-Scatter.ensures) in
+    let second = (c.in_ok-print_term-in-Scatter-2.ensures ∙ ap (λ (u : Term). string_bytes c.put_between.new.text ++ written (term_tokens u)) c.deref-in-Scatter-2.ensures) in
+    let all = ap (λ (u : Term). node_tokens (marked_of u)) x.is ∙ scatter_is x.first x.label x.second x.field-3 in
+    on_ok_weaker c.put_point-in-Scatter.result
+    (λ e. onward old (tokens.Scatter ∷ tokens.Open ∷ []) (ts ++ (named ++ lasts)) c.in_ok-put_scatter-in-Scatter.ensures
+    (onward (string_bytes c.put_scatter.new.text) ts (named ++ lasts) first
+    (onward (string_bytes c.print_term-in-Scatter.new.text) named lasts c.in_ok-put_between-in-Scatter.ensures (onward (string_bytes c.put_between.new.text) us (tokens.Close ∷ []) second e)))
+    ∙ ap (λ (vs : List Token). old ++ written (tokens.Scatter ∷ tokens.Open ∷ vs)) (sym (append_assoc ts (named ++ us) (tokens.Close ∷ []) ∙ ap (λ (vs : List Token). ts ++ vs) (append_assoc named us (tokens.Close ∷ []))))
+    ∙ ap (λ (vs : List Token). old ++ written vs) (sym all))
+    c.put_point-in-Scatter.ensures
+
+pub print_node-returns-in_ok-print_term-in-Member-2 : goal.print_node-returns-in_ok-print_term-in-Member-2
+print_node-returns-in_ok-print_term-in-Member-2 t c =
+    let old = string_bytes c.args.text.now in
+    let x = c.in-Member in
+    let ts = term_tokens x.group.value in
+    let us = term_tokens x.place.value in
+    let lasts = us ++ tokens.Close ∷ [] in
+    let first = (c.in_ok-print_term-in-Member.ensures ∙ ap (λ (u : Term). string_bytes c.put_member.new.text ++ written (term_tokens u)) c.deref-in-Member.ensures) in
+    let second = (c.in_ok-print_term-in-Member-2.ensures ∙ ap (λ (u : Term). string_bytes c.put_point-in-Member.new.text ++ written (term_tokens u)) c.deref-in-Member-2.ensures) in
+    let all = ap (λ (u : Term). node_tokens (marked_of u)) x.is ∙ member_is x.group x.place x.field-2 in
+    on_ok_weaker c.put_point-in-Member-2.result
+    (λ e. onward old (tokens.Member ∷ tokens.Open ∷ []) (ts ++ tokens.Comma ∷ lasts) c.in_ok-put_member-in-Member.ensures
+    (onward (string_bytes c.put_member.new.text) ts (tokens.Comma ∷ lasts) first
+    (onward (string_bytes c.print_term-in-Member.new.text) (tokens.Comma ∷ []) lasts c.in_ok-put_point-in-Member.ensures (onward (string_bytes c.put_point-in-Member.new.text) us (tokens.Close ∷ []) second e)))
+    ∙ ap (λ (vs : List Token). old ++ written (tokens.Member ∷ tokens.Open ∷ vs)) (sym (append_assoc ts (tokens.Comma ∷ us) (tokens.Close ∷ [])))
+    ∙ ap (λ (vs : List Token). old ++ written vs) (sym all))
+    c.put_point-in-Member-2.ensures
