@@ -5,3 +5,5 @@ pub mod OutcomeLemmas
 pub mod EndsLemmas
 pub mod StatusLemmas
 pub mod CauseLemmas
+pub mod ExpectedLemmas
+pub mod EndedLemmas

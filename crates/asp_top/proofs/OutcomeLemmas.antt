@@ -1,11 +1,12 @@
 -- What a run and a replay have written, from the outcome of the machine of one thread.
 use Rattle.std.proofs.Common.{◌≡◌, ℕ, ◌≤◌, List, sym, ap, subst, ◌∙◌}
+use Rattle.asp_model.specs.declared.limits.TheConstants.{MOST_REDUCTIONS}
 use Rattle.asp_model.specs.Configuration.{Configuration}
 use Rattle.asp_model.specs.Step.{ListsShape}
 use Rattle.asp_model.specs.Status.{Budget, verdict_of}
 use Rattle.asp_model.specs.Replay.{CountsShape, Fits, plain_run, replay, total, counts_of}
 use Rattle.asp_model.specs.Outcome.{OutcomeShape, outcome_of, counts_in, exit_status}
-use Rattle.asp_model.specs.Report.{report_of, text_of}
+use Rattle.asp_model.specs.Report.{report_of}
 use Rattle.asp_model.specs.ReadReport.{read_report, Reads}
 use Rattle.asp_model.specs.Shapes.{tree_of}
 use Rattle.asp_check.specs.declared.checked.Checked.{Checked}
@@ -13,7 +14,7 @@ use Rattle.outcome_laws.specs.Outcomes.{ShowsItsReplay}
 use Rattle.outcome_laws.proofs.OutcomeLemmas.{outcome_counts}
 use Rattle.outcome_laws.proofs.ReportLaws.{plain_runs_show_replays}
 use Rattle.outcome_laws.proofs.ProgramLaws.{program_texts_are_printable}
-use Rattle.run_report.specs.Summary.{summary_lines}
+use Rattle.run_report.specs.Summary.{summary_of}
 use Rattle.replay_one.specs.Correct.{IsSpent}
 use Rattle.load_gen.specs.Generated.{generated}
 use Rattle.command_line.specs.Task.{Runs, Replays, Makes}
@@ -26,15 +27,14 @@ use Rattle.asp_top.specs.Stops.{program_in}
 within_as : (budget : ℕ) (counts : CountsShape) (c : Configuration) (o : OutcomeShape) → outcome_of c ≡ o → counts_of c ≡ counts
     → total (counts_in o) ≤ budget → IsSpent budget o → IsWithin budget counts c
 within_as budget counts c o e reached within spent =
-    let same : counts_in o ≡ counts = sym (ap counts_in e) ∙ outcome_counts c ∙ reached in
-    record {
-      within = subst (λ (k : CountsShape). total k ≤ budget) same within;
-      spent = λ (v : verdict_of c ≡ Budget). sym (ap total same) ∙ spent (sym (ap (λ (x : OutcomeShape). x.verdict) e) ∙ v);
-    }
+    let same : counts_in o ≡ counts = sym (ap counts_in e) ∙ outcome_counts c ∙ reached in (
+      subst (λ (k : CountsShape). total k ≤ budget) same within,
+      λ (v : verdict_of c ≡ Budget). sym (ap total same) ∙ spent (sym (ap (λ (x : OutcomeShape). x.verdict) e) ∙ v),
+    )
 
 -- what the machine says of a run
 pub record IsRunOutcome (c : Checked) (budget : ℕ) (o : OutcomeShape) : Type 0 where
-  pub few : budget ≤ 10000000
+  pub few : budget ≤ MOST_REDUCTIONS
   pub run : o ≡ outcome_of (plain_run budget (tree_of c.program.root))
   pub within : total (counts_in o) ≤ budget
   pub spent : IsSpent budget o
@@ -49,46 +49,25 @@ pub run_is : (o : Outside) (file : List ℕ) (budget : ℕ) (c : Checked) (outco
     → text ≡ report_of outcome → status ≡ exit_status outcome → Answers o (Runs file budget) text status
 run_is o file budget c outcome text status given h e s =
     let shown = shown_by given.bytes budget c outcome given.is h in (
-      record {
-        program = program_in c;
-        given = given;
-        lists = shown.lists;
-        counts = shown.counts;
-        reads = subst (λ (t : List ℕ). read_report t ≡ Reads shown.lists shown.counts) (sym e) shown.read;
-        fits = shown.fits;
-        same = e ∙ sym (ap report_of shown.outcome);
-        within = within_as budget shown.counts (replay (tree_of c.program.root) shown.lists shown.counts) outcome shown.outcome shown.fits.reached h.within h.spent;
-      },
-      s ∙ sym (ap exit_status shown.outcome),
+      record { program = program_in c; given = given; lists = shown.lists; counts = shown.counts; fits = shown.fits },
+      (e ∙ sym (ap report_of shown.outcome), s ∙ sym (ap exit_status shown.outcome)),
+      subst (λ (t : List ℕ). read_report t ≡ Reads shown.lists shown.counts) (sym e) shown.read,
+      within_as budget shown.counts (replay (tree_of c.program.root) shown.lists shown.counts) outcome shown.outcome shown.fits.reached h.within h.spent,
     )
 
 pub made_is : (o : Outside) (pairs budget : ℕ) (bytes : List ℕ) (c : Checked) (outcome : OutcomeShape) (text : List ℕ) (status : ℕ) → bytes ≡ generated pairs → IsProgramOf bytes (program_in c) → IsRunOutcome c budget outcome
-    → text ≡ text_of (summary_lines pairs outcome) → status ≡ exit_status outcome → Answers o (Makes pairs budget) text status
+    → text ≡ summary_of pairs outcome → status ≡ exit_status outcome → Answers o (Makes pairs budget) text status
 made_is o pairs budget bytes c outcome text status made is h e s =
     let shown = shown_by bytes budget c outcome is h in (
-      record {
-        program = program_in c;
-        given = record { bytes = bytes; text = made; is = is };
-        lists = shown.lists;
-        counts = shown.counts;
-        fits = shown.fits;
-        same = e ∙ sym (ap (λ (x : OutcomeShape). text_of (summary_lines pairs x)) shown.outcome);
-        within = within_as budget shown.counts (replay (tree_of c.program.root) shown.lists shown.counts) outcome shown.outcome shown.fits.reached h.within h.spent;
-      },
-      s ∙ sym (ap exit_status shown.outcome),
+      record { program = program_in c; given = record { bytes = bytes; text = made; is = is }; lists = shown.lists; counts = shown.counts; fits = shown.fits },
+      (e ∙ sym (ap (summary_of pairs) shown.outcome), s ∙ sym (ap exit_status shown.outcome)),
+      within_as budget shown.counts (replay (tree_of c.program.root) shown.lists shown.counts) outcome shown.outcome shown.fits.reached h.within h.spent,
     )
 
 pub replay_is : (o : Outside) (file name : List ℕ) (c : Checked) (lists : ListsShape) (counts : CountsShape) (outcome : OutcomeShape) (text : List ℕ) (status : ℕ) → IsInFile o file (program_in c) → HasReport o name lists counts
     → Fits (tree_of c.program.root) lists counts → outcome ≡ outcome_of (replay (tree_of c.program.root) lists counts) → text ≡ report_of outcome → status ≡ exit_status outcome → Answers o (Replays file name) text status
 replay_is o file name c lists counts outcome text status given old fits is e s = (
-  record {
-    program = program_in c;
-    given = given;
-    lists = lists;
-    counts = counts;
-    old = old;
-    fits = fits;
-    same = e ∙ ap report_of is;
-  },
-  s ∙ ap exit_status is,
+  record { program = program_in c; given = given; lists = lists; counts = counts; fits = fits },
+  (e ∙ ap report_of is, s ∙ ap exit_status is),
+  old,
 )

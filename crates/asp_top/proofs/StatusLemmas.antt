@@ -3,13 +3,15 @@ use Rattle.std.proofs.Common.{◌≡◌, ℕ, ◌≤◌, List, Bool, true, false
 use Rattle.std.specs.Prelude.{cond, nat_eq, ◌||◌, Some}
 use Rattle.std.specs.List.{list_any}
 use Rattle.asp_model.specs.Configuration.{Configuration}
-use Rattle.asp_model.specs.Status.{VerdictShape, End, Blocked, Budget, is_awaiting, is_running, statuses_of, verdict_of}
+use Rattle.asp_model.specs.Status.{VerdictShape, End, Blocked, Budget, IsStuck, is_awaiting, is_running, statuses_of, verdict_of}
 use Rattle.asp_model.specs.Outcome.{ActivityReportShape, outcome_of, exit_status, is_faulted}
 use Rattle.command_line.specs.Task.{TaskShape, Runs, Checks, Replays, Makes, task_of}
-use Rattle.asp_top.specs.Seen.{Inputs, Outside, Sight, IsUntouched, Takes, Refusal, Usage, Unread, LongProgram, NoProgram, Unchecked, LongReport, NoReport, Diverges, NoMemory, status_of_refusal}
-use Rattle.asp_top.specs.Correct.{Answers, IsReported, Reports, run_end, replay_end, made_end}
-use Rattle.asp_top.specs.Endings.{Answered, Ends, Written, Refused, Unheard, Unwritten}
-use Rattle.asp_top.specs.Statuses.{IsEnd, IsBlocked, GoesOn, Says, SaysEnd, SaysBlocked, SaysBudget}
+use Rattle.asp_top.specs.Seen.{Call, Outside, IsUntouched, Takes}
+use Rattle.asp_top.specs.Correct.{Answers, IsReported, Reports, end_of}
+use Rattle.asp_top.specs.Refusals.{Refusal, Usage, Unread, LongProgram, NoProgram, Unchecked, LongReport, NoReport, Diverges, NoMemory, status_of_refusal}
+use Rattle.asp_top.specs.Endings.{IsAnswer, Ends, Written, Refused, Unheard, Unwritten}
+use Rattle.asp_top.specs.Ended.{IsEnded}
+use Rattle.asp_top.specs.Statuses.{IsEnd, IsBlocked, GoesOn, OfAnswers, HasEnded, HasBlocked, HasSpent, Says, SaysEnd, SaysBlocked, SaysBudget}
 
 -- a number is not two
 pub clash : (n k m : ℕ) → n ≡ k → n ≡ m → nat_eq k k ≡ true → nat_eq k m ≡ false → ⊥
@@ -110,31 +112,45 @@ module _ (c : Configuration) (status : ℕ) (e : status ≡ exit_status (outcome
   reported_at (Waiting s) = inr (inr (inl (e ∙ four_status c s.verdict)))
   reported_at (Going s) = inr (inr (inr (e ∙ five_status c s.verdict)))
 
+-- where a replay has ended, it is stuck
+pub stuck_at : (c : Configuration) (status : ℕ) → status ≡ exit_status (outcome_of c) → IsEnded status → IsStuck c
+stuck_at c status e h = stuck_by c status e h (stops c)
+  where
+    not_five : (status : ℕ) → IsEnded status → status ≡ 5 → ⊥
+    not_five status (inl h) f = clash status 0 5 h f refl refl
+    not_five status (inr (inl h)) f = clash status 1 5 h f refl refl
+    not_five status (inr (inr h)) f = clash status 4 5 h f refl refl
+
+    stuck_by : (c : Configuration) (status : ℕ) → status ≡ exit_status (outcome_of c) → IsEnded status → Stops c → IsStuck c
+    stuck_by c status e h (Ended s) = s.stuck
+    stuck_by c status e h (Waiting s) = s.stuck
+    stuck_by c status e h (Going s) = absurd (not_five status h (e ∙ five_status c s.verdict))
+
 -- Answers
 
 pub answers_reported : (o : Outside) (task : TaskShape) (text : List ℕ) (status : ℕ) → Answers o task text status → IsReported status
-answers_reported o (Runs file budget) text status a = reported_at (run_end a.0) status a.1 (stops (run_end a.0))
-answers_reported o (Checks file) text status a = inl a.1
-answers_reported o (Replays file name) text status a = reported_at (replay_end a.0) status a.1 (stops (replay_end a.0))
-answers_reported o (Makes pairs budget) text status a = reported_at (made_end a.0) status a.1 (stops (made_end a.0))
+answers_reported o (Runs file budget) text status a = reported_at (end_of a.0) status a.1.1 (stops (end_of a.0))
+answers_reported o (Checks file) text status a = inl a.3
+answers_reported o (Replays file name) text status a = reported_at (end_of a.0) status a.1.1 (stops (end_of a.0))
+answers_reported o (Makes pairs budget) text status a = reported_at (end_of a.0) status a.1.1 (stops (end_of a.0))
 
-says_end : (o : Outside) (task : TaskShape) (text : List ℕ) (status : ℕ) (a : Answers o task text status) → IsLow status → SaysEnd o task text status a
-says_end o (Runs file budget) text status a h = end_at (run_end a.0) status a.1 h (stops (run_end a.0))
-says_end o (Checks file) text status a h = a.1
-says_end o (Replays file name) text status a h = end_at (replay_end a.0) status a.1 h (stops (replay_end a.0))
-says_end o (Makes pairs budget) text status a h = end_at (made_end a.0) status a.1 h (stops (made_end a.0))
+has_ended : (o : Outside) (task : TaskShape) (text : List ℕ) (status : ℕ) (a : Answers o task text status) → IsLow status → HasEnded o task text status a
+has_ended o (Runs file budget) text status a h = end_at (end_of a.0) status a.1.1 h (stops (end_of a.0))
+has_ended o (Checks file) text status a h = a.3
+has_ended o (Replays file name) text status a h = end_at (end_of a.0) status a.1.1 h (stops (end_of a.0))
+has_ended o (Makes pairs budget) text status a h = end_at (end_of a.0) status a.1.1 h (stops (end_of a.0))
 
-says_blocked : (o : Outside) (task : TaskShape) (text : List ℕ) (status : ℕ) (a : Answers o task text status) → status ≡ 4 → SaysBlocked o task text status a
-says_blocked o (Runs file budget) text status a h = blocked_at (run_end a.0) status a.1 h (stops (run_end a.0))
-says_blocked o (Checks file) text status a h = clash status 0 4 a.1 h refl refl
-says_blocked o (Replays file name) text status a h = blocked_at (replay_end a.0) status a.1 h (stops (replay_end a.0))
-says_blocked o (Makes pairs budget) text status a h = blocked_at (made_end a.0) status a.1 h (stops (made_end a.0))
+has_blocked : (o : Outside) (task : TaskShape) (text : List ℕ) (status : ℕ) (a : Answers o task text status) → status ≡ 4 → HasBlocked o task text status a
+has_blocked o (Runs file budget) text status a h = blocked_at (end_of a.0) status a.1.1 h (stops (end_of a.0))
+has_blocked o (Checks file) text status a h = clash status 0 4 a.3 h refl refl
+has_blocked o (Replays file name) text status a h = blocked_at (end_of a.0) status a.1.1 h (stops (end_of a.0))
+has_blocked o (Makes pairs budget) text status a h = blocked_at (end_of a.0) status a.1.1 h (stops (end_of a.0))
 
-says_budget : (o : Outside) (task : TaskShape) (text : List ℕ) (status : ℕ) (a : Answers o task text status) → status ≡ 5 → SaysBudget o task text status a
-says_budget o (Runs file budget) text status a h = let g = going_at (run_end a.0) status a.1 h (stops (run_end a.0)) in (g, a.0.within.spent g.verdict)
-says_budget o (Checks file) text status a h = clash status 0 5 a.1 h refl refl
-says_budget o (Replays file name) text status a h = going_at (replay_end a.0) status a.1 h (stops (replay_end a.0))
-says_budget o (Makes pairs budget) text status a h = let g = going_at (made_end a.0) status a.1 h (stops (made_end a.0)) in (g, a.0.within.spent g.verdict)
+has_spent : (o : Outside) (task : TaskShape) (text : List ℕ) (status : ℕ) (a : Answers o task text status) → status ≡ 5 → HasSpent o task text status a
+has_spent o (Runs file budget) text status a h = let g = going_at (end_of a.0) status a.1.1 h (stops (end_of a.0)) in (g, a.3.1 g.verdict)
+has_spent o (Checks file) text status a h = clash status 0 5 a.3 h refl refl
+has_spent o (Replays file name) text status a h = going_at (end_of a.0) status a.1.1 h (stops (end_of a.0))
+has_spent o (Makes pairs budget) text status a h = let g = going_at (end_of a.0) status a.1.1 h (stops (end_of a.0)) in (g, a.2.1 g.verdict)
 
 -- Endings with the status of an answer
 
@@ -162,51 +178,47 @@ not_refused (NoReport line) n e h = no_report n 9 e h refl
 not_refused (Diverges activity) n e h = no_report n 9 e h refl
 not_refused NoMemory n e h = no_report n 8 e h refl
 
-record WasWritten (i : Inputs) (out err : Sight) (status : ℕ) : Type 0 where
+record WasWritten (c : Call) (status : ℕ) : Type 0 where
   pub text : List ℕ
-  pub answered : Answered i text status
-  pub takes : Takes out text
-  pub still : IsUntouched err
+  pub answered : IsAnswer c text status
+  pub takes : Takes c.out text
+  pub still : IsUntouched c.err
 
-written : (i : Inputs) (out err : Sight) (status : ℕ) → Ends i out err status → IsReported status → WasWritten i out err status
-written i out err status (Written text a took still) h = record { text = text; answered = a; takes = took; still = still }
-written i out err status (Refused r holds u t e) h = absurd (not_refused r status e h)
-written i out err status (Unheard r holds u t e) h = absurd (no_report status 7 e h refl)
-written i out err status (Unwritten text other a took told e) h = absurd (no_report status 7 e h refl)
+written : (c : Call) (status : ℕ) → Ends c status → IsReported status → WasWritten c status
+written c status (Written text a took still) h = record { text = text; answered = a; takes = took; still = still }
+written c status (Refused r holds u t e) h = absurd (not_refused r status e h)
+written c status (Unheard r holds u t e) h = absurd (no_report status 7 e h refl)
+written c status (Unwritten text other a took told e) h = absurd (no_report status 7 e h refl)
 
 -- words ask for one task
-pub same_task : (i : Inputs) (a b : TaskShape) → task_of i.words ≡ Some a → task_of i.words ≡ Some b → a ≡ b
-same_task i a b h g = let e : Some a ≡ Some b = sym h ∙ g in cc
+pub same_task : (words : List (List ℕ)) (a b : TaskShape) → task_of words ≡ Some a → task_of words ≡ Some b → a ≡ b
+same_task words a b h g = let e : Some a ≡ Some b = sym h ∙ g in cc
 
-pub reports : (i : Inputs) (out err : Sight) (status : ℕ) (task : TaskShape) → Ends i out err status → task_of i.words ≡ Some task → IsReported status → Reports i.outside task out err status
-reports i out err status task ends asked h =
-    let w = written i out err status ends h in
-    let same = same_task i w.answered.task task w.answered.asked asked in
-    (w.text, subst (λ (t : TaskShape). Answers i.outside t w.text status) same w.answered.answer, w.takes, w.still)
+pub reports : {c : Call} {status : ℕ} → Ends c status → Reports c status
+reports {c} {status} ends task asked h =
+    let w = written c status ends h in
+    let same = same_task c.words w.answered.task task w.answered.asked asked in
+    (w.text, subst (λ (t : TaskShape). Answers c.outside t w.text status) same w.answered.answer, w.takes, w.still)
 
-says : (i : Inputs) (out err : Sight) (status : ℕ) (P : (o : Outside) (task : TaskShape) (text : List ℕ) (status : ℕ) → Answers o task text status → Type 0)
-    → ((o : Outside) (task : TaskShape) (text : List ℕ) (a : Answers o task text status) → P o task text status a) → WasWritten i out err status → Says i out status P
-says i out err status P p w = record {
+says : (P : OfAnswers) (c : Call) (status : ℕ) → ((o : Outside) (task : TaskShape) (text : List ℕ) (a : Answers o task text status) → P o task text status a) → WasWritten c status → Says P c status
+says P c status p w = record {
   task = w.answered.task;
   asked = w.answered.asked;
   text = w.text;
   answer = w.answered.answer;
   written = w.takes;
-  says = p i.outside w.answered.task w.text w.answered.answer;
+  says = p c.outside w.answered.task w.text w.answered.answer;
 }
 
 low_is_reported : (n : ℕ) → IsLow n → IsReported n
 low_is_reported n (inl e) = inl e
 low_is_reported n (inr e) = inr (inl e)
 
-pub ended : (i : Inputs) (out err : Sight) (status : ℕ) → Ends i out err status → IsLow status → Says i out status SaysEnd
-ended i out err status ends h =
-    says i out err status SaysEnd (λ o task text a. says_end o task text status a h) (written i out err status ends (low_is_reported status h))
+pub ended : {c : Call} {status : ℕ} → Ends c status → IsLow status → SaysEnd c status
+ended {c} {status} ends h = says HasEnded c status (λ o task text a. has_ended o task text status a h) (written c status ends (low_is_reported status h))
 
-pub blocked : (i : Inputs) (out err : Sight) (status : ℕ) → Ends i out err status → status ≡ 4 → Says i out status SaysBlocked
-blocked i out err status ends h =
-    says i out err status SaysBlocked (λ o task text a. says_blocked o task text status a h) (written i out err status ends (inr (inr (inl h))))
+pub blocked : {c : Call} {status : ℕ} → Ends c status → status ≡ 4 → SaysBlocked c status
+blocked {c} {status} ends h = says HasBlocked c status (λ o task text a. has_blocked o task text status a h) (written c status ends (inr (inr (inl h))))
 
-pub spent : (i : Inputs) (out err : Sight) (status : ℕ) → Ends i out err status → status ≡ 5 → Says i out status SaysBudget
-spent i out err status ends h =
-    says i out err status SaysBudget (λ o task text a. says_budget o task text status a h) (written i out err status ends (inr (inr (inr h))))
+pub spent : {c : Call} {status : ℕ} → Ends c status → status ≡ 5 → SaysBudget c status
+spent {c} {status} ends h = says HasSpent c status (λ o task text a. has_spent o task text status a h) (written c status ends (inr (inr (inr h))))

@@ -7,7 +7,7 @@ use Rattle.asp_model.specs.Marked.{Marked}
 use Rattle.asp_model.specs.Shapes.{marked_of}
 use Rattle.asp_syntax.specs.declared.error.SyntaxError.{SyntaxError}
 use Rattle.asp_syntax.specs.declared.error.SyntaxError.TheVariants as syntax
-use Rattle.asp_syntax.specs.Tokens.{lexemes_of}
+use Rattle.asp_tokens.specs.Tokens.{lexemes_of}
 use Rattle.asp_syntax.specs.Faults.{FirstFault}
 use Rattle.asp_syntax.specs.Correct.{IsProgramText, IfFault, IsOkWith}
 use Rattle.asp_check.specs.declared.checked.Checked.{Checked}
@@ -18,17 +18,19 @@ use Rattle.asp_check.specs.Faults.{IsChecked, IsFirstFault}
 use Rattle.asp_edge.specs.Causes.{Rose, IsLonger}
 use Rattle.asp_edge.specs.declared.edge.ReadError.TheVariants as reads
 use Rattle.asp_top.specs.declared.stop.Stop.{Stop}
-use Rattle.asp_top.specs.Seen.{Sight, Refusal, NoMemory, IsLong, status_of_refusal, message_of}
+use Rattle.asp_top.specs.Seen.{Sight, IsLong}
+use Rattle.asp_top.specs.Refusals.{Refusal, NoMemory, status_of_refusal, message_of}
 use Rattle.asp_top.specs.Programs.{IsProgramOf}
-use Rattle.asp_top.specs.Stops.{StopsAt, syntax_stop, check_stop, refusal_of, program_in, Told, ToldRefusal}
+use Rattle.asp_top.specs.Stops.{StopsAt, syntax_stop, check_stop, program_in}
+use Rattle.asp_top.specs.Ready.{Told, ToldRefusal}
 
 -- a fault that was found stops there
-pub stops_at : (bytes : List ℕ) (e : SyntaxError) → (let r : Result Program SyntaxError = Err e in IfFault r (λ f. FirstFault (lexemes_of bytes) f)) → ((m : Marked) → IsProgramText bytes m → let r : Result Program SyntaxError = Err e in IsOkWith r m) → StopsAt bytes (refusal_of (syntax_stop e))
+pub stops_at : (bytes : List ℕ) (e : SyntaxError) → (let r : Result Program SyntaxError = Err e in IfFault r (λ f. FirstFault (lexemes_of bytes) f)) → ((m : Marked) → IsProgramText bytes m → let r : Result Program SyntaxError = Err e in IsOkWith r m) → StopsAt bytes (syntax_stop e)
 stops_at bytes (syntax.Fault f) h g = record { first = h; none = g }
 stops_at bytes syntax.Memory h g = tt
 
 -- so does a fault of the program that the bytes are
-pub check_stops_at : (bytes : List ℕ) (m : Marked) (e : CheckError) → IsProgramText bytes m → ((n : Marked) → IsProgramText bytes n → m ≡ n) → ((f : CheckFault) → e ≡ check.Fault f → IsFirstFault m f) → (IsChecked m → e ≡ check.Memory) → StopsAt bytes (refusal_of (check_stop e))
+pub check_stops_at : (bytes : List ℕ) (m : Marked) (e : CheckError) → IsProgramText bytes m → ((n : Marked) → IsProgramText bytes n → m ≡ n) → ((f : CheckFault) → e ≡ check.Fault f → IsFirstFault m f) → (IsChecked m → e ≡ check.Memory) → StopsAt bytes (check_stop e)
 check_stops_at bytes m (check.Fault f) h one first only =
     record {
       program = m;
@@ -43,13 +45,13 @@ program_is bytes p c h one k =
     let same : marked_of p.root ≡ program_in c = ap (λ (q : Program). marked_of q.root) (sym k.0) in
     subst (IsProgramOf bytes) same (record { is_read = h; only = one; checked = k.1 })
 
--- a result that is an error with this refusal
-pub stops_if : {T : Type 0} (P : Refusal → Type 0) (r : Result T Stop) (stop : Stop) → IsErrAnd r (λ s. s ≡ stop) → P (refusal_of stop) → IfErr r (λ s. P (refusal_of s))
+-- a result that is an error with this stop
+pub stops_if : {T : Type 0} (P : Stop → Type 0) (r : Result T Stop) (stop : Stop) → IsErrAnd r (λ s. s ≡ stop) → P stop → IfErr r P
 stops_if P (Ok x) stop e h = tt
-stops_if P (Err s) stop e h = subst (λ (t : Stop). P (refusal_of t)) (sym e) h
+stops_if P (Err s) stop e h = subst P (sym e) h
 
 -- the message that was made is told, or that there is no memory
-pub made_told : {S E : Type 0} (text : S → List ℕ) (r : Refusal) (message : Result S E) (s : Sight) (result : ℕ) → IfOk message (λ t. text t ≡ message_of r) → IfOk message (λ t. Told s (text t) (status_of_refusal r) result) → IfErr message (λ e. Told s (message_of NoMemory) 8 result)
+pub made_told : {S E : Type 0} (text : S → List ℕ) (r : Refusal) (message : Result S E) (s : Sight) (result : ℕ) → IfOk message (λ t. text t ≡ message_of r) → IfOk message (λ t. Told s (text t) (status_of_refusal r) result) → IfErr message (λ e. ToldRefusal NoMemory s result)
     → ToldRefusal r s result ⊎ ToldRefusal NoMemory s result
 made_told text r (Ok t) s result e h g = inl (subst (λ (l : List ℕ). Told s l (status_of_refusal r) result) e h)
 made_told text r (Err x) s result e h g = inr g

@@ -1,80 +1,57 @@
--- The main theorem: what a call that is not refused writes, for each task. `Reports` is the clause of the call.
-use Rattle.std.specs.Prelude.{◌≡◌, ◌⊎◌, ℕ, ◌≤◌, List, codes}
+-- The main theorem: `Reports` is the clause `report`, and `Answers` what is written for a task.
+use Rattle.std.specs.Prelude.{◌≡◌, ◌⊎◌, ℕ, ◌≤◌, List, Some, codes}
 use Rattle.asp_model.specs.Marked.{Marked, plain}
 use Rattle.asp_model.specs.Configuration.{Configuration}
 use Rattle.asp_model.specs.Step.{ListsShape}
 use Rattle.asp_model.specs.Status.{Budget, verdict_of}
 use Rattle.asp_model.specs.Replay.{CountsShape, Fits, replay, total}
-use Rattle.asp_model.specs.Outcome.{outcome_of, exit_status}
-use Rattle.asp_model.specs.Report.{report_of, text_of, with_feed}
+use Rattle.asp_model.specs.Outcome.{OutcomeShape, outcome_of, exit_status}
+use Rattle.asp_model.specs.Report.{report_of, with_feed}
 use Rattle.asp_model.specs.ReadReport.{read_report, Reads}
-use Rattle.run_report.specs.Summary.{summary_lines}
-use Rattle.command_line.specs.Task.{TaskShape, Runs, Checks, Replays, Makes}
-use Rattle.asp_top.specs.Seen.{Outside, Sight, IsUntouched, Takes}
+use Rattle.run_report.specs.Summary.{summary_of}
+use Rattle.command_line.specs.Task.{TaskShape, Runs, Checks, Replays, Makes, task_of}
+use Rattle.asp_top.specs.Seen.{Call, Outside, IsUntouched, Takes}
 use Rattle.asp_top.specs.Programs.{HasProgram, HasReport}
 
--- no more reductions than the budget, and as many where the verdict says so
-pub record IsWithin (budget : ℕ) (counts : CountsShape) (c : Configuration) : Type 0 where
-  pub within : total counts ≤ budget
-  pub spent : verdict_of c ≡ Budget → total counts ≡ budget
-
--- `asp FILE`: the report reads as sender lists and counts that fit the program in the file, and is the
--- report of that program's replay under them
-pub record IsRun (o : Outside) (file : List ℕ) (budget : ℕ) (report : List ℕ) : Type 0 where
+-- sender lists and counts that fit the program of a task
+pub record ReplayOf (o : Outside) (task : TaskShape) : Type 0 where
   pub program : Marked
-  pub given : HasProgram o (Runs file budget) program
-  pub lists : ListsShape
-  pub counts : CountsShape
-  pub reads : read_report report ≡ Reads lists counts
-  pub fits : Fits (plain program) lists counts
-  pub same : report ≡ report_of (outcome_of (replay (plain program) lists counts))
-  pub within : IsWithin budget counts (replay (plain program) lists counts)
-
--- `asp FILE --replay REPORT`: the lists and counts are those of the file REPORT
-pub record IsReplay (o : Outside) (file name report : List ℕ) : Type 0 where
-  pub program : Marked
-  pub given : HasProgram o (Replays file name) program
-  pub lists : ListsShape
-  pub counts : CountsShape
-  pub old : HasReport o name lists counts
-  pub fits : Fits (plain program) lists counts
-  pub same : report ≡ report_of (outcome_of (replay (plain program) lists counts))
-
--- `asp FILE --check`: the file is a checked program
-pub record IsCheck (o : Outside) (file text : List ℕ) : Type 0 where
-  pub program : Marked
-  pub given : HasProgram o (Checks file) program
-  pub same : text ≡ with_feed (codes "checked")
-
--- `asp --make N`: some lists and counts fit the generated program, and the summary is that of its replay under them
-pub record IsMade (o : Outside) (pairs budget : ℕ) (summary : List ℕ) : Type 0 where
-  pub program : Marked
-  pub given : HasProgram o (Makes pairs budget) program
+  pub given : HasProgram o task program
   pub lists : ListsShape
   pub counts : CountsShape
   pub fits : Fits (plain program) lists counts
-  pub same : summary ≡ text_of (summary_lines pairs (outcome_of (replay (plain program) lists counts)))
-  pub within : IsWithin budget counts (replay (plain program) lists counts)
 
-abbrev pub run_end : {o : Outside} {file : List ℕ} {budget : ℕ} {report : List ℕ} → IsRun o file budget report → Configuration
-run_end r = replay (plain r.program) r.lists r.counts
+-- the end of the program's replay under them
+abbrev pub end_of : {o : Outside} {task : TaskShape} → ReplayOf o task → Configuration
+end_of r = replay (plain r.program) r.lists r.counts
 
-abbrev pub replay_end : {o : Outside} {file name report : List ℕ} → IsReplay o file name report → Configuration
-replay_end r = replay (plain r.program) r.lists r.counts
+-- the text and the status are those of the replay's outcome
+abbrev pub Tells : (OutcomeShape → List ℕ) → Configuration → List ℕ → ℕ → Type 0
+Tells told c text status = (text ≡ told (outcome_of c)) × (status ≡ exit_status (outcome_of c))
 
-abbrev pub made_end : {o : Outside} {pairs budget : ℕ} {summary : List ℕ} → IsMade o pairs budget summary → Configuration
-made_end r = replay (plain r.program) r.lists r.counts
+-- no more reductions than the budget, and as many where the replay can go on
+abbrev pub IsWithin : ℕ → CountsShape → Configuration → Type 0
+IsWithin budget counts c = (total counts ≤ budget) × (verdict_of c ≡ Budget → total counts ≡ budget)
 
--- what is written for a task, and the status, which is that of the replay
 abbrev pub Answers : Outside → TaskShape → List ℕ → ℕ → Type 0
-Answers o (Runs file budget) text status = (r : IsRun o file budget text) × (status ≡ exit_status (outcome_of (run_end r)))
-Answers o (Checks file) text status = IsCheck o file text × (status ≡ 0)
-Answers o (Replays file name) text status = (r : IsReplay o file name text) × (status ≡ exit_status (outcome_of (replay_end r)))
-Answers o (Makes pairs budget) text status = (r : IsMade o pairs budget text) × (status ≡ exit_status (outcome_of (made_end r)))
+-- `asp FILE`: the report of the replay under the lists and counts that the report reads as
+Answers o (Runs file budget) report status = (r : ReplayOf o (Runs file budget))
+    × Tells report_of (end_of r) report status × (read_report report ≡ Reads r.lists r.counts)
+    × IsWithin budget r.counts (end_of r)
+-- `asp FILE --replay REPORT`: the report of the replay under those that the file REPORT reads as
+Answers o (Replays file name) report status = (r : ReplayOf o (Replays file name))
+    × Tells report_of (end_of r) report status × HasReport o name r.lists r.counts
+-- `asp --make N`: the summary of a replay of the generated program
+Answers o (Makes pairs budget) summary status = (r : ReplayOf o (Makes pairs budget))
+    × Tells (summary_of pairs) (end_of r) summary status × IsWithin budget r.counts (end_of r)
+-- `asp FILE --check`: the file is a checked program
+Answers o (Checks file) text status = (program : Marked)
+    × HasProgram o (Checks file) program × (text ≡ with_feed (codes "checked")) × (status ≡ 0)
 
 abbrev pub IsReported : ℕ → Type 0
 IsReported status = (status ≡ 0) ⊎ (status ≡ 1) ⊎ (status ≡ 4) ⊎ (status ≡ 5)
 
--- such a text was written, and no message
-abbrev pub Reports : Outside → TaskShape → Sight → Sight → ℕ → Type 0
-Reports o task out err status = (text : List ℕ) × Answers o task text status × Takes out text × IsUntouched err
+-- with such a status the text of the words' task was written, and no message
+abbrev pub Reports : Call → ℕ → Type 0
+Reports c status = (task : TaskShape) → task_of c.words ≡ Some task → IsReported status
+    → (text : List ℕ) × Answers c.outside task text status × Takes c.out text × IsUntouched c.err

@@ -1,18 +1,20 @@
 -- How a call ends, case by case: read `Ends` first.
-use Rattle.std.specs.Prelude.{◌≡◌, ◌⊎◌, ℕ, ◌^◌, List, Some, None}
+use Rattle.std.specs.Prelude.{◌≡◌, ◌⊎◌, ℕ, List, Some, None}
+use Rattle.asp_model.specs.declared.limits.TheConstants.{MOST_PROGRAM_BYTES, MOST_REPORT_BYTES}
 use Rattle.asp_model.specs.Names.{Name}
 use Rattle.asp_model.specs.Marked.{Marked, plain}
 use Rattle.asp_model.specs.Step.{ListsShape}
 use Rattle.asp_model.specs.Replay.{CountsShape, Fits, IsLeastDiverging}
 use Rattle.asp_model.specs.ReadReport.{read_report, BadLine}
 use Rattle.asp_syntax.specs.declared.error.SyntaxFault.{SyntaxFault}
-use Rattle.asp_syntax.specs.Tokens.{lexemes_of}
+use Rattle.asp_tokens.specs.Tokens.{lexemes_of}
 use Rattle.asp_syntax.specs.Faults.{FirstFault}
-use Rattle.asp_syntax.specs.Correct.{IsProgramText}
+use Rattle.asp_grammar.specs.Programs.{IsProgramText}
 use Rattle.asp_check.specs.declared.fault.CheckFault.{CheckFault}
 use Rattle.asp_check.specs.Faults.{IsChecked, IsFirstFault}
 use Rattle.command_line.specs.Task.{TaskShape, Runs, Checks, Replays, Makes, task_of}
-use Rattle.asp_top.specs.Seen.{Inputs, Outside, Sight, Rises, IsUntouched, Takes, TakesFront, IsLong, Refusal, Usage, Unread, LongProgram, NoProgram, Unchecked, LongReport, NoReport, Diverges, NoMemory, status_of_refusal, message_of, write_message}
+use Rattle.asp_top.specs.Seen.{Call, Outside, Rises, IsUntouched, Takes, TakesFront, IsLong}
+use Rattle.asp_top.specs.Refusals.{Refusal, Usage, Unread, LongProgram, NoProgram, Unchecked, LongReport, NoReport, Diverges, NoMemory, status_of_refusal, message_of, write_message}
 use Rattle.asp_top.specs.Programs.{IsFile, IsText, HasProgram, HasReport}
 use Rattle.asp_top.specs.Correct.{Answers}
 
@@ -40,25 +42,33 @@ abbrev pub NamesReport : TaskShape → List ℕ → Type 0
 NamesReport (Replays file report) name = report ≡ name
 NamesReport task name = ⊥
 
+-- the file of the task's program is longer than a program may be
+pub record HasLongProgram (o : Outside) (task : TaskShape) : Type 0 where
+  pub name : List ℕ
+  pub named : NamesProgram task name
+  pub long : IsLong MOST_PROGRAM_BYTES (o.content name)
+
 -- the task has a program and names a report that is too long
 pub record HasLongReport (o : Outside) (task : TaskShape) : Type 0 where
   pub program : Marked
   pub given : HasProgram o task program
   pub name : List ℕ
   pub named : NamesReport task name
-  pub long : IsLong (2 ^ 24) (o.content name)
+  pub long : IsLong MOST_REPORT_BYTES (o.content name)
 
--- the task has a program and names a file that is no report, with this line as the first that cannot stand in its place
+-- the task has a program and names a file that is no report: this is the first line that cannot
+-- stand in its place
 pub record HasBadLine (o : Outside) (task : TaskShape) (line : ℕ) : Type 0 where
   pub program : Marked
   pub given : HasProgram o task program
   pub name : List ℕ
   pub named : NamesReport task name
   pub bytes : List ℕ
-  pub file : IsFile o name (2 ^ 24) bytes
+  pub file : IsFile o name MOST_REPORT_BYTES bytes
   pub reads : read_report bytes ≡ BadLine line
 
--- the task has a program and names a report that does not fit it, and this is the least activity that shows it
+-- the task has a program and names a report that does not fit it: this is the least activity that
+-- shows it
 pub record HasDivergence (o : Outside) (task : TaskShape) (activity : Name) : Type 0 where
   pub program : Marked
   pub given : HasProgram o task program
@@ -73,35 +83,52 @@ pub record HasDivergence (o : Outside) (task : TaskShape) (activity : Name) : Ty
 -- a file could not be read: the program's, or the report of a task that has a program
 pub data IsUnread (o : Outside) (task : TaskShape) (name : List ℕ) : Type 0 where
   OfProgram : NamesProgram task name → Rises o.faults → IsUnread o task name
-  OfReport : (program : Marked) → HasProgram o task program → NamesReport task name → Rises o.faults → IsUnread o task name
+  OfReport : (program : Marked) → HasProgram o task program
+      → NamesReport task name → Rises o.faults → IsUnread o task name
 
 -- the cause of a refusal of a task
 abbrev pub HoldsFor : Outside → TaskShape → Refusal → Type 0
 HoldsFor o task Usage = ⊥
 HoldsFor o task (Unread name) = IsUnread o task name
-HoldsFor o task LongProgram = (name : List ℕ) × NamesProgram task name × IsLong (2 ^ 20) (o.content name)
-HoldsFor o task (NoProgram fault) = (bytes : List ℕ) × IsText o task bytes × IsFaultyText bytes fault
-HoldsFor o task (Unchecked fault) = (bytes : List ℕ) × IsText o task bytes × IsUncheckedText bytes fault
+HoldsFor o task LongProgram = HasLongProgram o task
+HoldsFor o task (NoProgram fault) =
+    (bytes : List ℕ) × IsText o task bytes × IsFaultyText bytes fault
+HoldsFor o task (Unchecked fault) =
+    (bytes : List ℕ) × IsText o task bytes × IsUncheckedText bytes fault
 HoldsFor o task LongReport = HasLongReport o task
 HoldsFor o task (NoReport line) = HasBadLine o task line
 HoldsFor o task (Diverges activity) = HasDivergence o task activity
 HoldsFor o task NoMemory = Unit {0}
 
 -- the cause of a refusal: the words ask for nothing, memory ran out, or it is one of the task
-pub data Holds (i : Inputs) (r : Refusal) : Type 0 where
-  OfWords : r ≡ Usage → task_of i.words ≡ None → Holds i r
-  OfMemory : r ≡ NoMemory → Holds i r
-  OfTask : (task : TaskShape) → task_of i.words ≡ Some task → HoldsFor i.outside task r → Holds i r
+pub data Holds (words : List (List ℕ)) (o : Outside) (r : Refusal) : Type 0 where
+  OfWords : r ≡ Usage → task_of words ≡ None → Holds words o r
+  OfMemory : r ≡ NoMemory → Holds words o r
+  OfTask : (task : TaskShape) → task_of words ≡ Some task → HoldsFor o task r → Holds words o r
 
 -- what the words' task has written
-pub record Answered (i : Inputs) (text : List ℕ) (status : ℕ) : Type 0 where
+pub record Answered (words : List (List ℕ)) (o : Outside)
+    (text : List ℕ) (status : ℕ) : Type 0 where
   pub task : TaskShape
-  pub asked : task_of i.words ≡ Some task
-  pub answer : Answers i.outside task text status
+  pub asked : task_of words ≡ Some task
+  pub answer : Answers o task text status
+
+-- a refusal of this call has its cause
+abbrev pub IsCause : Call → Refusal → Type 0
+IsCause c = Holds c.words c.outside
+
+-- this is what the call's words ask to be written
+abbrev pub IsAnswer : Call → List ℕ → ℕ → Type 0
+IsAnswer c = Answered c.words c.outside
 
 -- how the call ends: the status, and what `out` and `err` took
-pub data Ends (i : Inputs) (out err : Sight) (status : ℕ) : Type 0 where
-  Written : (text : List ℕ) → Answered i text status → Takes out text → IsUntouched err → Ends i out err status
-  Refused : (r : Refusal) → Holds i r → IsUntouched out → Takes err (message_of r) → status ≡ status_of_refusal r → Ends i out err status
-  Unheard : (r : Refusal) → Holds i r → IsUntouched out → TakesFront err (message_of r) → status ≡ 7 → Ends i out err status
-  Unwritten : (text : List ℕ) (other : ℕ) → Answered i text other → TakesFront out text → Takes err write_message ⊎ TakesFront err write_message → status ≡ 7 → Ends i out err status
+pub data Ends (c : Call) (status : ℕ) : Type 0 where
+  Written : (text : List ℕ) → IsAnswer c text status
+      → Takes c.out text → IsUntouched c.err → Ends c status
+  Refused : (r : Refusal) → IsCause c r
+      → IsUntouched c.out → Takes c.err (message_of r) → status ≡ status_of_refusal r
+      → Ends c status
+  Unheard : (r : Refusal) → IsCause c r
+      → IsUntouched c.out → TakesFront c.err (message_of r) → status ≡ 7 → Ends c status
+  Unwritten : (text : List ℕ) (other : ℕ) → IsAnswer c text other → TakesFront c.out text
+      → Takes c.err write_message ⊎ TakesFront c.err write_message → status ≡ 7 → Ends c status

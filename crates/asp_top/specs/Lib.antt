@@ -2,6 +2,10 @@
 pub mod Seen
 pub mod Programs
 pub mod Correct
+pub mod Refusals
 pub mod Endings
 pub mod Statuses
+pub mod Expected
+pub mod Ended
 pub mod Stops
+pub mod Ready

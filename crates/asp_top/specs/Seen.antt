@@ -1,14 +1,10 @@
--- What a call sees of the outside, and the messages that it writes.
-use Rattle.std.specs.Prelude.{◌≡◌, ℕ, ◌<◌, List, ◌++◌, length, Option, Some, None, codes}
-use Rattle.std.specs.Fmt.{decimal}
-use Rattle.asp_model.specs.Names.{Name}
-use Rattle.asp_model.specs.Report.{name_text, with_feed}
-use Rattle.asp_syntax.specs.declared.error.SyntaxKind.{SyntaxKind}
-use Rattle.asp_syntax.specs.declared.error.SyntaxKind.TheVariants.{BadByte, BadNumber, Unexpected, TooDeep, NotAField, NotYet}
-use Rattle.asp_syntax.specs.declared.error.SyntaxFault.{SyntaxFault}
-use Rattle.asp_check.specs.declared.fault.CheckKind.{CheckKind}
-use Rattle.asp_check.specs.declared.fault.CheckKind.TheVariants.{Unbound, DoubleLabel, DoubleParameter, TooManyParameters, Arity, ServiceArity}
-use Rattle.asp_check.specs.declared.fault.CheckFault.{CheckFault}
+-- What a call saw of the outside: what its source and its sinks tell, before it and behind it.
+use Rattle.std.specs.Prelude.{◌≡◌, ℕ, ◌<◌, List, length, map, Option, Some, None, string_bytes}
+use Rattle.std.specs.Borrow.{MutBor}
+use Rattle.std.specs.declared.alloc.Global.{Global}
+use Rattle.std.specs.declared.string.String.{String}
+use denote.Triple.Both.{Both}
+use Rattle.asp_edge.specs.Told.{SourceTells, SinkTells}
 use Rattle.asp_edge.specs.Causes.{Rose, Appends, AppendsFront}
 
 -- a count of faults, before the call and behind it
@@ -24,25 +20,59 @@ pub record Outside : Type 0 where
   pub content : List ℕ → Option (List ℕ)
   pub faults : Counted
 
-abbrev pub outside : {S : Type 0} → (S → List ℕ → Option (List ℕ)) → (S → ℕ) → S → S → Outside
-outside content faults old new = record { content = content old; faults = record { before = faults old; now = faults new } }
-
--- the words, and the outside
-pub record Inputs : Type 0 where
-  pub words : List (List ℕ)
-  pub outside : Outside
-
-abbrev pub inputs : {S : Type 0} → List (List ℕ) → (S → List ℕ → Option (List ℕ)) → (S → ℕ) → S → S → Inputs
-inputs words content faults old new = record { words = words; outside = outside content faults old new }
-
 -- what a sink tells, before the call and behind it
 pub record Sight : Type 0 where
   pub before : Option (List ℕ)
   pub now : Option (List ℕ)
   pub faults : Counted
 
-abbrev pub sight : {S : Type 0} → (S → Option (List ℕ)) → (S → ℕ) → S → S → Sight
-sight bytes faults old new = record { before = bytes old; now = bytes new; faults = record { before = faults old; now = faults new } }
+-- the words of a call, and what it saw of its source and its two sinks
+pub record Call : Type 0 where
+  pub words : List (List ℕ)
+  pub outside : Outside
+  pub out : Sight
+  pub err : Sight
+
+-- From values to what is seen of them
+
+abbrev pub outside_between : {S : Type 0} → (S → SourceTells) → S → S → Outside
+outside_between told old new = record {
+  content = (told old).content;
+  faults = record { before = (told old).faults; now = (told new).faults };
+}
+
+abbrev pub sight_between : {S : Type 0} → (S → SinkTells) → S → S → Sight
+sight_between told old new = record {
+  before = (told old).bytes;
+  now = (told new).bytes;
+  faults = record { before = (told old).faults; now = (told new).faults };
+}
+
+-- a parameter by `&mut`, as a call began and as it ended
+abbrev pub Lent : Type 0 → Type 0
+Lent S = Both (MutBor S) (MutBor S)
+
+abbrev pub outside : {S : Type 0} → (S → SourceTells) → Lent S → Outside
+outside told source = outside_between told source.entry.now source.exit.now
+
+abbrev pub sight : {S : Type 0} → (S → SinkTells) → Lent S → Sight
+sight told sink = sight_between told sink.entry.now sink.exit.now
+
+-- the bytes of each word
+abbrev pub bytes_of : List (String Global) → List (List ℕ)
+bytes_of = map string_bytes
+
+-- what a call saw, from what its source, its `out` and its `err` tell
+abbrev pub saw : {S O E : Type 0} → (S → SourceTells) → (O → SinkTells) → (E → SinkTells)
+    → List (String Global) → Lent S → Lent O → Lent E → Call
+saw source_told out_told err_told words source out err = record {
+  words = bytes_of words;
+  outside = outside source_told source;
+  out = sight out_told out;
+  err = sight err_told err;
+}
+
+-- What was taken
 
 abbrev pub IsUntouched : Sight → Type 0
 IsUntouched s = (s.now ≡ s.before) × (s.faults.now ≡ s.faults.before)
@@ -51,71 +81,15 @@ IsUntouched s = (s.now ≡ s.before) × (s.faults.now ≡ s.faults.before)
 abbrev pub Takes : Sight → List ℕ → Type 0
 Takes s text = Appends s.before s.now text
 
+-- it took a front part of a text
+abbrev pub TakesSome : Sight → List ℕ → Type 0
+TakesSome s text = AppendsFront s.before s.now text
+
 -- the sink failed, after a front part of a text
 abbrev pub TakesFront : Sight → List ℕ → Type 0
-TakesFront s text = Rises s.faults × AppendsFront s.before s.now text
+TakesFront s text = Rises s.faults × TakesSome s text
 
 -- longer than this, where the content is told
 abbrev pub IsLong : ℕ → Option (List ℕ) → Type 0
 IsLong most None = Unit {0}
 IsLong most (Some bytes) = most < length bytes
-
-pub data Refusal : Type 0 where
-  Usage : Refusal
-  Unread : (name : List ℕ) → Refusal
-  LongProgram : Refusal
-  NoProgram : (fault : SyntaxFault) → Refusal
-  Unchecked : (fault : CheckFault) → Refusal
-  LongReport : Refusal
-  -- by its first line that cannot stand in its place
-  NoReport : (line : ℕ) → Refusal
-  Diverges : (activity : Name) → Refusal
-  NoMemory : Refusal
-
-abbrev pub status_of_refusal : Refusal → ℕ
-status_of_refusal Usage = 2
-status_of_refusal (Unread name) = 6
-status_of_refusal LongProgram = 3
-status_of_refusal (NoProgram fault) = 3
-status_of_refusal (Unchecked fault) = 3
-status_of_refusal LongReport = 9
-status_of_refusal (NoReport line) = 9
-status_of_refusal (Diverges activity) = 9
-status_of_refusal NoMemory = 8
-
-abbrev pub kind_text : SyntaxKind → List ℕ
-kind_text BadByte = codes "BadByte"
-kind_text BadNumber = codes "BadNumber"
-kind_text Unexpected = codes "Unexpected"
-kind_text TooDeep = codes "TooDeep"
-kind_text NotAField = codes "NotAField"
-kind_text NotYet = codes "NotYet"
-
-abbrev pub check_text : CheckKind → List ℕ
-check_text Unbound = codes "Unbound"
-check_text DoubleLabel = codes "DoubleLabel"
-check_text DoubleParameter = codes "DoubleParameter"
-check_text TooManyParameters = codes "TooManyParameters"
-check_text Arity = codes "Arity"
-check_text ServiceArity = codes "ServiceArity"
-
--- a kind of fault, and its place
-abbrev pub fault_line : List ℕ → ℕ → List ℕ
-fault_line kind at = with_feed (codes "asp: program: " ++ kind ++ codes " at " ++ decimal at)
-
-abbrev pub usage_line : List ℕ
-usage_line = with_feed (codes "asp: usage: asp FILE [--workers N] [--strategy S] [--update L=S,..] [--budget N] [--state D] [--check] [--replay REPORT], or asp --make N [--workers N] [--strategy S] [--update L=S,..] [--budget N]")
-
-abbrev pub message_of : Refusal → List ℕ
-message_of Usage = usage_line
-message_of (Unread name) = with_feed (codes "asp: cannot read " ++ name)
-message_of LongProgram = with_feed (codes "asp: program: longer than 1048576 bytes")
-message_of (NoProgram fault) = fault_line (kind_text fault.kind) fault.at
-message_of (Unchecked fault) = fault_line (check_text fault.kind) fault.at
-message_of LongReport = with_feed (codes "asp: replay: longer than 16777216 bytes")
-message_of (NoReport line) = with_feed (codes "asp: replay: line " ++ decimal line)
-message_of (Diverges activity) = with_feed (codes "asp: replay: " ++ name_text activity ++ codes " diverges")
-message_of NoMemory = with_feed (codes "asp: no memory")
-
-abbrev pub write_message : List ℕ
-write_message = with_feed (codes "asp: cannot write")

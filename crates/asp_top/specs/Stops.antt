@@ -1,6 +1,8 @@
--- Why there is nothing to write, and what is ready to be written.
-use Rattle.std.specs.Prelude.{◌≡◌, ◌⊎◌, ℕ, ◌^◌, List, map, string_bytes}
-use Rattle.std.specs.List.{concat}
+-- Why there is nothing to write: for private functions alone.
+use Rattle.std.specs.Prelude.{◌≡◌, ℕ, List}
+use Rattle.std.specs.declared.alloc.Global.{Global}
+use Rattle.std.specs.declared.string.String.{String}
+use Rattle.asp_model.specs.declared.limits.TheConstants.{MOST_PROGRAM_BYTES, MOST_REPORT_BYTES}
 use Rattle.asp_model.specs.Marked.{Marked}
 use Rattle.asp_model.specs.Shapes.{marked_of, lists_shape, counts_shape}
 use Rattle.asp_model.specs.declared.outcome.Lists.{Lists}
@@ -18,12 +20,13 @@ use Rattle.replay_one.specs.declared.replays.ReplayStop.{ReplayStop}
 use Rattle.replay_one.specs.declared.replays.ReplayStop.TheVariants as replays
 use Rattle.command_line.specs.declared.error.WordsError.{WordsError}
 use Rattle.command_line.specs.declared.error.WordsError.TheVariants as words
+use Rattle.command_line.specs.Task.{TaskShape}
 use Rattle.asp_top.specs.declared.stop.Stop.{Stop}
 use Rattle.asp_top.specs.declared.stop.Stop.TheVariants as stops
-use Rattle.asp_top.specs.declared.prepare.Prepared.{Prepared}
-use Rattle.asp_top.specs.Seen.{Outside, Sight, Rises, IsUntouched, Takes, TakesFront, IsLong, Refusal, Usage, Unread, LongProgram, NoProgram, Unchecked, LongReport, NoReport, Diverges, NoMemory, status_of_refusal, message_of, write_message}
-use Rattle.asp_top.specs.Programs.{IsFile, HasReport}
-use Rattle.asp_top.specs.Endings.{IsFaultyText, IsUncheckedText}
+use Rattle.asp_top.specs.Seen.{Outside, Rises, IsLong, bytes_of}
+use Rattle.asp_top.specs.Programs.{IsFile, IsInFile, HasReport}
+use Rattle.asp_top.specs.Refusals.{Refusal, Usage, Unread, LongProgram, NoProgram, Unchecked, LongReport, NoReport, Diverges, NoMemory}
+use Rattle.asp_top.specs.Endings.{IsFaultyText, IsUncheckedText, Holds, HoldsFor}
 
 abbrev pub refusal_of : Stop → Refusal
 refusal_of stops.Usage = Usage
@@ -62,52 +65,55 @@ replay_stop replays.Memory = stops.Memory
 abbrev pub program_in : Checked → Marked
 program_in c = marked_of c.program.root
 
+-- the program in the file of this name
+abbrev pub IsCheckedFile : Outside → List ℕ → Checked → Type 0
+IsCheckedFile o file c = IsInFile o file (program_in c)
+
 -- the cause of a stop at a text
-abbrev pub StopsAt : List ℕ → Refusal → Type 0
-StopsAt bytes (NoProgram fault) = IsFaultyText bytes fault
-StopsAt bytes (Unchecked fault) = IsUncheckedText bytes fault
-StopsAt bytes NoMemory = Unit {0}
-StopsAt bytes r = ⊥
+abbrev pub RefusedAt : List ℕ → Refusal → Type 0
+RefusedAt bytes (NoProgram fault) = IsFaultyText bytes fault
+RefusedAt bytes (Unchecked fault) = IsUncheckedText bytes fault
+RefusedAt bytes NoMemory = Unit {0}
+RefusedAt bytes r = ⊥
+
+abbrev pub StopsAt : List ℕ → Stop → Type 0
+StopsAt bytes s = RefusedAt bytes (refusal_of s)
 
 -- the cause of a stop at the file of a program
-abbrev pub StopsInFile : Outside → List ℕ → Refusal → Type 0
-StopsInFile o file (Unread name) = (file ≡ name) × Rises o.faults
-StopsInFile o file LongProgram = IsLong (2 ^ 20) (o.content file)
-StopsInFile o file (NoProgram fault) = (bytes : List ℕ) × IsFile o file (2 ^ 20) bytes × IsFaultyText bytes fault
-StopsInFile o file (Unchecked fault) = (bytes : List ℕ) × IsFile o file (2 ^ 20) bytes × IsUncheckedText bytes fault
-StopsInFile o file NoMemory = Unit {0}
-StopsInFile o file r = ⊥
+abbrev pub RefusedInFile : Outside → List ℕ → Refusal → Type 0
+RefusedInFile o file (Unread name) = (file ≡ name) × Rises o.faults
+RefusedInFile o file LongProgram = IsLong MOST_PROGRAM_BYTES (o.content file)
+RefusedInFile o file (NoProgram fault) =
+    (bytes : List ℕ) × IsFile o file MOST_PROGRAM_BYTES bytes × IsFaultyText bytes fault
+RefusedInFile o file (Unchecked fault) =
+    (bytes : List ℕ) × IsFile o file MOST_PROGRAM_BYTES bytes × IsUncheckedText bytes fault
+RefusedInFile o file NoMemory = Unit {0}
+RefusedInFile o file r = ⊥
+
+abbrev pub StopsInFile : Outside → List ℕ → Stop → Type 0
+StopsInFile o file s = RefusedInFile o file (refusal_of s)
 
 -- the file is a report with these lists and counts, and they can be replayed
-pub record HasReplayableReport (o : Outside) (name : List ℕ) (lists : Lists) (counts : Counts) : Type 0 where
-  pub old : HasReport o name (lists_shape lists) (counts_shape counts)
-  pub replayable : AreReplayable (lists_shape lists) (counts_shape counts)
+pub record IsReplayable (o : Outside) (name : List ℕ) (log : Lists × Counts) : Type 0 where
+  pub old : HasReport o name (lists_shape log.0) (counts_shape log.1)
+  pub replayable : AreReplayable (lists_shape log.0) (counts_shape log.1)
 
 -- the cause of a stop at the file of a report
-abbrev pub StopsInReport : Outside → List ℕ → Refusal → Type 0
-StopsInReport o report (Unread name) = (report ≡ name) × Rises o.faults
-StopsInReport o report LongReport = IsLong (2 ^ 24) (o.content report)
-StopsInReport o report (NoReport line) = (bytes : List ℕ) × IsFile o report (2 ^ 24) bytes × (read_report bytes ≡ BadLine line)
-StopsInReport o report NoMemory = Unit {0}
-StopsInReport o report r = ⊥
+abbrev pub RefusedInReport : Outside → List ℕ → Refusal → Type 0
+RefusedInReport o report (Unread name) = (report ≡ name) × Rises o.faults
+RefusedInReport o report LongReport = IsLong MOST_REPORT_BYTES (o.content report)
+RefusedInReport o report (NoReport line) =
+    (bytes : List ℕ) × IsFile o report MOST_REPORT_BYTES bytes × (read_report bytes ≡ BadLine line)
+RefusedInReport o report NoMemory = Unit {0}
+RefusedInReport o report r = ⊥
 
--- the text that is ready
-abbrev pub text_in : Prepared → List ℕ
-text_in p = concat (map string_bytes p.pieces.items)
+abbrev pub StopsInReport : Outside → List ℕ → Stop → Type 0
+StopsInReport o report s = RefusedInReport o report (refusal_of s)
 
--- a message was told and this status answered, or the sink failed
-abbrev pub Told : Sight → List ℕ → ℕ → ℕ → Type 0
-Told s text status result = ((result ≡ status) × Takes s text) ⊎ ((result ≡ 7) × TakesFront s text)
+-- Tasks
 
-abbrev pub ToldRefusal : Refusal → Sight → ℕ → Type 0
-ToldRefusal r s result = Told s (message_of r) (status_of_refusal r) result
+abbrev pub StopsTask : Outside → TaskShape → Stop → Type 0
+StopsTask o task s = HoldsFor o task (refusal_of s)
 
--- the refusal was told, or that there is no memory for its message
-abbrev pub ToldOf : Refusal → Sight → ℕ → Type 0
-ToldOf r s result = ToldRefusal r s result ⊎ ToldRefusal NoMemory s result
-
--- a text was written, or `out` failed and that was told
-abbrev pub WrittenOf : Sight → Sight → List ℕ → ℕ → ℕ → Type 0
-WrittenOf out err text status result =
-    ((result ≡ status) × Takes out text × IsUntouched err)
-    ⊎ ((result ≡ 7) × TakesFront out text × (Takes err write_message ⊎ TakesFront err write_message))
+abbrev pub StopsWords : List (String Global) → Outside → Stop → Type 0
+StopsWords words o s = Holds (bytes_of words) o (refusal_of s)

@@ -1,6 +1,7 @@
 //! Runs the command from its words to its report.
 #![tactic(auto)]
 
+mod ended;
 mod prepare;
 mod programs;
 mod reports;
@@ -8,4 +9,5 @@ mod stop;
 mod top;
 mod writing;
 
+pub use ended::ended_runs_print_the_same;
 pub use top::run_asp;

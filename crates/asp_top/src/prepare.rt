@@ -4,19 +4,18 @@ ghost use Rattle.std.specs.Prelude.{◌≡◌, ◌≤◌, IfOk, IfErr, codes, ma
 ghost use Rattle.asp_model.specs.Report.{report_of, text_of, with_feed};
 ghost use Rattle.asp_model.specs.Outcome.{exit_status};
 ghost use Rattle.asp_model.specs.Shapes.{outcome_shape};
-ghost use Rattle.run_report.specs.Summary.{summary_lines};
+ghost use Rattle.run_report.specs.Summary.{summary_of};
 ghost use Rattle.command_line.specs.Task.{Runs, Checks, Replays, Makes, IsWithin};
 ghost use Rattle.command_line.specs.Shapes.{task_shape};
-ghost use Rattle.asp_top.specs.Seen.{Outside, inputs, outside};
-ghost use Rattle.asp_top.specs.Correct.{Answers};
-ghost use Rattle.asp_top.specs.Endings.{Answered, Holds, HoldsFor};
-ghost use Rattle.asp_top.specs.Stops.{refusal_of, text_in};
+ghost use Rattle.asp_top.specs.Seen.{Outside, outside};
+ghost use Rattle.asp_top.specs.Stops.{StopsTask, StopsWords};
+ghost use Rattle.asp_top.specs.Ready.{IsReady, IsReadyFor, text_in};
 
 use crate::programs::{checked_in, program_of};
 use crate::reports::lists_of;
 use crate::stop::Stop;
 use asp_edge::Source;
-use asp_model::{Outcome, Word, exit_number};
+use asp_model::{MOST_PAIRS, MOST_REDUCTIONS, Outcome, Word, exit_number};
 use command_line::{Task, read_words};
 use load_gen::make;
 use replay_one::{replay, run_plain};
@@ -62,7 +61,7 @@ fn report_for(alloc: Global, outcome: &Outcome) -> Result<Prepared, AllocError>
 }
 
 fn summary_for(alloc: Global, pairs: u64, outcome: &Outcome) -> Result<Prepared, AllocError>
-    ensures text { IfOk result (λ p. text_in p ≡ text_of (summary_lines pairs (outcome_shape outcome.now))) }
+    ensures text { IfOk result (λ p. text_in p ≡ summary_of pairs (outcome_shape outcome.now)) }
     ensures status { IfOk result (λ p. p.status ≡ exit_status (outcome_shape outcome.now)) }
 {
     text_for(alloc, summarize(alloc, pairs, outcome)?, outcome)
@@ -83,9 +82,9 @@ fn prepare_run<'a, S: Source>(
     budget: u64,
     source: &mut S,
 ) -> Result<Prepared, Stop<'a>>
-    requires within { budget ≤ 10000000 }
-    ensures answer { IfOk result (λ p. Answers (outside S.content S.faults source.old source.new) (Runs file.entry.now budget) (text_in p) p.status) }
-    ensures stop { IfErr result (λ s. HoldsFor (outside S.content S.faults source.old source.new) (Runs file.entry.now budget) (refusal_of s)) }
+    requires within { budget ≤ MOST_REDUCTIONS }
+    ensures answer { IfOk result (IsReady (outside S.told source) (Runs file.entry.now budget)) }
+    ensures stop { IfErr result (StopsTask (outside S.told source) (Runs file.entry.now budget)) }
 {
     let checked = program_of(alloc, file, source)?;
     let outcome = run_plain(alloc, &checked, budget)?;
@@ -97,8 +96,8 @@ fn prepare_check<'a, S: Source>(
     file: &'a str,
     source: &mut S,
 ) -> Result<Prepared, Stop<'a>>
-    ensures answer { IfOk result (λ p. Answers (outside S.content S.faults source.old source.new) (Checks file.entry.now) (text_in p) p.status) }
-    ensures stop { IfErr result (λ s. HoldsFor (outside S.content S.faults source.old source.new) (Checks file.entry.now) (refusal_of s)) }
+    ensures answer { IfOk result (IsReady (outside S.told source) (Checks file.entry.now)) }
+    ensures stop { IfErr result (StopsTask (outside S.told source) (Checks file.entry.now)) }
 {
     program_of(alloc, file, source)?;
     Ok(checked_text(alloc)?)
@@ -110,8 +109,10 @@ fn prepare_replay<'a, S: Source>(
     report: &'a str,
     source: &mut S,
 ) -> Result<Prepared, Stop<'a>>
-    ensures answer { IfOk result (λ p. Answers (outside S.content S.faults source.old source.new) (Replays file.entry.now report.entry.now) (text_in p) p.status) }
-    ensures stop { IfErr result (λ s. HoldsFor (outside S.content S.faults source.old source.new) (Replays file.entry.now report.entry.now) (refusal_of s)) }
+    ensures answer { let task = Replays file.entry.now report.entry.now in
+        IfOk result (IsReady (outside S.told source) task) }
+    ensures stop { let task = Replays file.entry.now report.entry.now in
+        IfErr result (StopsTask (outside S.told source) task) }
 {
     let checked = program_of(alloc, file, source)?;
     let (lists, counts) = lists_of(alloc, report, source)?;
@@ -121,10 +122,10 @@ fn prepare_replay<'a, S: Source>(
 
 fn prepare_made<'a>(alloc: Global, pairs: u64, budget: u64) -> Result<Prepared, Stop<'a>>
     requires least { 1 ≤ pairs }
-    requires most { pairs ≤ 2000 }
-    requires within { budget ≤ 10000000 }
-    ensures answer { (o : Outside) → IfOk result (λ p. Answers o (Makes pairs budget) (text_in p) p.status) }
-    ensures stop { (o : Outside) → IfErr result (λ s. HoldsFor o (Makes pairs budget) (refusal_of s)) }
+    requires most { pairs ≤ MOST_PAIRS }
+    requires within { budget ≤ MOST_REDUCTIONS }
+    ensures answer { (o : Outside) → IfOk result (IsReady o (Makes pairs budget)) }
+    ensures stop { (o : Outside) → IfErr result (StopsTask o (Makes pairs budget)) }
 {
     let text = make(alloc, pairs)?;
     let program = checked_in(alloc, text.as_bytes())?;
@@ -138,8 +139,8 @@ fn prepare_task<'a, S: Source>(
     source: &mut S,
 ) -> Result<Prepared, Stop<'a>>
     requires within { IsWithin (task_shape task) }
-    ensures answer { IfOk result (λ p. Answers (outside S.content S.faults source.old source.new) (task_shape task.entry) (text_in p) p.status) }
-    ensures stop { IfErr result (λ s. HoldsFor (outside S.content S.faults source.old source.new) (task_shape task.entry) (refusal_of s)) }
+    ensures answer { IfOk result (IsReady (outside S.told source) (task_shape task.entry)) }
+    ensures stop { IfErr result (StopsTask (outside S.told source) (task_shape task.entry)) }
 {
     match task {
         Task::Run { file, budget } => prepare_run(alloc, file, budget, source),
@@ -150,15 +151,15 @@ fn prepare_task<'a, S: Source>(
 }
 
 /// What the words ask for, ready to be written. The words come first, then the program's file, its
-/// reading and its check, the report's file where there is one, and the run or the replay; the first
-/// refusal in this order ends the work.
+/// reading and its check, the report's file where there is one, and the run or the replay; the
+/// first refusal in this order ends the work.
 pub fn prepare<'a, S: Source>(
     alloc: Global,
     words: &'a [String],
     source: &mut S,
 ) -> Result<Prepared, Stop<'a>>
-    ensures answer { IfOk result (λ p. Answered (inputs (map string_bytes words.entry.now) S.content S.faults source.old source.new) (text_in p) p.status) }
-    ensures stop { IfErr result (λ s. Holds (inputs (map string_bytes words.entry.now) S.content S.faults source.old source.new) (refusal_of s)) }
+    ensures answer { IfOk result (IsReadyFor words.entry.now (outside S.told source)) }
+    ensures stop { IfErr result (StopsWords words.entry.now (outside S.told source)) }
 {
     let task = read_words(alloc, words)?;
     prepare_task(alloc, task, source)

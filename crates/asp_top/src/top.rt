@@ -1,12 +1,12 @@
 //! The top call.
 
-ghost use Rattle.std.specs.Prelude.{◌≡◌, ◌⊎◌, None, Some, map, string_bytes};
-ghost use Rattle.asp_edge.specs.Causes.{Rose};
-ghost use Rattle.command_line.specs.Task.{TaskShape, task_of};
-ghost use Rattle.asp_top.specs.Seen.{inputs, outside, sight};
-ghost use Rattle.asp_top.specs.Correct.{IsReported, Reports};
+ghost use Rattle.std.specs.Prelude.{◌≡◌, ◌⊎◌, None};
+ghost use Rattle.command_line.specs.Task.{task_of};
+ghost use Rattle.asp_top.specs.Seen.{Rises, bytes_of, outside, saw, sight};
+ghost use Rattle.asp_top.specs.Correct.{Reports};
 ghost use Rattle.asp_top.specs.Endings.{Ends};
-ghost use Rattle.asp_top.specs.Statuses.{Says, SaysEnd, SaysBlocked, SaysBudget, IsUnfit, IsNotReplayed, MayAnswer, AsksUnfit, AsksNoReplay, IsUsageEnd, IsUnfitEnd, IsNoReplayEnd};
+ghost use Rattle.asp_top.specs.Statuses.{IsNotReplayed, IsUnfit, SaysBlocked, SaysBudget, SaysEnd};
+ghost use Rattle.asp_top.specs.Expected.{Completes, IsUsageEnd, RefusesPrograms, RefusesReports};
 
 use crate::prepare::prepare;
 use crate::writing::{refuse, write_prepared};
@@ -21,7 +21,7 @@ fn run_words<S: Source, O: Sink, E: Sink>(
     out: &mut O,
     err: &mut E,
 ) -> u8
-    ensures { Ends (inputs (map string_bytes words.now) S.content S.faults source.old source.new) (sight O.bytes O.faults out.old out.new) (sight E.bytes E.faults err.old err.new) result }
+    ensures { Ends (saw S.told O.told E.told words.now source out err) result }
 {
     match prepare(alloc, words, source) {
         Ok(prepared) => write_prepared(&prepared, out, err),
@@ -29,12 +29,12 @@ fn run_words<S: Source, O: Sink, E: Sink>(
     }
 }
 
-/// Runs the command that the words give, and writes its text, one write for each line. `asp FILE` runs
-/// the program in a file and writes its report, `asp FILE --replay REPORT` replays a report of it,
-/// `asp FILE --check` reads and checks it, and `asp --make N` runs the generated program of N pairs and
-/// writes a summary. The words come first, then the program's file, the reading, the check, the
-/// report's file, the run or the replay, and the writing; the first refusal in this order ends the
-/// call. All lines are made before the first is written.
+/// Runs the command that the words give, and writes its text, one write for each line. `asp FILE`
+/// runs the program in a file and writes its report, `asp FILE --replay REPORT` replays a report of
+/// it, `asp FILE --check` reads and checks it, and `asp --make N` runs the generated program of N
+/// pairs and writes a summary. The words come first, then the program's file, the reading, the
+/// check, the report's file, the run or the replay, and the writing; the first refusal in this order
+/// ends the call. All lines are made before the first is written.
 pub fn run_asp<R: AllocGlobal, S: Source, O: Sink, E: Sink>(
     rt: &R,
     words: &[String],
@@ -42,20 +42,33 @@ pub fn run_asp<R: AllocGlobal, S: Source, O: Sink, E: Sink>(
     out: &mut O,
     err: &mut E,
 ) -> u8
-    ensures ends { Ends (inputs (map string_bytes words.now) S.content S.faults source.old source.new) (sight O.bytes O.faults out.old out.new) (sight E.bytes E.faults err.old err.new) result }
-    ensures report { (task : TaskShape) → task_of (map string_bytes words.now) ≡ Some task → IsReported result → Reports (outside S.content S.faults source.old source.new) task (sight O.bytes O.faults out.old out.new) (sight E.bytes E.faults err.old err.new) result }
-    ensures ended_only { (result ≡ 0) ⊎ (result ≡ 1) → Says (inputs (map string_bytes words.now) S.content S.faults source.old source.new) (sight O.bytes O.faults out.old out.new) result SaysEnd }
-    ensures blocked_only { result ≡ 4 → Says (inputs (map string_bytes words.now) S.content S.faults source.old source.new) (sight O.bytes O.faults out.old out.new) result SaysBlocked }
-    ensures budget_only { result ≡ 5 → Says (inputs (map string_bytes words.now) S.content S.faults source.old source.new) (sight O.bytes O.faults out.old out.new) result SaysBudget }
-    ensures usage_only { result ≡ 2 → task_of (map string_bytes words.now) ≡ None }
-    ensures program_only { result ≡ 3 → IsUnfit (inputs (map string_bytes words.now) S.content S.faults source.old source.new) }
-    ensures read_fault_only { result ≡ 6 → Rose (S.faults source.old) (S.faults source.new) }
-    ensures write_fault_only { result ≡ 7 → (Rose (O.faults out.old) (O.faults out.new)) ⊎ (Rose (E.faults err.old) (E.faults err.new)) }
-    ensures replay_only { result ≡ 9 → IsNotReplayed (inputs (map string_bytes words.now) S.content S.faults source.old source.new) }
-    ensures usage { task_of (map string_bytes words.now) ≡ None → IsUsageEnd result }
-    ensures unfit { AsksUnfit (inputs (map string_bytes words.now) S.content S.faults source.old source.new) → IsUnfitEnd result }
-    ensures no_replay { AsksNoReplay (inputs (map string_bytes words.now) S.content S.faults source.old source.new) → IsNoReplayEnd result }
-    ensures complete { MayAnswer (inputs (map string_bytes words.now) S.content S.faults source.old source.new) → (Rose (O.faults out.old) (O.faults out.new) → ⊥) → (Rose (E.faults err.old) (E.faults err.new) → ⊥) → IsReported result ⊎ (result ≡ 8) }
+    // How the call ends, in full: the status, and what `out` and `err` took.
+    ensures ends { Ends (saw S.told O.told E.told words.now source out err) result }
+
+    // The main theorem.
+    ensures report { Reports (saw S.told O.told E.told words.now source out err) result }
+
+    // What each status says.
+    ensures ended_only { (result ≡ 0) ⊎ (result ≡ 1)
+        → SaysEnd (saw S.told O.told E.told words.now source out err) result }
+    ensures blocked_only { result ≡ 4
+        → SaysBlocked (saw S.told O.told E.told words.now source out err) result }
+    ensures budget_only { result ≡ 5
+        → SaysBudget (saw S.told O.told E.told words.now source out err) result }
+    ensures usage_only { result ≡ 2 → task_of (bytes_of words.now) ≡ None }
+    ensures program_only { result ≡ 3
+        → IsUnfit (saw S.told O.told E.told words.now source out err) }
+    ensures read_fault_only { result ≡ 6 → Rises (outside S.told source).faults }
+    ensures write_fault_only { result ≡ 7
+        → Rises (sight O.told out).faults ⊎ Rises (sight E.told err).faults }
+    ensures replay_only { result ≡ 9
+        → IsNotReplayed (saw S.told O.told E.told words.now source out err) }
+
+    // Which status comes.
+    ensures usage { task_of (bytes_of words.now) ≡ None → IsUsageEnd result }
+    ensures unfit { RefusesPrograms (saw S.told O.told E.told words.now source out err) result }
+    ensures no_replay { RefusesReports (saw S.told O.told E.told words.now source out err) result }
+    ensures complete { Completes (saw S.told O.told E.told words.now source out err) result }
 {
     run_words(rt.alloc(), words, source, out, err)
 }

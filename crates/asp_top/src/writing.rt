@@ -1,10 +1,10 @@
 //! What is written: messages, and a text that is ready.
 
-ghost use Rattle.std.specs.Prelude.{◌≡◌, ◌≤◌, map, string_bytes, IfOk, IfErr, OnOk, OnErr};
-ghost use Rattle.std.specs.List.{concat};
-ghost use Rattle.asp_edge.specs.Causes.{Appends, AppendsFront, Rose};
-ghost use Rattle.asp_top.specs.Seen.{sight, kind_text as text_of_kind, check_text as text_of_check, fault_line, message_of, Diverges, NoMemory, NoReport, Unread};
-ghost use Rattle.asp_top.specs.Stops.{Told, ToldOf, WrittenOf, refusal_of, text_in};
+ghost use Rattle.std.specs.Prelude.{◌≡◌, ◌≤◌, string_bytes, IfOk, IfErr, OnOk, OnErr};
+ghost use Rattle.asp_top.specs.Seen.{Rises, Takes, TakesSome, sight};
+ghost use Rattle.asp_top.specs.Refusals.{kind_text as text_of_kind, check_text as text_of_check, fault_line, message_of, Diverges, NoMemory, NoReport, Unread};
+ghost use Rattle.asp_top.specs.Stops.{refusal_of};
+ghost use Rattle.asp_top.specs.Ready.{Told, ToldOf, ToldRefusal, WrittenOf, text_of_all};
 
 use crate::prepare::Prepared;
 use crate::stop::Stop;
@@ -82,7 +82,7 @@ fn diverges_message(alloc: Global, name: &ActivityName) -> Result<String, AllocE
 
 // Writes a message, and answers the status, or 7 where the sink failed.
 fn tell<E: Sink>(err: &mut E, message: &[u8], status: u8) -> u8
-    ensures { Told (sight E.bytes E.faults err.old err.new) message.now status result }
+    ensures { Told (sight E.told err) message.now status result }
 {
     match err.write(message) {
         Ok(()) => status,
@@ -92,8 +92,8 @@ fn tell<E: Sink>(err: &mut E, message: &[u8], status: u8) -> u8
 
 // Writes a message, if it could be made.
 fn tell_made<E: Sink>(err: &mut E, message: Result<String, AllocError>, status: u8) -> u8
-    ensures made { IfOk message (λ s. Told (sight E.bytes E.faults err.old err.new) (string_bytes s) status result) }
-    ensures no_memory { IfErr message (λ _. Told (sight E.bytes E.faults err.old err.new) (message_of NoMemory) 8 result) }
+    ensures made { IfOk message (λ s. Told (sight E.told err) (string_bytes s) status result) }
+    ensures no_memory { IfErr message (λ _. ToldRefusal NoMemory (sight E.told err) result) }
 {
     match message {
         Ok(text) => tell(err, text.as_bytes(), status),
@@ -103,7 +103,7 @@ fn tell_made<E: Sink>(err: &mut E, message: Result<String, AllocError>, status: 
 
 /// Tells why there is nothing to write.
 pub fn refuse<E: Sink>(alloc: Global, stop: &Stop<'_>, err: &mut E) -> u8
-    ensures { ToldOf (refusal_of stop.now) (sight E.bytes E.faults err.old err.new) result }
+    ensures { ToldOf (refusal_of stop.now) (sight E.told err) result }
 {
     match stop {
         Stop::Usage => tell(err, USAGE, 2),
@@ -126,10 +126,10 @@ pub fn refuse<E: Sink>(alloc: Global, stop: &Stop<'_>, err: &mut E) -> u8
 
 // Writes pieces one by one.
 fn write_all<O: Sink>(out: &mut O, pieces: &[String]) -> Result<(), WriteFailed>
-    ensures all { OnOk result (Appends (O.bytes out.old) (O.bytes out.new) (concat (map string_bytes pieces.now))) }
-    ensures front { OnErr result (AppendsFront (O.bytes out.old) (O.bytes out.new) (concat (map string_bytes pieces.now))) }
-    ensures later { O.faults out.old ≤ O.faults out.new }
-    ensures cause { OnErr result (Rose (O.faults out.old) (O.faults out.new)) }
+    ensures all { OnOk result (Takes (sight O.told out) (text_of_all pieces.now)) }
+    ensures front { OnErr result (TakesSome (sight O.told out) (text_of_all pieces.now)) }
+    ensures later { (O.told out.old).faults ≤ (O.told out.new).faults }
+    ensures cause { OnErr result (Rises (sight O.told out).faults) }
 {
     for piece in pieces {
         out.write(piece.as_bytes())?;
@@ -139,7 +139,7 @@ fn write_all<O: Sink>(out: &mut O, pieces: &[String]) -> Result<(), WriteFailed>
 
 /// Writes a text that is ready.
 pub fn write_prepared<O: Sink, E: Sink>(prepared: &Prepared, out: &mut O, err: &mut E) -> u8
-    ensures { WrittenOf (sight O.bytes O.faults out.old out.new) (sight E.bytes E.faults err.old err.new) (text_in prepared.now) prepared.now.status result }
+    ensures { WrittenOf (sight O.told out) (sight E.told err) prepared.now result }
 {
     match write_all(out, &prepared.pieces) {
         Ok(()) => prepared.status,

@@ -2,8 +2,8 @@ use Rattle.std.proofs.Common.{◌≡◌, ◌∙◌}
 use Rattle.asp_model.specs.Shapes.{outcome_shape}
 use Rattle.load_gen.specs.Generated.{generated}
 use Rattle.command_line.specs.Task.{Makes}
-use Rattle.asp_top.specs.Endings.{HoldsFor}
-use Rattle.asp_top.specs.Stops.{refusal_of, text_in}
+use Rattle.asp_top.specs.Stops.{StopsTask, refusal_of}
+use Rattle.asp_top.specs.Ready.{text_in}
 use Rattle.asp_top.proofs.StopLemmas.{stops_if}
 use Rattle.asp_top.proofs.PrepareLemmas.{made_stops}
 use Rattle.asp_top.proofs.OutcomeLemmas.{made_is}
@@ -13,7 +13,7 @@ pub returns-in_err-program-clause-stop : goal.returns-in_err-program-clause-stop
 returns-in_err-program-clause-stop c = λ o.
     let made : c.as_bytes.result.now ≡ generated c.args.pairs = c.as_bytes.ensures.value ∙ c.in_ok-text.ensures.program in
     let stop = c.in_err-program.field-0.0 in
-    stops_if (HoldsFor o (Makes c.args.pairs c.args.budget)) c.from_residual-in_err-program.result stop c.from_residual-in_err-program.ensures.1
+    stops_if (StopsTask o (Makes c.args.pairs c.args.budget)) c.from_residual-in_err-program.result stop c.from_residual-in_err-program.ensures.1
     (made_stops o c.args.pairs c.args.budget c.as_bytes.result.now made (refusal_of stop) c.in_err-program.ensures.stop)
 
 pub returns-clause-answer : goal.returns-clause-answer

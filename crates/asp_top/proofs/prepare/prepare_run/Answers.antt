@@ -1,12 +1,12 @@
 use Rattle.asp_model.specs.Shapes.{outcome_shape}
-use Rattle.asp_top.specs.Seen.{outside}
-use Rattle.asp_top.specs.Stops.{text_in}
+use Rattle.asp_top.specs.Seen.{outside_between}
+use Rattle.asp_top.specs.Ready.{text_in}
 use Rattle.asp_top.proofs.OutcomeLemmas.{run_is}
 use Rattle.asp_top.proofs.prepare.prepare_run.Goals as goal
 
 pub returns-clause-answer : goal.returns-clause-answer
 returns-clause-answer g c =
-    let o = outside g.S.Source.content g.S.Source.faults c.args.source.now c.program_of.new.source in
+    let o = outside_between g.S.Source.told c.args.source.now c.program_of.new.source in
     let ran = c.in_ok-outcome.ensures in
     let told = c.in_ok-report_for.ensures in
     let p = c.in_ok-report_for.field-0 in

@@ -2,22 +2,21 @@ use Rattle.std.proofs.Common.{sym, subst}
 use Rattle.std.specs.Prelude.{IfOk}
 use Rattle.command_line.specs.declared.task.Task.{Task}
 use Rattle.command_line.specs.Shapes.{task_shape}
-use Rattle.asp_top.specs.Seen.{outside}
-use Rattle.asp_top.specs.Correct.{Answers}
-use Rattle.asp_top.specs.Stops.{text_in}
+use Rattle.asp_top.specs.Seen.{outside_between}
+use Rattle.asp_top.specs.Ready.{IsReady}
 use Rattle.asp_top.proofs.prepare.prepare_task.Goals as goal
 
 pub returns-in-Run-clause-answer : goal.returns-in-Run-clause-answer
 returns-in-Run-clause-answer g c =
-    let o = outside g.S.Source.content g.S.Source.faults c.args.source.now c.prepare_run.new.source in
-    subst (λ (t : Task). IfOk c.prepare_run.result (λ p. Answers o (task_shape t) (text_in p) p.status)) (sym c.in-Run.is) c.prepare_run.ensures.answer
+    let o = outside_between g.S.Source.told c.args.source.now c.prepare_run.new.source in
+    subst (λ (t : Task). IfOk c.prepare_run.result (IsReady o (task_shape t))) (sym c.in-Run.is) c.prepare_run.ensures.answer
 
 pub returns-in-Replay-clause-answer : goal.returns-in-Replay-clause-answer
 returns-in-Replay-clause-answer g c =
-    let o = outside g.S.Source.content g.S.Source.faults c.args.source.now c.prepare_replay.new.source in
-    subst (λ (t : Task). IfOk c.prepare_replay.result (λ p. Answers o (task_shape t) (text_in p) p.status)) (sym c.in-Replay.is) c.prepare_replay.ensures.answer
+    let o = outside_between g.S.Source.told c.args.source.now c.prepare_replay.new.source in
+    subst (λ (t : Task). IfOk c.prepare_replay.result (IsReady o (task_shape t))) (sym c.in-Replay.is) c.prepare_replay.ensures.answer
 
 pub returns-in-Make-clause-answer : goal.returns-in-Make-clause-answer
 returns-in-Make-clause-answer g c =
-    let o = outside g.S.Source.content g.S.Source.faults c.args.source.now c.args.source.now in
-    subst (λ (t : Task). IfOk c.prepare_made.result (λ p. Answers o (task_shape t) (text_in p) p.status)) (sym c.in-Make.is) (c.prepare_made.ensures.answer o)
+    let o = outside_between g.S.Source.told c.args.source.now c.args.source.now in
+    subst (λ (t : Task). IfOk c.prepare_made.result (IsReady o (task_shape t))) (sym c.in-Make.is) (c.prepare_made.ensures.answer o)

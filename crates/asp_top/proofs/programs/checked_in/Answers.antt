@@ -1,7 +1,11 @@
 use Rattle.asp_model.specs.Shapes.{marked_of}
+use Rattle.outcome_laws.proofs.ProgramLaws.{programs_are_readable}
 use Rattle.asp_top.specs.Stops.{StopsAt, syntax_stop, check_stop}
 use Rattle.asp_top.proofs.StopLemmas.{stops_at, check_stops_at, program_is, stops_if}
 use Rattle.asp_top.proofs.programs.checked_in.Goals as goal
+
+pub check-requires : goal.check-requires
+check-requires c = programs_are_readable c.args.bytes.now (marked_of c.in_ok-program.program.root) c.in_ok-program.ensures.program
 
 pub returns-in_err-program-clause-stop : goal.returns-in_err-program-clause-stop
 returns-in_err-program-clause-stop c =

@@ -1,30 +1,32 @@
 use Rattle.std.proofs.Common.{ℕ, List, sym, ap, subst, inl}
 use Rattle.std.specs.Prelude.{string_bytes}
 use Rattle.asp_top.specs.declared.stop.Stop.{Stop}
-use Rattle.asp_top.specs.Seen.{sight, Unread, NoProgram, Unchecked, NoReport, Diverges, fault_line, message_of}
-use Rattle.asp_top.specs.Stops.{ToldOf, refusal_of}
+use Rattle.asp_top.specs.Seen.{sight_between}
+use Rattle.asp_top.specs.Refusals.{Unread, NoProgram, Unchecked, NoReport, Diverges, fault_line, message_of}
+use Rattle.asp_top.specs.Stops.{refusal_of}
+use Rattle.asp_top.specs.Ready.{ToldOf}
 use Rattle.asp_top.proofs.StopLemmas.{if_named, made_told}
 use Rattle.asp_top.proofs.writing.refuse.Goals as goal
 
 pub returns-in-Usage : goal.returns-in-Usage
 returns-in-Usage g c =
-    let s = sight g.E.Sink.bytes g.E.Sink.faults c.args.err.now c.tell.new.err in
+    let s = sight_between g.E.Sink.told c.args.err.now c.tell.new.err in
     subst (λ (stop : Stop). ToldOf (refusal_of stop) s c.tell.result) (sym c.in-Usage.is) (inl c.tell.ensures)
 
 pub returns-in-Unread : goal.returns-in-Unread
 returns-in-Unread g c =
-    let s = sight g.E.Sink.bytes g.E.Sink.faults c.args.err.now c.tell_made.new.err in
+    let s = sight_between g.E.Sink.told c.args.err.now c.tell_made.new.err in
     subst (λ (stop : Stop). ToldOf (refusal_of stop) s c.tell_made.result) (sym c.in-Unread.is)
     (made_told string_bytes (Unread c.in-Unread.name.now) c.unread_message.result s c.tell_made.result c.unread_message.ensures c.tell_made.ensures.made c.tell_made.ensures.no_memory)
 
 pub returns-in-LongProgram : goal.returns-in-LongProgram
 returns-in-LongProgram g c =
-    let s = sight g.E.Sink.bytes g.E.Sink.faults c.args.err.now c.tell-in-LongProgram.new.err in
+    let s = sight_between g.E.Sink.told c.args.err.now c.tell-in-LongProgram.new.err in
     subst (λ (stop : Stop). ToldOf (refusal_of stop) s c.tell-in-LongProgram.result) (sym c.in-LongProgram.is) (inl c.tell-in-LongProgram.ensures)
 
 pub returns-in-Syntax : goal.returns-in-Syntax
 returns-in-Syntax g c =
-    let s = sight g.E.Sink.bytes g.E.Sink.faults c.args.err.now c.tell_made-in-Syntax.new.err in
+    let s = sight_between g.E.Sink.told c.args.err.now c.tell_made-in-Syntax.new.err in
     let f = c.in-Syntax.fault in
     let made = if_named string_bytes c.fault_message-message.result (fault_line c.kind_text.result.now f.at) (message_of (NoProgram f)) (ap (λ (k : List ℕ). fault_line k f.at) c.kind_text.ensures) c.fault_message-message.ensures in
     subst (λ (stop : Stop). ToldOf (refusal_of stop) s c.tell_made-in-Syntax.result) (sym c.in-Syntax.is)
@@ -32,7 +34,7 @@ returns-in-Syntax g c =
 
 pub returns-in-Check : goal.returns-in-Check
 returns-in-Check g c =
-    let s = sight g.E.Sink.bytes g.E.Sink.faults c.args.err.now c.tell_made-in-Check.new.err in
+    let s = sight_between g.E.Sink.told c.args.err.now c.tell_made-in-Check.new.err in
     let f = c.in-Check.fault in
     let made = if_named string_bytes c.fault_message-message-in-Check.result (fault_line c.check_text.result.now f.at) (message_of (Unchecked f)) (ap (λ (k : List ℕ). fault_line k f.at) c.check_text.ensures) c.fault_message-message-in-Check.ensures in
     subst (λ (stop : Stop). ToldOf (refusal_of stop) s c.tell_made-in-Check.result) (sym c.in-Check.is)
@@ -40,17 +42,17 @@ returns-in-Check g c =
 
 pub returns-in-LongReport : goal.returns-in-LongReport
 returns-in-LongReport g c =
-    let s = sight g.E.Sink.bytes g.E.Sink.faults c.args.err.now c.tell-in-LongReport.new.err in
+    let s = sight_between g.E.Sink.told c.args.err.now c.tell-in-LongReport.new.err in
     subst (λ (stop : Stop). ToldOf (refusal_of stop) s c.tell-in-LongReport.result) (sym c.in-LongReport.is) (inl c.tell-in-LongReport.ensures)
 
 pub returns-in-BadLine : goal.returns-in-BadLine
 returns-in-BadLine g c =
-    let s = sight g.E.Sink.bytes g.E.Sink.faults c.args.err.now c.tell_made-in-BadLine.new.err in
+    let s = sight_between g.E.Sink.told c.args.err.now c.tell_made-in-BadLine.new.err in
     subst (λ (stop : Stop). ToldOf (refusal_of stop) s c.tell_made-in-BadLine.result) (sym c.in-BadLine.is)
     (made_told string_bytes (NoReport c.in-BadLine.line) c.bad_line_message.result s c.tell_made-in-BadLine.result c.bad_line_message.ensures c.tell_made-in-BadLine.ensures.made c.tell_made-in-BadLine.ensures.no_memory)
 
 pub returns-in-Diverged : goal.returns-in-Diverged
 returns-in-Diverged g c =
-    let s = sight g.E.Sink.bytes g.E.Sink.faults c.args.err.now c.tell_made-in-Diverged.new.err in
+    let s = sight_between g.E.Sink.told c.args.err.now c.tell_made-in-Diverged.new.err in
     subst (λ (stop : Stop). ToldOf (refusal_of stop) s c.tell_made-in-Diverged.result) (sym c.in-Diverged.is)
     (made_told string_bytes (Diverges c.in-Diverged.activity) c.diverges_message.result s c.tell_made-in-Diverged.result c.diverges_message.ensures c.tell_made-in-Diverged.ensures.made c.tell_made-in-Diverged.ensures.no_memory)

@@ -6,6 +6,6 @@ use Rattle.asp_top.proofs.writing.write_all.Given as goal
 
 abbrev pub invariant-loop-piece : goal.invariant-loop-piece
 invariant-loop-piece g l = record {
-  told : Appends (g.O.Sink.bytes l.fn.out) (g.O.Sink.bytes l.out) (concat (map string_bytes (take l.piece-index l.pieces)));
-  later : g.O.Sink.faults l.fn.out ≤ g.O.Sink.faults l.out;
+  told : Appends (g.O.Sink.told l.fn.out).bytes (g.O.Sink.told l.out).bytes (concat (map string_bytes (take l.piece-index l.pieces)));
+  later : (g.O.Sink.told l.fn.out).faults ≤ (g.O.Sink.told l.out).faults;
 }

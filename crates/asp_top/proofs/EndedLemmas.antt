@@ -1,0 +1,28 @@
+-- Two calls that ended.
+use Rattle.std.proofs.Common.{◌≡◌, List, ℕ, sym, subst}
+use Rattle.asp_model.specs.Term.{Tree}
+use Rattle.asp_model.specs.Marked.{plain}
+use Rattle.asp_model.specs.Step.{ListsShape}
+use Rattle.command_line.specs.Task.{Runs}
+use Rattle.outcome_laws.specs.Outcomes.{IsEndReport}
+use Rattle.outcome_laws.proofs.ReportLaws.{end_reports_agree}
+use Rattle.asp_top.specs.Seen.{Outside}
+use Rattle.asp_top.specs.Correct.{Answers, end_of}
+use Rattle.asp_top.specs.Ended.{IsEnded, EndedRunsPrintTheSame}
+use Rattle.asp_top.proofs.StatusLemmas.{stuck_at}
+
+-- the report of a run that has ended
+end_report : (o : Outside) (file : List ℕ) (budget : ℕ) (report : List ℕ) (status : ℕ) (a : Answers o (Runs file budget) report status) → IsEnded status → IsEndReport (plain a.0.program) a.0.lists report
+end_report o file budget report status a h = record {
+  counts = a.0.counts;
+  read = a.2;
+  fits = a.0.fits;
+  same = a.1.0;
+  stuck = stuck_at (end_of a.0) status a.1.1 h;
+}
+
+pub ended_runs_print_the_same : EndedRunsPrintTheSame
+ended_runs_print_the_same o p file name budget limit report other status code a b ended stopped same lists =
+    let first : IsEndReport (plain b.0.program) b.0.lists report =
+    subst (λ (t : Tree). IsEndReport t b.0.lists report) same (subst (λ (l : ListsShape). IsEndReport (plain a.0.program) l report) lists (end_report o file budget report status a ended)) in
+    end_reports_agree (plain b.0.program) b.0.lists report other first (end_report p name limit other code b stopped)

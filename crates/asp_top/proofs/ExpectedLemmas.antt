@@ -1,0 +1,252 @@
+-- Which status is to come.
+use Rattle.std.proofs.Common.{◌≡◌, ℕ, ◌<◌, ◌≤◌, List, Option, Some, None, length, sym, ap, subst, ◌∙◌, ◌⊎◌, inl, inr, arith}
+use Rattle.asp_model.specs.declared.limits.TheConstants.{MOST_PROGRAM_BYTES, MOST_REPORT_BYTES}
+use Rattle.asp_model.specs.Marked.{Marked, plain}
+use Rattle.asp_model.specs.Step.{ListsShape}
+use Rattle.asp_model.specs.Replay.{CountsShape, Fits}
+use Rattle.asp_model.specs.ReadReport.{read_report, Reads, BadLine}
+use Rattle.asp_grammar.specs.Programs.{IsProgramText}
+use Rattle.asp_check.specs.Faults.{IsChecked}
+use Rattle.asp_edge.specs.Causes.{IsContent}
+use Rattle.command_line.specs.Task.{TaskShape, Runs, Checks, Replays, Makes, task_of}
+use Rattle.asp_top.specs.Seen.{Call, Outside, Rises, IsUntouched, Takes, IsLong}
+use Rattle.asp_top.specs.Programs.{IsFile, IsText, IsProgramOf, HasProgram, HasReport}
+use Rattle.asp_top.specs.Correct.{Answers, IsReported}
+use Rattle.asp_top.specs.Refusals.{Refusal, Usage, Unread, LongProgram, NoProgram, Unchecked, LongReport, NoReport, Diverges, NoMemory, status_of_refusal, message_of}
+use Rattle.asp_top.specs.Endings.{Ends, Written, Refused, Unheard, Unwritten, IsCause, OfWords, OfMemory, OfTask, HoldsFor, IsUnread, OfProgram, OfReport, NamesProgram, NamesReport}
+use Rattle.asp_top.specs.Statuses.{CouldNot}
+use Rattle.asp_top.specs.Expected.{IsToldText, MayReplay, MayAnswer, AsksUnfit, AsksNoReplay, RefusesReport, Completes, RefusesProgram, RefusesPrograms, RefusesReports, IsUsageEnd}
+use Rattle.asp_top.proofs.StatusLemmas.{answers_reported, same_task}
+
+-- a file that could not be read is a fault of the source
+unread_for : (o : Outside) (task : TaskShape) (name : List ℕ) → IsUnread o task name → Rises o.faults
+unread_for o task name (OfProgram n rises) = rises
+unread_for o task name (OfReport program given n rises) = rises
+
+-- What is told is one text
+
+too_long : (content : Option (List ℕ)) (bytes : List ℕ) (most : ℕ) → content ≡ Some bytes → length bytes ≤ most → IsLong most content → ⊥
+too_long content bytes most e h l = let beyond : most < length bytes = subst (IsLong most) e l in omega arith
+
+same_file : (o : Outside) (name : List ℕ) (most : ℕ) (bytes other : List ℕ) → o.content name ≡ Some bytes → IsFile o name most other → other ≡ bytes
+same_file o name most bytes other e f = subst (λ (c : Option (List ℕ)). IsContent c other) e f.told
+
+same_text : (o : Outside) (task : TaskShape) (bytes other : List ℕ) → IsToldText o task bytes → IsText o task other → other ≡ bytes
+same_text o (Runs file budget) bytes other e f = same_file o file MOST_PROGRAM_BYTES bytes other e.0 f
+same_text o (Checks file) bytes other e f = same_file o file MOST_PROGRAM_BYTES bytes other e.0 f
+same_text o (Replays file name) bytes other e f = same_file o file MOST_PROGRAM_BYTES bytes other e.0 f
+same_text o (Makes pairs budget) bytes other e f = f ∙ sym e
+
+-- A program that a call may answer
+
+-- no file of the program is too long
+program_fits : (o : Outside) (task : TaskShape) (bytes name : List ℕ) → IsToldText o task bytes → NamesProgram task name → IsLong MOST_PROGRAM_BYTES (o.content name) → ⊥
+program_fits o (Runs file budget) bytes name e n l = too_long (o.content name) bytes MOST_PROGRAM_BYTES (ap o.content (sym n) ∙ e.0) e.1 l
+program_fits o (Checks file) bytes name e n l = too_long (o.content name) bytes MOST_PROGRAM_BYTES (ap o.content (sym n) ∙ e.0) e.1 l
+program_fits o (Replays file report) bytes name e n l = too_long (o.content name) bytes MOST_PROGRAM_BYTES (ap o.content (sym n) ∙ e.0) e.1 l
+program_fits o (Makes pairs budget) bytes name e n l = n
+
+report_fits : (o : Outside) (task : TaskShape) (program : Marked) (name : List ℕ) → MayReplay o task program → NamesReport task name → IsLong MOST_REPORT_BYTES (o.content name) → ⊥
+report_fits o (Runs file budget) program name m n l = n
+report_fits o (Checks file) program name m n l = n
+report_fits o (Replays file report) program name m n l = too_long (o.content name) m.0 MOST_REPORT_BYTES (ap o.content (sym n) ∙ m.1.0) m.1.1 l
+report_fits o (Makes pairs budget) program name m n l = n
+
+-- the bytes of a told report are read as the lists and counts that fit
+report_reads : (o : Outside) (task : TaskShape) (program : Marked) (name bytes : List ℕ) (line : ℕ) → MayReplay o task program → NamesReport task name → IsFile o name MOST_REPORT_BYTES bytes → read_report bytes ≡ BadLine line → ⊥
+report_reads o (Runs file budget) program name bytes line m n f e = n
+report_reads o (Checks file) program name bytes line m n f e = n
+report_reads o (Replays file report) program name bytes line m n f e =
+    let same : bytes ≡ m.0 = same_file o name MOST_REPORT_BYTES m.0 bytes (ap o.content (sym n) ∙ m.1.0) f in
+    let no : Reads m.2.lists m.2.counts ≡ BadLine line = sym m.2.reads ∙ ap read_report (sym same) ∙ e in
+    absurd cc
+report_reads o (Makes pairs budget) program name bytes line m n f e = n
+
+one_reading : (program : Marked) (lists others : ListsShape) (counts more : CountsShape) → Reads lists counts ≡ Reads others more → Fits (plain program) lists counts → Fits (plain program) others more
+one_reading program lists others counts more e fits =
+    let l : lists ≡ others = cc in
+    let c : counts ≡ more = cc in
+    subst (λ (x : ListsShape). Fits (plain program) x more) l (subst (λ (x : CountsShape). Fits (plain program) lists x) c fits)
+
+report_replays : (o : Outside) (task : TaskShape) (program : Marked) (name : List ℕ) (lists : ListsShape) (counts : CountsShape) → MayReplay o task program → NamesReport task name → HasReport o name lists counts → (Fits (plain program) lists counts → ⊥) → ⊥
+report_replays o (Runs file budget) program name lists counts m n r unfit = n
+report_replays o (Checks file) program name lists counts m n r unfit = n
+report_replays o (Replays file report) program name lists counts m n r unfit =
+    let same : r.bytes ≡ m.0 = same_file o name MOST_REPORT_BYTES m.0 r.bytes (ap o.content (sym n) ∙ m.1.0) r.file in
+    let e : Reads m.2.lists m.2.counts ≡ Reads lists counts = sym m.2.reads ∙ ap read_report (sym same) ∙ r.reads in
+    unfit (one_reading program m.2.lists lists m.2.counts counts e m.2.fits)
+report_replays o (Makes pairs budget) program name lists counts m n r unfit = n
+
+module _ (c : Call) (m : MayAnswer c) where
+  reads_as : (other : List ℕ) → IsText c.outside m.task other → IsProgramText other m.program
+  reads_as other t = subst (λ (l : List ℕ). IsProgramText l m.program) (sym (same_text c.outside m.task m.bytes other m.told t)) m.is.is_read
+
+  same_program : (program : Marked) → HasProgram c.outside m.task program → program ≡ m.program
+  same_program program h = h.is.only m.program (reads_as h.bytes h.text)
+
+  nothing_holds : (r : Refusal) (status : ℕ) → HoldsFor c.outside m.task r → status ≡ status_of_refusal r → status ≡ 8
+  nothing_holds Usage status h e = absurd h
+  nothing_holds (Unread name) status (OfProgram n rises) e = absurd (m.heard rises)
+  nothing_holds (Unread name) status (OfReport program given n rises) e = absurd (m.heard rises)
+  nothing_holds LongProgram status h e = absurd (program_fits c.outside m.task m.bytes h.name m.told h.named h.long)
+  nothing_holds (NoProgram fault) status h e = absurd (h.2.none m.program (reads_as h.0 h.1))
+  nothing_holds (Unchecked fault) status h e = absurd (h.2.none m.program (reads_as h.0 h.1) m.is.checked)
+  nothing_holds LongReport status h e = absurd (report_fits c.outside m.task m.program h.name m.replays h.named h.long)
+  nothing_holds (NoReport line) status h e = absurd (report_reads c.outside m.task m.program h.name h.bytes line m.replays h.named h.file h.reads)
+  nothing_holds (Diverges activity) status h e =
+      absurd (report_replays c.outside m.task m.program h.name h.lists h.counts m.replays h.named h.old (subst (λ (p : Marked). Fits (plain p) h.lists h.counts → ⊥) (same_program h.program h.given) h.unfit))
+  nothing_holds NoMemory status h e = e
+
+  refused_only : (r : Refusal) (status : ℕ) → IsCause c r → status ≡ status_of_refusal r → status ≡ 8
+  refused_only r status (OfWords u n) e = let no : None ≡ Some m.task = sym n ∙ m.asked in absurd cc
+  refused_only r status (OfMemory u) e = e ∙ ap status_of_refusal u
+  refused_only r status (OfTask task asked h) e = nothing_holds r status (subst (λ (t : TaskShape). HoldsFor c.outside t r) (same_task c.words task m.task asked m.asked) h) e
+
+  completes_by : (status : ℕ) → Ends c status → IsReported status ⊎ (status ≡ 8)
+  completes_by status (Written text a took still) = inl (answers_reported c.outside a.task text status a.answer)
+  completes_by status (Refused r h u t e) = inr (refused_only r status h e)
+  completes_by status (Unheard r h u t e) = absurd (m.err_takes t.0)
+  completes_by status (Unwritten text other a took told e) = absurd (m.out_takes took.0)
+
+pub completes : {c : Call} {status : ℕ} → Ends c status → Completes c status
+completes {c} {status} ends m = completes_by c m status ends
+
+-- Words that are refused
+
+usage_end : (c : Call) (r : Refusal) (status : ℕ) → task_of c.words ≡ None → IsCause c r → status ≡ status_of_refusal r → IsUsageEnd status
+usage_end c r status none (OfWords u n) e = inl (e ∙ ap status_of_refusal u)
+usage_end c r status none (OfMemory u) e = inr (inr (e ∙ ap status_of_refusal u))
+usage_end c r status none (OfTask task o h) e = let no : None ≡ Some task = sym none ∙ o in absurd cc
+
+pub refuses_words : {c : Call} {status : ℕ} → Ends c status → task_of c.words ≡ None → IsUsageEnd status
+refuses_words (Written text a took still) none = let no : None ≡ Some a.task = sym none ∙ a.asked in absurd cc
+refuses_words {c} {status} (Refused r h u t e) none = usage_end c r status none h e
+refuses_words (Unheard r holds u t e) none = inr (inl e)
+refuses_words (Unwritten text other a took told e) none = inr (inl e)
+
+-- Programs that are refused
+
+-- the program that was answered for
+given_in : (o : Outside) (task : TaskShape) (text : List ℕ) (status : ℕ) → Answers o task text status → (program : Marked) × HasProgram o task program
+given_in o (Runs file budget) text status a = (a.0.program, a.0.given)
+given_in o (Checks file) text status a = (a.0, a.1)
+given_in o (Replays file name) text status a = (a.0.program, a.0.given)
+given_in o (Makes pairs budget) text status a = (a.0.program, a.0.given)
+
+-- a file whose bytes are too long, or no checked program, is none
+not_given : (o : Outside) (file bytes other : List ℕ) (program : Marked) → o.content file ≡ Some bytes → (MOST_PROGRAM_BYTES < length bytes) ⊎ ((program : Marked) → IsProgramText bytes program → IsChecked program → ⊥)
+    → IsFile o file MOST_PROGRAM_BYTES other → IsProgramOf other program → ⊥
+not_given o file bytes other program told (inl long) f is =
+    let same : other ≡ bytes = same_file o file MOST_PROGRAM_BYTES bytes other told f in
+    let short : length bytes ≤ MOST_PROGRAM_BYTES = subst (λ (l : List ℕ). length l ≤ MOST_PROGRAM_BYTES) same f.within in
+    omega (arith, long, short)
+not_given o file bytes other program told (inr none) f is =
+    let same : other ≡ bytes = same_file o file MOST_PROGRAM_BYTES bytes other told f in
+    none program (subst (λ (l : List ℕ). IsProgramText l program) same is.is_read) is.checked
+
+module _ (c : Call) (a : AsksUnfit c) where
+  never_has : (task : TaskShape) → NamesProgram task a.name → (program : Marked) → HasProgram c.outside task program → ⊥
+  never_has (Runs file budget) n program h = not_given c.outside file a.bytes h.bytes program (ap c.outside.content n ∙ a.told) a.unfit h.text h.is
+  never_has (Checks file) n program h = not_given c.outside file a.bytes h.bytes program (ap c.outside.content n ∙ a.told) a.unfit h.text h.is
+  never_has (Replays file report) n program h = not_given c.outside file a.bytes h.bytes program (ap c.outside.content n ∙ a.told) a.unfit h.text h.is
+  never_has (Makes pairs budget) n program h = n
+
+  unfit_end : (r : Refusal) (status : ℕ) → HoldsFor c.outside a.task r → status ≡ status_of_refusal r → RefusesProgram c status ⊎ CouldNot c status
+  unfit_end Usage status h e = absurd h
+  unfit_end (Unread name) status h e = inr (inl (e, unread_for c.outside a.task name h))
+  unfit_end LongProgram status h e = inl (e, inl (OfTask a.task a.asked h))
+  unfit_end (NoProgram fault) status h e = inl (e, inr (inl (fault, OfTask a.task a.asked h)))
+  unfit_end (Unchecked fault) status h e = inl (e, inr (inr (fault, OfTask a.task a.asked h)))
+  unfit_end LongReport status h e = absurd (never_has a.task a.named h.program h.given)
+  unfit_end (NoReport line) status h e = absurd (never_has a.task a.named h.program h.given)
+  unfit_end (Diverges activity) status h e = absurd (never_has a.task a.named h.program h.given)
+  unfit_end NoMemory status h e = inr (inr (inr e))
+
+  unfit_refused : (r : Refusal) (status : ℕ) → IsCause c r → status ≡ status_of_refusal r → RefusesProgram c status ⊎ CouldNot c status
+  unfit_refused r status (OfWords u n) e = let no : None ≡ Some a.task = sym n ∙ a.asked in absurd cc
+  unfit_refused r status (OfMemory u) e = inr (inr (inr (e ∙ ap status_of_refusal u)))
+  unfit_refused r status (OfTask task asked h) e = unfit_end r status (subst (λ (t : TaskShape). HoldsFor c.outside t r) (same_task c.words task a.task asked a.asked) h) e
+
+  refused_program : (status : ℕ) → Ends c status → RefusesProgram c status ⊎ CouldNot c status
+  refused_program status (Written text w took still) =
+      let g = given_in c.outside a.task text status (subst (λ (t : TaskShape). Answers c.outside t text status) (same_task c.words w.task a.task w.asked a.asked) w.answer) in
+      absurd (never_has a.task a.named g.0 g.1)
+  refused_program status (Refused r h u t e) = unfit_refused r status h e
+  refused_program status (Unheard r h u t e) = inr (inr (inl (e, inr t.0)))
+  refused_program status (Unwritten text other w took told e) = inr (inr (inl (e, inl took.0)))
+
+pub refuses_program : {c : Call} {status : ℕ} → Ends c status → RefusesPrograms c status
+refuses_program {c} {status} ends a = refused_program c a status ends
+
+-- Reports that are refused
+
+module _ (c : Call) (a : AsksNoReplay c) where
+  abbrev End : ℕ → Type 0
+  End status = RefusesReport c a status ⊎ RefusesProgram c status ⊎ CouldNot c status
+
+  abbrev AsksReplay : TaskShape
+  AsksReplay = Replays a.file a.name
+
+  never_replays : (program : Marked) (lists : ListsShape) (counts : CountsShape) → HasProgram c.outside AsksReplay program → HasReport c.outside a.name lists counts → Fits (plain program) lists counts → ⊥
+  never_replays program lists counts given r fits =
+      let same : r.bytes ≡ a.report = same_file c.outside a.name MOST_REPORT_BYTES a.report r.bytes a.told r.file in
+      elim a.unfit [
+        | inl long ↦ let short : length a.report ≤ MOST_REPORT_BYTES = subst (λ (l : List ℕ). length l ≤ MOST_REPORT_BYTES) same r.file.within in omega (arith, long, short)
+        | inr none ↦ none program given (record { lists = lists; counts = counts; reads = ap read_report (sym same) ∙ r.reads; fits = fits })
+      ]
+
+  told_as : (name other : List ℕ) → a.name ≡ name → IsFile c.outside name MOST_REPORT_BYTES other → other ≡ a.report
+  told_as name other n f = same_file c.outside name MOST_REPORT_BYTES a.report other (ap c.outside.content (sym n) ∙ a.told) f
+
+  -- the refusals that a task may hold, each with what was taken
+  no_replay_end : (r : Refusal) (status : ℕ) → HoldsFor c.outside AsksReplay r → IsUntouched c.out → Takes c.err (message_of r) → status ≡ status_of_refusal r → End status
+  no_replay_end Usage status h u t e = absurd h
+  no_replay_end (Unread name) status h u t e = inr (inr (inl (e, unread_for c.outside AsksReplay name h)))
+  no_replay_end LongProgram status h u t e = inr (inl (e, inl (OfTask AsksReplay a.asked h)))
+  no_replay_end (NoProgram fault) status h u t e = inr (inl (e, inr (inl (fault, OfTask AsksReplay a.asked h))))
+  no_replay_end (Unchecked fault) status h u t e = inr (inl (e, inr (inr (fault, OfTask AsksReplay a.asked h))))
+  no_replay_end LongReport status h u t e = inl (record {
+    program = h.program;
+    given = h.given;
+    refusal = LongReport;
+    cause = subst (IsLong MOST_REPORT_BYTES) (ap c.outside.content (sym h.named) ∙ a.told) h.long;
+    told = t;
+    untouched = u;
+    answered = e;
+  })
+  no_replay_end (NoReport line) status h u t e = inl (record {
+    program = h.program;
+    given = h.given;
+    refusal = NoReport line;
+    cause = ap read_report (sym (told_as h.name h.bytes h.named h.file)) ∙ h.reads;
+    told = t;
+    untouched = u;
+    answered = e;
+  })
+  no_replay_end (Diverges activity) status h u t e = inl (record {
+    program = h.program;
+    given = h.given;
+    refusal = Diverges activity;
+    cause = (h.lists, h.counts, ap read_report (sym (told_as h.name h.old.bytes h.named h.old.file)) ∙ h.old.reads, h.least);
+    told = t;
+    untouched = u;
+    answered = e;
+  })
+  no_replay_end NoMemory status h u t e = inr (inr (inr (inr e)))
+
+  no_replay_refused : (r : Refusal) (status : ℕ) → IsCause c r → IsUntouched c.out → Takes c.err (message_of r) → status ≡ status_of_refusal r → End status
+  no_replay_refused r status (OfWords x n) u t e = let no : None ≡ Some AsksReplay = sym n ∙ a.asked in absurd cc
+  no_replay_refused r status (OfMemory x) u t e = inr (inr (inr (inr (e ∙ ap status_of_refusal x))))
+  no_replay_refused r status (OfTask task asked h) u t e =
+      no_replay_end r status (subst (λ (k : TaskShape). HoldsFor c.outside k r) (same_task c.words task AsksReplay asked a.asked) h) u t e
+
+  refused_report : (status : ℕ) → Ends c status → End status
+  refused_report status (Written text w took still) =
+      let answer : Answers c.outside AsksReplay text status = subst (λ (t : TaskShape). Answers c.outside t text status) (same_task c.words w.task AsksReplay w.asked a.asked) w.answer in
+      absurd (never_replays answer.0.program answer.0.lists answer.0.counts answer.0.given answer.2 answer.0.fits)
+  refused_report status (Refused r h u t e) = no_replay_refused r status h u t e
+  refused_report status (Unheard r h u t e) = inr (inr (inr (inl (e, inr t.0))))
+  refused_report status (Unwritten text other w took told e) = inr (inr (inr (inl (e, inl took.0))))
+
+pub refuses_report : {c : Call} {status : ℕ} → Ends c status → RefusesReports c status
+refuses_report {c} {status} ends a = refused_report c a status ends

@@ -1,0 +1,76 @@
+-- Why a call writes no text, with the status and the message of each refusal.
+use Rattle.std.specs.Prelude.{ℕ, List, ◌++◌, codes}
+use Rattle.std.specs.Fmt.{decimal}
+use Rattle.asp_model.specs.Names.{Name}
+use Rattle.asp_model.specs.Report.{name_text, with_feed}
+use Rattle.asp_syntax.specs.declared.error.SyntaxKind.{SyntaxKind}
+use Rattle.asp_syntax.specs.declared.error.SyntaxKind.TheVariants.{BadByte, BadNumber, Unexpected, TooDeep, NotAField, NotYet}
+use Rattle.asp_syntax.specs.declared.error.SyntaxFault.{SyntaxFault}
+use Rattle.asp_check.specs.declared.fault.CheckKind.{CheckKind}
+use Rattle.asp_check.specs.declared.fault.CheckKind.TheVariants.{Unbound, DoubleLabel, DoubleParameter, TooManyParameters, Arity, ServiceArity}
+use Rattle.asp_check.specs.declared.fault.CheckFault.{CheckFault}
+
+pub data Refusal : Type 0 where
+  Usage : Refusal
+  Unread : (name : List ℕ) → Refusal
+  LongProgram : Refusal
+  NoProgram : (fault : SyntaxFault) → Refusal
+  Unchecked : (fault : CheckFault) → Refusal
+  LongReport : Refusal
+  -- by its first line that cannot stand in its place
+  NoReport : (line : ℕ) → Refusal
+  Diverges : (activity : Name) → Refusal
+  NoMemory : Refusal
+
+abbrev pub status_of_refusal : Refusal → ℕ
+status_of_refusal Usage = 2
+status_of_refusal (Unread name) = 6
+status_of_refusal LongProgram = 3
+status_of_refusal (NoProgram fault) = 3
+status_of_refusal (Unchecked fault) = 3
+status_of_refusal LongReport = 9
+status_of_refusal (NoReport line) = 9
+status_of_refusal (Diverges activity) = 9
+status_of_refusal NoMemory = 8
+
+abbrev pub kind_text : SyntaxKind → List ℕ
+kind_text BadByte = codes "BadByte"
+kind_text BadNumber = codes "BadNumber"
+kind_text Unexpected = codes "Unexpected"
+kind_text TooDeep = codes "TooDeep"
+kind_text NotAField = codes "NotAField"
+kind_text NotYet = codes "NotYet"
+
+abbrev pub check_text : CheckKind → List ℕ
+check_text Unbound = codes "Unbound"
+check_text DoubleLabel = codes "DoubleLabel"
+check_text DoubleParameter = codes "DoubleParameter"
+check_text TooManyParameters = codes "TooManyParameters"
+check_text Arity = codes "Arity"
+check_text ServiceArity = codes "ServiceArity"
+
+-- a kind of fault, and its place
+abbrev pub fault_line : List ℕ → ℕ → List ℕ
+fault_line kind at = with_feed (codes "asp: program: " ++ kind ++ codes " at " ++ decimal at)
+
+abbrev pub usage_line : List ℕ
+usage_line = with_feed (
+    codes "asp: usage: asp FILE [--workers N] [--strategy S] [--update L=S,..] [--budget N] "
+    ++ codes "[--state D] [--check] [--replay REPORT], or asp --make N [--workers N] "
+    ++ codes "[--strategy S] [--update L=S,..] [--budget N]"
+    )
+
+abbrev pub message_of : Refusal → List ℕ
+message_of Usage = usage_line
+message_of (Unread name) = with_feed (codes "asp: cannot read " ++ name)
+message_of LongProgram = with_feed (codes "asp: program: longer than 1048576 bytes")
+message_of (NoProgram fault) = fault_line (kind_text fault.kind) fault.at
+message_of (Unchecked fault) = fault_line (check_text fault.kind) fault.at
+message_of LongReport = with_feed (codes "asp: replay: longer than 16777216 bytes")
+message_of (NoReport line) = with_feed (codes "asp: replay: line " ++ decimal line)
+message_of (Diverges activity) =
+    with_feed (codes "asp: replay: " ++ name_text activity ++ codes " diverges")
+message_of NoMemory = with_feed (codes "asp: no memory")
+
+abbrev pub write_message : List ℕ
+write_message = with_feed (codes "asp: cannot write")
