@@ -2,6 +2,7 @@ pub mod JournalLemmas
 pub mod LocalLemmas
 pub mod EdgeLemmas
 pub mod CountLemmas
+pub mod BudgetLemmas
 pub mod GrowLemmas
 pub mod KnownLemmas
 pub mod BoundLemmas

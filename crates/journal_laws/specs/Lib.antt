@@ -1,3 +1,4 @@
 -- in reading order
 pub mod Entries
+pub mod Budgets
 pub mod EdgesKept

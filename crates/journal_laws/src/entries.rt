@@ -1,5 +1,6 @@
 //! The entries of a lawful journal are steps and deliveries.
 
+ghost use Rattle.journal_laws.specs.Budgets.{BudgetsAreKept};
 ghost use Rattle.journal_laws.specs.Entries.{EntriesKeepClosed, EntriesKeepSound, JournalsReach, StepsAreLocal};
 
 /// The run of a lawful journal is reached by steps and deliveries.
@@ -21,4 +22,9 @@ pub fn entries_keep_closed()
 /// it has to answer, nor how often it has sent and created.
 pub fn steps_are_local()
     ensures { StepsAreLocal }
+{}
+
+/// The counts, what is left, and what is granted to those who are out sum to the budget.
+pub fn budgets_are_kept()
+    ensures { BudgetsAreKept }
 {}

@@ -8,4 +8,6 @@ mod entries;
 pub use edges::{
     deliveries_update, edges_are_bounded, edges_are_distinct, edges_are_known, parcels_hold_less,
 };
-pub use entries::{entries_keep_closed, entries_keep_sound, journals_reach, steps_are_local};
+pub use entries::{
+    budgets_are_kept, entries_keep_closed, entries_keep_sound, journals_reach, steps_are_local,
+};

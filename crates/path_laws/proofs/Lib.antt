@@ -37,5 +37,4 @@ pub mod MatchLemmas
 pub mod StateLemmas
 pub mod OutcomeLemmas
 pub mod ReplayLemmas
-pub mod JournalLemmas
 pub mod AddressLemmas

@@ -12,10 +12,11 @@ use Rattle.laws.specs.Reached.{IsReached, RunsTo}
 use Rattle.laws.proofs.JoinLaws.{joined_fits, stuck_is_joined}
 use Rattle.laws.proofs.SenderLemmas.{one_sender_bounds, one_sender_ends}
 use Rattle.laws.proofs.ReplayLemmas.{runs_replay}
+use Rattle.journal_laws.proofs.JournalLemmas.{journals_reach}
 use Rattle.paths.specs.Agree.{Agrees}
 use Rattle.paths.specs.Outcomes.{whole_outcome_of}
 use Rattle.path_laws.specs.Whole.{IsWhole}
-use Rattle.path_laws.specs.Correct.{IsReplayed, ReachedAreReplayed, ReachedJoin, OneSenderIsEnough}
+use Rattle.path_laws.specs.Correct.{IsReplayed, ReachedAreReplayed, JournalsAreReplayed, ReachedJoin, OneSenderIsEnough}
 use Rattle.path_laws.proofs.EquivalenceLemmas.{agrees_itself, agrees_back, agrees_then}
 use Rattle.path_laws.proofs.WholeLemmas.{start_is_whole}
 use Rattle.path_laws.proofs.FollowLemmas.{moves_are_followed}
@@ -74,6 +75,9 @@ module _ (program : Tree) (c : Configuration) (m : Mirrored program c) where
 
 pub reached_are_replayed : ReachedAreReplayed
 reached_are_replayed program c none reached = let m = mirrored program c none reached in subst (IsReplayed program c) (replay_is program c m) (end_replayed program c m)
+
+pub journals_are_replayed : JournalsAreReplayed
+journals_are_replayed program budget journal s none e = reached_are_replayed program s.configuration none (journals_reach program budget journal s e)
 
 pub reached_join : ReachedJoin
 reached_join program c d none reached other compatible =

@@ -29,10 +29,11 @@ abbrev pub ReachedAreReplayed : Type 0
 ReachedAreReplayed = (program : Tree) (c : Configuration) → locations program ≡ []
     → IsReached program c → IsReplayed program c (replay program (lists_of c) (counts_of c))
 
--- and each lawful journal leads to what is reached
-abbrev pub JournalsReach : Type 0
-JournalsReach = (program : Tree) (budget : ℕ) (journal : List EntryShape) (s : RunShape)
-    → run_of program budget journal ≡ Some s → IsReached program s.configuration
+-- and so what a lawful journal of leases and deliveries leaves
+abbrev pub JournalsAreReplayed : Type 0
+JournalsAreReplayed = (program : Tree) (budget : ℕ) (journal : List EntryShape) (s : RunShape)
+    → locations program ≡ [] → run_of program budget journal ≡ Some s → let c : Configuration = s.configuration in
+    IsReplayed program c (replay program (lists_of c) (counts_of c))
 
 -- two with compatible lists: the joined lists and counts fit, and one that is stuck has them
 abbrev pub ReachedJoin : Type 0

@@ -1,6 +1,6 @@
 //! The central theorem, for whatever steps and deliveries reach, and for lawful journals.
 
-ghost use Rattle.path_laws.specs.Correct.{JournalsReach, OneSenderIsEnough, ReachedAreReplayed, ReachedJoin};
+ghost use Rattle.path_laws.specs.Correct.{JournalsAreReplayed, OneSenderIsEnough, ReachedAreReplayed, ReachedJoin};
 
 /// Whatever steps and deliveries reach agrees with the replay of its own lists and counts, which
 /// fit; with equal statuses, verdict and reports.
@@ -8,9 +8,9 @@ pub fn reached_are_replayed()
     ensures { ReachedAreReplayed }
 {}
 
-/// A lawful journal leads to what is reached.
-pub fn journals_reach()
-    ensures { JournalsReach }
+/// So does what a lawful journal of leases and deliveries leaves.
+pub fn journals_are_replayed()
+    ensures { JournalsAreReplayed }
 {}
 
 /// For two that are reached with compatible lists, the joined lists and counts fit, and one that is
