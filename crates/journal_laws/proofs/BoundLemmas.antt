@@ -1,23 +1,21 @@
 -- Edges are among the futures that were begun, each with two different activities: so they are not many.
-use Rattle.std.specs.Prelude.{◌≡◌, ℕ, zero, suc, ◌+◌, ◌*◌, ◌-◌, ◌≤◌, ◌||◌, Bool, true, false, List, [], ◌∷◌, ◌++◌, Option, Some, None, length, map, is_some}
+use Rattle.std.specs.Prelude.{◌≡◌, ℕ, zero, suc, ◌*◌, ◌-◌, ◌≤◌, ◌||◌, Bool, true, false, List, [], ◌∷◌, Option, Some, None, length, map}
 use Rattle.std.specs.List.{flat_map}
 use Rattle.std.proofs.Common.{refl, sym, ap, subst, ◌∙◌, arith, inl, inr, ⊎_elim, ◌⊎◌, length-append}
-use Rattle.std.proofs.Math.Nat.{suc-mul}
 use Rattle.std.proofs.lemmas.List.{length-map}
 use Rattle.std.specs.FinMap.{find}
 use Rattle.asp_model.specs.Names.{Name, FutureShape, name_cmp, same_name}
 use Rattle.asp_model.specs.Configuration.{Activity, Configuration}
-use Rattle.journals.specs.Journals.{RunShape}
-use Rattle.journals.specs.Edges.{EdgeShape, no_holders, same_edge, has_edge}
+use Rattle.journals.specs.Edges.{EdgeShape, same_edge, has_edge}
 use Rattle.journals.specs.Passing.{events_of, holders_of}
 use Rattle.laws.specs.Reached.{IsThere}
 use Rattle.laws.specs.Kept.{IsBegun, sends_of, number_of}
 use Rattle.laws.specs.Linked.{Each}
-use Rattle.laws.proofs.NameLemmas.{is_there, name_itself, some_is, no_some}
+use Rattle.laws.proofs.NameLemmas.{is_there, name_itself}
 use Rattle.laws.proofs.EntryLemmas.{In, found_entry}
 use Rattle.journal_laws.specs.EdgesKept.{AreEdges, IsKnownEdge, sends_in, EdgesAreBounded}
 use Rattle.journal_laws.proofs.EdgeLemmas.{edge_tied, edge_itself, edges_are_distinct}
-use Rattle.journal_laws.proofs.CountLemmas.{has, Different, no_more_than, in_later, in_more, in_mapped, in_flat, flat_length, others, pairs, in_others, pairs_length}
+use Rattle.journal_laws.proofs.CountLemmas.{has, Different, no_more_than, in_mapped, in_flat, flat_length, others, pairs, in_others, pairs_length}
 use Rattle.journal_laws.proofs.KnownLemmas.{edges_are_known}
 
 -- Futures that were begun
@@ -102,8 +100,8 @@ unfolding possible edge_of
 in_possible c x apart k =
     let ns = names_in c.activities in
     let ends : In (x.from, x.to) (pairs same_name name_itself ns) =
-        in_flat (λ n. map (λ m. (n, m)) (others same_name name_itself n ns)) x.from (x.from, x.to) ns (in_names c x.from k.1)
-        (in_mapped (λ m. (x.from, m)) x.to (others same_name name_itself x.from ns) (in_others same_name name_itself x.from x.to ns apart (in_names c x.to k.2))) in
+    in_flat (λ n. map (λ m. (n, m)) (others same_name name_itself n ns)) x.from (x.from, x.to) ns (in_names c x.from k.1)
+    (in_mapped (λ m. (x.from, m)) x.to (others same_name name_itself x.from ns) (in_others same_name name_itself x.from x.to ns apart (in_names c x.to k.2))) in
     in_flat (λ f. map (edge_of f) (pairs same_name name_itself ns)) x.future x (all_begun c.activities) (in_begun c x.future k.0)
     (in_mapped (edge_of x.future) (x.from, x.to) (pairs same_name name_itself ns) ends)
 

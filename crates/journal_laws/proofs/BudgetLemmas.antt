@@ -1,5 +1,5 @@
 -- The counts, what is left, and what is granted sum to the budget.
-use Rattle.std.specs.Prelude.{◌≡◌, ℕ, zero, suc, ◌+◌, ◌-◌, ◌≤◌, ◌==◌, nat_le, Bool, true, false, T, List, [], ◌∷◌, Option, Some, None, cond, map, is_some}
+use Rattle.std.specs.Prelude.{◌≡◌, ℕ, zero, suc, ◌+◌, ◌≤◌, ◌==◌, Bool, true, false, T, List, [], ◌∷◌, Option, Some, None, cond, map, is_some}
 use Rattle.std.proofs.Common.{refl, sym, ap, subst, ◌∙◌, arith, inl, inr}
 use Rattle.std.proofs.Math.Nat.{min-le_right}
 use Rattle.std.specs.declared.cmp.Ordering.{Ordering}
@@ -7,24 +7,23 @@ use Rattle.std.specs.declared.cmp.Ordering.TheVariants.{Less, Equal, Greater}
 use Rattle.std.specs.Ordering.{is_eq, is_lt, ordering_reverse}
 use Rattle.std.specs.FinMap.{find, put, is_sorted}
 use Rattle.std.specs.FinMap.Entries.{by_order, below_all, is_sorted-put}
-use Rattle.asp_model.specs.Names.{Name, FutureShape, name_cmp, main_name}
-use Rattle.asp_model.specs.Term.{Tree}
+use Rattle.asp_model.specs.Names.{Name, name_cmp}
 use Rattle.asp_model.specs.Store.{Store}
-use Rattle.asp_model.specs.Configuration.{Activity, Configuration, start}
+use Rattle.asp_model.specs.Configuration.{Activity, Configuration}
 use Rattle.asp_model.specs.Intent.{Effect}
-use Rattle.asp_model.specs.Step.{step, put_some, with_effect}
-use Rattle.asp_model.specs.Replay.{counts_of, total}
-use Rattle.asp_model.specs.History.{DeliveryShape, Edge, Need, EntryShape, Lent, Committed, Delivered}
+use Rattle.asp_model.specs.Step.{step, put_some}
+use Rattle.asp_model.specs.Replay.{total}
+use Rattle.asp_model.specs.History.{Edge, Need, EntryShape, Lent, Committed, Delivered}
 use Rattle.asp_model.specs.declared.limits.TheConstants.{MOST_GRANTED}
 use Rattle.journals.specs.Deliveries.{with_store}
 use Rattle.journals.specs.Journals.{RunShape, begun, grant_of, out_but, granted, reduced, all_entered}
 use Rattle.laws.specs.Sound.{IsSound}
-use Rattle.laws.specs.Reached.{Move, Steps, Edges, Needs, Makes}
+use Rattle.laws.specs.Reached.{Steps, Edges, Needs}
 use Rattle.laws.proofs.NameLemmas.{name_total, name_same, no_some, some_is, true_false, not_some, is_there}
 use Rattle.laws.proofs.MapLemmas as Maps
 use Rattle.laws.proofs.StepLemmas.{step_taken}
 use Rattle.laws.proofs.CommuteLemmas.{took}
-use Rattle.laws.proofs.FactLemmas.{Face, face, face_of, IsMade}
+use Rattle.laws.proofs.FactLemmas.{face, face_of, IsMade}
 use Rattle.laws.proofs.EntryLemmas.{In, found_entry, first_of_both, second_of_both}
 use Rattle.laws.proofs.OrderLemmas.{IsNew}
 use Rattle.laws.proofs.SoundLemmas.{Took, at_name, made_new}

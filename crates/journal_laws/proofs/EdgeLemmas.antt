@@ -1,6 +1,6 @@
 -- Edges that are entered are pairwise different, and those that were delivered are kept.
 use Rattle.std.specs.Prelude.{◌≡◌, ◌&&◌, ◌||◌, not, Bool, true, false, List, [], ◌∷◌, ◌++◌, Option, Some, None}
-use Rattle.std.proofs.Common.{refl, sym, ap, subst, ◌∙◌}
+use Rattle.std.proofs.Common.{refl, sym, ap, ◌∙◌}
 use Rattle.asp_model.specs.Names.{Name, FutureShape, same_name, same_future}
 use Rattle.journals.specs.Edges.{EdgeShape, Event, Begins, Passes, Fills, Receives, Delivers, HoldersShape, no_holders, same_edge, has_edge, home_of, is_no_edge, with_edge, with_edges, with_held, with_delivered, after_event, after_events}
 use Rattle.laws.specs.Linked.{Each}

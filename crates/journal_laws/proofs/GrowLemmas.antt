@@ -1,6 +1,6 @@
 -- Who is there stays there, and what was begun stays begun.
-use Rattle.std.specs.Prelude.{◌≡◌, ℕ, ◌≤◌, Option, Some, None, is_some}
-use Rattle.std.proofs.Common.{refl, sym, ap, subst, ◌∙◌, arith}
+use Rattle.std.specs.Prelude.{◌≡◌, Option, Some}
+use Rattle.std.proofs.Common.{sym, ap, subst, ◌∙◌, arith}
 use Rattle.std.specs.FinMap.{find}
 use Rattle.asp_model.specs.Names.{Name, FutureShape, name_cmp}
 use Rattle.asp_model.specs.Store.{Store}
@@ -8,11 +8,10 @@ use Rattle.asp_model.specs.Configuration.{Activity, Configuration}
 use Rattle.asp_model.specs.Step.{ListsShape, step, with_effect}
 use Rattle.journals.specs.Deliveries.{with_store}
 use Rattle.laws.specs.Reached.{Move, Steps, Edges, Needs, Makes, IsThere}
-use Rattle.laws.specs.Kept.{IsBegun, sends_of}
+use Rattle.laws.specs.Kept.{IsBegun}
 use Rattle.laws.specs.Sound.{IsSound}
 use Rattle.laws.proofs.StepLemmas.{step_taken}
 use Rattle.laws.proofs.CommuteLemmas.{took}
-use Rattle.laws.proofs.SoundLemmas.{at_name}
 use Rattle.laws.proofs.KeptLemmas.{sends_grow}
 use Rattle.laws.proofs.ExactLemmas.{here_after}
 use Rattle.laws.proofs.NamesLaws.{sends_at}

@@ -1,16 +1,15 @@
 -- What moves keep, the entries of a lawful journal keep.
-use Rattle.std.specs.Prelude.{◌≡◌, ℕ, zero, suc, ◌&&◌, ◌-◌, nat_le, nat_lt, is_none, Bool, true, false, List, [], ◌∷◌, ◌++◌, Option, Some, None, is_some}
-use Rattle.std.proofs.Common.{refl, sym, ap, subst}
+use Rattle.std.specs.Prelude.{◌≡◌, ℕ, zero, suc, ◌&&◌, ◌-◌, nat_le, nat_lt, is_none, Bool, true, false, List, [], ◌∷◌, Option, Some, None, is_some}
+use Rattle.std.proofs.Common.{refl, sym, subst}
 use Rattle.std.specs.FinMap.{find}
-use Rattle.asp_model.specs.Names.{Name, FutureShape, name_cmp}
-use Rattle.asp_model.specs.Term.{Tree}
-use Rattle.asp_model.specs.Configuration.{Configuration, start}
+use Rattle.asp_model.specs.Names.{Name, name_cmp}
+use Rattle.asp_model.specs.Configuration.{Configuration}
 use Rattle.asp_model.specs.Step.{name_at, step}
 use Rattle.asp_model.specs.Status.{is_running, status_of}
-use Rattle.asp_model.specs.History.{DeliveryShape, Edge, Need, EntryShape, Lent, Committed, Delivered}
+use Rattle.asp_model.specs.History.{Edge, Need, EntryShape, Lent, Committed, Delivered}
 use Rattle.journals.specs.Deliveries.{edge_delivered, need_delivered}
 use Rattle.journals.specs.Communications.{communicates_next}
-use Rattle.journals.specs.Journals.{RunShape, begun, grant_of, is_in, granted, may_lend, lent, reduced, back, committed, over, delivered, entered, all_entered}
+use Rattle.journals.specs.Journals.{RunShape, begun, grant_of, is_in, granted, may_lend, lent, reduced, back, committed, over, entered, all_entered}
 use Rattle.laws.specs.Reached.{Move, Steps, Edges, Needs, Makes, IsReached}
 use Rattle.laws.specs.Sound.{IsSound}
 use Rattle.laws.specs.Closed.{IsClosed}

@@ -1,39 +1,37 @@
 -- What a lawful journal's events speak of is there, so its edges are.
 use Rattle.std.specs.Prelude.{◌≡◌, ℕ, zero, suc, ◌≤◌, List, [], ◌∷◌, ◌++◌, Option, Some, None, length, map, slice_get, is_some, true, false, Bool}
 use Rattle.std.specs.List.{flat_map}
-use Rattle.std.proofs.Common.{refl, sym, ap, subst, ◌∙◌, ⊎_elim}
+use Rattle.std.proofs.Common.{refl, sym, ap, subst, ◌∙◌}
 use Rattle.std.specs.FinMap.{find, put}
-use Rattle.asp_model.specs.Names.{Name, FutureShape, name_cmp, future_cmp, same_future, same_name}
+use Rattle.asp_model.specs.Names.{Name, FutureShape, name_cmp, future_cmp, same_future}
 use Rattle.asp_model.specs.Split.{Split, Stands, Splits, Redex, split}
 use Rattle.asp_model.specs.Store.{CellShape, Number, Object, Reference, Future, Group, Store, cell}
 use Rattle.asp_model.specs.Parcel.{ParcelShape}
 use Rattle.asp_model.specs.Contraction.{strict_operands, strict_members}
 use Rattle.asp_model.specs.Chase.{Chase, Value, Unfilled, Cycle, chase}
 use Rattle.asp_model.specs.Configuration.{RequestShape, Activity, Configuration, or_none, requests_of}
-use Rattle.asp_model.specs.Intent.{Effect, Intent, Acts, Rests, Ready, Reads, Lacks, operand_ready, operands_ready}
+use Rattle.asp_model.specs.Intent.{Effect, Acts, Rests, Ready, Reads, Lacks, operand_ready, operands_ready}
 use Rattle.asp_model.specs.Step.{intent_in, step, put_some, with_sent, with_effect}
-use Rattle.asp_model.specs.History.{DeliveryShape, Edge, Need, EntryShape, Lent, Committed, Delivered}
-use Rattle.asp_model.specs.Term.{Tree}
+use Rattle.asp_model.specs.History.{Edge, Need, EntryShape, Lent, Committed, Delivered}
 use Rattle.journals.specs.Deliveries.{edge_delivered, need_delivered}
-use Rattle.journals.specs.Journals.{RunShape, begun, reduced, entered, all_entered}
+use Rattle.journals.specs.Journals.{RunShape, begun, reduced, all_entered}
 use Rattle.journals.specs.Edges.{EdgeShape, Event, Begins, Passes, Fills, Receives, Delivers, HoldersShape, no_holders, is_no_edge, with_edge, with_edges, with_held, home_of, after_event, after_events}
-use Rattle.journals.specs.Passing.{future_in, futures_in, value_read, cell_read, operands_read, redex_read, unpacked_by, receives, passes_all, sent_events, made_events, filled_events, effect_events, read_in, step_events, steps_events, received_events, named_events, entry_events, events_from}
-use Rattle.asp_model.specs.Step.{name_at}
-use Rattle.laws.specs.Reached.{IsAt, IsThere, HasValue, Move, Steps, Edges, Needs}
+use Rattle.journals.specs.Passing.{future_in, futures_in, value_read, cell_read, operands_read, redex_read, unpacked_by, receives, sent_events, made_events, filled_events, effect_events, read_in, step_events, steps_events, received_events, named_events, entry_events, events_from}
+use Rattle.laws.specs.Reached.{IsAt, IsThere, Steps, Edges, Needs}
 use Rattle.laws.specs.Kept.{IsBegun, sends_of}
 use Rattle.laws.specs.Kept as kept
-use Rattle.laws.specs.Linked.{Each, IsKnown, AreKnown, IsLinked}
+use Rattle.laws.specs.Linked.{Each, IsKnown, AreKnown}
 use Rattle.laws.specs.Sound.{IsSound}
-use Rattle.laws.proofs.NameLemmas.{no_some, some_is, name_total, name_same, is_there}
+use Rattle.laws.proofs.NameLemmas.{no_some, some_is, name_total, name_same}
 use Rattle.laws.proofs.MapLemmas as Maps
-use Rattle.laws.proofs.StepLemmas.{step_taken, Takes}
+use Rattle.laws.proofs.StepLemmas.{step_taken}
 use Rattle.laws.proofs.ChaseLemmas.{chase_finds}
 use Rattle.laws.proofs.FactLemmas.{acts_facts}
 use Rattle.laws.proofs.DeliveryLemmas.{edge_done, need_done}
-use Rattle.laws.proofs.EachLemmas.{each_both, each_weaker, each_mapped}
+use Rattle.laws.proofs.EachLemmas.{each_both, each_weaker}
 use Rattle.laws.proofs.WholeLemmas.{start_is_sound, moves_keep_sound, sound_intents}
 use Rattle.journal_laws.specs.EdgesKept.{IsKnownEdge, EdgesAreKnown}
-use Rattle.journal_laws.proofs.JournalLemmas.{first_reduced, Done, entry_done, first_entered, reduced_keeps, entry_keeps}
+use Rattle.journal_laws.proofs.JournalLemmas.{first_reduced, Done, entry_done, first_entered, entry_keeps}
 use Rattle.journal_laws.proofs.GrowLemmas.{Grows, grows_itself, grows_then, step_grows, move_grows}
 
 -- What an event speaks of is there
@@ -185,8 +183,10 @@ module _ (c : Configuration) (n : Name) (e : Effect) (s : IsSound c) (intends : 
       let own = sd.requests x.0 (length (requests_of c x.0)) x.1 stands in
       let begun : IsBegun after x.1.future = (own.first, subst (λ m. x.1.future.index ≤ sends_of after m) own.by own.last) in (
         there,
-        ((begun, there, g.there n here),
-        passes_right after n x.0 (g.there n here) there (futures_in x.1.arguments.cells) (futures_begun after x.1.arguments.cells (sd.linked.arguments x.0 (length (requests_of c x.0)) x.1 stands))),
+        (
+          (begun, there, g.there n here),
+          passes_right after n x.0 (g.there n here) there (futures_in x.1.arguments.cells) (futures_begun after x.1.arguments.cells (sd.linked.arguments x.0 (length (requests_of c x.0)) x.1 stands)),
+        ),
       )
 
   made_right : (o : Option (Name × Activity)) → e.made ≡ o → Each (IsRight after) (made_events n o)
@@ -222,7 +222,7 @@ steps_right (suc r) n c d s h =
     let rest = steps_right r n x.0 d se x.2 in
     let g = step_grows None n c x.0 s x.1 in (
       each_both (IsRight d) (step_events c n) _ (each_weaker (IsRight x.0) (IsRight d) (right_grown x.0 d rest.1) (step_events c n) (step_right c x.0 n s x.1))
-      (subst (λ o. Each (IsRight d) (elim o [ None ↦ [] | Some z ↦ steps_events r z n ])) (sym x.1) rest.0),
+          (subst (λ o. Each (IsRight d) (elim o [ None ↦ [] | Some z ↦ steps_events r z n ])) (sym x.1) rest.0),
       grows_then c x.0 d g rest.1,
     )
 

@@ -1,16 +1,15 @@
 -- A step that is no communication changes its activity alone.
-use Rattle.std.specs.Prelude.{◌≡◌, ℕ, suc, Bool, true, false, List, [], ◌∷◌, ◌++◌, Option, Some, None, is_some}
+use Rattle.std.specs.Prelude.{◌≡◌, ℕ, false, List, Option, Some, None, is_some}
 use Rattle.std.proofs.Common.{refl, sym, ap, subst, ◌∙◌}
-use Rattle.std.specs.FinMap.{find, put}
 use Rattle.asp_model.specs.Names.{Name, FutureShape, name_cmp}
 use Rattle.asp_model.specs.Split.{Context, Redex, Split, Stands, Splits, split}
 use Rattle.asp_model.specs.Store.{Store}
 use Rattle.asp_model.specs.Contraction.{Contraction, Becomes, Faults, Needs, Communicates, Breaks, contract}
 use Rattle.asp_model.specs.Chase.{Chase, chase}
 use Rattle.asp_model.specs.Configuration.{RequestShape, ServiceShape, Activity, Configuration, requests_of}
-use Rattle.asp_model.specs.Intent.{Effect, Intent, Acts, Rests, Awaits, Ready, Reads, Lacks, redex_ready, newest, ends_service, contracts, intent}
-use Rattle.asp_model.specs.Step.{step, with_effect}
-use Rattle.journals.specs.Communications.{is_asking, is_communication, communicates_next}
+use Rattle.asp_model.specs.Intent.{Effect, Acts, Rests, Awaits, Ready, Reads, Lacks, redex_ready, newest, ends_service, contracts, intent}
+use Rattle.asp_model.specs.Step.{with_effect}
+use Rattle.journals.specs.Communications.{is_asking, is_communication}
 use Rattle.laws.specs.Reached.{IsAt}
 use Rattle.laws.proofs.NameLemmas.{none_true, name_total, name_same}
 use Rattle.laws.proofs.MapLemmas as Maps
@@ -49,9 +48,9 @@ module _ (requests : List RequestShape) (n : Name) (a : Activity) where
   split_alone : (chases : FutureShape → Chase) (t : Split) (e : Effect)
       → elim t [ Stands place ↦ is_some (newest a.services) | Splits contexts redex ↦ elim (redex_ready chases a.store redex) [ Lacks f ↦ false | Reads s ↦ is_asking (contract s redex) ] ] ≡ false
       → elim t [
-    | Stands place ↦ ends_service a place (newest a.services)
-    | Splits contexts redex ↦ elim (redex_ready chases a.store redex) [ Lacks f ↦ Rests (Awaits f) | Reads s ↦ contracts requests n a contexts s (contract s redex) ]
-  ] ≡ Acts e → IsAlone a e
+        | Stands place ↦ ends_service a place (newest a.services)
+        | Splits contexts redex ↦ elim (redex_ready chases a.store redex) [ Lacks f ↦ Rests (Awaits f) | Reads s ↦ contracts requests n a contexts s (contract s redex) ]
+      ] ≡ Acts e → IsAlone a e
   split_alone chases (Stands place) e asks q = ends_alone place (newest a.services) e asks q
   split_alone chases (Splits contexts redex) e asks q = ready_alone contexts redex (redex_ready chases a.store redex) e asks q
 

@@ -1,14 +1,13 @@
 -- A parcel holds no future that its store does not hold, and a delivery along an edge leaves none of its future.
-use Rattle.std.specs.Prelude.{◌≡◌, ◌≢◌, ℕ, zero, suc, ◌+◌, ◌<◌, Bool, true, false, List, [], ◌∷◌, ◌++◌, Option, Some, None, map, length}
+use Rattle.std.specs.Prelude.{◌≡◌, ◌≢◌, ℕ, zero, suc, ◌+◌, ◌<◌, true, false, List, [], ◌∷◌, ◌++◌, map, length}
 use Rattle.std.specs.List.{flat_map}
 use Rattle.std.proofs.Common.{refl, sym, ap, subst, ◌∙◌, arith, inl, inr, ⊎_elim}
 use Rattle.std.proofs.lemmas.Bool.{false_from_ne_true}
 use Rattle.std.specs.FinMap.{find}
-use Rattle.asp_model.specs.Names.{Name, FutureShape, name_cmp, future_cmp, same_future}
+use Rattle.asp_model.specs.Names.{FutureShape, name_cmp, same_future}
 use Rattle.asp_model.specs.Store.{CellShape, Number, Object, Reference, Future, Group, Store, cell, with_cell, moved_cell}
 use Rattle.asp_model.specs.Parcel.{ParcelShape, parcel_of, place_at, unpack_at}
-use Rattle.asp_model.specs.Configuration.{Activity, Configuration}
-use Rattle.journals.specs.Deliveries.{is_held, holders_from, unpack_each, with_store, edge_delivered}
+use Rattle.journals.specs.Deliveries.{is_held, holders_from, unpack_each}
 use Rattle.journals.specs.Passing.{future_in, futures_in}
 use Rattle.laws.specs.Linked.{Each}
 use Rattle.laws.proofs.NameLemmas.{true_false, none_true, some_is, future_itself, name_total, name_same}

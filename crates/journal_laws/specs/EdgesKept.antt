@@ -1,5 +1,5 @@
 -- The edges that a lawful journal leaves: pairwise different, between activities that are there, and so not many.
-use Rattle.std.specs.Prelude.{◌≡◌, ◌≢◌, ℕ, ◌*◌, ◌+◌, ◌-◌, ◌<◌, ◌≤◌, true, false, List, [], ◌∷◌, Some, length, map}
+use Rattle.std.specs.Prelude.{◌≡◌, ◌≢◌, ℕ, ◌*◌, ◌+◌, ◌-◌, ◌<◌, ◌≤◌, true, false, List, [], ◌∷◌, Some, length}
 use Rattle.asp_model.specs.Names.{Name, FutureShape, same_name}
 use Rattle.asp_model.specs.Term.{Tree}
 use Rattle.asp_model.specs.Store.{CellShape, Store}

@@ -2,7 +2,7 @@
 use Rattle.std.specs.Prelude.{◌≡◌, ℕ, false, List, Some, None}
 use Rattle.asp_model.specs.Names.{Name}
 use Rattle.asp_model.specs.Term.{Tree}
-use Rattle.asp_model.specs.Configuration.{Configuration, Activity, requests_of}
+use Rattle.asp_model.specs.Configuration.{Configuration, Activity}
 use Rattle.asp_model.specs.Step.{step}
 use Rattle.asp_model.specs.History.{EntryShape}
 use Rattle.journals.specs.Communications.{communicates_next}

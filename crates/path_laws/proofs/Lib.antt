@@ -8,6 +8,7 @@ pub mod GrownLemmas
 pub mod DeliveredLemmas
 pub mod PackedLemmas
 pub mod WrittenLemmas
+pub mod OpenLemmas
 pub mod FilledLemmas
 pub mod ToldLemmas
 pub mod AlikeLemmas
@@ -18,7 +19,9 @@ pub mod ContractLemmas
 pub mod ReadyLemmas
 pub mod ActivityLemmas
 pub mod ParcelLemmas
+pub mod StillLemmas
 pub mod IntentLemmas
+pub mod WalkLemmas
 pub mod CycleLemmas
 pub mod MeetLemmas
 pub mod RefilledLemmas

@@ -26,7 +26,8 @@ use Rattle.path_laws.proofs.FitLemmas.{IsFit, SecondFit, StatusesFit}
 use Rattle.path_laws.proofs.PairLemmas.{pairs_length, pairs_more}
 use Rattle.path_laws.proofs.ActivityLemmas.{roots_below, agree_linked, OnePathOf}
 use Rattle.path_laws.proofs.StatusLemmas.{ValuesClosed, side_closed}
-use Rattle.path_laws.proofs.IntentLemmas.{PendingAgree, IsFresh, intends_agree}
+use Rattle.path_laws.proofs.StillLemmas.{PendingAgree}
+use Rattle.path_laws.proofs.IntentLemmas.{IsFresh, intends_agree}
 use Rattle.path_laws.proofs.FillingLemmas.{filled_alike}
 
 -- Lists of which something holds at each number
