@@ -1,6 +1,6 @@
 -- A future is filled on one side: what is read before and after, and which cells are open.
-use Rattle.std.specs.Prelude.{◌≡◌, ℕ, zero, suc, ◌<◌, false, List, [], ◌∷◌, Option, Some, None, length, map}
-use Rattle.std.proofs.Common.{refl, sym, ap, subst, ◌∙◌, inl, inr, ⊎_elim, ◌⊎◌}
+use Rattle.std.specs.Prelude.{◌≡◌, ℕ, zero, suc, false, List, [], ◌∷◌, Option, Some, None, map}
+use Rattle.std.proofs.Common.{refl, sym, ap, ◌∙◌, inl, inr, ⊎_elim, ◌⊎◌}
 use Rattle.asp_model.specs.Names.{FutureShape}
 use Rattle.asp_model.specs.Store.{CellShape, Number, Object, Reference, Future, Group, Store, cell, reached}
 use Rattle.asp_model.specs.Parcel.{ParcelShape}
@@ -9,8 +9,7 @@ use Rattle.laws.specs.Linked.{Each}
 use Rattle.laws.proofs.NameLemmas.{no_some, none_true, true_false, future_case}
 use Rattle.paths.specs.Places.{Place, In_store, In_value, Side, inner, beside, part, read_by, child_by, entered_by, told, written, entered, found, children}
 use Rattle.paths.specs.Agree.{Pairs, no_pair, pair}
-use Rattle.path_laws.specs.Links.{IsClosedSide, Good, Link}
-use Rattle.path_laws.proofs.GoodLemmas.{children_good}
+use Rattle.path_laws.specs.Links.{IsClosedSide, Good}
 use Rattle.path_laws.proofs.GrownLemmas.{over}
 
 abbrev pub base_of : Place → Place

@@ -1,32 +1,23 @@
 -- What is related stays related: terms, services, requests and new activities.
-use Rattle.std.specs.Prelude.{◌≡◌, ℕ, suc, ◌&&◌, not, true, false, List, [], ◌∷◌, ◌++◌, Option, Some, None, length, map}
-use Rattle.std.proofs.Common.{refl, ap, subst}
-use Rattle.asp_model.specs.Names.{Name, FutureShape, Text, created_name}
-use Rattle.asp_model.specs.Term.{Head, Tree, node, none, more, Call, Serve, Repeat, Make, loc, locs_then, has_text, Trees}
-use Rattle.asp_model.specs.Split.{Context, Redex, Split, Stands, Splits, split, plug}
-use Rattle.asp_model.specs.Store.{CellShape, Reference, Future, Store, MethodShape, cell}
-use Rattle.asp_model.specs.Parcel.{ParcelShape, parcel_of, unpack, unpacked_roots, has_place, number_in, visit_order}
-use Rattle.asp_model.specs.Contraction.{Contraction, Becomes, contract, is_future, LineShape}
+use Rattle.std.specs.Prelude.{◌≡◌, ℕ, suc, ◌&&◌, not, true, false, List, [], ◌∷◌, Option, Some, None, map}
+use Rattle.std.proofs.Common.{refl, subst}
+use Rattle.asp_model.specs.Names.{FutureShape, Text}
+use Rattle.asp_model.specs.Term.{Head, Tree, Call, Serve, Repeat, has_text, Trees}
+use Rattle.asp_model.specs.Split.{Context, Redex}
+use Rattle.asp_model.specs.Store.{CellShape, Store, MethodShape}
+use Rattle.asp_model.specs.Parcel.{has_place}
 use Rattle.asp_model.specs.Chase.{Chase}
-use Rattle.asp_model.specs.Configuration.{RequestShape, ServiceShape, Activity, begun}
-use Rattle.asp_model.specs.Intent.{Intent, Acts, Rests, Done, Serving, Awaits, Faulted, Ready, Reads, Lacks, redex_ready, start_term, creates, sends, Numbered, oldest_match, method_labels, labels_served, serves, newest, but_newest, filling, ends_service, contracts, intent}
+use Rattle.asp_model.specs.Configuration.{RequestShape, ServiceShape}
+use Rattle.asp_model.specs.Intent.{start_term, Numbered, oldest_match, method_labels, labels_served, newest, but_newest}
 use Rattle.laws.specs.Closed.{IsClosedParcel}
-use Rattle.laws.proofs.VisitLemmas.{first_number}
-use Rattle.paths.specs.Places.{Place, Side, side_by, value_by, name_by}
-use Rattle.paths.specs.Agree.{Pairs, no_pair, pair, MayBoth, neither, both, ActivitiesAgree, RequestsAgree, ParcelsAgree}
+use Rattle.paths.specs.Places.{Place, side_by}
+use Rattle.paths.specs.Agree.{Pairs, no_pair, pair, MayBoth, neither, both, RequestsAgree}
 use Rattle.path_laws.specs.Links.{IsClosedSide}
-use Rattle.path_laws.specs.Alike.{AreAlike, at_locs, at_node, no_more, one_more, AlikeHeads, loc_heads, same_heads, AlikeContexts, AlikeRedexes, AlikeSplits, both_stand, both_split, AlikeMethods, AlikeCells, numbers, objects, references, groups, AreAlikeBelow}
-use Rattle.path_laws.specs.Agreeing.{IntentsAgree, both_act, both_rest}
-use Rattle.path_laws.proofs.PairLemmas.{pairs_more, pairs_weaker}
-use Rattle.path_laws.proofs.AlikeLemmas.{alike_split, alike_plug, alike_locs}
+use Rattle.path_laws.specs.Alike.{AreAlike, at_locs, at_node, no_more, one_more, AlikeHeads, loc_heads, same_heads, AlikeContexts, AlikeRedexes, AlikeMethods, AlikeCells, numbers, objects, references, groups, AreAlikeBelow}
+use Rattle.path_laws.proofs.PairLemmas.{pairs_weaker}
 use Rattle.path_laws.proofs.GrownLemmas.{closed_over}
-use Rattle.path_laws.proofs.OnwardLemmas.{stored_pairs, low, low_too, Stored, Sides, Onward, Showing, cells_at, alike_shows, new_onward, new_related}
-use Rattle.path_laws.proofs.RowsLemmas.{AlikeContractions, becomes, faults, breaks, Operand}
-use Rattle.path_laws.proofs.RowsLemmas as rows
-use Rattle.path_laws.proofs.ContractLemmas.{contract_alike}
-use Rattle.path_laws.proofs.ReadyLemmas.{ReadyRedexes, may_contract, may_not, redexes_ready}
-use Rattle.path_laws.proofs.ActivityLemmas.{AlikeServices, LinkedActivities, linked_agree}
-use Rattle.path_laws.proofs.ParcelLemmas.{packed_sides, PackedPairs, packed_alike, packed_roots, unpack_onward, unpacked_roots_related, unpacked_related, parcel_sides, parcel_roots, ParcelPaths}
+use Rattle.path_laws.proofs.OnwardLemmas.{Stored, Sides}
+use Rattle.path_laws.proofs.ActivityLemmas.{AlikeServices}
 
 -- Places that stay related
 

@@ -2,16 +2,14 @@
 use Rattle.std.specs.Prelude.{◌≡◌, ◌≢◌, ℕ, zero, suc, ◌+◌, ◌*◌, ◌-◌, ◌<◌, ◌≤◌, Bool, true, false, cond, T, List, [], ◌∷◌, Option, Some, None, length, is_some, map, filter}
 use Rattle.std.proofs.Common.{refl, sym, ap, subst, ◌∙◌, arith, inl, inr, ⊎_elim, ◌⊎◌}
 use Rattle.std.proofs.lemmas.Bool.{cases_lt}
-use Rattle.std.specs.declared.cmp.Ordering.{Ordering}
-use Rattle.std.specs.declared.cmp.Ordering.TheVariants.{Less, Equal, Greater}
 use Rattle.std.specs.Ordering.{is_lt, is_eq, eq_by_cmp, ordering_reverse}
 use Rattle.std.specs.Cmp.{tied_itself}
 use Rattle.std.specs.FinMap.{find, is_sorted}
 use Rattle.std.specs.FinMap.Entries.{is_sorted-where_key}
-use Rattle.asp_model.specs.Names.{FutureShape, future_cmp, future_lt, same_future}
-use Rattle.asp_model.specs.Chase.{Values, Lead, Ends, Goes, Misses, lead, Chase, Value, Unfilled, Cycle, walk_end, walked_to, comes_by, lesser, least_of, cycle_of, chase}
-use Rattle.laws.proofs.NameLemmas.{no_some, some_is, none_true, future_total, future_same, future_case, future_itself, futures_tied}
-use Rattle.laws.proofs.ChaseLemmas.{IsFilled, walk_by, walk_filled, chase_by}
+use Rattle.asp_model.specs.Names.{FutureShape, future_cmp, same_future}
+use Rattle.asp_model.specs.Chase.{Values, Lead, Ends, Goes, Misses, lead, Chase, Value, Unfilled, Cycle, walk_end, walked_to, comes_by}
+use Rattle.laws.proofs.NameLemmas.{no_some, some_is, none_true, future_case, future_itself, futures_tied}
+use Rattle.laws.proofs.ChaseLemmas.{walk_by}
 use Rattle.laws.proofs.CycleLemmas.{others, lead_other, lead_gone, fewer, went_filled, never_ends, ends_in_all}
 
 abbrev pub walk_on : Lead → FutureShape → (FutureShape → FutureShape) → FutureShape
