@@ -5,7 +5,7 @@ use Rattle.asp_top.proofs.StopLemmas.{stops_at, check_stops_at, program_is, stop
 use Rattle.asp_top.proofs.programs.checked_in.Goals as goal
 
 pub check-requires : goal.check-requires
-check-requires c = programs_are_readable c.args.bytes.now (marked_of c.in_ok-program.program.root) c.in_ok-program.ensures.program
+check-requires c = record { readable = programs_are_readable c.args.bytes.now (marked_of c.in_ok-program.program.root) c.in_ok-program.ensures.program }
 
 pub returns-in_err-program-clause-stop : goal.returns-in_err-program-clause-stop
 returns-in_err-program-clause-stop c =
