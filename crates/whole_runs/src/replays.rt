@@ -13,8 +13,8 @@ use std::test::Fail;
 const RACE: &str = "let c = active([n = 1; put(s, v) = s.n := s.n * 2 + v; print(s.n)]) in let a = \
      active([; go(s) = c.put(0)]) in let b = active([; go(s) = c.put(1)]) in a.go(); b.go()";
 
-fn checked(alloc: Global, text: &str) -> Result<Checked, Fail> {
-    let program = read_program(alloc, text.as_bytes())?;
+fn checked(alloc: Global, bytes: &[u8]) -> Result<Checked, Fail> {
+    let program = read_program(alloc, bytes)?;
     Ok(check(alloc, program)?)
 }
 
@@ -72,7 +72,7 @@ fn a_run_is_the_replay_of_its_own_lists_and_counts(rt: HostRuntime) -> Result<()
     ];
     let alloc = rt.alloc();
     for text in texts {
-        let program = checked(alloc, text)?;
+        let program = checked(alloc, text.as_bytes())?;
         for budget in 1..31 {
             repeats(&rt, alloc, &program, budget)?;
         }
@@ -90,7 +90,13 @@ fn lists_without_main_diverge_at_main(rt: HostRuntime) -> Result<(), Fail> {
     let counts = Counts {
         entries: Vec::new(alloc),
     };
-    match replayed(&rt, alloc, &checked(alloc, RACE)?, &lists, &counts) {
+    match replayed(
+        &rt,
+        alloc,
+        &checked(alloc, RACE.as_bytes())?,
+        &lists,
+        &counts,
+    ) {
         Err(ReplayStop::Diverged { activity }) => {
             assert_eq!(rt; activity.path(), [0].as_slice());
             Ok(())
