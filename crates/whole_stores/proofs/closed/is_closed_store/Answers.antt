@@ -1,4 +1,4 @@
-use Rattle.std.proofs.Common.{rules, ◌≡◌, length, ℕ, ◌<◌, subst, arith}
+use Rattle.std.proofs.Common.{rules, length, ℕ, ◌<◌, subst, arith}
 use Rattle.asp_model.specs.Shapes.{cell_shape}
 use Rattle.asp_model.specs.Store.{Store, cell, reached}
 use Rattle.laws.specs.Closed.{AreBelow}
