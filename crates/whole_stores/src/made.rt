@@ -89,20 +89,30 @@ fn are_packed(rt: &impl Abort, alloc: Global, packings: &[Packing]) -> bool {
     all
 }
 
-// Whether each change of the tables is made.
-fn all_made(rt: &impl Abort, alloc: Global) -> bool {
-    let changed = are_made(rt, alloc, &CASES);
-    let landed = are_made(rt, alloc, &LANDINGS);
-    are_packed(rt, alloc, &PACKINGS) && changed && landed
+// Each table has a function of its own: what a function does with a table takes long to prove.
+fn are_cases_made(rt: &impl Abort, alloc: Global) -> bool {
+    are_made(rt, alloc, &CASES)
+}
+
+fn are_landings_made(rt: &impl Abort, alloc: Global) -> bool {
+    are_made(rt, alloc, &LANDINGS)
+}
+
+fn are_packings_made(rt: &impl Abort, alloc: Global) -> bool {
+    are_packed(rt, alloc, &PACKINGS)
 }
 
 #[test]
 fn each_change_leaves_what_is_stated(rt: HostRuntime) {
-    assert!(rt; all_made(&rt, rt.alloc()));
+    assert!(rt; are_cases_made(&rt, rt.alloc()));
+    assert!(rt; are_landings_made(&rt, rt.alloc()));
+    assert!(rt; are_packings_made(&rt, rt.alloc()));
 }
 
 // Passes too where requests for memory are refused.
 #[test]
 fn a_refused_change_leaves_the_cells(rt: HostRuntime) {
-    let _all = all_made(&rt, rt.alloc());
+    let _changed = are_cases_made(&rt, rt.alloc());
+    let _landed = are_landings_made(&rt, rt.alloc());
+    let _packed = are_packings_made(&rt, rt.alloc());
 }
