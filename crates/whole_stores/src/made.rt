@@ -2,8 +2,7 @@
 //! refused. The README says how each request is refused in turn.
 
 use crate::cases::CASES;
-use crate::changes::Change::Pack;
-use crate::changes::{Case, Step, asks};
+use crate::changes::{Case, Change, Step, asks};
 use crate::closed::is_closed_store;
 use crate::given::{Given, future, is_store, store};
 use crate::landings::LANDINGS;
@@ -35,7 +34,36 @@ fn is_as_stated(alloc: Global, first: &FutureName, store: &Store, given: &[Given
         && is_closed_store(alloc, store, &[]).unwrap_or(true)
 }
 
-// Asks for each change, and once more for one that was refused. Whether none was refused twice.
+// Asks for a change, and wants the cells before where it was refused.
+fn tries(
+    rt: &impl Abort,
+    alloc: Global,
+    first: &FutureName,
+    store: &mut Store,
+    before: &[Given],
+    change: &Change,
+) -> Result<bool, AllocError> {
+    let answer = asks(rt, alloc, store, change);
+    assert!(rt; answer.is_ok() || is_as_stated(alloc, first, store, before));
+    answer
+}
+
+// Asks once more for what was refused.
+fn tries_again(
+    rt: &impl Abort,
+    alloc: Global,
+    first: &FutureName,
+    store: &mut Store,
+    before: &[Given],
+    change: &Change,
+) -> Result<bool, AllocError> {
+    match tries(rt, alloc, first, store, before, change) {
+        Ok(is_right) => Ok(is_right),
+        Err(_) => tries(rt, alloc, first, store, before, change),
+    }
+}
+
+// Asks for each change. Whether none was refused twice.
 fn is_made(
     rt: &impl Abort,
     alloc: Global,
@@ -45,22 +73,14 @@ fn is_made(
 ) -> Result<bool, AllocError> {
     let first = future(alloc, 1)?;
     let mut store = store(alloc, given)?;
+    assert!(rt; is_as_stated(alloc, &first, &store, given), "row {row}");
     let mut before = given;
     for (change, after) in steps {
-        assert!(rt; is_as_stated(alloc, &first, &store, before), "row {row}");
-        let mut answer = asks(rt, alloc, &mut store, change);
-        if answer.is_err() {
-            assert!(rt; is_as_stated(alloc, &first, &store, before), "row {row}");
-            answer = asks(rt, alloc, &mut store, change);
-        }
-        let Ok(is_right) = answer else {
-            assert!(rt; is_as_stated(alloc, &first, &store, before), "row {row}");
+        let Ok(is_right) = tries_again(rt, alloc, &first, &mut store, before, change) else {
             return Ok(false);
         };
-        assert!(rt;
-            is_right && is_as_stated(alloc, &first, &store, after),
-            "row {row}"
-        );
+        let is_left = is_as_stated(alloc, &first, &store, after);
+        assert!(rt; is_right && is_left, "row {row}");
         before = after;
     }
     Ok(true)
@@ -78,7 +98,7 @@ fn are_made(rt: &impl Abort, alloc: Global, cases: &[Case]) -> bool {
 fn are_packed(rt: &impl Abort, alloc: Global, packings: &[Packing]) -> bool {
     let mut all = true;
     for (row, packing) in packings.iter().enumerate() {
-        let pack = Pack {
+        let pack = Change::Pack {
             roots: packing.roots,
             cells: packing.cells,
             packed: packing.packed,
