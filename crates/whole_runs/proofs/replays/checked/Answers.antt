@@ -3,4 +3,4 @@ use Rattle.outcome_laws.proofs.ProgramLaws.{programs_are_readable}
 use Rattle.whole_runs.proofs.replays.checked.Goals as goal
 
 pub check-requires : goal.check-requires
-check-requires c = programs_are_readable c.args.bytes.now (marked_of c.in_ok-program.program.root) c.in_ok-program.ensures.program
+check-requires c = record { readable = programs_are_readable c.args.bytes.now (marked_of c.in_ok-program.program.root) c.in_ok-program.ensures.program }
