@@ -312,7 +312,7 @@ less_total f g a b = by (future_cmp f g) refl
 abbrev pub AtMost : FutureShape → FutureShape → Type 0
 AtMost f g = future_lt g f ≡ false
 
-itself_at_most : (f : FutureShape) → AtMost f f
+pub itself_at_most : (f : FutureShape) → AtMost f f
 itself_at_most f = by (future_cmp f f) refl
   where
     by : (o : Ordering) → future_cmp f f ≡ o → future_lt f f ≡ false
@@ -323,7 +323,7 @@ itself_at_most f = by (future_cmp f f) refl
     by Equal e = ap is_lt e
     by Greater e = ap is_lt e
 
-at_most_then : (f g h : FutureShape) → AtMost f g → AtMost g h → AtMost f h
+pub at_most_then : (f g h : FutureShape) → AtMost f g → AtMost g h → AtMost f h
 at_most_then f g h a b = by (future_cmp h f) refl (future_cmp f g) refl
   where
     by : (o : Ordering) → future_cmp h f ≡ o → (p : Ordering) → future_cmp f g ≡ p → future_lt h f ≡ false
@@ -340,7 +340,7 @@ Among f (g ∷ gs) = (f ≡ g) ⊎ Among f gs
 abbrev lesser_by : Bool → FutureShape → FutureShape → FutureShape
 lesser_by b f g = elim b [ true ↦ g | false ↦ f ]
 
-lesser_first : (f g : FutureShape) → AtMost (lesser f g) f
+pub lesser_first : (f g : FutureShape) → AtMost (lesser f g) f
 lesser_first f g = elim (future_lt g f) as (λ b. future_lt g f ≡ b → AtMost (lesser_by b f g) f) [ true ↦ λ e. by (future_cmp f g) refl e | false ↦ λ e. itself_at_most f ] refl
   where
     by : (o : Ordering) → future_cmp f g ≡ o → future_lt g f ≡ true → future_lt f g ≡ false
@@ -348,7 +348,7 @@ lesser_first f g = elim (future_lt g f) as (λ b. future_lt g f ≡ b → AtMost
     by Equal d e = ap is_lt d
     by Greater d e = ap is_lt d
 
-lesser_second : (f g : FutureShape) → AtMost (lesser f g) g
+pub lesser_second : (f g : FutureShape) → AtMost (lesser f g) g
 lesser_second f g = elim (future_lt g f) as (λ b. future_lt g f ≡ b → AtMost (lesser_by b f g) g) [ true ↦ λ e. itself_at_most g | false ↦ λ e. e ] refl
 
 least_first : (f : FutureShape) (gs : List FutureShape) → AtMost (least_of f gs) f

@@ -10,7 +10,7 @@ use Rattle.chase_laws.specs.Fills.{IsElsewhere, ChasesStayTogether, ChasesStayEl
 use Rattle.chase_laws.proofs.FutureLemmas.{true_false, none_true, future_case}
 use Rattle.chase_laws.proofs.ChaseLemmas.{walk_by, chase_by, chase_finds}
 use Rattle.chase_laws.proofs.MeetLemmas.{meet_back, meet_then, chase_goes, chase_meets, cycle_never, named_cycle}
-use Rattle.chase_laws.proofs.FilledLemmas.{still_sorted, lead_there, chase_before, keeps_value, keeps_unfilled, follows_f, meet_still, keeps_cycles, others_keep, turns_named, name_turns, name, cycle_is, no_cycle_unfilled, no_cycle_value}
+use Rattle.chase_laws.proofs.FilledLemmas.{still_sorted, lead_there, chase_before, keeps_value, keeps_unfilled, follows_f, meet_still, keeps_cycles, others_keep, turns_named, name_turns, name, cycle_is, no_cycle_unfilled, no_cycle_value, no_value_unfilled, unfilled_is}
 
 module _ (vs : Values) (f : FutureShape) (p : ParcelShape) (sorted : T (is_sorted future_cmp vs)) (new : find future_cmp f vs ≡ None) where
   abbrev pub after : Values
@@ -42,19 +42,19 @@ module _ (vs : Values) (f : FutureShape) (p : ParcelShape) (sorted : T (is_sorte
     -- the value's root is no future
     ends : chase after f ≡ Value f p → ((g : FutureShape) → lead after f ≢ Goes g) → Onward
     -- its chase ends, elsewhere than at f
-    goes_on : (g : FutureShape) → lead after f ≡ Goes g → chase after f ≡ chase vs g → ((n : FutureShape) → chase after f ≢ Cycle n) → Onward
+    goes_on : (g : FutureShape) → lead after f ≡ Goes g → chase after f ≡ chase vs g → chase vs g ≢ Unfilled f → ((n : FutureShape) → chase after f ≢ Cycle n) → Onward
     -- it comes to f, or into a cycle
     turns : (g h : FutureShape) → lead after f ≡ Goes g → ((chase vs g ≡ Unfilled f) × (h ≡ f)) ⊎ (chase vs g ≡ Cycle h) → Onward
 
   by_chase : (g : FutureShape) → lead after f ≡ Goes g → (c : Chase) → chase vs g ≡ c → Onward
   by_chase g goes (Value h q) e =
       let now : chase after f ≡ Value h q = chase_goes after (still_sorted vs sorted f new p) f g goes ∙ keeps_value vs sorted f new p g h q e in
-      goes_on g goes (now ∙ sym e) (λ n d. no_cycle_value (sym d ∙ now))
+      goes_on g goes (now ∙ sym e) (λ d. no_value_unfilled (sym e ∙ d)) (λ n d. no_cycle_value (sym d ∙ now))
   by_chase g goes (Unfilled h) e = ⊎_elim {C = Onward}
       (λ is. turns g h goes (inl (e ∙ ap Unfilled is, is)))
       (λ apart.
       let now : chase after f ≡ Unfilled h = chase_goes after (still_sorted vs sorted f new p) f g goes ∙ keeps_unfilled vs sorted f new p g h e apart in
-      goes_on g goes (now ∙ sym e) (λ n d. no_cycle_unfilled (sym d ∙ now)))
+      goes_on g goes (now ∙ sym e) (λ d. apart (unfilled_is (sym e ∙ d))) (λ n d. no_cycle_unfilled (sym d ∙ now)))
       (future_case h f)
   by_chase g goes (Cycle h) e = turns g h goes (inr e)
 
@@ -88,7 +88,7 @@ module _ (vs : Values) (f : FutureShape) (p : ParcelShape) (sorted : T (is_sorte
     where
       by_onward : (m : FutureShape) → chase vs x ≡ Cycle m → Onward → chase after x ≡ Cycle m
       by_onward m e (ends now none) = keeps_cycles vs sorted f new p x m (λ n d. no_cycle_value (sym d ∙ now)) e
-      by_onward m e (goes_on g goes now none) = keeps_cycles vs sorted f new p x m none e
+      by_onward m e (goes_on g goes now other none) = keeps_cycles vs sorted f new p x m none e
       by_onward m e (turns g h goes root) = others_keep vs sorted f new p g h goes root x m e (λ same. ⊎_elim
           (λ a. no_cycle x (e ∙ ap Cycle (same ∙ a.1)))
           (λ a. else.1 g goes (e ∙ ap Cycle same ∙ sym a))
@@ -108,7 +108,7 @@ module _ (vs : Values) (f : FutureShape) (p : ParcelShape) (sorted : T (is_sorte
     where
       by : Onward → OfRoot x
       by (ends now none) = absurd (true_false (is_some (find future_cmp f vs)) (ap is_some (chase_finds vs x f p (sym e ∙ now)).0) (ap is_some new))
-      by (goes_on g goes now none) = (g, goes, sym e ∙ now)
+      by (goes_on g goes now other none) = (g, goes, sym e ∙ now)
       by (turns g h goes root) =
           let n = name vs sorted f new p g h goes root in
           let at : chase vs x ≡ Cycle n = sym e ∙ turns_named vs sorted f new p g h goes root f (inl (chase_before vs sorted f new p)) in

@@ -36,6 +36,9 @@ cycle_is e = some_is (ap cycle_in e)
 pub no_cycle_unfilled : {A : Type 0} {f g : FutureShape} → Cycle f ≡ Unfilled g → A
 no_cycle_unfilled e = no_some (sym (ap cycle_in e))
 
+pub no_value_unfilled : {A : Type 0} {f g : FutureShape} {p : ParcelShape} → Value f p ≡ Unfilled g → A
+no_value_unfilled e = no_some (ap unfilled_in e)
+
 pub no_cycle_value : {A : Type 0} {f g : FutureShape} {p : ParcelShape} → Cycle f ≡ Value g p → A
 no_cycle_value e = no_some (sym (ap cycle_in e))
 

@@ -1,3 +1,7 @@
 pub mod TableLemmas
-pub mod WalkLemmas
-pub mod LeastLemmas
+pub mod NumberLemmas
+pub mod LinkLemmas
+pub mod ComponentLemmas
+pub mod JoinedLemmas
+pub mod EndedLemmas
+pub mod FillingLemmas

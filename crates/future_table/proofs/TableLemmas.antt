@@ -1,13 +1,15 @@
 -- The tree's entries are the definitions' map.
-use Rattle.std.proofs.Common.{◌≡◌, suc, true, false, cond, length, map, List, [], ◌∷◌, Option, Some, None, Bor, refl, sym, ap, ◌∙◌}
+use Rattle.std.proofs.Common.{◌≡◌, ◌++◌, ◌&&◌, Bool, T, suc, true, false, cond, length, map, List, [], ◌∷◌, Option, Some, None, Bor, refl, sym, ap, subst, ◌∙◌}
 use Rattle.std.specs.Option.{option_map, option_copied}
-use Rattle.std.specs.Map.{lookup}
+use Rattle.std.specs.Map.{keys_of, lookup}
 use Rattle.std.specs.FinMap.{find, put}
 use Rattle.std.specs.BTreeMap.{is_at, insert_entry}
 use Rattle.std.specs.declared.cmp.Ordering.{Ordering}
 use Rattle.std.specs.declared.cmp.Ordering.TheVariants.{Less, Equal, Greater}
-use Rattle.std.specs.Ordering.{is_eq, match_ordering}
-use Rattle.std.specs.FinMap.Entries.{by_order}
+use Rattle.std.specs.Ordering.{is_eq, is_lt, match_ordering}
+use Rattle.std.specs.FinMap.Entries.{below_all, by_order, is_sorted}
+use Rattle.std.specs.List.{AllByRecursion}
+use Rattle.std.specs.List.Sorted.{IsStrictlySortedBy}
 use Rattle.asp_model.specs.declared.name.FutureName.{FutureName}
 use Rattle.asp_model.specs.declared.store.Parcel.{Parcel}
 use Rattle.asp_model.specs.contracts.name.FutureNameOrd.TheImpl as ordering
@@ -52,3 +54,24 @@ keys_shape (e ∷ es) = ap (λ fs. future_shape e.0 ∷ fs) (keys_shape es)
 pub values_count : (es : List (FutureName × Parcel)) → length (values_of es) ≡ length es
 values_count [] = refl
 values_count (e ∷ es) = ap suc (values_count es)
+
+-- the entries of a tree ascend, as values do
+lt_of : (o : Ordering) → o ≡ Less → T (is_lt o)
+lt_of o e = subst (λ p. T (is_lt p)) (sym e) tt
+
+both_hold : (b c : Bool) → T b → T c → T (b && c)
+both_hold true c x y = y
+both_hold false c x y = absurd x
+
+below_values : (f : FutureName) (es : List (FutureName × Parcel)) → AllByRecursion (λ k. name_order f k ≡ Less) (keys_of es) → T (below_all future_cmp (future_shape f) (values_of es))
+below_values f [] h = tt
+below_values f (e ∷ es) h = both_hold (is_lt (future_cmp (future_shape f) (future_shape e.0))) (below_all future_cmp (future_shape f) (values_of es)) (lt_of (name_order f e.0) h.0) (below_values f es h.1)
+
+pub sorted_values : (es : List (FutureName × Parcel)) → IsStrictlySortedBy name_order (keys_of es) → T (is_sorted future_cmp (values_of es))
+unfolding IsStrictlySortedBy
+sorted_values [] h = tt
+sorted_values (e ∷ es) h = both_hold (below_all future_cmp (future_shape e.0) (values_of es)) (is_sorted future_cmp (values_of es)) (below_values e.0 es h.0) (sorted_values es h.1)
+
+pub mapped_more : (xs : List FutureName) (x : FutureName) → map future_shape (xs ++ x ∷ []) ≡ map future_shape xs ++ future_shape x ∷ []
+mapped_more [] x = refl
+mapped_more (y ∷ xs) x = ap (λ ys. future_shape y ∷ ys) (mapped_more xs x)

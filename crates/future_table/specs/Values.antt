@@ -6,8 +6,8 @@ use Rattle.asp_model.specs.Names.{FutureShape}
 use Rattle.asp_model.specs.Chase.{Values}
 use Rattle.asp_model.specs.Chase as chase
 use Rattle.asp_model.specs.Shapes.{future_shape, parcel_shape}
-use Rattle.future_table.specs.declared.walk.Chase.{Chase}
-use Rattle.future_table.specs.declared.walk.Chase.TheVariants as chases
+use Rattle.future_table.specs.declared.chase.Chase.{Chase}
+use Rattle.future_table.specs.declared.chase.Chase.TheVariants as chases
 
 abbrev pub values_of : List (FutureName × Parcel) → Values
 values_of = map (λ e. (future_shape e.0, parcel_shape e.1))

@@ -1,43 +1,33 @@
--- What the walk along futures sees.
-use Rattle.std.specs.Prelude.{◌+◌, Bool, List, [], ◌∷◌, Option, Some, None, length, map, filter}
+-- What a table of futures keeps.
+use Rattle.std.specs.Prelude.{◌≡◌, ◌≢◌, ℕ, List, Option, Some, None, map}
 use Rattle.asp_model.specs.Names.{FutureShape}
-use Rattle.asp_model.specs.Chase.{Values, Lead, lead_by, comes_by}
-use Rattle.asp_model.specs.Chase as chase
-use Rattle.asp_model.specs.declared.store.Parcel.{Parcel}
 use Rattle.asp_model.specs.Store.{cell}
 use Rattle.asp_model.specs.Parcel.{ParcelShape}
-use Rattle.asp_model.specs.Shapes.{future_shape, parcel_shape}
-use Rattle.future_table.specs.declared.walk.Step.{Step}
-use Rattle.future_table.specs.declared.walk.Step.TheVariants as steps
+use Rattle.asp_model.specs.Chase.{Values, Goes, lead_by}
+use Rattle.asp_model.specs.Shapes.{future_shape}
+use Rattle.future_table.specs.declared.walks.Walks.{Walks}
+use Rattle.future_table.specs.Values.{values_of}
+use Rattle.future_table.specs.Numbers.{number_of}
+use Rattle.future_table.specs.Components.{AreComponents}
 
--- where a walk goes, apart from the value at which it ends
-pub data StepShape : Type 0 where
-  Ends : StepShape
-  Goes : (next : FutureShape) → StepShape
-  Misses : StepShape
+abbrev pub values_in : Walks → Values
+values_in w = values_of w.filled.entries
 
-abbrev pub step_of : Lead → StepShape
-step_of (chase.Ends value) = Ends
-step_of (chase.Goes g) = Goes g
-step_of chase.Misses = Misses
+abbrev pub names_in : Walks → List FutureShape
+names_in w = map future_shape w.numbers
 
-abbrev pub step_shape : Step → StepShape
-step_shape steps.Ends = Ends
-step_shape (steps.Goes f) = Goes (future_shape f.now)
-step_shape steps.Misses = Misses
+abbrev pub IsWhole : Walks → Type 0
+IsWhole w = AreComponents (values_in w) (names_in w) w.links.items
 
--- by the root of a value
-abbrev pub root_lead : Parcel → Lead
-root_lead p = let x : ParcelShape = parcel_shape p in lead_by x (cell x.cells 0)
+-- the value's root is this future, or none
+abbrev pub IsRoot : ParcelShape → Option FutureShape → Type 0
+IsRoot p None = (g : FutureShape) → lead_by p (cell p.cells 0) ≢ Goes g
+IsRoot p (Some g) = lead_by p (cell p.cells 0) ≡ Goes g
 
-abbrev pub first : List FutureShape → Option FutureShape
-first [] = None
-first (f ∷ fs) = Some f
+-- a future that has a number keeps it
+abbrev pub NumbersStay : Walks → Walks → Type 0
+NumbersStay old new = (f : FutureShape) (n : ℕ) → number_of f (names_in old) ≡ Some n → number_of f (names_in new) ≡ Some n
 
--- a walk of as many steps as go twice round all filled futures comes by a future
-abbrev pub comes_into : Values → FutureShape → FutureShape → Bool
-comes_into values = comes_by (length values + length values) values
-
--- the filled futures whose walks come by a future, in the order of names
-abbrev pub all_into : Values → FutureShape → List FutureShape
-all_into values to = filter (comes_into values to) (map (λ v. v.0) values)
+-- the value's root is the future of this number
+abbrev pub IsGoing : ParcelShape → ℕ → List FutureShape → Type 0
+IsGoing p next names = (g : FutureShape) × (lead_by p (cell p.cells 0) ≡ Goes g) × (number_of g names ≡ Some next)

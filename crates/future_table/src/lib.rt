@@ -1,8 +1,11 @@
-//! The futures that are filled, with their values, and the chase from one to the next.
+//! The futures that are filled, with their values, and where the walks from them end.
 #![tactic(auto)]
 
+mod chase;
+mod links;
+mod numbers;
 mod table;
-mod walk;
+mod walks;
 
+pub use chase::Chase;
 pub use table::FutureTable;
-pub use walk::Chase;

@@ -8,16 +8,16 @@ ghost use Rattle.asp_model.specs.Names.{future_cmp};
 ghost use Rattle.asp_model.specs.Shapes.{future_shape, parcel_shape};
 ghost use Rattle.future_table.specs.Values.{chase_shape, told, values_of};
 
-use crate::walk::{Chase, chase_in};
+use crate::chase::Chase;
+use crate::walks::{self, Walks};
 use asp_model::{FutureName, Parcel};
 use std::alloc::{AllocError, Global};
-use std::collections::BTreeMap;
 use std::marker::Model;
 
 /// The filled futures with their values, seen as entries in ascending order of names.
 #[derive(Drop)]
 pub struct FutureTable {
-    filled: BTreeMap<FutureName, Parcel>,
+    walks: Walks,
 }
 
 impl Model for FutureTable {
@@ -32,7 +32,11 @@ impl Model for FutureTable {
 
     ghost coded = { Prim.hlevel (codes, term.the_row.coded, method.the_row.coded) };
 
-    ghost view = { λ t. t.filled.entries };
+    ghost use Rattle.future_table.specs.Walks.{IsWhole};
+
+    ghost view = { λ t. t.walks.filled.entries };
+
+    ghost invariant = { λ t. IsWhole t.walks };
 }
 
 impl FutureTable {
@@ -41,7 +45,7 @@ impl FutureTable {
         ensures values { values_of result ≡ [] }
     {
         FutureTable {
-            filled: BTreeMap::new(alloc),
+            walks: walks::none(alloc),
         }
     }
 
@@ -53,8 +57,7 @@ impl FutureTable {
             (values_of self.new ≡ put future_cmp (future_shape name) (parcel_shape value) old) }
         ensures err { OnErr result (self.new ≡ self.old) }
     {
-        self.filled.insert(name, value)?;
-        Ok(())
+        walks::fill(&mut self.walks, name, value)
     }
 
     /// The value of a future, if it is filled.
@@ -62,7 +65,7 @@ impl FutureTable {
         ensures value { option_map (λ p. parcel_shape p.now) result
             ≡ find future_cmp (future_shape name.now) (values_of self.now) }
     {
-        self.filled.get(name)
+        self.walks.filled.get(name)
     }
 
     /// Where the walk from a future ends.
@@ -70,6 +73,6 @@ impl FutureTable {
         ensures chase { let c = chase_of (values_of self.now) (future_shape name.now) in
             chase_shape result ≡ told c }
     {
-        chase_in(&self.filled, name)
+        walks::chase(&self.walks, name)
     }
 }

@@ -11,6 +11,6 @@ use Rattle.future_table.proofs.table.FutureTable.value.Goals as goal
 
 pub returns : goal.returns
 returns c = record {
-  value = lent_shape c.get.result ∙ ap (option_map parcel_shape) c.get.ensures.value ∙ found_shape c.args.name.now c.self.inside.filled.entries
+  value = lent_shape c.get.result ∙ ap (option_map parcel_shape) c.get.ensures.value ∙ found_shape c.args.name.now c.self.inside.walks.filled.entries
       ∙ ap (λ (es : List (FutureName × Parcel)). find future_cmp (future_shape c.args.name.now) (values_of es)) c.self.view_is;
 }

@@ -1,0 +1,185 @@
+//! Filled futures, and the components of those that were met.
+
+ghost use Rattle.std.specs.Prelude.{◌≡◌, ◌<◌, IfOk, None, OnErr, OnOk, Some, [], length, map};
+ghost use Rattle.std.specs.FinMap.{find, put};
+ghost use Rattle.asp_model.specs.Chase.{chase as chase_of};
+ghost use Rattle.asp_model.specs.Names.{future_cmp};
+ghost use Rattle.asp_model.specs.Shapes.{future_shape, parcel_shape};
+ghost use Rattle.std.specs.Option.{option_map};
+ghost use Rattle.future_table.specs.Components.{EndsWithin, end_told};
+ghost use Rattle.future_table.specs.Links.{link_at};
+ghost use Rattle.future_table.specs.Numbers.{number_of};
+ghost use Rattle.future_table.specs.Values.{chase_shape, told};
+ghost use Rattle.future_table.specs.Walks.{IsGoing, IsRoot, IsWhole, NumbersStay, names_in, values_in};
+
+use crate::chase::Chase;
+use crate::links::{End, Link, end_so, head_of, join};
+use crate::numbers::Numbers;
+use asp_model::{Cell, FutureName, Parcel};
+use std::alloc::{AllocError, Global};
+use std::collections::BTreeMap;
+
+/// The filled futures with their values, and for each future that was met its place in a component.
+#[derive(Drop)]
+pub struct Walks {
+    pub filled: BTreeMap<FutureName, Parcel>,
+    pub numbers: Numbers,
+    pub links: Vec<Link>,
+}
+
+/// No future.
+pub fn none(alloc: Global) -> Walks
+    ensures whole { IsWhole result }
+    ensures values { values_in result ≡ [] }
+{
+    Walks {
+        filled: BTreeMap::new(alloc),
+        numbers: Numbers::new(alloc),
+        links: Vec::new(alloc),
+    }
+}
+
+/// Gives a future its value.
+pub fn fill(walks: &mut Walks, name: FutureName, value: Parcel) -> Result<(), AllocError>
+    requires whole { IsWhole walks.old }
+    requires absent { find future_cmp (future_shape name) (values_in walks.old) ≡ None }
+    ensures whole { IsWhole walks.new }
+    ensures values { let old = values_in walks.old in OnOk result
+        (values_in walks.new ≡ put future_cmp (future_shape name) (parcel_shape value) old) }
+    ensures err { OnErr result (walks.new.filled.entries ≡ walks.old.filled.entries) }
+{
+    let at = number(walks, &name)?;
+    match root(&value) {
+        None => fill_plain(walks, name, value, at),
+        Some(next) => {
+            let next = number(walks, next)?;
+            fill_going(walks, name, value, at, next)
+        }
+    }
+}
+
+/// Where the walk from a future ends.
+pub fn chase<'a>(walks: &'a Walks, name: &'a FutureName) -> Chase<'a>
+    requires whole { IsWhole walks.now }
+    ensures { let c = chase_of (values_in walks.now) (future_shape name.now) in
+        chase_shape result ≡ told c }
+{
+    match walks.numbers.of(name) {
+        None => Chase::Unfilled(name),
+        Some(at) => {
+            let head = head_of(&walks.links, at);
+            ending(&walks.numbers, walks.links[head])
+        }
+    }
+}
+
+fn ending(names: &Numbers, link: Link) -> Chase
+    requires known { link.least < length names.now }
+    requires within { EndsWithin (length names.now) link.end }
+    ensures { chase_shape result ≡ end_told (map future_shape names.now) link.least link.end }
+{
+    match link.end {
+        End::Value(at) => Chase::Value(names.name(at)),
+        End::Unfilled(at) => Chase::Unfilled(names.name(at)),
+        End::Cycle => Chase::Cycle(names.name(link.least)),
+    }
+}
+
+fn root(value: &Parcel) -> Option<&FutureName>
+    ensures root { IsRoot (parcel_shape value.now) (option_map (λ f. future_shape f.now) result) }
+{
+    match value.cells().first() {
+        Some(Cell::Future(next)) => Some(next),
+        _ => None,
+    }
+}
+
+// The number of a future, which it gets here where it was not met.
+fn number(walks: &mut Walks, name: &FutureName) -> Result<usize, AllocError>
+    requires whole { IsWhole walks.old }
+    ensures whole { IsWhole walks.new }
+    ensures filled { walks.new.filled.entries ≡ walks.old.filled.entries }
+    ensures number { let number = number_of (future_shape name.now) (names_in walks.new) in
+        IfOk result (λ n. number ≡ Some n) }
+    ensures stay { NumbersStay walks.old walks.new }
+{
+    match walks.numbers.of(name) {
+        Some(number) => Ok(number),
+        None => meet(walks, name),
+    }
+}
+
+fn meet(walks: &mut Walks, name: &FutureName) -> Result<usize, AllocError>
+    requires whole { IsWhole walks.old }
+    requires new { number_of (future_shape name.now) (names_in walks.old) ≡ None }
+    ensures whole { IsWhole walks.new }
+    ensures filled { walks.new.filled.entries ≡ walks.old.filled.entries }
+    ensures number { let number = number_of (future_shape name.now) (names_in walks.new) in
+        IfOk result (λ n. number ≡ Some n) }
+    ensures stay { NumbersStay walks.old walks.new }
+{
+    let number = walks.links.len();
+    walks.links.reserve(1)?;
+    walks.numbers.add(name)?;
+    walks.links.push(Link {
+        up: None,
+        height: 0,
+        least: number,
+        end: End::Unfilled(number),
+    })?;
+    Ok(number)
+}
+
+// The value's root is no future: the walks that led to the future end there.
+fn fill_plain(
+    walks: &mut Walks,
+    name: FutureName,
+    value: Parcel,
+    at: usize,
+) -> Result<(), AllocError>
+    requires whole { IsWhole walks.old }
+    requires absent { find future_cmp (future_shape name) (values_in walks.old) ≡ None }
+    requires at { number_of (future_shape name) (names_in walks.old) ≡ Some at }
+    requires root { IsRoot (parcel_shape value) None }
+    ensures whole { IsWhole walks.new }
+    ensures values { let old = values_in walks.old in OnOk result
+        (values_in walks.new ≡ put future_cmp (future_shape name) (parcel_shape value) old) }
+    ensures err { OnErr result (walks.new.filled.entries ≡ walks.old.filled.entries) }
+{
+    let head = head_of(&walks.links, at);
+    walks.filled.insert(name, value)?;
+    end_so(&mut walks.links, head, End::Value(at));
+    Ok(())
+}
+
+// The value's root is a future: the walks that led to the one go on as those of the other, or round
+// a cycle that closes here.
+fn fill_going(
+    walks: &mut Walks,
+    name: FutureName,
+    value: Parcel,
+    at: usize,
+    next: usize,
+) -> Result<(), AllocError>
+    requires whole { IsWhole walks.old }
+    requires absent { find future_cmp (future_shape name) (values_in walks.old) ≡ None }
+    requires at { number_of (future_shape name) (names_in walks.old) ≡ Some at }
+    requires root { IsGoing (parcel_shape value) next (names_in walks.old) }
+    ensures whole { IsWhole walks.new }
+    ensures values { let old = values_in walks.old in OnOk result
+        (values_in walks.new ≡ put future_cmp (future_shape name) (parcel_shape value) old) }
+    ensures err { OnErr result (walks.new.filled.entries ≡ walks.old.filled.entries) }
+{
+    let first = head_of(&walks.links, at);
+    let second = head_of(&walks.links, next);
+    // No way up is longer than the number of filled futures, so heights stay small.
+    let filled = walks.filled.len();
+    prove!(filled < usize::MAX);
+    walks.filled.insert(name, value)?;
+    if first == second {
+        end_so(&mut walks.links, first, End::Cycle);
+    } else {
+        join(&walks.numbers, &mut walks.links, first, second);
+    }
+    Ok(())
+}
