@@ -33,7 +33,9 @@ argument_count (and_marked t ts) = marked_count ts
 -- of each method its own
 abbrev pub method_arities : ℕ → List MethodHead → List ℕ → List (List LabelArity)
 method_arities at [] ps = []
-method_arities at (m ∷ ms) ps = (label_arity Arity m.label (length m.parameters) (place_or at ps) ∷ []) ∷ method_arities at ms (behind (m.slf ∷ m.parameters) (later ps))
+method_arities at (m ∷ ms) ps =
+    (label_arity Arity m.label (length m.parameters) (place_or at ps) ∷ [])
+    ∷ method_arities at ms (behind (m.slf ∷ m.parameters) (later ps))
 
 -- a created activity calls the method that it begins with without arguments
 abbrev pub service_arities : Option Text → ℕ → List LabelArity
@@ -73,7 +75,9 @@ is_arity n None = false
 is_arity n (Some k) = nat_eq n k
 
 abbrev pub arity_faults_at : LabelArity → Option ℕ → List CheckFault
-arity_faults_at x first = when (nat_lt MOST_PARAMETERS x.arity) (fault_at x.place TooManyParameters) ++ unless (is_arity x.arity first) (fault_at x.place x.kind)
+arity_faults_at x first =
+    when (nat_lt MOST_PARAMETERS x.arity) (fault_at x.place TooManyParameters)
+    ++ unless (is_arity x.arity first) (fault_at x.place x.kind)
 
 -- at each of these places, against the first in the whole text
 abbrev pub arity_faults : List LabelArity → List LabelArity → List CheckFault

@@ -41,11 +41,16 @@ repeats kind earlier (x ∷ xs) = when (earlier x.name) (fault_at x.place kind) 
 -- for each method, its label among the earlier labels, and then its self and parameters among themselves
 abbrev pub method_faults : ℕ → NameSet → List MethodHead → List ℕ → List CheckFault
 method_faults at labels [] ps = []
-method_faults at labels (m ∷ ms) ps = when (labels m.label) (fault_at (place_or at ps) DoubleLabel) ++ (repeats DoubleParameter no_names (placed at (m.slf ∷ m.parameters) (later ps)) ++ method_faults at (with_name m.label labels) ms (behind (m.slf ∷ m.parameters) (later ps)))
+method_faults at labels (m ∷ ms) ps =
+    when (labels m.label) (fault_at (place_or at ps) DoubleLabel)
+    ++ (repeats DoubleParameter no_names (placed at (m.slf ∷ m.parameters) (later ps))
+    ++ method_faults at (with_name m.label labels) ms (behind (m.slf ∷ m.parameters) (later ps)))
 
 -- the fields' labels, then the methods
 abbrev pub object_faults : ℕ → List Text → List MethodHead → List ℕ → List CheckFault
-object_faults at fields methods ps = repeats DoubleLabel no_names (placed at fields ps) ++ method_faults at (with_names fields no_names) methods (behind fields ps)
+object_faults at fields methods ps =
+    repeats DoubleLabel no_names (placed at fields ps)
+    ++ method_faults at (with_names fields no_names) methods (behind fields ps)
 
 -- those of a node alone, under the names that are bound round it
 abbrev pub faults_at : NameSet → Head → MarkShape → List CheckFault

@@ -22,6 +22,10 @@ without_names (x ∷ xs) set = without_names xs (without_name x set)
 abbrev pub texts : List (Bor Text) → List Text
 texts = map (λ k. k.now)
 
+-- the names of a set but for those that were added
+abbrev pub but_for : List (Bor Text) → BTreeSet (Bor Text) → NameSet
+but_for added s = without_names (texts added) (names_in s)
+
 unfoldable pub arity_in : BTreeMap (Bor Text) ℕ → Text → Option ℕ
 arity_in m l = get_by (λ k. slice_cmp nat_cmp l k.now) m
 

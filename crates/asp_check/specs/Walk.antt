@@ -11,12 +11,13 @@ use Rattle.asp_model.specs.Marked.{Marked, all_marked}
 use Rattle.asp_model.specs.Shapes.{marked_of}
 use Rattle.asp_check.specs.declared.fault.CheckFault.{CheckFault}
 use Rattle.asp_check.specs.declared.fault.CheckKind.{CheckKind}
+use Rattle.asp_check.specs.declared.fault.CheckKind.TheVariants.{DoubleLabel, DoubleParameter}
 use Rattle.asp_check.specs.declared.arity.ArityPlace.{ArityPlace}
 use Rattle.asp_check.specs.declared.places.Places.{Places}
 use Rattle.asp_check.specs.declared.walk.Walk.{Walk}
 use Rattle.asp_check.specs.Least.{least_of}
 use Rattle.asp_check.specs.Placed.{placed, behind}
-use Rattle.asp_check.specs.NameFaults.{NameSet, repeats, object_faults, name_faults_below}
+use Rattle.asp_check.specs.NameFaults.{NameSet, repeats, method_faults, object_faults, name_faults_below}
 use Rattle.asp_check.specs.ArityFaults.{LabelArity, method_arities, arities_among}
 use Rattle.asp_check.specs.Sets.{names_in}
 
@@ -61,9 +62,21 @@ names_of m = m.slf ∷ m.parameters.items
 abbrev pub repeats_at : CheckKind → NameSet → List Text → Places → List CheckFault
 repeats_at kind earlier xs p = repeats kind earlier (placed p.node xs p.left.now)
 
+-- a fault at each field's label that stood earlier
+abbrev pub double_labels : NameSet → List (Label × Term) → Places → List CheckFault
+double_labels earlier fields p = repeats_at DoubleLabel earlier (map field_label fields) p
+
+-- a fault at each of the names of a head that stood earlier in it
+abbrev pub double_parameters : NameSet → List Text → Places → List CheckFault
+double_parameters earlier xs p = repeats_at DoubleParameter earlier xs p
+
 -- the places that names leave
 abbrev pub left_by : List Text → Places → List ℕ
 left_by xs p = behind xs p.left.now
+
+-- what methods' labels and heads add
+abbrev pub faults_of_heads : NameSet → List Method → Places → List CheckFault
+faults_of_heads labels methods p = method_faults p.node labels (map head_of methods) p.left.now
 
 -- what an object's labels and heads add
 abbrev pub faults_of_object : List (Label × Term) → List Method → Mark → List CheckFault

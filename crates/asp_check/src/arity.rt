@@ -62,7 +62,8 @@ pub fn note_arities<'a>(
     places: &[ArityPlace<'a>],
 )
     requires { IsFirst arities.now (map arity_of places.now) }
-    ensures { least.new ≡ least_of least.old (arity_faults (map arity_of places.entry.now) (map arity_of places.entry.now)) }
+    ensures { let text = map arity_of places.entry.now in
+        least.new ≡ least_of least.old (arity_faults text text) }
 {
     for place in places {
         note_arity(least, known_arity(arities, place.label), *place);

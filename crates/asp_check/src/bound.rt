@@ -3,7 +3,7 @@
 ghost use Rattle.std.specs.Prelude.{◌≡◌, OnOk, IfOk, ◌∷◌, [], map};
 ghost use Rattle.asp_check.specs.NameFaults.{with_name, with_names};
 ghost use Rattle.asp_check.specs.Walk.{names_of};
-ghost use Rattle.asp_check.specs.Sets.{names_in, without_name, without_names, texts};
+ghost use Rattle.asp_check.specs.Sets.{names_in, without_name, without_names, texts, but_for};
 
 use crate::names::{add_name, remove_name};
 use asp_model::{Method, Word};
@@ -16,8 +16,10 @@ pub fn bind<'a>(
     added: &mut Vec<&'a str>,
     name: &'a str,
 ) -> Result<(), AllocError>
-    ensures bound { OnOk result (names_in bound.new ≡ with_name name.entry.now (names_in bound.old)) }
-    ensures kept { OnOk result (without_names (texts added.new.items) (names_in bound.new) ≡ without_names (texts added.old.items) (names_in bound.old)) }
+    ensures bound { let grown = with_name name.entry.now (names_in bound.old) in
+        OnOk result (names_in bound.new ≡ grown) }
+    ensures kept { let before = but_for added.old.items bound.old in
+        OnOk result (but_for added.new.items bound.new ≡ before) }
 {
     if add_name(bound, name)? {
         added.push(name)?;
@@ -30,8 +32,10 @@ fn bind_all<'a>(
     added: &mut Vec<&'a str>,
     names: &'a [Word],
 ) -> Result<(), AllocError>
-    ensures bound { OnOk result (names_in bound.new ≡ with_names names.entry.now (names_in bound.old)) }
-    ensures kept { OnOk result (without_names (texts added.new.items) (names_in bound.new) ≡ without_names (texts added.old.items) (names_in bound.old)) }
+    ensures bound { let grown = with_names names.entry.now (names_in bound.old) in
+        OnOk result (names_in bound.new ≡ grown) }
+    ensures kept { let before = but_for added.old.items bound.old in
+        OnOk result (but_for added.new.items bound.new ≡ before) }
 {
     for name in names {
         bind(bound, added, name.as_str())?;
@@ -45,8 +49,9 @@ pub fn bind_head<'a>(
     bound: &mut BTreeSet<&'a str>,
     method: &'a Method,
 ) -> Result<Vec<&'a str>, AllocError>
-    ensures bound { OnOk result (names_in bound.new ≡ with_names (names_of method.entry.now) (names_in bound.old)) }
-    ensures kept { IfOk result (λ added. without_names (texts added.items) (names_in bound.new) ≡ names_in bound.old) }
+    ensures bound { let grown = with_names (names_of method.entry.now) (names_in bound.old) in
+        OnOk result (names_in bound.new ≡ grown) }
+    ensures kept { IfOk result (λ added. but_for added.items bound.new ≡ names_in bound.old) }
 {
     let mut added = Vec::new(alloc);
     bind(bound, &mut added, method.slf.as_str())?;

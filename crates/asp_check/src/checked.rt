@@ -4,7 +4,7 @@ ghost use Rattle.std.specs.Prelude.{◌≡◌, IfOk, IfErr};
 ghost use Rattle.asp_model.specs.Readable.{IsReadable};
 ghost use Rattle.asp_model.specs.Shapes.{marked_of, tree_of};
 ghost use Rattle.asp_check.specs.Faults.{IsChecked};
-ghost use Rattle.asp_check.specs.ReadableProp.{readable_prop};
+ghost use Rattle.asp_check.specs.ReadableProp.{readable_prop as one_proof};
 
 use asp_model::Program;
 
@@ -12,7 +12,7 @@ use asp_model::Program;
 #[derive(Debug, Drop)]
 pub struct Checked {
     program: Program,
-    ghost readable: { IsReadable (tree_of program.root) } by { readable_prop (tree_of program.root) },
+    ghost readable: { IsReadable (tree_of program.root) } by { one_proof (tree_of program.root) },
     ghost checked: { IsChecked (marked_of program.root) },
 }
 

@@ -5,7 +5,7 @@ ghost use Rattle.asp_check.specs.Least.{least_of};
 ghost use Rattle.asp_check.specs.Placed.{placed, place_or, later, behind};
 ghost use Rattle.asp_check.specs.NameFaults.{no_names, with_name, with_names, repeats, method_faults, object_faults, fault_at, when};
 ghost use Rattle.asp_check.specs.Sets.{names_in};
-ghost use Rattle.asp_check.specs.Walk.{head_of, names_of, field_label, repeats_at, left_by, faults_of_object};
+ghost use Rattle.asp_check.specs.Walk.{head_of, names_of, field_label, double_labels, double_parameters, left_by, faults_of_heads, faults_of_object};
 ghost use Rattle.asp_check.specs.declared.fault.CheckKind.TheVariants as kind;
 
 use crate::fault::{CheckFault, CheckKind};
@@ -25,8 +25,10 @@ pub fn note_object<'a>(
     methods: &'a [Method],
     mark: &'a Mark,
 ) -> Result<Places<'a>, AllocError>
-    ensures least { OnOk result (least.new ≡ least_of least.old (faults_of_object fields.entry.now methods.entry.now mark.entry.now)) }
-    ensures places { IfOk result (λ p. p.left.now ≡ behind (map field_label fields.entry.now) mark.entry.now.names.items) }
+    ensures least { OnOk result (least.new ≡ least_of least.old
+        (faults_of_object fields.entry.now methods.entry.now mark.entry.now)) }
+    ensures places { IfOk result
+        (λ p. p.left.now ≡ behind (map field_label fields.entry.now) mark.entry.now.names.items) }
     ensures node { IfOk result (λ p. p.node ≡ mark.entry.now.at) }
 {
     let mut places = Places::of(mark);
@@ -42,9 +44,12 @@ fn note_fields<'a>(
     fields: &'a [(Label, Term)],
     places: &mut Places<'a>,
 ) -> Result<(), AllocError>
-    ensures least { OnOk result (least.new ≡ least_of least.old (repeats_at kind.DoubleLabel (names_in labels.old) (map field_label fields.entry.now) places.old)) }
-    ensures labels { OnOk result (names_in labels.new ≡ with_names (map field_label fields.entry.now) (names_in labels.old)) }
-    ensures places { OnOk result (places.new.left.now ≡ left_by (map field_label fields.entry.now) places.old) }
+    ensures least { let faults = double_labels (names_in labels.old) fields.entry.now places.old in
+        OnOk result (least.new ≡ least_of least.old faults) }
+    ensures labels { let here = map field_label fields.entry.now in
+        OnOk result (names_in labels.new ≡ with_names here (names_in labels.old)) }
+    ensures places { let left = left_by (map field_label fields.entry.now) places.old in
+        OnOk result (places.new.left.now ≡ left) }
     ensures node { OnOk result (places.new.node ≡ places.old.node) }
 {
     for (label, _) in fields {
@@ -63,7 +68,8 @@ fn note_methods<'a>(
     methods: &'a [Method],
     places: Places<'a>,
 ) -> Result<(), AllocError>
-    ensures { OnOk result (least.new ≡ least_of least.old (method_faults places.entry.node (names_in labels.old) (map head_of methods.entry.now) places.entry.left.now)) }
+    ensures { let faults = faults_of_heads (names_in labels.old) methods.entry.now places.entry in
+        OnOk result (least.new ≡ least_of least.old faults) }
 {
     let mut places = places;
     for method in methods {
@@ -86,8 +92,10 @@ fn note_head<'a>(
     method: &'a Method,
     places: &mut Places<'a>,
 ) -> Result<(), AllocError>
-    ensures least { OnOk result (least.new ≡ least_of least.old (repeats_at kind.DoubleParameter no_names (names_of method.entry.now) places.old)) }
-    ensures places { OnOk result (places.new.left.now ≡ left_by (names_of method.entry.now) places.old) }
+    ensures least { OnOk result (least.new ≡ least_of least.old
+        (double_parameters no_names (names_of method.entry.now) places.old)) }
+    ensures places { let left = left_by (names_of method.entry.now) places.old in
+        OnOk result (places.new.left.now ≡ left) }
     ensures node { OnOk result (places.new.node ≡ places.old.node) }
 {
     let mut names = empty_names(alloc);
@@ -108,7 +116,8 @@ fn note_parameters<'a>(
     parameters: &'a [Word],
     places: &mut Places<'a>,
 ) -> Result<(), AllocError>
-    ensures least { OnOk result (least.new ≡ least_of least.old (repeats_at kind.DoubleParameter (names_in names.old) parameters.entry.now places.old)) }
+    ensures least { OnOk result (least.new ≡ least_of least.old
+        (double_parameters (names_in names.old) parameters.entry.now places.old)) }
     ensures places { OnOk result (places.new.left.now ≡ left_by parameters.entry.now places.old) }
     ensures node { OnOk result (places.new.node ≡ places.old.node) }
 {

@@ -27,8 +27,10 @@ pub fn note_repeat<'a>(
     name: &'a str,
     fault: CheckFault,
 ) -> Result<(), AllocError>
-    ensures least { OnOk result (least.new ≡ least_of least.old (when (names_in earlier.old name.entry.now) fault)) }
-    ensures earlier { OnOk result (names_in earlier.new ≡ with_name name.entry.now (names_in earlier.old)) }
+    ensures least { let faults = when (names_in earlier.old name.entry.now) fault in
+        OnOk result (least.new ≡ least_of least.old faults) }
+    ensures earlier { let grown = with_name name.entry.now (names_in earlier.old) in
+        OnOk result (names_in earlier.new ≡ grown) }
 {
     if !add_name(earlier, name)? {
         note(least, fault);

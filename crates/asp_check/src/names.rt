@@ -15,7 +15,8 @@ pub fn empty_names<'a>(alloc: Global) -> BTreeSet<&'a str>
 
 /// Adds a name, and returns whether it is new.
 pub fn add_name<'a>(names: &mut BTreeSet<&'a str>, name: &'a str) -> Result<bool, AllocError>
-    ensures with { OnOk result (names_in names.new ≡ with_name name.entry.now (names_in names.old)) }
+    ensures with { let grown = with_name name.entry.now (names_in names.old) in
+        OnOk result (names_in names.new ≡ grown) }
     ensures is_new { IfOk result (λ r. r ≡ not (names_in names.old name.entry.now)) }
 {
     Ok(names.insert(name)?)

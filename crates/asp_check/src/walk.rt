@@ -48,7 +48,8 @@ impl<'a> Walk<'a> {
     fn visit_variable(&mut self, name: &'a Word, at: usize)
         ensures bound { bound_in self.new ≡ bound_in self.old }
         ensures arities { self.new.arities.items ≡ self.old.arities.items }
-        ensures least { Finds self.old (unless (bound_in self.old name.entry.now) (fault_at at kind.Unbound)) self.new }
+        ensures least { let fault = fault_at at kind.Unbound in
+            Finds self.old (unless (bound_in self.old name.entry.now) fault) self.new }
     {
         if !has_name(&self.bound, name.as_str()) {
             let kind = CheckKind::Unbound;
@@ -96,8 +97,10 @@ impl<'a> Walk<'a> {
     #[tactic(auto, using(crate::proofs::Laws::walk_laws))]
     pub fn visit(&mut self, term: &'a Term) -> Result<(), AllocError>
         ensures bound { OnOk result (bound_in self.new ≡ bound_in self.old) }
-        ensures arities { OnOk result (Sees self.old (arities_in (marked_of term.entry.now)) self.new) }
-        ensures least { OnOk result (Finds self.old (name_faults (bound_in self.old) (marked_of term.entry.now)) self.new) }
+        ensures arities { let own = arities_in (marked_of term.entry.now) in
+            OnOk result (Sees self.old own self.new) }
+        ensures least { let faults = name_faults (bound_in self.old) (marked_of term.entry.now) in
+            OnOk result (Finds self.old faults self.new) }
     {
         match term {
             Term::Loc(_, _)
@@ -161,8 +164,10 @@ impl<'a> Walk<'a> {
     #[tactic(auto, using(crate::proofs::Laws::walk_laws))]
     fn visit_all(&mut self, terms: &'a [Term]) -> Result<(), AllocError>
         ensures bound { OnOk result (bound_in self.new ≡ bound_in self.old) }
-        ensures arities { OnOk result (Sees self.old (arities_of_all (map marked_of terms.entry.now)) self.new) }
-        ensures least { OnOk result (Finds self.old (faults_of_all (bound_in self.old) (map marked_of terms.entry.now)) self.new) }
+        ensures arities { let own = arities_of_all (map marked_of terms.entry.now) in
+            OnOk result (Sees self.old own self.new) }
+        ensures least { OnOk result (Finds self.old
+            (faults_of_all (bound_in self.old) (map marked_of terms.entry.now)) self.new) }
     {
         for term in terms {
             self.visit(term)?;
@@ -175,8 +180,10 @@ impl<'a> Walk<'a> {
     #[tactic(auto, using(crate::proofs::Laws::walk_laws))]
     fn visit_let(&mut self, name: &'a Word, body: &'a Term) -> Result<(), AllocError>
         ensures bound { OnOk result (bound_in self.new ≡ bound_in self.old) }
-        ensures arities { OnOk result (Sees self.old (arities_in (marked_of body.entry.now)) self.new) }
-        ensures least { OnOk result (Finds self.old (name_faults (with_name name.entry.now (bound_in self.old)) (marked_of body.entry.now)) self.new) }
+        ensures arities { let own = arities_in (marked_of body.entry.now) in
+            OnOk result (Sees self.old own self.new) }
+        ensures least { let inside = with_name name.entry.now (bound_in self.old) in
+            OnOk result (Finds self.old (name_faults inside (marked_of body.entry.now)) self.new) }
     {
         let mut added = Vec::new(self.alloc);
         bind(&mut self.bound, &mut added, name.as_str())?;
@@ -189,8 +196,10 @@ impl<'a> Walk<'a> {
     #[tactic(auto, using(crate::proofs::Laws::walk_laws))]
     fn visit_fields(&mut self, fields: &'a [(Label, Term)]) -> Result<(), AllocError>
         ensures bound { OnOk result (bound_in self.new ≡ bound_in self.old) }
-        ensures arities { OnOk result (Sees self.old (arities_of_all (map field_term fields.entry.now)) self.new) }
-        ensures least { OnOk result (Finds self.old (faults_of_all (bound_in self.old) (map field_term fields.entry.now)) self.new) }
+        ensures arities { let own = arities_of_all (map field_term fields.entry.now) in
+            OnOk result (Sees self.old own self.new) }
+        ensures least { OnOk result (Finds self.old
+            (faults_of_all (bound_in self.old) (map field_term fields.entry.now)) self.new) }
     {
         for (_, term) in fields {
             self.visit(term)?;
@@ -202,8 +211,10 @@ impl<'a> Walk<'a> {
     #[tactic(auto, using(crate::proofs::Laws::walk_laws))]
     fn visit_methods(&mut self, methods: &'a [Method], places: Places<'a>) -> Result<(), AllocError>
         ensures bound { OnOk result (bound_in self.new ≡ bound_in self.old) }
-        ensures arities { OnOk result (Sees self.old (arities_of_methods places.entry methods.entry.now) self.new) }
-        ensures least { OnOk result (Finds self.old (faults_of_bodies (bound_in self.old) methods.entry.now) self.new) }
+        ensures arities { let own = arities_of_methods places.entry methods.entry.now in
+            OnOk result (Sees self.old own self.new) }
+        ensures least { let faults = faults_of_bodies (bound_in self.old) methods.entry.now in
+            OnOk result (Finds self.old faults self.new) }
     {
         let mut places = places;
         for method in methods {
@@ -220,8 +231,10 @@ impl<'a> Walk<'a> {
     #[tactic(auto, using(crate::proofs::Laws::walk_laws))]
     fn visit_method(&mut self, method: &'a Method) -> Result<(), AllocError>
         ensures bound { OnOk result (bound_in self.new ≡ bound_in self.old) }
-        ensures arities { OnOk result (Sees self.old (arities_in (body_of method.entry.now)) self.new) }
-        ensures least { OnOk result (Finds self.old (name_faults (with_names (names_of method.entry.now) (bound_in self.old)) (body_of method.entry.now)) self.new) }
+        ensures arities { let own = arities_in (body_of method.entry.now) in
+            OnOk result (Sees self.old own self.new) }
+        ensures least { let inside = with_names (names_of method.entry.now) (bound_in self.old) in
+            OnOk result (Finds self.old (name_faults inside (body_of method.entry.now)) self.new) }
     {
         let added = bind_head(self.alloc, &mut self.bound, method)?;
         self.visit(&method.body)?;

@@ -19,7 +19,8 @@ use std::alloc::{AllocError, Global};
 pub fn check(alloc: Global, program: Program) -> Result<Checked, CheckError>
     requires readable { IsReadable (tree_of program.root) }
     ensures checked { IfOk result (λ c. c.program ≡ program × IsChecked (marked_of program.root)) }
-    ensures fault { IfErr result (λ e. (f : CheckFault) → e ≡ errors.Fault f → IsFirstFault (marked_of program.root) f) }
+    ensures fault { let text = marked_of program.root in
+        IfErr result (λ e. (f : CheckFault) → e ≡ errors.Fault f → IsFirstFault text f) }
     ensures only { IfErr result (λ e. IsChecked (marked_of program.root) → e ≡ errors.Memory) }
 {
     match first_fault(alloc, &program)? {

@@ -1,5 +1,6 @@
 -- The parentheses round an operand are no more than the level allows.
 use Rattle.std.proofs.Common.{◌≡◌, ℕ, ◌+◌, ◌-◌, ◌≤◌, Bool, true, false, List, [], ◌∷◌, ◌++◌, Option, Some, None, refl, arith}
+use Rattle.asp_model.specs.declared.limits.TheConstants.{MOST_LEVEL}
 use Rattle.asp_model.specs.Term as term
 use Rattle.asp_model.specs.Marked.{Marked, marked, no_marked, and_marked}
 use Rattle.asp_tokens.specs.declared.token.Token.{Token}
@@ -53,7 +54,7 @@ mode_parentheses _ = 0
 
 -- a number of brackets is open, some of them in what stands around, and the others leave room for the parentheses
 abbrev pub ModeFits : ModeShape → ℕ → ℕ → Type 0
-ModeFits m b n = (mode_brackets m + b ≤ n) × (mode_parentheses m + n ≤ 200)
+ModeFits m b n = (mode_brackets m + b ≤ n) × (mode_parentheses m + n ≤ MOST_LEVEL)
 
 abbrev pub Fits : StateShape → ℕ → Type 0
 Fits (At m s o) n = ModeFits m (stack_brackets (s ∷ o)) n
@@ -121,14 +122,14 @@ back_fits m (s ∷ o) n h = h
 abbrev ClosingFits : Option ClosingShape → ℕ → ℕ → Type 0
 ClosingFits None b n = Unit {0}
 ClosingFits (Some (Back m)) b n = ModeFits m b n
-ClosingFits (Some (Again k)) b n = (kind_brackets k + b ≤ n) × (n ≤ 200)
+ClosingFits (Some (Again k)) b n = (kind_brackets k + b ≤ n) × (n ≤ MOST_LEVEL)
 
 closed_fits : (c : Option ClosingShape) (o : List OpenShape) (n : ℕ) → ClosingFits c (stack_brackets o) n → IfFits (closings.closed c o) n
 closed_fits None o n h = tt
 closed_fits (Some (Back m)) o n h = back_fits m o n h
 closed_fits (Some (Again k)) o n h = (omega (arith, h.0), omega (arith, h.1))
 
-module _ (v : PartShape) (b q n : ℕ) (few : parentheses_of v.term ≤ q) (low : q + n ≤ 200) where
+module _ (v : PartShape) (b q n : ℕ) (few : parentheses_of v.term ≤ q) (low : q + n ≤ MOST_LEVEL) where
   close_fits : (k : KindShape) → kind_brackets k + b ≤ n → ClosingFits (close k v) b (n - 1)
   close_fits (InParentheses at) h = (omega (arith, h), omega (arith, h, low, few, one_more v.term))
   close_fits (InWord head at) h = (omega (arith, h), omega (arith, low))
@@ -168,22 +169,22 @@ ended_fits (finished Top v []) n = tt
 ended_fits (finished Top v (s ∷ o)) n = tt
 ended_fits (finished _ v o) n = tt
 
-term_fits : (k : KindShape) (e : PartShape) (s : OpenShape) (o : List OpenShape) (n : ℕ) → kind_brackets k + stack_brackets o ≤ n → n ≤ 200 → IfFits (next_term k e s o) n
+term_fits : (k : KindShape) (e : PartShape) (s : OpenShape) (o : List OpenShape) (n : ℕ) → kind_brackets k + stack_brackets o ≤ n → n ≤ MOST_LEVEL → IfFits (next_term k e s o) n
 term_fits (InField x label) e s o n h g = back_fits _ o n (omega (arith, h), omega (arith, g))
 term_fits _ e s o n h g = (omega (arith, h), omega (arith, g))
 
-test_fits : (a : Option PendingShape) (sign : term.SignShape) (p : PartShape) (s : OpenShape) (o : List OpenShape) (n : ℕ) → stack_brackets (s ∷ o) ≤ n → n ≤ 200
+test_fits : (a : Option PendingShape) (sign : term.SignShape) (p : PartShape) (s : OpenShape) (o : List OpenShape) (n : ℕ) → stack_brackets (s ∷ o) ≤ n → n ≤ MOST_LEVEL
     → IfFits (machine.test_behind a sign p s o) n
 test_fits None sign p s o n h g = (omega (arith, h), omega (arith, g))
 test_fits (Some a) sign p s o n h g = tt
 
-assign_fits : (p : PartShape) (d : Bool) (s : OpenShape) (o : List OpenShape) (n : ℕ) → stack_brackets (s ∷ o) ≤ n → n ≤ 200 → IfFits (machine.assign p d s o) n
+assign_fits : (p : PartShape) (d : Bool) (s : OpenShape) (o : List OpenShape) (n : ℕ) → stack_brackets (s ∷ o) ≤ n → n ≤ MOST_LEVEL → IfFits (machine.assign p d s o) n
 assign_fits p true s o n h g = (omega (arith, h), omega (arith, g))
 assign_fits p false s o n h g = tt
 
 -- a token behind an operand
-module _ (p : PartShape) (s : OpenShape) (o : List OpenShape) (n : ℕ) (h : stack_brackets (s ∷ o) ≤ n) (low : parentheses_of p.term + n ≤ 200) where
-  few : n ≤ 200
+module _ (p : PartShape) (s : OpenShape) (o : List OpenShape) (n : ℕ) (h : stack_brackets (s ∷ o) ≤ n) (low : parentheses_of p.term + n ≤ MOST_LEVEL) where
+  few : n ≤ MOST_LEVEL
   few = omega (arith, low)
 
   pub behind_fits : (t : Token) → IfFits (behind true p s o t) (brackets_after t n)

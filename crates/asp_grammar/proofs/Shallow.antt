@@ -1,5 +1,6 @@
 -- The reader keeps its brackets and parentheses within the level.
 use Rattle.std.proofs.Common.{◌≡◌, ℕ, ◌+◌, ◌-◌, ◌≤◌, ◌<◌, Bool, true, false, List, [], ◌∷◌, Option, Some, None, length, refl, sym, ap, subst, arith}
+use Rattle.asp_model.specs.declared.limits.TheConstants.{MOST_LEVEL}
 use Rattle.asp_model.specs.Names.{Text}
 use Rattle.asp_tokens.specs.declared.token.Token.{Token}
 use Rattle.asp_tokens.specs.declared.token.Token.TheVariants as tokens
@@ -19,9 +20,9 @@ use Rattle.asp_grammar.proofs.Depth.{kind_brackets, stack_brackets, opening_brac
 abbrev ChangeFits : Option ChangeShape → ℕ → ℕ → Type 0
 ChangeFits None b n = Unit {0}
 ChangeFits (Some (Goes m)) b n = ModeFits m b n
-ChangeFits (Some (Opens k)) b n = (kind_brackets k + b ≤ n) × (n ≤ 200)
+ChangeFits (Some (Opens k)) b n = (kind_brackets k + b ≤ n) × (n ≤ MOST_LEVEL)
 
-first_fits : (d : Bool) (k : KindShape) (s : OpenShape) (o : List OpenShape) (n : ℕ) → kind_brackets k + stack_brackets (s ∷ o) ≤ n → n ≤ 200 → Fits (At (first_mode d) (fresh k) (s ∷ o)) n
+first_fits : (d : Bool) (k : KindShape) (s : OpenShape) (o : List OpenShape) (n : ℕ) → kind_brackets k + stack_brackets (s ∷ o) ≤ n → n ≤ MOST_LEVEL → Fits (At (first_mode d) (fresh k) (s ∷ o)) n
 first_fits true k s o n h g = (omega (arith, h), omega (arith, g))
 first_fits false k s o n h g = (omega (arith, h), omega (arith, g))
 
@@ -36,7 +37,7 @@ at_most_one (InBinding at name_at x) = omega arith
 at_most_one (InBody at name_at x t) = omega arith
 at_most_one _ = omega arith
 
-operand_fits : (t : Token) (at b n : ℕ) → b ≤ n → brackets_after t n ≤ 200 → ChangeFits (operand t at) b (brackets_after t n)
+operand_fits : (t : Token) (at b n : ℕ) → b ≤ n → brackets_after t n ≤ MOST_LEVEL → ChangeFits (operand t at) b (brackets_after t n)
 operand_fits (tokens.Number i) at b n h g = (omega (arith, h), omega (arith, g))
 operand_fits (tokens.Name x) at b n h g = (omega (arith, h), omega (arith, g))
 operand_fits tokens.Open at b n h g = (omega (arith, h), omega (arith, g))
@@ -50,11 +51,11 @@ operand_fits tokens.If at b n h g = (omega (arith, h), omega (arith, g))
 operand_fits tokens.Echo at b n h g = (omega (arith, h), omega (arith, g))
 operand_fits _ at b n h g = tt
 
-begin_fits : (t : Token) (at b n : ℕ) → b ≤ n → brackets_after t n ≤ 200 → ChangeFits (begin t at) b (brackets_after t n)
+begin_fits : (t : Token) (at b n : ℕ) → b ≤ n → brackets_after t n ≤ MOST_LEVEL → ChangeFits (begin t at) b (brackets_after t n)
 begin_fits tokens.Let at b n h g = (omega (arith, h), omega (arith, g))
 begin_fits t at b n h g = operand_fits t at b n h g
 
-opening_fits : (opener : OpenerShape) (k : KindShape) (t : Token) (b n : ℕ) → opening_brackets opener k + b ≤ n → brackets_after t n ≤ 200 → ChangeFits (changes.opening opener k t) b (brackets_after t n)
+opening_fits : (opener : OpenerShape) (k : KindShape) (t : Token) (b n : ℕ) → opening_brackets opener k + b ≤ n → brackets_after t n ≤ MOST_LEVEL → ChangeFits (changes.opening opener k t) b (brackets_after t n)
 opening_fits ByRound k tokens.Open b n h g = (omega (arith, h, at_most_one k), omega (arith, g))
 opening_fits ByRound k _ b n h g = tt
 opening_fits ByBrace k tokens.BraceOpen b n h g = (omega (arith, h, at_most_one k), omega (arith, g))
@@ -62,7 +63,7 @@ opening_fits ByBrace k _ b n h g = tt
 opening_fits ByEquals k tokens.Equals b n h g = (omega (arith, h), omega (arith, g))
 opening_fits ByEquals k _ b n h g = tt
 
-change_fits : (m : ModeShape) (t : Token) (at b n : ℕ) → mode_brackets m + b ≤ n → brackets_after t n ≤ 200 → ChangeFits (change_of m t at) b (brackets_after t n)
+change_fits : (m : ModeShape) (t : Token) (at b n : ℕ) → mode_brackets m + b ≤ n → brackets_after t n ≤ MOST_LEVEL → ChangeFits (change_of m t at) b (brackets_after t n)
 change_fits Begin t at b n h g = begin_fits t at b n (omega (arith, h)) g
 change_fits Want t at b n h g = operand_fits t at b n (omega (arith, h)) g
 change_fits (Dotted p) (tokens.Name x) at b n h g = (omega (arith, h), omega (arith, g))
@@ -111,18 +112,18 @@ change_fits (ParameterNaming x top) (tokens.Name name) at b n h g = (omega (arit
 change_fits (ParameterNaming x top) _ at b n h g = tt
 change_fits _ t at b n h g = tt
 
-have_fits : (x : OperandShape) (s : OpenShape) (o : List OpenShape) (t : Token) (n : ℕ) → stack_brackets (s ∷ o) ≤ n → parentheses_of (operand_part x).term + n ≤ 200
-    → brackets_after t n ≤ 200 → IfFits (have true x s o t) (brackets_after t n)
+have_fits : (x : OperandShape) (s : OpenShape) (o : List OpenShape) (t : Token) (n : ℕ) → stack_brackets (s ∷ o) ≤ n → parentheses_of (operand_part x).term + n ≤ MOST_LEVEL
+    → brackets_after t n ≤ MOST_LEVEL → IfFits (have true x s o t) (brackets_after t n)
 have_fits (Plain p) s o tokens.Open n h low g = tt
 have_fits (Access p at label) s o tokens.Open n h low g = (omega (arith, h), omega (arith, g))
 have_fits x s o t n h low g = behind_fits (operand_part x) s o n h low t
 
 call_fits : (p : PartShape) (label_at : ℕ) (label : Text) (s : OpenShape) (o : List OpenShape) (t : Token) (at n : ℕ) → 1 + stack_brackets (s ∷ o) ≤ n
-    → brackets_after t n ≤ 200 → IfFits (machine.call p label_at label s o t at) (brackets_after t n)
+    → brackets_after t n ≤ MOST_LEVEL → IfFits (machine.call p label_at label s o t at) (brackets_after t n)
 call_fits p i label s o tokens.Close at n h g = (omega (arith, h), omega (arith, g))
 call_fits p i label s o t at n h g = changed_fits (begin t at) (fresh (InCall p i label [])) (s ∷ o) (brackets_after t n) (begin_fits t at (1 + stack_brackets (s ∷ o)) n h g)
 
-mode_fits : (m : ModeShape) (s : OpenShape) (o : List OpenShape) (t : Token) (at n : ℕ) → Fits (At m s o) n → brackets_after t n ≤ 200 → IfFits (stepped true m s o t at) (brackets_after t n)
+mode_fits : (m : ModeShape) (s : OpenShape) (o : List OpenShape) (t : Token) (at n : ℕ) → Fits (At m s o) n → brackets_after t n ≤ MOST_LEVEL → IfFits (stepped true m s o t at) (brackets_after t n)
 mode_fits (Have x) s o t at n h g = have_fits x s o t n (omega (arith, h.0)) h.1 g
 mode_fits (Called p i label) s o t at n h g = call_fits p i label s o t at n h.0 g
 mode_fits Begin s o t at n h g = changed_fits (change_of Begin t at) s o (brackets_after t n) (change_fits Begin t at (stack_brackets (s ∷ o)) n h.0 g)
@@ -194,22 +195,22 @@ pub record IsShallow (x : StateShape) (w : WalkShape) : Type 0 where
   pub steep : Steep w.inner w.outer
   pub fits : Fits x (length w.outer)
 
-step_fits : (x y : StateShape) (l : Lexeme) (n : ℕ) → Fits x n → brackets_after l.token n ≤ 200 → step true x l ≡ Some y → Fits y (brackets_after l.token n)
+step_fits : (x y : StateShape) (l : Lexeme) (n : ℕ) → Fits x n → brackets_after l.token n ≤ MOST_LEVEL → step true x l ≡ Some y → Fits y (brackets_after l.token n)
 step_fits (At m s o) y l n h g e = subst (λ z. IfFits z (brackets_after l.token n)) e (mode_fits m s o l.token l.at n h g)
 step_fits (Done t) y l n h g e = absurd cc
 
-pub shallow_step : (x y : StateShape) (w : WalkShape) (l : Lexeme) → IsOrdered w → IsOrdered (walked w l.token) → IsShallow x w → (walked w l.token).level ≤ 200 → step true x l ≡ Some y
+pub shallow_step : (x y : StateShape) (w : WalkShape) (l : Lexeme) → IsOrdered w → IsOrdered (walked w l.token) → IsShallow x w → (walked w l.token).level ≤ MOST_LEVEL → step true x l ≡ Some y
     → IsShallow y (walked w l.token)
 shallow_step x y w l o p h low e =
     let v = walked w l.token in
     let steep : Steep v.inner v.outer = walked_steep w l.token o h.steep in
-    let few : length v.outer ≤ 200 = omega (arith, steep_few v.inner v.outer steep, p.0, low) in
+    let few : length v.outer ≤ MOST_LEVEL = omega (arith, steep_few v.inner v.outer steep, p.0, low) in
     record {
       steep = steep;
-      fits = subst (Fits y) (sym (walked_length w l.token)) (step_fits x y l (length w.outer) h.fits (subst (λ i. i ≤ 200) (walked_length w l.token) few) e);
+      fits = subst (Fits y) (sym (walked_length w l.token)) (step_fits x y l (length w.outer) h.fits (subst (λ i. i ≤ MOST_LEVEL) (walked_length w l.token) few) e);
     }
 
-pub shallow_few : (x : StateShape) (w : WalkShape) → IsShallow x w → parentheses_in x ≤ 200
+pub shallow_few : (x : StateShape) (w : WalkShape) → IsShallow x w → parentheses_in x ≤ MOST_LEVEL
 shallow_few (At (Have p) s o) w h = omega (arith, h.fits.1)
 shallow_few (At _ s o) w h = omega arith
 shallow_few (Done t) w h = omega arith
@@ -217,8 +218,8 @@ shallow_few (Done t) w h = omega arith
 -- what a bracket closes has no more parentheses round it than the operand before it
 
 -- what a bracket closes has no more parentheses round it than the operand before it
-pub finished_few : (k : KindShape) (v : PartShape) (outer : List OpenShape) (p : PartShape) (s : OpenShape) (o : List OpenShape) → finished k v outer ≡ finish p s o → parentheses_of p.term ≤ 200
-    → parentheses_of v.term ≤ 200
+pub finished_few : (k : KindShape) (v : PartShape) (outer : List OpenShape) (p : PartShape) (s : OpenShape) (o : List OpenShape) → finished k v outer ≡ finish p s o → parentheses_of p.term ≤ MOST_LEVEL
+    → parentheses_of v.term ≤ MOST_LEVEL
 finished_few k v outer p s o e low =
     let h = subst (λ g. FinishedFits g (stack_brackets (s ∷ o)) (parentheses_of p.term)) (sym e) (finish_fits p s o (stack_brackets (s ∷ o)) (omega arith)) in
     omega (arith, h.1, low)

@@ -15,7 +15,15 @@ use Rattle.asp_grammar.specs.Changes.{ChangeShape, changed, call_begun, operand,
 abbrev pub next_term : KindShape → PartShape → OpenShape → List OpenShape → Option StateShape
 next_term (InField object label) e s outer = back (MethodNaming (with_field object label e.term)) outer
 next_term kind e s outer =
-    Some (At Begin (record { kind = kind; start = first_start s.before s.start e.start; before = s.before ++ e.term ∷ []; puts = []; test = None; sum = None; product = None }) outer)
+    Some (At Begin (record {
+      kind = kind;
+      start = first_start s.before s.start e.start;
+      before = s.before ++ e.term ∷ [];
+      puts = [];
+      test = None;
+      sum = None;
+      product = None;
+    }) outer)
 
 -- an operator behind an operand
 abbrev pub times : term.SignShape → PartShape → OpenShape → List OpenShape → Option StateShape

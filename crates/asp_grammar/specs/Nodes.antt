@@ -56,7 +56,8 @@ called p at label ts = part p.start (marked (term.Call label) (named_mark p.star
 
 -- a new value for the field that an access names; of another term the reader makes no such node
 abbrev pub put_to : ℕ → Marked → Marked → Marked
-put_to at (marked (term.Get label) m (and_marked t no_marked)) u = marked (term.Put label) (record { at = at; parentheses = 0; left = m.parentheses; names = m.names }) (two_marked t u)
+put_to at (marked (term.Get label) m (and_marked t no_marked)) u =
+    marked (term.Put label) (record { at = at; parentheses = 0; left = m.parentheses; names = m.names }) (two_marked t u)
 put_to at t u = marked term.Hole (mark_at at) (two_marked t u)
 
 abbrev pub put : PartShape → PartShape → PartShape

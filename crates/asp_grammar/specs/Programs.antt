@@ -1,5 +1,6 @@
 -- The bytes that are a program.
 use Rattle.std.specs.Prelude.{◌≡◌, ℕ, ◌≤◌, true, List, ◌++◌}
+use Rattle.asp_model.specs.declared.limits.TheConstants.{MOST_LEVEL}
 use Rattle.asp_model.specs.Marked.{Marked}
 use Rattle.asp_tokens.specs.Tokens.{Lexeme, lexemes_of}
 use Rattle.asp_tokens.specs.Levels.{level_after}
@@ -8,4 +9,4 @@ use Rattle.asp_grammar.specs.Grammar.{IsProgram}
 -- the bytes are a program of the grammar with its rule on `:=`, in which no token reaches a level above 200
 pub record IsProgramText (bytes : List ℕ) (program : Marked) : Type 0 where
   pub is : IsProgram true (lexemes_of bytes) program
-  pub low : (before behind : List Lexeme) → lexemes_of bytes ≡ before ++ behind → level_after before ≤ 200
+  pub low : (before behind : List Lexeme) → lexemes_of bytes ≡ before ++ behind → level_after before ≤ MOST_LEVEL

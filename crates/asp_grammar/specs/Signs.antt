@@ -30,7 +30,8 @@ pub data IsWord : Token → Head → Type 0 where
 -- NAME "(" NAME { "," NAME }, with the places of the names
 pub data IsHead : List Lexeme → List ℕ → MethodHead → Type 0 where
   head : (at open_at slf_at : ℕ) (label slf : Text)
-      → IsHead (lexeme (tokens.Name label) at ∷ lexeme tokens.Open open_at ∷ lexeme (tokens.Name slf) slf_at ∷ []) (at ∷ slf_at ∷ []) (record { label = label; slf = slf; parameters = [] })
+      → IsHead (lexeme (tokens.Name label) at ∷ lexeme tokens.Open open_at ∷ lexeme (tokens.Name slf) slf_at ∷ [])
+      (at ∷ slf_at ∷ []) (record { label = label; slf = slf; parameters = [] })
   parameter : (ls : List Lexeme) (ns : List ℕ) (h : MethodHead) (comma_at at : ℕ) (x : Text) → IsHead ls ns h
       → IsHead (ls ++ lexeme tokens.Comma comma_at ∷ lexeme (tokens.Name x) at ∷ []) (ns ++ at ∷ []) (with_parameter h x)
 

@@ -1,6 +1,7 @@
 -- The text of a program that has a text is one of it, places aside.
 use Rattle.std.proofs.Common.{◌≡◌, ℕ, ◌≤◌, true, List, [], ◌∷◌, ◌++◌, map, length, take, drop, refl, sym, ap, ◌∙◌, subst}
 use Rattle.std.proofs.lemmas.List.{take-append-drop}
+use Rattle.asp_model.specs.declared.limits.TheConstants.{MOST_LEVEL}
 use Rattle.asp_model.specs.Marked.{Marked}
 use Rattle.asp_tokens.specs.declared.token.Token.{Token}
 use Rattle.asp_tokens.specs.declared.token.Token.TheVariants as tokens
@@ -56,7 +57,7 @@ of_read bytes program p =
       read = moved f program;
       is = record {
         is = subst (λ (l : List Lexeme). IsProgram true l (moved f program)) is (program_moved ls program p.is f);
-        low = λ before behind e. subst (λ (n : ℕ). n ≤ 200) (sym (level_moved f ls before behind (is ∙ e)))
+        low = λ before behind e. subst (λ (n : ℕ). n ≤ MOST_LEVEL) (sym (level_moved f ls before behind (is ∙ e)))
             (p.low (take (length before) ls) (drop (length before) ls) (sym (take-append-drop (length before) ls)));
       };
       same = unplaced_again f program;

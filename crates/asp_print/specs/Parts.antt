@@ -68,7 +68,8 @@ abbrev pub method_piece : Method → List Token
 method_piece m = head_tokens (head_of m) ++ tokens.Equals ∷ term_tokens m.body
 
 abbrev pub object_pieces : List (Label × Term) → List Method → List Token
-object_pieces fields methods = tokens.SquareOpen ∷ (between tokens.Comma (map field_piece fields) ++ (method_part (map method_piece methods) ++ tokens.SquareClose ∷ []))
+object_pieces fields methods =
+    tokens.SquareOpen ∷ (between tokens.Comma (map field_piece fields) ++ (method_part (map method_piece methods) ++ tokens.SquareClose ∷ []))
 
 abbrev pub field_tokens : Text × Marked → List Token
 field_tokens f = tokens.Name f.0 ∷ tokens.Equals ∷ tokens_of f.1
@@ -78,4 +79,5 @@ method_tokens m = head_tokens m.head ++ tokens.Equals ∷ tokens_of m.body
 
 -- an object without parentheses round it
 abbrev pub object_tokens : List (Text × Marked) → List MarkedMethod → List Token
-object_tokens fields methods = tokens.SquareOpen ∷ (between tokens.Comma (map field_tokens fields) ++ (method_part (map method_tokens methods) ++ tokens.SquareClose ∷ []))
+object_tokens fields methods =
+    tokens.SquareOpen ∷ (between tokens.Comma (map field_tokens fields) ++ (method_part (map method_tokens methods) ++ tokens.SquareClose ∷ []))

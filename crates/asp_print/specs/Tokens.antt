@@ -76,7 +76,9 @@ abbrev pub word_tokens : Token → List Token → List Token
 word_tokens word ts = word ∷ tokens.Open ∷ (ts ++ tokens.Close ∷ [])
 
 abbrev pub choice_tokens : List Token → List Token → List Token → List Token
-choice_tokens cs ts es = tokens.If ∷ tokens.Open ∷ (cs ++ tokens.Close ∷ tokens.BraceOpen ∷ (ts ++ tokens.BraceClose ∷ tokens.Else ∷ tokens.BraceOpen ∷ (es ++ tokens.BraceClose ∷ [])))
+choice_tokens cs ts es =
+    tokens.If ∷ tokens.Open ∷ (cs ++ tokens.Close ∷ tokens.BraceOpen ∷ (ts
+    ++ tokens.BraceClose ∷ tokens.Else ∷ tokens.BraceOpen ∷ (es ++ tokens.BraceClose ∷ [])))
 
 abbrev pub access_tokens : Text → List Token → List Token
 access_tokens label ts = ts ++ tokens.Dot ∷ tokens.Name label ∷ []
@@ -94,7 +96,9 @@ scatter_tokens ts label us = word_tokens tokens.Scatter (ts ++ tokens.Comma ∷ 
 abbrev pub laid : Head → ℕ → List (List Token) → List Token
 laid (term.Var x) left ps = tokens.Name x ∷ []
 laid (term.Number n) left ps = tokens.Number n ∷ []
-laid (term.Make fields methods) left ps = tokens.SquareOpen ∷ (between tokens.Comma (field_pieces fields ps) ++ (method_part (method_pieces methods (behind_fields fields ps)) ++ tokens.SquareClose ∷ []))
+laid (term.Make fields methods) left ps =
+    tokens.SquareOpen ∷ (between tokens.Comma (field_pieces fields ps)
+    ++ (method_part (method_pieces methods (behind_fields fields ps)) ++ tokens.SquareClose ∷ []))
 laid (term.Get label) left ps = access_tokens label (first ps)
 laid (term.Put label) left ps = enclosed left (access_tokens label (first ps)) ++ tokens.Assign ∷ first (others ps)
 laid (term.Call label) left ps = call_tokens label (first ps) (between tokens.Comma (others ps))

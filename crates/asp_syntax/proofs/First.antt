@@ -2,6 +2,7 @@
 use Rattle.std.proofs.Common.{◌≡◌, ◌≢◌, ◌≤◌, ◌<◌, Bool, true, false, List, [], ◌∷◌, ◌++◌, Option, Some, None, Result, Ok, Err, refl, sym, ap, subst, ◌∙◌, append_assoc, arith, inl, inr}
 use Rattle.std.proofs.lemmas.Bool.{ltb-true, ltb-false}
 use Rattle.std.specs.Prelude.{nat_lt}
+use Rattle.asp_model.specs.declared.limits.TheConstants.{MOST_LEVEL}
 use Rattle.asp_model.specs.Marked.{Marked}
 use Rattle.asp_tokens.specs.declared.token.Token.{Token}
 use Rattle.asp_tokens.specs.declared.token.Token.TheVariants as tokens
@@ -69,12 +70,12 @@ record IsBuilt (t : Token) : Type 0 where
   not_number : t ≢ tokens.BadNumber
   not_later : is_later t ≡ false
 
-module _ (ls : List Lexeme) (l : Lexeme) (x : StateShape) (strict : run true start ls ≡ Some x) (loose : run false start ls ≡ Some x) (low : level_after ls ≤ 200) (built : IsBuilt l.token) where
-  none_at : (y z : StateShape) → step false x l ≡ Some y → nat_lt 200 (level_after (ls ++ l ∷ [])) ≡ false → step true x l ≡ Some z → (kind : SyntaxKind) → IsFault kind ls l → ⊥
+module _ (ls : List Lexeme) (l : Lexeme) (x : StateShape) (strict : run true start ls ≡ Some x) (loose : run false start ls ≡ Some x) (low : level_after ls ≤ MOST_LEVEL) (built : IsBuilt l.token) where
+  none_at : (y z : StateShape) → step false x l ≡ Some y → nat_lt MOST_LEVEL (level_after (ls ++ l ∷ [])) ≡ false → step true x l ≡ Some z → (kind : SyntaxKind) → IsFault kind ls l → ⊥
   none_at y z f d g BadByte i = built.not_byte i
   none_at y z f d g BadNumber i = built.not_number i
   none_at y z f d g Unexpected i = i.2 (yet false ls x y l loose f)
-  none_at y z f d g TooDeep i = let le : level_after (ls ++ l ∷ []) ≤ 200 = ltb-false 200 (level_after (ls ++ l ∷ [])) d in absurd (omega (arith, i.1, le))
+  none_at y z f d g TooDeep i = let le : level_after (ls ++ l ∷ []) ≤ MOST_LEVEL = ltb-false MOST_LEVEL (level_after (ls ++ l ∷ [])) d in absurd (omega (arith, i.1, le))
   none_at y z f d g NotAField i = i.3 (yet true ls x z l strict g)
   none_at y z f d g NotYet i = let n : is_later l.token ≡ false = built.not_later in absurd cc
 
@@ -94,21 +95,21 @@ module _ (ls : List Lexeme) (l : Lexeme) (x : StateShape) (strict : run true sta
   least_deep y f NotAField i = omega arith
   least_deep y f NotYet i = omega arith
 
-  least_field : (y : StateShape) → step false x l ≡ Some y → nat_lt 200 (level_after (ls ++ l ∷ [])) ≡ false → (kind : SyntaxKind) → IsFault kind ls l → 5 ≤ number_of kind
+  least_field : (y : StateShape) → step false x l ≡ Some y → nat_lt MOST_LEVEL (level_after (ls ++ l ∷ [])) ≡ false → (kind : SyntaxKind) → IsFault kind ls l → 5 ≤ number_of kind
   least_field y f d BadByte i = absurd (built.not_byte i)
   least_field y f d BadNumber i = absurd (built.not_number i)
   least_field y f d Unexpected i = absurd (i.2 (yet false ls x y l loose f))
-  least_field y f d TooDeep i = let le : level_after (ls ++ l ∷ []) ≤ 200 = ltb-false 200 (level_after (ls ++ l ∷ [])) d in absurd (omega (arith, i.1, le))
+  least_field y f d TooDeep i = let le : level_after (ls ++ l ∷ []) ≤ MOST_LEVEL = ltb-false MOST_LEVEL (level_after (ls ++ l ∷ [])) d in absurd (omega (arith, i.1, le))
   least_field y f d NotAField i = omega arith
   least_field y f d NotYet i = omega arith
 
   assigns : (y : StateShape) → step false x l ≡ Some y → step true x l ≡ None → l.token ≡ tokens.Assign
   assigns y f g = elim (differs x l) [ inl e ↦ absurd cc | inr e ↦ e ]
 
-  judged_says : (y : Option StateShape) (d : Bool) (z : Option StateShape) → step false x l ≡ y → nat_lt 200 (level_after (ls ++ l ∷ [])) ≡ d → step true x l ≡ z → Says ls l (judged y d z)
+  judged_says : (y : Option StateShape) (d : Bool) (z : Option StateShape) → step false x l ≡ y → nat_lt MOST_LEVEL (level_after (ls ++ l ∷ [])) ≡ d → step true x l ≡ z → Says ls l (judged y d z)
   judged_says None d z f e g = ((built.not_later, viable false ls x loose, no_more false ls x l loose f), least_unexpected)
   judged_says (Some y) true z f e g =
-      let lt : 200 < level_after (ls ++ l ∷ []) = ltb-true 200 (level_after (ls ++ l ∷ [])) e in
+      let lt : MOST_LEVEL < level_after (ls ++ l ∷ []) = ltb-true MOST_LEVEL (level_after (ls ++ l ∷ [])) e in
       ((omega (arith, lt, low), lt), least_deep y f)
   judged_says (Some y) false None f e g = ((assigns y f g, viable true ls x strict, yet false ls x y l loose f, no_more true ls x l strict g), least_field y f e)
   judged_says (Some y) false (Some z) f e g = none_at y z f e g
@@ -148,11 +149,11 @@ bad_says ls l tokens.WaitAll v e h = (ap is_later e, least_later ls l (ap is_lat
 bad_says ls l tokens.Pending v e h = (ap is_later e, least_later ls l (ap is_later e))
 bad_says ls l _ v e h = h (record { not_byte = λ g. absurd cc; not_number = λ g. absurd cc; not_later = refl })
 
-verdict_says : (ls : List Lexeme) (l : Lexeme) (x : StateShape) → run true start ls ≡ Some x → run false start ls ≡ Some x → level_after ls ≤ 200 → Says ls l (verdict x (walk flat ls) l)
+verdict_says : (ls : List Lexeme) (l : Lexeme) (x : StateShape) → run true start ls ≡ Some x → run false start ls ≡ Some x → level_after ls ≤ MOST_LEVEL → Says ls l (verdict x (walk flat ls) l)
 verdict_says ls l x strict loose low =
-    let d : Bool = nat_lt 200 (walked (walk flat ls) l.token).level in
+    let d : Bool = nat_lt MOST_LEVEL (walked (walk flat ls) l.token).level in
     bad_says ls l l.token (judged (step false x l) d (step true x l)) refl
-    (λ b. judged_says ls l x strict loose low b (step false x l) d (step true x l) refl (ap (λ (w : WalkShape). nat_lt 200 w.level) (walk_one_more flat ls l)) refl)
+    (λ b. judged_says ls l x strict loose low b (step false x l) d (step true x l) refl (ap (λ (w : WalkShape). nat_lt MOST_LEVEL w.level) (walk_one_more flat ls l)) refl)
 
 -- a verdict that finds nothing
 pub goes : (t : Token) (y : Option StateShape) (d : Bool) → bad t (judged y d None) ≡ None → ⊥
@@ -177,7 +178,7 @@ not_last _ v e h = refl
 
 -- behind a lexeme from which reading goes on others come
 pub comes_on : (x : StateShape) (w : WalkShape) (l : Lexeme) (m : ModeShape) (s : OpenShape) (o : List OpenShape) → verdict x w l ≡ None → step true x l ≡ Some (At m s o) → goes_on l.token ≡ true
-comes_on x w l m s o e f = not_last l.token (judged (step false x l) (nat_lt 200 (walked w l.token).level) (step true x l)) e (end_not x l m s o f)
+comes_on x w l m s o e f = not_last l.token (judged (step false x l) (nat_lt MOST_LEVEL (walked w l.token).level) (step true x l)) e (end_not x l m s o f)
 
 pub ends_next : (l : Lexeme) (ls : List Lexeme) → goes_on l.token ≡ true → EndsWell (l ∷ ls) → EndsWell ls
 ends_next l [] e h = absurd cc
@@ -195,10 +196,10 @@ answer_moved : (ls ms : List Lexeme) (r : Result Marked SyntaxFault) → ls ≡ 
 answer_moved ls ms r e h = subst (λ l. Answer l r) e h
 
 abbrev Reads : List Lexeme → List Lexeme → StateShape → WalkShape → Type 0
-Reads ls before x w = w ≡ walk flat before → run true start before ≡ Some x → run false start before ≡ Some x → level_after before ≤ 200 → Clean before → EndsWell ls → Answer (before ++ ls) (read x w ls)
+Reads ls before x w = w ≡ walk flat before → run true start before ≡ Some x → run false start before ≡ Some x → level_after before ≤ MOST_LEVEL → Clean before → EndsWell ls → Answer (before ++ ls) (read x w ls)
 
 module _ (l : Lexeme) (ls before : List Lexeme) (x : StateShape) (w : WalkShape) (is : w ≡ walk flat before) (strict : run true start before ≡ Some x) (loose : run false start before ≡ Some x)
-    (low : level_after before ≤ 200) (clean : Clean before) (well : EndsWell (l ∷ ls)) (more : (y : StateShape) → Reads ls (before ++ l ∷ []) y (walked w l.token)) where
+    (low : level_after before ≤ MOST_LEVEL) (clean : Clean before) (well : EndsWell (l ∷ ls)) (more : (y : StateShape) → Reads ls (before ++ l ∷ []) y (walked w l.token)) where
   says : Says before l (verdict x w l)
   says = subst (λ v. Says before l (verdict x v l)) (sym is) (verdict_says before l x strict loose low)
 
@@ -208,16 +209,16 @@ module _ (l : Lexeme) (ls before : List Lexeme) (x : StateShape) (w : WalkShape)
   next_walk : walked w l.token ≡ walk flat (before ++ l ∷ [])
   next_walk = ap (λ (v : WalkShape). walked v l.token) is ∙ sym (walk_one_more flat before l)
 
-  next_low : verdict x w l ≡ None → level_after (before ++ l ∷ []) ≤ 200
+  next_low : verdict x w l ≡ None → level_after (before ++ l ∷ []) ≤ MOST_LEVEL
   next_low e =
-      let d : nat_lt 200 (walked w l.token).level ≡ false = shallow l.token (step false x l) (nat_lt 200 (walked w l.token).level) (step true x l) e in
-      subst (λ v. v.level ≤ 200) next_walk (ltb-false 200 (walked w l.token).level d)
+      let d : nat_lt MOST_LEVEL (walked w l.token).level ≡ false = shallow l.token (step false x l) (nat_lt MOST_LEVEL (walked w l.token).level) (step true x l) e in
+      subst (λ v. v.level ≤ MOST_LEVEL) next_walk (ltb-false MOST_LEVEL (walked w l.token).level d)
 
   at_lexeme : (v : Option SyntaxKind) (z : Option StateShape) → verdict x w l ≡ v → step true x l ≡ z → Answer (before ++ l ∷ ls) (onto l.at v z (λ y. read y (walked w l.token) ls))
   at_lexeme (Some kind) z e f =
       let h : Says before l (Some kind) = subst (λ v. Says before l v) e says in
       record { before = before; here = l; behind = ls; whole = refl; clean = clean; place = refl; is = h.0; least = h.1 }
-  at_lexeme None None e f = absurd (goes l.token (step false x l) (nat_lt 200 (walked w l.token).level) (ap (λ (z : Option StateShape). bad l.token (judged (step false x l) (nat_lt 200 (walked w l.token).level) z)) (sym f) ∙ e))
+  at_lexeme None None e f = absurd (goes l.token (step false x l) (nat_lt MOST_LEVEL (walked w l.token).level) (ap (λ (z : Option StateShape). bad l.token (judged (step false x l) (nat_lt MOST_LEVEL (walked w l.token).level) z)) (sym f) ∙ e))
   at_lexeme None (Some (Done t)) e f =
       let over : ls ≡ [] = last_one l ls (done_end x l t f) well in
       subst (λ ms. IsProgram true (before ++ l ∷ ms) t) (sym over) (sound true (before ++ l ∷ []) t (one_more true before x l (Some (Done t)) strict f))

@@ -2,6 +2,7 @@
 use Rattle.std.proofs.Common.{◌≡◌, ◌≤◌, Bool, true, false, List, [], ◌∷◌, ◌++◌, Option, Some, None, Result, Ok, Err, refl, sym, ap, subst, ◌∙◌, append_assoc, arith}
 use Rattle.std.specs.Prelude.{nat_lt}
 use Rattle.std.proofs.lemmas.Bool.{ltb-false}
+use Rattle.asp_model.specs.declared.limits.TheConstants.{MOST_LEVEL}
 use Rattle.asp_model.specs.Marked.{Marked}
 use Rattle.asp_tokens.specs.declared.token.Token.{Token}
 use Rattle.asp_tokens.specs.declared.token.Token.TheVariants as tokens
@@ -51,7 +52,7 @@ begun_by : (s : Bool) (before ls : List Lexeme) (l : Lexeme) (u : Marked) → Is
 begun_by s before ls l u p = record { rest = ls; program = u; is = subst (λ ms. IsProgram s ms u) (sym (append_assoc before (l ∷ []) ls)) p }
 
 -- a program that stays within the levels has no fault
-no_fault : (kind : SyntaxKind) (before ls : List Lexeme) (l : Lexeme) (u : Marked) → IsProgram true (before ++ l ∷ ls) u → level_after (before ++ l ∷ []) ≤ 200 → IsFault kind before l → ⊥
+no_fault : (kind : SyntaxKind) (before ls : List Lexeme) (l : Lexeme) (u : Marked) → IsProgram true (before ++ l ∷ ls) u → level_after (before ++ l ∷ []) ≤ MOST_LEVEL → IsFault kind before l → ⊥
 no_fault BadByte before ls l u p low i = never before ls l u p (none_is l.token tokens.BadByte i tt)
 no_fault BadNumber before ls l u p low i = never before ls l u p (none_is l.token tokens.BadNumber i tt)
 no_fault Unexpected before ls l u p low i = i.2 (begun_by false before ls l u (freely (before ++ l ∷ ls) u p))
@@ -60,7 +61,7 @@ no_fault NotAField before ls l u p low i = i.3 (begun_by true before ls l u p)
 no_fault NotYet before ls l u p low i = never before ls l u p (later_none l.token i)
 
 abbrev pub IsLow : List Lexeme → Type 0
-IsLow ls = (before behind : List Lexeme) → ls ≡ before ++ behind → level_after before ≤ 200
+IsLow ls = (before behind : List Lexeme) → ls ≡ before ++ behind → level_after before ≤ MOST_LEVEL
 
 module _ (ls : List Lexeme) (t : Marked) (p : IsProgram true ls t) (low : IsLow ls) where
   is_ok : (r : Result Marked SyntaxFault) → Answer ls r → r ≡ Ok t
@@ -79,16 +80,16 @@ only ls t well p low = is_ok ls t p low (read_all ls) (answers ls well)
 -- every level that is reached from a walk on
 abbrev StaysLow : WalkShape → List Lexeme → Type 0
 StaysLow w [] = Unit {0}
-StaysLow w (l ∷ ls) = ((walked w l.token).level ≤ 200) × StaysLow (walked w l.token) ls
+StaysLow w (l ∷ ls) = ((walked w l.token).level ≤ MOST_LEVEL) × StaysLow (walked w l.token) ls
 
-low_at : (w : WalkShape) (before behind : List Lexeme) → w.level ≤ 200 → StaysLow w (before ++ behind) → (walk w before).level ≤ 200
+low_at : (w : WalkShape) (before behind : List Lexeme) → w.level ≤ MOST_LEVEL → StaysLow w (before ++ behind) → (walk w before).level ≤ MOST_LEVEL
 low_at w [] behind h g = h
 low_at w (l ∷ before) behind h g = low_at (walked w l.token) before behind g.0 g.1
 
 module _ (x : StateShape) (w : WalkShape) (l : Lexeme) (ls : List Lexeme) (t : Marked) (well : EndsWell (l ∷ ls))
     (more : (y : StateShape) → EndsWell ls → read y (walked w l.token) ls ≡ Ok t → StaysLow (walked w l.token) ls) where
-  here_low : verdict x w l ≡ None → (walked w l.token).level ≤ 200
-  here_low e = ltb-false 200 (walked w l.token).level (shallow l.token (step false x l) (nat_lt 200 (walked w l.token).level) (step true x l) e)
+  here_low : verdict x w l ≡ None → (walked w l.token).level ≤ MOST_LEVEL
+  here_low e = ltb-false MOST_LEVEL (walked w l.token).level (shallow l.token (step false x l) (nat_lt MOST_LEVEL (walked w l.token).level) (step true x l) e)
 
   low_onto : (v : Option SyntaxKind) (z : Option StateShape) → verdict x w l ≡ v → step true x l ≡ z → onto l.at v z (λ y. read y (walked w l.token) ls) ≡ Ok t → StaysLow w (l ∷ ls)
   low_onto (Some kind) z e f h = absurd cc

@@ -2,6 +2,7 @@
 use Rattle.std.proofs.Common.{◌≡◌, ◌≢◌, ℕ, ◌≤◌, Bool, true, false, Option, Some, None, Result, Ok, Err, refl, ap, sym, subst, ◌∙◌, List, [], if◌then◌else◌}
 use Rattle.std.specs.Prelude.{nat_lt, OnOk}
 use Rattle.std.proofs.lemmas.Bool.{ltb-false}
+use Rattle.asp_model.specs.declared.limits.TheConstants.{MOST_LEVEL}
 use Rattle.asp_model.specs.declared.term.Term.{Term}
 use Rattle.asp_model.specs.Marked.{Marked}
 use Rattle.asp_model.specs.Shapes.{marked_of}
@@ -51,14 +52,16 @@ judged_high x y z d f e = rw (f, e) refl
 pub judged_low : (x : StateShape) (y z : Option StateShape) (d : Bool) → y ≡ Some x → z ≡ Some x → d ≡ false → judged y d z ≡ None
 judged_low x y z d f g e = rw (f, g, e) refl
 
-pub judged_shallow : (y z : Option StateShape) (n : ℕ) → judged y (nat_lt 200 n) z ≡ None → n ≤ 200
-judged_shallow y z n e = ltb-false 200 n (shut y z (nat_lt 200 n) e) where
+pub ruleset judgements = (judged_none, judged_deep, judged_field, judged_high, judged_low)
+
+pub judged_shallow : (y z : Option StateShape) (n : ℕ) → judged y (nat_lt MOST_LEVEL n) z ≡ None → n ≤ MOST_LEVEL
+judged_shallow y z n e = ltb-false MOST_LEVEL n (shut y z (nat_lt MOST_LEVEL n) e) where
   shut : (y z : Option StateShape) (d : Bool) → judged y d z ≡ None → d ≡ false
   shut None z d e = absurd cc
   shut (Some y) z true e = absurd cc
   shut (Some y) z false e = refl
 
-pub judged_on : (r : Result (Option (Box Term Global)) SyntaxError) (s : State) (x : StateShape) (n : ℕ) (l : Lexeme) → Judges r s x (nat_lt 200 n) l → OnOk r (n ≤ 200)
+pub judged_on : (r : Result (Option (Box Term Global)) SyntaxError) (s : State) (x : StateShape) (n : ℕ) (l : Lexeme) → Judges r s x (nat_lt MOST_LEVEL n) l → OnOk r (n ≤ MOST_LEVEL)
 judged_on (Ok t) s x n l h = judged_shallow (step false x l) (step true x l) n h.0
 judged_on (Err e) s x n l h = tt
 
@@ -97,7 +100,7 @@ pub left_none : (o : Option (Box Term Global)) (s : State) → ((b : Box Term Gl
 left_none None s h = refl
 left_none (Some b) s h = absurd (h b refl)
 
-pub state_few : (s : State) (w : WalkShape) → IsShallow (state_shape s) w → parentheses_in (state_shape s) ≤ 200
+pub state_few : (s : State) (w : WalkShape) → IsShallow (state_shape s) w → parentheses_in (state_shape s) ≤ MOST_LEVEL
 state_few s w h = shallow_few (state_shape s) w h
 
 module _ (bytes : List ℕ) (here : Cursor) (after : ℕ) (x : StateShape) (w : WalkShape) (next : lexemes bytes here ≡ from Between bytes after) where

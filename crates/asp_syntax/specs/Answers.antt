@@ -2,6 +2,7 @@
 use Rattle.std.specs.Prelude.{◌≡◌, ℕ, nat_lt, Bool, true, false, Option, Some, None, Result, Ok, Err}
 use Rattle.std.specs.declared.alloc.Global.{Global}
 use Rattle.std.specs.declared.boxed.Box.{Box}
+use Rattle.asp_model.specs.declared.limits.TheConstants.{MOST_LEVEL}
 use Rattle.asp_model.specs.declared.term.Term.{Term}
 use Rattle.asp_model.specs.Marked.{Marked}
 use Rattle.asp_model.specs.Shapes.{marked_of}
@@ -37,7 +38,7 @@ UnlessDeep (Err errors.Memory) next deep at = ⊥
 
 -- whether the level behind a lexeme is too high
 abbrev pub is_deep : WalkShape → Lexeme → Bool
-is_deep w l = nat_lt 200 (walked w l.token).level
+is_deep w l = nat_lt MOST_LEVEL (walked w l.token).level
 
 -- the same with the walk
 abbrev pub GoesOn : Result (Option (Box Term Global)) SyntaxError → State → Walk → StateShape → WalkShape → Lexeme → Type 0

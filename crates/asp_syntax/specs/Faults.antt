@@ -1,5 +1,6 @@
 -- The faults of a text, apart from how it is read.
 use Rattle.std.specs.Prelude.{◌≡◌, ◌≢◌, ℕ, ◌≤◌, ◌<◌, true, false, List, [], ◌∷◌, ◌++◌}
+use Rattle.asp_model.specs.declared.limits.TheConstants.{MOST_LEVEL}
 use Rattle.asp_tokens.specs.declared.token.Token.TheVariants as tokens
 use Rattle.asp_syntax.specs.declared.error.SyntaxKind.{SyntaxKind}
 use Rattle.asp_syntax.specs.declared.error.SyntaxKind.TheVariants.{BadByte, BadNumber, Unexpected, TooDeep, NotAField, NotYet}
@@ -22,8 +23,9 @@ abbrev pub IsFault : SyntaxKind → List Lexeme → Lexeme → Type 0
 IsFault BadByte before here = here.token ≡ tokens.BadByte
 IsFault BadNumber before here = here.token ≡ tokens.BadNumber
 IsFault Unexpected before here = (is_later here.token ≡ false) × Begins false before × (Begins false (before ++ here ∷ []) → ⊥)
-IsFault TooDeep before here = (level_after before < level_after (before ++ here ∷ [])) × (200 < level_after (before ++ here ∷ []))
-IsFault NotAField before here = (here.token ≡ tokens.Assign) × Begins true before × Begins false (before ++ here ∷ []) × (Begins true (before ++ here ∷ []) → ⊥)
+IsFault TooDeep before here = (level_after before < level_after (before ++ here ∷ [])) × (MOST_LEVEL < level_after (before ++ here ∷ []))
+IsFault NotAField before here = (here.token ≡ tokens.Assign) × Begins true before
+    × Begins false (before ++ here ∷ []) × (Begins true (before ++ here ∷ []) → ⊥)
 IsFault NotYet before here = is_later here.token ≡ true
 
 -- no fault stands at any of the lexemes

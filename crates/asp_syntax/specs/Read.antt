@@ -1,5 +1,6 @@
 -- Reading a list of lexemes, up to the first fault.
 use Rattle.std.specs.Prelude.{ℕ, nat_lt, Bool, true, false, List, [], ◌∷◌, Option, Some, None, Result, Ok, Err}
+use Rattle.asp_model.specs.declared.limits.TheConstants.{MOST_LEVEL}
 use Rattle.asp_model.specs.Marked.{Marked}
 use Rattle.asp_tokens.specs.declared.token.Token.{Token}
 use Rattle.asp_tokens.specs.declared.token.Token.TheVariants as tokens
@@ -38,7 +39,7 @@ bad t v = v
 
 -- the fault at a lexeme, in a state
 abbrev pub verdict : StateShape → WalkShape → Lexeme → Option SyntaxKind
-verdict x w l = bad l.token (judged (step false x l) (nat_lt 200 (walked w l.token).level) (step true x l))
+verdict x w l = bad l.token (judged (step false x l) (nat_lt MOST_LEVEL (walked w l.token).level) (step true x l))
 
 abbrev pub fault_at : ℕ → SyntaxKind → SyntaxFault
 fault_at at kind = record { at = at; kind = kind }

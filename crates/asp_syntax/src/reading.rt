@@ -1,6 +1,7 @@
 //! Reads a text, one token at a time, up to its end or its first fault.
 
 ghost use Rattle.std.specs.Prelude.{◌≡◌, ◌≤◌, None, IfOk, OnOk};
+ghost use Rattle.asp_model.specs.declared.limits.TheConstants.{MOST_LEVEL};
 ghost use Rattle.asp_model.specs.Marked.{Marked};
 ghost use Rattle.asp_model.specs.Shapes.{marked_of};
 ghost use Rattle.asp_tokens.specs.Tokens.{lexemes_of};
@@ -17,7 +18,7 @@ ghost use Rattle.asp_syntax.specs.Read.{bad, read_all, fault_at};
 ghost use Rattle.asp_syntax.specs.Answers.{Judges, UnlessDeep, GoesOn, Turns, Reads};
 
 use crate::error::{SyntaxError, SyntaxFault, SyntaxKind};
-use asp_model::{Program, Term};
+use asp_model::{MOST_LEVEL, Program, Term};
 use asp_tokens::{Cursor, Token, Walk, flat_walk, scan, walk_on};
 use open_terms::{Stop, stopped};
 use std::alloc::Global;
@@ -77,12 +78,12 @@ fn turn(
     walk: &mut Walk,
     here: Cursor,
 ) -> Result<Option<Box<Term>>, SyntaxError>
-    requires low { walk.now.level ≤ 200 }
-    requires few { parentheses_in (state_shape state.now) ≤ 200 }
+    requires low { walk.now.level ≤ MOST_LEVEL }
+    requires few { parentheses_in (state_shape state.now) ≤ MOST_LEVEL }
     requires ordered { IsOrdered (walk_shape walk.now) }
     ensures value { let before = walk_shape walk.old in
         Turns result state.new walk.new (state_shape state.old) before (lexeme_of here) }
-    ensures low { OnOk result (walk.new.level ≤ 200) }
+    ensures low { OnOk result (walk.new.level ≤ MOST_LEVEL) }
 {
     match unread(&here.token) {
         Some(kind) => Err(fault(kind, here.at)),
@@ -114,27 +115,27 @@ fn go_on(
     walk: &mut Walk,
     here: Cursor,
 ) -> Result<Option<Box<Term>>, SyntaxError>
-    requires low { walk.now.level ≤ 200 }
-    requires few { parentheses_in (state_shape state.now) ≤ 200 }
+    requires low { walk.now.level ≤ MOST_LEVEL }
+    requires few { parentheses_in (state_shape state.now) ≤ MOST_LEVEL }
     requires ordered { IsOrdered (walk_shape walk.now) }
     ensures value { let before = walk_shape walk.old in
         GoesOn result state.new walk.new (state_shape state.old) before (lexeme_of here) }
-    ensures low { OnOk result (walk.new.level ≤ 200) }
+    ensures low { OnOk result (walk.new.level ≤ MOST_LEVEL) }
 {
     match walk_on(walk, &here.token) {
-        Ok(()) => judge(alloc, state, 200 < walk.level, here),
+        Ok(()) => judge(alloc, state, walk.level > MOST_LEVEL as usize, here),
         Err(_) => stopped(here, SyntaxError::Memory),
     }
 }
 
-#[tactic(auto, using(crate::proofs::Turning::judged_none, crate::proofs::Turning::judged_deep, crate::proofs::Turning::judged_field, crate::proofs::Turning::judged_high, crate::proofs::Turning::judged_low))]
+#[tactic(auto, using(crate::proofs::Turning::judgements))]
 fn judge(
     alloc: Global,
     state: &mut State,
     is_deep: bool,
     here: Cursor,
 ) -> Result<Option<Box<Term>>, SyntaxError>
-    requires few { parentheses_in (state_shape state.now) ≤ 200 }
+    requires few { parentheses_in (state_shape state.now) ≤ MOST_LEVEL }
     ensures state { Judges result state.new (state_shape state.old) is_deep (lexeme_of here) }
 {
     let Cursor {

@@ -68,7 +68,8 @@ move (AfterSlash start) at b = if b == 47 then Goes [] InComment else with_token
 move (AfterColon start) at b = if b == 61 then Goes (lexeme Assign start ∷ []) Between else NoToken [] start
 move (AfterEquals start) at b = if b == 61 then Goes (lexeme Same start ∷ []) Between else with_token (lexeme Equals start) (between at b)
 move (InNumber start n) at b = if is_digit b then digit start n b else with_token (lexeme (Number (pos n)) start) (between at b)
-move (InWord start word) at b = if is_inner b then Goes [] (InWord start (word ++ b ∷ [])) else with_token (lexeme (word_token word) start) (between at b)
+move (InWord start word) at b =
+    if is_inner b then Goes [] (InWord start (word ++ b ∷ [])) else with_token (lexeme (word_token word) start) (between at b)
 move (InText start text) at b =
     if b == 34 then Goes (lexeme (Text text) start ∷ []) Between
     else if is_printable b then Goes [] (InText start (text ++ b ∷ []))

@@ -1,6 +1,7 @@
 //! The level, token by token.
 
 ghost use Rattle.std.specs.Prelude.{◌≡◌, ◌≤◌, ◌∷◌, OnOk};
+ghost use Rattle.asp_model.specs.declared.limits.TheConstants.{MOST_LEVEL};
 ghost use Rattle.asp_tokens.specs.Levels.{walked, flat, opened as opened_walk, closed as closed_walk, higher as higher_walk, with_let as let_walk, set_back as back_walk, without_lets as plain_walk};
 ghost use Rattle.asp_tokens.specs.WalkShapes.{walk_shape, bracket_shape, bracket_stack};
 ghost use Rattle.asp_tokens.specs.Ordered.{IsOrdered};
@@ -45,7 +46,7 @@ pub fn flat_walk(alloc: Global) -> Walk
 
 /// Takes the walk one token on.
 pub fn walk_on(walk: &mut Walk, token: &Token) -> Result<(), AllocError>
-    requires low { walk.now.level ≤ 200 }
+    requires low { walk.now.level ≤ MOST_LEVEL }
     requires ordered { IsOrdered (walk_shape walk.now) }
     ensures walk { OnOk result (walk_shape walk.new ≡ walked (walk_shape walk.old) token.now) }
 {
@@ -90,7 +91,7 @@ pub fn walk_on(walk: &mut Walk, token: &Token) -> Result<(), AllocError>
 }
 
 fn opened(walk: &mut Walk) -> Result<(), AllocError>
-    requires { walk.now.level ≤ 200 }
+    requires { walk.now.level ≤ MOST_LEVEL }
     ensures { OnOk result (walk_shape walk.new ≡ opened_walk (walk_shape walk.old)) }
 {
     with_bracket(&mut walk.outer, walk.inner)?;
@@ -124,14 +125,14 @@ fn closed(walk: &mut Walk)
 }
 
 fn higher(walk: &mut Walk)
-    requires { walk.now.level ≤ 200 }
+    requires { walk.now.level ≤ MOST_LEVEL }
     ensures { walk_shape walk.new ≡ higher_walk (walk_shape walk.old) }
 {
     walk.level += 1;
 }
 
 fn with_let(walk: &mut Walk)
-    requires low { walk.now.level ≤ 200 }
+    requires low { walk.now.level ≤ MOST_LEVEL }
     requires ordered { IsOrdered (walk_shape walk.now) }
     ensures { walk_shape walk.new ≡ let_walk (walk_shape walk.old) }
 {
@@ -141,7 +142,7 @@ fn with_let(walk: &mut Walk)
 
 // The level of the next term of a sequence.
 fn set_back(walk: &mut Walk)
-    requires low { walk.now.level ≤ 200 }
+    requires low { walk.now.level ≤ MOST_LEVEL }
     requires ordered { IsOrdered (walk_shape walk.now) }
     ensures { walk_shape walk.new ≡ back_walk (walk_shape walk.old) }
 {

@@ -156,8 +156,8 @@ pub fn binding(alloc: Global, binding: Binding, body: Box<Term>) -> Result<Part,
 
 /// Two terms with a sign between them.
 pub fn operated(alloc: Global, sign: Sign, left: Part, right: Part) -> Result<Part, AllocError>
-    ensures operated { let whole = operated_part (sign_shape sign) (part_shape left) (part_shape right) in
-        IfOk result (λ p. part_shape p ≡ whole) }
+    ensures operated { IfOk result (λ p. part_shape p
+        ≡ operated_part (sign_shape sign) (part_shape left) (part_shape right)) }
 {
     let start = left.start;
     let mark = mark_at(alloc, start);

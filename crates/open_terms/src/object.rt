@@ -41,8 +41,8 @@ pub fn with_field(object: &mut Object, label: Label, term: Box<Term>) -> Result<
 
 /// Puts one more method behind the others.
 pub fn with_method(object: &mut Object, head: Head, body: Box<Term>) -> Result<(), AllocError>
-    ensures { let grown = one_method (object_shape object.old) (head_shape head) (marked_of body.value) in
-        OnOk result (object_shape object.new ≡ grown) }
+    ensures { OnOk result (object_shape object.new
+        ≡ one_method (object_shape object.old) (head_shape head) (marked_of body.value)) }
 {
     let Head {
         label,

@@ -5,6 +5,7 @@ use Rattle.std.proofs.Common.{refl, sym, ap, subst, ◌∙◌, arith, ⊎_elim, 
 use Rattle.std.proofs.lemmas.Bool.{and_parts, and_from, le-leb, lt-ltb}
 use Rattle.std.proofs.lemmas.List.Folds.{list_all-append}
 use Rattle.std.specs.FinMap.{find}
+use Rattle.asp_model.specs.declared.limits.TheConstants.{MOST_REDUCTIONS}
 use Rattle.commuting_systems.specs.Systems.{Leads}
 use Rattle.asp_model.specs.Names.{Name, FutureShape, name_cmp}
 use Rattle.asp_model.specs.Term.{Tree}
@@ -100,7 +101,7 @@ there_if_sent : (o : Option Activity) → 1 ≤ (face o).sends → is_some o ≡
 there_if_sent None h = absurd (omega (arith, h))
 there_if_sent (Some a) h = refl
 
-index_within : (k : ℕ) → 1 ≤ k → k ≤ 10000000 → is_index k ≡ true
+index_within : (k : ℕ) → 1 ≤ k → k ≤ MOST_REDUCTIONS → is_index k ≡ true
 index_within k low high = and_from _ _ (le-leb 1 k low) (lt-ltb k (2 ^ 32) (omega (arith, high)))
 
 longer_name : (n : Name) (k : ℕ) → is_name n ≡ true → is_index k ≡ true → is_name (n ++ k ∷ []) ≡ true
@@ -109,13 +110,13 @@ longer_name (m ∷ ms) k h i =
     let p = and_parts _ (list_all is_index ms) h in
     and_from _ _ p.0 (list_all-append is_index ms (k ∷ []) ∙ and_from _ _ p.1 (and_from _ _ i refl))
 
-module _ (program : Tree) (c : Configuration) (reached : IsReached program c) (within : total (counts_of c) ≤ 10000000) where
+module _ (program : Tree) (c : Configuration) (reached : IsReached program c) (within : total (counts_of c) ≤ MOST_REDUCTIONS) where
   -- one whose creator has a name
   child_named : (q : Name) → ((n : Name) → length n < length q → IsThere c n → is_name n ≡ true) → Child c q → is_name q ≡ true
   child_named q shorter x =
       let long : length q ≡ suc (length x.0) = ap length x.2 ∙ omega (arith, length-append x.0 (suc x.1 ∷ [])) in
       let there = there_by (find name_cmp x.0 c.activities) (omega (arith, x.3)) in
-      let low : suc x.1 ≤ 10000000 = omega (arith, x.3, within, creations_at c x.0, (numbers_are_within program c x.0 reached).0) in
+      let low : suc x.1 ≤ MOST_REDUCTIONS = omega (arith, x.3, within, creations_at c x.0, (numbers_are_within program c x.0 reached).0) in
       subst (λ n. is_name n ≡ true) (sym x.2) (longer_name x.0 (suc x.1) (shorter x.0 (omega (arith, long)) there) (index_within (suc x.1) (omega arith) low))
 
   named : (size : ℕ) (q : Name) → length q < size → IsThere c q → is_name q ≡ true

@@ -91,8 +91,14 @@ pub record RefusesEntries : Type 0 where
 abbrev pub until_answered : List EntryShape
 until_answered = leases ((0, 2) ∷ (0, 3) ∷ (1, 2) ∷ (1, 4) ∷ [])
 
+-- the answer is delivered, and main prints it
+abbrev pub until_delivered : List EntryShape
+until_delivered =
+    until_answered
+    ++ (Delivered (Edge (sent_by main_name 1) (created 1) main_name) ∷ leases ((0, 1) ∷ (1, 3) ∷ []))
+
 abbrev pub DeliversAnswer : Type 0
-DeliversAnswer = journal_shows asking 100 (until_answered ++ (Delivered (Edge (sent_by main_name 1) (created 1) main_name) ∷ leases ((0, 1) ∷ (1, 3) ∷ []))) ≡ Some (record {
+DeliversAnswer = journal_shows asking 100 until_delivered ≡ Some (record {
   counts = (main_name, 6) ∷ (created 1, 9) ∷ [];
   statuses = Done ∷ Serving ∷ [];
   verdict = End;
@@ -112,5 +118,6 @@ pub record LacksAnswer : Type 0 where
     left = 86;
     out = [];
   })
-  pub owed : if_run (λ s. next_owed s (holders_of asking 100 lacking) []) (run_of asking 100 lacking) ≡ Some (Some (Need (sent_by main_name 1) main_name 4))
+  pub owed : if_run (λ s. next_owed s (holders_of asking 100 lacking) []) (run_of asking 100 lacking)
+      ≡ Some (Some (Need (sent_by main_name 1) main_name 4))
   pub verdict : if_run (λ s. verdict_told s (holders_of asking 100 lacking) []) (run_of asking 100 lacking) ≡ Some None

@@ -28,7 +28,8 @@ abbrev pub what_text : CellShape → List ℕ
 what_text (Number z) = codes "number " ++ signed_decimal z
 what_text (Reference n) = codes "ref " ++ name_text n
 what_text (Future f) = codes "future " ++ future_text f
-what_text (Object fields methods) = codes "object" ++ flat_map (λ x. codes " " ++ x.label) fields ++ codes " ;" ++ flat_map (λ m. codes " " ++ m.head.label) methods
+what_text (Object fields methods) = codes "object" ++ flat_map (λ x. codes " " ++ x.label) fields
+    ++ codes " ;" ++ flat_map (λ m. codes " " ++ m.head.label) methods
 what_text (Group ns) = codes "group " ++ decimal (length ns)
 
 abbrev pub state_line : Path → List ℕ → List ℕ

@@ -56,5 +56,6 @@ pub record IsSuspended (old : Activity) (l : Text) (f : FutureName) (ks : List �
   pub rest : new ≡ record old { frames = new.frames; focus = new.focus; services = new.services; present = new.present }
   pub term : nested new.frames.items (focus_tree new.focus) ≡ node (Call l) (more (loc old.active) (locs_then ks none))
   pub settled : IsSettled new.frames.items new.focus
-  pub services : map service_shape new.services.items ≡ map service_shape old.services.items ++ record { contexts = contexts_of old.frames.items; future = option_map future_shape old.present } ∷ []
+  pub services : map service_shape new.services.items
+      ≡ map service_shape old.services.items ++ record { contexts = contexts_of old.frames.items; future = option_map future_shape old.present } ∷ []
   pub present : option_map future_shape new.present ≡ Some (future_shape f)

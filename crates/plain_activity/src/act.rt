@@ -158,8 +158,8 @@ impl Activity {
             IsOwnFor a.store self.old.store.cells communication →
             let s = self.old.store.cells in
             let contexts = contexts_of self.old.frames.items in
-            let intended = communicates rs name.now a contexts s (communication_shape communication) in
-            IfOk result (IsDoneBy intended rs self.new) }
+            let c = communication_shape communication in
+            IfOk result (IsDoneBy (communicates rs name.now a contexts s c) rs self.new) }
     {
         match communication {
             Communication::Creates(object, service) => self.create(alloc, name, object, service),

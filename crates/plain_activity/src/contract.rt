@@ -59,7 +59,8 @@ fn echo(alloc: Global, store: &mut Store, text: Word) -> Result<Contracted, Allo
 }
 
 fn active(seen: Seen, place: Place, service: Option<Label>) -> Contracted
-    ensures row { IsEachRow (λ s. active_row place (service_text service) (seen_shape seen.entry)) result }
+    ensures row { let row = active_row place (service_text service) (seen_shape seen.entry) in
+        IsEachRow (λ s. row) result }
 {
     match seen {
         Seen::Object(_) => Contracted::Communicates(Communication::Creates(place, service)),

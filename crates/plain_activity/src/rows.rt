@@ -27,7 +27,8 @@ pub fn field_of(seen: Seen, label: &Label) -> Result<Place, Fault>
 
 /// A test that is 0 chooses the second term.
 pub fn if_at(seen: Seen, first: Term, second: Term) -> Contracted
-    ensures row { IsEachRow (λ s. if_row s (tree_of first) (tree_of second) (seen_shape seen.entry)) result }
+    ensures row { let test = seen_shape seen.entry in
+        IsEachRow (λ s. if_row s (tree_of first) (tree_of second) test) result }
 {
     match seen {
         Seen::Number(0) => Contracted::Becomes(second),
@@ -49,7 +50,8 @@ pub fn print_at(alloc: Global, seen: Seen, place: Place) -> Contracted
 
 /// What a sign gives.
 pub fn operated(sign: Sign, first: Seen, second: Seen) -> Result<i64, Fault>
-    ensures row { IsOperated (sign_shape sign) (seen_shape first.entry) (seen_shape second.entry) result }
+    ensures row { let x = seen_shape first.entry in let y = seen_shape second.entry in
+        IsOperated (sign_shape sign) x y result }
 {
     let Seen::Number(x) = first else {
         return Err(Fault::NotNumber);

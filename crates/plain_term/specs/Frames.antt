@@ -24,7 +24,8 @@ frame_shape (frame.Get l) = record { head = Get l.text; before = []; behind = no
 frame_shape (frame.PutObject l t) = record { head = Put l.text; before = []; behind = more (tree_of t) none }
 frame_shape (frame.PutValue i l) = record { head = Put l.text; before = i ∷ []; behind = none }
 frame_shape (frame.Receiver l rest) = record { head = Call l.text; before = []; behind = trees (map tree_of (reverse rest.items)) }
-frame_shape (frame.Argument i l places rest) = record { head = Call l.text; before = i ∷ places.items; behind = trees (map tree_of (reverse rest.items)) }
+frame_shape (frame.Argument i l places rest) =
+    record { head = Call l.text; before = i ∷ places.items; behind = trees (map tree_of (reverse rest.items)) }
 frame_shape frame.Clone = record { head = Clone; before = []; behind = none }
 frame_shape (frame.Active service) = record { head = Active (service_text service); before = []; behind = none }
 frame_shape (frame.Let x t) = record { head = Let x; before = []; behind = more (tree_of t) none }
@@ -48,7 +49,8 @@ contexts_of (f ∷ fs) = contexts_of fs ++ frame_shape f ∷ []
 abbrev pub made : List (Label × ℕ) → List (Label × Term) → List Method → Tree
 made done rest methods =
     let ms : List MethodShape = map stored_method methods in
-    node (Make (map (λ f. f.0.text) done ++ map (λ f. f.0.text) rest) (map (λ m. m.head) ms)) (locs_then (map (λ f. f.1) done) (trees (map (λ f. tree_of f.1) rest ++ map (λ m. m.body) ms)))
+    node (Make (map (λ f. f.0.text) done ++ map (λ f. f.0.text) rest) (map (λ m. m.head) ms))
+    (locs_then (map (λ f. f.1) done) (trees (map (λ f. tree_of f.1) rest ++ map (λ m. m.body) ms)))
 
 -- a call, with the places that are done and the other arguments
 abbrev pub called : Text → List ℕ → List Term → Tree

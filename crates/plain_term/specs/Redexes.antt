@@ -25,7 +25,11 @@ use Rattle.plain_term.specs.Frames.{frame_shape, nested}
 abbrev pub object_shape : CodeObject → split.Redex
 object_shape o =
     let ms : List MethodShape = map stored_method o.methods.items in
-    record { head = term.Make (map (λ f. f.0.text) o.fields.items) (map (λ m. m.head) ms); places = map (λ f. f.1) o.fields.items; behind = trees (map (λ m. m.body) ms) }
+    record {
+      head = term.Make (map (λ f. f.0.text) o.fields.items) (map (λ m. m.head) ms);
+      places = map (λ f. f.1) o.fields.items;
+      behind = trees (map (λ m. m.body) ms);
+    }
 
 abbrev pub redex_shape : Redex → split.Redex
 redex_shape (redex.Number n) = record { head = term.Number n; places = []; behind = none }

@@ -14,7 +14,8 @@ use std::alloc::{AllocError, Global};
 
 /// The next argument of a call, or the call.
 fn next_argument(object: Place, label: Label, places: Vec<Place>, mut rest: Vec<Term>) -> Found
-    ensures found { found_tree result ≡ called label.text (object ∷ places.items) (reverse rest.items) }
+    ensures found { found_tree result
+        ≡ called label.text (object ∷ places.items) (reverse rest.items) }
 {
     match rest.pop() {
         None => Found::Redex(Redex::Call(object, label, places)),

@@ -4,6 +4,7 @@ use Rattle.std.specs.Global.{Vec}
 use Rattle.std.specs.FinMap.{is_sorted}
 use Rattle.std.specs.FinMap.Entries.{below_all}
 use Rattle.std.specs.Ordering.{is_lt}
+use Rattle.asp_model.specs.declared.limits.TheConstants.{MOST_REDUCTIONS}
 use Rattle.asp_model.specs.declared.outcome.ActivityReport.{ActivityReport}
 use Rattle.asp_model.specs.declared.outcome.Outcome.{Outcome}
 use Rattle.asp_model.specs.Names.{Name, name_cmp}
@@ -55,5 +56,5 @@ pub names_of_lists : (lists : List (Name × Vec Name)) → map (λ x. x.0) (map 
 names_of_lists lists = map_map (λ (x : Name × List Name). x.0) list_shape lists
 
 -- what a report gives of lists and counts
-pub replayable_by : (lists : ListsShape) (counts : CountsShape) → map (λ x. x.0) lists ≡ map (λ y. y.0) counts → is_sorted name_cmp counts ≡ true → total counts ≤ 10000000 → AreReplayable lists counts
+pub replayable_by : (lists : ListsShape) (counts : CountsShape) → map (λ x. x.0) lists ≡ map (λ y. y.0) counts → is_sorted name_cmp counts ≡ true → total counts ≤ MOST_REDUCTIONS → AreReplayable lists counts
 replayable_by lists counts same s within = record { ordered = record { names = same; ascending = in_order lists counts same (subst T (sym s) tt) }; within = within }

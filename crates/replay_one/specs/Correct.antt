@@ -17,7 +17,8 @@ pub record IsReplayed (program : Tree) (o : OutcomeShape) : Type 0 where
 abbrev pub IsSpent : ℕ → OutcomeShape → Type 0
 IsSpent budget o = o.verdict ≡ Budget → total (counts_in o) ≡ budget
 
--- the replay leaves something else of this activity than lists and counts say, of none with a lesser name, and they do not fit; want of memory tells nothing
+-- the replay leaves something else of this activity than lists and counts say, of none with a lesser name,
+-- and they do not fit; want of memory tells nothing
 abbrev pub IsStop : Tree → ListsShape → CountsShape → ReplayStop → Type 0
 IsStop program lists counts (stop.Diverged n) = IsLeastDiverging program lists counts n × (Fits program lists counts → ⊥)
 IsStop program lists counts stop.Memory = Unit {0}

@@ -34,7 +34,8 @@ abbrev mutual
 
 -- what a term splits into gives it back
 abbrev pub SplitsPlugBack : Type 0
-SplitsPlugBack = (t : Tree) (contexts : List Context) (redex : Redex) → HasBareLocations t → split t ≡ Splits contexts redex → plug contexts (redex_node redex) ≡ t
+SplitsPlugBack = (t : Tree) (contexts : List Context) (redex : Redex)
+    → HasBareLocations t → split t ≡ Splits contexts redex → plug contexts (redex_node redex) ≡ t
 
 -- a term splits into a redex in contexts
 abbrev pub SplitsAreRedexes : Type 0
@@ -42,4 +43,5 @@ SplitsAreRedexes = (t : Tree) (contexts : List Context) (redex : Redex) → spli
 
 -- a term that is a redex in contexts splits into these, and so into no others
 abbrev pub SplitsOneWay : Type 0
-SplitsOneWay = (contexts : List Context) (redex : Redex) → AreContexts contexts → IsRedex redex → split (plug contexts (redex_node redex)) ≡ Splits contexts redex
+SplitsOneWay = (contexts : List Context) (redex : Redex)
+    → AreContexts contexts → IsRedex redex → split (plug contexts (redex_node redex)) ≡ Splits contexts redex

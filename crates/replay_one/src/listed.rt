@@ -9,11 +9,8 @@ ghost use Rattle.asp_model.specs.Shapes.{counts_shape, lists_shape, outcome_shap
 ghost use Rattle.schedules.specs.Divergence.{AreInOrder};
 ghost use Rattle.replay_one.specs.Listed.{AreReplayable};
 
-use asp_model::{ActivityName, Counts, Lists, Outcome};
+use asp_model::{ActivityName, Counts, Lists, MOST_REDUCTIONS, Outcome};
 use std::alloc::{AllocError, Global};
-
-/// The most reductions that a replay takes.
-const MOST: u64 = 10_000_000;
 
 fn copies_of(alloc: Global, names: &[ActivityName]) -> Result<Vec<ActivityName>, AllocError>
     ensures names { IfOk result (λ v. v.items ≡ names.now) }
@@ -93,10 +90,11 @@ fn total_of(counts: &[(ActivityName, u64)]) -> u64
     sum
 }
 
-/// Whether lists and counts have the same names in strictly ascending order, and the counts sum to at
-/// most 10,000,000.
+/// Whether lists and counts have the same names in strictly ascending order, and the counts sum to
+/// no more reductions than a run may take, 10,000,000.
 pub fn are_replayable(lists: &Lists, counts: &Counts) -> bool
-    ensures replayable { IsTrue result ↔ AreReplayable (lists_shape lists.now) (counts_shape counts.now) }
+    ensures replayable { let all = lists_shape lists.now in
+        IsTrue result ↔ AreReplayable all (counts_shape counts.now) }
 {
-    are_in_order(lists, counts) && total_of(&counts.entries) <= MOST
+    are_in_order(lists, counts) && total_of(&counts.entries) <= MOST_REDUCTIONS
 }

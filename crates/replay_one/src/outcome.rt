@@ -57,7 +57,8 @@ fn status_of(
 /// The activities in ascending order of names.
 fn reports_of(alloc: Global, population: Population) -> Result<Vec<ActivityReport>, AllocError>
     requires reached { IsReachedBySome population }
-    ensures reports { (program : Tree) (c : Configuration) → IsReachedPopulation population program c →
+    ensures reports { (program : Tree) (c : Configuration) →
+        IsReachedPopulation population program c →
         IfOk result (λ v. map activity_shape v.items ≡ map (activity_report c) c.activities) }
 {
     let Population {
@@ -112,7 +113,8 @@ fn verdict_among(reports: &[ActivityReport]) -> Verdict
 /// What the activities leave.
 pub fn outcome_of(alloc: Global, population: Population) -> Result<Outcome, AllocError>
     requires reached { IsReachedBySome population }
-    ensures outcome { (program : Tree) (c : Configuration) → IsReachedPopulation population program c →
+    ensures outcome { (program : Tree) (c : Configuration) →
+        IsReachedPopulation population program c →
         IfOk result (λ o. outcome_shape o ≡ outcome_shown c) }
 {
     let activities = reports_of(alloc, population)?;

@@ -67,7 +67,8 @@ impl Population {
         requires reached { IsReachedBySome self.old }
         ensures acts { (c : Configuration) (e : Effect) → IsPopulation self.old c →
             intent_in c name.now ≡ Acts e →
-            IfOk result (λ g. IsGiven e g × IsPopulation self.new (with_activity name.now e.own c)) }
+            let then = with_activity name.now e.own c in
+            IfOk result (λ g. IsGiven e g × IsPopulation self.new then) }
     {
         match self.activities.get_mut(name) {
             Some(activity) => activity.act(alloc, name, &self.futures),
@@ -113,7 +114,8 @@ impl Population {
 
     /// A future's value.
     pub fn fill(&mut self, future: FutureName, value: Parcel) -> Result<(), AllocError>
-        requires absent { find future_cmp (future_shape future) (values_of self.old.futures) ≡ None }
+        requires absent { let values = values_of self.old.futures in
+            find future_cmp (future_shape future) values ≡ None }
         requires one_root { length value.roots.items ≡ 1 }
         ensures filled { (c : Configuration) → IsPopulation self.old c → OnOk result
             (IsPopulation self.new (with_value (future_shape future) (parcel_shape value) c)) }

@@ -1,6 +1,7 @@
 //! The replay of a run from its sender lists and its counts.
 
 ghost use Rattle.std.specs.Prelude.{◌≡◌, ◌≤◌, IfErr, IfOk};
+ghost use Rattle.asp_model.specs.declared.limits.TheConstants.{MOST_REDUCTIONS};
 ghost use Rattle.asp_model.specs.Outcome.{outcome_of};
 ghost use Rattle.asp_model.specs.Replay.{Fits, replay as replay_of, total};
 ghost use Rattle.asp_model.specs.Shapes.{counts_shape, lists_shape, outcome_shape, tree_of};
@@ -34,7 +35,7 @@ impl From<AllocError> for ReplayStop {
 
 /// The sum of the counts.
 fn sum_of(counts: &[(ActivityName, u64)]) -> u64
-    requires within { total counts.now ≤ 10000000 }
+    requires within { total counts.now ≤ MOST_REDUCTIONS }
     ensures { result ≡ total counts.now }
 {
     let mut sum = 0;

@@ -83,7 +83,8 @@ fn may_come(
 fn look_at<'a>(population: &'a Population, bounds: &Bounds, name: &ActivityName) -> Look<'a>
     requires ascending { IsAscending bounds.now }
     requires reached { IsReachedBySome population.now }
-    ensures look { (program : Tree) (c : Configuration) → IsReachedPopulation population.now program c →
+    ensures look { (program : Tree) (c : Configuration) →
+        IsReachedPopulation population.now program c →
         IsLook (lists_within bounds.now) (count_within bounds.now) c name.now result }
 {
     let Some(activity) = population.activities.get(name) else {
@@ -118,7 +119,8 @@ fn wake_next(
 ) -> Result<(), AllocError>
     requires ascending { IsAscending bounds.now }
     ensures more { OnOk result (IsMoreReady schedule.old None schedule.new) }
-    ensures next { (c : Configuration) (q : Name) → IsPopulation population.now c → IsThere c to.now →
+    ensures next { (c : Configuration) (q : Name) →
+        IsPopulation population.now c → IsThere c to.now →
         IsNextIn (lists_within bounds.now) c to.now q →
         OnOk result (ready_in schedule.new q ≡ true) }
 {
@@ -131,7 +133,8 @@ fn wake_next(
 impl Machine {
     /// The main activity alone, with a program as its term.
     pub fn start(alloc: Global, program: Term) -> Result<Machine, AllocError>
-        ensures population { IfOk result (λ m. IsPopulation m.population (start_of (tree_of program))) }
+        ensures population { let first = start_of (tree_of program) in
+            IfOk result (λ m. IsPopulation m.population first) }
         ensures ready { IfOk result (λ m. ready_in m.schedule main_name ≡ true) }
     {
         Ok(Machine {
@@ -154,8 +157,9 @@ impl Machine {
             IsGiving self.old.population name.now given program c e →
             OnOk result (IsPopulation self.new.population (with_effect name.now e c)) }
         ensures handed_on { (program : Tree) (c : Configuration) (e : Effect) →
-            IsGiving self.old.population name.now given program c e → OnOk result
-            (IsHandedOn (lists_within bounds.now) c name.now e self.old.schedule self.new.schedule) }
+            IsGiving self.old.population name.now given program c e →
+            let lists = lists_within bounds.now in
+            OnOk result (IsHandedOn lists c name.now e self.old.schedule self.new.schedule) }
     {
         match given {
             Given::Nothing => Ok(()),
@@ -179,7 +183,8 @@ impl Machine {
     fn round(&mut self, alloc: Global, bounds: &Bounds) -> Result<Round, AllocError>
         requires ascending { IsAscending bounds.now }
         requires running { IsRunSomewhere bounds.now self.old }
-        ensures round { (program : Tree) (c : Configuration) → IsRunAt bounds.now self.old program c →
+        ensures round { (program : Tree) (c : Configuration) →
+            IsRunAt bounds.now self.old program c →
             IfOk result (λ t. IsRound bounds.now program c t self.new) }
         ensures fewer { IfOk result (λ t. IsFewer self.old t self.new) }
     {

@@ -58,8 +58,8 @@ pub fn run_term(
 
 /// Runs a program with at most as many reductions as the budget says.
 pub fn run_plain(alloc: Global, program: &Checked, budget: u64) -> Result<Outcome, AllocError>
-    ensures outcome { IfOk result
-        (λ o. outcome_shape o ≡ outcome_shown (plain_run budget (tree_of program.now.program.root))) }
+    ensures outcome { let last = plain_run budget (tree_of program.now.program.root) in
+        IfOk result (λ o. outcome_shape o ≡ outcome_shown last) }
     ensures replays { IfOk result
         (λ o. IsReplayed (tree_of program.now.program.root) (outcome_shape o)) }
     ensures within { IfOk result (λ o. total_of (counts_in (outcome_shape o)) ≤ budget) }

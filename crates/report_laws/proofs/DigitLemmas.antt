@@ -8,6 +8,7 @@ use Rattle.std.specs.Fmt.{decimal, signed_decimal, digits, digits_onto, digit_gl
 use Rattle.std.proofs.lemmas.Bool.{and_parts, and_from, ne_eqb, leb-true, le-leb}
 use Rattle.std.proofs.lemmas.Bool.Decides.{nat_tests}
 use Rattle.std.proofs.lemmas.Fmt.{decimal_is_IsNumeral, decimal_digit, decimal_nonempty, first_decimal, length-decimal-le}
+use Rattle.asp_model.specs.declared.limits.TheConstants.{MOST_REDUCTIONS}
 use Rattle.asp_model.specs.Names.{Text}
 use Rattle.asp_model.specs.WellFormed.{is_index}
 use Rattle.asp_model.specs.ReportLines.{is_numeral, number_of, only_index, index_of, count_of}
@@ -64,7 +65,7 @@ index_is_read n h =
     let below : n < 2 ^ 32 = leb-true (suc n) (2 ^ 32) (and_parts (nat_le 1 n) (nat_lt n (2 ^ 32)) h).1 in
     ap only_index (number_is_read n (omega arith)) ∙ ap (λ b. elim b [ true ↦ Some n | false ↦ None ]) h
 
-pub count_is_read : (n : ℕ) → n ≤ 10000000 → count_of (decimal n) ≡ Some n
+pub count_is_read : (n : ℕ) → n ≤ MOST_REDUCTIONS → count_of (decimal n) ≡ Some n
 count_is_read n h =
     let short : length (decimal n) ≤ 8 = length-decimal-le 8 n (omega arith) (omega arith) (omega arith) in
     ap (λ b. elim b [ true ↦ number_of (decimal n) | false ↦ None ]) (le-leb (length (decimal n)) 8 short) ∙ number_is_read n (omega arith)

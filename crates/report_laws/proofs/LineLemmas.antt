@@ -5,6 +5,7 @@ use Rattle.std.specs.List.{list_all, flat_map}
 use Rattle.std.specs.Fmt.{decimal, signed_decimal}
 use Rattle.std.proofs.lemmas.Bool.{and_parts, and_from, ne_eqb, leb-true}
 use Rattle.std.proofs.lemmas.List.{append-nil}
+use Rattle.asp_model.specs.declared.limits.TheConstants.{MOST_REDUCTIONS}
 use Rattle.asp_model.specs.Names.{Name, Text}
 use Rattle.asp_model.specs.Contraction.{FaultShape, NoField, NoMethod, NotObject, NotNumber, NotGroup, BadMember, ActiveField, Overflow, ZeroDivisor, LineShape, NumberLine, TextLine}
 use Rattle.asp_model.specs.Intent.{StatusShape, Done, Serving, Running, Awaits, Faulted}
@@ -71,7 +72,7 @@ activity_parts a =
     ∙ ap (λ (ts : List Text). codes "activity" ∷ ts) (parts_at 32 (name_text a.name) (decimal a.count ++ 32 ∷ status_text a.status) (name_lacks 32 (omega arith) a.name)
     ∙ ap (λ (ts : List Text). name_text a.name ∷ ts) (parts_at 32 (decimal a.count) (status_text a.status) (decimal_lacks 32 a.count (omega arith))))
 
-pub activity_is_read : (a : ActivityReportShape) → is_name a.name ≡ true → is_named_status a.status ≡ true → a.count ≤ 10000000 → activity_in (parts 32 (activity_line a)) ≡ Some (a.name, a.count)
+pub activity_is_read : (a : ActivityReportShape) → is_name a.name ≡ true → is_named_status a.status ≡ true → a.count ≤ MOST_REDUCTIONS → activity_in (parts 32 (activity_line a)) ≡ Some (a.name, a.count)
 activity_is_read a named status small =
     ap activity_in (activity_parts a)
     ∙ ap (λ b. elim b [ true ↦ counted (name_of (name_text a.name)) (count_of (decimal a.count)) | false ↦ None ]) (status_is_read a.status status)

@@ -5,6 +5,7 @@ use Rattle.std.specs.List.{list_all, flat_map}
 use Rattle.std.specs.FinMap.{is_sorted}
 use Rattle.std.proofs.lemmas.Bool.{and_parts, and_from, le-leb}
 use Rattle.std.proofs.lemmas.List.{append-nil}
+use Rattle.asp_model.specs.declared.limits.TheConstants.{MOST_REDUCTIONS}
 use Rattle.asp_model.specs.Names.{Name, Text, main_name, name_cmp, same_name}
 use Rattle.asp_model.specs.Contraction.{LineShape}
 use Rattle.asp_model.specs.Step.{ListsShape}
@@ -72,24 +73,24 @@ outputs_give n lists counts (l ∷ ls) ts r h =
     (outputs_give n lists counts ls ts r h)
 
 -- an activity that may stand here
-activity_gives : (fits : Name → Bool) (p : Progress) (a : ActivityReportShape) → Sound a → fits a.name ≡ true → a.count ≤ 10000000 → total (p.counts ++ (a.name, a.count) ∷ []) ≤ 10000000
+activity_gives : (fits : Name → Bool) (p : Progress) (a : ActivityReportShape) → Sound a → fits a.name ≡ true → a.count ≤ MOST_REDUCTIONS → total (p.counts ++ (a.name, a.count) ∷ []) ≤ MOST_REDUCTIONS
     → with_activity fits p (activity_in (parts 32 (activity_line a))) ≡ Some (record { next = Senders a.name; lists = p.lists; counts = p.counts ++ (a.name, a.count) ∷ [] })
 activity_gives fits p a s f small within =
     ap (with_activity fits p) (activity_is_read a s.name s.status small)
-    ∙ ap (λ b. elim b [ true ↦ Some (record { next = Senders a.name; lists = p.lists; counts = p.counts ++ (a.name, a.count) ∷ [] }) | false ↦ None ]) (and_from _ _ f (le-leb (total (p.counts ++ (a.name, a.count) ∷ [])) 10000000 within))
+    ∙ ap (λ b. elim b [ true ↦ Some (record { next = Senders a.name; lists = p.lists; counts = p.counts ++ (a.name, a.count) ∷ [] }) | false ↦ None ]) (and_from _ _ f (le-leb (total (p.counts ++ (a.name, a.count) ∷ [])) MOST_REDUCTIONS within))
 
 total-append : (xs ys : CountsShape) → total (xs ++ ys) ≡ total xs + total ys
 total-append [] ys = omega arith
 total-append (x ∷ xs) ys = ap (λ n. x.1 + n) (total-append xs ys) ∙ omega arith
 
 -- the lines of an activity, and then others
-lines_give : (fits : Name → Bool) (p : Progress) (a : ActivityReportShape) (ts : List Text) (r : Reading) → Sound a → fits a.name ≡ true → total (p.counts ++ (a.name, a.count) ∷ []) ≤ 10000000
+lines_give : (fits : Name → Bool) (p : Progress) (a : ActivityReportShape) (ts : List Text) (r : Reading) → Sound a → fits a.name ≡ true → total (p.counts ++ (a.name, a.count) ∷ []) ≤ MOST_REDUCTIONS
     → behind p.next p (activity_line a) ≡ with_activity fits p (activity_in (parts 32 (activity_line a)))
     → Gives (later a.name (p.lists ++ (a.name, a.senders) ∷ []) (p.counts ++ (a.name, a.count) ∷ [])) ts r
     → Gives p (activity_lines a ++ ts) r
 lines_give fits p a ts r s f within line h =
     let counts : CountsShape = p.counts ++ (a.name, a.count) ∷ [] in
-    let small : a.count ≤ 10000000 = omega (arith, total-append p.counts ((a.name, a.count) ∷ []), within) in
+    let small : a.count ≤ MOST_REDUCTIONS = omega (arith, total-append p.counts ((a.name, a.count) ∷ []), within) in
     let between : Progress = record { next = Senders a.name; lists = p.lists; counts = counts } in
     let end : Progress = later a.name (p.lists ++ (a.name, a.senders) ∷ []) counts in
     one_more p between (activity_line a) (senders_line a.senders ∷ (map output_line a.lines ++ ts)) r (line ∙ activity_gives fits p a s f small within)
@@ -98,7 +99,7 @@ lines_give fits p a ts r s f within line h =
 
 -- the activities behind one, in rising order
 activities_give : (n : Name) (k : ℕ) (lists : ListsShape) (counts : CountsShape) (rest : List ActivityReportShape) → is_sorted name_cmp ((n, k) ∷ map (λ a. (a.name, a.count)) rest) ≡ true → list_all is_sound_report rest ≡ true
-    → total (counts ++ map (λ a. (a.name, a.count)) rest) ≤ 10000000
+    → total (counts ++ map (λ a. (a.name, a.count)) rest) ≤ MOST_REDUCTIONS
     → Gives (later n lists counts) (flat_map activity_lines rest) (Reads (lists ++ map (λ a. (a.name, a.senders)) rest) (counts ++ map (λ a. (a.name, a.count)) rest))
 activities_give n k lists counts [] o h within = λ number. sym (λ i. Reads (append-nil lists i) (append-nil counts i))
 activities_give n k lists counts (a ∷ rest) o h within =
@@ -108,8 +109,8 @@ activities_give n k lists counts (a ∷ rest) o h within =
     let first : is_behind n a.name ≡ true = (and_parts (is_behind n a.name) _ order.0).0 in
     let so_far : CountsShape = counts ++ (a.name, a.count) ∷ [] in
     let same : so_far ++ all ≡ counts ++ ((a.name, a.count) ∷ all) = append_assoc counts ((a.name, a.count) ∷ []) all in
-    let up_to : total so_far ≤ 10000000 = omega (arith, within, ap total same, total-append so_far all) in
-    let behind_it = activities_give a.name a.count (lists ++ (a.name, a.senders) ∷ []) so_far rest order.1 p.1 (subst (λ (c : CountsShape). total c ≤ 10000000) (sym same) within) in
+    let up_to : total so_far ≤ MOST_REDUCTIONS = omega (arith, within, ap total same, total-append so_far all) in
+    let behind_it = activities_give a.name a.count (lists ++ (a.name, a.senders) ∷ []) so_far rest order.1 p.1 (subst (λ (c : CountsShape). total c ≤ MOST_REDUCTIONS) (sym same) within) in
     let result : Reads ((lists ++ (a.name, a.senders) ∷ []) ++ map (λ b. (b.name, b.senders)) rest) (so_far ++ all) ≡ Reads (lists ++ map (λ b. (b.name, b.senders)) (a ∷ rest)) (counts ++ map (λ b. (b.name, b.count)) (a ∷ rest)) =
     λ i. Reads (append_assoc lists ((a.name, a.senders) ∷ []) (map (λ b. (b.name, b.senders)) rest) i) (same i) in
     subst (Gives (later n lists counts) (flat_map activity_lines (a ∷ rest))) result
@@ -120,12 +121,12 @@ activities_give n k lists counts (a ∷ rest) o h within =
 abbrev at_main : Progress
 at_main = record { next = Main; lists = []; counts = [] }
 
-main_gives : (rest : List ActivityReportShape) → begins_with_main rest ≡ true → is_sorted name_cmp (map (λ a. (a.name, a.count)) rest) ≡ true → list_all is_sound_report rest ≡ true → total (map (λ a. (a.name, a.count)) rest) ≤ 10000000
+main_gives : (rest : List ActivityReportShape) → begins_with_main rest ≡ true → is_sorted name_cmp (map (λ a. (a.name, a.count)) rest) ≡ true → list_all is_sound_report rest ≡ true → total (map (λ a. (a.name, a.count)) rest) ≤ MOST_REDUCTIONS
     → Gives at_main (flat_map activity_lines rest) (Reads (map (λ a. (a.name, a.senders)) rest) (map (λ a. (a.name, a.count)) rest))
 main_gives [] m o h within = absurd cc
 main_gives (a ∷ rest) m o h within =
     let p = and_parts (is_sound_report a) (list_all is_sound_report rest) h in
-    let up_to : total ((a.name, a.count) ∷ []) ≤ 10000000 = omega (arith, within) in
+    let up_to : total ((a.name, a.count) ∷ []) ≤ MOST_REDUCTIONS = omega (arith, within) in
     lines_give (same_name main_name) at_main a (flat_map activity_lines rest) _ (sound_parts a p.0) m up_to refl
     (activities_give a.name a.count ((a.name, a.senders) ∷ []) ((a.name, a.count) ∷ []) rest o p.1 within)
 

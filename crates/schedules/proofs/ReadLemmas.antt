@@ -6,6 +6,7 @@ use Rattle.std.proofs.lemmas.List.{map-append}
 use Rattle.std.specs.FinMap.{is_sorted}
 use Rattle.std.specs.FinMap.Entries.{below_all}
 use Rattle.std.specs.Ordering.{is_lt}
+use Rattle.asp_model.specs.declared.limits.TheConstants.{MOST_REDUCTIONS}
 use Rattle.asp_model.specs.Names.{Name, Text, main_name, name_cmp, same_name, same_text}
 use Rattle.asp_model.specs.Term.{has_text}
 use Rattle.asp_model.specs.Step.{ListsShape}
@@ -88,14 +89,14 @@ if_fits b p = elim b [ true ↦ Some p | false ↦ None ]
 
 activity_read : (fits : Name → Bool) (p q : Progress) (o : Option (Name × ℕ)) → names p.counts ≡ names p.lists → Ascend (names p.lists) → ((m : Name) → fits m ≡ true → AreBelow m (names p.lists)) → with_activity fits p o ≡ Some q → IsRead q.next q
 activity_read fits p q None same ascend bounds h = no_some h
-activity_read fits p q (Some a) same ascend bounds h = by_test (fits a.0 && nat_le (total (p.counts ++ a ∷ [])) 10000000) refl h
+activity_read fits p q (Some a) same ascend bounds h = by_test (fits a.0 && nat_le (total (p.counts ++ a ∷ [])) MOST_REDUCTIONS) refl h
   where
-    by_test : (b : Bool) → (fits a.0 && nat_le (total (p.counts ++ a ∷ [])) 10000000) ≡ b → if_fits b (record { next = Senders a.0; lists = p.lists; counts = p.counts ++ a ∷ [] }) ≡ Some q → IsRead q.next q
+    by_test : (b : Bool) → (fits a.0 && nat_le (total (p.counts ++ a ∷ [])) MOST_REDUCTIONS) ≡ b → if_fits b (record { next = Senders a.0; lists = p.lists; counts = p.counts ++ a ∷ [] }) ≡ Some q → IsRead q.next q
     by_test false is h = no_some h
     by_test true is h = subst (λ z. IsRead z.next z) (some_is h) (record {
       same = map-append (λ x. x.0) p.counts (a ∷ []) ∙ ap (λ ns. ns ++ a.0 ∷ []) same;
       ascend = ascend;
-      bounds = bounds a.0 (and_parts (fits a.0) (nat_le (total (p.counts ++ a ∷ [])) 10000000) is).0;
+      bounds = bounds a.0 (and_parts (fits a.0) (nat_le (total (p.counts ++ a ∷ [])) MOST_REDUCTIONS) is).0;
     })
 
 senders_read : (n : Name) (p q : Progress) (o : Option (List Name)) → IsRead (Senders n) p → with_senders n p o ≡ Some q → IsRead q.next q

@@ -25,7 +25,8 @@ abbrev pub WaitsFor : Configuration → Name → FutureShape → Type 0
 WaitsFor c n f = (status_of c n ≡ Awaits f) × (find future_cmp f c.futures ≡ None)
 
 -- who is not ready rests, and is noted at the unfilled future that it awaits, if it is below its count
-pub record IsScheduled (lists : Option ListsShape) (count : Name → ℕ) (c : Configuration) (ready : Name → Bool) (noted : FutureShape → Name → Bool) : Type 0 where
+pub record IsScheduled (lists : Option ListsShape) (count : Name → ℕ) (c : Configuration)
+    (ready : Name → Bool) (noted : FutureShape → Name → Bool) : Type 0 where
   pub rest : (n : Name) → IsThere c n → ready n ≡ false → RestsIn lists count c n
   pub waiting : (n : Name) (f : FutureShape) (a : Activity) → IsAt c n a → a.reductions < count n
       → ready n ≡ false → WaitsFor c n f → noted f n ≡ true
@@ -43,8 +44,10 @@ abbrev pub IsNextIn : Option ListsShape → Configuration → Name → Name → 
 IsNextIn None c m q = ⊥
 IsNextIn (Some lists) c m q = name_at (senders_in lists m) (length (requests_of c m)) ≡ Some q
 
--- those that an effect of n wakes are ready: n, whom it makes, whom it sends to, who is next in the list there, and who is noted at the future that it fills
-pub record IsWokenBy (lists : Option ListsShape) (c : Configuration) (n : Name) (e : Effect) (noted : FutureShape → Name → Bool) (ready : Name → Bool) : Type 0 where
+-- those that an effect of n wakes are ready: n, whom it makes, whom it sends to, who is next in the list
+-- there, and who is noted at the future that it fills
+pub record IsWokenBy (lists : Option ListsShape) (c : Configuration) (n : Name) (e : Effect)
+    (noted : FutureShape → Name → Bool) (ready : Name → Bool) : Type 0 where
   pub stepper : ready n ≡ true
   pub made : (m : Name) (b : Activity) → e.made ≡ Some (m, b) → ready m ≡ true
   pub target : (m : Name) → IsSentTo e m → ready m ≡ true

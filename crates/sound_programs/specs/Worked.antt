@@ -14,7 +14,8 @@ one_of_each =
     let o = leaf (Var (codes "o")) in
     let empty = leaf Group in
     two (Let (codes "o"))
-    (two (Make (codes "a_1" ∷ []) (record { label = codes "f"; slf = codes "s"; parameters = codes "v" ∷ [] } ∷ [])) (number 7) (one Print (leaf (Var (codes "v")))))
+    (two (Make (codes "a_1" ∷ [])
+    (record { label = codes "f"; slf = codes "s"; parameters = codes "v" ∷ [] } ∷ [])) (number 7) (one Print (leaf (Var (codes "v")))))
     (node Steps (trees (
     two (Put (codes "a_1")) o (two (Operate Add) (number 2) (number 3))
     ∷ two (Call (codes "f")) (one Clone o) (number 1)

@@ -12,7 +12,9 @@ abbrev pub field_tree : Label × Term → Text × Tree
 field_tree f = (f.0.text, tree_of f.1)
 
 abbrev pub object_tree : List (Text × Tree) → List MethodShape → Tree
-object_tree fields methods = node (Make (map (λ f. f.0) fields) (map (λ m. m.head) methods)) (trees (map (λ f. f.1) fields ++ map (λ m. m.body) methods))
+object_tree fields methods =
+    node (Make (map (λ f. f.0) fields) (map (λ m. m.head) methods))
+    (trees (map (λ f. f.1) fields ++ map (λ m. m.body) methods))
 
 abbrev pub put_in_field : Environment → Text × Tree → Text × Tree
 put_in_field bs f = (f.0, put_in bs f.1)

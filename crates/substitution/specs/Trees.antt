@@ -40,7 +40,8 @@ get_is a l m = ap tree_of (sym (rolls-Get a l m)) ∙ ap plain (fold-roll-Term M
 pub put_is : (a : Box Term) (l : Label) (b : Box Term) (m : Mark) → tree_of (Put a l b m) ≡ two (term.Put l.text) (tree_of a.value) (tree_of b.value)
 put_is a l b m = ap tree_of (sym (rolls-Put a l b m)) ∙ ap plain (fold-roll-Term Marked MarkedMethod term_step method_step (layer.Put a l b m))
 
-pub call_is : (a : Box Term) (l : Label) (ts : Vec Term) (m : Mark) → tree_of (Call a l ts m) ≡ node (term.Call l.text) (more (tree_of a.value) (trees (map tree_of ts.items)))
+pub call_is : (a : Box Term) (l : Label) (ts : Vec Term) (m : Mark) → tree_of (Call a l ts m)
+    ≡ node (term.Call l.text) (more (tree_of a.value) (trees (map tree_of ts.items)))
 call_is a l ts m =
     ap tree_of (sym (rolls-Call a l ts m)) ∙ ap plain (fold-roll-Term Marked MarkedMethod term_step method_step (layer.Call a l ts m))
     ∙ ap (λ (us : Trees). node (term.Call l.text) (more (tree_of a.value) us)) (plain_terms ts.items)
@@ -59,16 +60,20 @@ let_is x a b m = ap tree_of (sym (rolls-Let x a b m)) ∙ ap plain (fold-roll-Te
 
 pub steps_is : (ts : Vec Term) (m : Mark) → tree_of (Steps ts m) ≡ node term.Steps (trees (map tree_of ts.items))
 steps_is ts m =
-    ap tree_of (sym (rolls-Steps ts m)) ∙ ap plain (fold-roll-Term Marked MarkedMethod term_step method_step (layer.Steps ts m)) ∙ ap (node term.Steps) (plain_terms ts.items)
+    ap tree_of (sym (rolls-Steps ts m)) ∙ ap plain (fold-roll-Term Marked MarkedMethod term_step method_step (layer.Steps ts m))
+    ∙ ap (node term.Steps) (plain_terms ts.items)
 
-pub if_is : (a b c : Box Term) (m : Mark) → tree_of (If a b c m) ≡ node term.If (more (tree_of a.value) (more (tree_of b.value) (more (tree_of c.value) none)))
+pub if_is : (a b c : Box Term) (m : Mark) → tree_of (If a b c m)
+    ≡ node term.If (more (tree_of a.value) (more (tree_of b.value) (more (tree_of c.value) none)))
 if_is a b c m = ap tree_of (sym (rolls-If a b c m)) ∙ ap plain (fold-roll-Term Marked MarkedMethod term_step method_step (layer.If a b c m))
 
 pub repeat_is : (a : Box Term) (m : Mark) → tree_of (Repeat a m) ≡ one term.Repeat (tree_of a.value)
 repeat_is a m = ap tree_of (sym (rolls-Repeat a m)) ∙ ap plain (fold-roll-Term Marked MarkedMethod term_step method_step (layer.Repeat a m))
 
-pub operate_is : (s : Sign) (a b : Box Term) (m : Mark) → tree_of (Operate s a b m) ≡ two (term.Operate (sign_shape s)) (tree_of a.value) (tree_of b.value)
-operate_is s a b m = ap tree_of (sym (rolls-Operate s a b m)) ∙ ap plain (fold-roll-Term Marked MarkedMethod term_step method_step (layer.Operate s a b m))
+pub operate_is : (s : Sign) (a b : Box Term) (m : Mark) → tree_of (Operate s a b m)
+    ≡ two (term.Operate (sign_shape s)) (tree_of a.value) (tree_of b.value)
+operate_is s a b m =
+    ap tree_of (sym (rolls-Operate s a b m)) ∙ ap plain (fold-roll-Term Marked MarkedMethod term_step method_step (layer.Operate s a b m))
 
 pub print_is : (a : Box Term) (m : Mark) → tree_of (Print a m) ≡ one term.Print (tree_of a.value)
 print_is a m = ap tree_of (sym (rolls-Print a m)) ∙ ap plain (fold-roll-Term Marked MarkedMethod term_step method_step (layer.Print a m))
@@ -90,7 +95,9 @@ heads_are : (ms : List Method) → map (λ (x : MarkedMethod). x.head) (map meth
 heads_are [] = refl
 heads_are (m ∷ ms) = ap (λ (hs : List MethodHead). (method_of m).head ∷ hs) (heads_are ms)
 
-bodies_are : (ms : List Method) → plain_below (all_marked (map (λ (x : MarkedMethod). x.body) (map method_of ms))) ≡ trees (map (λ (m : MethodShape). m.body) (map stored_method ms))
+bodies_are : (ms : List Method)
+    → plain_below (all_marked (map (λ (x : MarkedMethod). x.body) (map method_of ms)))
+    ≡ trees (map (λ (m : MethodShape). m.body) (map stored_method ms))
 bodies_are [] = refl
 bodies_are (m ∷ ms) = ap (more (plain (method_of m).body)) (bodies_are ms)
 
@@ -100,13 +107,36 @@ below_are : (fs : List (Label × Term)) (ms : List Method)
 below_are [] ms = bodies_are ms
 below_are (f ∷ fs) ms = ap (more (tree_of f.1)) (below_are fs ms)
 
-pub make_is : (fs : Vec (Label × Term)) (ms : Vec Method) (m : Mark) → tree_of (Make fs ms m) ≡ object_tree (map field_tree fs.items) (map stored_method ms.items)
+pub make_is : (fs : Vec (Label × Term)) (ms : Vec Method) (m : Mark) → tree_of (Make fs ms m)
+    ≡ object_tree (map field_tree fs.items) (map stored_method ms.items)
 make_is fs ms m =
     ap tree_of (sym (rolls-Make fs ms m)) ∙ ap plain (fold-roll-Term Marked MarkedMethod term_step method_step (layer.Make fs ms m))
-    ∙ ap (λ (xs : List (Text × Marked)). plain (make_shape (mark_shape m) xs (map method_of ms.items))) (map_map _ (λ f. (f.0.text, f.1)) field_of (λ x. refl) fs.items)
+    ∙ ap (λ (xs : List (Text × Marked)). plain (make_shape (mark_shape m) xs (map method_of ms.items)))
+    (map_map _ (λ f. (f.0.text, f.1)) field_of (λ x. refl) fs.items)
     ∙ (λ i. node (term.Make (labels_are fs.items i) (heads_are ms.items i)) (below_are fs.items ms.items i))
 
-pub method_is : (m : Method) → method_of m ≡ record { head = record { label = m.label.text; slf = m.slf; parameters = m.parameters.items }; body = marked_of m.body }
-method_is m = fold-roll-Method Marked MarkedMethod term_step method_step (record { label = m.label; slf = m.slf; parameters = m.parameters; body = m.body })
+pub method_is : (m : Method) → method_of m
+    ≡ record { head = record { label = m.label.text; slf = m.slf; parameters = m.parameters.items }; body = marked_of m.body }
+method_is m =
+    fold-roll-Method Marked MarkedMethod term_step method_step (record { label = m.label; slf = m.slf; parameters = m.parameters; body = m.body })
 
-pub ruleset trees_are = (loc_is, hole_is, var_is, number_is, make_is, get_is, put_is, call_is, clone_is, active_is, serve_is, let_is, steps_is, if_is, repeat_is, operate_is, print_is, echo_is)
+pub ruleset trees_are = (
+  loc_is,
+  hole_is,
+  var_is,
+  number_is,
+  make_is,
+  get_is,
+  put_is,
+  call_is,
+  clone_is,
+  active_is,
+  serve_is,
+  let_is,
+  steps_is,
+  if_is,
+  repeat_is,
+  operate_is,
+  print_is,
+  echo_is,
+)

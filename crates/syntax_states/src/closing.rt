@@ -1,6 +1,7 @@
 //! What a bracket, a comma, `in`, `;` or the end makes of the sequence that an operand ends.
 
 ghost use Rattle.std.specs.Prelude.{◌≡◌, ◌≤◌, IfOk, OnOk};
+ghost use Rattle.asp_model.specs.declared.limits.TheConstants.{MOST_LEVEL};
 ghost use Rattle.asp_grammar.specs.Closings.{concluded, close as close_kind, close_brace as brace_kind, close_square as square_kind, comma as comma_kind, bound as bound_kind, ended as ended_state};
 ghost use Rattle.asp_grammar.specs.Machine.{next_term as next_state};
 ghost use Rattle.asp_grammar.specs.States.{term_in as term_of, with_next};
@@ -61,7 +62,7 @@ fn finish(alloc: Global, state: &mut State, part: Part) -> Result<Finished, Allo
 
 /// `)` behind an operand.
 pub fn close(alloc: Global, state: &mut State, part: Part) -> Result<(), Stop>
-    requires few { parentheses_of (part_shape part).term ≤ 200 }
+    requires few { parentheses_of (part_shape part).term ≤ MOST_LEVEL }
     ensures { let over = finish_in (part_shape part) state.old in
         Leaves result state.new (concluded close_kind over) }
 {
@@ -140,7 +141,7 @@ fn whole(over: Finished, outer: &[Open]) -> Result<Box<Term>, Stop>
 
 #[tactic(auto, using(crate::proofs::Others::close_other))]
 fn closing_round(alloc: Global, over: Finished) -> Result<Mode, Stop>
-    requires few { parentheses_of (part_shape over.value).term ≤ 200 }
+    requires few { parentheses_of (part_shape over.value).term ≤ MOST_LEVEL }
     ensures { Backs result (close_kind (kind_shape over.kind) (part_shape over.value)) }
 {
     let Finished { kind, mut value } = over;

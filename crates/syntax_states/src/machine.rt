@@ -1,6 +1,7 @@
 //! One token on, from a state to the next.
 
 ghost use Rattle.std.specs.Prelude.{◌≡◌, ◌≤◌, IfOk, true, false};
+ghost use Rattle.asp_model.specs.declared.limits.TheConstants.{MOST_LEVEL};
 ghost use Rattle.asp_model.specs.Shapes.{sign_shape};
 ghost use Rattle.asp_tokens.specs.Tokens.{lexeme};
 ghost use Rattle.asp_grammar.specs.Nodes.{is_get};
@@ -33,7 +34,7 @@ pub fn step(
     token: Token,
     at: usize,
 ) -> Result<Option<Box<Term>>, Stop>
-    requires few { parentheses_in (state_shape state.now) ≤ 200 }
+    requires few { parentheses_in (state_shape state.now) ≤ MOST_LEVEL }
     ensures { let loose = step_state false (state_shape state.old) (lexeme token at) in
         let strict = step_state true (state_shape state.old) (lexeme token at) in
         Steps result state.new loose strict }
@@ -206,7 +207,7 @@ fn have(
     operand: Operand,
     token: Token,
 ) -> Result<Option<Box<Term>>, Stop>
-    requires few { parentheses_of (part_of (operand_shape operand)).term ≤ 200 }
+    requires few { parentheses_of (part_of (operand_shape operand)).term ≤ MOST_LEVEL }
     ensures { let inner = open_shape state.old.inner in
         let outer = stack state.old.outer.items in
         let loose = have_state false (operand_shape operand) inner outer token in
@@ -258,7 +259,7 @@ fn behind(
     part: Part,
     token: Token,
 ) -> Result<Option<Box<Term>>, Stop>
-    requires few { parentheses_of (part_shape part).term ≤ 200 }
+    requires few { parentheses_of (part_shape part).term ≤ MOST_LEVEL }
     ensures { let inner = open_shape state.old.inner in
         let outer = stack state.old.outer.items in
         let loose = behind_state false (part_shape part) inner outer token in
@@ -276,7 +277,7 @@ fn behind(
 
 // The same but for the end.
 fn follow(alloc: Global, state: &mut State, part: Part, token: Token) -> Result<(), Stop>
-    requires few { parentheses_of (part_shape part).term ≤ 200 }
+    requires few { parentheses_of (part_shape part).term ≤ MOST_LEVEL }
     ensures { let inner = open_shape state.old.inner in
         let outer = stack state.old.outer.items in
         let loose = plain_behind false (part_shape part) inner outer token in

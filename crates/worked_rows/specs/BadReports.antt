@@ -22,8 +22,10 @@ with_main lines = headed ("activity 0 4 done" ∷ "senders" ∷ lines)
 -- the verdict, the status and the outputs are compared with nothing
 pub record WholeReports : Type 0 where
   pub outputs : ReadsAs ((main_name, 4, []) ∷ []) (with_main ("> 3" ∷ "> x" ∷ "| any \"text" ∷ ". self object ;" ∷ "> " ∷ []))
-  pub statuses : ReadsAs ((main_name, 4, []) ∷ (created 2, 0, created 9 ∷ main_name ∷ []) ∷ []) (with_main ("activity 0.2 0 awaits 0.1.7#4294967295" ∷ "senders 0.9 0" ∷ []))
-  pub faults : ReadsAs ((main_name, 4, []) ∷ (0 ∷ 1 ∷ 1 ∷ [], 9999996, []) ∷ []) (with_main ("activity 0.1.1 9999996 fault ActiveField" ∷ "senders" ∷ []))
+  pub statuses : ReadsAs ((main_name, 4, []) ∷ (created 2, 0, created 9 ∷ main_name ∷ []) ∷ [])
+      (with_main ("activity 0.2 0 awaits 0.1.7#4294967295" ∷ "senders 0.9 0" ∷ []))
+  pub faults : ReadsAs ((main_name, 4, []) ∷ (0 ∷ 1 ∷ 1 ∷ [], 9999996, []) ∷ [])
+      (with_main ("activity 0.1.1 9999996 fault ActiveField" ∷ "senders" ∷ []))
 
 pub record WrongForms : Type 0 where
   pub title : IsBadAt 1 ("asp report 2" ∷ "verdict end" ∷ "activity 0 4 done" ∷ "senders" ∷ [])

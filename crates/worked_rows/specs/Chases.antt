@@ -9,7 +9,9 @@ future n = record { by = main_name; index = n }
 
 -- the first two futures of main, filled by these of main's futures
 abbrev pub filled_by : ℕ → ℕ → Values
-filled_by n m = (future 1, record { cells = Future (future n) ∷ []; roots = 0 ∷ [] }) ∷ (future 2, record { cells = Future (future m) ∷ []; roots = 0 ∷ [] }) ∷ []
+filled_by n m =
+    (future 1, record { cells = Future (future n) ∷ []; roots = 0 ∷ [] })
+    ∷ (future 2, record { cells = Future (future m) ∷ []; roots = 0 ∷ [] }) ∷ []
 
 -- from both futures the chase gives the first
 pub record NamesTheFirst (values : Values) : Type 0 where

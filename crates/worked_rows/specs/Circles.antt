@@ -49,7 +49,8 @@ HasItselfAsValue = find future_cmp first_future circling_values ≡ Some (record
 abbrev pub ChasesItself : Type 0
 ChasesItself = chase circling_values first_future ≡ Cycle first_future
 
--- let w = [x = 0; m(s) = serve(n); s.x, n(s, v) = s.x := v] in let b = active(w) in let c = active(w) in let f = b.m() in let g = c.m() in b.n(g); c.n(f); print(g)
+-- let w = [x = 0; m(s) = serve(n); s.x, n(s, v) = s.x := v] in let b = active(w) in let c = active(w) in
+-- let f = b.m() in let g = c.m() in b.n(g); c.n(f); print(g)
 abbrev pub circling_twice : Tree
 circling_twice = let_in "w" keeper
     (let_in "b" (active (variable "w"))

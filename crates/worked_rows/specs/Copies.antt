@@ -36,12 +36,14 @@ awaiting_store = Future (record { by = main_name; index = 1 }) ∷ fields (field
 
 -- the root comes to the future's place, and the others behind the store's cells
 abbrev pub SharedIsUnpackedAt : Type 0
-SharedIsUnpackedAt = unpack_at awaiting_store 0 shared_parcel ≡ fields (field_at "a" 2 ∷ field_at "b" 2 ∷ []) ∷ fields (field_at "a" 0 ∷ []) ∷ fields (field_at "v" 3 ∷ []) ∷ Number (pos 1) ∷ []
+SharedIsUnpackedAt = unpack_at awaiting_store 0 shared_parcel
+    ≡ fields (field_at "a" 2 ∷ field_at "b" 2 ∷ []) ∷ fields (field_at "a" 0 ∷ []) ∷ fields (field_at "v" 3 ∷ []) ∷ Number (pos 1) ∷ []
 
 -- behind any two cells the root stands at 2, and the root of what comes next at 5
 pub record SharedIsUnpacked (c d : CellShape) : Type 0 where
   pub root : unpacked_roots (c ∷ d ∷ []) shared_parcel ≡ 2 ∷ []
-  pub cells : unpack (c ∷ d ∷ []) shared_parcel ≡ c ∷ d ∷ fields (field_at "a" 3 ∷ field_at "b" 3 ∷ []) ∷ fields (field_at "v" 4 ∷ []) ∷ Number (pos 1) ∷ []
+  pub cells : unpack (c ∷ d ∷ []) shared_parcel
+      ≡ c ∷ d ∷ fields (field_at "a" 3 ∷ field_at "b" 3 ∷ []) ∷ fields (field_at "v" 4 ∷ []) ∷ Number (pos 1) ∷ []
   pub next : unpacked_roots (unpack (c ∷ d ∷ []) shared_parcel) (record { cells = Number (pos 1) ∷ []; roots = 0 ∷ [] }) ≡ 5 ∷ []
 
 abbrev pub SharedIsUnpackedBehindAny : Type 0

@@ -42,7 +42,9 @@ PassiveGroupReports = ReportsAlone passive 100 19 0 (
     ∷ []
     )
 
--- let w = [; sq(s, v) = v * v] in let g = group(active(w), active(w), active(w)) in let r = waitall(g.sq(5)) in print(member(r, 0) + member(r, 1) + member(r, 2)); print(size(scatter(g, sq, group(1, 2, 3)))); scatter(g, sq, group(1, 2))
+-- let w = [; sq(s, v) = v * v] in let g = group(active(w), active(w), active(w)) in
+-- let r = waitall(g.sq(5)) in print(member(r, 0) + member(r, 1) + member(r, 2));
+-- print(size(scatter(g, sq, group(1, 2, 3)))); scatter(g, sq, group(1, 2))
 abbrev pub workers : Tree
 workers = let_in "w" (object [] (method "sq" "s" ("v" ∷ []) (multiply (variable "v") (variable "v")) ∷ []))
     (let_in "g" (group (active (variable "w") ∷ active (variable "w") ∷ active (variable "w") ∷ []))

@@ -8,7 +8,8 @@ use Rattle.worked_rows.specs.Reports.{ReportsAlone}
 abbrev pub doubling : Tree
 doubling = let_in "o"
     (object (field "v" (number 3) ∷ [])
-    (method "dbl" "s" ("k" ∷ []) (steps (put (variable "s") "v" (multiply (get (variable "s") "v") (variable "k")) ∷ get (variable "s") "v" ∷ [])) ∷ []))
+    (method "dbl" "s" ("k" ∷ [])
+    (steps (put (variable "s") "v" (multiply (get (variable "s") "v") (variable "k")) ∷ get (variable "s") "v" ∷ [])) ∷ []))
     (steps (print (call (variable "o") "dbl" (number 2 ∷ [])) ∷ get (variable "o") "x" ∷ []))
 
 abbrev pub DoublingReports : Type 0

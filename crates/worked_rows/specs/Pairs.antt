@@ -8,7 +8,8 @@ use Rattle.asp_model.specs.Report.{verdict_line, output_line}
 use Rattle.worked_rows.specs.Programs.{number, variable, field, method, object, get, put, call, active, active_by, serve, let_in, steps, if_else, add, subtract, multiply, equal, print}
 use Rattle.asp_model.specs.Replay.{plain_run}
 
--- active([sum = 0; run(s) = s.many(n); serve(total), many(s, k) = if (k == 0) { 0 } else { serve(add); s.many(k - 1) }, add(s, v) = s.sum := s.sum + v; 0, total(s) = s.sum], run)
+-- active([sum = 0; run(s) = s.many(n); serve(total), many(s, k) = if (k == 0) { 0 } else
+-- { serve(add); s.many(k - 1) }, add(s, v) = s.sum := s.sum + v; 0, total(s) = s.sum], run)
 abbrev pub collector : ℕ → Tree
 collector n = active_by (object (field "sum" (number 0) ∷ [])
     (method "run" "s" [] (steps (call (variable "s") "many" (number n ∷ []) ∷ serve ("total" ∷ []) ∷ []))
@@ -19,7 +20,8 @@ collector n = active_by (object (field "sum" (number 0) ∷ [])
     ∷ method "total" "s" [] (get (variable "s") "sum")
     ∷ [])) "run"
 
--- [; pairs(s, k) = if (k == 0) { 0 } else { let b = active([; twice(t, v) = v * 2]) in let f = active([; go(t, v) = c.add(b.twice(v))]) in f.go(k); s.pairs(k - 1) }]
+-- [; pairs(s, k) = if (k == 0) { 0 } else { let b = active([; twice(t, v) = v * 2]) in
+-- let f = active([; go(t, v) = c.add(b.twice(v))]) in f.go(k); s.pairs(k - 1) }]
 abbrev pub maker : Tree
 maker = object []
     (method "pairs" "s" ("k" ∷ []) (if_else (equal (variable "k") (number 0))
@@ -44,7 +46,12 @@ abbrev pub lines_of : Name → ActivityReportShape → List (List ℕ)
 lines_of n a = elim (same_name n a.name) [ true ↦ map output_line a.lines | false ↦ [] ]
 
 abbrev pub summary_of : OutcomeShape → Summary
-summary_of o = (verdict_line o.verdict, length o.activities, length (flat_map (λ a. a.senders) o.activities), flat_map (lines_of main_name) o.activities)
+summary_of o = (
+  verdict_line o.verdict,
+  length o.activities,
+  length (flat_map (λ a. a.senders) o.activities),
+  flat_map (lines_of main_name) o.activities,
+)
 
 -- the summary of the plain run of three pairs
 abbrev pub ThreePairsReport : Type 0

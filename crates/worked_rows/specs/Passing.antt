@@ -7,7 +7,9 @@ use Rattle.worked_rows.specs.Programs.{number, variable, field, method, object, 
 use Rattle.worked_rows.specs.Reports.{Entry, created, replayed, Reports}
 use Rattle.worked_rows.specs.Copies.{shared_parcel}
 
--- let q = active([; slow(s, v) = v * 10]) in let z = active([; take(s, v) = print(v + 1)]) in let y = active([; pass(s, v) = z.take(v)]) in let x = active([; hand(s, v) = y.pass(v)]) in x.hand(q.slow(4))
+-- let q = active([; slow(s, v) = v * 10]) in let z = active([; take(s, v) = print(v + 1)]) in
+-- let y = active([; pass(s, v) = z.take(v)]) in let x = active([; hand(s, v) = y.pass(v)]) in
+-- x.hand(q.slow(4))
 abbrev pub handing : Tree
 handing = let_in "q" (active (object [] (method "slow" "s" ("v" ∷ []) (multiply (variable "v") (number 10)) ∷ [])))
     (let_in "z" (active (object [] (method "take" "s" ("v" ∷ []) (print (add (variable "v") (number 1))) ∷ [])))
@@ -42,7 +44,9 @@ HandingReports = Reports handing 100 handing_entries 0 (
     ∷ []
     )
 
--- let a = active([; make(s) = [v = 1]]) in let k = active([got = 0; keep(s, o) = s.got := o; 0, set(s, o) = o.v := 2; print(s.got.v); print(o.v)]) in let f = a.make() in k.keep(f); k.set(f)
+-- let a = active([; make(s) = [v = 1]]) in
+-- let k = active([got = 0; keep(s, o) = s.got := o; 0, set(s, o) = o.v := 2; print(s.got.v); print(o.v)]) in
+-- let f = a.make() in k.keep(f); k.set(f)
 abbrev pub keeping : Tree
 keeping = let_in "a" (active (object [] (method "make" "s" [] (object (field "v" (number 1) ∷ []) []) ∷ [])))
     (let_in "k"

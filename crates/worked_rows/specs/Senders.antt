@@ -6,7 +6,8 @@ use Rattle.asp_model.specs.Term.{Tree}
 use Rattle.worked_rows.specs.Programs.{number, variable, field, method, object, get, put, call, active, active_by, serve, let_in, steps, add, multiply, print}
 use Rattle.worked_rows.specs.Reports.{Entry, created, Reports, Replays, Diverges}
 
--- let c = active([n = 1; put(s, v) = s.n := s.n * 2 + v; print(s.n)]) in let a = active([; go(s) = c.put(0)]) in let b = active([; go(s) = c.put(1)]) in a.go(); b.go()
+-- let c = active([n = 1; put(s, v) = s.n := s.n * 2 + v; print(s.n)]) in
+-- let a = active([; go(s) = c.put(0)]) in let b = active([; go(s) = c.put(1)]) in a.go(); b.go()
 abbrev pub racing : Tree
 racing = let_in "c"
     (active (object (field "n" (number 1) ∷ [])
@@ -76,7 +77,8 @@ ListDiverges = Diverges racing (racing_entries 29 (created 2 ∷ created 2 ∷ [
     ∷ []
     )
 
--- let c = active([; run(s) = serve(a); serve(b), a(s, v) = print(v), b(s, v) = print(v + 10)], run) in let p = active([; go(s) = c.a(1)]) in let q = active([; go(s) = c.b(1)]) in p.go(); q.go()
+-- let c = active([; run(s) = serve(a); serve(b), a(s, v) = print(v), b(s, v) = print(v + 10)], run) in
+-- let p = active([; go(s) = c.a(1)]) in let q = active([; go(s) = c.b(1)]) in p.go(); q.go()
 abbrev pub ordering : Tree
 ordering = let_in "c"
     (active_by (object []

@@ -1,4 +1,5 @@
 use Rattle.std.proofs.Common.{◌<◌, ◌≤◌, length, arith, ◌≡◌, sym, ap, subst, ◌∙◌, Some, true}
+use Rattle.asp_model.specs.declared.limits.TheConstants.{MOST_LEVEL}
 use Rattle.asp_tokens.specs.Levels.{WalkShape, walked}
 use Rattle.asp_tokens.specs.Tokens.{Between}
 use Rattle.asp_tokens.specs.Cursors.{from, lexeme_of, goes_on}
@@ -26,7 +27,7 @@ loop-here-preserved c =
     let stepped : step true x (lexeme_of here) ≡ Some y = v.1 ∙ ap (λ (s : StateShape). Some s) (left_none c.in_ok-term.field-0 n c.in_default.not-Some) in
     let on = read_on c.args.bytes.now here c.loop-here.after x w c.in_ok-here.ensures.value (mode_shape n.mode) (open_shape n.inner) (stack n.outer.items) v.0 stepped in
     let ordered : IsOrdered (walked w here.token) = walked_ordered w here.token c.loop-here.invariant.ordered in
-    let low : (walked w here.token).level ≤ 200 = subst (λ (u : WalkShape). u.level ≤ 200) v.2 c.in_ok-term.ensures.low in
+    let low : (walked w here.token).level ≤ MOST_LEVEL = subst (λ (u : WalkShape). u.level ≤ MOST_LEVEL) v.2 c.in_ok-term.ensures.low in
     record {
       same = ap (λ (u : WalkShape). read_list y u (from Between c.args.bytes.now here.after)) v.2 ∙ sym on ∙ c.loop-here.invariant.same;
       low = c.in_ok-term.ensures.low;

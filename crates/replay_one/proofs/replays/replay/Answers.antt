@@ -1,5 +1,6 @@
 use Rattle.std.proofs.Common.{◌≡◌, ◌≤◌, ◌∙◌, List, Some, None, map, sym, ap, subst}
 use Rattle.std.specs.Global.{Vec}
+use Rattle.asp_model.specs.declared.limits.TheConstants.{MOST_REDUCTIONS}
 use Rattle.asp_model.specs.Names.{Name}
 use Rattle.asp_model.specs.Term.{Tree}
 use Rattle.asp_model.specs.Configuration.{start}
@@ -17,7 +18,7 @@ pub run_term-requires-clause-bare : goal.run_term-requires-clause-bare
 run_term-requires-clause-bare c = readable_has_no_places (tree_of c.program.result.now.root) c.program.ensures.readable
 
 pub sum_of-sum-requires : goal.sum_of-sum-requires
-sum_of-sum-requires c = record { within = subst (λ (cs : CountsShape). total cs ≤ 10000000) (sym c.deref.ensures.value) c.requires.replayable.within }
+sum_of-sum-requires c = record { within = subst (λ (cs : CountsShape). total cs ≤ MOST_REDUCTIONS) (sym c.deref.ensures.value) c.requires.replayable.within }
 
 pub run_term-requires-clause-ascending : goal.run_term-requires-clause-ascending
 run_term-requires-clause-ascending c =
