@@ -1,0 +1,14 @@
+//! What a cell needs before its value is read: nothing, the value of a future, or that a future is
+//! filled.
+#![tactic(auto)]
+
+mod kinds;
+mod operands;
+mod places;
+
+pub use kinds::Need;
+pub use operands::needs_are_of_operands;
+pub use places::need;
+
+#[cfg(test)]
+mod tests;
