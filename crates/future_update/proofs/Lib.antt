@@ -1,0 +1,9 @@
+pub mod MarkLemmas
+pub mod NameLemmas
+pub mod NumberLemmas
+pub mod RecordLemmas
+pub mod SettlingLemmas
+pub mod GrowthLemmas
+pub mod OwedLemmas
+pub mod PlaceLemmas
+pub mod HolderLemmas

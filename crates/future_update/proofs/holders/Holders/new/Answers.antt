@@ -1,0 +1,25 @@
+use Rattle.std.proofs.Common.{◌<◌, ◌≤◌, ℕ, List, [], length, sym, ◌∙◌, ap, subst, arith}
+use Rattle.std.specs.Prelude.{slice_get}
+use Rattle.std.proofs.lemmas.Option.{slice_get_past}
+use Rattle.asp_model.specs.History.{ChoiceShape}
+use Rattle.journals.specs.Edges.{EdgeShape, no_holders, owed_at}
+use Rattle.future_update.specs.declared.numbered.Edge.{Edge}
+use Rattle.future_update.specs.Marks.{room}
+use Rattle.future_update.specs.Passings.{ArePassings}
+use Rattle.future_update.proofs.HolderLemmas.{owes_by}
+use Rattle.future_update.proofs.holders.Holders.new.Goals as goal
+
+none_before : {C : Type 0} (p : ℕ) → p < 0 → C
+none_before p lt = absurd (omega (arith, lt))
+
+pub invariant_of-result : goal.invariant_of-result
+invariant_of-result c =
+    let nothing : List EdgeShape = [] in
+    let unanswered : List ChoiceShape = [] in
+    record {
+      records = c.new.ensures.records;
+      passings = subst (ArePassings c.new-2.result) (sym c.new.ensures.edges) (λ p lt. none_before p lt);
+      tree = c.new-3.ensures.tree;
+      room = subst (λ (es : List Edge). length es ≤ room c.new-3.result) (sym c.new.ensures.edges) (omega arith);
+      owed = λ p. c.new-3.ensures.none p ∙ sym (owes_by c.new.result no_holders unanswered c.new.ensures.shape c.new.ensures.answers p ∙ ap (λ x. owed_at no_holders x (slice_get unanswered p)) (slice_get_past nothing p (omega arith)));
+    }

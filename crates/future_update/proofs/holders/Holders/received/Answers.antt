@@ -1,0 +1,48 @@
+use Rattle.std.proofs.Common.{◌∙◌, sym}
+use Rattle.future_update.specs.Names.{future_of, name_of}
+use Rattle.future_update.specs.Records.{names_of, shape_of}
+use Rattle.future_update.proofs.HolderLemmas.{first_received, kept, owes_same, receive_left, receive_sound, received_before, settled}
+use Rattle.future_update.proofs.holders.Holders.received.Goals as goal
+
+pub invariant_of-self : goal.invariant_of-self
+invariant_of-self c =
+    let e = c.enter_receipt.ensures in
+    kept c.self.inside c.enter_receipt.new.self c.self.invariant e.records e.edges e.shape e.answers
+
+pub invariant_of-self-in_err-receive : goal.invariant_of-self-in_err-receive
+invariant_of-self-in_err-receive c =
+    let e = c.enter_receipt.ensures in
+    let g = c.receive.ensures in
+    kept c.self.inside c.receive.new.self c.self.invariant g.records (g.edges ∙ e.edges) (c.in_err-receive.ensures.err ∙ e.shape) (g.answers ∙ e.answers)
+
+pub settle_received-requires-clause-sound : goal.settle_received-requires-clause-sound
+settle_received-requires-clause-sound c =
+    let s = c.self.inside in
+    let r = c.enter_receipt.new.self in
+    let x = c.in_ok-receipt.receipt in
+    let f = future_of (names_of r) x.future in
+    let n = name_of (names_of r) x.by in
+    let shape = c.in_ok-receive.ensures.shape ∙ first_received f n (shape_of r) (sym c.if-branch.true ∙ c.in_ok-receive.ensures.first) in
+    λ p e. receive_sound r c.receive.new.self f n shape c.receive.ensures.answers p (owes_same s.records r c.enter_receipt.ensures.shape c.enter_receipt.ensures.answers p ∙ sym (c.self.invariant.owed p) ∙ e)
+
+pub settle_received-requires-clause-left : goal.settle_received-requires-clause-left
+settle_received-requires-clause-left c =
+    let s = c.self.inside in
+    let r = c.enter_receipt.new.self in
+    let x = c.in_ok-receipt.receipt in
+    let f = future_of (names_of r) x.future in
+    let n = name_of (names_of r) x.by in
+    let shape = c.in_ok-receive.ensures.shape ∙ first_received f n (shape_of r) (sym c.if-branch.true ∙ c.in_ok-receive.ensures.first) in
+    λ p e u. receive_left r c.receive.new.self c.enter_receipt.ensures.records x.future x.by c.in_ok-receipt.ensures.future.0 c.in_ok-receipt.ensures.by.0 c.receive.ensures.edges shape c.receive.ensures.answers p e (owes_same s.records r c.enter_receipt.ensures.shape c.enter_receipt.ensures.answers p ∙ sym (c.self.invariant.owed p) ∙ u)
+
+pub invariant_of-self-then-branch : goal.invariant_of-self-then-branch
+invariant_of-self-then-branch c = settled c.self.inside c.receive.new.self c.settle_received.new.owed c.self.invariant c.receive.ensures.records (c.receive.ensures.edges ∙ c.enter_receipt.ensures.edges) c.settle_received.ensures.tree c.settle_received.ensures.room c.settle_received.ensures.marked
+
+pub invariant_of-self-else-branch : goal.invariant_of-self-else-branch
+invariant_of-self-else-branch c =
+    let r = c.enter_receipt.new.self in
+    let x = c.in_ok-receipt.receipt in
+    let f = future_of (names_of r) x.future in
+    let n = name_of (names_of r) x.by in
+    let shape = c.in_ok-receive.ensures.shape ∙ received_before f n (shape_of r) (sym c.if-branch.false ∙ c.in_ok-receive.ensures.first) in
+    kept c.self.inside c.receive.new.self c.self.invariant c.receive.ensures.records (c.receive.ensures.edges ∙ c.enter_receipt.ensures.edges) (shape ∙ c.enter_receipt.ensures.shape) (c.receive.ensures.answers ∙ c.enter_receipt.ensures.answers)

@@ -1,0 +1,115 @@
+//! Edges that become owed, found by their future and their first activity.
+
+ghost use Rattle.std.specs.Prelude.{◌≡◌, ◌≤◌, ℕ, length};
+ghost use Rattle.std.specs.BTreeMap.Range.{IsLeBy};
+ghost use Rattle.future_update.specs.Marks.{IsTree, MarkedIf, is_marked, room as room_of};
+ghost use Rattle.future_update.specs.Passings.{ArePassings, IsLeft, IsLeftOf, IsSound, passing_cmp};
+ghost use Rattle.future_update.specs.Records.{AreRecords, owes};
+
+use crate::marks::Marks;
+use crate::numbered::{Future, Passing, Receipt};
+use crate::records::Records;
+use std::collections::BTreeSet;
+
+/// Marks what is owed between two passings, where all else that is owed is marked.
+pub fn settle(
+    records: &Records,
+    passings: &BTreeSet<Passing>,
+    owed: &mut Marks,
+    low: Passing,
+    high: Passing,
+)
+    requires records { AreRecords records.now }
+    requires passings { ArePassings passings.now records.now.edges.keys }
+    requires tree { IsTree owed.old }
+    requires room { length records.now.edges.keys ≤ room_of owed.old }
+    requires forward { IsLeBy passing_cmp low high }
+    requires sound { IsSound records.now owed.old }
+    requires left { IsLeft records.now owed.old low high }
+    ensures tree { IsTree owed.new }
+    ensures room { room_of owed.new ≡ room_of owed.old }
+    ensures marked { (p : ℕ) → is_marked owed.new p ≡ owes records.now p }
+{
+    for passing in passings.range(low..=high) {
+        settle_at(records, owed, passing.place as usize);
+    }
+}
+
+/// Marks a place if its edge is owed.
+pub fn settle_at(records: &Records, owed: &mut Marks, place: usize)
+    requires records { AreRecords records.now }
+    requires tree { IsTree owed.old }
+    requires room { length records.now.edges.keys ≤ room_of owed.old }
+    ensures tree { IsTree owed.new }
+    ensures room { room_of owed.new ≡ room_of owed.old }
+    ensures marked { MarkedIf (owes records.now place) place owed.old owed.new }
+{
+    if records.owes(place) {
+        owed.set(place, true);
+    }
+}
+
+/// Marks what became owed as a future was filled.
+pub fn settle_filled(
+    records: &Records,
+    passings: &BTreeSet<Passing>,
+    owed: &mut Marks,
+    future: Future,
+)
+    requires records { AreRecords records.now }
+    requires passings { ArePassings passings.now records.now.edges.keys }
+    requires tree { IsTree owed.old }
+    requires room { length records.now.edges.keys ≤ room_of owed.old }
+    requires sound { IsSound records.now owed.old }
+    requires left { IsLeftOf records.now owed.old (λ e. e.future ≡ future) }
+    ensures tree { IsTree owed.new }
+    ensures room { room_of owed.new ≡ room_of owed.old }
+    ensures marked { (p : ℕ) → is_marked owed.new p ≡ owes records.now p }
+{
+    let low = Passing {
+        by: future.by,
+        index: future.index,
+        from: 0,
+        place: 0,
+    };
+    let high = Passing {
+        by: future.by,
+        index: future.index,
+        from: u32::MAX,
+        place: u32::MAX,
+    };
+    settle(records, passings, owed, low, high);
+}
+
+/// Marks what became owed as an activity received a value.
+pub fn settle_received(
+    records: &Records,
+    passings: &BTreeSet<Passing>,
+    owed: &mut Marks,
+    receipt: Receipt,
+)
+    requires records { AreRecords records.now }
+    requires passings { ArePassings passings.now records.now.edges.keys }
+    requires tree { IsTree owed.old }
+    requires room { length records.now.edges.keys ≤ room_of owed.old }
+    requires sound { IsSound records.now owed.old }
+    requires left { IsLeftOf records.now owed.old
+        (λ e. (e.future ≡ receipt.future) × (e.from ≡ receipt.by)) }
+    ensures tree { IsTree owed.new }
+    ensures room { room_of owed.new ≡ room_of owed.old }
+    ensures marked { (p : ℕ) → is_marked owed.new p ≡ owes records.now p }
+{
+    let low = Passing {
+        by: receipt.future.by,
+        index: receipt.future.index,
+        from: receipt.by,
+        place: 0,
+    };
+    let high = Passing {
+        by: receipt.future.by,
+        index: receipt.future.index,
+        from: receipt.by,
+        place: u32::MAX,
+    };
+    settle(records, passings, owed, low, high);
+}

@@ -1,0 +1,13 @@
+//! Policies: what is done for an activity that is passed a future.
+#![tactic(auto)]
+
+mod kinds;
+mod policy;
+mod strategy;
+
+pub use kinds::{BudgetedPolicy, ForwardPolicy, LazyPolicy, MessagePolicy};
+pub use policy::{PolicyBox, UpdatePolicy};
+pub use strategy::{Policies, Strategy};
+
+#[cfg(test)]
+mod tests;
