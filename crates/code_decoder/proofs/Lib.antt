@@ -1,0 +1,5 @@
+pub mod TermTrees
+pub mod SeenLemmas
+pub mod DecodeLemmas
+pub mod BehindLemmas
+pub mod CellLemmas

@@ -1,0 +1,192 @@
+//! Terms over the terms below them. A node over other than as many terms as it asks for, which no
+//! program has, is answered as want of memory.
+
+ghost use Rattle.std.specs.Prelude.{◌≡◌, IfOk, [], map};
+ghost use Rattle.asp_model.specs.Term.{If, Make, more, node, none, trees};
+ghost use Rattle.asp_model.specs.Shapes.{tree_of};
+ghost use Rattle.program_code.specs.Tables.{kind_head, text_of};
+ghost use Rattle.code_decoder.specs.Decoded.{body_tree, field_label, field_tree, method_head, trees_then};
+
+use crate::copies::{copy_labels, copy_service};
+use crate::split::{both, first_of, only};
+use asp_model::{Label, Mark, Method, Term};
+use program_code::Kind;
+use std::alloc::{AllocError, Global};
+
+/// A node over these terms.
+#[tactic(auto, using(crate::proofs::TermTrees::trees_are))]
+pub fn built(alloc: Global, kind: &Kind, terms: Vec<Term>) -> Result<Term, AllocError>
+    ensures term { IfOk result
+        (λ r. tree_of r ≡ node (kind_head kind.now) (trees (map tree_of terms.items))) }
+{
+    match kind {
+        Kind::Number(_) | Kind::Serve(_) | Kind::Echo(_) => {
+            if !terms.is_empty() {
+                return Err(AllocError);
+            }
+            over_none(alloc, kind)
+        }
+        Kind::Put(_) | Kind::Let(_) | Kind::Operate(_) | Kind::Scatter(_) | Kind::Member => {
+            match both(terms) {
+                Some((first, second)) => over_two(alloc, kind, first, second),
+                None => Err(AllocError),
+            }
+        }
+        Kind::Call(_) | Kind::If => match first_of(terms) {
+            Some((first, others)) => over_first(alloc, kind, first, others),
+            None => Err(AllocError),
+        },
+        Kind::Steps => Ok(Term::Steps(terms, Mark::blank(alloc))),
+        Kind::Group => Ok(Term::Group(terms, Mark::blank(alloc))),
+        _ => match only(terms) {
+            Some(term) => over_one(alloc, kind, term),
+            None => Err(AllocError),
+        },
+    }
+}
+
+#[tactic(auto, using(crate::proofs::TermTrees::trees_are))]
+fn over_none(alloc: Global, kind: &Kind) -> Result<Term, AllocError>
+    ensures term { IfOk result (λ r. tree_of r ≡ node (kind_head kind.now) none) }
+{
+    match kind {
+        Kind::Number(n) => Ok(Term::Number(*n, Mark::blank(alloc))),
+        Kind::Serve(labels) => {
+            let labels = copy_labels(alloc, labels)?;
+            Ok(Term::Serve(labels, Mark::blank(alloc)))
+        }
+        Kind::Echo(text) => {
+            let text = text.copy(alloc)?;
+            Ok(Term::Echo(text, Mark::blank(alloc)))
+        }
+        _ => Err(AllocError),
+    }
+}
+
+#[tactic(auto, using(crate::proofs::TermTrees::trees_are))]
+fn over_one(alloc: Global, kind: &Kind, term: Term) -> Result<Term, AllocError>
+    ensures term { IfOk result
+        (λ r. tree_of r ≡ node (kind_head kind.now) (more (tree_of term) none)) }
+{
+    let term = Box::new(alloc, term)?;
+    match kind {
+        Kind::Get(label) => {
+            let label = label.copy(alloc)?;
+            Ok(Term::Get(term, label, Mark::blank(alloc)))
+        }
+        Kind::Clone => Ok(Term::Clone(term, Mark::blank(alloc))),
+        Kind::Active(service) => {
+            let service = copy_service(alloc, service)?;
+            Ok(Term::Active(term, service, Mark::blank(alloc)))
+        }
+        Kind::Repeat => Ok(Term::Repeat(term, Mark::blank(alloc))),
+        Kind::Print => Ok(Term::Print(term, Mark::blank(alloc))),
+        Kind::Size => Ok(Term::Size(term, Mark::blank(alloc))),
+        Kind::WaitAll => Ok(Term::WaitAll(term, Mark::blank(alloc))),
+        _ => Err(AllocError),
+    }
+}
+
+#[tactic(auto, using(crate::proofs::TermTrees::trees_are))]
+fn over_two(alloc: Global, kind: &Kind, first: Term, second: Term) -> Result<Term, AllocError>
+    ensures term { IfOk result
+        (λ r. tree_of r ≡ node (kind_head kind.now) (more (tree_of first) (more (tree_of second) none))) }
+{
+    let first = Box::new(alloc, first)?;
+    let second = Box::new(alloc, second)?;
+    match kind {
+        Kind::Put(label) => {
+            let label = label.copy(alloc)?;
+            Ok(Term::Put(first, label, second, Mark::blank(alloc)))
+        }
+        Kind::Let(name) => {
+            let name = name.copy(alloc)?;
+            Ok(Term::Let(name, first, second, Mark::blank(alloc)))
+        }
+        Kind::Operate(sign) => Ok(Term::Operate(*sign, first, second, Mark::blank(alloc))),
+        Kind::Scatter(label) => {
+            let label = label.copy(alloc)?;
+            Ok(Term::Scatter(first, label, second, Mark::blank(alloc)))
+        }
+        Kind::Member => Ok(Term::Member(first, second, Mark::blank(alloc))),
+        _ => Err(AllocError),
+    }
+}
+
+#[tactic(auto, using(crate::proofs::TermTrees::trees_are))]
+fn over_first(
+    alloc: Global,
+    kind: &Kind,
+    first: Term,
+    others: Vec<Term>,
+) -> Result<Term, AllocError>
+    ensures term { IfOk result (λ r. tree_of r
+        ≡ node (kind_head kind.now) (more (tree_of first) (trees (map tree_of others.items)))) }
+{
+    match kind {
+        Kind::Call(label) => {
+            let first = Box::new(alloc, first)?;
+            let label = label.copy(alloc)?;
+            Ok(Term::Call(first, label, others, Mark::blank(alloc)))
+        }
+        Kind::If => match both(others) {
+            Some((second, third)) => over_three(alloc, first, second, third),
+            None => Err(AllocError),
+        },
+        _ => Err(AllocError),
+    }
+}
+
+#[tactic(auto, using(crate::proofs::TermTrees::trees_are))]
+fn over_three(alloc: Global, first: Term, second: Term, third: Term) -> Result<Term, AllocError>
+    ensures term { IfOk result (λ r. tree_of r ≡ node If (more (tree_of first)
+        (more (tree_of second) (more (tree_of third) none)))) }
+{
+    let first = Box::new(alloc, first)?;
+    let second = Box::new(alloc, second)?;
+    let third = Box::new(alloc, third)?;
+    Ok(Term::If(first, second, third, Mark::blank(alloc)))
+}
+
+/// An object with these labels over the terms of its fields, and these methods.
+#[tactic(auto, using(crate::proofs::TermTrees::trees_are))]
+pub fn object(
+    alloc: Global,
+    labels: &[Label],
+    terms: Vec<Term>,
+    methods: Vec<Method>,
+) -> Result<Term, AllocError>
+    ensures term { IfOk result (λ r. tree_of r
+        ≡ node (Make (map text_of labels.now) (map method_head methods.items))
+        (trees_then (map tree_of terms.items) (trees (map body_tree methods.items)))) }
+{
+    let fields = labelled(alloc, labels, terms)?;
+    Ok(Term::Make {
+        fields,
+        methods,
+        mark: Mark::blank(alloc),
+    })
+}
+
+fn labelled(
+    alloc: Global,
+    labels: &[Label],
+    mut terms: Vec<Term>,
+) -> Result<Vec<(Label, Term)>, AllocError>
+    ensures labels { IfOk result (λ r. map field_label r.items ≡ map text_of labels.now) }
+    ensures terms { IfOk result (λ r. map field_tree r.items ≡ map tree_of terms.items) }
+{
+    terms.reverse();
+    let mut fields = Vec::new(alloc);
+    for label in labels {
+        match terms.pop() {
+            Some(term) => fields.push((label.copy(alloc)?, term))?,
+            None => return Err(AllocError),
+        }
+    }
+    if terms.is_empty() {
+        Ok(fields)
+    } else {
+        Err(AllocError)
+    }
+}

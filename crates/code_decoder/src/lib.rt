@@ -1,0 +1,17 @@
+//! From code to terms: what a piece of code stands for in an environment, and what the frames of a
+//! machine stand for.
+#![tactic(auto)]
+
+mod built;
+mod cells;
+mod copies;
+mod decoder;
+mod seen;
+mod split;
+mod terms;
+
+pub use cells::cell_of;
+pub use terms::{context_of, redex_of, term_of};
+
+#[cfg(test)]
+mod tests;

@@ -1,0 +1,12 @@
+pub mod TwiceLemmas
+pub mod ScopeLemmas
+pub mod CaptureLemmas
+pub mod MakeLemmas
+pub mod BodyLemmas
+pub mod GrowLemmas
+pub mod SplitLemmas
+pub mod OpenLemmas
+pub mod TurnLemmas
+pub mod BranchLemmas
+pub mod NodeLemmas
+pub mod ShownLemmas

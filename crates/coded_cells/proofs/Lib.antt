@@ -1,0 +1,2 @@
+pub mod CodedLemmas
+pub mod FitsLemmas

@@ -1,0 +1,7 @@
+pub mod NumberLemmas
+pub mod MeaningLemmas
+pub mod ReachedLemmas
+pub mod VisitLemmas
+pub mod CopyLemmas
+pub mod UnpackLemmas
+pub mod PackLemmas

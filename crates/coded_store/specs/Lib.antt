@@ -1,0 +1,5 @@
+pub mod View
+pub mod Holders
+pub mod Index
+pub mod Stored
+pub mod Fields

@@ -1,0 +1,4 @@
+pub mod TableLemmas
+pub mod GrowthLemmas
+pub mod LookupLemmas
+pub mod UsesLemmas

@@ -1,0 +1,34 @@
+-- The class of the objects that a node makes.
+use Rattle.std.specs.Prelude.{ℕ, true, false, zero, suc, List, [], ◌∷◌, Option, Some, None, map}
+use Rattle.std.specs.Option.{option_map}
+use Rattle.std.specs.Borrow.{Bor}
+use Rattle.asp_model.specs.Names.{Text, same_text}
+use Rattle.program_code.specs.declared.code.Class.{Class}
+use Rattle.program_code.specs.declared.code.Kind.{Kind}
+use Rattle.program_code.specs.declared.code.Kind.TheVariants as kind
+use Rattle.program_code.specs.declared.code.Node.{Node}
+use Rattle.program_code.specs.Tables.{labels_of, head_of}
+
+abbrev pub class_of : Kind → Option Class
+class_of (kind.Make k) = Some k.value
+class_of k = None
+
+abbrev pub class_at : List Node → ℕ → Option Class
+class_at [] i = None
+class_at (n ∷ ns) zero = class_of n.kind
+class_at (n ∷ ns) (suc i) = class_at ns i
+
+-- the class that a look-up lends
+abbrev pub seen_class : Option (Bor Class) → Option Class
+seen_class o = option_map (λ k. k.now) o
+
+-- the number of the first of these labels that is this one
+abbrev pub number_of : Text → List Text → Option ℕ
+number_of l [] = None
+number_of l (x ∷ xs) = elim (same_text l x) [ true ↦ Some 0 | false ↦ option_map suc (number_of l xs) ]
+
+abbrev pub field_number : Text → Class → Option ℕ
+field_number l k = number_of l (labels_of k)
+
+abbrev pub method_number : Text → Class → Option ℕ
+method_number l k = number_of l (map (λ m. (head_of m).label) k.methods.items)

@@ -1,0 +1,7 @@
+-- in reading order
+pub mod Pieces
+pub mod Fitting
+pub mod Uses
+pub mod Tables
+pub mod Classes
+pub mod Sound
