@@ -13,6 +13,3 @@ mod ticks;
 
 pub use edge::EdgeNames;
 pub use holders::Holders;
-
-#[cfg(test)]
-mod tests;
