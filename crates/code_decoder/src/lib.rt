@@ -11,7 +11,4 @@ mod split;
 mod terms;
 
 pub use cells::cell_of;
-pub use terms::{context_of, redex_of, term_of};
-
-#[cfg(test)]
-mod tests;
+pub use terms::{call_of, context_of, location, redex_of, term_of};

@@ -1,7 +1,7 @@
 //! The terms that a machine stands for: of a child, of a node, and of a frame.
 
 ghost use Rattle.std.specs.Prelude.{◌≡◌, ◌<◌, ◌≤◌, ◌++◌, drop, length, map, IfOk};
-ghost use Rattle.asp_model.specs.Term.{Steps, loc, node, trees};
+ghost use Rattle.asp_model.specs.Term.{Call, Steps, loc, node, trees};
 ghost use Rattle.asp_model.specs.Shapes.{tree_of};
 ghost use Rattle.program_code.specs.Sound.{AllBelow, IsBelow, KindBelow};
 ghost use Rattle.program_code.specs.Tables.{piece_at, piece_of, pieces, pieces_of};
@@ -21,7 +21,8 @@ ghost use Rattle.code_decoder.specs.Decoded.{
 
 use crate::decoder::{child_term, finished, node_term, push_terms};
 use crate::seen::{Seen, seen_places};
-use asp_model::{Mark, Term};
+use crate::split::first_of;
+use asp_model::{Label, Mark, Term};
 use program_code::{Child, Code, Kind, Node};
 use std::alloc::{AllocError, Global};
 
@@ -89,11 +90,30 @@ fn locations(alloc: Global, places: &[usize]) -> Result<Vec<Term>, AllocError>
     Ok(terms)
 }
 
+/// A place as a term.
 #[tactic(auto, using(crate::proofs::TermTrees::trees_are))]
-fn location(alloc: Global, place: usize) -> Term
+pub fn location(alloc: Global, place: usize) -> Term
     ensures location { tree_of result ≡ loc place }
 {
     Term::Loc(place as u128, Mark::blank(alloc))
+}
+
+/// A call of these places, the receiver first. A call without a receiver is answered as want of
+/// memory.
+#[tactic(auto, using(crate::proofs::TermTrees::trees_are))]
+pub fn call_of(alloc: Global, label: &Label, places: &[usize]) -> Result<Term, AllocError>
+    ensures call { IfOk result
+        (λ r. tree_of r ≡ node (Call label.now.text) (trees (map loc places.now))) }
+{
+    let terms = locations(alloc, places)?;
+    match first_of(terms) {
+        Some((receiver, arguments)) => {
+            let receiver = Box::new(alloc, receiver)?;
+            let label = label.copy(alloc)?;
+            Ok(Term::Call(receiver, label, arguments, Mark::blank(alloc)))
+        }
+        None => Err(AllocError),
+    }
 }
 
 /// A node over its first terms, and those of its code that stand behind them.

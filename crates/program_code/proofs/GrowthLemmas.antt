@@ -6,9 +6,11 @@ use Rattle.program_code.specs.declared.code.Kind.{Kind}
 use Rattle.program_code.specs.declared.code.Kind.TheVariants as kind
 use Rattle.program_code.specs.declared.code.MethodCode.{MethodCode}
 use Rattle.program_code.specs.declared.code.Node.{Node}
-use Rattle.program_code.specs.Pieces.{Piece}
-use Rattle.program_code.specs.Tables.{this_or, piece_at, piece_of, node_piece, forest, pieces}
-use Rattle.program_code.specs.Sound.{IsBelow, AllBelow, MethodsBelow, KindBelow, IsOrdered}
+use Rattle.program_code.specs.Pieces.{Piece, also, method}
+use Rattle.program_code.specs.Fitting.{Fits, captured_names, body_scope, body_height}
+use Rattle.program_code.specs.Uses.{uses}
+use Rattle.program_code.specs.Tables.{this_or, piece_at, piece_of, pieces_of, head_of, bodies_of, node_piece, forest, pieces}
+use Rattle.program_code.specs.Sound.{IsBelow, AllBelow, MethodsBelow, KindBelow, IsOrdered, IsSoundMethod, MethodsSound, KindSound, ClassesSound}
 use Rattle.program_code.proofs.TableLemmas.{same, forest_keeps, child_keeps}
 
 pub forest_append : (ps : List Piece) (xs ys : List Node) → forest ps (xs ++ ys) ≡ forest (forest ps xs) ys
@@ -60,3 +62,56 @@ all_below_more m n (c ∷ cs) le h = (below_more m n c le h.0, all_below_more m 
 pub methods_below_more : (m n : ℕ) (ms : List MethodCode) → m ≤ n → MethodsBelow m ms → MethodsBelow n ms
 methods_below_more m n [] le h = tt
 methods_below_more m n (x ∷ xs) le h = (below_more m n x.body le h.0, methods_below_more m n xs le h.1)
+
+pub methods_below_append : (m : ℕ) (xs ys : List MethodCode) → MethodsBelow m xs → MethodsBelow m ys → MethodsBelow m (xs ++ ys)
+methods_below_append m [] ys h g = g
+methods_below_append m (x ∷ xs) ys h g = (h.0, methods_below_append m xs ys h.1 g)
+
+pub all_below_append : (m : ℕ) (xs ys : List Child) → AllBelow m xs → AllBelow m ys → AllBelow m (xs ++ ys)
+all_below_append m [] ys h g = g
+all_below_append m (x ∷ xs) ys h g = (h.0, all_below_append m xs ys h.1 g)
+
+-- what stands in a table that grows stays what it is
+
+pub children_kept : (ns added : List Node) (cs : List Child) → AllBelow (length ns) cs → pieces_of (pieces (ns ++ added)) cs ≡ pieces_of (pieces ns) cs
+children_kept ns added [] h = refl
+children_kept ns added (c ∷ cs) h = λ i. also (child_kept ns added c h.0 i) (children_kept ns added cs h.1 i)
+
+pub bodies_kept : (ns added : List Node) (ms : List MethodCode) → MethodsBelow (length ns) ms → bodies_of (pieces (ns ++ added)) ms ≡ bodies_of (pieces ns) ms
+bodies_kept ns added [] h = refl
+bodies_kept ns added (m ∷ ms) h = λ i. method (head_of m) m.captured.items (child_kept ns added m.body h.0 i) (bodies_kept ns added ms h.1 i)
+
+sound_kept : (ps qs : List Piece) (m : MethodCode) → piece_of qs m.body ≡ piece_of ps m.body → IsSoundMethod ps m → IsSoundMethod qs m
+sound_kept ps qs m e s = record {
+  fits = subst (Fits (captured_names m.captured.items) (body_scope m.captured.items (head_of m)) (body_height m.captured.items (head_of m))) (sym e) s.fits;
+  uses = s.uses ∙ ap uses (sym e);
+}
+
+pub methods_sound_kept : (ns added : List Node) (ms : List MethodCode) → MethodsBelow (length ns) ms → MethodsSound (pieces ns) ms → MethodsSound (pieces (ns ++ added)) ms
+methods_sound_kept ns added [] h s = tt
+methods_sound_kept ns added (m ∷ ms) h s = (sound_kept (pieces ns) (pieces (ns ++ added)) m (child_kept ns added m.body h.0) s.0, methods_sound_kept ns added ms h.1 s.1)
+
+kind_sound_kept : (ns added : List Node) (k : Kind) → KindBelow (length ns) k → KindSound (pieces ns) k → KindSound (pieces (ns ++ added)) k
+kind_sound_kept ns added (kind.Make k) h s = (methods_sound_kept ns added k.value.methods.items h s.0, s.1)
+kind_sound_kept ns added _ h s = tt
+
+kind_below_more : (m n : ℕ) (k : Kind) → m ≤ n → KindBelow m k → KindBelow n k
+kind_below_more m n (kind.Make k) le h = methods_below_more m n k.value.methods.items le h
+kind_below_more m n _ le h = tt
+
+classes_kept : (ns added : List Node) (m : ℕ) (xs : List Node) → m + length xs ≤ length ns → IsOrdered m xs → ClassesSound (pieces ns) xs → ClassesSound (pieces (ns ++ added)) xs
+classes_kept ns added m [] le o s = tt
+classes_kept ns added m (x ∷ xs) le o s =
+    let here : m ≤ length ns = omega (arith, le) in
+    let later : suc m + length xs ≤ length ns = omega (arith, le) in
+    (kind_sound_kept ns added x.kind (kind_below_more m (length ns) x.kind here o.1) s.0, classes_kept ns added (suc m) xs later o.2 s.1)
+
+classes_put : (ps : List Piece) (xs : List Node) (n : Node) → ClassesSound ps xs → KindSound ps n.kind → ClassesSound ps (xs ++ n ∷ [])
+classes_put ps [] n s k = (k, tt)
+classes_put ps (x ∷ xs) n s k = (s.0, classes_put ps xs n s.1 k)
+
+-- a sound node behind others
+pub sound_put : (ns : List Node) (n : Node) → IsOrdered 0 ns → ClassesSound (pieces ns) ns → KindBelow (length ns) n.kind → KindSound (pieces ns) n.kind → ClassesSound (pieces (ns ++ n ∷ [])) (ns ++ n ∷ [])
+sound_put ns n o s h k =
+    let all : 0 + length ns ≤ length ns = omega arith in
+    classes_put (pieces (ns ++ n ∷ [])) ns n (classes_kept ns (n ∷ []) 0 ns all o s) (kind_sound_kept ns (n ∷ []) n.kind h k)

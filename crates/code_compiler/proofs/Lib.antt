@@ -1,0 +1,9 @@
+pub mod TermTrees
+pub mod FreeLemmas
+pub mod ClosedLemmas
+pub mod ClosedLaws
+pub mod SizeLemmas
+pub mod ScopeLemmas
+pub mod AddLemmas
+pub mod MethodLemmas
+pub mod ProgramLemmas

@@ -1,0 +1,10 @@
+use Rattle.std.proofs.Common.{◌≡◌, take}
+use Rattle.program_code.specs.Fitting.{CapturesFit, captured_names}
+use Rattle.code_compiler.specs.Added.{environment}
+use Rattle.code_compiler.proofs.methods.captures.Given as goal
+
+abbrev pub invariant-loop-name : goal.invariant-loop-name
+invariant-loop-name l = record {
+  names : captured_names l.captured.items ≡ take l.name-index l.names;
+  fit : CapturesFit l.scope.captured.now (environment l.scope.bound.now) l.captured.items;
+}

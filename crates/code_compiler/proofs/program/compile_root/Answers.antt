@@ -1,0 +1,7 @@
+use Rattle.std.proofs.Common.{refl}
+use Rattle.asp_model.specs.Shapes.{tree_of}
+use Rattle.code_compiler.proofs.ProgramLemmas.{root_added}
+use Rattle.code_compiler.proofs.program.compile_root.Goals as goal
+
+pub returns-clause-root : goal.returns-clause-root
+returns-clause-root c = root_added c.new-uses.result.items c.compile_term.new.uses.items c.args.nodes.now.items c.compile_term.new.nodes.items c.new-children.result.items c.compile_term.new.children.items (tree_of c.args.root.now) _ _ refl refl c.new-children.ensures.items c.in_ok-compile_term.ensures.adds c.in_ok-compile_term.ensures.ends

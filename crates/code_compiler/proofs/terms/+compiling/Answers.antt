@@ -1,0 +1,346 @@
+use Rattle.std.proofs.Common.{rules, ◌≡◌, ◌∷◌, ◌++◌, ◌+◌, ◌-◌, ◌<◌, ◌≤◌, [], ℕ, ℤ, suc, List, length, map, take, get_or, refl, sym, ap, subst, ◌∙◌, arith, Bor, Result, OnOk, IfOk, w64, to_z, of_z}
+use Rattle.std.specs.Global.{Vec, Box}
+use Rattle.asp_model.specs.declared.term.Term.{Term}
+use Rattle.asp_model.specs.declared.term.Method.{Method}
+use Rattle.asp_model.specs.declared.word.Label.{Label}
+use Rattle.asp_model.specs.Names.{Text}
+use Rattle.asp_model.specs.Term.{Tree, MethodHead, Environment, node, more, none, trees}
+use Rattle.asp_model.specs.Term as term
+use Rattle.asp_model.specs.Readable.{HasArity}
+use Rattle.asp_model.specs.Shapes.{tree_of}
+use Rattle.program_code.specs.declared.code.Child.{Child}
+use Rattle.program_code.specs.declared.code.Class.{Class}
+use Rattle.program_code.specs.declared.code.Kind.TheVariants as kind
+use Rattle.program_code.specs.declared.code.MethodCode.{MethodCode}
+use Rattle.program_code.specs.declared.code.Node.{Node}
+use Rattle.program_code.specs.Fitting.{names, slots_from}
+use Rattle.program_code.specs.Tables.{text_of, labels_of}
+use Rattle.code_compiler.specs.Added.{body_of, names_of, environment}
+use Rattle.code_compiler.specs.Closed.{IsClosed, AreClosed}
+use Rattle.code_compiler.specs.Free.{free_in}
+use Rattle.code_compiler.specs.Compiled.{Body, Adds, AddsMethods, AreAmong, IsMethod, SameScope, IsPlain, names_in, captured_count}
+use Rattle.code_compiler.specs.Parts.{field_label, field_tree, head_in, body_tree, bound_in, terms_below, fields_below, bodies_below}
+use Rattle.code_compiler.proofs.TermTrees.{make_is, call_is, number_is, steps_is, group_is, if_is}
+use Rattle.code_compiler.proofs.ClosedLemmas.{body_closed, captured_among}
+use Rattle.code_compiler.proofs.ClosedLaws.{steps_closed, group_closed, call_closed, fields_closed, methods_closed, field_at, method_at}
+use Rattle.code_compiler.proofs.SizeLemmas.{steps_size, group_size, call_size, fields_size, methods_size, term_size_at, method_size_at, field_size_at}
+use Rattle.code_compiler.proofs.ScopeLemmas.{names_slots}
+use Rattle.code_compiler.proofs.AddLemmas.{count_trees, adds_none, adds_more, node_added, let_added, ends_put, map_step, map_length, same_self, closed_at, row_of, if_ok}
+use Rattle.code_compiler.proofs.MethodLemmas.{methods_more, count_append, method_added, object_added, one_child_long}
+use Rattle.code_compiler.proofs.terms.+compiling.Goals as goal
+
+pub put_one-returns-clause-adds : goal.put_one-returns-clause-adds
+put_one-returns-clause-adds t c =
+    let a : Body = body_of c.args.scope.now c.args.uses.now.items in
+    let b : Body = body_of c.args.scope.now c.compile_term.new.uses.items in
+    let ns : List Node = c.args.nodes.now.items in
+    let ms : List Node = c.compile_term.new.nodes.items in
+    let row = c.compile_term.new.children in
+    node_added a b ns ms c.put.new.nodes.items c.args.children.now.items c.put.new.children.items c.args.kind row (tree_of c.args.a.now ∷ [])
+    (row_of a b ns ms c.new-below.result.items row.items (tree_of c.args.a.now ∷ []) c.new-below.ensures.items c.in_ok-compile_term.ensures.adds) c.requires.plain c.in_ok-put.ensures.node c.in_ok-put.ensures.child
+
+pub put_one-returns-clause-ends : goal.put_one-returns-clause-ends
+put_one-returns-clause-ends t c =
+    ends_put c.compile_term.new.nodes.items c.put.new.nodes.items (record { kind = c.args.kind; children = c.compile_term.new.children }) c.args.children.now.items c.put.new.children.items c.in_ok-put.ensures.node c.in_ok-put.ensures.child
+
+pub put_last-returns-clause-adds : goal.put_last-returns-clause-adds
+put_last-returns-clause-adds t c = λ vs ns ts row plain.
+    let a : Body = body_of c.args.scope.now vs.items in
+    let b : Body = body_of c.args.scope.now c.args.uses.now.items in
+    let d : Body = body_of c.args.scope.now c.compile_term.new.uses.items in
+    let ms : List Node = c.args.nodes.now.items in
+    let ls : List Node = c.compile_term.new.nodes.items in
+    let below = c.compile_term.new.children in
+    let us : List Tree = tree_of c.args.last.now ∷ [] in
+    node_added a d ns.items ls c.put.new.nodes.items c.args.children.now.items c.put.new.children.items c.args.kind below (ts ++ us)
+    (adds_more a b d ns.items ms ls [] c.args.below.items below.items ts us row c.in_ok-compile_term.ensures.adds) plain c.in_ok-put.ensures.node c.in_ok-put.ensures.child
+
+pub put_last-returns-clause-ends : goal.put_last-returns-clause-ends
+put_last-returns-clause-ends t c =
+    ends_put c.compile_term.new.nodes.items c.put.new.nodes.items (record { kind = c.args.kind; children = c.compile_term.new.children }) c.args.children.now.items c.put.new.children.items c.in_ok-put.ensures.node c.in_ok-put.ensures.child
+
+pub put_all-returns-clause-adds : goal.put_all-returns-clause-adds
+put_all-returns-clause-adds t c = λ vs ns ts row plain.
+    let a : Body = body_of c.args.scope.now vs.items in
+    let b : Body = body_of c.args.scope.now c.args.uses.now.items in
+    let d : Body = body_of c.args.scope.now c.compile_all.new.uses.items in
+    let ms : List Node = c.args.nodes.now.items in
+    let ls : List Node = c.compile_all.new.nodes.items in
+    let below = c.compile_all.new.children in
+    let us : List Tree = map tree_of c.args.terms.now in
+    node_added a d ns.items ls c.put.new.nodes.items c.args.children.now.items c.put.new.children.items c.args.kind below (ts ++ us)
+    (adds_more a b d ns.items ms ls [] c.args.below.items below.items ts us row c.in_ok-compile_all.ensures.adds) plain c.in_ok-put.ensures.node c.in_ok-put.ensures.child
+
+pub put_all-returns-clause-ends : goal.put_all-returns-clause-ends
+put_all-returns-clause-ends t c =
+    ends_put c.compile_all.new.nodes.items c.put.new.nodes.items (record { kind = c.args.kind; children = c.compile_all.new.children }) c.args.children.now.items c.put.new.children.items c.in_ok-put.ensures.node c.in_ok-put.ensures.child
+
+pub put_let-returns-clause-adds : goal.put_let-returns-clause-adds
+put_let-returns-clause-adds t c = λ vs ns x row.
+    let a : Body = body_of c.args.scope.now vs.items in
+    let b : Body = body_of c.args.scope.now c.args.uses.now.items in
+    let f : Body = body_of c.args.scope.now c.compile_term.new.uses.items in
+    let below = c.compile_term.new.children in
+    let ls : List Node = c.compile_term.new.nodes.items in
+    let name : Text = c.args.name.now in
+    let size : length c.args.scope.now.bound.now ≡ length (environment c.args.scope.now.bound.now) = sym (map_length (λ (e : Bor Text × ℕ). (e.0.now, e.1)) c.args.scope.now.bound.now) in
+    let bound : environment c.deref.result.now ≡ (name, length b.captured + length b.bound) ∷ b.bound =
+    ap environment c.deref.ensures.value ∙ c.in_ok-bound.ensures.bound ∙ ap (λ (k : ℕ). (name, length b.captured + k) ∷ b.bound) size in
+    let same : SameScope a f = record { captured = refl; bound = refl } in
+    let pushed : c.put.new.nodes.items ≡ ls ++ record { kind = kind.Let name; children = below } ∷ [] =
+    c.in_ok-put.ensures.node ∙ ap (λ (w : Text). let n : Node = record { kind = kind.Let w; children = below } in ls ++ n ∷ []) c.in_ok-copy.ensures.word in
+    let_added a b b _ _ ns.items c.args.nodes.now.items ls c.put.new.nodes.items c.args.children.now.items c.put.new.children.items name below c.args.below.items x (tree_of c.args.last.now)
+    row (same_self b) refl refl bound refl f c.in_ok-compile_term.ensures.adds same refl pushed c.in_ok-put.ensures.child
+
+pub put_let-returns-clause-ends : goal.put_let-returns-clause-ends
+put_let-returns-clause-ends t c =
+    ends_put c.compile_term.new.nodes.items c.put.new.nodes.items (record { kind = kind.Let c.in_ok-copy.field-0; children = c.compile_term.new.children }) c.args.children.now.items c.put.new.children.items c.in_ok-put.ensures.node c.in_ok-put.ensures.child
+
+pub put_object-returns-clause-adds : goal.put_object-returns-clause-adds
+put_object-returns-clause-adds t c = λ vs ns ts row size.
+    let a : Body = body_of c.args.scope.now vs.items in
+    let b : Body = body_of c.args.scope.now c.args.uses.now.items in
+    let d : Body = body_of c.args.scope.now c.compile_methods.new.uses.items in
+    let ms : List Node = c.args.nodes.now.items in
+    let ls : List Node = c.compile_methods.new.nodes.items in
+    let k = c.in_ok-class.class in
+    let labels : List Text = map text_of c.args.fields.items in
+    let heads : List MethodHead = map head_in c.args.methods.now in
+    let us : List Tree = map body_tree c.args.methods.now in
+    let is = c.in_ok-class.ensures.ok in
+    let start_is : c.len.result ≡ length c.args.fields.items = search (rules, c.len.ensures) in
+    object_added a b d ns.items ms ls c.put.new.nodes.items c.args.children.now.items c.put.new.children.items c.args.below k c.len.result labels heads ts us row
+    (subst (λ (codes : List MethodCode). AddsMethods b d ms ls c.len.result codes heads us) (sym (ap (λ (x : Class). x.methods.items) is)) c.in_ok-methods.ensures.adds)
+    (ap labels_of is) (map_length text_of c.args.fields.items ∙ sym size) (start_is ∙ sym (ap (λ (x : Class). length x.fields.items) is)) c.in_ok-put.ensures.node c.in_ok-put.ensures.child
+
+pub put_object-returns-clause-ends : goal.put_object-returns-clause-ends
+put_object-returns-clause-ends t c =
+    ends_put c.compile_methods.new.nodes.items c.put.new.nodes.items (record { kind = kind.Make c.in_ok-class.class; children = c.args.below }) c.args.children.now.items c.put.new.children.items c.in_ok-put.ensures.node c.in_ok-put.ensures.child
+
+pub compile_all-loop-term-preserved : goal.compile_all-loop-term-preserved
+compile_all-loop-term-preserved t c =
+    let a : Body = body_of c.args.scope.now c.args.uses.now.items in
+    let b : Body = body_of c.args.scope.now c.loop-term.uses.items in
+    let d : Body = body_of c.args.scope.now c.compile_term.new.uses.items in
+    let ns : List Node = c.args.nodes.now.items in
+    let ms : List Node = c.loop-term.nodes.items in
+    let ls : List Node = c.compile_term.new.nodes.items in
+    let cs : List Child = c.args.children.now.items in
+    let ds : List Child = c.loop-term.children.items in
+    let es : List Child = c.compile_term.new.children.items in
+    let i : ℕ = c.loop-term.term-index in
+    let x = c.term-item.result in
+    let old : List Tree = map tree_of (take i c.args.terms.now) in
+    subst (Adds a d ns ls cs es) (map_step tree_of c.args.terms.now i x c.loop-term-test.true c.term-item.is) (adds_more a b d ns ms ls cs ds es old (tree_of x ∷ []) c.loop-term.invariant c.in_ok-compile_term.ensures.adds)
+
+pub compile_fields-loop-term-preserved : goal.compile_fields-loop-term-preserved
+compile_fields-loop-term-preserved t c =
+    let a : Body = body_of c.args.scope.now c.args.uses.now.items in
+    let b : Body = body_of c.args.scope.now c.loop-term.uses.items in
+    let d : Body = body_of c.args.scope.now c.compile_term.new.uses.items in
+    let ns : List Node = c.args.nodes.now.items in
+    let ms : List Node = c.loop-term.nodes.items in
+    let ls : List Node = c.compile_term.new.nodes.items in
+    let cs : List Child = c.args.children.now.items in
+    let ds : List Child = c.loop-term.children.items in
+    let es : List Child = c.compile_term.new.children.items in
+    let i : ℕ = c.loop-term.term-index in
+    let x = c.loop-term-item.result in
+    let old : List Tree = map field_tree (take i c.args.fields.now) in
+    subst (Adds a d ns ls cs es) (map_step field_tree c.args.fields.now i x c.loop-term-test.true c.loop-term-item.is) (adds_more a b d ns ms ls cs ds es old (field_tree x ∷ []) c.loop-term.invariant c.in_ok-compile_term.ensures.adds)
+
+pub compile_all-compile_term-requires : goal.compile_all-compile_term-requires
+compile_all-compile_term-requires t c =
+    let x = c.term-item.result in
+    (omega (arith, c.decreases, term_size_at c.args.terms.now c.loop-term.term-index x c.loop-term-test.true c.term-item.is), closed_at tree_of (names_of c.args.scope.now) c.args.terms.now c.loop-term.term-index x c.loop-term-test.true c.term-item.is c.requires.closed)
+
+pub compile_fields-compile_term-requires : goal.compile_fields-compile_term-requires
+compile_fields-compile_term-requires t c =
+    let x = c.loop-term-item.result in
+    (omega (arith, c.decreases, field_size_at c.args.fields.now c.loop-term.term-index x c.loop-term-test.true c.loop-term-item.is), field_at (names_of c.args.scope.now) c.args.fields.now c.loop-term.term-index x c.loop-term-test.true c.loop-term-item.is c.requires.closed)
+
+pub compile_methods-compile_method-requires : goal.compile_methods-compile_method-requires
+compile_methods-compile_method-requires t c =
+    let x = c.method-item.result in
+    (omega (arith, c.decreases, method_size_at c.args.methods.now c.loop-method.method-index x c.loop-method-test.true c.method-item.is), method_at (names_of c.args.scope.now) c.args.methods.now c.loop-method.method-index x c.loop-method-test.true c.method-item.is c.requires.closed)
+
+pub compile_methods-loop-method-preserved : goal.compile_methods-loop-method-preserved
+compile_methods-loop-method-preserved t c =
+    let a : Body = body_of c.args.scope.now c.args.uses.now.items in
+    let b : Body = body_of c.args.scope.now c.loop-method.uses.items in
+    let d : Body = body_of c.args.scope.now c.compile_method.new.uses.items in
+    let ns : List Node = c.args.nodes.now.items in
+    let ms : List Node = c.loop-method.nodes.items in
+    let ls : List Node = c.compile_method.new.nodes.items in
+    let i : ℕ = c.loop-method.method-index in
+    let m = c.method-item.result in
+    let code : MethodCode = c.in_ok-code.code in
+    let codes : List MethodCode = c.loop-method.codes.items in
+    let old = take i c.args.methods.now in
+    let all : AddsMethods a d ns ls c.args.first (codes ++ code ∷ []) (map head_in old ++ head_in m ∷ []) (map body_tree old ++ body_tree m ∷ []) =
+    methods_more a b d ns ms ls c.args.first c.loop-method.start codes (code ∷ []) (map head_in old) (head_in m ∷ []) (map body_tree old) (body_tree m ∷ []) c.loop-method.invariant.adds c.in_ok-code.ensures.adds c.loop-method.invariant.next in
+    let hs : map head_in old ++ head_in m ∷ [] ≡ map head_in (take (i + 1) c.args.methods.now) = map_step head_in c.args.methods.now i m c.loop-method-test.true c.method-item.is in
+    let ts : map body_tree old ++ body_tree m ∷ [] ≡ map body_tree (take (i + 1) c.args.methods.now) = map_step body_tree c.args.methods.now i m c.loop-method-test.true c.method-item.is in
+    let pushed : codes ++ code ∷ [] ≡ c.push.new.self.items = sym c.in_ok-push.ensures.items in
+    let counted : captured_count (codes ++ code ∷ []) ≡ captured_count codes + (length code.captured.items + 0) = count_append codes (code ∷ []) in
+    let step : c.in_ok-start.start ≡ c.loop-method.start + length code.captured.items = c.in_ok-start.ensures.next in
+    let begin : c.loop-method.start ≡ c.args.first + captured_count codes = c.loop-method.invariant.next in
+    let sum : c.in_ok-start.start ≡ c.args.first + captured_count (codes ++ code ∷ []) = omega (arith, counted, step, begin) in
+    record {
+      adds = subst (λ (ks : List MethodCode). AddsMethods a d ns ls c.args.first ks (map head_in (take (i + 1) c.args.methods.now)) (map body_tree (take (i + 1) c.args.methods.now))) pushed
+          (subst (λ (us : List Tree). AddsMethods a d ns ls c.args.first (codes ++ code ∷ []) (map head_in (take (i + 1) c.args.methods.now)) us) ts (subst (λ (h : List MethodHead). AddsMethods a d ns ls c.args.first (codes ++ code ∷ []) h (map body_tree old ++ body_tree m ∷ [])) hs all));
+      next = sum ∙ ap (λ (ks : List MethodCode). c.args.first + captured_count ks) pushed;
+    }
+
+pub compile_method-compile_body-requires : goal.compile_method-compile_body-requires
+compile_method-compile_body-requires t c =
+    let m = c.args.method.now in
+    let head : List Text = bound_in m in
+    let found : List Text = free_in head [] (body_tree m) in
+    let closed : IsClosed (head ++ found) (body_tree m) = body_closed head (names_of c.args.scope.now) (body_tree m) c.requires.closed in
+    let captured : c.deref-2.result.now ≡ found = c.deref-2.ensures.value ∙ c.in_ok-captured.ensures.captured in
+    let bound : names (environment c.deref-3.result.now) ≡ head = ap (λ l. names (environment l)) c.deref-3.ensures.value ∙ ap names c.in_ok-bound.ensures.slots ∙ names_slots (length c.deref.result.now) head in
+    (omega (arith, c.decreases), subst (λ (l : List Text). IsClosed l (body_tree m)) (λ i. sym bound i ++ sym captured i) closed)
+
+pub compile_method-end_method-requires : goal.compile_method-end_method-requires
+compile_method-end_method-requires t c =
+    let m = c.args.method.now in
+    record { among = subst (AreAmong (names_of c.args.scope.now)) (sym c.in_ok-captured.ensures.captured) (captured_among (bound_in m) (names_of c.args.scope.now) (body_tree m) c.requires.closed) }
+
+pub compile_method-returns : goal.compile_method-returns
+compile_method-returns t c =
+    let m = c.args.method.now in
+    let head : MethodHead = head_in m in
+    let a : Body = body_of c.args.scope.now c.args.uses.now.items in
+    let b : Body = body_of c.args.scope.now c.end_method.new.uses.items in
+    let inner : Body = record { captured = c.deref-2.result.now; bound = environment c.deref-3.result.now; uses = c.new-inner_uses.result.items } in
+    let after : Body = record { captured = c.deref-2.result.now; bound = environment c.deref-3.result.now; uses = c.compile_body.new.uses.items } in
+    let ns : List Node = c.args.nodes.now.items in
+    let ms : List Node = c.compile_body.new.nodes.items in
+    let code : Child = c.in_ok-code.code in
+    let same_captured : c.deref.result.now ≡ c.deref-2.result.now = c.deref.ensures.value ∙ sym c.deref-2.ensures.value in
+    let slots : inner.bound ≡ slots_from (length inner.captured) (bound_in m) = ap environment c.deref-3.ensures.value ∙ c.in_ok-bound.ensures.slots ∙ ap (λ (l : List Text). slots_from (length l) (bound_in m)) same_captured in
+    record {
+      adds = if_ok c.end_method.result (IsMethod a b c.in_ok-captured.captured.items c.compile_body.new.uses.items c.args.start head code) (λ (r : MethodCode). AddsMethods a b ns ms c.args.start (r ∷ []) (head ∷ []) (body_tree m ∷ [])) c.end_method.ensures.made
+          (λ r made. method_added a b inner after ns ms c.args.start head code r (body_tree m) slots c.new-inner_uses.ensures.items c.in_ok-code.ensures.adds
+          (subst (λ (l : List Text). IsMethod a b l c.compile_body.new.uses.items c.args.start head code r) (sym c.deref-2.ensures.value) made));
+    }
+
+pub compile_body-only_child-requires : goal.compile_body-only_child-requires
+compile_body-only_child-requires t c =
+    let a : Body = body_of c.args.scope.now c.args.uses.now.items in
+    let b : Body = body_of c.args.scope.now c.compile_term.new.uses.items in
+    record { one = one_child_long a b c.args.nodes.now.items c.compile_term.new.nodes.items c.new-children.result.items c.compile_term.new.children.items (body_tree c.args.method.now) c.new-children.ensures.items c.in_ok-compile_term.ensures.adds }
+
+pub compile_body-returns : goal.compile_body-returns
+compile_body-returns t c =
+    let a : Body = body_of c.args.scope.now c.args.uses.now.items in
+    let b : Body = body_of c.args.scope.now c.compile_term.new.uses.items in
+    let ns : List Node = c.args.nodes.now.items in
+    let ms : List Node = c.compile_term.new.nodes.items in
+    let ts : List Tree = body_tree c.args.method.now ∷ [] in
+    record {
+      adds = subst (λ (l : List Child). Adds a b ns ms [] l ts) c.only_child.ensures.child (row_of a b ns ms c.new-children.result.items c.compile_term.new.children.items ts c.new-children.ensures.items c.in_ok-compile_term.ensures.adds);
+    }
+
+pub compile_term-compile_fields-requires : goal.compile_term-compile_fields-requires
+compile_term-compile_fields-requires t c = (omega (arith, c.decreases, fields_size c.args.term.now c.deref-in-Make.result.now c.in-Make.fields c.in-Make.methods c.in-Make.mark c.deref-in-Make.ensures.value c.in-Make.is), fields_closed (names_of c.args.scope.now) c.args.term.now c.deref-in-Make.result.now c.in-Make.fields c.in-Make.methods c.in-Make.mark c.deref-in-Make.ensures.value c.in-Make.is c.requires.closed)
+
+pub compile_term-put_object-requires : goal.compile_term-put_object-requires
+compile_term-put_object-requires t c = (omega (arith, c.decreases, methods_size c.args.term.now c.deref-in-Make-2.result.now c.in-Make.fields c.in-Make.methods c.in-Make.mark c.deref-in-Make-2.ensures.value c.in-Make.is), methods_closed (names_of c.args.scope.now) c.args.term.now c.deref-in-Make-2.result.now c.in-Make.fields c.in-Make.methods c.in-Make.mark c.deref-in-Make-2.ensures.value c.in-Make.is c.requires.closed)
+
+pub compile_term-put_all-requires-in-Group : goal.compile_term-put_all-requires-in-Group
+compile_term-put_all-requires-in-Group t c = (omega (arith, c.decreases, group_size c.args.term.now c.deref-in-Group.result.now c.in-Group.terms c.in-Group.field-1 c.deref-in-Group.ensures.value c.in-Group.is), group_closed (names_of c.args.scope.now) c.args.term.now c.deref-in-Group.result.now c.in-Group.terms c.in-Group.field-1 c.deref-in-Group.ensures.value c.in-Group.is c.requires.closed)
+
+pub compile_term-put_all-requires-in-Steps : goal.compile_term-put_all-requires-in-Steps
+compile_term-put_all-requires-in-Steps t c = (omega (arith, c.decreases, steps_size c.args.term.now c.deref-in-Steps.result.now c.in-Steps.terms c.in-Steps.field-1 c.deref-in-Steps.ensures.value c.in-Steps.is), (steps_closed (names_of c.args.scope.now) c.args.term.now c.deref-in-Steps.result.now c.in-Steps.terms c.in-Steps.field-1 c.deref-in-Steps.ensures.value c.in-Steps.is c.requires.closed).1)
+
+pub compile_term-put_all-requires : goal.compile_term-put_all-requires
+compile_term-put_all-requires t c = (omega (arith, c.decreases, call_size c.args.term.now c.deref-in-Call-2.result.now c.in-Call.a c.in-Call.label c.in-Call.terms c.in-Call.field-3 c.deref-in-Call-2.ensures.value c.in-Call.is), call_closed (names_of c.args.scope.now) c.args.term.now c.deref-in-Call-2.result.now c.in-Call.a c.in-Call.label c.in-Call.terms c.in-Call.field-3 c.deref-in-Call-2.ensures.value c.in-Call.is c.requires.closed)
+
+pub compile_term-returns-in-Number-clause-adds : goal.compile_term-returns-in-Number-clause-adds
+compile_term-returns-in-Number-clause-adds t c =
+    let a : Body = body_of c.args.scope.now c.args.uses.now.items in
+    let ns : List Node = c.args.nodes.now.items in
+    let cs : List Child = c.args.children.now.items in
+    let z : ℤ = c.in-Number.n in
+    let whole : to_z w64 (of_z w64 z) ≡ z = search rules in
+    let is : tree_of c.args.term.now ≡ node (term.Number z) none = ap tree_of c.in-Number.is ∙ number_is z c.in-Number.field-1 in
+    subst (λ (u : Tree). OnOk c.put_leaf.result (Adds a a ns c.put_leaf.new.nodes.items cs c.put_leaf.new.children.items (u ∷ []))) (ap (λ (y : ℤ). node (term.Number y) none) whole ∙ sym is) (c.put_leaf.ensures.adds a)
+
+pub compile_term-returns-in-Group-clause-adds : goal.compile_term-returns-in-Group-clause-adds
+compile_term-returns-in-Group-clause-adds t c =
+    let a : Body = body_of c.args.scope.now c.args.uses.now.items in
+    let ns : List Node = c.args.nodes.now.items in
+    let cs : List Child = c.args.children.now.items in
+    let xs : List Term = c.deref-in-Group.result.now in
+    let call = c.put_all-in-Group in
+    let is : node term.Group (terms_below xs) ≡ tree_of c.args.term.now = ap (λ (l : List Term). node term.Group (terms_below l)) c.deref-in-Group.ensures.value ∙ sym (ap tree_of c.in-Group.is ∙ group_is c.in-Group.terms c.in-Group.field-1) in
+    let row : Adds a a ns ns [] c.new-in-Group.result.items [] = subst (λ (l : List Child). Adds a a ns ns [] l []) (sym c.new-in-Group.ensures.items) (adds_none a ns []) in
+    subst (λ (u : Tree). OnOk c.put_all-in-Group.result (Adds a (body_of c.args.scope.now c.put_all-in-Group.new.uses.items) ns c.put_all-in-Group.new.nodes.items cs c.put_all-in-Group.new.children.items (u ∷ []))) is
+    (c.put_all-in-Group.ensures.adds c.args.uses.now c.args.nodes.now [] row tt)
+
+pub compile_term-returns-in-Steps-clause-adds : goal.compile_term-returns-in-Steps-clause-adds
+compile_term-returns-in-Steps-clause-adds t c =
+    let a : Body = body_of c.args.scope.now c.args.uses.now.items in
+    let ns : List Node = c.args.nodes.now.items in
+    let cs : List Child = c.args.children.now.items in
+    let xs : List Term = c.deref-in-Steps.result.now in
+    let call = c.put_all-in-Steps in
+    let is : node term.Steps (terms_below xs) ≡ tree_of c.args.term.now = ap (λ (l : List Term). node term.Steps (terms_below l)) c.deref-in-Steps.ensures.value ∙ sym (ap tree_of c.in-Steps.is ∙ steps_is c.in-Steps.terms c.in-Steps.field-1) in
+    let sound = steps_closed (names_of c.args.scope.now) c.args.term.now c.deref-in-Steps.result.now c.in-Steps.terms c.in-Steps.field-1 c.deref-in-Steps.ensures.value c.in-Steps.is c.requires.closed in
+    let arity : HasArity term.Steps (length (map tree_of xs)) = subst (HasArity term.Steps) (count_trees (map tree_of xs)) sound.0 in
+    let row : Adds a a ns ns [] c.new.result.items [] = subst (λ (l : List Child). Adds a a ns ns [] l []) (sym c.new.ensures.items) (adds_none a ns []) in
+    subst (λ (u : Tree). OnOk c.put_all-in-Steps.result (Adds a (body_of c.args.scope.now c.put_all-in-Steps.new.uses.items) ns c.put_all-in-Steps.new.nodes.items cs c.put_all-in-Steps.new.children.items (u ∷ []))) is
+    (c.put_all-in-Steps.ensures.adds c.args.uses.now c.args.nodes.now [] row arity)
+
+pub compile_term-returns-in_ok-below-in-Call-clause-adds : goal.compile_term-returns-in_ok-below-in-Call-clause-adds
+compile_term-returns-in_ok-below-in-Call-clause-adds t c =
+    let a : Body = body_of c.args.scope.now c.args.uses.now.items in
+    let ns : List Node = c.args.nodes.now.items in
+    let cs : List Child = c.args.children.now.items in
+    let xs : List Term = c.deref-in-Call-2.result.now in
+    let x : Tree = tree_of c.deref-in-Call.result.now in
+    let same_receiver : x ≡ tree_of c.in-Call.a.value = ap tree_of c.deref-in-Call.ensures in
+    let label : c.in_ok-copy-in-Call.field-0.text ≡ c.in-Call.label.text = c.in_ok-copy-in-Call.ensures.label in
+    let is : node (term.Call c.in_ok-copy-in-Call.field-0.text) (more x (terms_below xs)) ≡ tree_of c.args.term.now =
+    (λ i. node (term.Call (label i)) (more (same_receiver i) (terms_below (c.deref-in-Call-2.ensures.value i)))) ∙ sym (ap tree_of c.in-Call.is ∙ call_is c.in-Call.a c.in-Call.label c.in-Call.terms c.in-Call.field-3) in
+    let some : 1 ≤ length (x ∷ map tree_of xs) = omega arith in
+    subst (λ (u : Tree). OnOk c.put_all.result (Adds a (body_of c.args.scope.now c.put_all.new.uses.items) ns c.put_all.new.nodes.items cs c.put_all.new.children.items (u ∷ []))) is
+    (c.put_all.ensures.adds c.args.uses.now c.args.nodes.now (x ∷ []) c.in_ok-below-in-Call.ensures.adds some)
+
+pub compile_term-returns-in_ok-compile_term-in-If-clause-adds : goal.compile_term-returns-in_ok-compile_term-in-If-clause-adds
+compile_term-returns-in_ok-compile_term-in-If-clause-adds t c =
+    let a : Body = body_of c.args.scope.now c.args.uses.now.items in
+    let ns : List Node = c.args.nodes.now.items in
+    let cs : List Child = c.args.children.now.items in
+    let b : Body = body_of c.args.scope.now c.first-in-If.new.uses.items in
+    let d : Body = body_of c.args.scope.now c.compile_term.new.uses.items in
+    let x : Tree = tree_of c.deref-in-If.result.now in
+    let y : Tree = tree_of c.deref-in-If-2.result.now in
+    let z : Tree = tree_of c.deref-in-If-3.result.now in
+    let is : node term.If (more x (more y (more z none))) ≡ tree_of c.args.term.now =
+    (λ i. node term.If (more (tree_of (c.deref-in-If.ensures i)) (more (tree_of (c.deref-in-If-2.ensures i)) (more (tree_of (c.deref-in-If-3.ensures i)) none)))) ∙ sym (ap tree_of c.in-If.is ∙ if_is c.in-If.a c.in-If.b c.in-If.c c.in-If.field-3) in
+    let row : Adds a d ns c.compile_term.new.nodes.items [] c.compile_term.new.children.items (x ∷ y ∷ []) =
+    adds_more a b d ns c.first-in-If.new.nodes.items c.compile_term.new.nodes.items [] c.in_ok-below-in-If.below.items c.compile_term.new.children.items (x ∷ []) (y ∷ []) c.in_ok-below-in-If.ensures.adds c.in_ok-compile_term-in-If.ensures.adds in
+    subst (λ (u : Tree). OnOk c.put_last-in-If.result (Adds a (body_of c.args.scope.now c.put_last-in-If.new.uses.items) ns c.put_last-in-If.new.nodes.items cs c.put_last-in-If.new.children.items (u ∷ []))) is
+    (c.put_last-in-If.ensures.adds c.args.uses.now c.args.nodes.now (x ∷ y ∷ []) row refl)
+
+pub compile_term-returns-in_ok-compile_fields-in-Make-clause-adds : goal.compile_term-returns-in_ok-compile_fields-in-Make-clause-adds
+compile_term-returns-in_ok-compile_fields-in-Make-clause-adds t c =
+    let a : Body = body_of c.args.scope.now c.args.uses.now.items in
+    let ns : List Node = c.args.nodes.now.items in
+    let cs : List Child = c.args.children.now.items in
+    let fs : List (Label × Term) = c.deref-in-Make.result.now in
+    let ms : List Method = c.deref-in-Make-2.result.now in
+    let ls : List Text = map text_of c.in_ok-labels-in-Make.labels.items in
+    let labels : ls ≡ map field_label c.in-Make.fields.items = c.in_ok-labels-in-Make.ensures.labels ∙ ap (map field_label) c.deref.ensures.value in
+    let is : node (term.Make ls (map head_in ms)) (trees (map field_tree fs ++ map body_tree ms)) ≡ tree_of c.args.term.now =
+    (λ i. node (term.Make (labels i) (map head_in (c.deref-in-Make-2.ensures.value i))) (trees (map field_tree (c.deref-in-Make.ensures.value i) ++ map body_tree (c.deref-in-Make-2.ensures.value i))))
+    ∙ sym (ap tree_of c.in-Make.is ∙ make_is c.in-Make.fields c.in-Make.methods c.in-Make.mark) in
+    let size : length (map field_tree fs) ≡ length c.in_ok-labels-in-Make.labels.items =
+    map_length field_tree fs ∙ ap length c.deref-in-Make.ensures.value ∙ sym (map_length field_label c.in-Make.fields.items) ∙ sym (ap length labels) ∙ map_length text_of c.in_ok-labels-in-Make.labels.items in
+    let row : Adds a (body_of c.args.scope.now c.compile_fields.new.uses.items) ns c.compile_fields.new.nodes.items [] c.compile_fields.new.children.items (map field_tree fs) =
+    row_of a (body_of c.args.scope.now c.compile_fields.new.uses.items) ns c.compile_fields.new.nodes.items c.new-below.result.items c.compile_fields.new.children.items (map field_tree fs) c.new-below.ensures.items c.in_ok-compile_fields-in-Make.ensures.adds in
+    subst (λ (u : Tree). OnOk c.put_object.result (Adds a (body_of c.args.scope.now c.put_object.new.uses.items) ns c.put_object.new.nodes.items cs c.put_object.new.children.items (u ∷ []))) is
+    (c.put_object.ensures.adds c.args.uses.now c.args.nodes.now (map field_tree fs) row size)

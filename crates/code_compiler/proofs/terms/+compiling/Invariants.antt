@@ -1,0 +1,18 @@
+use Rattle.std.proofs.Common.{◌≡◌, ℕ, ◌+◌, map, take}
+use Rattle.asp_model.specs.Shapes.{tree_of}
+use Rattle.code_compiler.specs.Added.{AddsCode, AddsTerms}
+use Rattle.code_compiler.specs.Compiled.{captured_count}
+use Rattle.code_compiler.specs.Parts.{field_tree}
+use Rattle.code_compiler.proofs.terms.+compiling.Given as goal
+
+abbrev pub invariant-compile_all-loop-term : goal.invariant-compile_all-loop-term
+invariant-compile_all-loop-term l = AddsTerms l.scope l.initial.uses l.uses l.initial.nodes l.nodes l.initial.children l.children (map tree_of (take l.term-index l.terms))
+
+abbrev pub invariant-compile_fields-loop-term : goal.invariant-compile_fields-loop-term
+invariant-compile_fields-loop-term l = AddsTerms l.scope l.initial.uses l.uses l.initial.nodes l.nodes l.initial.children l.children (map field_tree (take l.term-index l.fields))
+
+abbrev pub invariant-compile_methods-loop-method : goal.invariant-compile_methods-loop-method
+invariant-compile_methods-loop-method l = record {
+  adds : AddsCode l.scope l.initial.uses l.uses l.initial.nodes l.nodes l.first l.codes.items (take l.method-index l.methods);
+  next : l.start ≡ l.first + captured_count l.codes.items;
+}

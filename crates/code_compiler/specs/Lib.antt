@@ -1,0 +1,6 @@
+-- in reading order
+pub mod Closed
+pub mod Free
+pub mod Parts
+pub mod Compiled
+pub mod Added

@@ -1,0 +1,42 @@
+-- The parts of terms as the code has them.
+use Rattle.std.specs.Prelude.{List, ◌∷◌, ◌++◌, map}
+use Rattle.asp_model.specs.declared.word.Label.{Label}
+use Rattle.asp_model.specs.declared.term.Term.{Term}
+use Rattle.asp_model.specs.declared.term.Method.{Method}
+use Rattle.asp_model.specs.Names.{Text}
+use Rattle.asp_model.specs.Term.{MethodHead, Make, Tree, Trees, node, trees}
+use Rattle.asp_model.specs.Shapes.{tree_of}
+use Rattle.program_code.specs.Fitting.{head_names}
+use Rattle.code_compiler.specs.Closed.{AreClosed}
+
+abbrev pub field_label : Label × Term → Text
+field_label f = f.0.text
+
+abbrev pub field_tree : Label × Term → Tree
+field_tree f = tree_of f.1
+
+abbrev pub head_in : Method → MethodHead
+head_in m = record { label = m.label.text; slf = m.slf; parameters = m.parameters.items }
+
+abbrev pub body_tree : Method → Tree
+body_tree m = tree_of m.body
+
+-- the names that a method binds in its body
+abbrev pub bound_in : Method → List Text
+bound_in m = head_names (head_in m)
+
+abbrev pub terms_below : List Term → Trees
+terms_below ts = trees (map tree_of ts)
+
+abbrev pub fields_below : List (Label × Term) → Trees
+fields_below fs = trees (map field_tree fs)
+
+abbrev pub bodies_below : List Method → Trees
+bodies_below ms = trees (map body_tree ms)
+
+abbrev pub object_tree : List (Label × Term) → List Method → Tree
+object_tree fs ms = node (Make (map field_label fs) (map head_in ms)) (trees (map field_tree fs ++ map body_tree ms))
+
+-- methods whose bodies are closed under what is bound round their object
+abbrev pub AreClosedMethods : List Text → List Method → Type 0
+AreClosedMethods bound ms = AreClosed bound (map bound_in ms) (bodies_below ms)

@@ -1,0 +1,11 @@
+//! From checked programs to their code.
+#![tactic(auto)]
+
+mod free;
+mod methods;
+mod nodes;
+mod program;
+mod scope;
+mod terms;
+
+pub use program::compile;

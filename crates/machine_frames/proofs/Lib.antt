@@ -1,0 +1,5 @@
+pub mod StackLemmas
+pub mod MoveLemmas
+pub mod SequenceLemmas
+pub mod RowLemmas
+pub mod ServiceLemmas

@@ -1,0 +1,24 @@
+use Rattle.std.proofs.Common.{List, subst}
+use Rattle.program_code.specs.declared.code.Node.{Node}
+use Rattle.machine_frames.specs.Standing.{View, view_of}
+use Rattle.machine_frames.specs.Views.{IsSettledAt, Settled}
+use Rattle.machine_frames.proofs.RowLemmas.{asked, asked_some, at_some}
+use Rattle.machine_frames.proofs.machine.Machine.redex.Goals as goal
+
+pub returns-in-Node : goal.returns-in-Node
+returns-in-Node c = record {
+  redex = λ t vs h.
+      let k : List Node = c.args.nodes.now in
+      let new : View = view_of c.settle.new.self in
+      let s : Settled k t vs new = c.in_ok-settle.ensures.settled t vs h in
+      at_some k new c.in-Node._number c.in-Node._from c.in-Node.done t vs s.standing c.in-Node.is (subst (IsSettledAt k new.frames) c.in-Node.is s.settled);
+}
+
+pub returns-in-Asked : goal.returns-in-Asked
+returns-in-Asked c = record {
+  redex = λ t vs h.
+      let k : List Node = c.args.nodes.now in
+      let new : View = view_of c.settle.new.self in
+      let s : Settled k t vs new = c.in_ok-settle.ensures.settled t vs h in
+      asked_some k new c.in-Asked.count t vs (asked k new c.in-Asked.count t vs s.standing c.in-Asked.is);
+}

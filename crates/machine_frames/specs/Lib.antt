@@ -1,0 +1,8 @@
+-- in reading order
+pub mod Sequences
+pub mod Items
+pub mod Stacks
+pub mod Standing
+pub mod Views
+pub mod Rows
+pub mod Services

@@ -1,0 +1,46 @@
+use Rattle.std.proofs.Common.{◌≡◌, ◌∙◌, List, ℕ, IfOk, drop, map, subst, sym, ap}
+use Rattle.asp_model.specs.declared.term.Term.{Term}
+use Rattle.asp_model.specs.Shapes.{tree_of}
+use Rattle.asp_model.specs.Term.{Call, node, trees, loc, Tree, Trees}
+use Rattle.program_code.specs.Pieces.{Piece}
+use Rattle.program_code.specs.Tables.{piece_at, pieces}
+use Rattle.code_laws.specs.Nodes as nodes
+use Rattle.code_decoder.specs.Decoded.{IsRedexIn}
+use Rattle.code_decoder.proofs.BehindLemmas.{if_ok}
+use Rattle.machine_frames.specs.declared.frames.Focus.{Focus}
+use Rattle.machine_frames.specs.declared.frames.Focus.TheVariants as focus
+use Rattle.machine_frames.specs.Stacks.{last}
+use Rattle.machine_frames.specs.Standing.{IsBegun, IsFocus, taken}
+use Rattle.machine_snapshots.proofs.TermLemmas.{redex_is, locs_alone}
+use Rattle.machine_snapshots.proofs.focus.focus_term.Goals as goal
+
+pub returns-else-number-nodes : goal.returns-else-number-nodes
+returns-else-number-nodes c = record {
+  inner = λ t stands.
+      let ns : List ℕ = drop c.args.machine.now.base c.args.machine.now.env.items in
+      let ops : List ℕ = c.args.machine.now.operands.items in
+      let own : List ℕ = last c.in-Node.done ops in
+      let begun : IsBegun c.args.code.now ns own c.in-Node.number c.in-Node.from t =
+      subst (λ (f : Focus). IsFocus c.args.code.now c.args.machine.now.asked.text ns (last (taken f) ops) f t) c.in-Node.is stands in
+      let p : Piece = nodes.later c.in-Node.from (piece_at (pieces c.args.code.now) c.in-Node.number) in
+      let places_are : c.behind-places.result.now ≡ ns = c.behind-places.ensures.places ∙ ap (drop c.args.machine.now.base) c.deref.ensures.value in
+      let own_is : c.last_of-own.result.now ≡ own = c.last_of-own.ensures.places ∙ ap (last c.in-Node.done) c.deref-in-Node.ensures.value in
+      if_ok c.redex_of.result (λ (r : Term). IsRedexIn c.behind-places.result.now c.last_of-own.result.now p (tree_of r)) (λ (r : Term). tree_of r ≡ t)
+      (λ r h. redex_is c.args.code.now ns own c.in-Node.number c.in-Node.from (tree_of r) t
+      (subst (λ (l : List ℕ). IsRedexIn ns l p (tree_of r)) own_is (subst (λ (l : List ℕ). IsRedexIn l c.last_of-own.result.now p (tree_of r)) places_are h)) begun)
+      c.redex_of.ensures.redex;
+}
+
+pub returns-in-Asked : goal.returns-in-Asked
+returns-in-Asked c = record {
+  inner = λ t stands.
+      let ns : List ℕ = drop c.args.machine.now.base c.args.machine.now.env.items in
+      let ops : List ℕ = c.args.machine.now.operands.items in
+      let own : List ℕ = last c.in-Asked.count ops in
+      let is : IsFocus c.args.code.now c.args.machine.now.asked.text ns own (focus.Asked c.in-Asked.count) t =
+      subst (λ (f : Focus). IsFocus c.args.code.now c.args.machine.now.asked.text ns (last (taken f) ops) f t) c.in-Asked.is stands in
+      let own_is : c.last_of-own-in-Asked.result.now ≡ own = c.last_of-own-in-Asked.ensures.places ∙ ap (last c.in-Asked.count) c.deref-in-Asked.ensures.value in
+      if_ok c.call_of.result (λ (r : Term). tree_of r ≡ node (Call c.args.machine.now.asked.text) (trees (map loc c.last_of-own-in-Asked.result.now))) (λ (r : Term). tree_of r ≡ t)
+      (λ r h. h ∙ ap (λ (l : List ℕ). node (Call c.args.machine.now.asked.text) (trees (map loc l))) own_is ∙ ap (node (Call c.args.machine.now.asked.text)) (locs_alone own) ∙ sym is)
+      c.call_of.ensures.call;
+}

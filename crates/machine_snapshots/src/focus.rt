@@ -1,0 +1,49 @@
+//! The term that a machine looks at.
+
+ghost use Rattle.std.specs.Prelude.{◌≡◌, IfOk, drop};
+ghost use Rattle.asp_model.specs.Shapes.{tree_of};
+ghost use Rattle.asp_model.specs.Term.{Tree};
+ghost use Rattle.machine_frames.specs.Stacks.{last};
+ghost use Rattle.machine_frames.specs.Standing.{IsFocus, taken};
+
+use crate::cursor::{behind, last_of};
+use asp_model::Term;
+use code_decoder::{call_of, location, redex_of};
+use machine_frames::{Focus, Machine};
+use program_code::Code;
+use std::alloc::{AllocError, Global};
+
+/// How many operands are the focus's own.
+pub fn taken_by(focus: Focus) -> usize
+    ensures taken { result ≡ taken focus }
+{
+    match focus {
+        Focus::Node { done, .. } => done,
+        Focus::Place(_) => 0,
+        Focus::Asked(count) => count,
+    }
+}
+
+/// The term that the machine looks at.
+pub fn focus_term(alloc: Global, code: &Code, machine: &Machine) -> Result<Term, AllocError>
+    ensures inner { let ns = drop machine.now.base machine.now.env.items in
+        let own = last (taken machine.now.focus) machine.now.operands.items in
+        (t : Tree) → IsFocus code.now machine.now.asked.text ns own machine.now.focus t →
+        IfOk result (λ r. tree_of r ≡ t) }
+{
+    match machine.focus {
+        Focus::Node { number, from, done } => {
+            if number >= code.nodes().len() {
+                return Err(AllocError);
+            }
+            let places = behind(&machine.env, machine.base);
+            let own = last_of(&machine.operands, done);
+            redex_of(alloc, code, places, number, from, own)
+        }
+        Focus::Place(place) => Ok(location(alloc, place)),
+        Focus::Asked(count) => {
+            let own = last_of(&machine.operands, count);
+            call_of(alloc, &machine.asked, own)
+        }
+    }
+}

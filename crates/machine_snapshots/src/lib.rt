@@ -1,0 +1,10 @@
+//! The terms of a machine: what it looks at and the contexts round it, and the same of the services
+//! that are suspended. Nothing recurses on the number of frames.
+#![tactic(auto)]
+
+mod cursor;
+mod focus;
+mod frames;
+mod shown;
+
+pub use shown::{Shown, Suspended, show};
