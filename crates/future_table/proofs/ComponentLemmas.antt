@@ -1,5 +1,5 @@
 -- Components have heads, and one more future that is met stands alone.
-use Rattle.std.proofs.Common.{◌≡◌, ◌≢◌, ◌+◌, ◌<◌, ◌≤◌, ℕ, zero, suc, Bool, true, false, cond, List, [], ◌∷◌, ◌++◌, Option, Some, None, length, length-append, map, get_or, refl, sym, ap, subst, ◌∙◌, T, arith, inl, inr, ⊎_elim, ◌⊎◌}
+use Rattle.std.proofs.Common.{◌≡◌, ◌+◌, ◌<◌, ◌≤◌, ℕ, zero, suc, Bool, true, false, cond, List, [], ◌∷◌, ◌++◌, Option, Some, None, length, length-append, refl, sym, ap, subst, ◌∙◌, T, arith, ⊎_elim}
 use Rattle.std.proofs.lemmas.Bool.{cases_lt}
 use Rattle.std.proofs.lemmas.List.{get_or_append_left, get_or_push}
 use Rattle.std.specs.FinMap.{find}
@@ -7,7 +7,6 @@ use Rattle.asp_model.specs.Names.{FutureShape, future_cmp, future_lt, same_futur
 use Rattle.asp_model.specs.Parcel.{ParcelShape}
 use Rattle.asp_model.specs.Chase.{Values, Chase, chase, lead_of, walk_end}
 use Rattle.asp_model.specs.Chase as chases
-use Rattle.chase_laws.specs.Walks.{IsFilled}
 use Rattle.chase_laws.proofs.FutureLemmas.{future_itself, futures_tied}
 use Rattle.chase_laws.proofs.ChaseLemmas.{walk_by, chase_by}
 use Rattle.chase_laws.proofs.CycleLemmas.{itself_at_most}
@@ -16,9 +15,9 @@ use Rattle.future_table.specs.declared.links.End.{End}
 use Rattle.future_table.specs.declared.links.End.TheVariants as ends
 use Rattle.future_table.specs.Values.{Told, Value, Unfilled, Cycle, told}
 use Rattle.future_table.specs.Numbers.{named, number_of}
-use Rattle.future_table.specs.Links.{IsHead, LeadUp, StaysUp, link_at, no_link}
+use Rattle.future_table.specs.Links.{IsHead, link_at, no_link}
 use Rattle.future_table.specs.Components.{AreComponents, EndsWithin, IsHeadLink, alone, chase_at, end_told}
-use Rattle.future_table.proofs.NumberLemmas.{named_before, named_last, named_number, number_more, number_named}
+use Rattle.future_table.proofs.NumberLemmas.{named_before, named_last, number_more, number_named}
 
 abbrev is_unfilled : Told → Option FutureShape
 is_unfilled (Unfilled f) = Some f

@@ -1,25 +1,19 @@
 -- What the links are when a future is filled: the head has another end, or one head goes below another.
-use Rattle.std.proofs.Common.{◌≡◌, ◌≢◌, ◌+◌, ◌<◌, ◌≤◌, ℕ, suc, Bool, true, false, cond, max, List, Option, Some, None, length, length-set, get_or, nat_lt, set, refl, sym, ap, subst, ◌∙◌, T, arith, inl, inr, ⊎_elim, ◌⊎◌}
+use Rattle.std.proofs.Common.{◌≡◌, ◌≢◌, ◌+◌, ◌<◌, ◌≤◌, ℕ, suc, Bool, true, false, cond, max, List, Some, None, length, length-set, set, refl, sym, ap, subst, ◌∙◌, arith, inl, inr, ⊎_elim, ◌⊎◌}
 use Rattle.std.proofs.lemmas.Bool.{cases_eq}
-use Rattle.std.proofs.lemmas.Bool.Decides.{nat_tests}
 use Rattle.std.proofs.lemmas.List.{get_or-set_other, get_or-set_same}
-use Rattle.std.specs.FinMap.{find, put, is_sorted}
+use Rattle.std.specs.FinMap.{put}
 use Rattle.asp_model.specs.Names.{FutureShape, future_cmp, future_lt}
 use Rattle.asp_model.specs.Parcel.{ParcelShape}
 use Rattle.asp_model.specs.Chase.{Values, Chase, Goes, lead, chase, lesser}
 use Rattle.asp_model.specs.Chase as chases
 use Rattle.chase_laws.proofs.CycleLemmas.{AtMost, itself_at_most, lesser_first, lesser_second}
-use Rattle.chase_laws.proofs.FilledLemmas.{chase_before, turns_named, name}
-use Rattle.chase_laws.proofs.FillLemmas.{Onward, ends, goes_on, turns, onward}
 use Rattle.future_table.specs.declared.links.Link.{Link}
 use Rattle.future_table.specs.declared.links.End.{End}
-use Rattle.future_table.specs.declared.links.End.TheVariants as ending
-use Rattle.future_table.specs.Values.{Told, Value, Unfilled, Cycle, told}
-use Rattle.future_table.specs.Numbers.{named, number_of}
+use Rattle.future_table.specs.Numbers.{named}
 use Rattle.future_table.specs.Links.{IsHead, link_at, no_link}
-use Rattle.future_table.specs.Components.{AreComponents, EndsWithin, IsHeadLink, chase_at, end_told, joined, lesser_of, put_below, with_end}
-use Rattle.future_table.proofs.NumberLemmas.{named_number}
-use Rattle.future_table.proofs.JoinedLemmas.{Joined, cycle_named, d_top, joined_components}
+use Rattle.future_table.specs.Components.{AreComponents, EndsWithin, chase_at, lesser_of, put_below, with_end}
+use Rattle.future_table.proofs.JoinedLemmas.{Joined}
 
 module _ (vs : Values) (f : FutureShape) (p : ParcelShape) (names : List FutureShape) (links : List Link) (k : AreComponents vs names links) (a : ℕ) (first : IsHead links a) (awaits : chase_at vs names a ≡ chases.Unfilled f) where
   abbrev n : ℕ

@@ -11,10 +11,10 @@ use Rattle.chase_laws.proofs.FillLemmas.{Onward, ends, goes_on, turns, onward}
 use Rattle.future_table.specs.declared.links.Link.{Link}
 use Rattle.future_table.specs.declared.links.End.{End}
 use Rattle.future_table.specs.declared.links.End.TheVariants as ending
-use Rattle.future_table.specs.Values.{Told, Value, Unfilled, Cycle, told}
+use Rattle.future_table.specs.Values.{Told, Value, Cycle, told}
 use Rattle.future_table.specs.Numbers.{named, number_of}
 use Rattle.future_table.specs.Links.{IsHead, link_at}
-use Rattle.future_table.specs.Components.{AreComponents, EndsWithin, chase_at, end_told, joined, lesser_of, put_below, with_end}
+use Rattle.future_table.specs.Components.{AreComponents, chase_at, end_told, joined, lesser_of, put_below, with_end}
 use Rattle.future_table.proofs.NumberLemmas.{named_number}
 use Rattle.future_table.proofs.JoinedLemmas.{Joined, cycle_named, d_top, joined_components}
 use Rattle.future_table.proofs.EndedLemmas.{at_high, ended, here, put_so}

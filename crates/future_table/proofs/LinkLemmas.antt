@@ -1,8 +1,8 @@
 -- Ways up end: fewer links are higher after each step.
-use Rattle.std.proofs.Common.{◌≡◌, ◌<◌, ◌≤◌, ℕ, zero, suc, Bool, true, false, cond, List, [], ◌∷◌, length, get_or, nat_lt, refl, sym, ap, subst, ◌∙◌, T, arith}
+use Rattle.std.proofs.Common.{◌≡◌, ◌<◌, ◌≤◌, ℕ, zero, suc, Bool, true, false, cond, List, [], ◌∷◌, length, nat_lt, refl, arith}
 use Rattle.std.proofs.lemmas.Bool.Decides.{nat_tests}
 use Rattle.future_table.specs.declared.links.Link.{Link}
-use Rattle.future_table.specs.Links.{no_link, link_at, higher}
+use Rattle.future_table.specs.Links.{link_at, higher}
 
 not_higher : (h k : ℕ) → h ≤ k → (xs : List Link) → higher k xs ≤ higher h xs
 not_higher h k le [] = omega arith

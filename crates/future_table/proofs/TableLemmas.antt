@@ -1,22 +1,28 @@
 -- The tree's entries are the definitions' map.
-use Rattle.std.proofs.Common.{◌≡◌, ◌++◌, ◌&&◌, Bool, T, suc, true, false, cond, length, map, List, [], ◌∷◌, Option, Some, None, Bor, refl, sym, ap, subst, ◌∙◌}
+use Rattle.std.proofs.Common.{◌≡◌, ◌++◌, ◌&&◌, Bool, T, suc, true, false, cond, length, map, List, [], ◌∷◌, Option, Some, None, Bor, IfSome, refl, sym, ap, subst, ◌∙◌}
 use Rattle.std.specs.Option.{option_map, option_copied}
 use Rattle.std.specs.Map.{keys_of, lookup}
+use Rattle.std.specs.Map.{values_of as parcels}
 use Rattle.std.specs.FinMap.{find, put}
 use Rattle.std.specs.BTreeMap.{is_at, insert_entry}
 use Rattle.std.specs.declared.cmp.Ordering.{Ordering}
 use Rattle.std.specs.declared.cmp.Ordering.TheVariants.{Less, Equal, Greater}
 use Rattle.std.specs.Ordering.{is_eq, is_lt, match_ordering}
 use Rattle.std.specs.FinMap.Entries.{below_all, by_order, is_sorted}
-use Rattle.std.specs.List.{AllByRecursion}
+use Rattle.std.specs.List.{AllByRecursion, Contains}
+use Rattle.std.proofs.lemmas.List.Elements.{All-contains_itself}
+use Rattle.std.proofs.lemmas.Map.Views.{IfSome-lookup_from_All}
 use Rattle.std.specs.List.Sorted.{IsStrictlySortedBy}
 use Rattle.asp_model.specs.declared.name.FutureName.{FutureName}
-use Rattle.asp_model.specs.declared.store.Parcel.{Parcel}
+use Rattle.coded_cells.specs.declared.cells.Parcel.{Parcel}
 use Rattle.asp_model.specs.contracts.name.FutureNameOrd.TheImpl as ordering
 use Rattle.asp_model.specs.Names.{future_cmp}
 use Rattle.asp_model.specs.Chase.{Values, lead, lead_of}
-use Rattle.asp_model.specs.Shapes.{future_shape, parcel_shape}
-use Rattle.future_table.specs.Values.{values_of}
+use Rattle.asp_model.specs.Shapes.{future_shape}
+use Rattle.coded_cells.specs.Shapes.{parcel_shape}
+use Rattle.future_table.specs.Values.{AreOfCode, StayOfCode, values_of}
+use Rattle.std.specs.Arc.{arc_value}
+use Rattle.program_code.specs.declared.code.Node.{Node}
 
 abbrev pub name_order : FutureName → FutureName → Ordering
 name_order = ordering.ghosts.cmp
@@ -41,6 +47,14 @@ put_shape f p (e ∷ es) = by (future_cmp (future_shape f) (future_shape e.0)) (
 pub lent_shape : (o : Option (Bor Parcel)) → option_map (λ (p : Bor Parcel). parcel_shape p.now) o ≡ option_map parcel_shape (option_copied o)
 lent_shape None = refl
 lent_shape (Some p) = refl
+
+held_by : (P : Parcel → Type 0) (o : Option (Bor Parcel)) (p : Option Parcel) → option_copied o ≡ p → IfSome p P → IfSome o (λ q. P q.now)
+held_by P None p e h = tt
+held_by P (Some q) p e h = subst (λ (x : Option Parcel). IfSome x P) (sym e) h
+
+-- what a look-up lends is one of the table's parcels
+pub lent_held : (o : Option (Bor Parcel)) (query : FutureName → Ordering) (es : List (FutureName × Parcel)) → option_copied o ≡ lookup (is_at query) es → IfSome o (λ p. Contains (parcels es) p.now)
+lent_held o query es e = held_by (Contains (parcels es)) o (lookup (is_at query) es) e (IfSome-lookup_from_All (Contains (parcels es)) (is_at query) es (All-contains_itself (parcels es)))
 
 -- Steps of a walk
 
@@ -75,3 +89,13 @@ sorted_values (e ∷ es) h = both_hold (below_all future_cmp (future_shape e.0) 
 pub mapped_more : (xs : List FutureName) (x : FutureName) → map future_shape (xs ++ x ∷ []) ≡ map future_shape xs ++ future_shape x ∷ []
 mapped_more [] x = refl
 mapped_more (y ∷ xs) x = ap (λ ys. future_shape y ∷ ys) (mapped_more xs x)
+
+-- a value of the code that is put
+pub stays_of_code : (f : FutureName) (p : Parcel) (es : List (FutureName × Parcel)) → StayOfCode p es (insert_entry name_order es f p)
+stays_of_code f p [] k is h = (is, tt)
+stays_of_code f p (e ∷ es) k is h = by (future_cmp (future_shape f) (future_shape e.0)) (stays_of_code f p es k is h.1)
+  where
+    by : (o : Ordering) → AreOfCode k (insert_entry name_order es f p) → AreOfCode k (match_ordering o ((f, p) ∷ e ∷ es) ((e.0, p) ∷ es) (e ∷ insert_entry name_order es f p))
+    by Less ih = (is, h)
+    by Equal ih = (is, h.1)
+    by Greater ih = (h.0, ih)

@@ -1,5 +1,5 @@
 -- What the components of futures keep.
-use Rattle.std.specs.Prelude.{◌≡◌, ℕ, suc, ◌<◌, ◌≤◌, ◌+◌, cond, nat_lt, max, false, List, Some, None, length, set}
+use Rattle.std.specs.Prelude.{◌≡◌, ℕ, ◌<◌, ◌≤◌, ◌+◌, cond, nat_lt, max, false, List, Some, None, length, set}
 use Rattle.std.specs.Ordering.{is_lt}
 use Rattle.asp_model.specs.Names.{FutureShape, future_cmp, future_lt}
 use Rattle.asp_model.specs.Chase.{Values, Chase, chase}

@@ -1,11 +1,15 @@
 -- What contracts see of a table of futures, and of a chase.
-use Rattle.std.specs.Prelude.{List, map}
+use Rattle.std.specs.Prelude.{◌≡◌, List, map}
+use Rattle.std.specs.List.{AllByRecursion}
+use Rattle.std.specs.Arc.{arc_value}
+use Rattle.program_code.specs.declared.code.Node.{Node}
 use Rattle.asp_model.specs.declared.name.FutureName.{FutureName}
-use Rattle.asp_model.specs.declared.store.Parcel.{Parcel}
+use Rattle.coded_cells.specs.declared.cells.Parcel.{Parcel}
 use Rattle.asp_model.specs.Names.{FutureShape}
 use Rattle.asp_model.specs.Chase.{Values}
 use Rattle.asp_model.specs.Chase as chase
-use Rattle.asp_model.specs.Shapes.{future_shape, parcel_shape}
+use Rattle.asp_model.specs.Shapes.{future_shape}
+use Rattle.coded_cells.specs.Shapes.{parcel_shape}
 use Rattle.future_table.specs.declared.chase.Chase.{Chase}
 use Rattle.future_table.specs.declared.chase.Chase.TheVariants as chases
 
@@ -27,3 +31,11 @@ abbrev pub chase_shape : Chase → Told
 chase_shape (chases.Value f) = Value (future_shape f.now)
 chase_shape (chases.Unfilled f) = Unfilled (future_shape f.now)
 chase_shape (chases.Cycle f) = Cycle (future_shape f.now)
+
+-- each value is of this code
+abbrev pub AreOfCode : List Node → List (FutureName × Parcel) → Type 0
+AreOfCode k = AllByRecursion (λ e. arc_value e.1.code ≡ k)
+
+-- with one more value of a code they are of that code still
+abbrev pub StayOfCode : Parcel → (old new : List (FutureName × Parcel)) → Type 0
+StayOfCode p old new = (k : List Node) → arc_value p.code ≡ k → AreOfCode k old → AreOfCode k new

@@ -1,16 +1,20 @@
 //! The table of filled futures.
 
-ghost use Rattle.std.specs.Prelude.{◌≡◌, None, OnErr, OnOk, [], length};
+ghost use Rattle.std.specs.Prelude.{◌≡◌, IfSome, None, OnErr, OnOk, [], length};
 ghost use Rattle.std.specs.FinMap.{find, put};
+ghost use Rattle.std.specs.List.{Contains};
+ghost use Rattle.std.specs.Map.{values_of as parcels};
 ghost use Rattle.std.specs.Option.{option_map};
 ghost use Rattle.asp_model.specs.Chase.{chase as chase_of};
 ghost use Rattle.asp_model.specs.Names.{future_cmp};
-ghost use Rattle.asp_model.specs.Shapes.{future_shape, parcel_shape};
-ghost use Rattle.future_table.specs.Values.{chase_shape, told, values_of};
+ghost use Rattle.asp_model.specs.Shapes.{future_shape};
+ghost use Rattle.coded_cells.specs.Shapes.{parcel_shape};
+ghost use Rattle.future_table.specs.Values.{StayOfCode, chase_shape, told, values_of};
 
 use crate::chase::Chase;
 use crate::walks::{self, Walks};
-use asp_model::{FutureName, Parcel};
+use asp_model::FutureName;
+use coded_cells::Parcel;
 use std::alloc::{AllocError, Global};
 use std::marker::Model;
 
@@ -23,14 +27,9 @@ pub struct FutureTable {
 impl Model for FutureTable {
     ghost use Rattle.std.specs.Prelude.{List};
     ghost use Rattle.asp_model.specs.declared.name.FutureName.{FutureName};
-    ghost use Rattle.asp_model.specs.declared.store.Parcel.{Parcel};
-    ghost use Rattle.asp_model.specs.contracts.term.Term as term;
-    ghost use Rattle.asp_model.specs.contracts.term.Method as method;
-    ghost use Rattle.std.specs.Coded.{codes};
+    ghost use Rattle.coded_cells.specs.declared.cells.Parcel.{Parcel};
 
     ghost Value = { List (FutureName × Parcel) };
-
-    ghost coded = { Prim.hlevel (codes, term.the_row.coded, method.the_row.coded) };
 
     ghost use Rattle.future_table.specs.Walks.{IsWhole};
 
@@ -55,6 +54,7 @@ impl FutureTable {
         requires one_root { length value.roots.items ≡ 1 }
         ensures values { let old = values_of self.old in OnOk result
             (values_of self.new ≡ put future_cmp (future_shape name) (parcel_shape value) old) }
+        ensures code { OnOk result (StayOfCode value self.old self.new) }
         ensures err { OnErr result (self.new ≡ self.old) }
     {
         walks::fill(&mut self.walks, name, value)
@@ -64,6 +64,7 @@ impl FutureTable {
     pub fn value(&self, name: &FutureName) -> Option<&Parcel>
         ensures value { option_map (λ p. parcel_shape p.now) result
             ≡ find future_cmp (future_shape name.now) (values_of self.now) }
+        ensures held { IfSome result (λ p. Contains (parcels self.now) p.now) }
     {
         self.walks.filled.get(name)
     }

@@ -4,18 +4,20 @@ ghost use Rattle.std.specs.Prelude.{◌≡◌, ◌<◌, IfOk, None, OnErr, OnOk,
 ghost use Rattle.std.specs.FinMap.{find, put};
 ghost use Rattle.asp_model.specs.Chase.{chase as chase_of};
 ghost use Rattle.asp_model.specs.Names.{future_cmp};
-ghost use Rattle.asp_model.specs.Shapes.{future_shape, parcel_shape};
+ghost use Rattle.asp_model.specs.Shapes.{future_shape};
+ghost use Rattle.coded_cells.specs.Shapes.{parcel_shape};
 ghost use Rattle.std.specs.Option.{option_map};
 ghost use Rattle.future_table.specs.Components.{EndsWithin, end_told};
 ghost use Rattle.future_table.specs.Links.{link_at};
 ghost use Rattle.future_table.specs.Numbers.{number_of};
-ghost use Rattle.future_table.specs.Values.{chase_shape, told};
+ghost use Rattle.future_table.specs.Values.{StayOfCode, chase_shape, told};
 ghost use Rattle.future_table.specs.Walks.{IsGoing, IsRoot, IsWhole, NumbersStay, names_in, values_in};
 
 use crate::chase::Chase;
 use crate::links::{End, Link, end_so, head_of, join};
 use crate::numbers::Numbers;
-use asp_model::{Cell, FutureName, Parcel};
+use asp_model::FutureName;
+use coded_cells::{Cell, Parcel};
 use std::alloc::{AllocError, Global};
 use std::collections::BTreeMap;
 
@@ -46,6 +48,8 @@ pub fn fill(walks: &mut Walks, name: FutureName, value: Parcel) -> Result<(), Al
     ensures whole { IsWhole walks.new }
     ensures values { let old = values_in walks.old in OnOk result
         (values_in walks.new ≡ put future_cmp (future_shape name) (parcel_shape value) old) }
+    ensures code { let old = walks.old.filled.entries in
+        OnOk result (StayOfCode value old walks.new.filled.entries) }
     ensures err { OnErr result (walks.new.filled.entries ≡ walks.old.filled.entries) }
 {
     let at = number(walks, &name)?;
@@ -88,7 +92,7 @@ fn ending(names: &Numbers, link: Link) -> Chase
 fn root(value: &Parcel) -> Option<&FutureName>
     ensures root { IsRoot (parcel_shape value.now) (option_map (λ f. future_shape f.now) result) }
 {
-    match value.cells().first() {
+    match value.cells.first() {
         Some(Cell::Future(next)) => Some(next),
         _ => None,
     }
@@ -144,6 +148,8 @@ fn fill_plain(
     ensures whole { IsWhole walks.new }
     ensures values { let old = values_in walks.old in OnOk result
         (values_in walks.new ≡ put future_cmp (future_shape name) (parcel_shape value) old) }
+    ensures code { let old = walks.old.filled.entries in
+        OnOk result (StayOfCode value old walks.new.filled.entries) }
     ensures err { OnErr result (walks.new.filled.entries ≡ walks.old.filled.entries) }
 {
     let head = head_of(&walks.links, at);
@@ -168,6 +174,8 @@ fn fill_going(
     ensures whole { IsWhole walks.new }
     ensures values { let old = values_in walks.old in OnOk result
         (values_in walks.new ≡ put future_cmp (future_shape name) (parcel_shape value) old) }
+    ensures code { let old = walks.old.filled.entries in
+        OnOk result (StayOfCode value old walks.new.filled.entries) }
     ensures err { OnErr result (walks.new.filled.entries ≡ walks.old.filled.entries) }
 {
     let first = head_of(&walks.links, at);

@@ -2,8 +2,6 @@
 use Rattle.std.proofs.Common.{◌≡◌, [], ℕ, true, List, Option, Some, None, length, refl, sym, ap, subst, ◌∙◌}
 use Rattle.std.specs.FinMap.{find, put}
 use Rattle.asp_model.specs.declared.name.FutureName.{FutureName}
-use Rattle.asp_model.specs.declared.store.Parcel.{Parcel}
-use Rattle.asp_model.specs.declared.store.Request.{Request}
 use Rattle.asp_model.specs.Names.{Name, FutureShape, name_cmp, future_cmp}
 use Rattle.asp_model.specs.Term.{Tree}
 use Rattle.asp_model.specs.Parcel.{ParcelShape}
@@ -12,7 +10,11 @@ use Rattle.asp_model.specs.Configuration as model
 use Rattle.asp_model.specs.Configuration.{Configuration, RequestShape, requests_of}
 use Rattle.asp_model.specs.Intent.{Effect}
 use Rattle.asp_model.specs.Step.{ListsShape, put_some, with_effect, with_sent}
-use Rattle.asp_model.specs.Shapes.{future_shape, parcel_shape, request_shape}
+use Rattle.asp_model.specs.Shapes.{future_shape}
+use Rattle.coded_cells.specs.declared.cells.Parcel.{Parcel}
+use Rattle.coded_cells.specs.Shapes.{parcel_shape}
+use Rattle.request_queue.specs.declared.request.Request.{Request}
+use Rattle.request_queue.specs.Requests.{request_shape}
 use Rattle.future_table.specs.Values.{values_of}
 use Rattle.laws.specs.Reached.{IsThere, Steps}
 use Rattle.laws.proofs.ClosedLaws.{reached_are_closed}
@@ -21,10 +23,10 @@ use Rattle.laws.proofs.LinkedLemmas.{intends_step, targets_are_there}
 use Rattle.laws.proofs.MapLemmas.{find_same, stays_there}
 use Rattle.laws.proofs.NameLemmas.{future_total, future_same, name_total, name_same, no_some, some_is}
 use Rattle.laws.proofs.ReachedLemmas.{moves_go_on}
-use Rattle.plain_activity.specs.declared.activity.Activity.{Activity}
-use Rattle.plain_activity.specs.declared.act.Given.TheVariants as given
-use Rattle.plain_activity.specs.Activity.{Stands}
-use Rattle.plain_activity.specs.Effects.{IsMade}
+use Rattle.actor.specs.declared.actor.Actor.{Actor}
+use Rattle.actor.specs.declared.act.Given.TheVariants as given
+use Rattle.actor.specs.Actors.{Stands}
+use Rattle.actor.specs.Effects.{IsMade}
 use Rattle.schedules.specs.Schedules.{IsNextIn, IsSentTo}
 use Rattle.schedules.proofs.EffectLemmas.{absent_received_none}
 use Rattle.replay_one.specs.declared.population.Population.{Population}
@@ -40,23 +42,23 @@ effect_of n e c s m f p q r = sym (λ i. record { activities = put_some name_cmp
 
 module _ (p : Population) (n : Name) (program : Tree) (c : Configuration) (e : Effect) where
   pub nothing_population : IsGiving p n given.Nothing program c e → IsPopulation p (with_effect n e c)
-  nothing_population h = subst (IsPopulation p) (effect_of n e c None None None h.given.0 h.given.1 h.given.2) h.population
+  nothing_population h = subst (IsPopulation p) (effect_of n e c None None None h.given.0 h.given.1 h.given.2) h.here.population
 
   -- what is made
-  made_is : (o : Option (Name × model.Activity)) (m : Name) (x : Activity) → IsMade o m x → (b : model.Activity) × (o ≡ Some (m, b)) × Stands x b []
+  made_is : (o : Option (Name × model.Activity)) (m : Name) (x : Actor) → IsMade o m x → (b : model.Activity) × (o ≡ Some (m, b)) × Stands x b []
   made_is None m x h = absurd h
   made_is (Some z) m x h = (z.1, (λ i. Some (h.0 i, z.1)), h.1)
 
-  pub made_given : (m : Name) (x : Activity) → IsGiving p n (given.Made m x) program c e → (b : model.Activity) × (e.made ≡ Some (m, b)) × Stands x b []
+  pub made_given : (m : Name) (x : Actor) → IsGiving p n (given.Made m x) program c e → (b : model.Activity) × (e.made ≡ Some (m, b)) × Stands x b []
   made_given m x h = made_is e.made m x h.given.1
 
   -- who is made has received nothing
-  pub made_alone : (m : Name) (x : Activity) → IsGiving p n (given.Made m x) program c e → requests_of (with_activity n e.own c) m ≡ []
+  pub made_alone : (m : Name) (x : Actor) → IsGiving p n (given.Made m x) program c e → requests_of (with_activity n e.own c) m ≡ []
   made_alone m x h =
       let b = made_given m x h in
       absent_received_none program c m h.reached ((effects_are_new program c n e h.reached h.intends).made (m, b.0) b.1)
 
-  pub made_population : (q : Population) (m : Name) (x : Activity) (h : IsGiving p n (given.Made m x) program c e) → IsPopulation q (with_activity m (made_given m x h).0 (with_activity n e.own c)) → IsPopulation q (with_effect n e c)
+  pub made_population : (q : Population) (m : Name) (x : Actor) (h : IsGiving p n (given.Made m x) program c e) → IsPopulation q (with_activity m (made_given m x h).0 (with_activity n e.own c)) → IsPopulation q (with_effect n e c)
   made_population q m x h k =
       let b = made_given m x h in
       subst (IsPopulation q) (effect_of n e c None (Some (m, b.0)) None h.given.0 b.1 h.given.2) k
@@ -72,7 +74,7 @@ module _ (p : Population) (n : Name) (program : Tree) (c : Configuration) (e : E
 
   -- the future was not filled
   pub filled_new : (f : FutureName) (v : Parcel) → IsGiving p n (given.Filled f v) program c e → find future_cmp (future_shape f) (values_of p.futures) ≡ None
-  filled_new f v h = ap (λ (vs : Values). find future_cmp (future_shape f) vs) h.population.futures ∙ (effects_are_new program c n e h.reached h.intends).filled (future_shape f, parcel_shape v) h.given.2
+  filled_new f v h = ap (λ (vs : Values). find future_cmp (future_shape f) vs) h.here.population.futures ∙ (effects_are_new program c n e h.reached h.intends).filled (future_shape f, parcel_shape v) h.given.2
 
   -- its value has one root
   pub filled_root : (f : FutureName) (v : Parcel) → IsGiving p n (given.Filled f v) program c e → length v.roots.items ≡ 1
@@ -94,7 +96,7 @@ module _ (p : Population) (n : Name) (program : Tree) (c : Configuration) (e : E
     noted = λ f m d. refl;
   }
 
-  pub made_handed : (lists : Option ListsShape) (s t : Schedule) (m : Name) (x : Activity) → IsGiving p n (given.Made m x) program c e → IsMoreReady s None t → ready_in t m ≡ true → IsHandedOn lists c n e s t
+  pub made_handed : (lists : Option ListsShape) (s t : Schedule) (m : Name) (x : Actor) → IsGiving p n (given.Made m x) program c e → IsMoreReady s None t → ready_in t m ≡ true → IsHandedOn lists c n e s t
   made_handed lists s t m x h more woken =
       let b = made_given m x h in
       record {

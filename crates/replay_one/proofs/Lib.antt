@@ -3,9 +3,9 @@ pub mod ScheduleLemmas
 pub mod PopulationLemmas
 pub mod LookLemmas
 pub mod GiveLemmas
+pub mod LocalLemmas
 pub mod RunLemmas
 pub mod ReportLemmas
 pub mod PlainLemmas
 pub mod DifferenceLemmas
-pub mod SplitLemmas
 pub mod ListedLemmas

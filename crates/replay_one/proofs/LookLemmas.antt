@@ -19,11 +19,11 @@ use Rattle.laws.specs.Reached.{IsReached, IsAt, IsThere}
 use Rattle.laws.proofs.LinkedLemmas.{targets_are_there}
 use Rattle.laws.proofs.NameLemmas.{no_some, some_is}
 use Rattle.laws.proofs.StepLemmas.{holds_back, takes_step}
-use Rattle.plain_activity.specs.declared.activity.Activity.{Activity}
-use Rattle.plain_activity.specs.declared.outlook.Outlook.{Outlook}
-use Rattle.plain_activity.specs.declared.outlook.Outlook.TheVariants as outlook
-use Rattle.plain_activity.specs.Activity.{Stands}
-use Rattle.plain_activity.specs.Outlook.{IsOutlook, IsTo}
+use Rattle.actor.specs.declared.actor.Actor.{Actor}
+use Rattle.actor.specs.declared.outlook.Outlook.{Outlook}
+use Rattle.actor.specs.declared.outlook.Outlook.TheVariants as outlook
+use Rattle.actor.specs.Actors.{Stands}
+use Rattle.actor.specs.Outlook.{IsOutlook, IsTo}
 use Rattle.schedules.specs.Schedules.{IsNextIn, RestsIn}
 use Rattle.replay_one.specs.declared.bounds.Next.TheVariants as next
 use Rattle.replay_one.specs.declared.population.Population.{Population}
@@ -35,7 +35,7 @@ use Rattle.replay_one.proofs.PopulationLemmas.{found_stands, stands_none}
 -- Intents by their outlook
 
 -- the intent of an activity of the population
-pub intended : (p : Population) (c : Configuration) (n : Name) (x : Activity) (o : Outlook) → IsPopulation p c → found_in p n ≡ Some x → ((a : model.Activity) (rs : List RequestShape) (m : Name) → Stands x a rs → IsOutlook (intent (chase (values_of p.futures)) rs m a) o) → IsOutlook (intent_in c n) o
+pub intended : (p : Population) (c : Configuration) (n : Name) (x : Actor) (o : Outlook) → IsPopulation p c → found_in p n ≡ Some x → ((a : model.Activity) (rs : List RequestShape) (m : Name) → Stands x a rs → IsOutlook (intent (chase (values_of p.futures)) rs m a) o) → IsOutlook (intent_in c n) o
 intended p c n x o h is looks =
     let s = found_stands p c n x h is in
     let e : intent_in c n ≡ intent (chase c.futures) (requests_of c n) n s.0 = ap (λ (q : Option model.Activity). elim q [ None ↦ Rests Done | Some a ↦ intent (chase c.futures) (requests_of c n) n a ]) s.1 in

@@ -26,9 +26,8 @@ use Rattle.laws.proofs.ClosedLaws.{reached_are_closed}
 use Rattle.laws.proofs.EntryLemmas.{In, entry_found, first_of_both, second_of_both}
 use Rattle.laws.proofs.NameLemmas.{name_total, name_case, no_some}
 use Rattle.laws.proofs.NamesLaws.{entries_ascend}
-use Rattle.plain_activity.specs.declared.activity.Activity.{Activity}
-use Rattle.plain_activity.specs.Activity.{Stands}
-use Rattle.plain_activity.proofs.ClosedLemmas.{stands_closed}
+use Rattle.actor.specs.declared.actor.Actor.{Actor}
+use Rattle.actor.specs.Actors.{Stands}
 use Rattle.replay_one.specs.declared.population.Population.{Population}
 use Rattle.replay_one.specs.Population.{IsReachedPopulation, StandsAt}
 use Rattle.replay_one.specs.Reports.{AreClosedStates, AreReportsOf, IsReportOf, report_with}
@@ -41,31 +40,31 @@ list_any_map p f (x ∷ xs) = ap (λ b. p (f x) || b) (list_any_map p f xs)
 
 -- Pairs
 
-abbrev ArePaired : Configuration → List (Name × Activity) → List (Name × model.Activity) → Type 0
+abbrev ArePaired : Configuration → List (Name × Actor) → List (Name × model.Activity) → Type 0
 ArePaired c [] [] = Unit {0}
 ArePaired c [] (y ∷ ys) = ⊥
 ArePaired c (x ∷ xs) [] = ⊥
 ArePaired c (x ∷ xs) (y ∷ ys) = (x.0 ≡ y.0) × Stands x.1 y.1 (requests_of c y.0) × ArePaired c xs ys
 
-abbrev StandBy : Configuration → List (Name × Activity) → List (Name × model.Activity) → Type 0
+abbrev StandBy : Configuration → List (Name × Actor) → List (Name × model.Activity) → Type 0
 StandBy c xs ys = (n : Name) → StandsAt (find name_cmp n xs) (find name_cmp n ys) (requests_of c n)
 
-heads_stand : (x : Activity) (y : model.Activity) (o : Option Activity) (p : Option model.Activity) (rs : List RequestShape) → o ≡ Some x → p ≡ Some y → StandsAt o p rs → Stands x y rs
+heads_stand : (x : Actor) (y : model.Activity) (o : Option Actor) (p : Option model.Activity) (rs : List RequestShape) → o ≡ Some x → p ≡ Some y → StandsAt o p rs → Stands x y rs
 heads_stand x y o p rs e f h = subst (λ q. StandsAt (Some x) q rs) f (subst (λ q. StandsAt q p rs) e h)
 
-some_none : {C : Type 0} (o : Option Activity) (p : Option model.Activity) (rs : List RequestShape) (x : Activity) → o ≡ Some x → p ≡ None → StandsAt o p rs → C
+some_none : {C : Type 0} (o : Option Actor) (p : Option model.Activity) (rs : List RequestShape) (x : Actor) → o ≡ Some x → p ≡ None → StandsAt o p rs → C
 some_none o p rs x e f h = no_some (sym (stands_no o rs (subst (λ q. StandsAt o q rs) f h)) ∙ e)
 
-none_some : {C : Type 0} (o : Option Activity) (p : Option model.Activity) (rs : List RequestShape) (y : model.Activity) → o ≡ None → p ≡ Some y → StandsAt o p rs → C
+none_some : {C : Type 0} (o : Option Actor) (p : Option model.Activity) (rs : List RequestShape) (y : model.Activity) → o ≡ None → p ≡ Some y → StandsAt o p rs → C
 none_some o p rs y e f h = no_some (sym (stands_none p rs (subst (λ q. StandsAt q p rs) e h)) ∙ f)
 
-both_none : (o : Option Activity) (p : Option model.Activity) (rs : List RequestShape) → o ≡ None → p ≡ None → StandsAt o p rs
+both_none : (o : Option Actor) (p : Option model.Activity) (rs : List RequestShape) → o ≡ None → p ≡ None → StandsAt o p rs
 both_none o p rs e f = subst (λ q. StandsAt q p rs) (sym e) (subst (λ q. StandsAt None q rs) (sym f) tt)
 
-still_stand : (o o' : Option Activity) (p p' : Option model.Activity) (rs : List RequestShape) → o ≡ o' → p ≡ p' → StandsAt o p rs → StandsAt o' p' rs
+still_stand : (o o' : Option Actor) (p p' : Option model.Activity) (rs : List RequestShape) → o ≡ o' → p ≡ p' → StandsAt o p rs → StandsAt o' p' rs
 still_stand o o' p p' rs e f h = subst (λ q. StandsAt q p' rs) e (subst (λ q. StandsAt o q rs) f h)
 
-tails_stand : (c : Configuration) (x : Name × Activity) (xs : List (Name × Activity)) (y : Name × model.Activity) (ys : List (Name × model.Activity)) → T (is_sorted name_cmp (x ∷ xs)) → T (is_sorted name_cmp (y ∷ ys)) → x.0 ≡ y.0 → StandBy c (x ∷ xs) (y ∷ ys) → StandBy c xs ys
+tails_stand : (c : Configuration) (x : Name × Actor) (xs : List (Name × Actor)) (y : Name × model.Activity) (ys : List (Name × model.Activity)) → T (is_sorted name_cmp (x ∷ xs)) → T (is_sorted name_cmp (y ∷ ys)) → x.0 ≡ y.0 → StandBy c (x ∷ xs) (y ∷ ys) → StandBy c xs ys
 tails_stand c x xs y ys s t e h n = ⊎_elim
     (λ q. both_none (find name_cmp n xs) (find name_cmp n ys) (requests_of c n)
     (ap (λ k. find name_cmp k xs) (q ∙ sym e) ∙ absent_below x.0 xs (first_of_both _ _ s))
@@ -73,7 +72,7 @@ tails_stand c x xs y ys s t e h n = ⊎_elim
     (λ d. still_stand (find name_cmp n (x ∷ xs)) (find name_cmp n xs) (find name_cmp n (y ∷ ys)) (find name_cmp n ys) (requests_of c n) (find_skip n x xs (λ q. d (q ∙ e))) (find_skip n y ys d) (h n))
     (name_case n y.0)
 
-paired : (c : Configuration) (xs : List (Name × Activity)) (ys : List (Name × model.Activity)) → T (is_sorted name_cmp xs) → T (is_sorted name_cmp ys) → StandBy c xs ys → ArePaired c xs ys
+paired : (c : Configuration) (xs : List (Name × Actor)) (ys : List (Name × model.Activity)) → T (is_sorted name_cmp xs) → T (is_sorted name_cmp ys) → StandBy c xs ys → ArePaired c xs ys
 paired c [] [] s t h = tt
 paired c [] (y ∷ ys) s t h = none_some None (find name_cmp y.0 (y ∷ ys)) (requests_of c y.0) y.1 refl (find_head y ys) (h y.0)
 paired c (x ∷ xs) [] s t h = some_none (find name_cmp x.0 (x ∷ xs)) None (requests_of c x.0) x.1 (find_head x xs) refl (h x.0)
@@ -97,17 +96,17 @@ report_is c n y e is =
     (λ i. record { name = y.0; count = y.1.reductions; status = status i; senders = map (λ r. r.sender) (requests_of c y.0); lines = y.1.lines })
     ∙ (λ i. record { name = sym e i; count = y.1.reductions; status = status_of_intent (intent (chase c.futures) (requests_of c y.0) (sym e i) y.1); senders = map (λ r. r.sender) (requests_of c y.0); lines = y.1.lines })
 
-reports_paired : (c : Configuration) (xs : List (Name × Activity)) (ys : List (Name × model.Activity)) → ArePaired c xs ys → AreThere c ys → AreReportsOf c.futures xs (map (activity_report c) ys)
+reports_paired : (c : Configuration) (xs : List (Name × Actor)) (ys : List (Name × model.Activity)) → ArePaired c xs ys → AreThere c ys → AreReportsOf c.futures xs (map (activity_report c) ys)
 reports_paired c [] [] h t = tt
 reports_paired c [] (y ∷ ys) h t = absurd h
 reports_paired c (x ∷ xs) [] h t = absurd h
 reports_paired c (x ∷ xs) (y ∷ ys) h t = ((y.1, requests_of c y.0, h.1, report_is c x.0 y h.0 (t y (inl refl))), reports_paired c xs ys h.2 (λ z i. t z (inr i)))
 
-closed_paired : (c : Configuration) (xs : List (Name × Activity)) (ys : List (Name × model.Activity)) → IsClosed c → ArePaired c xs ys → AreThere c ys → AreClosedStates xs
+closed_paired : (c : Configuration) (xs : List (Name × Actor)) (ys : List (Name × model.Activity)) → IsClosed c → ArePaired c xs ys → AreThere c ys → AreClosedStates xs
 closed_paired c [] [] k h t = tt
 closed_paired c [] (y ∷ ys) k h t = absurd h
 closed_paired c (x ∷ xs) [] k h t = absurd h
-closed_paired c (x ∷ xs) (y ∷ ys) k h t = (stands_closed x.1 y.1 (requests_of c y.0) h.1 (k.activities y.0 y.1 (t y (inl refl))) (k.arguments y.0), closed_paired c xs ys k h.2 (λ z i. t z (inr i)))
+closed_paired c (x ∷ xs) (y ∷ ys) k h t = (record { activity = y.1; received = requests_of c y.0; stands = h.1; closed = k.activities y.0 y.1 (t y (inl refl)); arguments = k.arguments y.0 }, closed_paired c xs ys k h.2 (λ z i. t z (inr i)))
 
 module _ (p : Population) (program : Tree) (c : Configuration) (h : IsReachedPopulation p program c) (sorted : IsStrictlySortedBy name_cmp (keys_of p.activities.entries)) where
   population_paired : ArePaired c p.activities.entries c.activities
@@ -125,7 +124,7 @@ module _ (p : Population) (program : Tree) (c : Configuration) (h : IsReachedPop
 
 -- One report after the other
 
-pub first_report : (values : Values) (x : Name × Activity) (xs : List (Name × Activity)) (rs : List ActivityReportShape) → AreReportsOf values (x ∷ xs) rs → (r : ActivityReportShape) × (ss : List ActivityReportShape) × (rs ≡ r ∷ ss) × IsReportOf values x r × AreReportsOf values xs ss
+pub first_report : (values : Values) (x : Name × Actor) (xs : List (Name × Actor)) (rs : List ActivityReportShape) → AreReportsOf values (x ∷ xs) rs → (r : ActivityReportShape) × (ss : List ActivityReportShape) × (rs ≡ r ∷ ss) × IsReportOf values x r × AreReportsOf values xs ss
 first_report values x xs [] h = absurd h
 first_report values x xs (r ∷ rs) h = (r, rs, refl, h.0, h.1)
 

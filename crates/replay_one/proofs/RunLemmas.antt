@@ -1,5 +1,6 @@
 -- Rounds and runs of the machine.
-use Rattle.std.proofs.Common.{◌≡◌, ℕ, zero, suc, true, Option, Some, None, refl, sym, ap, subst, ◌∙◌, ⊎_elim}
+use Rattle.std.proofs.Common.{◌≡◌, ◌≤◌, ◌+◌, ℕ, zero, suc, true, false, Option, Some, None, refl, sym, ap, subst, ◌∙◌, inl, inr, ⊎_elim, arith}
+use Rattle.std.proofs.lemmas.Bool.{false_from_ne_true}
 use Rattle.std.specs.FinMap.{find}
 use Rattle.asp_model.specs.Names.{Name, FutureShape, future_cmp}
 use Rattle.asp_model.specs.Term.{Tree}
@@ -10,7 +11,7 @@ use Rattle.asp_model.specs.Status.{status_of}
 use Rattle.asp_model.specs.Replay.{least_step, steps_from}
 use Rattle.laws.specs.Reached.{Steps}
 use Rattle.laws.proofs.MapLemmas.{find_same}
-use Rattle.laws.proofs.NameLemmas.{future_total, future_same, name_case, no_some}
+use Rattle.laws.proofs.NameLemmas.{future_total, future_same, name_case, no_some, true_false}
 use Rattle.laws.proofs.ReachedLemmas.{moves_go_on}
 use Rattle.schedules.specs.Schedules.{IsFilledBy, IsScheduled, RestsIn}
 use Rattle.schedules.proofs.LeastLemmas.{least_steps, notes_leave, resters_leave}
@@ -20,9 +21,10 @@ use Rattle.replay_one.specs.declared.population.Population.{Population}
 use Rattle.replay_one.specs.declared.schedule.Schedule.{Schedule}
 use Rattle.replay_one.specs.declared.round.Machine.{Machine}
 use Rattle.replay_one.specs.Bounds.{count_within, lists_within}
-use Rattle.replay_one.specs.Population.{IsPopulation, IsReachedPopulation}
+use Rattle.replay_one.specs.Population.{IsPopulation, IsReachedPopulation, IsRunIn, with_activity}
 use Rattle.replay_one.specs.Schedule.{IsMoreReady, IsNoted, IsTaken, noted_in, ready_in}
-use Rattle.replay_one.specs.Round.{CanStep, IsHandedOn, IsRunAt, Leaves, next_by}
+use Rattle.replay_one.specs.Round.{CanStep, IsHandedOn, IsRunAt, IsRunBut, LeadsTo, Leaves, next_by}
+use Rattle.replay_one.proofs.LocalLemmas.{local_runs_go_on}
 
 pub reached_population : (b : Bounds) (m : Machine) (program : Tree) (c : Configuration) → IsRunAt b m program c → IsReachedPopulation m.population program c
 reached_population b m program c h = record { bare = h.bare; reached = h.reached; population = h.population }
@@ -33,6 +35,13 @@ awaits_is f g e = ap (awaited f) e
     awaited : FutureShape → StatusShape → FutureShape
     awaited f (Awaits g) = g
     awaited f s = f
+
+pub but_reached : (b : Bounds) (m : Machine) (n : Name) (program : Tree) (c : Configuration) → IsRunBut b m n program c → IsReachedPopulation m.population program c
+but_reached b m n program c h = reached_population b (record { population = m.population; schedule = h.before }) program c h.run
+
+-- the population is another that stands for the same
+pub settled_run : (b : Bounds) (program : Tree) (c : Configuration) (m : Machine) (q : Population) → IsRunAt b m program c → IsPopulation q c → IsRunAt b (record { population = q; schedule = m.schedule }) program c
+settled_run b program c m q h population = record { bare = h.bare; reached = h.reached; population = population; scheduled = h.scheduled }
 
 module _ (b : Bounds) (program : Tree) (c : Configuration) (n : Name) (p : Population) (old : Schedule) where
   -- who rests leaves
@@ -98,3 +107,44 @@ goes_on k lists count c d h = ap (λ (o : Option Configuration). elim o [ None �
 pub has_ended : (k : ℕ) (lists : Option ListsShape) (count : Name → ℕ) (c : Configuration) → least_step lists count c c.activities ≡ None → steps_from k lists count c ≡ c
 has_ended zero lists count c h = refl
 has_ended (suc k) lists count c h = ap (λ (o : Option Configuration). elim o [ None ↦ c | Some d ↦ steps_from k lists count d ]) h
+
+-- Reductions that need no other
+
+-- who is in the schedule is ready again
+pub woken_run : (b : Bounds) (program : Tree) (c : Configuration) (n : Name) (q : Population) (old mid new : Schedule) → IsRunAt b (record { population = q; schedule = old }) program c → IsTaken old n mid → IsMoreReady mid None new → ready_in new n ≡ true → IsRunAt b (record { population = q; schedule = new }) program c
+woken_run b program c n q old mid new h t more woken =
+    let now : (m : Name) → ready_in old m ≡ true → ready_in new m ≡ true = λ m r. ⊎_elim
+    (λ e. ap (ready_in new) e ∙ woken)
+    (λ k. more.ready m (t.others m k ∙ r))
+    (name_case m n) in
+    let was : (m : Name) → ready_in new m ≡ false → ready_in old m ≡ false = λ m not. false_from_ne_true (ready_in old m) (λ r. true_false (ready_in new m) (now m r) not) in
+    record {
+      bare = h.bare;
+      reached = h.reached;
+      population = h.population;
+      scheduled = record {
+        rest = λ m there not. h.scheduled.rest m there (was m not);
+        waiting = λ m f a is below not w. more.noted f m no_some ∙ ap (λ g. g f m) t.noted ∙ h.scheduled.waiting m f a is below (was m not) w;
+      };
+    }
+
+-- reductions that need no other are steps of the run
+pub ran : (b : Bounds) (program : Tree) (c : Configuration) (n : Name) (m : Machine) (q : Population) (mid : Schedule) (most k : ℕ) → IsRunAt b m program c → IsTaken m.schedule n mid → IsRunIn q c n most (count_within b n) k
+    → (d : Configuration) × LeadsTo b k c d × IsRunAt b (record { population = q; schedule = m.schedule }) program d × (k ≤ most)
+ran b program c n m q mid most k h t (inl r) =
+    let g = local_runs_go_on program (lists_within b) (count_within b) (ready_in m.schedule) (noted_in m.schedule) c n k r.activity r.end h.reached h.scheduled t.ready t.least r.there r.run r.below in
+    (with_activity n r.end c, g.steps, record { bare = h.bare; reached = g.reached; population = r.population; scheduled = g.scheduled }, r.within)
+ran b program c n m q mid most k h t (inr e) =
+    let none : k ≡ 0 = e.0 in
+    (c, (λ j. let same : k + j ≡ j = omega (arith, none) in ap (λ i. steps_from i (lists_within b) (count_within b) c) same), settled_run b program c m q h e.1, omega (arith, none))
+
+pub leads_nowhere : (b : Bounds) (c d : Configuration) (k : ℕ) → LeadsTo b k c d → k ≡ 0 → d ≡ c
+leads_nowhere b c d k h none =
+    let same : k + 0 ≡ 0 = omega (arith, none) in
+    sym (h 0) ∙ ap (λ i. steps_from i (lists_within b) (count_within b) c) same
+
+-- and one more
+pub leads_on : (b : Bounds) (c d e : Configuration) (k : ℕ) → LeadsTo b k c d → next_by b d ≡ Some e → LeadsTo b (k + 1) c e
+leads_on b c d e k h next j =
+    let same : k + 1 + j ≡ k + suc j = omega arith in
+    ap (λ i. steps_from i (lists_within b) (count_within b) c) same ∙ h (suc j) ∙ goes_on j (lists_within b) (count_within b) d e next

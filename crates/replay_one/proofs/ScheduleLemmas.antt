@@ -42,9 +42,10 @@ none_among m (k ∷ ks) h = absurd (h (omega arith))
 tied : (n m : Name) → m ≢ n → is_at (name_cmp n) m ≡ false
 tied n m h = elim (is_eq (name_cmp n m)) as (λ b. is_eq (name_cmp n m) ≡ b → b ≡ false) [ true ↦ λ e. absurd (h (sym (same_name_same n m e))) | false ↦ λ e. refl ] refl
 
-pub least_taken : (old new : Schedule) (o : Option Name) → (IsSome o ↔ (0 < length old.ready.keys)) → IfSome o (sets.IsLowerBound name_cmp old.ready) → IfSome o (λ k. sets.Updates name_cmp old.ready new.ready k false) → length new.ready.keys + cond (is_some o) 1 0 ≡ length old.ready.keys → new.awaiting ≡ old.awaiting → MatchOption o ((m : Name) → ready_in old m ≡ false) (λ n. IsTaken old n new)
-least_taken old new None v l u s e = λ m. none_among m old.ready.keys (λ h. false≢true (v.1 h))
-least_taken old new (Some n) v l u s e = record {
+pub least_taken : (old new : Schedule) (o : Option Name) → (IsSome o ↔ (0 < length old.ready.keys)) → IfSome o (λ k. ready_in old k ≡ true) → IfSome o (sets.IsLowerBound name_cmp old.ready) → IfSome o (λ k. sets.Updates name_cmp old.ready new.ready k false) → length new.ready.keys + cond (is_some o) 1 0 ≡ length old.ready.keys → new.awaiting ≡ old.awaiting → MatchOption o ((m : Name) → ready_in old m ≡ false) (λ n. IsTaken old n new)
+least_taken old new None v r l u s e = λ m. none_among m old.ready.keys (λ h. false≢true (v.1 h))
+least_taken old new (Some n) v r l u s e = record {
+  ready = r;
   least = λ m h. above m n (l m h);
   others = λ m d. u.0 m ∙ ap (λ b. cond b false (ready_in old m)) (tied n m d);
   noted = λ i f m. is_named_in m (names_at (e i).entries f);

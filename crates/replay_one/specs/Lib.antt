@@ -7,4 +7,3 @@ pub mod Reports
 pub mod Rows
 pub mod Listed
 pub mod Correct
-pub mod Splitting

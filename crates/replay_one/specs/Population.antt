@@ -1,5 +1,5 @@
 -- The configuration that a population of activities stands for.
-use Rattle.std.specs.Prelude.{◌≡◌, List, [], Option, Some, None}
+use Rattle.std.specs.Prelude.{◌≡◌, ◌⊎◌, ◌≤◌, ◌-◌, ℕ, List, [], Option, Some, None}
 use Rattle.std.specs.FinMap.{find, put}
 use Rattle.std.specs.Map.{lookup}
 use Rattle.std.specs.BTreeMap.{is_at}
@@ -10,27 +10,43 @@ use Rattle.asp_model.specs.Configuration as model
 use Rattle.asp_model.specs.Configuration.{Configuration, RequestShape, requests_of}
 use Rattle.asp_model.specs.Intent.{Effect, Acts}
 use Rattle.asp_model.specs.Step.{intent_in, with_sent}
-use Rattle.future_table.specs.Values.{values_of}
-use Rattle.laws.specs.Reached.{IsReached}
-use Rattle.plain_activity.specs.declared.activity.Activity.{Activity}
-use Rattle.plain_activity.specs.declared.act.Given.{Given}
-use Rattle.plain_activity.specs.Activity.{Stands}
-use Rattle.plain_activity.specs.Effects.{IsGiven}
+use Rattle.program_code.specs.declared.code.Node.{Node}
+use Rattle.program_code.specs.Pieces.{tree}
+use Rattle.program_code.specs.Sound.{root_of}
+use Rattle.program_code.specs.Tables.{piece_at, pieces}
+use Rattle.future_table.specs.Values.{AreOfCode, values_of}
+use Rattle.laws.specs.Reached.{IsReached, IsAt}
+use Rattle.activity_step.specs.Local.{LocalRun}
+use Rattle.actor.specs.declared.actor.Actor.{Actor}
+use Rattle.actor.specs.declared.act.Given.{Given}
+use Rattle.actor.specs.Actors.{Stands, code_of}
+use Rattle.actor.specs.Effects.{IsGiven, IsGivenOf}
 use Rattle.replay_one.specs.declared.population.Population.{Population}
 
-abbrev pub found_in : Population → Name → Option Activity
+-- the term that the last node of a table stands for
+abbrev pub term_of : List Node → Tree
+term_of k = tree [] (piece_at (pieces k) (root_of k))
+
+abbrev pub found_in : Population → Name → Option Actor
 found_in p n = lookup (is_at (name_cmp n)) p.activities.entries
 
 -- nobody is there, or the one stands for the other
-abbrev pub StandsAt : Option Activity → Option model.Activity → List RequestShape → Type 0
+abbrev pub StandsAt : Option Actor → Option model.Activity → List RequestShape → Type 0
 StandsAt None None rs = Unit {0}
 StandsAt (Some x) (Some a) rs = Stands x a rs
 StandsAt x a rs = ⊥
 
--- the population stands for the configuration
+-- all activities run this code
+abbrev pub AreActorsOf : List Node → Population → Type 0
+AreActorsOf k p = (n : Name) (x : Actor) → found_in p n ≡ Some x → code_of x ≡ k
+
+-- the population stands for the configuration, and its activities and values are of one code
 pub record IsPopulation (p : Population) (c : Configuration) : Type 0 where
   pub activities : (n : Name) → StandsAt (found_in p n) (find name_cmp n c.activities) (requests_of c n)
   pub futures : values_of p.futures ≡ c.futures
+  pub code : List Node
+  pub actors : AreActorsOf code p
+  pub values : AreOfCode code p.futures
 
 -- and that is reached by a program without places
 pub record IsReachedPopulation (p : Population) (program : Tree) (c : Configuration) : Type 0 where
@@ -52,13 +68,32 @@ with_request n r c = record c { received = with_sent (Some (n, r)) c.received }
 abbrev pub with_value : FutureShape → ParcelShape → Configuration → Configuration
 with_value f p c = record c { futures = put future_cmp f p c.futures }
 
+-- an activity took so many contractions that need no other, at most so many, and no more than its count allows
+pub record IsLocalRun (p : Population) (c : Configuration) (n : Name) (most count k : ℕ) : Type 0 where
+  pub activity : model.Activity
+  pub there : IsAt c n activity
+  pub end : model.Activity
+  pub run : LocalRun k activity end
+  pub within : k ≤ most
+  pub below : k ≤ count - activity.reductions
+  pub population : IsPopulation p (with_activity n end c)
+
+-- it took them, or nobody is there
+abbrev pub IsRunIn : Population → Configuration → Name → ℕ → ℕ → ℕ → Type 0
+IsRunIn p c n most count k = IsLocalRun p c n most count k ⊎ ((k ≡ 0) × IsPopulation p c)
+
+-- the population stands for the configuration, and what is given is of its code
+pub record IsGivenIn (p : Population) (c : Configuration) (g : Given) : Type 0 where
+  pub population : IsPopulation p c
+  pub coded : IsGivenOf population.code g
+
 -- an activity has taken its step, and what that gives is still to be handed on
 pub record IsGiving (p : Population) (n : Name) (g : Given) (program : Tree) (c : Configuration) (e : Effect) : Type 0 where
   pub bare : locations program ≡ []
   pub reached : IsReached program c
   pub intends : intent_in c n ≡ Acts e
   pub given : IsGiven e g
-  pub population : IsPopulation p (with_activity n e.own c)
+  pub here : IsGivenIn p (with_activity n e.own c) g
 
 abbrev pub IsGivingSome : Population → Name → Given → Type 0
 IsGivingSome p n g = (program : Tree) × (c : Configuration) × (e : Effect) × IsGiving p n g program c e

@@ -8,9 +8,8 @@ use Rattle.asp_model.specs.Configuration.{RequestShape}
 use Rattle.asp_model.specs.Intent.{intent}
 use Rattle.asp_model.specs.Status.{status_of_intent}
 use Rattle.asp_model.specs.Outcome.{ActivityReportShape}
-use Rattle.plain_activity.specs.declared.activity.Activity.{Activity}
-use Rattle.plain_activity.specs.Activity.{Stands}
-use Rattle.plain_activity.specs.Effects.{IsClosedState}
+use Rattle.actor.specs.declared.actor.Actor.{Actor}
+use Rattle.actor.specs.Actors.{Stands, IsClosedFor}
 
 abbrev pub report_with : Values → Name → model.Activity → List RequestShape → ActivityReportShape
 report_with values n a rs = record {
@@ -22,14 +21,14 @@ report_with values n a rs = record {
 }
 
 -- the report of an activity that stands for some one
-abbrev pub IsReportOf : Values → Name × Activity → ActivityReportShape → Type 0
+abbrev pub IsReportOf : Values → Name × Actor → ActivityReportShape → Type 0
 IsReportOf values x r = (a : model.Activity) × (rs : List RequestShape) × Stands x.1 a rs × (r ≡ report_with values x.0 a rs)
 
-abbrev pub AreReportsOf : Values → List (Name × Activity) → List ActivityReportShape → Type 0
+abbrev pub AreReportsOf : Values → List (Name × Actor) → List ActivityReportShape → Type 0
 AreReportsOf values [] [] = Unit {0}
 AreReportsOf values [] (r ∷ rs) = ⊥
 AreReportsOf values (x ∷ xs) [] = ⊥
 AreReportsOf values (x ∷ xs) (r ∷ rs) = IsReportOf values x r × AreReportsOf values xs rs
 
-abbrev pub AreClosedStates : List (Name × Activity) → Type 0
-AreClosedStates = AllByRecursion (λ x. IsClosedState x.1)
+abbrev pub AreClosedStates : List (Name × Actor) → Type 0
+AreClosedStates = AllByRecursion (λ x. IsClosedFor x.1)

@@ -1,5 +1,5 @@
 -- What a round of the machine leads to.
-use Rattle.std.specs.Prelude.{◌≡◌, ◌<◌, ℕ, Bool, true, false, Option, Some, None, [], length}
+use Rattle.std.specs.Prelude.{◌≡◌, ◌<◌, ◌≤◌, ◌+◌, ℕ, Bool, true, false, Option, Some, None, [], length}
 use Rattle.asp_model.specs.Names.{Name, FutureShape}
 use Rattle.asp_model.specs.Term.{Tree, locations}
 use Rattle.asp_model.specs.Configuration as model
@@ -7,7 +7,7 @@ use Rattle.asp_model.specs.Configuration.{Configuration}
 use Rattle.asp_model.specs.Intent.{Effect, Acts, Awaits}
 use Rattle.asp_model.specs.Step.{ListsShape, intent_in, step, with_effect}
 use Rattle.asp_model.specs.Status.{status_of}
-use Rattle.asp_model.specs.Replay.{least_step}
+use Rattle.asp_model.specs.Replay.{least_step, steps_from}
 use Rattle.asp_model.specs.Shapes.{future_shape}
 use Rattle.laws.specs.Reached.{IsReached, IsAt}
 use Rattle.schedules.specs.Schedules.{IsFilledBy, IsNextIn, IsScheduled, IsSentTo, RestsIn, WaitsFor}
@@ -20,7 +20,7 @@ use Rattle.replay_one.specs.declared.round.Round.TheVariants as round
 use Rattle.replay_one.specs.declared.round.Machine.{Machine}
 use Rattle.replay_one.specs.Bounds.{count_within, lists_within}
 use Rattle.replay_one.specs.Population.{IsPopulation}
-use Rattle.replay_one.specs.Schedule.{noted_in, ready_in}
+use Rattle.replay_one.specs.Schedule.{IsTaken, noted_in, ready_in}
 
 -- an activity is below its count, and this is its step
 pub record CanStep (lists : Option ListsShape) (count : Name → ℕ) (c : Configuration) (n : Name) : Type 0 where
@@ -60,22 +60,54 @@ pub record IsRunAt (b : Bounds) (m : Machine) (program : Tree) (c : Configuratio
 abbrev pub IsRunSomewhere : Bounds → Machine → Type 0
 IsRunSomewhere b m = (program : Tree) × (c : Configuration) × IsRunAt b m program c
 
+-- the machine runs, but for the least of those ready, who was taken out of them
+pub record IsRunBut (b : Bounds) (m : Machine) (n : Name) (program : Tree) (c : Configuration) : Type 0 where
+  pub before : Schedule
+  pub run : IsRunAt b (record { population = m.population; schedule = before }) program c
+  pub taken : IsTaken before n m.schedule
+
+abbrev pub IsRunButSomewhere : Bounds → Machine → Name → Type 0
+IsRunButSomewhere b m n = (program : Tree) × (c : Configuration) × IsRunBut b m n program c
+
 -- the least-named step
 abbrev pub next_by : Bounds → Configuration → Option Configuration
 next_by b c = least_step (lists_within b) (count_within b) c c.activities
 
--- a step is taken, one who rests leaves, or nobody steps
-abbrev pub IsRound : Bounds → Tree → Configuration → Round → Machine → Type 0
-IsRound b program c round.Steps new = (d : Configuration) × (next_by b c ≡ Some d) × IsRunAt b new program d
-IsRound b program c round.Leaves new = IsRunAt b new program c
-IsRound b program c round.Ends new = (next_by b c ≡ None) × IsPopulation new.population c
+-- so many steps of the run lead to the other configuration
+abbrev pub LeadsTo : Bounds → ℕ → Configuration → Configuration → Type 0
+LeadsTo b k c d = (n : ℕ)
+    → steps_from (k + n) (lists_within b) (count_within b) c ≡ steps_from n (lists_within b) (count_within b) d
+
+-- some steps were taken, at most so many
+pub record IsAhead (b : Bounds) (program : Tree) (c : Configuration) (most k : ℕ) (new : Machine) : Type 0 where
+  pub some : 0 < k
+  pub within : k ≤ most
+  pub then : Configuration
+  pub leads : LeadsTo b k c then
+  pub run : IsRunAt b new program then
+
+-- one step is taken, or the one rests and leaves
+abbrev pub IsTried : Bounds → Tree → Configuration → Bool → Machine → Type 0
+IsTried b program c true new = (d : Configuration) × (next_by b c ≡ Some d) × IsRunAt b new program d
+IsTried b program c false new = IsRunAt b new program c
+
+-- where none is taken, the same are ready
+abbrev pub IsKept : Machine → Bool → Machine → Type 0
+IsKept old true new = Unit {0}
+IsKept old false new = new.schedule.ready ≡ old.schedule.ready
+
+-- steps are taken, one who rests leaves, or nobody steps
+abbrev pub IsRound : Bounds → Tree → Configuration → ℕ → Round → Machine → Type 0
+IsRound b program c most (round.Steps k) new = IsAhead b program c most k new
+IsRound b program c most round.Leaves new = IsRunAt b new program c
+IsRound b program c most round.Ends new = (next_by b c ≡ None) × IsPopulation new.population c
 
 -- one who leaves is ready no more
 abbrev pub IsFewer : Machine → Round → Machine → Type 0
 IsFewer old round.Leaves new = length new.schedule.ready.keys < length old.schedule.ready.keys
 IsFewer old t new = Unit {0}
 
--- a step is taken, or nobody steps
-abbrev pub IsStepped : Bounds → Tree → Configuration → Bool → Machine → Type 0
-IsStepped b program c true new = (d : Configuration) × (next_by b c ≡ Some d) × IsRunAt b new program d
-IsStepped b program c false new = (next_by b c ≡ None) × IsPopulation new.population c
+-- steps are taken, or nobody steps
+abbrev pub IsStepped : Bounds → Tree → Configuration → ℕ → Option ℕ → Machine → Type 0
+IsStepped b program c most (Some k) new = IsAhead b program c most k new
+IsStepped b program c most None new = (next_by b c ≡ None) × IsPopulation new.population c

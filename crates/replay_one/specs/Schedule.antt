@@ -25,6 +25,7 @@ noted_in s f n = is_named_in n (names_at s.awaiting.entries f)
 
 -- the least of those ready leaves
 pub record IsTaken (old : Schedule) (n : Name) (new : Schedule) : Type 0 where
+  pub ready : ready_in old n ≡ true
   pub least : (m : Name) → ready_in old m ≡ true → is_lt (name_cmp m n) ≡ false
   pub others : (m : Name) → m ≢ n → ready_in new m ≡ ready_in old m
   pub noted : noted_in new ≡ noted_in old

@@ -22,36 +22,50 @@ ghost use Rattle.asp_model.specs.Shapes.{
   verdict_shape,
 };
 ghost use Rattle.future_table.specs.Values.{values_of};
-ghost use Rattle.plain_activity.specs.Activity.{Stands};
-ghost use Rattle.plain_activity.specs.Effects.{IsClosedState};
-ghost use Rattle.plain_activity.specs.Operands.{AreClosedValues};
+ghost use Rattle.operand_reads.specs.Values.{AreClosedValues};
+ghost use Rattle.actor.specs.Actors.{IsClosedFor, Stands};
 ghost use Rattle.replay_one.specs.Population.{IsReachedBySome, IsReachedPopulation};
+ghost use Rattle.replay_one.specs.Reports.{report_with};
 
 use crate::population::Population;
-use asp_model::{ActivityReport, Outcome, Status, Verdict};
+use actor::{Actor, Outlook};
+use asp_model::{ActivityName, ActivityReport, Outcome, Status, Verdict};
 use future_table::FutureTable;
-use plain_activity::{Activity, Outlook};
 use std::alloc::{AllocError, Global};
 
-fn status_of(
-    alloc: Global,
-    activity: &Activity,
-    futures: &FutureTable,
-) -> Result<Status, AllocError>
-    requires closed { IsClosedState activity.now }
+/// The status of an activity that has settled.
+fn status_of(alloc: Global, actor: &Actor, futures: &FutureTable) -> Result<Status, AllocError>
+    requires closed { IsClosedFor actor.now }
     requires values { AreClosedValues (values_of futures.now) }
     ensures status { (a : model.Activity) (rs : List RequestShape) (n : Name) →
-        Stands activity.now a rs →
+        Stands actor.now a rs →
         let intended = intent (chase (values_of futures.now)) rs n a in
         IfOk result (λ s. status_shape s ≡ status_of_intent intended) }
 {
-    match activity.outlook(futures) {
+    match actor.outlook(alloc, futures)? {
         Outlook::Steps | Outlook::Sends(_) => Ok(Status::Running),
         Outlook::Awaits(future) => Ok(Status::Awaits(future.copy(alloc)?)),
         Outlook::Faulted(fault) => Ok(Status::Faulted(fault)),
         Outlook::Serving => Ok(Status::Serving),
         Outlook::Done => Ok(Status::Done),
     }
+}
+
+fn report_of(
+    alloc: Global,
+    name: ActivityName,
+    mut actor: Actor,
+    futures: &FutureTable,
+) -> Result<ActivityReport, AllocError>
+    requires closed { IsClosedFor actor }
+    requires values { AreClosedValues (values_of futures.now) }
+    ensures report { (a : model.Activity) (rs : List RequestShape) → Stands actor a rs →
+        let report = report_with (values_of futures.now) name a rs in
+        IfOk result (λ r. activity_shape r ≡ report) }
+{
+    actor.settle()?;
+    let status = status_of(alloc, &actor, futures)?;
+    Ok(actor.into_report(name, status))
 }
 
 /// The activities in ascending order of names.
@@ -66,9 +80,9 @@ fn reports_of(alloc: Global, population: Population) -> Result<Vec<ActivityRepor
         futures,
     } = population;
     let mut reports = Vec::with_capacity(alloc, activities.len())?;
-    while let Some((name, activity)) = activities.pop_first() {
-        let status = status_of(alloc, &activity, &futures)?;
-        reports.push(activity.into_report(name, status))?;
+    while let Some((name, actor)) = activities.pop_first() {
+        let report = report_of(alloc, name, actor, &futures)?;
+        reports.push(report)?;
     }
     Ok(reports)
 }

@@ -1,37 +1,47 @@
 //! The activities of a run by their names, and the futures that are filled.
 
 ghost use Rattle.std.specs.Prelude.{◌≡◌, [], IfOk, None, OnOk, Some, length};
+ghost use Rattle.std.specs.Arc.{arc_value};
 ghost use Rattle.std.specs.FinMap.{find};
 ghost use Rattle.std.specs.BTreeMap.{Updates};
 ghost use Rattle.asp_model.specs.Names.{future_cmp, name_cmp};
-ghost use Rattle.asp_model.specs.Term.{Tree};
 ghost use Rattle.asp_model.specs.Configuration as model;
 ghost use Rattle.asp_model.specs.Configuration.{Configuration, requests_of, start as start_of};
 ghost use Rattle.asp_model.specs.Intent.{Acts, Effect};
-ghost use Rattle.asp_model.specs.Shapes.{future_shape, parcel_shape, request_shape, tree_of};
+ghost use Rattle.asp_model.specs.Shapes.{future_shape};
 ghost use Rattle.asp_model.specs.Step.{intent_in};
+ghost use Rattle.coded_cells.specs.Shapes.{parcel_shape};
+ghost use Rattle.request_queue.specs.Requests.{request_shape};
 ghost use Rattle.future_table.specs.Values.{values_of};
 ghost use Rattle.laws.specs.Reached.{IsThere};
-ghost use Rattle.plain_activity.specs.Activity.{Stands};
-ghost use Rattle.plain_activity.specs.Effects.{IsGiven};
+ghost use Rattle.actor.specs.Actors.{Stands, code_of};
+ghost use Rattle.actor.specs.Effects.{IsGiven};
 ghost use Rattle.replay_one.specs.Population.{
+  AreActorsOf,
+  IsGivenIn,
   IsPopulation,
   IsReachedBySome,
+  IsRunIn,
+  term_of,
   with_activity,
   with_request,
   with_value,
 };
 
-use asp_model::{ActivityName, FutureName, Parcel, Request, Term};
+use actor::{Actor, Given};
+use asp_model::{ActivityName, FutureName};
+use coded_cells::Parcel;
 use future_table::FutureTable;
-use plain_activity::{Activity, Given};
+use program_code::Code;
+use request_queue::Request;
 use std::alloc::{AllocError, Global};
 use std::collections::BTreeMap;
+use std::sync::Arc;
 
 /// The activities by their names, and the filled futures.
 #[derive(Drop)]
 pub struct Population {
-    pub activities: BTreeMap<ActivityName, Activity>,
+    pub activities: BTreeMap<ActivityName, Actor>,
     pub futures: FutureTable,
 }
 
@@ -48,18 +58,40 @@ fn put<X: Drop>(
 }
 
 impl Population {
-    /// The main activity alone, with a program as its term.
-    pub fn start(alloc: Global, program: Term) -> Result<Population, AllocError>
-        ensures population { IfOk result (λ p. IsPopulation p (start_of (tree_of program))) }
+    /// The main activity alone, with the program of this code as its term.
+    pub fn start(alloc: Global, code: Arc<Code>) -> Result<Population, AllocError>
+        ensures population { let first = start_of (term_of (arc_value code)) in
+            IfOk result (λ p. IsPopulation p first) }
     {
         let mut population = Population {
             activities: BTreeMap::new(alloc),
             futures: FutureTable::new(alloc),
         };
-        let main = Activity::main(alloc, program)?;
+        let main = Actor::main(alloc, code)?;
         let name = ActivityName::main(alloc)?;
         population.insert(name, main)?;
         Ok(population)
+    }
+
+    /// An activity takes its reductions up to the next that needs others, at most so many, and no
+    /// more than its count allows. How many is answered. It can be looked at then.
+    pub fn run(
+        &mut self,
+        alloc: Global,
+        name: &ActivityName,
+        most: u64,
+        count: u64,
+    ) -> Result<u64, AllocError>
+        ensures runs { (c : Configuration) → IsPopulation self.old c →
+            IfOk result (IsRunIn self.new c name.now most count) }
+    {
+        match self.activities.get_mut(name) {
+            Some(actor) => {
+                let left = count.saturating_sub(actor.count());
+                actor.run(alloc, most.min(left))
+            }
+            None => Ok(0),
+        }
     }
 
     /// An activity takes its reduction, and what that gives to others is answered.
@@ -68,21 +100,21 @@ impl Population {
         ensures acts { (c : Configuration) (e : Effect) → IsPopulation self.old c →
             intent_in c name.now ≡ Acts e →
             let then = with_activity name.now e.own c in
-            IfOk result (λ g. IsGiven e g × IsPopulation self.new then) }
+            IfOk result (λ g. IsGiven e g × IsGivenIn self.new then g) }
     {
         match self.activities.get_mut(name) {
-            Some(activity) => activity.act(alloc, name, &self.futures),
+            Some(actor) => actor.act(alloc, name, &self.futures),
             None => Ok(Given::Nothing),
         }
     }
 
     /// An activity that is made.
-    pub fn insert(&mut self, name: ActivityName, activity: Activity) -> Result<(), AllocError>
-        ensures made { (c : Configuration) (a : model.Activity) → IsPopulation self.old c →
-            requests_of c name ≡ [] → Stands activity a [] →
+    pub fn insert(&mut self, name: ActivityName, actor: Actor) -> Result<(), AllocError>
+        ensures made { (c : Configuration) (a : model.Activity) → (p : IsPopulation self.old c) →
+            requests_of c name ≡ [] → Stands actor a [] → code_of actor ≡ p.code →
             OnOk result (IsPopulation self.new (with_activity name a c)) }
     {
-        put(&mut self.activities, name, activity)
+        put(&mut self.activities, name, actor)
     }
 
     /// A request, to an activity that is there.
@@ -92,11 +124,12 @@ impl Population {
         to: &ActivityName,
         request: Request,
     ) -> Result<(), AllocError>
+        requires code { AreActorsOf (arc_value request.arguments.code) self.old }
         ensures received { (c : Configuration) → IsPopulation self.old c → IsThere c to.now →
             OnOk result (IsPopulation self.new (with_request to.now (request_shape request) c)) }
     {
         match self.activities.get_mut(to) {
-            Some(activity) => activity.receive(alloc, request),
+            Some(actor) => actor.receive(alloc, request),
             None => Ok(()),
         }
     }
@@ -107,7 +140,7 @@ impl Population {
             result ≡ length (requests_of c name.now) }
     {
         match self.activities.get(name) {
-            Some(activity) => activity.received(),
+            Some(actor) => actor.received(),
             None => 0,
         }
     }
@@ -117,7 +150,8 @@ impl Population {
         requires absent { let values = values_of self.old.futures in
             find future_cmp (future_shape future) values ≡ None }
         requires one_root { length value.roots.items ≡ 1 }
-        ensures filled { (c : Configuration) → IsPopulation self.old c → OnOk result
+        ensures filled { (c : Configuration) → (p : IsPopulation self.old c) →
+            arc_value value.code ≡ p.code → OnOk result
             (IsPopulation self.new (with_value (future_shape future) (parcel_shape value) c)) }
     {
         self.futures.fill(future, value)

@@ -11,7 +11,7 @@ ghost use Rattle.replay_one.specs.Listed.{AreReplayable};
 
 use crate::bounds::Bounds;
 use crate::difference::first_difference;
-use crate::run::run_term;
+use crate::run::run_within;
 use asp_check::Checked;
 use asp_model::{ActivityName, Counts, Lists, Outcome};
 use std::alloc::{AllocError, Global};
@@ -64,7 +64,7 @@ pub fn replay(
 {
     let bounds = Bounds::Listed(lists, counts);
     let sum = sum_of(&counts.entries);
-    let outcome = run_term(alloc, &program.program().root, &bounds, sum)?;
+    let outcome = run_within(alloc, program, &bounds, sum)?;
     match first_difference(&outcome.activities, &lists.entries, &counts.entries) {
         None => Ok(outcome),
         Some(name) => Err(ReplayStop::Diverged {

@@ -1,11 +1,11 @@
-//! A round: the least of those who are ready takes a reduction, or leaves them.
+//! A round: the least of those who are ready takes reductions, or leaves them.
 
-ghost use Rattle.std.specs.Prelude.{◌≡◌, true, IfOk, None, OnOk};
+ghost use Rattle.std.specs.Prelude.{◌≡◌, ◌<◌, true, IfOk, None, OnOk};
+ghost use Rattle.std.specs.Arc.{arc_value};
 ghost use Rattle.asp_model.specs.Names.{Name, main_name};
 ghost use Rattle.asp_model.specs.Term.{Tree};
 ghost use Rattle.asp_model.specs.Configuration.{Configuration, start as start_of};
 ghost use Rattle.asp_model.specs.Intent.{Effect};
-ghost use Rattle.asp_model.specs.Shapes.{tree_of};
 ghost use Rattle.asp_model.specs.Step.{is_next, with_effect};
 ghost use Rattle.laws.specs.Reached.{IsThere};
 ghost use Rattle.schedules.specs.Schedules.{IsNextIn};
@@ -16,24 +16,31 @@ ghost use Rattle.replay_one.specs.Population.{
   IsPopulation,
   IsReachedBySome,
   IsReachedPopulation,
+  term_of,
 };
 ghost use Rattle.replay_one.specs.Schedule.{IsMoreReady, ready_in};
 ghost use Rattle.replay_one.specs.Round.{
   IsFewer,
   IsHandedOn,
+  IsKept,
   IsLook,
+  IsRound,
   IsRunAt,
+  IsRunBut,
+  IsRunButSomewhere,
   IsRunSomewhere,
   IsStepped,
-  IsRound,
+  IsTried,
 };
 
 use crate::bounds::{Bounds, Next};
 use crate::population::Population;
 use crate::schedule::Schedule;
-use asp_model::{ActivityName, FutureName, Term};
-use plain_activity::{Given, Outlook};
+use actor::{Given, Outlook};
+use asp_model::{ActivityName, FutureName};
+use program_code::Code;
 use std::alloc::{AllocError, Global};
+use std::sync::Arc;
 
 /// What an activity that is ready does.
 #[derive(Clone, Copy)]
@@ -47,8 +54,8 @@ pub enum Look<'a> {
 /// What came of a round.
 #[derive(Clone, Copy)]
 pub enum Round {
-    /// A reduction.
-    Steps,
+    /// So many reductions of one activity.
+    Steps(u64),
     /// One leaves those who are ready.
     Leaves,
     /// Nobody is ready.
@@ -80,32 +87,39 @@ fn may_come(
     }
 }
 
-fn look_at<'a>(population: &'a Population, bounds: &Bounds, name: &ActivityName) -> Look<'a>
+/// What an activity does that stands before a redex that needs others, or is at its count.
+fn look_at<'a>(
+    alloc: Global,
+    population: &'a Population,
+    bounds: &Bounds,
+    name: &ActivityName,
+) -> Result<Look<'a>, AllocError>
     requires ascending { IsAscending bounds.now }
     requires reached { IsReachedBySome population.now }
     ensures look { (program : Tree) (c : Configuration) →
-        IsReachedPopulation population.now program c →
-        IsLook (lists_within bounds.now) (count_within bounds.now) c name.now result }
+        IsReachedPopulation population.now program c → IfOk result
+        (IsLook (lists_within bounds.now) (count_within bounds.now) c name.now) }
 {
-    let Some(activity) = population.activities.get(name) else {
-        return Look::Leaves;
+    let Some(actor) = population.activities.get(name) else {
+        return Ok(Look::Leaves);
     };
-    if activity.count() >= bounds.count(name) {
-        return Look::Leaves;
+    if actor.count() >= bounds.count(name) {
+        return Ok(Look::Leaves);
     }
-    match activity.outlook(&population.futures) {
-        Outlook::Steps => Look::Steps,
+    let outlook = actor.outlook(alloc, &population.futures)?;
+    match outlook {
+        Outlook::Steps => Ok(Look::Steps),
         Outlook::Sends(to) => {
             if may_come(population, bounds, to, name) {
-                Look::Steps
+                Ok(Look::Steps)
             } else {
-                Look::Leaves
+                Ok(Look::Leaves)
             }
         }
-        Outlook::Awaits(future) => Look::Awaits(future),
-        Outlook::Faulted(_) => Look::Leaves,
-        Outlook::Serving => Look::Leaves,
-        Outlook::Done => Look::Leaves,
+        Outlook::Awaits(future) => Ok(Look::Awaits(future)),
+        Outlook::Faulted(_) => Ok(Look::Leaves),
+        Outlook::Serving => Ok(Look::Leaves),
+        Outlook::Done => Ok(Look::Leaves),
     }
 }
 
@@ -131,14 +145,14 @@ fn wake_next(
 }
 
 impl Machine {
-    /// The main activity alone, with a program as its term.
-    pub fn start(alloc: Global, program: Term) -> Result<Machine, AllocError>
-        ensures population { let first = start_of (tree_of program) in
+    /// The main activity alone, with the program of this code as its term.
+    pub fn start(alloc: Global, code: Arc<Code>) -> Result<Machine, AllocError>
+        ensures population { let first = start_of (term_of (arc_value code)) in
             IfOk result (λ m. IsPopulation m.population first) }
         ensures ready { IfOk result (λ m. ready_in m.schedule main_name ≡ true) }
     {
         Ok(Machine {
-            population: Population::start(alloc, program)?,
+            population: Population::start(alloc, code)?,
             schedule: Schedule::start(alloc)?,
         })
     }
@@ -163,9 +177,9 @@ impl Machine {
     {
         match given {
             Given::Nothing => Ok(()),
-            Given::Made(made, activity) => {
+            Given::Made(made, actor) => {
                 self.schedule.wake(made.copy(alloc)?)?;
-                self.population.insert(made, activity)
+                self.population.insert(made, actor)
             }
             Given::Sent(to, request) => {
                 self.population.send(alloc, &to, request)?;
@@ -179,46 +193,86 @@ impl Machine {
         }
     }
 
-    /// The least of those who are ready takes a reduction, or leaves them.
-    fn round(&mut self, alloc: Global, bounds: &Bounds) -> Result<Round, AllocError>
+    /// The least of those who are ready, who was taken out of them, takes a reduction or rests.
+    /// Whether it does is answered. Who steps is ready again.
+    fn try_step(
+        &mut self,
+        alloc: Global,
+        bounds: &Bounds,
+        name: ActivityName,
+    ) -> Result<bool, AllocError>
         requires ascending { IsAscending bounds.now }
-        requires running { IsRunSomewhere bounds.now self.old }
-        ensures round { (program : Tree) (c : Configuration) →
-            IsRunAt bounds.now self.old program c →
-            IfOk result (λ t. IsRound bounds.now program c t self.new) }
-        ensures fewer { IfOk result (λ t. IsFewer self.old t self.new) }
+        requires running { IsRunButSomewhere bounds.now self.old name }
+        ensures tried { (program : Tree) (c : Configuration) →
+            IsRunBut bounds.now self.old name program c →
+            IfOk result (λ b. IsTried bounds.now program c b self.new) }
+        ensures kept { IfOk result (λ b. IsKept self.old b self.new) }
     {
-        let Some(name) = self.schedule.take_least() else {
-            return Ok(Round::Ends);
-        };
-        match look_at(&self.population, bounds, &name) {
-            Look::Leaves => Ok(Round::Leaves),
+        let look = look_at(alloc, &self.population, bounds, &name)?;
+        match look {
+            Look::Leaves => Ok(false),
             Look::Awaits(future) => {
                 let future = future.copy(alloc)?;
                 self.schedule.note(alloc, future, name)?;
-                Ok(Round::Leaves)
+                Ok(false)
             }
             Look::Steps => {
                 let given = self.population.act(alloc, &name)?;
                 self.give(alloc, bounds, &name, given)?;
                 self.schedule.wake(name)?;
-                Ok(Round::Steps)
+                Ok(true)
             }
         }
     }
 
-    /// The least-named activity that can takes a reduction. Whether there is one is answered.
-    pub fn step(&mut self, alloc: Global, bounds: &Bounds) -> Result<bool, AllocError>
+    /// The least of those who are ready takes its reductions up to the next that needs others, and
+    /// that one, at most so many in all; or it leaves them.
+    fn round(&mut self, alloc: Global, bounds: &Bounds, most: u64) -> Result<Round, AllocError>
         requires ascending { IsAscending bounds.now }
         requires running { IsRunSomewhere bounds.now self.old }
+        requires some { 0 < most }
+        ensures round { (program : Tree) (c : Configuration) →
+            IsRunAt bounds.now self.old program c →
+            IfOk result (λ t. IsRound bounds.now program c most t self.new) }
+        ensures fewer { IfOk result (λ t. IsFewer self.old t self.new) }
+    {
+        let Some(name) = self.schedule.take_least() else {
+            return Ok(Round::Ends);
+        };
+        let count = bounds.count(&name);
+        let taken = self.population.run(alloc, &name, most, count)?;
+        if taken == most {
+            self.schedule.wake(name)?;
+            return Ok(Round::Steps(taken));
+        }
+        if self.try_step(alloc, bounds, name)? {
+            return Ok(Round::Steps(taken + 1));
+        }
+        if taken > 0 {
+            return Ok(Round::Steps(taken));
+        }
+        Ok(Round::Leaves)
+    }
+
+    /// The least-named activity that can takes reductions, at most so many. How many is answered;
+    /// none where nobody can.
+    pub fn step(
+        &mut self,
+        alloc: Global,
+        bounds: &Bounds,
+        most: u64,
+    ) -> Result<Option<u64>, AllocError>
+        requires ascending { IsAscending bounds.now }
+        requires running { IsRunSomewhere bounds.now self.old }
+        requires some { 0 < most }
         ensures steps { (program : Tree) (c : Configuration) →
             IsRunAt bounds.now self.old program c →
-            IfOk result (λ b. IsStepped bounds.now program c b self.new) }
+            IfOk result (λ o. IsStepped bounds.now program c most o self.new) }
     {
         loop {
-            match self.round(alloc, bounds)? {
-                Round::Steps => return Ok(true),
-                Round::Ends => return Ok(false),
+            match self.round(alloc, bounds, most)? {
+                Round::Steps(taken) => return Ok(Some(taken)),
+                Round::Ends => return Ok(None),
                 Round::Leaves => {}
             }
         }

@@ -1,7 +1,7 @@
 //! The run of a program within a budget.
 
-ghost use Rattle.std.specs.Prelude.{◌≡◌, ◌≤◌, [], IfOk, OnOk};
-ghost use Rattle.asp_model.specs.Term.{Tree, locations};
+ghost use Rattle.std.specs.Prelude.{◌≡◌, ◌≤◌, IfOk, OnOk};
+ghost use Rattle.asp_model.specs.Term.{Tree};
 ghost use Rattle.asp_model.specs.Configuration.{Configuration, start as start_of};
 ghost use Rattle.asp_model.specs.Outcome.{counts_in, outcome_of as outcome_shown};
 ghost use Rattle.asp_model.specs.Replay.{plain_run, steps_from, total as total_of};
@@ -15,9 +15,10 @@ use crate::bounds::Bounds;
 use crate::outcome::outcome_of;
 use crate::round::Machine;
 use asp_check::Checked;
-use asp_model::{Outcome, Term};
+use asp_model::Outcome;
+use code_compiler::compile;
 use std::alloc::{AllocError, Global};
-use substitution::copy_term;
+use std::sync::Arc;
 
 impl Machine {
     /// Takes at most so many reductions, until nobody can take one.
@@ -29,29 +30,31 @@ impl Machine {
             let d = steps_from total (lists_within bounds.now) (count_within bounds.now) c in
             OnOk result (IsReachedPopulation self.new.population program d) }
     {
-        for taken in 0..total {
-            if !self.step(alloc, bounds)? {
+        let mut left = total;
+        while left > 0 {
+            let Some(taken) = self.step(alloc, bounds, left)? else {
                 return Ok(());
-            }
+            };
+            left -= taken;
         }
         Ok(())
     }
 }
 
-/// Runs a term without places within bounds, with at most so many reductions in all.
-pub fn run_term(
+/// Runs a program within bounds, with at most so many reductions in all.
+pub fn run_within(
     alloc: Global,
-    program: &Term,
+    program: &Checked,
     bounds: &Bounds,
     total: u64,
 ) -> Result<Outcome, AllocError>
-    requires bare { locations (tree_of program.now) ≡ [] }
     requires ascending { IsAscending bounds.now }
-    ensures outcome { let first = start_of (tree_of program.now) in
+    ensures outcome { let first = start_of (tree_of program.now.program.root) in
         let last = steps_from total (lists_within bounds.now) (count_within bounds.now) first in
         IfOk result (λ o. outcome_shape o ≡ outcome_shown last) }
 {
-    let mut machine = Machine::start(alloc, copy_term(alloc, program)?)?;
+    let code = Arc::new(alloc, compile(alloc, program)?)?;
+    let mut machine = Machine::start(alloc, code)?;
     machine.run(alloc, bounds, total)?;
     outcome_of(alloc, machine.population)
 }
@@ -65,10 +68,5 @@ pub fn run_plain(alloc: Global, program: &Checked, budget: u64) -> Result<Outcom
     ensures within { IfOk result (λ o. total_of (counts_in (outcome_shape o)) ≤ budget) }
     ensures spent { IfOk result (λ o. IsSpent budget (outcome_shape o)) }
 {
-    run_term(
-        alloc,
-        &program.program().root,
-        &Bounds::Budget(budget),
-        budget,
-    )
+    run_within(alloc, program, &Bounds::Budget(budget), budget)
 }

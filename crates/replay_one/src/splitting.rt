@@ -1,6 +1,6 @@
 //! The laws of splitting, each as the contract of a function that does nothing.
 
-ghost use Rattle.replay_one.specs.Splitting.{SplitsAreRedexes, SplitsOneWay, SplitsPlugBack};
+ghost use Rattle.code_laws.specs.Splitting.{SplitsAreRedexes, SplitsOneWay, SplitsPlugBack};
 
 /// What a term splits into gives the term back.
 pub fn splits_plug_back()

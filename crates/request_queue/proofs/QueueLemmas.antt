@@ -10,11 +10,11 @@ use Rattle.std.specs.Cmp.Lexicographic.{nat_list_eq_equiv}
 use Rattle.std.specs.Map.{keys_of, remove_entry}
 use Rattle.std.specs.BTreeMap.{insert_entry}
 use Rattle.asp_model.specs.declared.word.Label.{Label}
-use Rattle.asp_model.specs.declared.store.Request.{Request}
+use Rattle.request_queue.specs.declared.request.Request.{Request}
 use Rattle.asp_model.specs.Names.{Text, same_text}
 use Rattle.asp_model.specs.Term.{has_text}
 use Rattle.asp_model.specs.Intent.{Numbered}
-use Rattle.asp_model.specs.Shapes.{request_shape}
+use Rattle.request_queue.specs.Requests.{request_shape}
 use Rattle.request_queue.specs.declared.notes.Notes.{Notes}
 use Rattle.request_queue.specs.Pending.{oldest, request_at}
 use Rattle.request_queue.specs.Notes.{IsOldest, IsUpTo, is_noted, is_that, label_order}

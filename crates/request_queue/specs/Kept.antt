@@ -5,7 +5,7 @@ use Rattle.std.specs.List.Sorted.{IsStrictlySortedBy}
 use Rattle.std.specs.Ordering.{nat_cmp}
 use Rattle.std.specs.Map.{keys_of}
 use Rattle.asp_model.specs.declared.word.Label.{Label}
-use Rattle.asp_model.specs.declared.store.Request.{Request}
+use Rattle.request_queue.specs.declared.request.Request.{Request}
 use Rattle.asp_model.specs.Names.{same_text}
 use Rattle.request_queue.specs.declared.queue.Queue.TheInside.{Inside}
 use Rattle.request_queue.specs.Pending.{QueueView, request_at}

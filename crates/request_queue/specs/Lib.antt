@@ -1,3 +1,4 @@
+pub mod Requests
 pub mod Pending
 pub mod Notes
 pub mod Kept

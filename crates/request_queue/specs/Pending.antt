@@ -3,13 +3,13 @@ use Rattle.std.specs.Prelude.{◌≡◌, ℕ, suc, ◌+◌, true, false, List, [
 use Rattle.std.specs.Ordering.{nat_cmp}
 use Rattle.std.specs.Map.{lookup, remove_entry}
 use Rattle.std.specs.BTreeMap.{is_at}
-use Rattle.asp_model.specs.declared.store.Request.{Request}
+use Rattle.request_queue.specs.declared.request.Request.{Request}
 use Rattle.asp_model.specs.Names.{Text}
 use Rattle.asp_model.specs.Term.{has_text}
 use Rattle.asp_model.specs.Parcel.{has_place}
 use Rattle.asp_model.specs.Configuration.{RequestShape, label_of}
 use Rattle.asp_model.specs.Intent.{Numbered, oldest_match}
-use Rattle.asp_model.specs.Shapes.{request_shape}
+use Rattle.request_queue.specs.Requests.{request_shape}
 
 -- what a queue shows: the pending requests with their numbers, oldest first, and how many have arrived
 pub record QueueView : Type 0 where

@@ -4,6 +4,8 @@
 mod laws;
 mod notes;
 mod queue;
+mod request;
 
 pub use laws::{arrivals_wait, matches_are_pending, served_leave};
 pub use queue::Queue;
+pub use request::Request;

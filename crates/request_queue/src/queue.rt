@@ -5,7 +5,7 @@ ghost use Rattle.std.specs.Option.{option_map};
 ghost use Rattle.request_queue.specs.Pending.{but, oldest, request_at, waiting};
 
 use crate::notes::Notes;
-use asp_model::Request;
+use crate::request::Request;
 use serve_rules::LabelSet;
 use std::alloc::{AllocError, Global};
 use std::collections::BTreeMap;
@@ -24,12 +24,6 @@ impl Model for Queue {
     ghost use Rattle.request_queue.specs.Pending.{QueueView};
 
     ghost Value = { QueueView };
-
-    ghost use Rattle.asp_model.specs.contracts.term.Term as term;
-    ghost use Rattle.asp_model.specs.contracts.term.Method as method;
-    ghost use Rattle.std.specs.Coded.{codes};
-
-    ghost coded = { Prim.hlevel (codes, term.the_row.coded, method.the_row.coded) };
 
     ghost use Rattle.request_queue.specs.Kept.{IsKept, view_of};
 

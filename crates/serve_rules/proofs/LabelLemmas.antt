@@ -1,5 +1,5 @@
 -- Sets of labels have what was put into them.
-use Rattle.std.proofs.Common.{◌≡◌, ◌||◌, ◌<◌, ◌+◌, ℕ, Bool, true, false, cond, List, [], ◌∷◌, ◌++◌, length, map, take, get_or, refl, sym, ap, ◌∙◌}
+use Rattle.std.proofs.Common.{◌≡◌, ◌||◌, ◌<◌, ◌+◌, ℕ, Bool, true, false, cond, List, [], ◌∷◌, ◌++◌, length, map, take, drop, get_or, refl, sym, ap, ◌∙◌}
 use Rattle.std.proofs.lemmas.List.{take_more}
 use Rattle.std.specs.List.{list_any}
 use Rattle.std.specs.BTreeMap.{is_at}
@@ -7,15 +7,14 @@ use Rattle.std.specs.declared.cmp.Ordering.{Ordering}
 use Rattle.std.specs.Ordering.{is_eq}
 use Rattle.std.specs.Cmp.Lexicographic.{nat_list_eq_equiv, texts_ties}
 use Rattle.asp_model.specs.declared.word.Label.{Label}
-use Rattle.asp_model.specs.declared.term.Method.{Method}
 use Rattle.asp_model.specs.contracts.word.LabelOrd.TheImpl as ordering
 use Rattle.asp_model.specs.Names.{Text, same_text}
-use Rattle.asp_model.specs.declared.term.Term.TheFolds.{fold-roll-Method}
-use Rattle.asp_model.specs.Marked.{Marked}
-use Rattle.asp_model.specs.Shapes.{MarkedMethod, term_step, method_step, stored_method}
 use Rattle.asp_model.specs.Store.{MethodShape}
 use Rattle.asp_model.specs.Term.{has_text}
-use Rattle.serve_rules.specs.Labels.{HaveSame, label_text, method_text, labelled}
+use Rattle.program_code.specs.Pieces.{Piece}
+use Rattle.program_code.specs.Tables.{seen_methods}
+use Rattle.program_code.specs.declared.code.MethodCode.{MethodCode}
+use Rattle.serve_rules.specs.Labels.{HaveSame, LabelsAreOfObjects, label_text, method_text, labelled}
 
 abbrev pub label_order : Label → Label → Ordering
 label_order = ordering.ghosts.cmp
@@ -65,10 +64,10 @@ mapped f (y ∷ xs) x = ap (λ ys. f y ∷ ys) (mapped f xs x)
 pub taken_more : {A : Type 0} (f : A → Text) (xs : List A) (i : ℕ) (d : A) → i < length xs → map f (take (i + 1) xs) ≡ map f (take i xs) ++ f (get_or xs i d) ∷ []
 taken_more f xs i d lt = ap (map f) (take_more xs i d lt) ∙ mapped f (take i xs) (get_or xs i d)
 
--- an object's methods have their labels
-pub methods_text : (ms : List Method) → map method_text ms ≡ map (λ (m : MethodShape). m.head.label) (map stored_method ms)
-methods_text [] = refl
-methods_text (m ∷ ms) = λ i. head_text m i ∷ methods_text ms i
-  where
-    head_text : (m : Method) → method_text m ≡ (stored_method m).head.label
-    head_text m = ap (λ (x : MarkedMethod). x.head.label) (sym (fold-roll-Method Marked MarkedMethod term_step method_step (record { label = m.label; slf = m.slf; parameters = m.parameters; body = m.body })))
+-- the methods of an object have the labels of its class
+methods_seen : (ps : List Piece) (ms : List MethodCode) (ns : List ℕ) → map (λ (m : MethodShape). m.head.label) (seen_methods ps ms ns) ≡ map method_text ms
+methods_seen ps [] ns = refl
+methods_seen ps (m ∷ ms) ns = ap (λ (ls : List Text). method_text m ∷ ls) (methods_seen ps ms (drop (length m.captured.items) ns))
+
+pub object_labels : LabelsAreOfObjects
+object_labels ps k ns = methods_seen ps k.methods.items (drop (length k.fields.items) ns)

@@ -1,13 +1,13 @@
 -- Labels as texts, and when two lists of them have the same.
-use Rattle.std.specs.Prelude.{◌≡◌, List, map}
+use Rattle.std.specs.Prelude.{◌≡◌, ℕ, List, map}
 use Rattle.asp_model.specs.Names.{Text}
 use Rattle.asp_model.specs.Term.{has_text}
 use Rattle.asp_model.specs.declared.word.Label.{Label}
-use Rattle.asp_model.specs.declared.term.Method.{Method}
-use Rattle.asp_model.specs.declared.store.Object.{Object}
-use Rattle.asp_model.specs.Shapes.{stored_method, field_shape}
-use Rattle.asp_model.specs.Store as store
 use Rattle.asp_model.specs.Intent.{method_labels}
+use Rattle.program_code.specs.Pieces.{Piece}
+use Rattle.program_code.specs.Tables.{object_of}
+use Rattle.program_code.specs.declared.code.Class.{Class}
+use Rattle.program_code.specs.declared.code.MethodCode.{MethodCode}
 
 abbrev pub label_text : Label → Text
 label_text l = l.text
@@ -16,12 +16,16 @@ label_text l = l.text
 abbrev pub HaveSame : List Text → List Text → Type 0
 HaveSame xs ys = (l : Text) → has_text l xs ≡ has_text l ys
 
--- the labels of an object's methods, as those of its cell
-abbrev pub methods_of : Object → List Text
-methods_of o = method_labels (store.Object (map field_shape o.fields.items) (map stored_method o.methods.items))
-
-abbrev pub method_text : Method → Text
+abbrev pub method_text : MethodCode → Text
 method_text m = m.label.text
+
+-- the labels of the methods of a class
+abbrev pub class_labels : Class → List Text
+class_labels k = map method_text k.methods.items
+
+-- they are those of each object of the class, whatever its places
+abbrev pub LabelsAreOfObjects : Type 0
+LabelsAreOfObjects = (ps : List Piece) (k : Class) (ns : List ℕ) → method_labels (object_of ps k ns) ≡ class_labels k
 
 abbrev pub labelled : Text → Label
 labelled l = record { text = l }

@@ -1,13 +1,11 @@
 //! The labels that a `serve` asks for, as an ordered set.
 
 ghost use Rattle.std.specs.Prelude.{◌≡◌, IfOk, map};
-ghost use Rattle.asp_model.specs.Intent.{method_labels};
-ghost use Rattle.asp_model.specs.Shapes.{cell_shape};
-ghost use Rattle.asp_model.specs.Store.{Object};
 ghost use Rattle.asp_model.specs.Term.{has_text};
-ghost use Rattle.serve_rules.specs.Labels.{HaveSame, label_text, methods_of};
+ghost use Rattle.serve_rules.specs.Labels.{HaveSame, class_labels, label_text};
 
-use asp_model::{Label, Object};
+use asp_model::Label;
+use program_code::Class;
 use std::alloc::{AllocError, Global};
 use std::collections::BTreeSet;
 use std::marker::Model;
@@ -29,12 +27,12 @@ impl Model for LabelSet {
 }
 
 impl LabelSet {
-    /// The labels of an object's methods.
-    pub fn of_object(alloc: Global, object: &Object) -> Result<LabelSet, AllocError>
-        ensures labels { IfOk result (λ s. HaveSame s (methods_of object.now)) }
+    /// The labels of a class's methods.
+    pub fn of_class(alloc: Global, class: &Class) -> Result<LabelSet, AllocError>
+        ensures labels { IfOk result (λ s. HaveSame s (class_labels class.now)) }
     {
         let mut labels = BTreeSet::new(alloc);
-        for method in &object.methods {
+        for method in &class.methods {
             labels.insert(method.label.copy(alloc)?)?;
         }
         Ok(LabelSet { labels })

@@ -2,5 +2,7 @@
 #![tactic(auto)]
 
 mod labels;
+mod laws;
 
 pub use labels::LabelSet;
+pub use laws::labels_are_of_objects;

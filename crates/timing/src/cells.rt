@@ -1,7 +1,9 @@
 //! Cells of each kind.
 
-use asp_model::{ActivityName, Cell, FutureName, Label, Object, Place, Word};
-use object_store::Store;
+use asp_model::{ActivityName, FutureName};
+use closed_stores::FIELD;
+use coded_cells::{Cell, Object, Place};
+use coded_store::Store;
 use std::alloc::{AllocError, Global};
 
 /// What the cells of a store are.
@@ -14,15 +16,9 @@ pub enum Kind {
     Future,
 }
 
-pub fn field(alloc: Global, number: u32, to: Place) -> Result<(Label, Place), AllocError> {
-    let text = Word::new(format!(in alloc; "f{number}")?);
-    Ok((Label { text }, to))
-}
-
-pub fn one_field(alloc: Global, to: Place) -> Result<Vec<(Label, Place)>, AllocError> {
-    let mut fields = Vec::new(alloc);
-    fields.push(field(alloc, 0, to)?)?;
-    Ok(fields)
+/// An object of a class, with these places.
+pub fn object(alloc: Global, class: usize, places: Vec<Place>) -> Result<Cell, AllocError> {
+    Ok(Cell::Object(Box::new(alloc, Object { class, places })?))
 }
 
 pub fn future(alloc: Global, index: u32) -> Result<FutureName, AllocError> {
@@ -30,18 +26,11 @@ pub fn future(alloc: Global, index: u32) -> Result<FutureName, AllocError> {
     Ok(FutureName { by, index })
 }
 
-fn object(alloc: Global) -> Result<Object, AllocError> {
-    Ok(Object {
-        fields: one_field(alloc, 0)?,
-        methods: Vec::new(alloc),
-    })
-}
-
 fn cell(alloc: Global, kind: Kind, number: u32) -> Result<Cell, AllocError> {
     match kind {
         Kind::Number => Ok(Cell::Number(i64::from(number))),
-        Kind::Object => Ok(Cell::Object(object(alloc)?)),
-        Kind::Future => Ok(Cell::Future(future(alloc, number)?)),
+        Kind::Object => object(alloc, FIELD, vec![in alloc; 0]?),
+        Kind::Future => Ok(Cell::Future(Box::new(alloc, future(alloc, number)?)?)),
     }
 }
 

@@ -3,8 +3,8 @@
 ghost use Rattle.std.specs.Prelude.{◌<◌};
 
 use crate::cells::{Kind, filled, future};
-use asp_model::{Cell, FutureName, Place};
-use object_store::Store;
+use coded_cells::{Cell, Place};
+use coded_store::Store;
 use std::alloc::{AllocError, Global};
 
 /// The step from a replaced place to the next one, going round the store. It is a prime, so that all
@@ -50,7 +50,7 @@ pub fn many_futures(alloc: Global, size: u32) -> Result<usize, AllocError> {
 fn repeated(alloc: Global, size: u32) -> Result<Store, AllocError> {
     let mut store = Store::new(alloc);
     for _ in 0..size {
-        store.add(Cell::Future(future(alloc, 0)?))?;
+        store.add(Cell::Future(Box::new(alloc, future(alloc, 0)?)?))?;
     }
     Ok(store)
 }
@@ -59,7 +59,7 @@ fn repeated(alloc: Global, size: u32) -> Result<Store, AllocError> {
 /// places were lent in all.
 pub fn one_future(alloc: Global, size: u32) -> Result<usize, AllocError> {
     let mut store = repeated(alloc, size)?;
-    let name: FutureName = future(alloc, 0)?;
+    let name = future(alloc, 0)?;
     let mut places: usize = 0;
     for number in 0..size {
         places = places.saturating_add(store.holders_of(&name).len());

@@ -2,7 +2,6 @@
 #![tactic(auto)]
 
 mod cells;
-mod closed_store;
 mod futures;
 mod printed;
 mod shapes;
@@ -15,14 +14,14 @@ use anyhow::{Result, bail};
 use std::alloc::Global;
 use std::env;
 
-fn count(alloc: Global, task: &str, what: &str, number: u32) -> Result<u128> {
+fn count(alloc: Global, task: &str, what: &str, number: u32) -> Result<usize> {
     Ok(match (task, what) {
         ("pack", "chain") => pack_all(alloc, Shape::Chain, number)?,
         ("pack", "wide") => pack_all(alloc, Shape::Wide, number)?,
         ("pack", "grid") => pack_all(alloc, Shape::Grid, number)?,
-        ("part", size) => pack_part(alloc, size.parse()?, number)? as u128,
-        ("futures", "many") => many_futures(alloc, number)? as u128,
-        ("futures", "one") => one_future(alloc, number)? as u128,
+        ("part", size) => pack_part(alloc, size.parse()?, number)?,
+        ("futures", "many") => many_futures(alloc, number)?,
+        ("futures", "one") => one_future(alloc, number)?,
         ("cells", "numbers") => filled(alloc, Kind::Number, number)?.len(),
         ("cells", "objects") => filled(alloc, Kind::Object, number)?.len(),
         ("cells", "futures") => filled(alloc, Kind::Future, number)?.len(),

@@ -1,12 +1,14 @@
 //! Stores of some shapes, and what is packed of them.
 
-use crate::cells::{field, one_field};
-use crate::closed_store::ClosedStore;
-use anyhow::Result;
-use asp_model::{Label, Place};
+use crate::cells::object;
+use anyhow::{Result, ensure};
+use closed_stores::{FIELD, FIELDS, code, is_closed_store};
+use coded_cells::{Cell, Place};
+use coded_copy::{pack, unpack};
+use coded_store::Store;
 use std::alloc::{AllocError, Global};
 
-/// How the cells of a store hang together.
+/// How the cells of a store hang together. What leads to all of them stands last.
 #[derive(Clone, Copy)]
 pub enum Shape {
     /// Objects that each lead to the next one.
@@ -20,65 +22,78 @@ pub enum Shape {
 /// How many cells the part has that is packed again and again.
 const PART: Place = 10;
 
-fn chain(alloc: Global, size: u32) -> Result<(ClosedStore, Place)> {
-    let mut store = ClosedStore::new(alloc);
-    let mut last = store.add_number(0)?;
+fn chain(alloc: Global, size: u32) -> Result<Store, AllocError> {
+    let mut store = Store::new(alloc);
+    let mut last = store.add(Cell::Number(0))?;
     for _ in 1..size {
-        last = store.add_object(alloc, one_field(alloc, last)?)?;
+        last = store.add(object(alloc, FIELD, vec![in alloc; last]?)?)?;
     }
-    Ok((store, last))
+    Ok(store)
 }
 
-fn wide(alloc: Global, size: u32) -> Result<(ClosedStore, Place)> {
-    let mut store = ClosedStore::new(alloc);
-    let mut fields = Vec::new(alloc);
-    for number in 0..size / 2 {
-        let leaf = store.add_number(0)?;
-        let part = store.add_object(alloc, one_field(alloc, leaf)?)?;
-        fields.push(field(alloc, number, part)?)?;
+fn wide(alloc: Global, size: u32) -> Result<Store, AllocError> {
+    let mut store = Store::new(alloc);
+    let mut parts = Vec::new(alloc);
+    for _ in 0..size / 2 {
+        let leaf = store.add(Cell::Number(0))?;
+        parts.push(store.add(object(alloc, FIELD, vec![in alloc; leaf]?)?)?)?;
     }
-    let root = store.add_object(alloc, fields)?;
-    Ok((store, root))
+    store.add(object(alloc, FIELDS, parts)?)?;
+    Ok(store)
 }
 
-fn two_fields(alloc: Global, left: Place, right: Place) -> Result<Vec<(Label, Place)>, AllocError> {
-    let mut fields = one_field(alloc, left)?;
-    fields.push(field(alloc, 1, right)?)?;
-    Ok(fields)
-}
-
-fn grid(alloc: Global, size: u32) -> Result<(ClosedStore, Place)> {
-    let mut store = ClosedStore::new(alloc);
-    let mut left = store.add_number(0)?;
-    let mut right = store.add_number(1)?;
+fn grid(alloc: Global, size: u32) -> Result<Store, AllocError> {
+    let mut store = Store::new(alloc);
+    let mut left = store.add(Cell::Number(0))?;
+    let mut right = store.add(Cell::Number(1))?;
     for _ in 1..size / 2 {
-        let next = store.add_object(alloc, two_fields(alloc, left, right)?)?;
-        right = store.add_object(alloc, two_fields(alloc, left, right)?)?;
+        let next = store.add(object(alloc, FIELDS, vec![in alloc; left, right]?)?)?;
+        right = store.add(object(alloc, FIELDS, vec![in alloc; left, right]?)?)?;
         left = next;
     }
-    let root = store.add_object(alloc, two_fields(alloc, left, right)?)?;
-    Ok((store, root))
+    store.add(object(alloc, FIELDS, vec![in alloc; left, right]?)?)?;
+    Ok(store)
+}
+
+fn shaped(alloc: Global, shape: Shape, size: u32) -> Result<Store, AllocError> {
+    match shape {
+        Shape::Chain => chain(alloc, size),
+        Shape::Wide => wide(alloc, size),
+        Shape::Grid => grid(alloc, size),
+    }
+}
+
+// How many fields the objects of a shape have, where some have more than one.
+fn field_count(shape: Shape, size: u32) -> u32 {
+    match shape {
+        Shape::Wide => size / 2,
+        Shape::Chain | Shape::Grid => 2,
+    }
 }
 
 /// Packs all of a store of about so many cells, unpacks it elsewhere, and tells the cells there.
-pub fn pack_all(alloc: Global, shape: Shape, size: u32) -> Result<Place> {
-    let (store, root) = match shape {
-        Shape::Chain => chain(alloc, size)?,
-        Shape::Wide => wide(alloc, size)?,
-        Shape::Grid => grid(alloc, size)?,
-    };
-    let parcel = store.packed(alloc, root)?;
-    let mut other = ClosedStore::new(alloc);
-    other.unpack(alloc, &parcel)?;
+pub fn pack_all(alloc: Global, shape: Shape, size: u32) -> Result<usize> {
+    let code = code(alloc, field_count(shape, size))?;
+    let store = shaped(alloc, shape, size)?;
+    ensure!(is_closed_store(&code, &store), "a place leads nowhere");
+    let root = store.len().saturating_sub(1);
+    ensure!(root < store.len(), "there is no cell to pack");
+    let parcel = pack(alloc, &code, &store, &[root])?;
+    let mut other = Store::new(alloc);
+    unpack(alloc, &mut other, &parcel)?;
     Ok(other.len())
 }
 
 /// Packs a part of a chain so many times, and tells how many cells were packed.
 pub fn pack_part(alloc: Global, size: u32, times: u32) -> Result<usize> {
-    let (store, _) = chain(alloc, size)?;
+    let code = code(alloc, 1)?;
+    let store = chain(alloc, size)?;
+    ensure!(is_closed_store(&code, &store), "a place leads nowhere");
+    ensure!(PART <= store.len(), "there are not so many cells");
     let mut cells: usize = 0;
     for _ in 0..times {
-        cells = cells.saturating_add(store.packed(alloc, PART - 1)?.cells().len());
+        let parcel = pack(alloc, &code, &store, &[PART - 1])?;
+        cells = cells.saturating_add(parcel.cells.len());
     }
     Ok(cells)
 }

@@ -1,23 +1,25 @@
--- The need of a chase that is told without its value, and what operands give by needs.
-use Rattle.std.specs.Prelude.{◌≡◌, ◌↔◌, ℕ, Option, Some, None}
+-- The need of a cell by its code, and what operands give by needs.
+use Rattle.std.specs.Prelude.{◌≡◌, ℕ, List, Option, Some, None}
 use Rattle.std.proofs.Common.{refl, sym, ap, ◌∙◌}
 use Rattle.std.specs.FinMap.{find}
 use Rattle.asp_model.specs.Names.{FutureShape, future_cmp}
-use Rattle.asp_model.specs.Store.{CellShape, Number, Object, Reference, Future, Group, Store}
+use Rattle.asp_model.specs.Store.{CellShape, Number, Object, Reference, Future, Group, Store, cell}
 use Rattle.asp_model.specs.Parcel.{ParcelShape, unpack_at}
 use Rattle.asp_model.specs.Chase.{Values, Chase, Value, Unfilled, Cycle, chase}
 use Rattle.asp_model.specs.Intent.{Reads, Lacks, fetched, operand_ready}
 use Rattle.asp_model.specs.Intent as intent
+use Rattle.program_code.specs.declared.code.Node.{Node}
+use Rattle.coded_cells.specs.Cells.{CodedCell, CodedStore, cell_at}
+use Rattle.coded_cells.specs.Shapes.{cell_of, store_of}
+use Rattle.coded_cells.proofs.CodedLemmas.{cell-store_of}
 use Rattle.chase_laws.proofs.FutureLemmas.{no_some, some_is}
 use Rattle.chase_laws.proofs.ChaseLemmas.{chase_finds}
-use Rattle.future_table.specs.Values.{told}
-use Rattle.wait_need.specs.Needs.{NeedShape, Ready, Fill, Awaits, need_by, need_of, need_told}
+use Rattle.wait_need.specs.Needs.{NeedShape, Ready, Fill, Awaits, need_by, need_of}
 use Rattle.wait_need.specs.Operands.{GivesByNeed, NeedsAreOfOperands}
 
-pub need_is_told : (c : Chase) → need_told (told c) ≡ need_by c
-need_is_told (Value f value) = refl
-need_is_told (Unfilled f) = refl
-need_is_told (Cycle f) = refl
+-- what is at a place needs what the coded cell there stands for
+pub cell_needs : (chases : FutureShape → Chase) (k : List Node) (s : CodedStore) (p : ℕ) (c : CodedCell) → c ≡ cell_at s p → need_of chases (cell_of k c) ≡ need_of chases (cell (store_of k s) p)
+cell_needs chases k s p c e = ap (need_of chases) (ap (cell_of k) e ∙ sym (cell-store_of k s p))
 
 abbrev filled_in : NeedShape → Option FutureShape
 filled_in (Fill f) = Some f

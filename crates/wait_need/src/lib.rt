@@ -9,6 +9,3 @@ mod places;
 pub use kinds::Need;
 pub use operands::needs_are_of_operands;
 pub use places::need;
-
-#[cfg(test)]
-mod tests;

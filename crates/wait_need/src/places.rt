@@ -1,24 +1,33 @@
 //! The need of a cell, by the chase of the future that stands there.
 
-ghost use Rattle.std.specs.Prelude.{◌≡◌, ◌<◌, length};
+ghost use Rattle.std.specs.Prelude.{◌≡◌, ◌<◌, List, length};
 ghost use Rattle.asp_model.specs.Chase.{chase as chase_of};
 ghost use Rattle.asp_model.specs.Store.{cell as cell_at};
+ghost use Rattle.program_code.specs.declared.code.Node.{Node as NodeShape};
+ghost use Rattle.coded_cells.specs.Shapes.{cell_shape, store_of};
 ghost use Rattle.future_table.specs.Values.{chase_shape, values_of};
 ghost use Rattle.wait_need.specs.Needs.{need_of, need_shape, need_told};
 
 use crate::kinds::Need;
-use asp_model::{Cell, Place};
+use coded_cells::{Cell, Place};
+use coded_store::Store;
 use future_table::{Chase, FutureTable};
-use object_store::Store;
 
 /// What the cell at a place needs. It takes no memory.
-#[tactic(auto, using(crate::proofs::NeedLemmas::need_is_told))]
 pub fn need<'a>(store: &'a Store, loc: Place, futures: &'a FutureTable) -> Need<'a>
     requires within { loc < length store.now.cells }
-    ensures need { let chases = chase_of (values_of futures.now) in
-        need_shape result ≡ need_of chases (cell_at store.now.cells loc) }
+    // whatever code the store is of
+    ensures need { (k : List NodeShape) → let chases = chase_of (values_of futures.now) in
+        need_shape result ≡ need_of chases (cell_at (store_of k store.now.cells) loc) }
 {
-    match store.cell(loc) {
+    of_cell(store.cell(loc), futures)
+}
+
+fn of_cell<'a>(cell: &'a Cell, futures: &'a FutureTable) -> Need<'a>
+    ensures need { (k : List NodeShape) → let chases = chase_of (values_of futures.now) in
+        need_shape result ≡ need_of chases (cell_shape k cell.now) }
+{
+    match cell {
         Cell::Future(future) => at_end(futures.chase(future)),
         _ => Need::Ready,
     }

@@ -1,6 +1,6 @@
-use Rattle.std.proofs.Common.{rules, ◌≡◌, ◌∙◌, ◌<◌, Some, length, sym, ap, subst, refl, arith}
+use Rattle.std.proofs.Common.{rules, ◌≡◌, ◌∙◌, ◌<◌, Some, length, sym, ap, subst, refl}
 use Rattle.future_table.specs.declared.links.Link.{Link}
-use Rattle.future_table.specs.Links.{IsAsAt, IsHead, LeadUp, higher, link_at, no_link}
+use Rattle.future_table.specs.Links.{link_at}
 use Rattle.future_table.proofs.LinkLemmas.{fewer_higher}
 use Rattle.future_table.proofs.links.head_of.Goals as goal
 

@@ -1,10 +1,10 @@
-use Rattle.std.proofs.Common.{◌≡◌, ◌∙◌, ◌<◌, List, Some, length, map, sym, ap, subst, arith}
+use Rattle.std.proofs.Common.{◌≡◌, ◌∙◌, ◌<◌, List, Some, length, sym, ap, subst, arith}
 use Rattle.std.proofs.lemmas.List.{get_or_read}
 use Rattle.asp_model.specs.Chase.{chase}
 use Rattle.asp_model.specs.Shapes.{future_shape}
 use Rattle.future_table.specs.declared.links.Link.{Link}
 use Rattle.future_table.specs.Values.{told}
-use Rattle.future_table.specs.Numbers.{named, number_of}
+use Rattle.future_table.specs.Numbers.{number_of}
 use Rattle.future_table.specs.Links.{IsAsAt, IsHead, LeadUp, link_at, no_link}
 use Rattle.future_table.specs.Walks.{names_in, values_in}
 use Rattle.future_table.specs.Components.{chase_at, end_told}

@@ -1,18 +1,19 @@
-use Rattle.std.proofs.Common.{◌≡◌, ◌∙◌, ◌<◌, ◌≤◌, List, length, map, sym, ap, subst, arith}
+use Rattle.std.proofs.Common.{◌≡◌, ◌∙◌, ◌<◌, List, length, sym, ap, subst, arith}
 use Rattle.std.specs.FinMap.{put}
 use Rattle.asp_model.specs.Names.{future_cmp}
 use Rattle.asp_model.specs.Chase.{Values, Goes, lead, chase}
-use Rattle.asp_model.specs.Shapes.{future_shape, parcel_shape}
+use Rattle.asp_model.specs.Shapes.{future_shape}
+use Rattle.coded_cells.specs.Shapes.{parcel_shape}
 use Rattle.chase_laws.proofs.FilledLemmas.{lead_there}
 use Rattle.std.proofs.lemmas.List.{with_items_is}
 use Rattle.future_table.specs.declared.links.Link.{Link}
 use Rattle.future_table.specs.declared.links.End.TheVariants as ending
 use Rattle.future_table.specs.Links.{IsAsAt, IsHead, LeadUp, link_at}
-use Rattle.future_table.specs.Values.{values_of}
+use Rattle.future_table.specs.Values.{StayOfCode, StayOfCode, values_of}
 use Rattle.future_table.specs.Walks.{names_in, values_in}
 use Rattle.future_table.specs.Components.{AreComponents, chase_at, joined, with_end}
 use Rattle.future_table.proofs.NumberLemmas.{named_number}
-use Rattle.future_table.proofs.TableLemmas.{put_shape, sorted_values, values_count}
+use Rattle.future_table.proofs.TableLemmas.{put_shape, sorted_values, values_count, stays_of_code}
 use Rattle.future_table.proofs.FillingLemmas.{closed_components, joined_after}
 use Rattle.future_table.proofs.walks.fill_going.Goals as goal
 
@@ -110,3 +111,9 @@ returns-else-first-second-clause-whole c =
     let size : length c.join.new.links ≡ w.links.len = omega (arith, ap (λ (ls : List Link). length ls) now, comp.count, c.requires.whole.count, w.links.ok.0) in
     subst (λ (ls : List Link). AreComponents (values_of c.insert.new.self.entries) names ls) (sym (with_items_is w.links c.join.new.links size ∙ now))
     (subst (λ (us : Values). AreComponents us names (joined names links a b)) (sym values) comp)
+
+pub returns-then-first-second-clause-code : goal.returns-then-first-second-clause-code
+returns-then-first-second-clause-code c = subst (StayOfCode c.args.value c.args.walks.now.filled.entries) (sym c.in_ok-insert.ensures.entries) (stays_of_code c.args.name c.args.value c.args.walks.now.filled.entries)
+
+pub returns-else-first-second-clause-code : goal.returns-else-first-second-clause-code
+returns-else-first-second-clause-code c = subst (StayOfCode c.args.value c.args.walks.now.filled.entries) (sym c.in_ok-insert.ensures.entries) (stays_of_code c.args.name c.args.value c.args.walks.now.filled.entries)

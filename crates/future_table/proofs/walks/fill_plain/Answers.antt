@@ -1,19 +1,19 @@
-use Rattle.std.proofs.Common.{◌≡◌, ◌∙◌, ◌<◌, List, length, map, sym, ap, subst, arith}
+use Rattle.std.proofs.Common.{◌≡◌, ◌∙◌, ◌<◌, List, length, sym, ap, subst, arith}
 use Rattle.asp_model.specs.Names.{future_cmp}
-use Rattle.asp_model.specs.Parcel.{ParcelShape}
-use Rattle.asp_model.specs.Chase.{Values, chase}
-use Rattle.asp_model.specs.Shapes.{future_shape, parcel_shape}
+use Rattle.asp_model.specs.Chase.{Values}
+use Rattle.asp_model.specs.Shapes.{future_shape}
+use Rattle.coded_cells.specs.Shapes.{parcel_shape}
 use Rattle.std.specs.FinMap.{put}
 use Rattle.chase_laws.proofs.FilledLemmas.{lead_there}
 use Rattle.std.proofs.lemmas.List.{with_items_is}
 use Rattle.future_table.specs.declared.links.Link.{Link}
 use Rattle.future_table.specs.declared.links.End.TheVariants as ending
 use Rattle.future_table.specs.Links.{IsAsAt, IsHead, LeadUp}
-use Rattle.future_table.specs.Values.{values_of}
+use Rattle.future_table.specs.Values.{StayOfCode, values_of}
 use Rattle.future_table.specs.Walks.{names_in, values_in}
 use Rattle.future_table.specs.Components.{AreComponents, chase_at, with_end}
 use Rattle.future_table.proofs.NumberLemmas.{named_number}
-use Rattle.future_table.proofs.TableLemmas.{put_shape, sorted_values}
+use Rattle.future_table.proofs.TableLemmas.{put_shape, sorted_values, stays_of_code}
 use Rattle.future_table.proofs.FillingLemmas.{plain_components}
 use Rattle.future_table.proofs.walks.fill_plain.Goals as goal
 
@@ -48,3 +48,6 @@ returns-clause-whole c =
     let size : length c.end_so.new.links ≡ w.links.len = omega (arith, ap (λ (ls : List Link). length ls) ended, comp.count, c.requires.whole.count, w.links.ok.0) in
     subst (λ (ls : List Link). AreComponents (values_of c.insert.new.self.entries) names ls) (sym (with_items_is w.links c.end_so.new.links size ∙ ended))
     (subst (λ (us : Values). AreComponents us names (with_end links a (ending.Value at))) (sym values) comp)
+
+pub returns-clause-code : goal.returns-clause-code
+returns-clause-code c = subst (StayOfCode c.args.value c.args.walks.now.filled.entries) (sym c.in_ok-insert.ensures.entries) (stays_of_code c.args.name c.args.value c.args.walks.now.filled.entries)

@@ -1,5 +1,4 @@
 use Rattle.std.proofs.Common.{◌≡◌, ◌∙◌, ◌++◌, ◌∷◌, [], List, Some, length, map, sym, ap, subst, arith}
-use Rattle.std.proofs.lemmas.List.{length-map}
 use Rattle.asp_model.specs.Names.{FutureShape}
 use Rattle.asp_model.specs.Shapes.{future_shape}
 use Rattle.future_table.specs.declared.links.Link.{Link}

@@ -7,25 +7,21 @@ use Rattle.asp_model.specs.Configuration.{start}
 use Rattle.asp_model.specs.Outcome.{outcome_of}
 use Rattle.asp_model.specs.Replay.{CountsShape, IsLeastDiverging, count_in, replay, steps_from, total}
 use Rattle.asp_model.specs.Shapes.{outcome_shape, tree_of}
-use Rattle.asp_check.proofs.PlaceLemmas.{readable_has_no_places}
 use Rattle.schedules.specs.Divergence.{AreInOrder, divergence_of}
 use Rattle.schedules.proofs.DivergenceLemmas.{diverges_where_first, fits_where_none_differs}
 use Rattle.replay_one.specs.Rows.{list_shape}
 use Rattle.replay_one.proofs.DifferenceLemmas.{difference_in, divergence_is, in_order, names_of_lists}
 use Rattle.replay_one.proofs.replays.replay.Goals as goal
 
-pub run_term-requires-clause-bare : goal.run_term-requires-clause-bare
-run_term-requires-clause-bare c = readable_has_no_places (tree_of c.program.result.now.root) c.program.ensures.readable
-
 pub sum_of-sum-requires : goal.sum_of-sum-requires
 sum_of-sum-requires c = record { within = subst (λ (cs : CountsShape). total cs ≤ MOST_REDUCTIONS) (sym c.deref.ensures.value) c.requires.replayable.within }
 
-pub run_term-requires-clause-ascending : goal.run_term-requires-clause-ascending
-run_term-requires-clause-ascending c =
+pub run_within-requires : goal.run_within-requires
+run_within-requires c =
     let ls : List (Name × Vec Name) = c.args.lists.now.entries.items in
     let cs : CountsShape = c.args.counts.now.entries.items in
     let r = c.requires.replayable.ordered in
-    (in_order ls (map list_shape ls) (sym (names_of_lists ls)) r.ascending, in_order cs (map list_shape ls) (sym r.names) r.ascending)
+    record { ascending = (in_order ls (map list_shape ls) (sym (names_of_lists ls)) r.ascending, in_order cs (map list_shape ls) (sym r.names) r.ascending) }
 
 pub returns-in-None-clause-fits : goal.returns-in-None-clause-fits
 returns-in-None-clause-fits c =
@@ -33,8 +29,7 @@ returns-in-None-clause-fits c =
     let cs : CountsShape = c.args.counts.now.entries.items in
     let t : Tree = tree_of c.args.program.now.program.root in
     let sum : c.sum_of-sum.result ≡ total cs = c.sum_of-sum.ensures ∙ ap total c.deref.ensures.value in
-    let root = ap (λ p. tree_of p.root) c.program.ensures.program in
-    let outcome : outcome_shape c.in_ok-outcome.outcome ≡ outcome_of (replay t (map list_shape ls) cs) = c.in_ok-outcome.ensures.outcome ∙ (λ i. outcome_of (steps_from (sum i) (Some (map list_shape ls)) (count_in cs) (start (root i)))) in
+    let outcome : outcome_shape c.in_ok-outcome.outcome ≡ outcome_of (replay t (map list_shape ls) cs) = c.in_ok-outcome.ensures.outcome ∙ (λ i. outcome_of (steps_from (sum i) (Some (map list_shape ls)) (count_in cs) (start t))) in
     let order : AreInOrder (map list_shape ls) cs = c.requires.replayable.ordered in
     let differs : difference_in c.deref-2.result.now c.deref-3.result.now c.deref-4.result.now ≡ difference_in c.in_ok-outcome.outcome.activities.items ls cs = λ i. difference_in (c.deref-2.ensures.value i) (c.deref-3.ensures.value i) (c.deref-4.ensures.value i) in
     let none : divergence_of t (map list_shape ls) cs ≡ None = divergence_is t c.in_ok-outcome.outcome ls cs outcome ∙ sym (c.in-None.ensures ∙ differs) in
@@ -46,8 +41,7 @@ returns-in_ok-copy-in-Some-clause-diverged c =
     let cs : CountsShape = c.args.counts.now.entries.items in
     let t : Tree = tree_of c.args.program.now.program.root in
     let sum : c.sum_of-sum.result ≡ total cs = c.sum_of-sum.ensures ∙ ap total c.deref.ensures.value in
-    let root = ap (λ p. tree_of p.root) c.program.ensures.program in
-    let outcome : outcome_shape c.in_ok-outcome.outcome ≡ outcome_of (replay t (map list_shape ls) cs) = c.in_ok-outcome.ensures.outcome ∙ (λ i. outcome_of (steps_from (sum i) (Some (map list_shape ls)) (count_in cs) (start (root i)))) in
+    let outcome : outcome_shape c.in_ok-outcome.outcome ≡ outcome_of (replay t (map list_shape ls) cs) = c.in_ok-outcome.ensures.outcome ∙ (λ i. outcome_of (steps_from (sum i) (Some (map list_shape ls)) (count_in cs) (start t))) in
     let order : AreInOrder (map list_shape ls) cs = c.requires.replayable.ordered in
     let differs : difference_in c.deref-2.result.now c.deref-3.result.now c.deref-4.result.now ≡ difference_in c.in_ok-outcome.outcome.activities.items ls cs = λ i. difference_in (c.deref-2.ensures.value i) (c.deref-3.ensures.value i) (c.deref-4.ensures.value i) in
     let some : divergence_of t (map list_shape ls) cs ≡ Some c.in-Some.name.now = divergence_is t c.in_ok-outcome.outcome ls cs outcome ∙ sym (c.in-Some.ensures ∙ differs) in

@@ -1,14 +1,15 @@
-use Rattle.std.proofs.Common.{◌≡◌, ◌<◌, Some, sym, ◌∙◌, arith}
+use Rattle.std.proofs.Common.{◌≡◌, ◌<◌, Some, sym, subst, ◌∙◌, arith}
 use Rattle.asp_model.specs.Configuration.{requests_of}
 use Rattle.asp_model.specs.Intent.{Done, Serving, Faulted}
 use Rattle.asp_model.specs.Shapes.{fault_shape, future_shape}
-use Rattle.plain_activity.specs.declared.activity.Activity.{Activity}
-use Rattle.plain_activity.specs.declared.outlook.Outlook.TheVariants as outlook
+use Rattle.actor.specs.declared.actor.Actor.{Actor}
+use Rattle.asp_model.specs.Step.{intent_in}
+use Rattle.actor.specs.Outlook.{IsOutlook}
 use Rattle.replay_one.specs.declared.population.Population.{Population}
 use Rattle.replay_one.specs.Bounds.{count_within, lists_within}
 use Rattle.replay_one.specs.Population.{found_in}
 use Rattle.replay_one.proofs.LookLemmas.{absent_leaves, awaits_intent, awaits_rests, counted_leaves, done_leaves, done_intent, faulted_intent, held_leaves, intended, sends_now, serving_intent, steps_now, target_there}
-use Rattle.replay_one.proofs.PopulationLemmas.{found_stands, state_closed, values_closed}
+use Rattle.replay_one.proofs.PopulationLemmas.{found_stands, actor_closed, values_closed}
 use Rattle.replay_one.proofs.round.look_at.Goals as goal
 
 pub returns-in_default : goal.returns-in_default
@@ -17,7 +18,7 @@ returns-in_default c = record { look = λ program k h. absent_leaves (lists_with
 pub outlook-requires-clause-closed : goal.outlook-requires-clause-closed
 outlook-requires-clause-closed c =
     let r = c.requires.reached in
-    state_closed c.args.population.now r.0 r.1 c.args.name.now c.in-Some.activity.now r.2 (sym c.in-Some.ensures.value)
+    actor_closed c.args.population.now r.0 r.1 c.args.name.now c.in-Some.actor.now r.2 (sym c.in-Some.ensures.value)
 
 pub outlook-requires-clause-values : goal.outlook-requires-clause-values
 outlook-requires-clause-values c =
@@ -29,7 +30,7 @@ returns-then-count c =
     let p : Population = c.args.population.now in
     let b = c.args.bounds.now in
     let n = c.args.name.now in
-    let x : Activity = c.in-Some.activity.now in
+    let x : Actor = c.in-Some.actor.now in
     let is : found_in p n ≡ Some x = sym c.in-Some.ensures.value in
     record {
       look = λ program k h.
@@ -43,14 +44,14 @@ returns-in-Steps c =
     let p : Population = c.args.population.now in
     let b = c.args.bounds.now in
     let n = c.args.name.now in
-    let x : Activity = c.in-Some.activity.now in
+    let x : Actor = c.in-Some.actor.now in
     let is : found_in p n ≡ Some x = sym c.in-Some.ensures.value in
     record {
       look = λ program k h.
           let s = found_stands p k n x h.population is in
           let count = c.count.ensures.count s.0 (requests_of k n) s.2 in
           let below : s.0.reductions < count_within b n = omega (arith, c.if-count.false, count, c.count-2.ensures.count) in
-          steps_now (lists_within b) (count_within b) k n s.0 s.1 below (intended p k n x outlook.Steps h.population is c.in-Steps.ensures.outlook);
+          steps_now (lists_within b) (count_within b) k n s.0 s.1 below (subst (IsOutlook (intent_in k n)) c.in-Steps.is (intended p k n x c.in_ok-outlook.outlook h.population is c.in_ok-outlook.ensures.outlook));
     }
 
 pub returns-then-may_come : goal.returns-then-may_come
@@ -58,7 +59,7 @@ returns-then-may_come c =
     let p : Population = c.args.population.now in
     let b = c.args.bounds.now in
     let n = c.args.name.now in
-    let x : Activity = c.in-Some.activity.now in
+    let x : Actor = c.in-Some.actor.now in
     let is : found_in p n ≡ Some x = sym c.in-Some.ensures.value in
     record {
       look = λ program k h.
@@ -66,7 +67,7 @@ returns-then-may_come c =
           let count = c.count.ensures.count s.0 (requests_of k n) s.2 in
           let below : s.0.reductions < count_within b n = omega (arith, c.if-count.false, count, c.count-2.ensures.count) in
           let to = c.in-Sends.to in
-          let o = intended p k n x (outlook.Sends to) h.population is c.in-Sends.ensures.outlook in
+          let o = subst (IsOutlook (intent_in k n)) c.in-Sends.is (intended p k n x c.in_ok-outlook.outlook h.population is c.in_ok-outlook.ensures.outlook) in
           let round = sym (c.may_come.ensures k h.population (target_there program k n to h.reached o)) ∙ c.if-may_come.true in
           sends_now (lists_within b) (count_within b) program k n s.0 to h.reached s.1 below o round;
     }
@@ -76,12 +77,12 @@ returns-else-may_come c =
     let p : Population = c.args.population.now in
     let b = c.args.bounds.now in
     let n = c.args.name.now in
-    let x : Activity = c.in-Some.activity.now in
+    let x : Actor = c.in-Some.actor.now in
     let is : found_in p n ≡ Some x = sym c.in-Some.ensures.value in
     record {
       look = λ program k h.
           let to = c.in-Sends.to in
-          let o = intended p k n x (outlook.Sends to) h.population is c.in-Sends.ensures.outlook in
+          let o = subst (IsOutlook (intent_in k n)) c.in-Sends.is (intended p k n x c.in_ok-outlook.outlook h.population is c.in_ok-outlook.ensures.outlook) in
           let round = sym (c.may_come.ensures k h.population (target_there program k n to h.reached o)) ∙ c.if-may_come.false in
           held_leaves (lists_within b) (count_within b) program k n to h.reached o round;
     }
@@ -91,12 +92,12 @@ returns-in-Awaits c =
     let p : Population = c.args.population.now in
     let b = c.args.bounds.now in
     let n = c.args.name.now in
-    let x : Activity = c.in-Some.activity.now in
+    let x : Actor = c.in-Some.actor.now in
     let is : found_in p n ≡ Some x = sym c.in-Some.ensures.value in
     record {
       look = λ program k h.
           let f = c.in-Awaits.future in
-          awaits_rests (lists_within b) (count_within b) k n (future_shape f.now) (awaits_intent _ f (intended p k n x (outlook.Awaits f) h.population is c.in-Awaits.ensures.outlook));
+          awaits_rests (lists_within b) (count_within b) k n (future_shape f.now) (awaits_intent _ f (subst (IsOutlook (intent_in k n)) c.in-Awaits.is (intended p k n x c.in_ok-outlook.outlook h.population is c.in_ok-outlook.ensures.outlook)));
     }
 
 pub returns-in-Faulted : goal.returns-in-Faulted
@@ -104,12 +105,12 @@ returns-in-Faulted c =
     let p : Population = c.args.population.now in
     let b = c.args.bounds.now in
     let n = c.args.name.now in
-    let x : Activity = c.in-Some.activity.now in
+    let x : Actor = c.in-Some.actor.now in
     let is : found_in p n ≡ Some x = sym c.in-Some.ensures.value in
     record {
       look = λ program k h.
           let y = c.in-Faulted.field-0 in
-          done_leaves (lists_within b) (count_within b) k n (Faulted (fault_shape y)) (faulted_intent _ y (intended p k n x (outlook.Faulted y) h.population is c.in-Faulted.ensures.outlook)) (λ f e. cc);
+          done_leaves (lists_within b) (count_within b) k n (Faulted (fault_shape y)) (faulted_intent _ y (subst (IsOutlook (intent_in k n)) c.in-Faulted.is (intended p k n x c.in_ok-outlook.outlook h.population is c.in_ok-outlook.ensures.outlook))) (λ f e. cc);
     }
 
 pub returns-in-Serving : goal.returns-in-Serving
@@ -117,11 +118,11 @@ returns-in-Serving c =
     let p : Population = c.args.population.now in
     let b = c.args.bounds.now in
     let n = c.args.name.now in
-    let x : Activity = c.in-Some.activity.now in
+    let x : Actor = c.in-Some.actor.now in
     let is : found_in p n ≡ Some x = sym c.in-Some.ensures.value in
     record {
       look = λ program k h.
-          done_leaves (lists_within b) (count_within b) k n Serving (serving_intent _ (intended p k n x outlook.Serving h.population is c.in-Serving.ensures.outlook)) (λ f e. cc);
+          done_leaves (lists_within b) (count_within b) k n Serving (serving_intent _ (subst (IsOutlook (intent_in k n)) c.in-Serving.is (intended p k n x c.in_ok-outlook.outlook h.population is c.in_ok-outlook.ensures.outlook))) (λ f e. cc);
     }
 
 pub returns-in-Done : goal.returns-in-Done
@@ -129,9 +130,9 @@ returns-in-Done c =
     let p : Population = c.args.population.now in
     let b = c.args.bounds.now in
     let n = c.args.name.now in
-    let x : Activity = c.in-Some.activity.now in
+    let x : Actor = c.in-Some.actor.now in
     let is : found_in p n ≡ Some x = sym c.in-Some.ensures.value in
     record {
       look = λ program k h.
-          done_leaves (lists_within b) (count_within b) k n Done (done_intent _ (intended p k n x outlook.Done h.population is c.in-Done.ensures.outlook)) (λ f e. cc);
+          done_leaves (lists_within b) (count_within b) k n Done (done_intent _ (subst (IsOutlook (intent_in k n)) c.in-Done.is (intended p k n x c.in_ok-outlook.outlook h.population is c.in_ok-outlook.ensures.outlook))) (λ f e. cc);
     }

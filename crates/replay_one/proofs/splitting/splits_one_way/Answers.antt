@@ -1,4 +1,4 @@
-use Rattle.replay_one.proofs.SplitLemmas.{splits_one_way}
+use Rattle.code_laws.proofs.SplitLemmas.{splits_one_way}
 use Rattle.replay_one.proofs.splitting.splits_one_way.Goals as goal
 
 pub returns : goal.returns

@@ -1,4 +1,4 @@
-use Rattle.std.proofs.Common.{◌≡◌, ◌∙◌, ◌∷◌, ◌++◌, [], None, Some, cond, List, length, map, sym, ap, subst, rules}
+use Rattle.std.proofs.Common.{◌≡◌, ◌∙◌, ◌∷◌, ◌++◌, [], None, Some, cond, length, map, sym, subst, rules}
 use Rattle.std.specs.Map.{lookup}
 use Rattle.std.specs.BTreeMap.{is_at}
 use Rattle.asp_model.specs.Names.{same_future}

@@ -1,4 +1,4 @@
-use Rattle.std.proofs.Common.{◌∙◌, map, sym, ap, subst, ◌<◌, length, rules}
+use Rattle.std.proofs.Common.{◌∙◌, map, sym, ap, subst, ◌<◌, length}
 use Rattle.asp_model.specs.Shapes.{future_shape}
 use Rattle.future_table.specs.Numbers.{named}
 use Rattle.future_table.proofs.NumberLemmas.{named_map}

@@ -1,5 +1,5 @@
 use Rattle.std.proofs.Common.{sym, refl, subst}
-use Rattle.plain_activity.specs.Activity.{Stands}
+use Rattle.actor.specs.Actors.{Stands}
 use Rattle.replay_one.specs.declared.population.Population.{Population}
 use Rattle.replay_one.proofs.PopulationLemmas.{changed, on_ok}
 use Rattle.replay_one.proofs.population.Population.insert.Goals as goal
@@ -7,4 +7,4 @@ use Rattle.replay_one.proofs.population.Population.insert.Goals as goal
 pub returns : goal.returns
 returns c =
     let p : Population = c.args.self.now in
-    record { made = λ k a h none stands. on_ok c.put.result _ _ (λ updates. changed p (record p { activities = c.put.new.map }) k c.args.name c.args.activity a h updates refl (subst (Stands c.args.activity a) (sym none) stands)) c.put.ensures.updates }
+    record { made = λ k a h none stands code. on_ok c.put.result _ _ (λ updates. (changed p (record p { activities = c.put.new.map }) k c.args.name c.args.actor a h updates refl (subst (Stands c.args.actor a) (sym none) stands) code).0) c.put.ensures.updates }

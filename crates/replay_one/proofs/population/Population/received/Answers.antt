@@ -6,7 +6,7 @@ use Rattle.replay_one.proofs.population.Population.received.Goals as goal
 pub returns-in-Some : goal.returns-in-Some
 returns-in-Some c = record {
   received = λ k h there.
-      let s = found_stands c.args.self.now k c.args.name.now c.in-Some.activity.now h (sym c.in-Some.ensures.value) in
+      let s = found_stands c.args.self.now k c.args.name.now c.in-Some.actor.now h (sym c.in-Some.ensures.value) in
       c.received.ensures.received s.0 (requests_of k c.args.name.now) s.2;
 }
 

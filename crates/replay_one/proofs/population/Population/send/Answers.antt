@@ -1,7 +1,7 @@
-use Rattle.std.proofs.Common.{◌≡◌, Some, is_some, sym, ap, refl}
+use Rattle.std.proofs.Common.{◌≡◌, Some, is_some, sym, ap, refl, ◌∙◌}
 use Rattle.asp_model.specs.Configuration.{requests_of}
-use Rattle.asp_model.specs.Shapes.{request_shape}
-use Rattle.plain_activity.specs.declared.activity.Activity.{Activity}
+use Rattle.request_queue.specs.Requests.{request_shape}
+use Rattle.actor.specs.declared.actor.Actor.{Actor}
 use Rattle.replay_one.specs.declared.population.Population.{Population}
 use Rattle.replay_one.specs.Population.{found_in}
 use Rattle.replay_one.proofs.PopulationLemmas.{found_stands, nobody_there, on_ok, received}
@@ -11,14 +11,14 @@ pub returns-in-Some : goal.returns-in-Some
 returns-in-Some c =
     let p : Population = c.args.self.now in
     let to = c.args.to.now in
-    let x : Activity = c.in-Some.activity.now in
-    let new : Activity = c.receive.new.self in
+    let x : Actor = c.in-Some.actor.now in
+    let new : Actor = c.receive.new.self in
     let is : found_in p to ≡ Some x = sym c.in-Some.ensures.value in
     let updates = (c.get_mut.follows.holds new).3 (ap is_some is) in
     record {
       received = λ k h there.
           let s = found_stands p k to x h is in
-          on_ok c.receive.result _ _ (λ stands. received p (record p { activities = c.get_mut.follows.lender new }) k to new (request_shape c.args.request) s.0 h updates refl s.1 stands) (c.receive.ensures.stands s.0 (requests_of k to) s.2);
+          on_ok c.receive.result _ _ (λ stands. received p (record p { activities = c.get_mut.follows.lender new }) k to new (request_shape c.args.request) s.0 h updates refl s.1 stands (c.receive.ensures.code ∙ h.actors to x is)) (c.receive.ensures.stands s.0 (requests_of k to) s.2);
     }
 
 pub returns-in-None : goal.returns-in-None

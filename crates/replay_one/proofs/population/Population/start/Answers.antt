@@ -1,16 +1,18 @@
-use Rattle.std.proofs.Common.{◌∷◌, [], refl, subst}
+use Rattle.std.proofs.Common.{◌∙◌, ◌∷◌, [], refl, subst, sym}
+use Rattle.std.specs.Arc.{arc_value}
 use Rattle.asp_model.specs.Names.{Name}
 use Rattle.asp_model.specs.Configuration.{begun}
-use Rattle.asp_model.specs.Shapes.{tree_of}
 use Rattle.asp_model.specs.Store.{Object}
 use Rattle.replay_one.specs.declared.population.Population.{Population}
-use Rattle.replay_one.specs.Population.{IsPopulation, with_activity}
+use Rattle.replay_one.specs.Population.{IsPopulation, term_of, with_activity}
 use Rattle.replay_one.proofs.PopulationLemmas.{nobody_yet, nothing_there}
 use Rattle.replay_one.proofs.population.Population.start.Goals as goal
 
 pub returns : goal.returns
 returns c =
-    let first = begun (tree_of c.args.program) (Object [] [] ∷ []) in
+    let k = arc_value c.args.code in
+    let first = begun (term_of k) (Object [] [] ∷ []) in
     let p : Population = record { activities = c.new.result; futures = c.new-2.result } in
-    let made = c.in_ok-insert.ensures.made nothing_there first (nobody_yet p c.new.ensures.empty c.new-2.ensures.values) refl c.in_ok-main.ensures.stands in
+    let nobody = nobody_yet k p c.new.ensures.empty c.new-2.ensures.values in
+    let made = c.in_ok-insert.ensures.made nothing_there first nobody.0 refl c.in_ok-main.ensures.stands (c.in_ok-main.ensures.code ∙ sym nobody.1) in
     record { population = subst (λ (n : Name). IsPopulation c.insert.new.self (with_activity n first nothing_there)) c.in_ok-name.ensures.name made }

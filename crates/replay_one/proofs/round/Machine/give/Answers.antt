@@ -1,14 +1,14 @@
 use Rattle.std.proofs.Common.{◌≡◌, ◌∙◌, true, None, sym, ap, subst}
 use Rattle.asp_model.specs.Names.{Name}
 use Rattle.asp_model.specs.Configuration.{Configuration}
-use Rattle.asp_model.specs.Shapes.{request_shape}
+use Rattle.request_queue.specs.Requests.{request_shape}
 use Rattle.asp_model.specs.Step.{with_effect}
-use Rattle.plain_activity.specs.declared.act.Given.TheVariants as given
+use Rattle.actor.specs.declared.act.Given.TheVariants as given
 use Rattle.schedules.specs.Schedules.{IsNextIn}
 use Rattle.replay_one.specs.declared.population.Population.{Population}
 use Rattle.replay_one.specs.declared.schedule.Schedule.{Schedule}
 use Rattle.replay_one.specs.Bounds.{lists_within}
-use Rattle.replay_one.specs.Population.{IsGiving, IsPopulation, with_activity, with_request}
+use Rattle.replay_one.specs.Population.{AreActorsOf, IsGiving, IsPopulation, with_activity, with_request}
 use Rattle.replay_one.specs.Schedule.{IsMoreReady, ready_in}
 use Rattle.replay_one.proofs.GiveLemmas.{filled_handed, filled_is, filled_new, filled_root, made_alone, made_given, made_handed, made_population, more_twice, nothing_handed, nothing_population, sent_handed, sent_is, sent_there}
 use Rattle.replay_one.proofs.PopulationLemmas.{any_way, if_ok_with, on_ok}
@@ -29,13 +29,13 @@ returns-in_ok-wake-in-Made c =
     let q : Population = c.insert.new.self in
     let n = c.args.name.now in
     let m : Name = c.in-Made.made in
-    let x = c.in-Made.activity in
+    let x = c.in-Made.actor in
     let woken : ready_in c.wake.new.self m ≡ true = ap (ready_in c.wake.new.self) (sym c.in_ok-copy-in-Made.ensures.name) ∙ c.in_ok-wake-in-Made.ensures.ready in
     record {
       population = λ program k e h.
           let g : IsGiving p n (given.Made m x) program k e = subst (λ g. IsGiving p n g program k e) c.in-Made.is h in
           let b = made_given p n program k e m x g in
-          on_ok c.insert.result _ _ (made_population p n program k e q m x g) (c.insert.ensures.made (with_activity n e.own k) b.0 g.population (made_alone p n program k e m x g) b.2);
+          on_ok c.insert.result _ _ (made_population p n program k e q m x g) (c.insert.ensures.made (with_activity n e.own k) b.0 g.here.population (made_alone p n program k e m x g) b.2 g.here.coded);
       handed_on = λ program k e h. any_way c.insert.result _ (made_handed p n program k e (lists_within c.args.bounds.now) c.args.self.now.schedule c.wake.new.self m x (subst (λ g. IsGiving p n g program k e) c.in-Made.is h) c.in_ok-wake-in-Made.ensures.more woken);
     }
 
@@ -53,15 +53,23 @@ returns-in_ok-wake_next-in-Sent c =
     record {
       population = λ program k e h.
           let g : IsGiving p n (given.Sent to r) program k e = subst (λ g. IsGiving p n g program k e) c.in-Sent.is h in
-          any_way c.wake-in-Sent.result _ (subst (IsPopulation q) (sent_is p n program k e to r g) (c.in_ok-send-in-Sent.ensures.received (with_activity n e.own k) g.population (sent_there p n program k e to r g)));
+          any_way c.wake-in-Sent.result _ (subst (IsPopulation q) (sent_is p n program k e to r g) (c.in_ok-send-in-Sent.ensures.received (with_activity n e.own k) g.here.population (sent_there p n program k e to r g)));
       handed_on = λ program k e h.
           let g : IsGiving p n (given.Sent to r) program k e = subst (λ g. IsGiving p n g program k e) c.in-Sent.is h in
           let d : Configuration = with_request to (request_shape r) (with_activity n e.own k) in
           let there = sent_there p n program k e to r g in
-          let population : IsPopulation q d = c.in_ok-send-in-Sent.ensures.received (with_activity n e.own k) g.population there in
+          let population : IsPopulation q d = c.in_ok-send-in-Sent.ensures.received (with_activity n e.own k) g.here.population there in
           let next : (m : Name) → IsNextIn lists (with_effect n e k) to m → ready_in t m ≡ true = λ m i. c.in_ok-wake_next-in-Sent.ensures.next d m population there (subst (λ c'. IsNextIn lists c' to m) (sym (sent_is p n program k e to r g)) i) in
           if_ok_with c.wake-in-Sent.result (IsMoreReady t None u) (ready_in u to ≡ true) _ (λ more woken. sent_handed p n program k e lists s u to r g (more_twice s t u c.in_ok-wake_next-in-Sent.ensures.more more) woken (λ m i. more.ready m (next m i))) c.wake-in-Sent.ensures.more c.wake-in-Sent.ensures.ready;
     }
+
+pub send-requires : goal.send-requires
+send-requires c =
+    let p : Population = c.args.self.now.population in
+    let n = c.args.name.now in
+    let r = c.requires.giving in
+    let g : IsGiving p n (given.Sent c.in-Sent.to c.in-Sent.request) r.0 r.1 r.2 = subst (λ g. IsGiving p n g r.0 r.1 r.2) c.in-Sent.is r.3 in
+    record { code = subst (λ k. AreActorsOf k p) (sym g.here.coded) g.here.population.actors }
 
 pub fill-requires : goal.fill-requires
 fill-requires c =
@@ -83,6 +91,6 @@ returns-in_ok-wake_noted-in-Filled c =
     record {
       population = λ program k e h.
           let g : IsGiving p n (given.Filled f v) program k e = subst (λ g. IsGiving p n g program k e) c.in-Filled.is h in
-          on_ok c.fill.result _ _ (subst (IsPopulation q) (filled_is p n program k e f v g)) (c.fill.ensures.filled (with_activity n e.own k) g.population);
+          on_ok c.fill.result _ _ (subst (IsPopulation q) (filled_is p n program k e f v g)) (c.fill.ensures.filled (with_activity n e.own k) g.here.population g.here.coded);
       handed_on = λ program k e h. any_way c.fill.result _ (filled_handed p n program k e (lists_within c.args.bounds.now) c.args.self.now.schedule c.wake_noted.new.self f v (subst (λ g. IsGiving p n g program k e) c.in-Filled.is h) c.in_ok-wake_noted-in-Filled.ensures.more c.in_ok-wake_noted-in-Filled.ensures.ready);
     }

@@ -1,15 +1,15 @@
-use Rattle.std.proofs.Common.{subst}
-use Rattle.asp_model.specs.declared.name.FutureName.{FutureName}
-use Rattle.asp_model.specs.Names.{Name}
-use Rattle.asp_model.specs.Shapes.{future_shape}
+use Rattle.std.proofs.Common.{◌≡◌, ◌≤◌, ◌<◌, ◌+◌, sym, subst, arith}
 use Rattle.schedules.proofs.LeastLemmas.{none_is_ready}
 use Rattle.replay_one.specs.declared.bounds.Bounds.{Bounds}
+use Rattle.asp_model.specs.Names.{Name}
+use Rattle.replay_one.specs.declared.population.Population.{Population}
+use Rattle.replay_one.specs.declared.round.Machine.{Machine}
 use Rattle.replay_one.specs.declared.schedule.Schedule.{Schedule}
 use Rattle.replay_one.specs.Bounds.{count_within, lists_within}
-use Rattle.replay_one.specs.Population.{IsGiving}
-use Rattle.replay_one.specs.Schedule.{IsNoted, noted_in, ready_in}
-use Rattle.replay_one.specs.Round.{CanStep}
-use Rattle.replay_one.proofs.RunLemmas.{awaits_round, leaves_round, reached_population, steps_round}
+use Rattle.replay_one.specs.Population.{IsRunIn}
+use Rattle.replay_one.specs.Round.{IsRunAt, IsRunBut, IsTried}
+use Rattle.replay_one.specs.Schedule.{noted_in, ready_in}
+use Rattle.replay_one.proofs.RunLemmas.{leads_nowhere, leads_on, ran, woken_run}
 use Rattle.replay_one.proofs.round.Machine.round.Goals as goal
 
 pub returns-in_default-clause-round : goal.returns-in_default-clause-round
@@ -18,47 +18,102 @@ returns-in_default-clause-round c = λ program k h.
     let s : Schedule = c.args.self.now.schedule in
     (none_is_ready program (lists_within b) (count_within b) k (ready_in s) (noted_in s) h.reached h.scheduled (λ m there. c.in_default.ensures.taken m), h.population)
 
-pub look_at-requires-clause-reached : goal.look_at-requires-clause-reached
-look_at-requires-clause-reached c =
-    let r = c.requires.running in
-    (r.0, r.1, reached_population c.args.bounds.now c.args.self.now r.0 r.1 r.2)
-
-pub act-requires : goal.act-requires
-act-requires c =
-    let r = c.requires.running in
-    record { reached = (r.0, r.1, reached_population c.args.bounds.now c.args.self.now r.0 r.1 r.2) }
-
-pub returns-in-Leaves-clause-round : goal.returns-in-Leaves-clause-round
-returns-in-Leaves-clause-round c = λ program k h.
-    let b : Bounds = c.args.bounds.now in
-    leaves_round b program k c.in-Some.name c.args.self.now.population c.args.self.now.schedule c.take_least.new.self h c.in-Some.ensures.taken (c.in-Leaves.ensures.look program k (reached_population b c.args.self.now program k h))
-
-pub returns-in_ok-note-in-Awaits-clause-round : goal.returns-in_ok-note-in-Awaits-clause-round
-returns-in_ok-note-in-Awaits-clause-round c = λ program k h.
+pub returns-then-taken-most-clause-round : goal.returns-then-taken-most-clause-round
+returns-then-taken-most-clause-round c = λ program k h.
     let b : Bounds = c.args.bounds.now in
     let n : Name = c.in-Some.name in
-    let f : FutureName = c.in-Awaits.future.now in
+    let m : Machine = c.args.self.now in
+    let q : Population = c.run.new.self in
     let mid : Schedule = c.take_least.new.self in
-    let new : Schedule = c.note.new.self in
-    let noted : IsNoted mid (future_shape f) n new = subst (λ (g : FutureName). IsNoted mid (future_shape g) n new) c.in_ok-future-in-Awaits.ensures.name c.in_ok-note-in-Awaits.ensures.noted in
-    let look = c.in-Awaits.ensures.look program k (reached_population b c.args.self.now program k h) in
-    awaits_round b program k n c.args.self.now.population c.args.self.now.schedule (future_shape f) mid new h c.in-Some.ensures.taken noted look.0 look.1
+    let taken = c.in_ok-taken.taken in
+    let runs = subst (λ j. IsRunIn q k n c.args.most j taken) c.count-count.ensures.count (c.in_ok-taken.ensures.runs k h.population) in
+    let r = ran b program k n m q mid c.args.most taken h c.in-Some.ensures.taken runs in
+    record {
+      some = omega (arith, c.requires.some, c.if-taken-most.true);
+      within = r.3;
+      then = r.0;
+      leads = r.1;
+      run = woken_run b program r.0 n q m.schedule mid c.wake.new.self r.2 c.in-Some.ensures.taken c.in_ok-wake.ensures.more c.in_ok-wake.ensures.ready;
+    }
 
-pub give-requires-clause-giving : goal.give-requires-clause-giving
-give-requires-clause-giving c =
-    let r = c.requires.running in
-    let x : CanStep (lists_within c.args.bounds.now) (count_within c.args.bounds.now) r.1 c.in-Some.name = c.in-Steps.ensures.look r.0 r.1 (reached_population c.args.bounds.now c.args.self.now r.0 r.1 r.2) in
-    let acts = c.in_ok-given-in-Steps.ensures.acts r.1 x.effect r.2.population x.intends in
-    (r.0, r.1, x.effect, record { bare = r.2.bare; reached = r.2.reached; intends = x.intends; given = acts.0; population = acts.1 })
-
-pub returns-in_ok-wake-in-Steps-clause-round : goal.returns-in_ok-wake-in-Steps-clause-round
-returns-in_ok-wake-in-Steps-clause-round c = λ program k h.
+pub try_step-requires-clause-running : goal.try_step-requires-clause-running
+try_step-requires-clause-running c =
+    let x = c.requires.running in
+    let program = x.0 in
+    let k = x.1 in
+    let h = x.2 in
     let b : Bounds = c.args.bounds.now in
     let n : Name = c.in-Some.name in
-    let x : CanStep (lists_within b) (count_within b) k n = c.in-Steps.ensures.look program k (reached_population b c.args.self.now program k h) in
-    let acts = c.in_ok-given-in-Steps.ensures.acts k x.effect h.population x.intends in
-    let giving : IsGiving c.act.new.self n c.in_ok-given-in-Steps.given program k x.effect = record { bare = h.bare; reached = h.reached; intends = x.intends; given = acts.0; population = acts.1 } in
-    steps_round b program k n c.args.self.now.population c.args.self.now.schedule c.give.new.self.population c.take_least.new.self c.give.new.self.schedule c.wake.new.self x h c.in-Some.ensures.taken
-    (c.in_ok-give-in-Steps.ensures.population program k x.effect giving)
-    (c.in_ok-give-in-Steps.ensures.handed_on program k x.effect giving)
-    c.in_ok-wake-in-Steps.ensures.more c.in_ok-wake-in-Steps.ensures.ready
+    let m : Machine = c.args.self.now in
+    let q : Population = c.run.new.self in
+    let mid : Schedule = c.take_least.new.self in
+    let taken = c.in_ok-taken.taken in
+    let runs = subst (λ j. IsRunIn q k n c.args.most j taken) c.count-count.ensures.count (c.in_ok-taken.ensures.runs k h.population) in
+    let r = ran b program k n m q mid c.args.most taken h c.in-Some.ensures.taken runs in
+    (program, r.0, record { before = m.schedule; run = r.2; taken = c.in-Some.ensures.taken })
+
+pub overflow_add-result : goal.overflow_add-result
+overflow_add-result c =
+    let x = c.requires.running in
+    let program = x.0 in
+    let k = x.1 in
+    let h = x.2 in
+    let b : Bounds = c.args.bounds.now in
+    let n : Name = c.in-Some.name in
+    let m : Machine = c.args.self.now in
+    let q : Population = c.run.new.self in
+    let mid : Schedule = c.take_least.new.self in
+    let taken = c.in_ok-taken.taken in
+    let runs = subst (λ j. IsRunIn q k n c.args.most j taken) c.count-count.ensures.count (c.in_ok-taken.ensures.runs k h.population) in
+    let r = ran b program k n m q mid c.args.most taken h c.in-Some.ensures.taken runs in
+    let within : taken ≤ c.args.most = r.3 in
+    omega (arith, within, c.if-taken-most.false, c.ranges.most.fits)
+
+pub returns-then-branch-clause-round : goal.returns-then-branch-clause-round
+returns-then-branch-clause-round c = λ program k h.
+    let b : Bounds = c.args.bounds.now in
+    let n : Name = c.in-Some.name in
+    let m : Machine = c.args.self.now in
+    let q : Population = c.run.new.self in
+    let mid : Schedule = c.take_least.new.self in
+    let taken = c.in_ok-taken.taken in
+    let runs = subst (λ j. IsRunIn q k n c.args.most j taken) c.count-count.ensures.count (c.in_ok-taken.ensures.runs k h.population) in
+    let r = ran b program k n m q mid c.args.most taken h c.in-Some.ensures.taken runs in
+    let but : IsRunBut b (record { population = q; schedule = mid }) n program r.0 = record { before = m.schedule; run = r.2; taken = c.in-Some.ensures.taken } in
+    let step = subst (λ t. IsTried b program r.0 t c.try_step.new.self) c.if-branch.true (c.in_ok-try_step.ensures.tried program r.0 but) in
+    record {
+      some = omega arith;
+      within = omega (arith, r.3, c.if-taken-most.false);
+      then = step.0;
+      leads = leads_on b k r.0 step.0 taken r.1 step.1;
+      run = step.2;
+    }
+
+pub returns-then-taken-gt0-clause-round : goal.returns-then-taken-gt0-clause-round
+returns-then-taken-gt0-clause-round c = λ program k h.
+    let b : Bounds = c.args.bounds.now in
+    let n : Name = c.in-Some.name in
+    let m : Machine = c.args.self.now in
+    let q : Population = c.run.new.self in
+    let mid : Schedule = c.take_least.new.self in
+    let taken = c.in_ok-taken.taken in
+    let runs = subst (λ j. IsRunIn q k n c.args.most j taken) c.count-count.ensures.count (c.in_ok-taken.ensures.runs k h.population) in
+    let r = ran b program k n m q mid c.args.most taken h c.in-Some.ensures.taken runs in
+    let but : IsRunBut b (record { population = q; schedule = mid }) n program r.0 = record { before = m.schedule; run = r.2; taken = c.in-Some.ensures.taken } in
+    let rests = subst (λ t. IsTried b program r.0 t c.try_step.new.self) c.if-branch.false (c.in_ok-try_step.ensures.tried program r.0 but) in
+    record { some = c.if-taken-gt0.true; within = r.3; then = r.0; leads = r.1; run = rests }
+
+pub returns-clause-round : goal.returns-clause-round
+returns-clause-round c = λ program k h.
+    let b : Bounds = c.args.bounds.now in
+    let n : Name = c.in-Some.name in
+    let m : Machine = c.args.self.now in
+    let q : Population = c.run.new.self in
+    let mid : Schedule = c.take_least.new.self in
+    let taken = c.in_ok-taken.taken in
+    let runs = subst (λ j. IsRunIn q k n c.args.most j taken) c.count-count.ensures.count (c.in_ok-taken.ensures.runs k h.population) in
+    let r = ran b program k n m q mid c.args.most taken h c.in-Some.ensures.taken runs in
+    let but : IsRunBut b (record { population = q; schedule = mid }) n program r.0 = record { before = m.schedule; run = r.2; taken = c.in-Some.ensures.taken } in
+    let rests = subst (λ t. IsTried b program r.0 t c.try_step.new.self) c.if-branch.false (c.in_ok-try_step.ensures.tried program r.0 but) in
+    let none : taken ≡ 0 = omega (arith, c.if-taken-gt0.false) in
+    subst (IsRunAt b c.try_step.new.self program) (leads_nowhere b k r.0 taken r.1 none) rests

@@ -1,4 +1,4 @@
-use Rattle.std.proofs.Common.{◌≡◌, ◌-◌}
+use Rattle.std.proofs.Common.{◌≡◌}
 use Rattle.asp_model.specs.Term.{Tree}
 use Rattle.asp_model.specs.Configuration.{Configuration}
 use Rattle.asp_model.specs.Replay.{steps_from}
@@ -6,7 +6,10 @@ use Rattle.replay_one.specs.Bounds.{count_within, lists_within}
 use Rattle.replay_one.specs.Round.{IsRunAt}
 use Rattle.replay_one.proofs.round.Machine.run.Given as goal
 
-abbrev pub invariant-loop-taken : goal.invariant-loop-taken
-invariant-loop-taken l = (program : Tree) (c : Configuration) → IsRunAt l.bounds l.initial.self program c
+abbrev pub invariant-loop-left : goal.invariant-loop-left
+invariant-loop-left l = (program : Tree) (c : Configuration) → IsRunAt l.bounds l.initial.self program c
     → (d : Configuration) × IsRunAt l.bounds l.self program d
-    × (steps_from (l.total - l.taken) (lists_within l.bounds) (count_within l.bounds) d ≡ steps_from l.total (lists_within l.bounds) (count_within l.bounds) c)
+    × (steps_from l.left (lists_within l.bounds) (count_within l.bounds) d ≡ steps_from l.total (lists_within l.bounds) (count_within l.bounds) c)
+
+abbrev pub decreases-loop-left : goal.decreases-loop-left
+decreases-loop-left l = l.left

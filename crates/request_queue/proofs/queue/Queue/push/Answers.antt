@@ -1,6 +1,6 @@
 use Rattle.std.proofs.Common.{◌≡◌, ◌∙◌, ◌+◌, ◌++◌, ◌∷◌, ℕ, [], cond, false, sym, ap, subst}
 use Rattle.asp_model.specs.declared.word.Label.{Label}
-use Rattle.asp_model.specs.declared.store.Request.{Request}
+use Rattle.request_queue.specs.declared.request.Request.{Request}
 use Rattle.request_queue.specs.Pending.{QueueView}
 use Rattle.request_queue.specs.Notes.{is_noted, is_that}
 use Rattle.request_queue.specs.Kept.{waits}

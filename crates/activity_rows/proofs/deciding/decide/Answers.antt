@@ -1,0 +1,25 @@
+use Rattle.std.proofs.Common.{◌≡◌, IfOk, List, ℕ, ap, sym, subst}
+use Rattle.asp_model.specs.Term.{Head}
+use Rattle.asp_model.specs.Contraction.{contract}
+use Rattle.program_code.specs.Tables.{kind_head}
+use Rattle.coded_cells.specs.Shapes.{store_of}
+use Rattle.activity_rows.specs.Decisions.{decided, value_redex}
+use Rattle.activity_rows.proofs.deciding.decide.Goals as goal
+
+pub returns-in-Clone : goal.returns-in-Clone
+returns-in-Clone c = record {
+  decided = let k = c.args.code.now in let s = c.args.store.now.cells in
+      subst (λ (h : Head). IfOk c.clone_row.result (λ d. contract (store_of k s) (value_redex h c.args.operands.now) ≡ decided k s d)) (ap kind_head (sym c.in-Clone.is)) (c.clone_row.ensures.row k);
+}
+
+pub returns-in-Operate : goal.returns-in-Operate
+returns-in-Operate c = record {
+  decided = let k = c.args.code.now in let s = c.args.store.now.cells in
+      subst (λ (h : Head). IfOk c.operate_row.result (λ d. contract (store_of k s) (value_redex h c.args.operands.now) ≡ decided k s d)) (ap kind_head (sym c.in-Operate.is)) (c.operate_row.ensures.row k);
+}
+
+pub returns-in-Print : goal.returns-in-Print
+returns-in-Print c = record {
+  decided = let k = c.args.code.now in let s = c.args.store.now.cells in
+      subst (λ (h : Head). IfOk c.print_row.result (λ d. contract (store_of k s) (value_redex h c.args.operands.now) ≡ decided k s d)) (ap kind_head (sym c.in-Print.is)) (c.print_row.ensures.row k);
+}

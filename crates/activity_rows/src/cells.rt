@@ -1,0 +1,38 @@
+//! Cells and operands as they are read.
+
+ghost use Rattle.std.specs.Prelude.{◌≡◌, ◌∷◌, [], IfSome};
+ghost use Rattle.coded_cells.specs.Cells.{cell_at, coded};
+
+use coded_cells::{Cell, Place};
+use coded_store::Store;
+
+/// The cell at a place.
+pub fn look<'a>(store: &'a Store, loc: Place) -> Option<&'a Cell>
+    ensures cell { IfSome result (λ c. coded c.now ≡ cell_at store.now.cells loc) }
+{
+    if loc < store.len() {
+        Some(store.cell(loc))
+    } else {
+        None
+    }
+}
+
+/// The one operand.
+pub fn one(operands: &[Place]) -> Option<Place>
+    ensures one { IfSome result (λ i. operands.now ≡ i ∷ []) }
+{
+    match operands {
+        [first] => Some(*first),
+        _ => None,
+    }
+}
+
+/// The two operands.
+pub fn two(operands: &[Place]) -> Option<(Place, Place)>
+    ensures two { IfSome result (λ x. operands.now ≡ x.0 ∷ x.1 ∷ []) }
+{
+    match operands {
+        [first, second] => Some((*first, *second)),
+        _ => None,
+    }
+}

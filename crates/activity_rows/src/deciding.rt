@@ -1,0 +1,35 @@
+//! What a redex comes to, where it becomes a place or does not contract.
+
+ghost use Rattle.std.specs.Prelude.{◌≡◌, IfOk};
+ghost use Rattle.asp_model.specs.Contraction.{contract};
+ghost use Rattle.program_code.specs.Tables.{kind_head};
+ghost use Rattle.coded_cells.specs.Shapes.{store_of};
+ghost use Rattle.activity_rows.specs.Decisions.{decided, value_redex};
+
+use crate::decision::Decision;
+use crate::rows::{clone_row, get_row, operate_row, print_row, put_row};
+use coded_cells::Place;
+use coded_store::Store;
+use program_code::{Code, Kind};
+use std::alloc::AllocError;
+
+/// What a redex of a row with strict operands comes to.
+pub fn decide(
+    code: &Code,
+    store: &Store,
+    kind: &Kind,
+    operands: &[Place],
+) -> Result<Decision, AllocError>
+    ensures decided { let s = store.now.cells in
+        let r = value_redex (kind_head kind.now) operands.now in
+        IfOk result (λ d. contract (store_of code.now s) r ≡ decided code.now s d) }
+{
+    match kind {
+        Kind::Get(label) => get_row(code, store, label, operands),
+        Kind::Put(label) => put_row(code, store, label, operands),
+        Kind::Clone => clone_row(store, operands),
+        Kind::Operate(sign) => operate_row(store, *sign, operands),
+        Kind::Print => print_row(store, operands),
+        _ => Err(AllocError),
+    }
+}

@@ -1,0 +1,24 @@
+//! The rows of the table of reductions that read cells: what a redex comes to.
+#![tactic(auto)]
+
+mod asks;
+mod calls;
+mod cells;
+mod deciding;
+mod decision;
+mod fields;
+mod numbers;
+mod redex;
+mod rows;
+mod seen;
+
+pub use asks::{Creation, Test, active_row, test_row};
+pub use calls::{Callee, callee_of};
+pub use cells::{look, one, two};
+pub use deciding::decide;
+pub use decision::Decision;
+pub use fields::{get, put};
+pub use numbers::operate;
+pub use redex::Redex;
+pub use rows::{Operand, clone_row, get_row, one_operand, operate_row, print_row, put_row};
+pub use seen::{Seen, sight_of};

@@ -1,0 +1,61 @@
+-- Calls.
+use Rattle.std.proofs.Common.{◌≡◌, ℕ, List, [], length, ap, subst, ◌∙◌}
+use Rattle.std.specs.Borrow.{Bor}
+use Rattle.asp_model.specs.Names.{Name, Text}
+use Rattle.asp_model.specs.declared.word.Label.{Label}
+use Rattle.asp_model.specs.Term.{Call, Tree}
+use Rattle.asp_model.specs.Configuration.{ServiceShape}
+use Rattle.asp_model.specs.Contraction.{Communicates, Sends, call_row, contract}
+use Rattle.program_code.specs.declared.code.Kind.{Kind}
+use Rattle.program_code.specs.declared.code.Kind.TheVariants as kind
+use Rattle.program_code.specs.declared.code.MethodCode.{MethodCode}
+use Rattle.program_code.specs.declared.code.Node.{Node}
+use Rattle.program_code.specs.Tables.{kind_head}
+use Rattle.coded_cells.specs.Cells.{CodedStore, cell_at}
+use Rattle.coded_cells.specs.Shapes.{cell_of, store_of}
+use Rattle.coded_cells.proofs.CodedLemmas.{cell-store_of}
+use Rattle.activity_rows.specs.declared.calls.Callee.{Callee}
+use Rattle.activity_rows.specs.declared.calls.Callee.TheVariants as callee
+use Rattle.activity_rows.specs.declared.decision.Decision.{Decision}
+use Rattle.activity_rows.specs.Decisions.{Leads, decided, read, value_redex}
+use Rattle.activity_rows.proofs.ReadLemmas.{call_reads}
+use Rattle.machine_frames.specs.Rows.{AtNode, IsAtRedex, Contracts, called_view, is_simple}
+use Rattle.machine_frames.specs.Stacks.{last}
+use Rattle.machine_frames.specs.Standing.{View, Standing}
+use Rattle.machine_frames.specs.Items.{contexts_of}
+use Rattle.machine_frames.specs.declared.frames.Focus.TheVariants as focus
+use Rattle.machine_frames.proofs.RowLemmas.{AtAsked, asked, call_enters, call_row_here, value_row}
+use Rattle.asp_model.specs.Split.{Splits}
+use Rattle.activity_step.specs.Called.{IsCalled}
+
+pub call_at : (k : List Node) (v : View) (number from n : ℕ) (x : Node) (l : Label) (t : Tree) (vs : List ServiceShape) → Standing k v t vs → AtNode k v number from n x → x.kind ≡ kind.Call l → IsAtRedex k v t vs n (value_redex (Call l.text) (last n v.operands))
+call_at k v number from n x l t vs h at is =
+    subst (λ (q : Kind). IsAtRedex k v t vs n (value_redex (kind_head q) (last n v.operands))) is (value_row k v number from n x t vs h at.focus at.full at.node (ap is_simple is))
+
+pub method_contracts : (k : List Node) (v : View) (number from n : ℕ) (x : Node) (l : Label) (t : Tree) (vs : List ServiceShape) (q : CodedStore) (m : Bor MethodCode) (cs : Bor (List ℕ)) → Standing k v t vs → AtNode k v number from n x → x.kind ≡ kind.Call l
+    → IsCalled k q l.text (last n v.operands) (callee.Method m cs) → Contracts k t vs (store_of k q) (store_of k q) [] (called_view n cs.now m.now.body v)
+method_contracts k v number from n x l t vs q m cs h at is w =
+    let leads : Leads k (cell_at q w.at) l.text (length w.arguments) m.now cs.now = w.callee in
+    call_row_here k v number from n w.at w.arguments l x t vs (store_of k q) h at.focus at.full at.node is w.operands_are leads.fields leads.methods (cell-store_of k q w.at ∙ leads.cell_is) m.now cs.now leads.found leads.sound leads.size leads.arity
+
+reads : (k : List Node) (q : CodedStore) (l : Text) (ops : List ℕ) (c : Callee) (w : IsCalled k q l ops c) → contract (store_of k q) (value_redex (Call l) ops) ≡ read w.at (call_row (store_of k q) l w.at w.arguments) (cell_of k (cell_at q w.at))
+reads k q l ops c w =
+    ap (λ (ns : List ℕ). contract (store_of k q) (value_redex (Call l) ns)) w.operands_are ∙ call_reads (store_of k q) l w.at w.arguments
+    ∙ ap (read w.at (call_row (store_of k q) l w.at w.arguments)) (cell-store_of k q w.at)
+
+pub other_contracts : (k : List Node) (q : CodedStore) (l : Text) (ops : List ℕ) (d : Decision) → IsCalled k q l ops (callee.Other d) → contract (store_of k q) (value_redex (Call l) ops) ≡ decided k q d
+other_contracts k q l ops d w = reads k q l ops (callee.Other d) w ∙ w.callee q
+
+pub sends : (k : List Node) (q : CodedStore) (l : Text) (ops : List ℕ) (n : Bor Name) → IsCalled k q l ops (callee.Activity n) → (to : Name) × (m : Text) × (ns : List ℕ) × (contract (store_of k q) (value_redex (Call l) ops) ≡ Communicates (Sends to m ns))
+sends k q l ops n w = (n.now, l, w.arguments, reads k q l ops (callee.Activity n) w ∙ ap (read w.at (call_row (store_of k q) l w.at w.arguments)) w.callee)
+
+-- The call that a service begins with
+
+pub asked_contracts : (k : List Node) (v : View) (n : ℕ) (t : Tree) (vs : List ServiceShape) (q : CodedStore) (m : Bor MethodCode) (cs : Bor (List ℕ)) → Standing k v t vs → v.focus ≡ focus.Asked n
+    → IsCalled k q v.asked (last n v.operands) (callee.Method m cs) → Contracts k t vs (store_of k q) (store_of k q) [] (called_view n cs.now m.now.body v)
+asked_contracts k v n t vs q m cs h at w =
+    let leads : Leads k (cell_at q w.at) v.asked (length w.arguments) m.now cs.now = w.callee in
+    let a : AtAsked k v n t vs = asked k v n t vs h at in
+    call_enters k v n w.at w.arguments v.asked t vs (store_of k q) a.below
+    (a.splits ∙ ap (λ (ns : List ℕ). Splits (contexts_of a.below.items) (value_redex (Call v.asked) ns)) w.operands_are)
+    w.operands_are leads.fields leads.methods (cell-store_of k q w.at ∙ leads.cell_is) m.now cs.now leads.found leads.sound leads.size leads.arity

@@ -1,0 +1,9 @@
+pub mod TurnLemmas
+pub mod TermLemmas
+pub mod ObjectLemmas
+pub mod CallLemmas
+pub mod RunLemmas
+pub mod StartLemmas
+pub mod NewestLemmas
+pub mod StandingLemmas
+pub mod ServingLemmas

@@ -1,0 +1,180 @@
+-- Runs of contractions.
+use Rattle.std.proofs.Common.{◌≡◌, ◌≤◌, ◌++◌, ℕ, zero, suc, Bool, true, false, List, [], ◌∷◌, length, map, reverse, refl, sym, ap, subst, ◌∙◌, arith}
+use Rattle.std.proofs.lemmas.Bool.{false≢true}
+use Rattle.std.specs.Arc.{arc_value}
+use Rattle.std.specs.Prelude.{Err, IfOk, Ok, OnOk, Result}
+use Rattle.asp_model.specs.Split.{Context, Redex, Splits, split, plug}
+use Rattle.asp_model.specs.Term.{Tree, loc}
+use Rattle.asp_model.specs.Store.{Store}
+use Rattle.asp_model.specs.Shapes.{future_shape, line_shape}
+use Rattle.std.specs.Option.{option_map}
+use Rattle.coded_cells.specs.Cells.{CodedCell}
+use Rattle.coded_cells.specs.Shapes.{cell_of, store_of}
+use Rattle.coded_cells.proofs.CodedLemmas.{length-store_of, store_of-append}
+use Rattle.machine_frames.specs.Rows.{IsAtRedex, place_view}
+use Rattle.machine_frames.specs.Services.{IsAtSome}
+use Rattle.machine_frames.specs.Standing.{View, Standing, view_of}
+use Rattle.machine_frames.proofs.RowLemmas.{some_redex}
+use Rattle.program_code.specs.declared.code.Node.{Node}
+use Rattle.asp_model.specs.Configuration as model
+use Rattle.asp_model.specs.Configuration.{ServiceShape}
+use Rattle.activity_step.specs.declared.activity.Activity.{Activity}
+use Rattle.activity_step.specs.declared.state.State.{State}
+use Rattle.activity_step.specs.declared.turn.Turn.{Turn}
+use Rattle.activity_step.specs.declared.turn.Turn.TheVariants as turn
+use Rattle.activity_step.specs.Local.{IsLocalStep, LocalRun}
+use Rattle.activity_step.specs.Turns.{Stands, Reduced, Told, IsTurn}
+use Rattle.activity_step.specs.Activities.{StandsFor, IsToldAt, IsStepped, IsStopped, IsAfter, IsUsed, IsRun, reduces, with_new_cell}
+
+-- one contraction more
+pub one_more : (n : ℕ) (a b c : model.Activity) → LocalRun n a b → IsLocalStep b c → LocalRun (suc n) a c
+one_more zero a b c e s = (c, subst (λ (x : model.Activity). IsLocalStep x c) (sym e) s, refl)
+one_more (suc n) a b c r s = (r.0, r.1, one_more n r.0 b c r.2 s)
+
+pub stepped : (x : Activity) (y : State) (n : ℕ) (a : model.Activity) → StandsFor x a → n ≡ suc x.count → Reduced (arc_value x.code) y a.term (reverse a.services) a.store a.lines → IsStepped (record x { state = y; count = n }) a
+stepped x y n a h e r = record {
+  next = record a { term = plug r.contexts r.becomes; store = r.store; lines = a.lines ++ r.added; reductions = suc a.reductions };
+  step = record { contexts = r.contexts; redex = r.redex; becomes = r.becomes; store = r.store; added = r.added; splits = r.splits; is = r.is; after = refl };
+  stands = record { state = r.after; present = h.present; active = h.active; count = e ∙ ap suc h.count };
+}
+
+told_at : (x : Activity) (y : State) (a : model.Activity) (r : Turn) → StandsFor x a → Told (arc_value x.code) y a.term (reverse a.services) a.store a.lines r → IsToldAt a r
+told_at x y a r h t = record { contexts = t.contexts; redex = t.redex; splits = t.splits; is = t.is }
+
+kept : (x : Activity) (y : State) (a : model.Activity) → StandsFor x a → Stands (arc_value x.code) y a.term (reverse a.services) a.store a.lines → StandsFor (record x { state = y }) a
+kept x y a h s = record { state = s; present = h.present; active = h.active; count = h.count }
+
+could_step : (a : model.Activity) → IsToldAt a turn.Reduces → (b : model.Activity) × IsLocalStep a b
+could_step a t =
+    let u = t.is.0 in
+    let s = t.is.1 in
+    let added = t.is.2 in (
+      record a { term = plug t.contexts u; store = s; lines = a.lines ++ added; reductions = suc a.reductions },
+      record { contexts = t.contexts; redex = t.redex; becomes = u; store = s; added = added; splits = t.splits; is = t.is.3; after = refl },
+    )
+
+-- what a turn tells of an activity, where it took no contraction
+pub stops : (x : Activity) (y : State) (a : model.Activity) (go : Bool) (r : Turn) → StandsFor x a → IsTurn (arc_value x.code) y a.term (reverse a.services) a.store a.lines go r → (go ≡ true → reduces r ≡ true → ⊥) → IsStopped (record x { state = y }) a r
+stops x y a true turn.Reduces h t n = absurd (n refl refl)
+stops x y a false turn.Reduces h t n = record { stands = kept x y a h t.kept; stop = could_step a (told_at x y a turn.Reduces h t) }
+stops x y a go (turn.Rests p) h t n = record { stands = kept x y a h t.kept; stop = t.splits }
+stops x y a go (turn.Faults f) h t n = record { stands = kept x y a h t.kept; stop = told_at x y a (turn.Faults f) h t }
+stops x y a go (turn.Needs p) h t n = record { stands = kept x y a h t.kept; stop = told_at x y a (turn.Needs p) h t }
+stops x y a go (turn.Creates p) h t n = record { stands = kept x y a h t.kept; stop = told_at x y a (turn.Creates p) h t }
+stops x y a go turn.Sends h t n = record { stands = kept x y a h t.kept; stop = told_at x y a turn.Sends h t }
+stops x y a go turn.Serves h t n = record { stands = kept x y a h t.kept; stop = told_at x y a turn.Serves h t }
+
+pub after_stop : (x : Activity) (a : model.Activity) (go : Bool) (r : Turn) → (go ≡ true → reduces r ≡ true → ⊥) → IsStopped x a r → IsAfter x a go r
+after_stop x a true turn.Reduces n s = absurd (n refl refl)
+after_stop x a false turn.Reduces n s = s
+after_stop x a true (turn.Rests p) n s = s
+after_stop x a true (turn.Faults f) n s = s
+after_stop x a true (turn.Needs p) n s = s
+after_stop x a true (turn.Creates p) n s = s
+after_stop x a true turn.Sends n s = s
+after_stop x a true turn.Serves n s = s
+after_stop x a false (turn.Rests p) n s = s
+after_stop x a false (turn.Faults f) n s = s
+after_stop x a false (turn.Needs p) n s = s
+after_stop x a false (turn.Creates p) n s = s
+after_stop x a false turn.Sends n s = s
+after_stop x a false turn.Serves n s = s
+
+pub after_step : (x : Activity) (a : model.Activity) (go : Bool) (r : Turn) → go ≡ true → reduces r ≡ true → IsStepped x a → IsAfter x a go r
+after_step x a true turn.Reduces g e s = s
+after_step x a true (turn.Rests p) g e s = absurd (false≢true e)
+after_step x a true (turn.Faults f) g e s = absurd (false≢true e)
+after_step x a true (turn.Needs p) g e s = absurd (false≢true e)
+after_step x a true (turn.Creates p) g e s = absurd (false≢true e)
+after_step x a true turn.Sends g e s = absurd (false≢true e)
+after_step x a true turn.Serves g e s = absurd (false≢true e)
+after_step x a false r g e s = absurd (false≢true g)
+
+-- the turn that took a contraction
+pub reduced_turn : (k : List Rattle.program_code.specs.declared.code.Node.Node) (y : State) (a : model.Activity) (go : Bool) (r : Turn) → IsTurn k y a.term (reverse a.services) a.store a.lines go r → go ≡ true → reduces r ≡ true → Reduced k y a.term (reverse a.services) a.store a.lines
+reduced_turn k y a true turn.Reduces t g e = t
+reduced_turn k y a true (turn.Rests p) t g e = absurd (false≢true e)
+reduced_turn k y a true (turn.Faults f) t g e = absurd (false≢true e)
+reduced_turn k y a true (turn.Needs p) t g e = absurd (false≢true e)
+reduced_turn k y a true (turn.Creates p) t g e = absurd (false≢true e)
+reduced_turn k y a true turn.Sends t g e = absurd (false≢true e)
+reduced_turn k y a true turn.Serves t g e = absurd (false≢true e)
+reduced_turn k y a false r t g e = absurd (false≢true g)
+
+-- what a step tells
+pub step_taken : (x : Activity) (a : model.Activity) (r : Turn) → IsAfter x a true r → reduces r ≡ true → IsStepped x a
+step_taken x a turn.Reduces h e = h
+step_taken x a (turn.Rests p) h e = absurd (false≢true e)
+step_taken x a (turn.Faults f) h e = absurd (false≢true e)
+step_taken x a (turn.Needs p) h e = absurd (false≢true e)
+step_taken x a (turn.Creates p) h e = absurd (false≢true e)
+step_taken x a turn.Sends h e = absurd (false≢true e)
+step_taken x a turn.Serves h e = absurd (false≢true e)
+
+-- a run that stops before all contractions were taken
+pub stopped_run : (x : Activity) (a b : model.Activity) (n most : ℕ) (r : Turn) → LocalRun n a b → n ≤ most → IsAfter x b true r → reduces r ≡ false → IsRun x a most r
+stopped_run x a b n most turn.Reduces run le h e = absurd (false≢true (sym e))
+stopped_run x a b n most (turn.Rests p) run le h e = record { count = n; end = b; run = run; within = le; stands = h.stands; stop = h.stop; used = tt }
+stopped_run x a b n most (turn.Faults f) run le h e = record { count = n; end = b; run = run; within = le; stands = h.stands; stop = h.stop; used = tt }
+stopped_run x a b n most (turn.Needs p) run le h e = record { count = n; end = b; run = run; within = le; stands = h.stands; stop = h.stop; used = tt }
+stopped_run x a b n most (turn.Creates p) run le h e = record { count = n; end = b; run = run; within = le; stands = h.stands; stop = h.stop; used = tt }
+stopped_run x a b n most turn.Sends run le h e = record { count = n; end = b; run = run; within = le; stands = h.stands; stop = h.stop; used = tt }
+stopped_run x a b n most turn.Serves run le h e = record { count = n; end = b; run = run; within = le; stands = h.stands; stop = h.stop; used = tt }
+
+all_used : (n : ℕ) (r : Turn) → IsUsed n n r
+all_used n turn.Reduces = refl
+all_used n (turn.Rests p) = tt
+all_used n (turn.Faults f) = tt
+all_used n (turn.Needs p) = tt
+all_used n (turn.Creates p) = tt
+all_used n turn.Sends = tt
+all_used n turn.Serves = tt
+
+stop_of : (x : Activity) (b : model.Activity) (r : Turn) → IsAfter x b false r → IsStopped x b r
+stop_of x b turn.Reduces h = h
+stop_of x b (turn.Rests p) h = h
+stop_of x b (turn.Faults f) h = h
+stop_of x b (turn.Needs p) h = h
+stop_of x b (turn.Creates p) h = h
+stop_of x b turn.Sends h = h
+stop_of x b turn.Serves h = h
+
+-- a run whose contractions were all taken
+pub full_run : (x : Activity) (a b : model.Activity) (most : ℕ) (r : Turn) → LocalRun most a b → IsAfter x b false r → IsRun x a most r
+full_run x a b most r run h =
+    let s : IsStopped x b r = stop_of x b r h in
+    record { count = most; end = b; run = run; within = omega arith; stands = s.stands; stop = s.stop; used = all_used most r }
+
+-- by the code that it is
+pub some_of : (k m : List Node) (old new : View) (n : ℕ) (t : Tree) (vs : List ServiceShape) → m ≡ k → Standing k old t vs → ((t : Tree) (vs : List ServiceShape) → Standing m old t vs → IsAtSome m new t vs n) → IsAtSome k new t vs n
+some_of k m old new n t vs e h f = subst (λ (q : List Node). (t : Tree) (vs : List ServiceShape) → Standing q old t vs → IsAtSome q new t vs n) e f t vs h
+
+-- the redex became a new cell
+pub cell_became : (x y : Activity) (a : model.Activity) (v : View) (n p : ℕ) (contexts : List Context) (redex : Redex) (c : CodedCell) → StandsFor x a → split a.term ≡ Splits contexts redex
+    → IsAtSome (arc_value x.code) v a.term (reverse a.services) n → view_of y.state.machine ≡ place_view n p v → p ≡ length x.state.store.cells → y.state.store.cells ≡ x.state.store.cells ++ c ∷ []
+    → y.state.lines ≡ x.state.lines → y.code ≡ x.code → y.present ≡ x.present → y.active ≡ x.active → y.count ≡ suc x.count
+    → StandsFor y (with_new_cell contexts (cell_of (arc_value x.code) c) a)
+cell_became x y a v n p contexts redex c h splits at view place cells lines code present active count =
+    let k : List Node = arc_value x.code in
+    let size : p ≡ length a.store = place ∙ sym (length-store_of k x.state.store.cells) ∙ ap length h.state.store in
+    let some : IsAtRedex k v a.term (reverse a.services) n at.redex = some_redex k v a.term (reverse a.services) n at in
+    let same : some.contexts ≡ contexts = let both : Splits some.contexts at.redex ≡ Splits contexts redex = sym some.splits ∙ splits in cc in
+    let standing0 : Standing k (place_view n p v) (plug some.contexts (loc p)) (reverse a.services) = some.place p in
+    let standing1 : Standing k (place_view n p v) (plug contexts (loc (length a.store))) (reverse a.services) =
+    subst (λ (t : Tree). Standing k (place_view n p v) t (reverse a.services)) (λ i. plug (same i) (loc (size i))) standing0 in
+    let standing2 : Standing k (view_of y.state.machine) (plug contexts (loc (length a.store))) (reverse a.services) = subst (λ (w : View). Standing k w (plug contexts (loc (length a.store))) (reverse a.services)) (sym view) standing1 in
+    let stored : store_of k y.state.store.cells ≡ a.store ++ cell_of k c ∷ [] = ap (store_of k) cells ∙ store_of-append k x.state.store.cells (c ∷ []) ∙ ap (λ (s : Store). s ++ cell_of k c ∷ []) h.state.store in
+    let shape : Stands k y.state (plug contexts (loc (length a.store))) (reverse a.services) (a.store ++ cell_of k c ∷ []) a.lines = record { machine = standing2; store = stored; lines = ap (λ l. map line_shape l.items) lines ∙ h.state.lines } in
+    record {
+      state = subst (λ q. Stands (arc_value q) y.state (plug contexts (loc (length a.store))) (reverse a.services) (a.store ++ cell_of k c ∷ []) a.lines) (sym code) shape;
+      present = ap (option_map future_shape) present ∙ h.present;
+      active = active ∙ h.active;
+      count = count ∙ ap suc h.count;
+    }
+
+-- What came of a call, of which only that memory was refused is noted
+
+pub noted_is : {T E : Type 0} (r i : Result T E) (x y : Activity) (P : Activity → T → Type 0) → r ≡ i → OnOk r (x ≡ y) → IfOk i (P y) → IfOk r (P x)
+noted_is (Err e) i x y P same kept h = tt
+noted_is (Ok v) i x y P same kept h =
+    let here : P y v = subst (λ q. IfOk q (P y)) (sym same) h in subst (λ (z : Activity). P z v) (sym kept) here

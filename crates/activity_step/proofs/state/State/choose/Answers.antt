@@ -1,0 +1,41 @@
+use Rattle.std.proofs.Common.{rules, ◌≡◌, ℕ, true, false, refl, sym, ap, ◌∙◌, to_z, of_z, w64}
+use Rattle.program_code.specs.declared.code.Node.{Node}
+use Rattle.program_code.specs.Tables.{pieces, pieces_of, piece_of}
+use Rattle.code_laws.specs.Nodes.{nth}
+use Rattle.coded_cells.specs.Shapes.{store_of}
+use Rattle.machine_frames.specs.Rows.{child_view}
+use Rattle.machine_frames.specs.Standing.{View, view_of}
+use Rattle.activity_step.proofs.TurnLemmas.{could_contract, contracted}
+use Rattle.machine_frames.specs.Rows.{chosen}
+use Rattle.activity_step.proofs.TermLemmas.{choice_contracts}
+use Rattle.activity_step.proofs.state.State.choose.Goals as goal
+
+pub returns-in_ok-become_child : goal.returns-in_ok-become_child
+returns-in_ok-become_child c = record {
+  turn = λ k at0 from place t vs s ls h at is operands_are cell_is.
+      let a = c.args.self.now in
+      let v : View = view_of a.machine in
+      let q = store_of k a.store.cells in
+      let x = c.in-Some.child.now in
+      let n : Node = c.args.node.now in
+      let same : to_z w64 (of_z w64 c.args.number) ≡ c.args.number = search rules in
+      let child_is : nth (chosen c.args.number) (pieces_of (pieces k) n.children.items) ≡ piece_of (pieces k) x = ap (λ (i : ℕ). nth i (pieces_of (pieces k) n.children.items)) (ap chosen (sym same) ∙ sym c.branch_of.ensures.chosen) ∙ c.in-Some.ensures.child (pieces k) in
+      let yes0 : c.args.go ≡ true = search (rules, c.if-go.true) in
+      contracted k a (record { machine = c.become_child.new.self; store = a.store; lines = a.lines }) t vs s ls c.args.go (child_view c.args.count x v) h yes0
+      (choice_contracts k v at0 from c.args.count place n c.args.number x t vs q h.machine at is operands_are cell_is child_is) c.in_ok-become_child.ensures.view refl refl;
+}
+
+pub returns-else-go : goal.returns-else-go
+returns-else-go c = record {
+  turn = λ k at0 from place t vs s ls h at is operands_are cell_is.
+      let a = c.args.self.now in
+      let v : View = view_of a.machine in
+      let q = store_of k a.store.cells in
+      let x = c.in-Some.child.now in
+      let n : Node = c.args.node.now in
+      let same : to_z w64 (of_z w64 c.args.number) ≡ c.args.number = search rules in
+      let child_is : nth (chosen c.args.number) (pieces_of (pieces k) n.children.items) ≡ piece_of (pieces k) x = ap (λ (i : ℕ). nth i (pieces_of (pieces k) n.children.items)) (ap chosen (sym same) ∙ sym c.branch_of.ensures.chosen) ∙ c.in-Some.ensures.child (pieces k) in
+      let no0 : c.args.go ≡ false = search (rules, c.if-go.false) in
+      could_contract k a t vs s ls c.args.go (child_view c.args.count x v) h no0
+      (choice_contracts k v at0 from c.args.count place n c.args.number x t vs q h.machine at is operands_are cell_is child_is);
+}

@@ -1,0 +1,8 @@
+-- in reading order
+pub mod Turns
+pub mod Called
+pub mod Local
+pub mod Activities
+pub mod Starting
+pub mod Shown
+pub mod Standings

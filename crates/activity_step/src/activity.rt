@@ -1,0 +1,187 @@
+//! An activity, and its contractions.
+
+ghost use Rattle.std.specs.Prelude.{◌≡◌, Err, IfOk, OnErr, OnOk, alloc_error, map, true};
+ghost use Rattle.std.specs.Option.{option_map};
+ghost use Rattle.asp_model.specs.Shapes.{future_shape, line_shape};
+ghost use Rattle.asp_model.specs.Configuration.{Activity as ActivityShape};
+ghost use Rattle.activity_step.specs.Activities.{IsAfter, IsRun, StandsFor, reduces};
+ghost use Rattle.activity_step.specs.Standings.{code_of};
+
+use crate::state::State;
+use crate::turn::Turn;
+use asp_model::{FutureName, Line};
+use coded_cells::Place;
+use coded_store::Store;
+use program_code::Code;
+use std::alloc::{AllocError, Global};
+use std::sync::Arc;
+
+/// An activity over the code that all activities of a run share.
+#[derive(Drop)]
+pub struct Activity {
+    pub(crate) code: Arc<Code>,
+    pub(crate) state: State,
+    /// Where its active object stands.
+    pub(crate) active: Place,
+    /// The future of the service that runs, if it is no start term.
+    pub(crate) present: Option<FutureName>,
+    /// How many reductions it took.
+    pub(crate) count: u64,
+    /// It gave "no memory" once, and gives nothing else since.
+    pub(crate) spent: bool,
+}
+
+impl Activity {
+    /// The code that it runs.
+    pub fn code(&self) -> &Arc<Code>
+        ensures code { result.now ≡ self.now.code }
+    {
+        &self.code
+    }
+
+    /// Where its active object stands.
+    pub fn active(&self) -> Place
+        ensures active { (a : ActivityShape) → StandsFor self.now a → result ≡ a.active }
+    {
+        self.active
+    }
+
+    /// How many reductions it took.
+    pub fn count(&self) -> u64
+        ensures count { (a : ActivityShape) → StandsFor self.now a → result ≡ a.reductions }
+    {
+        self.count
+    }
+
+    /// Its store.
+    pub fn store(&self) -> &Store
+        ensures store { result.now ≡ self.now.state.store }
+    {
+        &self.state.store
+    }
+
+    /// Its output lines, in order.
+    pub fn lines(&self) -> &[Line]
+        ensures lines { result.now ≡ self.now.state.lines.items }
+    {
+        &self.state.lines
+    }
+
+    /// Its output lines, where it is done with.
+    pub fn into_lines(self) -> Vec<Line>
+        ensures lines { (a : ActivityShape) → StandsFor self a →
+            map line_shape result.items ≡ a.lines }
+    {
+        let state = self.state;
+        state.lines
+    }
+
+    /// The future of the service that runs; none where the start term runs.
+    pub fn present(&self) -> Option<&FutureName>
+        ensures present { (a : ActivityShape) → StandsFor self.now a →
+            option_map (λ f. future_shape f.now) result ≡ a.present }
+    {
+        self.present.as_ref()
+    }
+
+    /// It gave "no memory" once, and gives nothing else since.
+    pub fn is_spent(&self) -> bool
+        ensures spent { result ≡ self.now.spent }
+    {
+        self.spent
+    }
+
+    /// Fails where it is spent.
+    pub(crate) fn unspent(&self) -> Result<(), AllocError>
+        ensures spent { self.now.spent ≡ true → result ≡ Err alloc_error }
+        ensures only { OnErr result (self.now.spent ≡ true) }
+    {
+        if self.spent { Err(AllocError) } else { Ok(()) }
+    }
+
+    /// What came of a call. After `AllocError` it is spent.
+    pub(crate) fn noted<T>(&mut self, outcome: Result<T, AllocError>) -> Result<T, AllocError>
+        ensures outcome { result ≡ outcome }
+        ensures same { OnOk result (self.new ≡ self.old) }
+        ensures gives_up { OnErr result (self.new.spent ≡ true) }
+        ensures code { code_of self.new ≡ code_of self.old }
+    {
+        if outcome.is_err() {
+            self.spent = true;
+        }
+        outcome
+    }
+
+    /// One contraction, where it may be taken, or what the redex comes to.
+    fn take(&mut self, alloc: Global, go: bool) -> Result<Turn, AllocError>
+        ensures after { (a : ActivityShape) → StandsFor self.old a →
+            IfOk result (IsAfter self.new a go) }
+        ensures code { code_of self.new ≡ code_of self.old }
+    {
+        let turn = self.state.turn(alloc, &self.code, go)?;
+        if !go {
+            return Ok(turn);
+        }
+        if !is_reduction(turn) {
+            return Ok(turn);
+        }
+        let count = self.count.checked_add(1).ok_or(AllocError)?;
+        self.count = count;
+        Ok(turn)
+    }
+
+    /// One contraction, where it may be taken, or what the redex comes to. After `AllocError` it is
+    /// spent.
+    pub fn step(&mut self, alloc: Global, go: bool) -> Result<Turn, AllocError>
+        ensures after { (a : ActivityShape) → StandsFor self.old a →
+            IfOk result (IsAfter self.new a go) }
+        ensures spent { self.old.spent ≡ true → result ≡ Err alloc_error }
+        ensures gives_up { OnErr result (self.new.spent ≡ true) }
+        ensures code { code_of self.new ≡ code_of self.old }
+    {
+        self.unspent()?;
+        let outcome = self.take(alloc, go);
+        self.noted(outcome)
+    }
+
+    /// Takes the contractions before its stop, at most so many.
+    fn run(&mut self, alloc: Global, most: u64) -> Result<Turn, AllocError>
+        ensures run { (a : ActivityShape) → StandsFor self.old a →
+            IfOk result (IsRun self.new a most) }
+        ensures code { code_of self.new ≡ code_of self.old }
+    {
+        let mut left = most;
+        while left > 0 {
+            let turn = self.take(alloc, true)?;
+            if !is_reduction(turn) {
+                return Ok(turn);
+            }
+            left -= 1;
+        }
+        let turn = self.take(alloc, false)?;
+        Ok(turn)
+    }
+
+    /// Takes the contractions before its stop, at most so many. `Reduces` where all of them were taken
+    /// and one more could be. After `AllocError` it is spent.
+    pub fn local(&mut self, alloc: Global, most: u64) -> Result<Turn, AllocError>
+        ensures run { (a : ActivityShape) → StandsFor self.old a →
+            IfOk result (IsRun self.new a most) }
+        ensures spent { self.old.spent ≡ true → result ≡ Err alloc_error }
+        ensures gives_up { OnErr result (self.new.spent ≡ true) }
+        ensures code { code_of self.new ≡ code_of self.old }
+    {
+        self.unspent()?;
+        let outcome = self.run(alloc, most);
+        self.noted(outcome)
+    }
+}
+
+fn is_reduction(turn: Turn) -> bool
+    ensures reduces { result ≡ reduces turn }
+{
+    match turn {
+        Turn::Reduces => true,
+        _ => false,
+    }
+}

@@ -1,0 +1,149 @@
+//! Calls, and redexes that ask something of other activities.
+
+ghost use Rattle.std.specs.Prelude.{◌≡◌, ◌∷◌, [], IfOk, IfSome, List, Option, ℕ};
+ghost use Rattle.std.specs.Option.{option_map};
+ghost use Rattle.asp_model.specs.Configuration.{ServiceShape};
+ghost use Rattle.asp_model.specs.Contraction.{LineShape};
+ghost use Rattle.asp_model.specs.Names.{Text};
+ghost use Rattle.asp_model.specs.Store.{Store as StoreShape};
+ghost use Rattle.asp_model.specs.Term.{Active as ActiveHead, Tree};
+ghost use Rattle.program_code.specs.declared.code.Kind.TheVariants as kind;
+ghost use Rattle.program_code.specs.declared.code.Node.{Node as NodeShape};
+ghost use Rattle.activity_rows.specs.Decisions.{value_redex};
+ghost use Rattle.machine_frames.specs.declared.frames.Focus.TheVariants as focus;
+ghost use Rattle.machine_frames.specs.Rows.{AtNode, IsAtRedex};
+ghost use Rattle.machine_frames.specs.Stacks.{last};
+ghost use Rattle.machine_frames.specs.Standing.{view_of};
+ghost use Rattle.activity_step.specs.Called.{IsCalled};
+ghost use Rattle.activity_step.specs.Turns.{IsTurn, Stands};
+
+use crate::state::State;
+use crate::turn::Turn;
+use activity_rows::{Callee, Creation, active_row, callee_of, look};
+use asp_model::Label;
+use coded_cells::Place;
+use coded_store::Store;
+use machine_frames::Machine;
+use program_code::Code;
+use std::alloc::{AllocError, Global};
+
+/// The first operand, and the others.
+pub fn first_and_others(operands: &[Place]) -> Option<(Place, &[Place])>
+    ensures first { IfSome result (λ x. operands.now ≡ x.0 ∷ x.1.now) }
+{
+    match operands.split_first() {
+        Some((first, others)) => Some((*first, others)),
+        None => None,
+    }
+}
+
+/// What a call of these operands leads to: the receiver, then the arguments.
+pub fn call_of<'a>(
+    code: &'a Code,
+    store: &'a Store,
+    label: &Label,
+    operands: &[Place],
+) -> Result<Callee<'a>, AllocError>
+    ensures called { IfOk result
+        (IsCalled code.now store.now.cells label.now.text operands.now) }
+{
+    let Some((at, arguments)) = first_and_others(operands) else {
+        return Err(AllocError);
+    };
+    let Some(cell) = look(store, at) else {
+        return Err(AllocError);
+    };
+    let callee = callee_of(code, cell, label, at, arguments)?;
+    Ok(callee)
+}
+
+/// What the call of a service leads to.
+fn asked_of<'a>(
+    code: &'a Code,
+    machine: &Machine,
+    store: &'a Store,
+    count: usize,
+) -> Result<Callee<'a>, AllocError>
+    ensures called { let ops = last count machine.now.operands.items in
+        IfOk result (IsCalled code.now store.now.cells machine.now.asked.text ops) }
+{
+    let operands = machine.last_operands(count);
+    let callee = call_of(code, store, &machine.asked, operands)?;
+    Ok(callee)
+}
+
+impl State {
+    /// `i.m(k ..)`.
+    pub fn call_turn(
+        &mut self,
+        alloc: Global,
+        code: &Code,
+        label: &Label,
+        count: usize,
+        go: bool,
+    ) -> Result<Turn, AllocError>
+        ensures turn { (number from : ℕ) (n : NodeShape) (t : Tree) (vs : List ServiceShape)
+            (s : StoreShape) (ls : List LineShape) →
+            Stands code.now self.old t vs s ls →
+            AtNode code.now (view_of self.old.machine) number from count n →
+            n.kind ≡ kind.Call label.now →
+            IfOk result (IsTurn code.now self.new t vs s ls go) }
+    {
+        let operands = self.machine.last_operands(count);
+        let callee = call_of(code, &self.store, label, operands)?;
+        match callee {
+            Callee::Method(method, captured) => {
+                if go {
+                    self.machine.enter_body(count, captured, &method.body)?;
+                }
+                Ok(Turn::Reduces)
+            }
+            Callee::Members(_) => Err(AllocError),
+            Callee::Activity(_) => Ok(Turn::Sends),
+            Callee::Other(decision) => self.decided_turn(alloc, decision, count, go),
+        }
+    }
+
+    /// The call that a service begins with.
+    pub fn asked_turn(
+        &mut self,
+        alloc: Global,
+        code: &Code,
+        count: usize,
+        go: bool,
+    ) -> Result<Turn, AllocError>
+        ensures turn { (t : Tree) (vs : List ServiceShape) (s : StoreShape) (ls : List LineShape) →
+            Stands code.now self.old t vs s ls → self.old.machine.focus ≡ focus.Asked count →
+            IfOk result (IsTurn code.now self.new t vs s ls go) }
+    {
+        let callee = asked_of(code, &self.machine, &self.store, count)?;
+        match callee {
+            Callee::Method(method, captured) => {
+                if go {
+                    self.machine.enter_body(count, captured, &method.body)?;
+                }
+                Ok(Turn::Reduces)
+            }
+            Callee::Members(_) => Err(AllocError),
+            Callee::Activity(_) => Ok(Turn::Sends),
+            Callee::Other(decision) => self.decided_turn(alloc, decision, count, go),
+        }
+    }
+
+    /// `active(i)`, or `active(i, m)`.
+    pub fn active_turn(&mut self, alloc: Global, count: usize, go: bool) -> Result<Turn, AllocError>
+        ensures turn { (k : List NodeShape) (service : Option Text) (t : Tree)
+            (vs : List ServiceShape) (s : StoreShape) (ls : List LineShape) →
+            Stands k self.old t vs s ls →
+            IsAtRedex k (view_of self.old.machine) t vs count
+            (value_redex (ActiveHead service) (last count self.old.machine.operands.items)) →
+            IfOk result (IsTurn k self.new t vs s ls go) }
+    {
+        let operands = self.machine.last_operands(count);
+        let creation = active_row(&self.store, operands)?;
+        match creation {
+            Creation::Creates(place) => Ok(Turn::Creates(place)),
+            Creation::Other(decision) => self.decided_turn(alloc, decision, count, go),
+        }
+    }
+}

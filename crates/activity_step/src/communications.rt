@@ -1,0 +1,87 @@
+//! What an activity becomes when a communication is done.
+
+ghost use Rattle.std.specs.Prelude.{◌≡◌, Err, List, OnErr, OnOk, alloc_error, true};
+ghost use Rattle.asp_model.specs.Configuration.{Activity as ActivityShape};
+ghost use Rattle.asp_model.specs.Shapes.{future_shape};
+ghost use Rattle.asp_model.specs.Split.{Context, Redex, Splits, split};
+ghost use Rattle.asp_model.specs.Store.{Future as FutureCell, Reference as ReferenceCell};
+ghost use Rattle.coded_cells.specs.Shapes.{cell_shape};
+ghost use Rattle.activity_step.specs.Activities.{StandsFor, with_new_cell};
+ghost use Rattle.activity_step.specs.Standings.{code_of};
+
+use crate::activity::Activity;
+use asp_model::{ActivityName, FutureName};
+use coded_cells::Cell;
+use std::alloc::{AllocError, Global};
+
+impl Activity {
+    /// The redex becomes a new cell, which is one reduction.
+    fn become_cell(&mut self, cell: Cell) -> Result<(), AllocError>
+        ensures becomes { (a : ActivityShape) (contexts : List Context) (redex : Redex) →
+            StandsFor self.old a → split a.term ≡ Splits contexts redex →
+            let c = cell_shape (code_of self.old) cell in
+            OnOk result (StandsFor self.new (with_new_cell contexts c a)) }
+        ensures code { code_of self.new ≡ code_of self.old }
+    {
+        let nodes = self.code.nodes();
+        let count = self.state.machine.redex(nodes)?;
+        let place = self.state.store.add(cell)?;
+        self.state.machine.become_place(count, place);
+        let reductions = self.count.checked_add(1).ok_or(AllocError)?;
+        self.count = reductions;
+        Ok(())
+    }
+
+    /// The redex becomes a reference to an activity.
+    fn become_reference(&mut self, alloc: Global, name: ActivityName) -> Result<(), AllocError>
+        ensures becomes { (a : ActivityShape) (contexts : List Context) (redex : Redex) →
+            StandsFor self.old a → split a.term ≡ Splits contexts redex →
+            OnOk result (StandsFor self.new (with_new_cell contexts (ReferenceCell name) a)) }
+        ensures code { code_of self.new ≡ code_of self.old }
+    {
+        let cell = Cell::Reference(Box::new(alloc, name)?);
+        self.become_cell(cell)
+    }
+
+    /// The redex becomes a future.
+    fn become_future(&mut self, alloc: Global, future: FutureName) -> Result<(), AllocError>
+        ensures becomes { (a : ActivityShape) (contexts : List Context) (redex : Redex) →
+            StandsFor self.old a → split a.term ≡ Splits contexts redex →
+            let c = FutureCell (future_shape future) in
+            OnOk result (StandsFor self.new (with_new_cell contexts c a)) }
+        ensures code { code_of self.new ≡ code_of self.old }
+    {
+        let cell = Cell::Future(Box::new(alloc, future)?);
+        self.become_cell(cell)
+    }
+
+    /// The activity that it asked for was created, and has this name. After `AllocError` it is spent.
+    pub fn created(&mut self, alloc: Global, name: ActivityName) -> Result<(), AllocError>
+        ensures becomes { (a : ActivityShape) (contexts : List Context) (redex : Redex) →
+            StandsFor self.old a → split a.term ≡ Splits contexts redex →
+            OnOk result (StandsFor self.new (with_new_cell contexts (ReferenceCell name) a)) }
+        ensures spent { self.old.spent ≡ true → result ≡ Err alloc_error }
+        ensures gives_up { OnErr result (self.new.spent ≡ true) }
+        ensures code { code_of self.new ≡ code_of self.old }
+    {
+        self.unspent()?;
+        let outcome = self.become_reference(alloc, name);
+        self.noted(outcome)
+    }
+
+    /// The request that it asked for was sent, and this future has its answer. After `AllocError` it is
+    /// spent.
+    pub fn sent(&mut self, alloc: Global, future: FutureName) -> Result<(), AllocError>
+        ensures becomes { (a : ActivityShape) (contexts : List Context) (redex : Redex) →
+            StandsFor self.old a → split a.term ≡ Splits contexts redex →
+            let c = FutureCell (future_shape future) in
+            OnOk result (StandsFor self.new (with_new_cell contexts c a)) }
+        ensures spent { self.old.spent ≡ true → result ≡ Err alloc_error }
+        ensures gives_up { OnErr result (self.new.spent ≡ true) }
+        ensures code { code_of self.new ≡ code_of self.old }
+    {
+        self.unspent()?;
+        let outcome = self.become_future(alloc, future);
+        self.noted(outcome)
+    }
+}

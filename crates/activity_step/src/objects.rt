@@ -1,0 +1,151 @@
+//! Objects and groups that are made.
+
+ghost use Rattle.std.specs.Prelude.{◌≡◌, ◌++◌, [], IfOk, List, OnOk, Option, Some, drop, ℕ};
+ghost use Rattle.asp_model.specs.Configuration.{ServiceShape};
+ghost use Rattle.asp_model.specs.Contraction.{LineShape};
+ghost use Rattle.asp_model.specs.Store.{Store as StoreShape};
+ghost use Rattle.asp_model.specs.Term.{Echo as EchoHead, Group as GroupHead, Tree};
+ghost use Rattle.program_code.specs.Classes.{class_at, class_of};
+ghost use Rattle.program_code.specs.Sound.{IsSound};
+ghost use Rattle.program_code.specs.declared.code.Node.{Node as NodeShape};
+ghost use Rattle.code_laws.specs.Places.{captured_places, kept_places};
+ghost use Rattle.activity_rows.specs.Decisions.{value_redex};
+ghost use Rattle.machine_frames.specs.Rows.{AtNode, IsAtRedex};
+ghost use Rattle.machine_frames.specs.Stacks.{last};
+ghost use Rattle.machine_frames.specs.Standing.{view_of};
+ghost use Rattle.activity_step.specs.Turns.{IsTurn, Stands};
+
+use crate::state::State;
+use crate::turn::Turn;
+use asp_model::{Line, Word};
+use coded_cells::{Cell, Object, Place};
+use machine_frames::Machine;
+use program_code::{Capture, Class, EMPTY_NUMBER, MethodCode};
+use std::alloc::{AllocError, Global};
+
+fn push_captured(
+    machine: &Machine,
+    captured: &[Capture],
+    places: &mut Vec<Place>,
+) -> Result<(), AllocError>
+    ensures places { let ns = drop machine.now.base machine.now.env.items in
+        OnOk result (places.new.items ≡ places.old.items ++ captured_places ns captured.now) }
+{
+    for capture in captured {
+        let Some(place) = machine.place_of(&capture.leaf) else {
+            return Err(AllocError);
+        };
+        places.push(place)?;
+    }
+    Ok(())
+}
+
+fn push_kept(
+    machine: &Machine,
+    methods: &[MethodCode],
+    places: &mut Vec<Place>,
+) -> Result<(), AllocError>
+    ensures places { let ns = drop machine.now.base machine.now.env.items in
+        OnOk result (places.new.items ≡ places.old.items ++ kept_places ns methods.now) }
+{
+    for method in methods {
+        push_captured(machine, &method.captured, places)?;
+    }
+    Ok(())
+}
+
+/// The places of an object of a class, whose fields are the last operands.
+fn object_places(
+    alloc: Global,
+    machine: &Machine,
+    class: &Class,
+    count: usize,
+) -> Result<Vec<Place>, AllocError>
+    ensures places { let ns = drop machine.now.base machine.now.env.items in
+        IfOk result (λ ps. ps.items
+        ≡ last count machine.now.operands.items ++ kept_places ns class.now.methods.items) }
+{
+    let operands = machine.last_operands(count);
+    let mut places = Vec::with_capacity(alloc, operands.len())?;
+    places.extend_from_slice(operands)?;
+    push_kept(machine, &class.methods, &mut places)?;
+    Ok(places)
+}
+
+impl State {
+    /// An object of the class of a node.
+    pub fn make_turn(
+        &mut self,
+        alloc: Global,
+        class: &Class,
+        number: usize,
+        count: usize,
+        go: bool,
+    ) -> Result<Turn, AllocError>
+        ensures turn { (k : List NodeShape) (from : ℕ) (n : NodeShape) (t : Tree)
+            (vs : List ServiceShape) (s : StoreShape) (ls : List LineShape) →
+            Stands k self.old t vs s ls → AtNode k (view_of self.old.machine) number from count n →
+            class_at k number ≡ class_of n.kind → class_of n.kind ≡ Some class.now →
+            IfOk result (IsTurn k self.new t vs s ls go) }
+    {
+        if !go {
+            return Ok(Turn::Reduces);
+        }
+        let places = object_places(alloc, &self.machine, class, count)?;
+        let object = Object {
+            class: number,
+            places,
+        };
+        let place = self.store.add(Cell::Object(Box::new(alloc, object)?))?;
+        self.machine.become_place(count, place);
+        Ok(Turn::Reduces)
+    }
+
+    /// A group of the last operands.
+    pub fn group_turn(&mut self, alloc: Global, count: usize, go: bool) -> Result<Turn, AllocError>
+        ensures turn { (k : List NodeShape) (t : Tree) (vs : List ServiceShape) (s : StoreShape)
+            (ls : List LineShape) →
+            Stands k self.old t vs s ls →
+            IsAtRedex k (view_of self.old.machine) t vs count
+            (value_redex GroupHead (last count self.old.machine.operands.items)) →
+            IfOk result (IsTurn k self.new t vs s ls go) }
+    {
+        if !go {
+            return Ok(Turn::Reduces);
+        }
+        let operands = self.machine.last_operands(count);
+        let mut members = Vec::with_capacity(alloc, operands.len())?;
+        members.extend_from_slice(operands)?;
+        let place = self.store.add(Cell::Group(Box::new(alloc, members)?))?;
+        self.machine.become_place(count, place);
+        Ok(Turn::Reduces)
+    }
+
+    /// `echo("t")`.
+    pub fn echo_turn(
+        &mut self,
+        alloc: Global,
+        text: &Word,
+        count: usize,
+        go: bool,
+    ) -> Result<Turn, AllocError>
+        ensures turn { (k : List NodeShape) (t : Tree) (vs : List ServiceShape) (s : StoreShape)
+            (ls : List LineShape) →
+            IsSound k → Stands k self.old t vs s ls →
+            IsAtRedex k (view_of self.old.machine) t vs count (value_redex (EchoHead text.now) []) →
+            IfOk result (IsTurn k self.new t vs s ls go) }
+    {
+        if !go {
+            return Ok(Turn::Reduces);
+        }
+        let line = Line::Text(text.copy(alloc)?);
+        let object = Object {
+            class: EMPTY_NUMBER,
+            places: Vec::new(alloc),
+        };
+        let place = self.store.add(Cell::Object(Box::new(alloc, object)?))?;
+        self.lines.push(line)?;
+        self.machine.become_place(count, place);
+        Ok(Turn::Reduces)
+    }
+}

@@ -1,0 +1,125 @@
+//! Decisions that are done.
+
+ghost use Rattle.std.specs.Prelude.{◌≡◌, ◌++◌, ◌∷◌, [], IfOk, List, length, map};
+ghost use Rattle.asp_model.specs.Shapes.{line_shape};
+ghost use Rattle.asp_model.specs.Contraction.{NumberLine};
+ghost use Rattle.program_code.specs.declared.code.Node.{Node as NodeShape};
+ghost use Rattle.coded_cells.specs.Cells.{Group as group_of, Object as object_with, coded};
+ghost use Rattle.activity_rows.specs.declared.decision.Decision.TheVariants as decision;
+ghost use Rattle.activity_step.specs.Turns.{IsPerformed};
+
+use activity_rows::{Decision, look};
+use asp_model::Line;
+use coded_cells::{Cell, Object, Place};
+use coded_store::Store;
+use std::alloc::{AllocError, Global};
+
+/// The same cell.
+fn copy_of(alloc: Global, cell: &Cell) -> Result<Cell, AllocError>
+    ensures cell { IfOk result (λ c. coded c ≡ coded cell.now) }
+{
+    match cell {
+        Cell::Number(n) => Ok(Cell::Number(*n)),
+        Cell::Object(object) => copy_object(alloc, object),
+        Cell::Reference(name) => Ok(Cell::Reference(Box::new(alloc, name.copy(alloc)?)?)),
+        Cell::Future(future) => Ok(Cell::Future(Box::new(alloc, future.copy(alloc)?)?)),
+        Cell::Group(members) => copy_group(alloc, members),
+    }
+}
+
+fn copy_object(alloc: Global, object: &Object) -> Result<Cell, AllocError>
+    ensures cell { IfOk result
+        (λ c. coded c ≡ object_with object.now.class object.now.places.items) }
+{
+    let mut places = Vec::with_capacity(alloc, object.places.len())?;
+    places.extend_from_slice(&object.places)?;
+    let class = object.class;
+    Ok(Cell::Object(Box::new(alloc, Object { class, places })?))
+}
+
+fn copy_group(alloc: Global, members: &[Place]) -> Result<Cell, AllocError>
+    ensures cell { IfOk result (λ c. coded c ≡ group_of members.now) }
+{
+    let mut places = Vec::with_capacity(alloc, members.len())?;
+    places.extend_from_slice(members)?;
+    Ok(Cell::Group(Box::new(alloc, places)?))
+}
+
+/// The redex becomes a new number.
+fn add_number(store: &mut Store, lines: &[Line], number: i64) -> Result<Place, AllocError>
+    ensures performed { (k : List NodeShape) → IfOk result
+        (IsPerformed k store.old.cells store.new.cells lines.now lines.now
+        (decision.Number number)) }
+{
+    store.add(Cell::Number(number))
+}
+
+/// A new cell that equals another.
+fn add_copy(
+    alloc: Global,
+    store: &mut Store,
+    lines: &[Line],
+    at: Place,
+) -> Result<Place, AllocError>
+    ensures performed { (k : List NodeShape) → IfOk result
+        (IsPerformed k store.old.cells store.new.cells lines.now lines.now (decision.Copies at)) }
+{
+    let Some(cell) = look(store, at) else {
+        return Err(AllocError);
+    };
+    let cell = copy_of(alloc, cell)?;
+    store.add(cell)
+}
+
+/// Another place in a field of an object.
+fn put_place(
+    store: &mut Store,
+    lines: &[Line],
+    object: Place,
+    field: usize,
+    to: Place,
+) -> Result<Place, AllocError>
+    ensures performed { (k : List NodeShape) → IfOk result
+        (IsPerformed k store.old.cells store.new.cells lines.now lines.now
+        (decision.Puts object field to)) }
+{
+    if object >= store.len() {
+        return Err(AllocError);
+    }
+    store.set_place(object, field, to);
+    Ok(object)
+}
+
+/// A line of output.
+fn print_number(lines: &mut Vec<Line>, number: i64) -> Result<(), AllocError>
+    ensures lines { IfOk result
+        (λ _. map line_shape lines.new.items
+        ≡ map line_shape lines.old.items ++ NumberLine number ∷ []) }
+{
+    lines.push(Line::Number(number))?;
+    Ok(())
+}
+
+/// Does what a decision says, and answers the place that the redex becomes.
+pub fn perform(
+    alloc: Global,
+    store: &mut Store,
+    lines: &mut Vec<Line>,
+    decision: Decision,
+) -> Result<Place, AllocError>
+    ensures performed { (k : List NodeShape) → IfOk result
+        (IsPerformed k store.old.cells store.new.cells lines.old.items lines.new.items decision) }
+{
+    match decision {
+        Decision::Stays(place) => Ok(place),
+        Decision::Number(number) => add_number(store, lines, number),
+        Decision::Copies(place) => add_copy(alloc, store, lines, place),
+        Decision::Puts { object, field, to } => put_place(store, lines, object, field, to),
+        Decision::Prints { place, number } => {
+            print_number(lines, number)?;
+            Ok(place)
+        }
+        Decision::Faults(_) => Err(AllocError),
+        Decision::Needs(_) => Err(AllocError),
+    }
+}

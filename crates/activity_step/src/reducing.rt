@@ -1,0 +1,129 @@
+//! One turn: on to the next redex, and what it comes to.
+
+ghost use Rattle.std.specs.Prelude.{◌≡◌, IfOk, IfSome, List, ℕ};
+ghost use Rattle.asp_model.specs.Configuration.{ServiceShape};
+ghost use Rattle.asp_model.specs.Contraction.{LineShape};
+ghost use Rattle.asp_model.specs.Store.{Store as StoreShape};
+ghost use Rattle.asp_model.specs.Term.{Tree};
+ghost use Rattle.program_code.specs.Classes.{class_at, class_of};
+ghost use Rattle.program_code.specs.Sound.{IsSound};
+ghost use Rattle.program_code.specs.Tables.{kind_head, node_piece, piece_at, pieces};
+ghost use Rattle.code_laws.specs.Nodes.{in_place, operand_count};
+ghost use Rattle.activity_rows.specs.Decisions.{value_redex};
+ghost use Rattle.machine_frames.specs.declared.frames.Focus.TheVariants as focus;
+ghost use Rattle.machine_frames.specs.Rows.{IsAtRedex};
+ghost use Rattle.machine_frames.specs.Stacks.{last, piece_from};
+ghost use Rattle.machine_frames.specs.Standing.{view_of};
+ghost use Rattle.activity_step.specs.Turns.{IsTurn, Stands};
+
+use crate::state::State;
+use crate::turn::Turn;
+use activity_rows::Decision;
+use machine_frames::{Focus, node_at};
+use program_code::{Code, Kind, Node};
+use std::alloc::{AllocError, Global};
+
+/// The node with a number.
+pub fn node_in<'a>(code: &'a Code, number: usize) -> Option<&'a Node>
+    ensures piece { IfSome result
+        (λ n. piece_at (pieces code.now) number ≡ node_piece (pieces code.now) n.now) }
+    ensures class { IfSome result (λ n. class_at code.now number ≡ class_of n.now.kind) }
+    ensures sound { IsSound code.now }
+{
+    let nodes = code.nodes();
+    let Some(node) = node_at(nodes, number) else {
+        return None;
+    };
+    Some(node)
+}
+
+impl State {
+    /// A redex whose terms are all places.
+    fn simple_turn(
+        &mut self,
+        alloc: Global,
+        code: &Code,
+        kind: &Kind,
+        count: usize,
+        go: bool,
+    ) -> Result<Turn, AllocError>
+        ensures turn { (size : ℕ) (t : Tree) (vs : List ServiceShape) (s : StoreShape)
+            (ls : List LineShape) →
+            IsSound code.now → Stands code.now self.old t vs s ls →
+            IsAtRedex code.now (view_of self.old.machine) t vs count
+            (value_redex (kind_head kind.now) (last count self.old.machine.operands.items)) →
+            count ≡ operand_count kind.now size →
+            IfOk result (IsTurn code.now self.new t vs s ls go) }
+    {
+        match kind {
+            Kind::Number(n) => self.decided_turn(alloc, Decision::Number(*n), count, go),
+            Kind::Echo(text) => self.echo_turn(alloc, text, count, go),
+            Kind::Group => self.group_turn(alloc, count, go),
+            Kind::Active(_) => self.active_turn(alloc, count, go),
+            Kind::Serve(_) => Ok(Turn::Serves),
+            Kind::Get(_) => self.value_turn(alloc, code, kind, count, go),
+            Kind::Put(_) => self.value_turn(alloc, code, kind, count, go),
+            Kind::Clone => self.value_turn(alloc, code, kind, count, go),
+            Kind::Operate(_) => self.value_turn(alloc, code, kind, count, go),
+            Kind::Print => self.value_turn(alloc, code, kind, count, go),
+            _ => Err(AllocError),
+        }
+    }
+
+    /// The redex of a node whose terms that are reduced in place are done.
+    fn reduce(
+        &mut self,
+        alloc: Global,
+        code: &Code,
+        number: usize,
+        from: usize,
+        count: usize,
+        go: bool,
+    ) -> Result<Turn, AllocError>
+        ensures turn { (t : Tree) (vs : List ServiceShape) (s : StoreShape) (ls : List LineShape) →
+            Stands code.now self.old t vs s ls →
+            self.old.machine.focus ≡ focus.Node number from count →
+            count ≡ in_place (piece_from code.now number from) →
+            IfOk result (IsTurn code.now self.new t vs s ls go) }
+    {
+        let Some(node) = node_in(code, number) else {
+            return Err(AllocError);
+        };
+        match &node.kind {
+            Kind::Make(class) => self.make_turn(alloc, class, number, count, go),
+            Kind::Call(label) => self.call_turn(alloc, code, label, count, go),
+            Kind::Let(_) => self.let_turn(node, count, go),
+            Kind::Steps => self.steps_turn(node, number, from, count, go),
+            Kind::If => self.if_turn(alloc, code, node, count, go),
+            Kind::Repeat => self.repeat_turn(number, from, count, go),
+            Kind::Number(_)
+            | Kind::Get(_)
+            | Kind::Put(_)
+            | Kind::Clone
+            | Kind::Active(_)
+            | Kind::Serve(_)
+            | Kind::Operate(_)
+            | Kind::Print
+            | Kind::Echo(_)
+            | Kind::Group
+            | Kind::Scatter(_)
+            | Kind::Size
+            | Kind::Member
+            | Kind::WaitAll => self.simple_turn(alloc, code, &node.kind, count, go),
+        }
+    }
+
+    /// Goes on to the next redex, and takes its contraction where it may, or tells what it comes to.
+    pub fn turn(&mut self, alloc: Global, code: &Code, go: bool) -> Result<Turn, AllocError>
+        ensures turn { (t : Tree) (vs : List ServiceShape) (s : StoreShape) (ls : List LineShape) →
+            Stands code.now self.old t vs s ls →
+            IfOk result (IsTurn code.now self.new t vs s ls go) }
+    {
+        self.machine.settle(code.nodes())?;
+        match self.machine.focus {
+            Focus::Node { number, from, done } => self.reduce(alloc, code, number, from, done, go),
+            Focus::Place(place) => Ok(Turn::Rests(place)),
+            Focus::Asked(count) => self.asked_turn(alloc, code, count, go),
+        }
+    }
+}

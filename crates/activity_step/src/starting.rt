@@ -1,0 +1,153 @@
+//! Activities that begin.
+
+ghost use Rattle.std.specs.Prelude.{◌≡◌, ◌∷◌, [], IfOk, List};
+ghost use Rattle.std.specs.Arc.{arc_value};
+ghost use Rattle.std.specs.Option.{option_map};
+ghost use Rattle.asp_model.specs.Configuration.{begun};
+ghost use Rattle.asp_model.specs.Intent.{start_term};
+ghost use Rattle.asp_model.specs.Parcel.{unpack as unpacked_in};
+ghost use Rattle.asp_model.specs.Store.{Object as ObjectCell, Store as StoreShape};
+ghost use Rattle.asp_model.specs.Term.{Tree};
+ghost use Rattle.program_code.specs.Pieces.{tree};
+ghost use Rattle.program_code.specs.Sound.{IsSound, root_of};
+ghost use Rattle.program_code.specs.Tables.{piece_at, pieces};
+ghost use Rattle.program_code.specs.declared.code.Node.{Node as NodeShape};
+ghost use Rattle.machine_frames.specs.Services.{asked_view};
+ghost use Rattle.machine_frames.specs.Standing.{Standing, view_of};
+ghost use Rattle.coded_cells.specs.Cells.{Object as ObjectCoded};
+ghost use Rattle.coded_cells.specs.Shapes.{parcel_shape, store_of};
+ghost use Rattle.laws.specs.Closed.{IsClosedParcel};
+ghost use Rattle.activity_step.specs.Activities.{StandsFor};
+ghost use Rattle.activity_step.specs.Starting.{start_view};
+ghost use Rattle.activity_step.specs.Standings.{code_of};
+
+use crate::activity::Activity;
+use crate::state::State;
+use asp_model::{Label, Word};
+use coded_cells::{Cell, Object, Parcel};
+use coded_copy::unpack;
+use coded_store::Store;
+use machine_frames::{Focus, Machine};
+use program_code::{Code, EMPTY_NUMBER, SERVICE_NUMBER};
+use std::alloc::{AllocError, Global};
+use std::sync::Arc;
+
+/// A machine that looks at a node, in no frames and an empty environment.
+fn machine_at(alloc: Global, number: usize) -> Machine
+    ensures view { view_of result ≡ start_view number }
+{
+    Machine {
+        frames: Vec::new(alloc),
+        env: Vec::new(alloc),
+        operands: Vec::new(alloc),
+        futures: Vec::new(alloc),
+        asked: Label {
+            text: Word::new(String::new(alloc)),
+        },
+        base: 0,
+        focus: Focus::Node {
+            number,
+            from: 0,
+            done: 0,
+        },
+    }
+}
+
+/// Code is sound by its type.
+pub fn code_is_sound(code: &Code)
+    ensures sound { IsSound code.now }
+{
+    let _nodes = code.nodes();
+}
+
+/// A machine that looks at a call of this method of the object at the place 0.
+fn calling_machine(alloc: Global, label: Label) -> Result<Machine, AllocError>
+    ensures view { let start = start_view SERVICE_NUMBER in
+        IfOk result (λ m. view_of m ≡ asked_view label.text (0 ∷ []) start) }
+{
+    let mut machine = machine_at(alloc, SERVICE_NUMBER);
+    machine.ask(label, 0, &[])?;
+    Ok(machine)
+}
+
+/// A machine that begins a service for ever, or a call of this method.
+fn serving_machine(alloc: Global, service: Option<Label>) -> Result<Machine, AllocError>
+    ensures stands { (k : List NodeShape) → IsSound k →
+        let term = start_term (option_map (λ l. l.text) service) 0 in
+        IfOk result (λ m. Standing k (view_of m) term []) }
+{
+    match service {
+        Some(label) => calling_machine(alloc, label),
+        None => Ok(machine_at(alloc, SERVICE_NUMBER)),
+    }
+}
+
+/// An activity that begins.
+fn begin(alloc: Global, code: Arc<Code>, machine: Machine, store: Store) -> Activity
+    ensures stands { (t : Tree) (s : StoreShape) →
+        Standing (arc_value code) (view_of machine) t [] →
+        store_of (arc_value code) store.cells ≡ s → StandsFor result (begun t s) }
+    ensures code { code_of result ≡ arc_value code }
+{
+    Activity {
+        code,
+        state: State {
+            machine,
+            store,
+            lines: Vec::new(alloc),
+        },
+        active: 0,
+        present: None,
+        count: 0,
+        spent: false,
+    }
+}
+
+/// A store with the object `[]` alone.
+fn empty_store(alloc: Global) -> Result<Store, AllocError>
+    ensures cells { IfOk result (λ s. s.cells ≡ ObjectCoded EMPTY_NUMBER [] ∷ []) }
+{
+    let object = Object {
+        class: EMPTY_NUMBER,
+        places: Vec::new(alloc),
+    };
+    let mut store = Store::new(alloc);
+    store.add(Cell::Object(Box::new(alloc, object)?))?;
+    Ok(store)
+}
+
+impl Activity {
+    /// The main activity, with the program as its term and an empty active object.
+    pub fn main(alloc: Global, code: Arc<Code>) -> Result<Activity, AllocError>
+        ensures stands { let k = arc_value code in
+            let program = tree [] (piece_at (pieces k) (root_of k)) in
+            IfOk result (λ x. StandsFor x (begun program (ObjectCell [] [] ∷ []))) }
+        ensures code { IfOk result (λ x. code_of x ≡ arc_value code) }
+    {
+        code_is_sound(&code);
+        let machine = machine_at(alloc, code.root());
+        let store = empty_store(alloc)?;
+        Ok(begin(alloc, code, machine, store))
+    }
+
+    /// An activity round the object that a parcel has as its root, with its service for ever, or with
+    /// a call of this method of the object.
+    pub fn made(
+        alloc: Global,
+        object: &Parcel,
+        service: Option<Label>,
+    ) -> Result<Activity, AllocError>
+        requires closed { IsClosedParcel (parcel_shape object.now) }
+        ensures stands { let store = unpacked_in [] (parcel_shape object.now) in
+            let term = start_term (option_map (λ l. l.text) service) 0 in
+            IfOk result (λ x. StandsFor x (begun term store)) }
+        ensures code { IfOk result (λ x. code_of x ≡ arc_value object.now.code) }
+    {
+        code_is_sound(&object.code);
+        let machine = serving_machine(alloc, service)?;
+        let mut store = Store::new(alloc);
+        unpack(alloc, &mut store, object)?;
+        let code = Arc::try_clone(&object.code)?;
+        Ok(begin(alloc, code, machine, store))
+    }
+}

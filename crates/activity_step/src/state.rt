@@ -1,0 +1,13 @@
+//! The state of an activity that contractions change.
+
+use asp_model::Line;
+use coded_store::Store;
+use machine_frames::Machine;
+
+/// Its term, its store, and its output in order.
+#[derive(Drop)]
+pub struct State {
+    pub machine: Machine,
+    pub store: Store,
+    pub lines: Vec<Line>,
+}

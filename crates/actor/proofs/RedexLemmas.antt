@@ -1,0 +1,231 @@
+-- A redex that is told tells its operands, and what it asks of others.
+use Rattle.std.proofs.Common.{◌≡◌, ◌∙◌, ℕ, List, [], ◌∷◌, Option, Some, None, refl, sym, ap, subst}
+use Rattle.asp_model.specs.Names.{Text}
+use Rattle.asp_model.specs.Term as term
+use Rattle.asp_model.specs.Term.{Head, Tree, none}
+use Rattle.asp_model.specs.Split.{Redex, Stands, split}
+use Rattle.asp_model.specs.Configuration.{Activity}
+use Rattle.laws.specs.Closed.{AreBelow}
+use Rattle.asp_model.specs.Store as store
+use Rattle.asp_model.specs.Store.{CellShape, Store, cell}
+use Rattle.asp_model.specs.Contraction.{Communication, LineShape, Creates, Sends, Serves, Communicates, Becomes, contract, strict_operands}
+use Rattle.activity_rows.specs.declared.redex.Redex.{Redex as Told}
+use Rattle.activity_rows.specs.declared.redex.Redex.TheVariants as redex
+use Rattle.activity_rows.specs.Redexes.{IsRedex}
+use Rattle.activity_rows.proofs.ReadLemmas.{cell_seen}
+use Rattle.program_code.specs.declared.code.Class.{Class}
+use Rattle.program_code.specs.declared.code.Node.{Node}
+use Rattle.std.specs.Borrow.{Bor}
+use Rattle.asp_model.specs.Intent.{method_labels}
+use Rattle.program_code.specs.Classes.{class_at, seen_class}
+use Rattle.program_code.specs.Tables.{pieces}
+use Rattle.serve_rules.specs.Labels.{class_labels}
+use Rattle.serve_rules.proofs.LabelLemmas.{object_labels}
+use Rattle.coded_cells.specs.Cells as coded
+use Rattle.coded_cells.specs.Cells.{CodedCell, CodedStore, cell_at}
+use Rattle.coded_cells.specs.Shapes.{cell_of, class_object, store_of}
+use Rattle.activity_step.specs.declared.standing.Standing.{Standing}
+use Rattle.activity_step.specs.declared.standing.Standing.TheVariants as standing
+use Rattle.activity_step.specs.Standings.{IsAt, IsStandingAt}
+use Rattle.actor.specs.Asking.{IsPlaced, IsWithin, asked_in, class_in, labels_in, sent_to}
+use Rattle.actor.proofs.AskLemmas.{contract_asks}
+
+-- Operands
+
+abbrev pub operands : Redex → List ℕ
+operands r = strict_operands r.head r.places
+
+-- two redexes that are told alike have the same operands
+pub same_operands : (r q : Redex) (x : Told) → IsRedex r x → IsRedex q x → operands r ≡ operands q
+same_operands r q redex.Goes h g = h.operands ∙ sym g.operands
+same_operands r q (redex.Get i l) h g = ap operands (h ∙ sym g)
+same_operands r q (redex.Put i l k) h g = ap operands (h ∙ sym g)
+same_operands r q (redex.Call i l ks) h g = ap operands (h ∙ sym g)
+same_operands r q (redex.Clone i) h g = ap operands (h ∙ sym g)
+same_operands r q (redex.Active i l) h g = ap operands (h ∙ sym g)
+same_operands r q (redex.Serve ls) h g = ap operands (h ∙ sym g)
+same_operands r q (redex.If i) h g = ap operands h.2 ∙ sym (ap operands g.2)
+same_operands r q (redex.Operate sign i k) h g = ap operands (h ∙ sym g)
+same_operands r q (redex.Print i) h g = ap operands (h ∙ sym g)
+
+-- What is asked
+
+class_refers : (k : List Node) (ns : List ℕ) (o : Option Class) (n : List ℕ) → class_object k ns o ≡ store.Reference n → ⊥
+class_refers k ns None n e = absurd cc
+class_refers k ns (Some c) n e = absurd cc
+
+refers : (k : List Node) (c : CodedCell) (n : List ℕ) → cell_of k c ≡ store.Reference n → c ≡ coded.Reference n
+refers k (coded.Reference m) n e = cc
+refers k (coded.Number z) n e = absurd cc
+refers k (coded.Object i ns) n e = absurd (class_refers k ns (class_at k i) n e)
+refers k (coded.Future f) n e = absurd cc
+refers k (coded.Group ns) n e = absurd cc
+
+-- a contraction is no communication
+abbrev IsOwn : Redex → Store → Type 0
+IsOwn r s = (t : Tree) × (u : Store) × (added : List LineShape) × (contract s r ≡ Becomes t u added)
+
+goes_on : (r : Redex) (s : Store) (y : Communication) → IsOwn r s → contract s r ≡ Communicates y → ⊥
+goes_on r s y g e = let is = g.3 in let both : Becomes g.0 g.1 g.2 ≡ Communicates y = sym is ∙ e in absurd cc
+
+if_creates : (service : Option Text) → term.If ≡ term.Active service → ⊥
+if_creates service e = absurd cc
+
+if_sends : (l : Text) → term.If ≡ term.Call l → ⊥
+if_sends l e = absurd cc
+
+if_serves : (ls : List Text) → term.If ≡ term.Serve ls → ⊥
+if_serves ls e = absurd cc
+
+module _ (k : List Node) (s : CodedStore) where
+  created : (r : Redex) (x : Told) (p : ℕ) (service : Option Text) → IsRedex r x → contract (store_of k s) r ≡ Communicates (Creates p service) → r.head ≡ term.Active service → r.places ≡ p ∷ [] → asked_in s x ≡ Some (Creates p service)
+  created r redex.Goes p service h e head places = absurd (goes_on r (store_of k s) (Creates p service) (h.goes (store_of k s)) e)
+  created r (redex.Get i l) p service h _ head places = absurd cc
+  created r (redex.Put i l j) p service h _ head places = absurd cc
+  created r (redex.Call i l ks) p service h _ head places = absurd cc
+  created r (redex.Clone i) p service h _ head places = absurd cc
+  created r (redex.Active i l) p service h _ head places = cc
+  created r (redex.Serve ls) p service h _ head places = absurd cc
+  created r (redex.If i) p service h _ head _ = absurd (if_creates service (sym (ap (λ (q : Redex). q.head) h.2) ∙ head))
+  created r (redex.Operate sign i j) p service h _ head places = absurd cc
+  created r (redex.Print i) p service h _ head places = absurd cc
+
+  sent : (r : Redex) (x : Told) (i : ℕ) (n : List ℕ) (l : Text) (js : List ℕ) → IsRedex r x → contract (store_of k s) r ≡ Communicates (Sends n l js) → r.head ≡ term.Call l → r.places ≡ i ∷ js → cell (store_of k s) i ≡ store.Reference n → asked_in s x ≡ Some (Sends n l js)
+  sent r redex.Goes i n l js h e head places at = absurd (goes_on r (store_of k s) (Sends n l js) (h.goes (store_of k s)) e)
+  sent r (redex.Get j m) i n l js h _ head places at = absurd cc
+  sent r (redex.Put j m q) i n l js h _ head places at = absurd cc
+  sent r (redex.Call j m ks) i n l js h _ head places at =
+      let ref : cell_at s i ≡ coded.Reference n = refers k (cell_at s i) n (sym (cell_seen k s i (cell_at s i) refl) ∙ at) in
+      let label : m.now.text ≡ l = cc in
+      let same : j ∷ ks.now ≡ i ∷ js = cc in
+      let place : j ≡ i = cc in
+      let arguments : ks.now ≡ js = cc in
+      (λ a. sent_to (cell_at s (place a)) (label a) (arguments a)) ∙ ap (λ c. sent_to c l js) ref
+  sent r (redex.Clone j) i n l js h _ head places at = absurd cc
+  sent r (redex.Active j m) i n l js h _ head places at = absurd cc
+  sent r (redex.Serve ls) i n l js h _ head places at = absurd cc
+  sent r (redex.If j) i n l js h _ head _ _ = absurd (if_sends l (sym (ap (λ (q : Redex). q.head) h.2) ∙ head))
+  sent r (redex.Operate sign j q) i n l js h _ head places at = absurd cc
+  sent r (redex.Print j) i n l js h _ head places at = absurd cc
+
+  served : (r : Redex) (x : Told) (ls : List Text) → IsRedex r x → contract (store_of k s) r ≡ Communicates (Serves ls) → r.head ≡ term.Serve ls → asked_in s x ≡ Some (Serves ls)
+  served r redex.Goes ls h e head = absurd (goes_on r (store_of k s) (Serves ls) (h.goes (store_of k s)) e)
+  served r (redex.Get i l) ls h _ head = absurd cc
+  served r (redex.Put i l j) ls h _ head = absurd cc
+  served r (redex.Call i l ks) ls h _ head = absurd cc
+  served r (redex.Clone i) ls h _ head = absurd cc
+  served r (redex.Active i l) ls h _ head = absurd cc
+  served r (redex.Serve ms) ls h _ head = cc
+  served r (redex.If i) ls h _ head = absurd (if_serves ls (sym (ap (λ (q : Redex). q.head) h.2) ∙ head))
+  served r (redex.Operate sign i j) ls h _ head = absurd cc
+  served r (redex.Print i) ls h _ head = absurd cc
+
+  -- what the redex asks of others is told
+  pub asked : (r : Redex) (x : Told) (y : Communication) → IsRedex r x → contract (store_of k s) r ≡ Communicates y → asked_in s x ≡ Some y
+  asked r x (Creates p service) h e = let a = contract_asks (store_of k s) r (Communicates (Creates p service)) e in created r x p service h e a.0 a.1
+  asked r x (Sends n l js) h e = let a = contract_asks (store_of k s) r (Communicates (Sends n l js)) e in sent r x a.0 n l js h e a.1 a.2 a.3
+  asked r x (Serves ls) h e = served r x ls h e (contract_asks (store_of k s) r (Communicates (Serves ls)) e)
+
+abbrev labels_of : Option Communication → List Text
+labels_of (Some (Serves ls)) = ls
+labels_of o = []
+
+labels_told : (s : CodedStore) (x : Told) (ls : List Text) → asked_in s x ≡ Some (Serves ls) → labels_in x ≡ ls
+labels_told s redex.Goes ls e = ap labels_of e
+labels_told s (redex.Get i l) ls e = ap labels_of e
+labels_told s (redex.Put i l j) ls e = ap labels_of e
+labels_told s (redex.Call i l ks) ls e = sent_serves (cell_at s i) e
+  where
+    sent_serves : (c : CodedCell) → sent_to c l.now.text ks.now ≡ Some (Serves ls) → [] ≡ ls
+    sent_serves (coded.Reference n) e = ap labels_of e
+    sent_serves (coded.Number z) e = ap labels_of e
+    sent_serves (coded.Object i ns) e = ap labels_of e
+    sent_serves (coded.Future f) e = ap labels_of e
+    sent_serves (coded.Group ns) e = ap labels_of e
+labels_told s (redex.Clone i) ls e = ap labels_of e
+labels_told s (redex.Active i l) ls e = ap labels_of e
+labels_told s (redex.Serve ms) ls e = ap labels_of e
+labels_told s (redex.If i) ls e = ap labels_of e
+labels_told s (redex.Operate sign i j) ls e = ap labels_of e
+labels_told s (redex.Print i) ls e = ap labels_of e
+
+-- the labels of a `serve` are told
+pub serve_labels : (k : List Node) (s : CodedStore) (r : Redex) (x : Told) (ls : List Text) → IsRedex r x → contract (store_of k s) r ≡ Communicates (Serves ls) → labels_in x ≡ ls
+serve_labels k s r x ls h e = labels_told s x ls (asked k s r x (Serves ls) h e)
+
+-- Places
+
+pub is_at : (a : Activity) (s : Standing) (x : Told) → s ≡ standing.Redex x → IsStandingAt a s → IsAt a x
+is_at a s x e h = subst (IsStandingAt a) e h
+
+pub is_place : (a : Activity) (s : Standing) (p : ℕ) → s ≡ standing.Place p → IsStandingAt a s → split a.term ≡ Stands p
+is_place a s p e h = subst (IsStandingAt a) e h
+
+abbrev places : Redex → List ℕ
+places r = r.places
+
+-- the receiver of a call is in the store
+pub placed : (n : ℕ) (r : Redex) (x : Told) → IsRedex r x → AreBelow n r.places → IsPlaced n x
+placed n r redex.Goes h b = tt
+placed n r (redex.Get i l) h b = tt
+placed n r (redex.Put i l j) h b = tt
+placed n r (redex.Call i l ks) h b = let c : AreBelow n (i ∷ ks.now) = subst (AreBelow n) (ap places h) b in c.0
+placed n r (redex.Clone i) h b = tt
+placed n r (redex.Active i l) h b = tt
+placed n r (redex.Serve ls) h b = tt
+placed n r (redex.If i) h b = tt
+placed n r (redex.Operate sign i j) h b = tt
+placed n r (redex.Print i) h b = tt
+
+sent_within : (n : ℕ) (c : CodedCell) (l : Text) (ks : List ℕ) → AreBelow n ks → IsWithin n (sent_to c l ks)
+sent_within n (coded.Reference m) l ks h = h
+sent_within n (coded.Number z) l ks h = tt
+sent_within n (coded.Object i ns) l ks h = tt
+sent_within n (coded.Future f) l ks h = tt
+sent_within n (coded.Group ns) l ks h = tt
+
+-- what others get a copy of is in the store
+pub asked_within : (n : ℕ) (s : CodedStore) (r : Redex) (x : Told) → IsRedex r x → AreBelow n r.places → IsWithin n (asked_in s x)
+asked_within n s r redex.Goes h b = tt
+asked_within n s r (redex.Get i l) h b = tt
+asked_within n s r (redex.Put i l j) h b = tt
+asked_within n s r (redex.Call i l ks) h b = let c : AreBelow n (i ∷ ks.now) = subst (AreBelow n) (ap places h) b in sent_within n (cell_at s i) l.now.text ks.now c.1
+asked_within n s r (redex.Clone i) h b = tt
+asked_within n s r (redex.Active i l) h b = let c : AreBelow n (i ∷ []) = subst (AreBelow n) (ap places h) b in c.0
+asked_within n s r (redex.Serve ls) h b = tt
+asked_within n s r (redex.If i) h b = tt
+asked_within n s r (redex.Operate sign i j) h b = tt
+asked_within n s r (redex.Print i) h b = tt
+
+-- strict operands are among the places
+pub operands_within : (n : ℕ) (r : Redex) (x : Told) → IsRedex r x → AreBelow n r.places → AreBelow n (operands r)
+operands_within n r redex.Goes h b = subst (AreBelow n) (sym h.operands) tt
+operands_within n r (redex.Get i l) h b = subst (AreBelow n) (sym (ap operands h)) (subst (AreBelow n) (ap places h) b)
+operands_within n r (redex.Put i l j) h b = let c : AreBelow n (i ∷ j ∷ []) = subst (AreBelow n) (ap places h) b in subst (AreBelow n) (sym (ap operands h)) (c.0, tt)
+operands_within n r (redex.Call i l ks) h b = let c : AreBelow n (i ∷ ks.now) = subst (AreBelow n) (ap places h) b in subst (AreBelow n) (sym (ap operands h)) (c.0, tt)
+operands_within n r (redex.Clone i) h b = subst (AreBelow n) (sym (ap operands h)) (subst (AreBelow n) (ap places h) b)
+operands_within n r (redex.Active i l) h b = subst (AreBelow n) (sym (ap operands h)) (subst (AreBelow n) (ap places h) b)
+operands_within n r (redex.Serve ls) h b = subst (AreBelow n) (sym (ap operands h)) tt
+operands_within n r (redex.If i) h b = subst (AreBelow n) (sym (ap operands h.2)) (subst (AreBelow n) (ap places h.2) b)
+operands_within n r (redex.Operate sign i j) h b = subst (AreBelow n) (sym (ap operands h)) (subst (AreBelow n) (ap places h) b)
+operands_within n r (redex.Print i) h b = subst (AreBelow n) (sym (ap operands h)) (subst (AreBelow n) (ap places h) b)
+
+-- The labels of methods
+
+abbrev pub class_texts : Option Class → List Text
+class_texts None = []
+class_texts (Some k) = class_labels k
+
+object_texts : (k : List Node) (ns : List ℕ) (o : Option Class) → method_labels (class_object k ns o) ≡ class_texts o
+object_texts k ns None = refl
+object_texts k ns (Some c) = object_labels (pieces k) c ns
+
+methods_are : (k : List Node) (c : CodedCell) → method_labels (cell_of k c) ≡ class_texts (class_in k c)
+methods_are k (coded.Object i ns) = object_texts k ns (class_at k i)
+methods_are k (coded.Number z) = refl
+methods_are k (coded.Reference n) = refl
+methods_are k (coded.Future f) = refl
+methods_are k (coded.Group ns) = refl
+
+pub methods_by : (k : List Node) (c : CodedCell) (o : Option (Bor Class)) → seen_class o ≡ class_in k c → class_texts (seen_class o) ≡ method_labels (cell_of k c)
+methods_by k c o e = ap class_texts e ∙ sym (methods_are k c)

@@ -1,0 +1,72 @@
+-- What a redex asks of others.
+use Rattle.std.specs.Prelude.{ℕ, ◌<◌, Bool, true, false, List, [], Option, Some, None, map}
+use Rattle.std.specs.Option.{option_map}
+use Rattle.std.specs.Borrow.{Bor}
+use Rattle.asp_model.specs.declared.word.Label.{Label}
+use Rattle.asp_model.specs.Names.{Text}
+use Rattle.asp_model.specs.Contraction.{Communication, Creates, Sends, Serves}
+use Rattle.activity_rows.specs.declared.redex.Redex.{Redex}
+use Rattle.activity_rows.specs.declared.redex.Redex.TheVariants as redex
+use Rattle.program_code.specs.declared.code.Class.{Class}
+use Rattle.program_code.specs.declared.code.Node.{Node}
+use Rattle.program_code.specs.Classes.{class_at}
+use Rattle.laws.specs.Closed.{AreBelow}
+use Rattle.coded_cells.specs.Cells as coded
+use Rattle.coded_cells.specs.Cells.{CodedCell, CodedStore, cell_at}
+use Rattle.serve_rules.specs.Labels.{label_text}
+use Rattle.activity_step.specs.declared.turn.Turn.{Turn}
+use Rattle.activity_step.specs.declared.turn.Turn.TheVariants as turn
+use Rattle.actor.specs.declared.asked.Asked.{Asked}
+use Rattle.actor.specs.declared.asked.Asked.TheVariants as asked
+
+-- what a new activity serves: the label of a call, or its service for ever
+abbrev pub service_text : Option Label → Option Text
+service_text l = option_map (λ x. x.text) l
+
+abbrev pub lent_text : Option (Bor Label) → Option Text
+lent_text l = option_map (λ x. x.now.text) l
+
+abbrev pub asked_shape : Asked → Option Communication
+asked_shape (asked.Creates i l) = Some (Creates i (lent_text l))
+asked_shape (asked.Sends n l ks) = Some (Sends n.now l.now.text ks.now)
+asked_shape (asked.Serves ls) = Some (Serves (map label_text ls.now))
+asked_shape asked.Nothing = None
+
+-- the receiver is another activity
+abbrev pub sent_to : CodedCell → Text → List ℕ → Option Communication
+sent_to (coded.Reference n) l ks = Some (Sends n l ks)
+sent_to c l ks = None
+
+abbrev pub asked_in : CodedStore → Redex → Option Communication
+asked_in s (redex.Active i l) = Some (Creates i (lent_text l))
+asked_in s (redex.Call i l ks) = sent_to (cell_at s i) l.now.text ks.now
+asked_in s (redex.Serve ls) = Some (Serves (map label_text ls.now))
+asked_in s x = None
+
+-- the labels of a `serve`
+abbrev pub labels_in : Redex → List Text
+labels_in (redex.Serve ls) = map label_text ls.now
+labels_in x = []
+
+-- the receiver of a call is below n
+abbrev pub IsPlaced : ℕ → Redex → Type 0
+IsPlaced n (redex.Call i l ks) = i < n
+IsPlaced n x = Unit {0}
+
+-- the places that others get a copy of are below n
+abbrev pub IsWithin : ℕ → Option Communication → Type 0
+IsWithin n (Some (Creates i service)) = i < n
+IsWithin n (Some (Sends m l ks)) = AreBelow n ks
+IsWithin n o = Unit {0}
+
+-- a turn stops at what asks something of others
+abbrev pub communicates : Turn → Bool
+communicates (turn.Creates p) = true
+communicates turn.Sends = true
+communicates turn.Serves = true
+communicates r = false
+
+-- the class of an object; another cell has none
+abbrev pub class_in : List Node → CodedCell → Option Class
+class_in code (coded.Object k ns) = class_at code k
+class_in code c = None

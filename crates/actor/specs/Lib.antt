@@ -1,0 +1,6 @@
+-- in reading order
+pub mod Actors
+pub mod Effects
+pub mod Outlook
+pub mod Asking
+pub mod Running

@@ -1,0 +1,126 @@
+//! An activity with the requests that it received.
+
+ghost use Rattle.std.specs.Prelude.{◌≡◌, ◌∷◌, ◌++◌, [], IfOk, List, OnOk, length, map};
+ghost use Rattle.std.specs.Arc.{arc_value};
+ghost use Rattle.std.specs.Option.{option_map};
+ghost use Rattle.asp_model.specs.Configuration as model;
+ghost use Rattle.asp_model.specs.Configuration.{RequestShape, begun};
+ghost use Rattle.asp_model.specs.Intent.{start_term};
+ghost use Rattle.asp_model.specs.Parcel.{unpack as unpack_in};
+ghost use Rattle.asp_model.specs.Shapes.{activity_shape as report_shape, status_shape};
+ghost use Rattle.asp_model.specs.Store.{Object as ObjectCell};
+ghost use Rattle.coded_cells.specs.Shapes.{parcel_shape};
+ghost use Rattle.laws.specs.Closed.{IsClosedParcel};
+ghost use Rattle.program_code.specs.Pieces.{tree};
+ghost use Rattle.program_code.specs.Sound.{root_of};
+ghost use Rattle.program_code.specs.Tables.{piece_at, pieces};
+ghost use Rattle.activity_step.specs.Activities.{StandsFor};
+ghost use Rattle.request_queue.specs.Requests.{request_shape};
+ghost use Rattle.actor.specs.Actors.{Stands, code_of};
+
+use activity_step::Activity;
+use asp_model::{ActivityName, ActivityReport, Label, Status};
+use coded_cells::Parcel;
+use program_code::Code;
+use request_queue::{Queue, Request};
+use std::alloc::{AllocError, Global};
+use std::sync::Arc;
+
+/// An activity with its pending requests, who sent all that it received, and how many requests and
+/// activities it has made.
+#[derive(Drop)]
+pub struct Actor {
+    pub(crate) activity: Activity,
+    pub(crate) queue: Queue,
+    pub(crate) senders: Vec<ActivityName>,
+    pub(crate) sends: u32,
+    pub(crate) creations: u32,
+}
+
+impl Actor {
+    /// An activity that has received nothing.
+    fn begin(alloc: Global, activity: Activity) -> Actor
+        ensures stands { (a : model.Activity) → StandsFor activity a → a.sends ≡ 0 →
+            a.creations ≡ 0 → a.served ≡ [] → Stands result a [] }
+        ensures code { code_of result ≡ arc_value activity.code }
+    {
+        Actor {
+            activity,
+            queue: Queue::new(alloc),
+            senders: Vec::new(alloc),
+            sends: 0,
+            creations: 0,
+        }
+    }
+
+    /// The main activity, with the program as its term and an empty active object.
+    pub fn main(alloc: Global, code: Arc<Code>) -> Result<Actor, AllocError>
+        ensures stands { let k = arc_value code in
+            let first = begun (tree [] (piece_at (pieces k) (root_of k))) (ObjectCell [] [] ∷ []) in
+            IfOk result (λ x. Stands x first []) }
+        ensures code { IfOk result (λ x. code_of x ≡ arc_value code) }
+    {
+        Ok(Actor::begin(alloc, Activity::main(alloc, code)?))
+    }
+
+    /// An activity round the object that a parcel has as its root.
+    pub fn made(alloc: Global, object: &Parcel, service: Option<Label>) -> Result<Actor, AllocError>
+        requires closed { IsClosedParcel (parcel_shape object.now) }
+        ensures stands { let store = unpack_in [] (parcel_shape object.now) in
+            let term = start_term (option_map (λ l. l.text) service) 0 in
+            IfOk result (λ x. Stands x (begun term store) []) }
+        ensures code { IfOk result (λ x. code_of x ≡ arc_value object.now.code) }
+    {
+        Ok(Actor::begin(alloc, Activity::made(alloc, object, service)?))
+    }
+
+    /// A request that comes. It is pending behind the others.
+    pub fn receive(&mut self, alloc: Global, request: Request) -> Result<(), AllocError>
+        requires code { arc_value request.arguments.code ≡ code_of self.old }
+        ensures stands { (a : model.Activity) (rs : List RequestShape) → Stands self.old a rs →
+            OnOk result (Stands self.new a (rs ++ request_shape request ∷ [])) }
+        ensures code { code_of self.new ≡ code_of self.old }
+    {
+        let sender = request.sender.copy(alloc)?;
+        self.senders.push(sender)?;
+        self.queue.push(request)?;
+        Ok(())
+    }
+
+    /// How many reductions it took.
+    pub fn count(&self) -> u64
+        ensures count { (a : model.Activity) (rs : List RequestShape) → Stands self.now a rs →
+            result ≡ a.reductions }
+    {
+        self.activity.count()
+    }
+
+    /// How many requests it received.
+    pub fn received(&self) -> usize
+        ensures received { (a : model.Activity) (rs : List RequestShape) → Stands self.now a rs →
+            result ≡ length rs }
+    {
+        self.senders.len()
+    }
+
+    /// What a run's end tells of it.
+    pub fn into_report(self, name: ActivityName, status: Status) -> ActivityReport
+        ensures report { (a : model.Activity) (rs : List RequestShape) → Stands self a rs →
+            report_shape result ≡ record {
+              name = name;
+              count = a.reductions;
+              status = status_shape status;
+              senders = map (λ r. r.sender) rs;
+              lines = a.lines;
+            } }
+    {
+        let count = self.activity.count();
+        ActivityReport {
+            name,
+            count,
+            status,
+            senders: self.senders,
+            lines: self.activity.into_lines(),
+        }
+    }
+}

@@ -1,0 +1,14 @@
+//! One activity of a run on one thread, with the requests that it received.
+#![tactic(auto)]
+
+mod act;
+mod actor;
+mod asked;
+mod communicate;
+mod matching;
+mod outlook;
+mod running;
+
+pub use act::Given;
+pub use actor::Actor;
+pub use outlook::Outlook;

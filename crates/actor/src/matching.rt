@@ -1,0 +1,76 @@
+//! The pending request that a `serve` asks for.
+
+ghost use Rattle.std.specs.Prelude.{◌≡◌, IfOk, List, map};
+ghost use Rattle.std.specs.Option.{option_map};
+ghost use Rattle.asp_model.specs.Configuration as model;
+ghost use Rattle.asp_model.specs.Configuration.{RequestShape};
+ghost use Rattle.asp_model.specs.Intent.{labels_served, method_labels, oldest_match};
+ghost use Rattle.asp_model.specs.Store.{cell as cell_in};
+ghost use Rattle.coded_cells.specs.Cells.{coded};
+ghost use Rattle.coded_cells.specs.Shapes.{cell_shape};
+ghost use Rattle.program_code.specs.Classes.{seen_class};
+ghost use Rattle.serve_rules.specs.Labels.{HaveSame, label_text};
+ghost use Rattle.actor.specs.Actors.{IsClosedFor, Stands};
+ghost use Rattle.actor.specs.Asking.{class_in};
+
+use crate::actor::Actor;
+use asp_model::Label;
+use coded_cells::Cell;
+use program_code::{Class, Code};
+use serve_rules::LabelSet;
+use std::alloc::{AllocError, Global};
+
+impl Actor {
+    /// The number of the oldest pending request that a `serve` with these labels asks for.
+    pub fn match_of(&self, alloc: Global, labels: &[Label]) -> Result<Option<u64>, AllocError>
+        requires closed { IsClosedFor self.now }
+        ensures oldest { (a : model.Activity) (rs : List RequestShape) → Stands self.now a rs →
+            let wanted = labels_served (map label_text labels.now) (cell_in a.store a.active) in
+            IfOk result (λ n. n ≡ option_map (λ x. x.0) (oldest_match wanted a.served 0 rs)) }
+    {
+        if self.queue.len() == 0 {
+            return Ok(None);
+        }
+        let active = self.activity.store().cell(self.activity.active());
+        let wanted = label_set(alloc, self.activity.code(), active, labels)?;
+        Ok(self.queue.first_of(&wanted))
+    }
+}
+
+/// The labels that a `serve` asks for: with none written, those of the active object's methods.
+fn label_set(
+    alloc: Global,
+    code: &Code,
+    active: &Cell,
+    labels: &[Label],
+) -> Result<LabelSet, AllocError>
+    ensures labels { let active = cell_shape code.now active.now in
+        IfOk result (λ s. HaveSame s (labels_served (map label_text labels.now) active)) }
+{
+    if labels.is_empty() {
+        methods_of(alloc, code, active)
+    } else {
+        LabelSet::of_labels(alloc, labels)
+    }
+}
+
+/// The labels of an object's methods.
+fn methods_of(alloc: Global, code: &Code, active: &Cell) -> Result<LabelSet, AllocError>
+    ensures labels { let active = cell_shape code.now active.now in
+        IfOk result (λ s. HaveSame s (method_labels active)) }
+{
+    match class_of(code, active) {
+        Some(class) => LabelSet::of_class(alloc, class),
+        None => LabelSet::of_labels(alloc, &[]),
+    }
+}
+
+/// The class of an object.
+fn class_of<'a>(code: &'a Code, cell: &Cell) -> Option<&'a Class>
+    ensures class { seen_class result ≡ class_in code.now (coded cell.now) }
+{
+    match cell {
+        Cell::Object(object) => code.class(object.class),
+        _ => None,
+    }
+}

@@ -1,5 +1,0 @@
-pub mod PlaceLemmas
-pub mod IndexLemmas
-pub mod HoldersLemmas
-pub mod StoredLemmas
-pub mod CellLemmas

@@ -1,4 +1,0 @@
-pub mod View
-pub mod Holders
-pub mod Index
-pub mod Stored

@@ -1,0 +1,7 @@
+pub mod LabelLemmas
+pub mod RowLemmas
+pub mod ReadyLemmas
+pub mod ChaseLemmas
+pub mod SightLemmas
+pub mod ProspectLemmas
+pub mod FetchLemmas

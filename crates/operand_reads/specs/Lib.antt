@@ -1,0 +1,6 @@
+-- in reading order
+pub mod Values
+pub mod Strict
+pub mod Prospects
+pub mod Faces
+pub mod Sights

@@ -1,0 +1,112 @@
+//! Strict operands as they are read without a change: the root of a future's value in its place.
+
+ghost use Rattle.std.specs.Prelude.{◌≡◌, ◌∷◌, []};
+ghost use Rattle.asp_model.specs.Store.{cell as cell_in};
+ghost use Rattle.asp_model.specs.Chase.{chase};
+ghost use Rattle.asp_model.specs.Shapes.{future_shape};
+ghost use Rattle.coded_cells.specs.Shapes.{parcel_shape, store_of};
+ghost use Rattle.future_table.specs.Values.{values_of};
+ghost use Rattle.operand_reads.specs.Sights.{IsRead, operand_sight, seen_shape, sight, value_sight};
+ghost use Rattle.operand_reads.specs.Strict.{strict_places};
+
+use crate::seen::{Seen, read, see};
+use crate::strict::Strict;
+use asp_model::FutureName;
+use coded_cells::{Parcel, Place};
+use coded_store::Store;
+use future_table::{Chase, FutureTable};
+use program_code::Code;
+
+/// An operand, or the future that it awaits.
+#[derive(Clone, Copy)]
+pub enum Operand<'a> {
+    Reads(Seen<'a>),
+    Awaits(&'a FutureName),
+}
+
+/// The first and the second operand, as far as there are any, or the first future that is awaited.
+#[derive(Clone, Copy)]
+pub enum Operands<'a> {
+    Read(Seen<'a>, Seen<'a>),
+    Awaits(&'a FutureName),
+}
+
+fn root_of(parcel: &Parcel) -> Seen
+    ensures root { seen_shape result ≡ cell_in (parcel_shape parcel.now).cells 0 }
+{
+    match parcel.cells.first() {
+        Some(cell) => see(&parcel.code, cell),
+        None => Seen::Number(0),
+    }
+}
+
+fn value_of<'a>(futures: &'a FutureTable, future: &'a FutureName) -> Operand<'a>
+    ensures sight { let c = chase (values_of futures.now) (future_shape future.now) in
+        operand_sight result ≡ value_sight c }
+{
+    match futures.chase(future) {
+        Chase::Unfilled(name) => Operand::Awaits(name),
+        Chase::Cycle(name) => Operand::Awaits(name),
+        Chase::Value(name) => match futures.value(name) {
+            Some(value) => Operand::Reads(root_of(value)),
+            None => Operand::Awaits(name),
+        },
+    }
+}
+
+fn read_operand<'a>(
+    code: &'a Code,
+    store: &'a Store,
+    futures: &'a FutureTable,
+    place: Place,
+) -> Operand<'a>
+    ensures sight { let c = cell_in (store_of code.now store.now.cells) place in
+        operand_sight result ≡ sight (chase (values_of futures.now)) c }
+{
+    match read(code, store, place) {
+        Seen::Future(future) => value_of(futures, future),
+        Seen::Number(n) => Operand::Reads(Seen::Number(n)),
+        Seen::Object(object, code) => Operand::Reads(Seen::Object(object, code)),
+        Seen::Reference(name) => Operand::Reads(Seen::Reference(name)),
+        Seen::Group(members) => Operand::Reads(Seen::Group(members)),
+    }
+}
+
+/// The strict operands, or the first future among them that has no value.
+pub fn operands_of<'a>(
+    code: &'a Code,
+    store: &'a Store,
+    futures: &'a FutureTable,
+    strict: Strict,
+) -> Operands<'a>
+    ensures read { let s = store_of code.now store.now.cells in
+        IsRead (chase (values_of futures.now)) s (strict_places strict) result }
+{
+    match strict {
+        Strict::Nothing => Operands::Read(Seen::Number(0), Seen::Number(0)),
+        Strict::One(place) => match read_operand(code, store, futures, place) {
+            Operand::Awaits(future) => Operands::Awaits(future),
+            Operand::Reads(seen) => Operands::Read(seen, Seen::Number(0)),
+        },
+        Strict::Two(first, second) => two_operands(code, store, futures, first, second),
+    }
+}
+
+fn two_operands<'a>(
+    code: &'a Code,
+    store: &'a Store,
+    futures: &'a FutureTable,
+    first: Place,
+    second: Place,
+) -> Operands<'a>
+    ensures read { let s = store_of code.now store.now.cells in
+        IsRead (chase (values_of futures.now)) s (first ∷ second ∷ []) result }
+{
+    match read_operand(code, store, futures, first) {
+        Operand::Awaits(future) => Operands::Awaits(future),
+        Operand::Reads(seen) => match read_operand(code, store, futures, second) {
+            Operand::Awaits(future) => Operands::Awaits(future),
+            Operand::Reads(other) => Operands::Read(seen, other),
+        },
+    }
+}

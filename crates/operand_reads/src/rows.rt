@@ -1,0 +1,142 @@
+//! What a redex comes to, by its operands as they are read.
+
+ghost use Rattle.std.specs.Prelude.{◌≡◌, length};
+ghost use Rattle.asp_model.specs.Shapes.{sign_shape};
+ghost use Rattle.asp_model.specs.Term.{has_text};
+ghost use Rattle.program_code.specs.Classes.{class_at};
+ghost use Rattle.coded_cells.specs.Shapes.{class_object};
+ghost use Rattle.operand_reads.specs.Faces.{
+  at_call as call_at,
+  at_field as field_at,
+  at_number as number_at,
+  at_object as object_at,
+  at_sign as sign_at,
+  field_labels,
+  has_count,
+  head_at,
+  face,
+  method_heads,
+  prospect_at,
+};
+ghost use Rattle.operand_reads.specs.Prospects.{prospect_shape};
+ghost use Rattle.operand_reads.specs.Sights.{seen_face};
+
+use crate::prospect::Prospect;
+use crate::seen::Seen;
+use activity_rows::{Redex, operate};
+use asp_model::{Fault, Label, Sign};
+use coded_cells::Object;
+use program_code::Code;
+
+fn has_field(object: &Object, code: &Code, label: &Label) -> bool
+    ensures field { let c = class_object code.now object.now.places.items
+        (class_at code.now object.now.class) in
+        result ≡ has_text label.now.text (field_labels (face c)) }
+{
+    let Some(class) = code.class(object.class) else {
+        return false;
+    };
+    let Some(number) = class.field(label) else {
+        return false;
+    };
+    number < object.places.len()
+}
+
+/// It has a method with this label, and with so many parameters.
+fn has_method(object: &Object, code: &Code, label: &Label, count: usize) -> bool
+    ensures method { let c = class_object code.now object.now.places.items
+        (class_at code.now object.now.class) in
+        result ≡ has_count count (head_at label.now.text (method_heads (face c))) }
+{
+    let Some(class) = code.class(object.class) else {
+        return false;
+    };
+    let Some(number) = class.method(label) else {
+        return false;
+    };
+    match class.methods.get(number) {
+        Some(method) => method.parameters.len() == count,
+        None => false,
+    }
+}
+
+fn at_field<'a>(seen: Seen<'a>, label: &Label) -> Prospect<'a>
+    ensures { prospect_shape result ≡ field_at label.now.text (seen_face seen.entry) }
+{
+    match seen {
+        Seen::Reference(_) => Prospect::Stops(Fault::ActiveField),
+        Seen::Object(object, code) => {
+            if has_field(object, code, label) {
+                Prospect::Goes
+            } else {
+                Prospect::Stops(Fault::NoField)
+            }
+        }
+        Seen::Number(_) | Seen::Future(_) | Seen::Group(_) => Prospect::Stops(Fault::NotObject),
+    }
+}
+
+fn at_call<'a>(seen: Seen<'a>, label: &Label, count: usize) -> Prospect<'a>
+    ensures { prospect_shape result ≡ call_at label.now.text count (seen_face seen.entry) }
+{
+    match seen {
+        Seen::Number(_) => Prospect::Stops(Fault::NotObject),
+        Seen::Future(_) => Prospect::Still,
+        Seen::Reference(name) => Prospect::GoesTo(name),
+        Seen::Object(object, code) => {
+            if has_method(object, code, label, count) {
+                Prospect::Goes
+            } else {
+                Prospect::Stops(Fault::NoMethod)
+            }
+        }
+        Seen::Group(_) => Prospect::Goes,
+    }
+}
+
+fn at_object<'a>(seen: Seen<'a>) -> Prospect<'a>
+    ensures { prospect_shape result ≡ object_at (seen_face seen.entry) }
+{
+    match seen {
+        Seen::Object(_, _) => Prospect::Goes,
+        _ => Prospect::Stops(Fault::NotObject),
+    }
+}
+
+fn at_number<'a>(seen: Seen<'a>) -> Prospect<'a>
+    ensures { prospect_shape result ≡ number_at (seen_face seen.entry) }
+{
+    match seen {
+        Seen::Number(_) => Prospect::Goes,
+        _ => Prospect::Stops(Fault::NotNumber),
+    }
+}
+
+fn at_sign<'a>(sign: Sign, first: Seen<'a>, second: Seen<'a>) -> Prospect<'a>
+    ensures { prospect_shape result
+        ≡ sign_at (sign_shape sign) (seen_face first.entry) (seen_face second.entry) }
+{
+    match (first, second) {
+        (Seen::Number(x), Seen::Number(y)) => match operate(sign, x, y) {
+            Ok(_) => Prospect::Goes,
+            Err(fault) => Prospect::Stops(fault),
+        },
+        _ => Prospect::Stops(Fault::NotNumber),
+    }
+}
+
+/// What a redex comes to, by its first and its second strict operand.
+pub fn by_operands<'a>(redex: Redex, first: Seen<'a>, second: Seen<'a>) -> Prospect<'a>
+    ensures prospect { prospect_shape result
+        ≡ prospect_at redex.entry (seen_face first.entry) (seen_face second.entry) }
+{
+    match redex {
+        Redex::Get(_, label) | Redex::Put(_, label, _) => at_field(first, label),
+        Redex::Call(_, label, arguments) => at_call(first, label, arguments.len()),
+        Redex::Active(_, _) => at_object(first),
+        Redex::If(_) | Redex::Print(_) => at_number(first),
+        Redex::Operate(sign, _, _) => at_sign(sign, first, second),
+        Redex::Serve(_) => Prospect::Asks,
+        Redex::Goes | Redex::Clone(_) => Prospect::Goes,
+    }
+}

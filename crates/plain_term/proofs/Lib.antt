@@ -1,3 +1,0 @@
-pub mod NestedLemmas
-pub mod NodeLemmas
-pub mod RedexLemmas

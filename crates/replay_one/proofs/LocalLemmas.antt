@@ -1,0 +1,172 @@
+-- Contractions that need no other activity are steps of the run, where the least-named that is ready takes them.
+use Rattle.std.proofs.Common.{◌≡◌, ◌+◌, ◌-◌, ◌≤◌, ◌<◌, ◌++◌, ◌∷◌, [], ℕ, zero, suc, Bool, true, false, cond, T, List, Option, Some, None, refl, sym, ap, subst, ◌∙◌, ⊎_elim, arith}
+use Rattle.std.proofs.lemmas.List.{append-nil}
+use Rattle.std.specs.FinMap.{find, is_sorted, put}
+use Rattle.std.specs.FinMap.Entries.{find-put, is_sorted-put, same_entries}
+use Rattle.std.specs.Ordering.{eq_by_cmp, is_lt}
+use Rattle.asp_model.specs.Names.{Name, FutureShape, name_cmp}
+use Rattle.asp_model.specs.Term.{Tree}
+use Rattle.asp_model.specs.Split.{Redex, Splits, Stands}
+use Rattle.asp_model.specs.Store as stores
+use Rattle.asp_model.specs.Store.{Store, CellShape, cell}
+use Rattle.asp_model.specs.Contraction.{Contraction, LineShape, Becomes, Needs, contract, first_future, is_future, row, strict_members, strict_operands}
+use Rattle.asp_model.specs.Chase.{Chase, chase}
+use Rattle.asp_model.specs.Configuration.{Activity, Configuration, RequestShape, requests_of}
+use Rattle.asp_model.specs.Intent.{Acts, Awaits, Done, Effect, Intent, Ready, Reads, Rests, Lacks, alone, contracts, ends_service, intent, newest, operand_ready, operands_ready, redex_ready}
+use Rattle.asp_model.specs.Step.{ListsShape, intent_in, step, with_effect}
+use Rattle.asp_model.specs.Replay.{least_step, steps_from}
+use Rattle.laws.specs.Reached.{IsReached, IsAt, Steps}
+use Rattle.laws.proofs.MapLemmas.{find_same, find_other}
+use Rattle.laws.proofs.NameLemmas.{name_total, name_same, name_case, no_some, none_true}
+use Rattle.laws.proofs.NamesLaws.{entries_ascend}
+use Rattle.laws.proofs.ReachedLemmas.{moves_go_on}
+use Rattle.laws.proofs.StepLemmas.{takes_step}
+use Rattle.schedules.specs.Schedules.{IsScheduled}
+use Rattle.schedules.proofs.LeastLemmas.{least_steps}
+use Rattle.schedules.proofs.WokenLemmas.{woken_are_scheduled}
+use Rattle.activity_step.specs.Local.{IsLocalStep, LocalRun}
+use Rattle.replay_one.specs.Population.{with_activity}
+
+-- Operands that are no futures
+
+abbrev or_later : Bool → ℕ → Option ℕ → Option ℕ
+or_later b n o = elim b [ true ↦ Some n | false ↦ o ]
+
+first_is_none : (b : Bool) (n : ℕ) (o : Option ℕ) → or_later b n o ≡ None → (b ≡ false) × (o ≡ None)
+first_is_none true n o h = no_some (sym h)
+first_is_none false n o h = (refl, h)
+
+abbrev row_unless : Store → Redex → Option ℕ → Contraction
+row_unless s r o = elim o [ Some n ↦ Needs n | None ↦ row s r.head r.places r.behind ]
+
+no_future : (s : Store) (r : Redex) (o : Option ℕ) (t : Tree) (u : Store) (ls : List LineShape) → row_unless s r o ≡ Becomes t u ls → o ≡ None
+no_future s r None t u ls h = refl
+no_future s r (Some n) t u ls h = cc
+
+module _ (chases : FutureShape → Chase) (s : Store) where
+  reads_it : (n : ℕ) (c : CellShape) → is_future c ≡ false → operand_ready chases s n c ≡ Reads s
+  reads_it n (stores.Future f) h = none_true (sym h)
+  reads_it n c h = refl
+
+  reads_all : (ns ms : List ℕ) → first_future s (ns ++ ms) ≡ None → (operands_ready chases s ns ≡ Reads s) × (first_future s ms ≡ None)
+  reads_all [] ms h = (refl, h)
+  reads_all (n ∷ ns) ms h =
+      let first = first_is_none (is_future (cell s n)) n (first_future s (ns ++ ms)) h in
+      let rest = reads_all ns ms first.1 in (
+        ap (λ r. elim r [ Reads t ↦ operands_ready chases t ns | Lacks f ↦ Lacks f ]) (reads_it n (cell s n) first.0) ∙ rest.0,
+        rest.1,
+      )
+
+  redex_reads : (r : Redex) → first_future s (strict_operands r.head r.places ++ strict_members s r.head r.places) ≡ None → redex_ready chases s r ≡ Reads s
+  redex_reads r h =
+      let ms = strict_members s r.head r.places in
+      let operands = reads_all (strict_operands r.head r.places) ms h in
+      ap (λ q. elim q [ Reads t ↦ operands_ready chases t (strict_members t r.head r.places) | Lacks f ↦ Lacks f ]) operands.0
+      ∙ (reads_all ms [] (ap (first_future s) (append-nil ms) ∙ operands.1)).0
+
+-- One contraction
+
+-- it acts alone
+pub local_intends : (chases : FutureShape → Chase) (rs : List RequestShape) (n : Name) (a b : Activity) → IsLocalStep a b → intent chases rs n a ≡ alone b
+local_intends chases rs n a b x =
+    ap (λ q. elim q [ Stands place ↦ ends_service a place (newest a.services) | Splits contexts redex ↦ elim (redex_ready chases a.store redex) [ Lacks f ↦ Rests (Awaits f) | Reads s ↦ contracts rs n a contexts s (contract s redex) ] ]) x.splits
+    ∙ ap (λ q. elim q [ Lacks f ↦ Rests (Awaits f) | Reads s ↦ contracts rs n a x.contexts s (contract s x.redex) ]) (redex_reads chases a.store x.redex (no_future a.store x.redex (first_future a.store (strict_operands x.redex.head x.redex.places ++ strict_members a.store x.redex.head x.redex.places)) x.becomes x.store x.added x.is))
+    ∙ ap (contracts rs n a x.contexts a.store) x.is
+    ∙ ap alone (sym x.after)
+
+-- what is left of it when it acts alone
+abbrev own_effect : Activity → Effect
+own_effect b = record { own = b; sent = None; made = None; filled = None }
+
+local_in : (c : Configuration) (n : Name) (a b : Activity) → IsAt c n a → IsLocalStep a b → intent_in c n ≡ alone b
+local_in c n a b is x =
+    ap (λ (q : Option Activity). elim q [ None ↦ Rests Done | Some a ↦ intent (chase c.futures) (requests_of c n) n a ]) is
+    ∙ local_intends (chase c.futures) (requests_of c n) n a b x
+
+-- Activities written over another
+
+cond_twice : {X : Type 0} (b : Bool) (x y z : X) → cond b x (cond b y z) ≡ cond b x z
+cond_twice true x y z = refl
+cond_twice false x y z = refl
+
+module _ (program : Tree) (c : Configuration) (n : Name) (reached : IsReached program c) where
+  ascend : T (is_sorted name_cmp c.activities)
+  ascend = (entries_ascend program c reached).activities
+
+  written_over : (a b : Activity) → with_activity n b (with_activity n a c) ≡ with_activity n b c
+  written_over a b =
+      let es = c.activities in
+      let R = name_cmp in
+      let o = name_total in
+      ap (λ es. record c { activities = es }) (same_entries R o name_same (put R n b (put R n a es)) (put R n b es) (is_sorted-put R o n b _ (is_sorted-put R o n a es ascend)) (is_sorted-put R o n b es ascend)
+      (λ q. find-put R o q n b (put R n a es) ∙ ap (cond (eq_by_cmp R q n) (Some b)) (find-put R o q n a es) ∙ cond_twice (eq_by_cmp R q n) (Some b) (Some a) (find R q es) ∙ sym (find-put R o q n b es)))
+
+  written_itself : (a : Activity) → IsAt c n a → with_activity n a c ≡ c
+  written_itself a is =
+      let es = c.activities in
+      let R = name_cmp in
+      let o = name_total in
+      ap (λ es. record c { activities = es }) (same_entries R o name_same (put R n a es) es (is_sorted-put R o n a es ascend) ascend
+      (λ q. ⊎_elim
+      (λ p. ap (λ k. find R k (put R n a es)) p ∙ find_same R o name_same n a es ∙ sym is ∙ ap (λ k. find R k es) (sym p))
+      (λ apart. find_other R o name_same q n a es apart)
+      (name_case q n)))
+
+-- Steps of the run
+
+-- so many steps lead to the other configuration, which is reached, and the same are ready and noted
+pub record Goes (program : Tree) (lists : Option ListsShape) (count : Name → ℕ) (ready : Name → Bool) (noted : FutureShape → Name → Bool) (k : ℕ) (c d : Configuration) : Type 0 where
+  pub reached : IsReached program d
+  pub steps : (m : ℕ) → steps_from (k + m) lists count c ≡ steps_from m lists count d
+  pub scheduled : IsScheduled lists count d ready noted
+
+module _ (program : Tree) (lists : Option ListsShape) (count : Name → ℕ) (ready : Name → Bool) (noted : FutureShape → Name → Bool) (n : Name) (here : ready n ≡ true) (least : (m : Name) → ready m ≡ true → is_lt (name_cmp m n) ≡ false) where
+  abbrev Ahead : ℕ → Configuration → Configuration → Type 0
+  Ahead = Goes program lists count ready noted
+
+  stays : (c : Configuration) → IsReached program c → IsScheduled lists count c ready noted → Ahead 0 c c
+  stays c reached scheduled = record {
+    reached = reached;
+    steps = λ m. let same : 0 + m ≡ m = omega arith in ap (λ k. steps_from k lists count c) same;
+    scheduled = scheduled;
+  }
+
+  takes_one : (c : Configuration) (a b : Activity) → IsReached program c → IsScheduled lists count c ready noted → IsAt c n a → IsLocalStep a b → a.reductions < count n
+      → IsReached program (with_activity n b c) × (least_step lists count c c.activities ≡ Some (with_activity n b c)) × IsScheduled lists count (with_activity n b c) ready noted
+  takes_one c a b reached scheduled is x below =
+      let e : Effect = own_effect b in
+      let d : Configuration = with_activity n b c in
+      let intends : intent_in c n ≡ Acts e = local_in c n a b is x in
+      let steps : step lists c n ≡ Some d = takes_step lists c n e (record { intends = intends; may = refl }) in (
+        moves_go_on program c d (Steps lists n) reached steps,
+        least_steps program lists count c d n a ready noted reached scheduled least is below steps,
+        woken_are_scheduled program lists count c n e noted ready ready reached intends steps scheduled (λ m h. h) (record {
+          stepper = here;
+          made = λ m q h. no_some h;
+          target = λ m h. no_some h.1;
+          next = λ m q h i. no_some h.1;
+          filled = λ f q h i. no_some h.1;
+        }),
+      )
+
+  goes_on : (c d : Configuration) (k m : ℕ) → least_step lists count c c.activities ≡ Some d → steps_from (suc k + m) lists count c ≡ steps_from (k + m) lists count d
+  goes_on c d k m h =
+      let same : suc k + m ≡ suc (k + m) = omega arith in
+      ap (λ j. steps_from j lists count c) same ∙ ap (λ (o : Option Configuration). elim o [ None ↦ c | Some d ↦ steps_from (k + m) lists count d ]) h
+
+  run_ahead : (k : ℕ) (c : Configuration) (a b : Activity) → IsReached program c → IsScheduled lists count c ready noted → IsAt c n a → LocalRun k a b → k ≤ count n - a.reductions → Ahead k c (with_activity n b c)
+  run_ahead zero c a b reached scheduled is run within = subst (Ahead 0 c) (sym (written_itself program c n reached b (is ∙ ap Some run))) (stays c reached scheduled)
+  run_ahead (suc k) c a b reached scheduled is run within =
+      let x = run.0 in
+      let d : Configuration = with_activity n x c in
+      let one = takes_one c a x reached scheduled is run.1 (omega (arith, within)) in
+      let more : x.reductions ≡ suc a.reductions = ap (λ y. y.reductions) run.1.after in
+      let rest : Ahead k d (with_activity n b d) = run_ahead k d x b one.0 one.2 (find_same name_cmp name_total name_same n x c.activities) run.2 (omega (arith, within, more)) in
+      let all : Ahead (suc k) c (with_activity n b d) = record { reached = rest.reached; steps = λ m. goes_on c d k m one.1 ∙ rest.steps m; scheduled = rest.scheduled } in
+      subst (Ahead (suc k) c) (written_over program c n reached x b) all
+
+-- so many contractions of the least-named that is ready, within its count, are as many steps of the run
+pub local_runs_go_on : (program : Tree) (lists : Option ListsShape) (count : Name → ℕ) (ready : Name → Bool) (noted : FutureShape → Name → Bool) (c : Configuration) (n : Name) (k : ℕ) (a b : Activity)
+    → IsReached program c → IsScheduled lists count c ready noted → ready n ≡ true → ((m : Name) → ready m ≡ true → is_lt (name_cmp m n) ≡ false)
+    → IsAt c n a → LocalRun k a b → k ≤ count n - a.reductions → Goes program lists count ready noted k c (with_activity n b c)
+local_runs_go_on program lists count ready noted c n k a b reached scheduled here least is run within = run_ahead program lists count ready noted n here least k c a b reached scheduled is run within

@@ -1,0 +1,33 @@
+use Rattle.std.proofs.Common.{◌≡◌, ◌∙◌, ap}
+use Rattle.std.specs.Arc.{arc_value}
+use Rattle.asp_model.specs.Term.{Tree}
+use Rattle.asp_model.specs.Configuration.{start}
+use Rattle.asp_model.specs.Replay.{steps_from}
+use Rattle.asp_model.specs.Shapes.{tree_of}
+use Rattle.replay_one.specs.declared.bounds.Bounds.{Bounds}
+use Rattle.replay_one.specs.Bounds.{count_within, lists_within}
+use Rattle.replay_one.specs.Population.{term_of}
+use Rattle.replay_one.proofs.PlainLemmas.{begins_run}
+use Rattle.replay_one.proofs.run.run_within.Goals as goal
+
+pub run-requires-clause-running : goal.run-requires-clause-running
+run-requires-clause-running c =
+    let t : Tree = tree_of c.args.program.now.program.root in
+    let same : term_of (arc_value c.in_ok-code.code) ≡ t = ap term_of c.in_ok-code.ensures.ok ∙ c.in_ok-compile.ensures.program in
+    (t, start t, begins_run c.args.bounds.now c.in_ok-machine.machine t (term_of (arc_value c.in_ok-code.code)) same c.in_ok-compile.ensures.bare c.in_ok-machine.ensures.population c.in_ok-machine.ensures.ready)
+
+pub outcome_of-requires : goal.outcome_of-requires
+outcome_of-requires c =
+    let t : Tree = tree_of c.args.program.now.program.root in
+    let b : Bounds = c.args.bounds.now in
+    let same : term_of (arc_value c.in_ok-code.code) ≡ t = ap term_of c.in_ok-code.ensures.ok ∙ c.in_ok-compile.ensures.program in
+    let begun = begins_run b c.in_ok-machine.machine t (term_of (arc_value c.in_ok-code.code)) same c.in_ok-compile.ensures.bare c.in_ok-machine.ensures.population c.in_ok-machine.ensures.ready in
+    record { reached = (t, steps_from c.args.total (lists_within b) (count_within b) (start t), c.in_ok-run.ensures.runs t (start t) begun) }
+
+pub returns : goal.returns
+returns c =
+    let t : Tree = tree_of c.args.program.now.program.root in
+    let b : Bounds = c.args.bounds.now in
+    let same : term_of (arc_value c.in_ok-code.code) ≡ t = ap term_of c.in_ok-code.ensures.ok ∙ c.in_ok-compile.ensures.program in
+    let begun = begins_run b c.in_ok-machine.machine t (term_of (arc_value c.in_ok-code.code)) same c.in_ok-compile.ensures.bare c.in_ok-machine.ensures.population c.in_ok-machine.ensures.ready in
+    record { outcome = c.outcome_of.ensures.outcome t (steps_from c.args.total (lists_within b) (count_within b) (start t)) (c.in_ok-run.ensures.runs t (start t) begun) }

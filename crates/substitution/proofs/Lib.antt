@@ -1,2 +1,0 @@
-pub mod SubstitutionLemmas
-pub mod CopyLemmas
