@@ -1,0 +1,7 @@
+pub mod TextLemmas
+pub mod SightLemmas
+pub mod SpotLemmas
+pub mod EnterLemmas
+pub mod BelowLemmas
+pub mod ShowLemmas
+pub mod WalkLemmas

@@ -1,0 +1,11 @@
+use Rattle.std.proofs.Common.{◌∙◌, subst}
+use Rattle.path_equal.specs.declared.sights.At.{At}
+use Rattle.path_equal.specs.Sights.{IsAt}
+use Rattle.path_equal.specs.States.{side_in}
+use Rattle.path_equal.proofs.SightLemmas.{store_written}
+use Rattle.path_equal.proofs.sights.look_at.Goals as goal
+
+pub returns-in-Store : goal.returns-in-Store
+returns-in-Store c = record {
+  sees = λ p at. c.look.ensures.sees p (c.in_store.ensures.cell ∙ store_written c.args.state.now p c.in-Store.place (subst (λ (x : At). IsAt (side_in c.args.state.now) x p) c.in-Store.is at));
+}

@@ -1,0 +1,41 @@
+-- What is read at a place.
+use Rattle.std.specs.Prelude.{◌≡◌, Option, Some, None}
+use Rattle.std.specs.Borrow.{Bor}
+use Rattle.asp_model.specs.Parcel.{ParcelShape}
+use Rattle.asp_model.specs.Shapes.{future_shape}
+use Rattle.asp_model.specs.Store.{CellShape, Number, Reference, Future, Group, cell}
+use Rattle.program_code.specs.Classes.{class_at}
+use Rattle.coded_cells.specs.declared.cells.Parcel.{Parcel}
+use Rattle.coded_cells.specs.Shapes.{class_object, parcel_shape}
+use Rattle.paths.specs.Places.{Place, In_store, Side, inner, entered, read}
+use Rattle.path_equal.specs.declared.seen.Seen.{Seen}
+use Rattle.path_equal.specs.declared.seen.Seen.TheVariants as seen
+use Rattle.path_equal.specs.declared.sights.At.{At}
+use Rattle.path_equal.specs.declared.sights.At.TheVariants as at
+use Rattle.path_equal.specs.declared.sights.Sight.{Sight}
+
+abbrev pub seen_shape : Seen → CellShape
+seen_shape (seen.Number n) = Number n
+seen_shape (seen.Object o k) = class_object k.now o.now.places.items (class_at k.now o.now.class)
+seen_shape (seen.Reference n) = Reference n.now
+seen_shape (seen.Future f) = Future (future_shape f.now)
+seen_shape (seen.Group ns) = Group ns.now
+
+abbrev pub seen_value : Option (Bor Parcel) → Option ParcelShape
+seen_value None = None
+seen_value (Some v) = Some (parcel_shape v.now)
+
+-- one reads at this place: at a cell of the store, or of the value that is entered at a place
+abbrev pub IsAt : Side → At → Place → Type 0
+IsAt a (at.Store i) p = p ≡ In_store i
+IsAt a (at.Value v c) p = (q : Place) × (p ≡ inner q c) × (entered a q ≡ Some (parcel_shape v.now))
+
+-- what is read at a place, and the value that is entered there
+pub record Sees (a : Side) (p : Place) (s : Sight) : Type 0 where
+  pub read : seen_shape s.seen ≡ read a p
+  pub value : seen_value s.value ≡ entered a p
+
+-- what is read where a value is entered
+pub record IsRootOf (v : Parcel) (s : Sight) : Type 0 where
+  pub read : seen_shape s.seen ≡ cell (parcel_shape v).cells 0
+  pub value : seen_value s.value ≡ Some (parcel_shape v)

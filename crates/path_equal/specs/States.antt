@@ -1,0 +1,19 @@
+-- What a state stands for: what stays of an activity, with its status.
+use Rattle.std.specs.Prelude.{◌≡◌, ◌∷◌}
+use Rattle.asp_model.specs.Intent.{StatusShape}
+use Rattle.coded_cells.specs.Shapes.{store_of}
+use Rattle.future_table.specs.Values.{values_of}
+use Rattle.paths.specs.Places.{Side, side_of}
+use Rattle.paths.specs.Snapshots.{SnapshotShape, roots_in, result_in}
+use Rattle.path_equal.specs.declared.state.State.{State}
+
+-- its store under its code, and its futures
+unfoldable pub side_in : State → Side
+side_in s = side_of (values_of s.futures.now) (store_of s.code.now s.store.now.cells)
+
+-- the state is that of such a snapshot, of an activity with such a status
+pub record IsStateOf (s : State) (snapshot : SnapshotShape) (status : StatusShape) : Type 0 where
+  pub store : store_of s.code.now s.store.now.cells ≡ snapshot.store
+  pub active : s.active ≡ snapshot.active
+  pub locations : s.active ∷ s.locations.now ≡ roots_in snapshot
+  pub result : s.result ≡ result_in status snapshot.term

@@ -1,0 +1,20 @@
+//! The state of an activity.
+
+use coded_cells::Place;
+use coded_store::Store;
+use future_table::FutureTable;
+use program_code::Code;
+
+/// What is read of an activity.
+#[derive(Clone, Copy)]
+pub struct State<'a> {
+    pub code: &'a Code,
+    pub store: &'a Store,
+    pub futures: &'a FutureTable,
+    /// Its active object.
+    pub active: Place,
+    /// The locations of its term and of its suspended services, in order.
+    pub locations: &'a [Place],
+    /// The location that its term is, where it is done.
+    pub result: Option<Place>,
+}
