@@ -5,15 +5,15 @@ use Rattle.asp_model.specs.Marked.{Marked}
 use Rattle.asp_model.specs.Shapes.{MarkedMethod}
 use Rattle.asp_tokens.specs.declared.token.Token.TheVariants as tokens
 use Rattle.asp_tokens.specs.Tokens.{Lexeme, lexeme}
-use Rattle.asp_grammar.specs.Nodes.{PartShape, part, word_at, if_at, operated, called, put, terms_at, in_parentheses, ObjectShape, method, active_at}
+use Rattle.asp_grammar.specs.Nodes.{PartShape, part, word_at, if_at, scatter_at, member_at, operated, called, put, terms_at, in_parentheses, ObjectShape, method, active_at}
 use Rattle.asp_grammar.specs.Signs.{no_service, service}
-use Rattle.asp_grammar.specs.Grammar.{may_put, IsPrim, number, variable, parentheses, object, word, choice, echo, IsPost, prim, get, call_none, call, IsArgs, argument, and_argument, IsFields, field, and_field, IsMethods, first_method, and_method, IsFieldPart, no_fields, fields, IsMethodPart, no_methods, methods, IsProd, post, times, IsSum, prod, plus, IsTest, sum, test, IsExpr, tested, assign, IsSeq, last, then, bind, IsProgram, active, serve}
-use Rattle.asp_grammar.specs.States.{Top, InParentheses, InWord, InCondition, InThen, InElse, InCall, InBinding, InBody, InField, OpenShape, Plain, Access, ByRound, Begin, Want, Have, Called, Opening, ObjectBegun, FieldNaming, MethodNaming, StateShape, At, Done, pending, opened_with, fresh, new_object, operand_part, joined, put_all, first_start, sequence_part, InActive}
+use Rattle.asp_grammar.specs.Grammar.{may_put, IsPrim, number, variable, parentheses, object, word, choice, echo, IsPost, prim, get, call_none, call, IsArgs, argument, and_argument, IsFields, field, and_field, IsMethods, first_method, and_method, IsFieldPart, no_fields, fields, IsMethodPart, no_methods, methods, IsProd, post, times, IsSum, prod, plus, IsTest, sum, test, IsExpr, tested, assign, IsSeq, last, then, bind, IsProgram, active, serve, group_none, group, scatter, member}
+use Rattle.asp_grammar.specs.States.{Top, InParentheses, InWord, InCondition, InThen, InElse, OfCall, OfGroup, InList, InScatter, InArguments, InMember, InIndex, InBinding, InBody, InField, OpenShape, Plain, Access, ByRound, Begin, Want, Have, ListBegun, Opening, ObjectBegun, FieldNaming, MethodNaming, StateShape, At, Done, pending, opened_with, fresh, new_object, operand_part, joined, put_all, first_start, sequence_part, InActive}
 use Rattle.asp_grammar.specs.Machine as machine
 use Rattle.asp_grammar.specs.Closings.{◌>>=◌, FinishedShape, over, concluded, first_mode, close, close_brace, comma, bound, ended}
 use Rattle.asp_grammar.specs.Changes.{ChangeShape, changed, operand}
 use Rattle.asp_grammar.specs.Machine.{next_term, have, run, start}
-use Rattle.asp_grammar.proofs.Running.{goes_on, steps, word_goes, times_goes, plus_goes, test_goes, begun_prim, call_is, PostRuns, ProdRuns, SumRuns, TestRuns, ExprRuns, SeqRuns, ArgsRuns, object_of, FieldsRun, MethodsRun, method_runs, next_goes, later_start, FieldPartRun, no_field_run, fields_run, MethodPartRun, no_method_run, methods_run, object_runs, labels_run}
+use Rattle.asp_grammar.proofs.Running.{goes_on, steps, word_goes, times_goes, plus_goes, test_goes, begun_prim, listed_runs, PostRuns, ProdRuns, SumRuns, TestRuns, ExprRuns, SeqRuns, ArgsRuns, object_of, FieldsRun, MethodsRun, method_runs, next_goes, later_start, FieldPartRun, no_field_run, fields_run, MethodPartRun, no_method_run, methods_run, object_runs, labels_run}
 
 mutual
   prim_wanted : {s : Bool} {ls : List Lexeme} {p : PartShape} → IsPrim s ls p → (r : OpenShape) (o : List OpenShape) → run s (At Want r o) ls ≡ Some (At (Have (Plain p)) r o)
@@ -57,6 +57,27 @@ mutual
       goes_on s (At Begin (fresh (InCondition at)) (r ∷ o)) (At (Have x.0) x.1 x.2) ls thens z x.3
       (ap (λ (f : FinishedShape). concluded close f >>= λ v. run s v (lexeme tokens.BraceOpen then_open ∷ (us ++ elses))) x.4 ∙ second)
   prim_wanted (echo s at open_at text_at close_at text) r o = refl
+  prim_wanted (group_none s at open_at close_at) r o = refl
+  prim_wanted (group s at open_at close_at ls ts h) r o = listed_runs s ls ts (args_complete h) (OfGroup at) close_at r o
+  prim_wanted (scatter s at open_at comma_at label_at second_at close_at label ls us n m ts xs f g) r o =
+      let t : Marked = terms_at n ts in
+      let z : Option StateShape = Some (At (Have (Plain (part at (scatter_at at label_at label t (terms_at m xs))))) r o) in
+      let y = seq_complete f (InScatter at) 0 [] (r ∷ o) refl in
+      let w = seq_complete g (InArguments at t label_at label) 0 [] (r ∷ o) refl in
+      let lasts : List Lexeme = lexeme tokens.Close close_at ∷ [] in
+      let seconds : List Lexeme = lexeme (tokens.Name label) label_at ∷ lexeme tokens.Comma second_at ∷ (us ++ lasts) in
+      let second : run s (At Begin (fresh (InArguments at t label_at label)) (r ∷ o)) (us ++ lasts) ≡ z =
+      goes_on s (At Begin (fresh (InArguments at t label_at label)) (r ∷ o)) (At (Have w.0) w.1 w.2) us lasts z w.3 (ap (λ (f : FinishedShape). concluded close f >>= λ v. run s v []) w.4) in
+      goes_on s (At Begin (fresh (InScatter at)) (r ∷ o)) (At (Have y.0) y.1 y.2) ls (lexeme tokens.Comma comma_at ∷ seconds) z y.3 (ap (λ (f : FinishedShape). concluded comma f >>= λ v. run s v seconds) y.4 ∙ second)
+  prim_wanted (member s at open_at comma_at close_at ls us n m ts xs f g) r o =
+      let t : Marked = terms_at n ts in
+      let z : Option StateShape = Some (At (Have (Plain (part at (member_at at t (terms_at m xs))))) r o) in
+      let y = seq_complete f (InMember at) 0 [] (r ∷ o) refl in
+      let w = seq_complete g (InIndex at t) 0 [] (r ∷ o) refl in
+      let lasts : List Lexeme = lexeme tokens.Close close_at ∷ [] in
+      let second : run s (At Begin (fresh (InIndex at t)) (r ∷ o)) (us ++ lasts) ≡ z =
+      goes_on s (At Begin (fresh (InIndex at t)) (r ∷ o)) (At (Have w.0) w.1 w.2) us lasts z w.3 (ap (λ (f : FinishedShape). concluded close f >>= λ v. run s v []) w.4) in
+      goes_on s (At Begin (fresh (InMember at)) (r ∷ o)) (At (Have y.0) y.1 y.2) ls (lexeme tokens.Comma comma_at ∷ (us ++ lasts)) z y.3 (ap (λ (f : FinishedShape). concluded comma f >>= λ v. run s v (us ++ lasts)) y.4 ∙ second)
 
   field_part_complete : {s : Bool} {ls : List Lexeme} {ns : List ℕ} {fs : List (Text × Marked)} → IsFieldPart s ls ns fs → FieldPartRun s ls ns fs
   field_part_complete (no_fields s) = no_field_run s
@@ -140,28 +161,25 @@ mutual
       )
   post_complete (call s ls us p dot_at at open_at close_at label ts h g) b r o =
       let y = post_complete h b r o in
-      let w = args_complete g p at label (r ∷ o) in
       let z : Option StateShape = Some (At (Have (Plain (called p at label ts))) r o) in
       let lasts : List Lexeme = us ++ lexeme tokens.Close close_at ∷ [] in
-      let inner : run s (At (Called p at label) r o) lasts ≡ z =
-      goes_on s (At (Called p at label) r o) (At (Have w.0) w.1 w.2) us (lexeme tokens.Close close_at ∷ []) z (call_is s p at label r o us w.0 w.1 w.2 w.5)
-      (ap (λ (f : FinishedShape). concluded close f >>= λ v. run s v []) w.6 ∙ ap (λ (xs : List Marked). Some (At (Have (Plain (called p at label xs))) r o)) w.7) in (
+      let inner : run s (At (ListBegun (OfCall p at label)) r o) lasts ≡ z = listed_runs s us ts (args_complete g) (OfCall p at label) close_at r o in (
         Plain (called p at label ts),
         goes_on s (At (first_mode b) r o) (At (Have y.0) r o) ls (lexeme tokens.Dot dot_at ∷ lexeme (tokens.Name label) at ∷ lexeme tokens.Open open_at ∷ lasts) z y.1
-            (ap (λ (q : PartShape). run s (At (Called q at label) r o) lasts) y.2 ∙ inner),
+            (ap (λ (q : PartShape). run s (At (ListBegun (OfCall q at label)) r o) lasts) y.2 ∙ inner),
         refl,
       )
 
   pub args_complete : {s : Bool} {ls : List Lexeme} {ts : List Marked} → IsArgs s ls ts → ArgsRuns s ls ts
-  args_complete (argument s ls n ts h) p at label o =
-      let y = seq_complete h (InCall p at label []) 0 [] o refl in
+  args_complete (argument s ls n ts h) target o =
+      let y = seq_complete h (InList target []) 0 [] o refl in
       (y.0, y.1, y.2, [], sequence_part n ts, y.3, y.4, refl)
-  args_complete (and_argument s ls us comma_at xs n ts h g) p at label o =
-      let w = args_complete h p at label o in
-      let y = seq_complete g (InCall p at label xs) 0 [] o refl in
+  args_complete (and_argument s ls us comma_at xs n ts h g) target o =
+      let w = args_complete h target o in
+      let y = seq_complete g (InList target xs) 0 [] o refl in
       let comes : run s (At (Have w.0) w.1 w.2) (lexeme tokens.Comma comma_at ∷ us) ≡ Some (At (Have y.0) y.1 y.2) =
-      ap (λ (f : FinishedShape). concluded comma f >>= λ v. run s v us) w.6 ∙ ap (λ (zs : List Marked). run s (At Begin (fresh (InCall p at label zs)) o) us) w.7 ∙ y.3 in
-      (y.0, y.1, y.2, xs, sequence_part n ts, goes_on s (At Begin (fresh (InCall p at label [])) o) (At (Have w.0) w.1 w.2) ls (lexeme tokens.Comma comma_at ∷ us) (Some (At (Have y.0) y.1 y.2)) w.5 comes, y.4, refl)
+      ap (λ (f : FinishedShape). concluded comma f >>= λ v. run s v us) w.6 ∙ ap (λ (zs : List Marked). run s (At Begin (fresh (InList target zs)) o) us) w.7 ∙ y.3 in
+      (y.0, y.1, y.2, xs, sequence_part n ts, goes_on s (At Begin (fresh (InList target [])) o) (At (Have w.0) w.1 w.2) ls (lexeme tokens.Comma comma_at ∷ us) (Some (At (Have y.0) y.1 y.2)) w.5 comes, y.4, refl)
 
   pub prod_complete : {s : Bool} {ls : List Lexeme} {e : PartShape} → IsProd s ls e → ProdRuns s ls e
   prod_complete (post s ls p h) b k n before puts t m o =

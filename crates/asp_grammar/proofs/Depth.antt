@@ -7,7 +7,7 @@ use Rattle.asp_tokens.specs.declared.token.Token.{Token}
 use Rattle.asp_tokens.specs.declared.token.Token.TheVariants as tokens
 use Rattle.asp_grammar.specs.Nodes.{PartShape, part, let_at, put_to, terms_at, in_parentheses}
 use Rattle.asp_grammar.specs.Grammar.{may_put}
-use Rattle.asp_grammar.specs.States.{PendingShape, KindShape, Top, InParentheses, InWord, InCondition, InThen, InElse, InCall, InBinding, InBody, InField, InMethod, OpenShape, OpenerShape, ByEquals, ModeShape, Have, Called, Opening, EchoText, EchoClosing, ObjectBegun, FieldNaming, MethodNaming, MethodNamed, SelfNaming, HeadNamed, ParameterNaming, StateShape, At, Done, operand_part, joined, put_all, term_in, test_in, value, InActive, ServiceNaming, ServiceNamed, ServeBegun, LabelNaming, LabelNamed}
+use Rattle.asp_grammar.specs.States.{PendingShape, TargetShape, OfCall, OfGroup, KindShape, Top, InParentheses, InWord, InCondition, InThen, InElse, InList, InScatter, InArguments, InMember, InIndex, InBinding, InBody, InField, InMethod, OpenShape, OpenerShape, ByEquals, ByComma, ModeShape, Have, ListBegun, Opening, EchoText, EchoClosing, ObjectBegun, FieldNaming, MethodNaming, MethodNamed, SelfNaming, HeadNamed, ParameterNaming, StateShape, At, Done, operand_part, listed, joined, put_all, term_in, test_in, value, InActive, ServiceNaming, ServiceNamed, ScatterNaming, ServeBegun, LabelNaming, LabelNamed}
 use Rattle.asp_grammar.specs.Closings as closings
 use Rattle.asp_grammar.specs.Machine as machine
 use Rattle.asp_grammar.specs.Closings.{FinishedShape, finished, over, finish, back, ClosingShape, Back, Again, concluded, close, close_brace, close_square, comma, bound, ended}
@@ -27,13 +27,15 @@ stack_brackets (s ∷ o) = kind_brackets s.kind + stack_brackets o
 
 abbrev pub opening_brackets : OpenerShape → KindShape → ℕ
 opening_brackets ByEquals k = kind_brackets k
+opening_brackets ByComma k = kind_brackets k
 opening_brackets _ k = 0
 
 abbrev pub mode_brackets : ModeShape → ℕ
-mode_brackets (Called p at label) = 1
+mode_brackets (ListBegun target) = 1
 mode_brackets (Opening opener k) = opening_brackets opener k
 mode_brackets (ServiceNaming at t) = 1
 mode_brackets (ServiceNamed at t label_at label) = 1
+mode_brackets (ScatterNaming at t) = 1
 mode_brackets (ServeBegun x) = 1
 mode_brackets (LabelNaming x) = 1
 mode_brackets (LabelNamed x) = 1
@@ -99,6 +101,10 @@ value_few s p =
     let e = joined s.test b in
     omega (arith, terms_few (value s p).start s.before (put_all s.puts e).term, put_few s.puts e, joined_few s.test b, joined_few s.sum a, joined_few s.product p)
 
+pub listed_none : (target : TargetShape) (ts : List Marked) → parentheses_of (listed target ts).term ≡ 0
+listed_none (OfCall p at label) ts = refl
+listed_none (OfGroup at) ts = refl
+
 one_more : (t : Marked) → parentheses_of (in_parentheses t) ≡ parentheses_of t + 1
 one_more (marked h m ts) = refl
 
@@ -135,7 +141,9 @@ module _ (v : PartShape) (b q n : ℕ) (few : parentheses_of v.term ≤ q) (low 
   close_fits (InWord head at) h = (omega (arith, h), omega (arith, low))
   close_fits (InActive at) h = (omega (arith, h), omega (arith, low))
   close_fits (InCondition at) h = (omega (arith, h), omega (arith, low))
-  close_fits (InCall p at label ts) h = (omega (arith, h), omega (arith, low))
+  close_fits (InList target ts) h = (omega (arith, h), omega (arith, low, listed_none target (ts ++ v.term ∷ [])))
+  close_fits (InArguments at t label_at label) h = (omega (arith, h), omega (arith, low))
+  close_fits (InIndex at t) h = (omega (arith, h), omega (arith, low))
   close_fits _ h = tt
 
   brace_fits : (k : KindShape) → kind_brackets k + b ≤ n → ClosingFits (close_brace k v) b (n - 1)
@@ -149,7 +157,9 @@ module _ (v : PartShape) (b q n : ℕ) (few : parentheses_of v.term ≤ q) (low 
   square_fits _ h = tt
 
   comma_fits : (k : KindShape) → kind_brackets k + b ≤ n → ClosingFits (comma k v) b n
-  comma_fits (InCall p at label ts) h = (omega (arith, h), omega (arith, low))
+  comma_fits (InList target ts) h = (omega (arith, h), omega (arith, low))
+  comma_fits (InScatter at) h = (omega (arith, h), omega (arith, low))
+  comma_fits (InMember at) h = (omega (arith, h), omega (arith, low))
   comma_fits (InActive at) h = (omega (arith, h), omega (arith, low))
   comma_fits (InField x label) h = (omega (arith, h), omega (arith, low))
   comma_fits (InMethod x head) h = (omega (arith, h), omega (arith, low))

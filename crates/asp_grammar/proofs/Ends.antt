@@ -4,12 +4,12 @@ use Rattle.std.proofs.lemmas.List.{append-nil}
 use Rattle.asp_tokens.specs.declared.token.Token.TheVariants as tokens
 use Rattle.asp_tokens.specs.Tokens.{Lexeme, lexeme}
 use Rattle.asp_grammar.specs.Nodes.{PartShape, ObjectShape, made}
-use Rattle.asp_grammar.specs.Grammar.{IsPrim, parentheses, word, choice, IsPost, prim, call, argument, and_argument, fields, bind, active}
+use Rattle.asp_grammar.specs.Grammar.{IsPrim, parentheses, word, choice, IsPost, prim, argument, and_argument, fields, bind, active, scatter, member}
 use Rattle.asp_grammar.specs.States.{KindShape, OpenShape, Plain, Have, FieldNaming, MethodNaming, StateShape, At, has_terms, fresh}
 use Rattle.asp_grammar.specs.Closings as closings
 use Rattle.asp_grammar.specs.Closings.{FinishedShape, finished, over, finish, concluded, first_mode, close, close_brace, close_square, comma, bound, ended}
-use Rattle.asp_grammar.proofs.Parts.{no_step, InLevel, next_field, a_method, next_method, Fielded, fielded, Methoded, methoded, Opened, top, in_parentheses, in_word, in_condition, in_then, in_else, in_call, in_more, in_binding, in_body, in_field, in_method, Leads, begun, wants, has, opens, else_comes, field_comes, method_comes, ends, in_active, service_comes}
-use Rattle.asp_grammar.proofs.Wholes.{leads_moved, opened_moved, step_is, Body, terms, one_term, as_body, fresh_level, field_end, field_object, method_end, method_object}
+use Rattle.asp_grammar.proofs.Parts.{no_step, InLevel, next_field, a_method, next_method, Fielded, fielded, Methoded, methoded, Opened, top, in_parentheses, in_word, in_condition, in_then, in_else, in_list, in_more, in_scatter, in_arguments, in_member, in_index, in_binding, in_body, in_field, in_method, Leads, begun, wants, has, opens, else_comes, field_comes, method_comes, ends, in_active, service_comes, scatter_comes}
+use Rattle.asp_grammar.proofs.Wholes.{leads_moved, opened_moved, step_is, Body, terms, one_term, as_body, list_some, fresh_level, field_end, field_object, method_end, method_object}
 use Rattle.asp_grammar.specs.Signs.{no_service}
 
 -- a sequence that is over, where it was opened
@@ -49,8 +49,12 @@ close_is at (ready (in_parentheses f g) (terms _ h)) = has_prim f g (parentheses
 close_is at (ready (in_word open_at f g w) (terms _ h)) = has_prim f g (word _ _ _ _ open_at at _ _ _ w h) (simp append_assoc refl)
 close_is at (ready (in_active open_at f g) (terms _ h)) = has_prim f g (active _ _ open_at at _ _ _ _ _ _ h no_service) (simp append_assoc refl)
 close_is at (ready (in_condition open_at f g) (terms _ h)) = comes (opens (λ i. opened_moved (in_then open_at at i f g h) (simp append_assoc refl)))
-close_is at (ready (in_call dot_at open_at f g p) (terms _ h)) = comes (leads_moved (has f g (call _ _ _ _ dot_at _ open_at at _ _ p (argument _ _ _ _ h))) (simp append_assoc refl))
-close_is at (ready (in_more dot_at open_at comma_at f g p a) (terms _ h)) = comes (leads_moved (has f g (call _ _ _ _ dot_at _ open_at at _ _ p (and_argument _ _ _ comma_at _ _ _ a h))) (simp append_assoc refl))
+close_is at (ready (in_list f g p) (terms _ h)) = comes (leads_moved (has f g (list_some at p (argument _ _ _ _ h))) (simp append_assoc refl))
+close_is at (ready (in_more comma_at f g p a) (terms _ h)) = comes (leads_moved (has f g (list_some at p (and_argument _ _ _ comma_at _ _ _ a h))) (simp append_assoc refl))
+close_is at (ready (in_arguments open_at comma_at second_at f g c) (terms _ h)) = has_prim f g (scatter _ _ open_at comma_at _ second_at at _ _ _ _ _ _ _ c h) (simp append_assoc refl)
+close_is at (ready (in_index open_at comma_at f g c) (terms _ h)) = has_prim f g (member _ _ open_at comma_at at _ _ _ _ _ _ c h) (simp append_assoc refl)
+close_is at (ready (in_scatter a f g) h) = nothing
+close_is at (ready (in_member a f g) h) = nothing
 close_is at (ready top h) = nothing
 close_is at (ready (in_then a b c f g i) h) = nothing
 close_is at (ready (in_else a b c d e i f g j l) h) = nothing
@@ -68,8 +72,12 @@ brace_is at (ready (in_parentheses f g) h) = nothing
 brace_is at (ready (in_word a f g w) h) = nothing
 brace_is at (ready (in_active a f g) h) = nothing
 brace_is at (ready (in_condition a f g) h) = nothing
-brace_is at (ready (in_call a b f g p) h) = nothing
-brace_is at (ready (in_more a b c f g p d) h) = nothing
+brace_is at (ready (in_list f g p) h) = nothing
+brace_is at (ready (in_more a f g p d) h) = nothing
+brace_is at (ready (in_scatter a f g) h) = nothing
+brace_is at (ready (in_arguments a b c f g d) h) = nothing
+brace_is at (ready (in_member a f g) h) = nothing
+brace_is at (ready (in_index a b f g d) h) = nothing
 brace_is at (ready (in_binding a f d e) h) = nothing
 brace_is at (ready (in_body a b f d e g) h) = nothing
 brace_is at (ready (in_field a b f g i) h) = nothing
@@ -94,8 +102,12 @@ square_is at (ready (in_active a f g) h) = nothing
 square_is at (ready (in_condition a f g) h) = nothing
 square_is at (ready (in_then a b c f g i) h) = nothing
 square_is at (ready (in_else a b c d e i f g j l) h) = nothing
-square_is at (ready (in_call a b f g p) h) = nothing
-square_is at (ready (in_more a b c f g p d) h) = nothing
+square_is at (ready (in_list f g p) h) = nothing
+square_is at (ready (in_more a f g p d) h) = nothing
+square_is at (ready (in_scatter a f g) h) = nothing
+square_is at (ready (in_arguments a b c f g d) h) = nothing
+square_is at (ready (in_member a f g) h) = nothing
+square_is at (ready (in_index a b f g d) h) = nothing
 square_is at (ready (in_binding a f d e) h) = nothing
 square_is at (ready (in_body a b f d e g) h) = nothing
 
@@ -114,15 +126,19 @@ method_comma at f g (methoded c i h) e = comes (leads_moved (method_comes f g (n
 
 pub comma_is : {s : Bool} {ls : List Lexeme} {f : FinishedShape} (at : ℕ) → Over s ls f → After s (ls ++ lexeme tokens.Comma at ∷ []) (concluded comma f)
 comma_is at (ready (in_active open_at f g) (terms _ h)) = comes (leads_moved (service_comes open_at at f g h) (simp append_assoc refl))
-comma_is at (ready (in_call dot_at open_at f g p) (terms _ h)) = comes (leads_moved (begun (in_more dot_at open_at at f g p (argument _ _ _ _ h)) no_step refl) (simp (append_assoc, append-nil) refl))
-comma_is at (ready (in_more dot_at open_at comma_at f g p a) (terms _ h)) =
-    comes (leads_moved (begun (in_more dot_at open_at at f g p (and_argument _ _ _ comma_at _ _ _ a h)) no_step refl) (simp (append_assoc, append-nil) refl))
+comma_is at (ready (in_scatter open_at f g) (terms _ h)) = comes (leads_moved (scatter_comes open_at at f g h) (simp append_assoc refl))
+comma_is at (ready (in_member open_at f g) (terms _ h)) = comes (leads_moved (begun (in_index open_at at f g h) no_step refl) (simp (append_assoc, append-nil) refl))
+comma_is at (ready (in_list f g p) (terms _ h)) = comes (leads_moved (begun (in_more at f g p (argument _ _ _ _ h)) no_step refl) (simp (append_assoc, append-nil) refl))
+comma_is at (ready (in_more comma_at f g p a) (terms _ h)) =
+    comes (leads_moved (begun (in_more at f g p (and_argument _ _ _ comma_at _ _ _ a h)) no_step refl) (simp (append_assoc, append-nil) refl))
 comma_is at (ready (in_field name_at equals_at f g i) (one_term h)) = field_comma at f g (field_end name_at equals_at _ i h) (simp append_assoc refl)
 comma_is at (ready (in_field name_at equals_at f g i) (terms e h)) = absurd cc
 comma_is at (ready (in_method close_at equals_at f g i j) (terms _ h)) = method_comma at f g (method_end close_at equals_at i j h) (simp append_assoc refl)
 comma_is at (ready top h) = nothing
 comma_is at (ready (in_parentheses f g) h) = nothing
 comma_is at (ready (in_word a f g w) h) = nothing
+comma_is at (ready (in_arguments a b c f g d) h) = nothing
+comma_is at (ready (in_index a b f g d) h) = nothing
 comma_is at (ready (in_condition a f g) h) = nothing
 comma_is at (ready (in_then a b c f g i) h) = nothing
 comma_is at (ready (in_else a b c d e i f g j l) h) = nothing
@@ -138,8 +154,12 @@ bound_is at (ready (in_active a f g) h) = nothing
 bound_is at (ready (in_condition a f g) h) = nothing
 bound_is at (ready (in_then a b c f g i) h) = nothing
 bound_is at (ready (in_else a b c d e i f g j l) h) = nothing
-bound_is at (ready (in_call a b f g p) h) = nothing
-bound_is at (ready (in_more a b c f g p d) h) = nothing
+bound_is at (ready (in_list f g p) h) = nothing
+bound_is at (ready (in_more a f g p d) h) = nothing
+bound_is at (ready (in_scatter a f g) h) = nothing
+bound_is at (ready (in_arguments a b c f g d) h) = nothing
+bound_is at (ready (in_member a f g) h) = nothing
+bound_is at (ready (in_index a b f g d) h) = nothing
 bound_is at (ready (in_body a b f d e g) h) = nothing
 bound_is at (ready (in_field a b f g i) h) = nothing
 bound_is at (ready (in_method a b f g i j) h) = nothing
@@ -152,8 +172,12 @@ ended_is at (ready (in_active a f g) h) = nothing
 ended_is at (ready (in_condition a f g) h) = nothing
 ended_is at (ready (in_then a b c f g i) h) = nothing
 ended_is at (ready (in_else a b c d e i f g j l) h) = nothing
-ended_is at (ready (in_call a b f g p) h) = nothing
-ended_is at (ready (in_more a b c f g p d) h) = nothing
+ended_is at (ready (in_list f g p) h) = nothing
+ended_is at (ready (in_more a f g p d) h) = nothing
+ended_is at (ready (in_scatter a f g) h) = nothing
+ended_is at (ready (in_arguments a b c f g d) h) = nothing
+ended_is at (ready (in_member a f g) h) = nothing
+ended_is at (ready (in_index a b f g d) h) = nothing
 ended_is at (ready (in_binding a f d e) h) = nothing
 ended_is at (ready (in_body a b f d e g) h) = nothing
 ended_is at (ready (in_field a b f g i) h) = nothing

@@ -10,7 +10,7 @@ use Rattle.asp_tokens.specs.Tokens.{Lexeme, lexeme}
 use Rattle.asp_grammar.specs.Nodes.{PartShape, terms_at, ObjectShape, LabelsShape}
 use Rattle.asp_grammar.specs.Signs.{IsProductSign, IsSumSign, IsTestSign, IsWord, IsHead, IsLabels}
 use Rattle.asp_grammar.specs.Grammar.{may_put, IsPost, IsArgs, IsFields, IsMethods, IsFieldPart, IsProd, IsSum, IsTest, IsExpr, IsSeq, IsProgram}
-use Rattle.asp_grammar.specs.States.{PendingShape, KindShape, Top, InParentheses, InWord, InCondition, InThen, InElse, InCall, InBinding, InBody, InField, InMethod, OpenShape, Plain, Access, OpenerShape, ByRound, ByBrace, ByEquals, Begin, Want, Have, Dotted, Called, Opening, LetNaming, ElseComing, EchoOpening, EchoText, EchoClosing, ObjectBegun, FieldNaming, MethodNaming, MethodNamed, SelfNaming, HeadNamed, ParameterNaming, StateShape, At, Done, pending, has_terms, opened_with, new_object, with_name, first_start, InActive, new_labels, ServiceNaming, ServiceNamed, ServeOpening, ServeBegun, LabelNaming, LabelNamed}
+use Rattle.asp_grammar.specs.States.{PendingShape, TargetShape, OfCall, OfGroup, KindShape, Top, InParentheses, InWord, InCondition, InThen, InElse, InList, InScatter, InArguments, InMember, InIndex, InBinding, InBody, InField, InMethod, OpenShape, Plain, Access, OpenerShape, ByRound, ByBrace, ByEquals, ByComma, Begin, Want, Have, Dotted, ListBegun, Opening, LetNaming, ElseComing, EchoOpening, EchoText, EchoClosing, ObjectBegun, FieldNaming, MethodNaming, MethodNamed, SelfNaming, HeadNamed, ParameterNaming, StateShape, At, Done, pending, has_terms, opened_with, new_object, with_name, first_start, InActive, new_labels, ServiceNaming, ServiceNamed, GroupOpening, ScatterNaming, ServeOpening, ServeBegun, LabelNaming, LabelNamed}
 
 pub data ProductPart : Bool → List Lexeme → Option PendingShape → Type 0 where
   no_product : {s : Bool} → ProductPart s [] None
@@ -74,6 +74,12 @@ pub data Methoded : Bool → List Lexeme → ObjectShape → Type 0 where
   methoded : {s : Bool} {ls us : List Lexeme} {at : ℕ} {ns ms : List ℕ} {fs : List (Text × Marked)} {xs : List MarkedMethod} (semicolon_at : ℕ) → IsFieldPart s ls ns fs → IsMethods s us ms xs
       → Methoded s (lexeme tokens.SquareOpen at ∷ (ls ++ lexeme tokens.Semicolon semicolon_at ∷ us)) (object_of at (ns ++ ms) fs xs)
 
+-- what a list of terms is for, up to its bracket
+pub data IsTarget : Bool → List Lexeme → TargetShape → Type 0 where
+  of_call : {s : Bool} {ls : List Lexeme} {x : PartShape} {label : Text} {at : ℕ} (dot_at open_at : ℕ) → IsPost s ls x
+      → IsTarget s (ls ++ lexeme tokens.Dot dot_at ∷ lexeme (tokens.Name label) at ∷ lexeme tokens.Open open_at ∷ []) (OfCall x at label)
+  of_group : {s : Bool} {at : ℕ} (open_at : ℕ) → IsTarget s (lexeme tokens.Group at ∷ lexeme tokens.Open open_at ∷ []) (OfGroup at)
+
 abbrev pub waiting : KindShape → ℕ → List Marked → OpenShape
 waiting k n before = opened_with k n before [] None None None
 
@@ -95,12 +101,22 @@ pub data Opened : Bool → List Lexeme → KindShape → List OpenShape → Type
       → Opened s ts r.kind o → InLevel s us r → IsSeq s vs n cs → IsSeq s ws m es
       → Opened s (ts ++ (us ++ lexeme tokens.If at ∷ lexeme tokens.Open open_at ∷ (vs ++ lexeme tokens.Close close_at ∷ lexeme tokens.BraceOpen brace_at
       ∷ (ws ++ lexeme tokens.BraceClose end_at ∷ lexeme tokens.Else else_at ∷ lexeme tokens.BraceOpen else_open ∷ [])))) (InElse at (terms_at n cs) (terms_at m es)) (r ∷ o)
-  in_call : {s : Bool} {ts us vs : List Lexeme} {r : OpenShape} {o : List OpenShape} {x : PartShape} {label : Text} {at : ℕ} (dot_at open_at : ℕ)
-      → Opened s ts r.kind o → InLevel s us r → IsPost s vs x
-      → Opened s (ts ++ (us ++ (vs ++ lexeme tokens.Dot dot_at ∷ lexeme (tokens.Name label) at ∷ lexeme tokens.Open open_at ∷ []))) (InCall x at label []) (r ∷ o)
-  in_more : {s : Bool} {ts us vs ws : List Lexeme} {r : OpenShape} {o : List OpenShape} {x : PartShape} {label : Text} {at : ℕ} {xs : List Marked} (dot_at open_at comma_at : ℕ)
-      → Opened s ts r.kind o → InLevel s us r → IsPost s vs x → IsArgs s ws xs
-      → Opened s (ts ++ (us ++ (vs ++ lexeme tokens.Dot dot_at ∷ lexeme (tokens.Name label) at ∷ lexeme tokens.Open open_at ∷ (ws ++ lexeme tokens.Comma comma_at ∷ [])))) (InCall x at label xs) (r ∷ o)
+  in_list : {s : Bool} {ts us vs : List Lexeme} {r : OpenShape} {o : List OpenShape} {x : TargetShape}
+      → Opened s ts r.kind o → InLevel s us r → IsTarget s vs x → Opened s (ts ++ (us ++ vs)) (InList x []) (r ∷ o)
+  in_more : {s : Bool} {ts us vs ws : List Lexeme} {r : OpenShape} {o : List OpenShape} {x : TargetShape} {xs : List Marked} (comma_at : ℕ)
+      → Opened s ts r.kind o → InLevel s us r → IsTarget s vs x → IsArgs s ws xs
+      → Opened s (ts ++ (us ++ (vs ++ (ws ++ lexeme tokens.Comma comma_at ∷ [])))) (InList x xs) (r ∷ o)
+  in_scatter : {s : Bool} {ts us : List Lexeme} {r : OpenShape} {o : List OpenShape} {at : ℕ} (open_at : ℕ)
+      → Opened s ts r.kind o → InLevel s us r → Opened s (ts ++ (us ++ lexeme tokens.Scatter at ∷ lexeme tokens.Open open_at ∷ [])) (InScatter at) (r ∷ o)
+  in_arguments : {s : Bool} {ts us vs : List Lexeme} {r : OpenShape} {o : List OpenShape} {at n label_at : ℕ} {xs : List Marked} {label : Text} (open_at comma_at second_at : ℕ)
+      → Opened s ts r.kind o → InLevel s us r → IsSeq s vs n xs
+      → Opened s (ts ++ (us ++ lexeme tokens.Scatter at ∷ lexeme tokens.Open open_at ∷ (vs ++ lexeme tokens.Comma comma_at ∷ lexeme (tokens.Name label) label_at ∷ lexeme tokens.Comma second_at ∷ [])))
+      (InArguments at (terms_at n xs) label_at label) (r ∷ o)
+  in_member : {s : Bool} {ts us : List Lexeme} {r : OpenShape} {o : List OpenShape} {at : ℕ} (open_at : ℕ)
+      → Opened s ts r.kind o → InLevel s us r → Opened s (ts ++ (us ++ lexeme tokens.Member at ∷ lexeme tokens.Open open_at ∷ [])) (InMember at) (r ∷ o)
+  in_index : {s : Bool} {ts us vs : List Lexeme} {r : OpenShape} {o : List OpenShape} {at n : ℕ} {xs : List Marked} (open_at comma_at : ℕ)
+      → Opened s ts r.kind o → InLevel s us r → IsSeq s vs n xs
+      → Opened s (ts ++ (us ++ lexeme tokens.Member at ∷ lexeme tokens.Open open_at ∷ (vs ++ lexeme tokens.Comma comma_at ∷ []))) (InIndex at (terms_at n xs)) (r ∷ o)
   in_binding : {s : Bool} {ts us : List Lexeme} {k : KindShape} {n : ℕ} {before : List Marked} {o : List OpenShape} {x : Text} {at name_at : ℕ} (equals_at : ℕ)
       → Opened s ts k o → StepPart s k us n before → has_terms k ≡ true
       → Opened s (ts ++ (us ++ lexeme tokens.Let at ∷ lexeme (tokens.Name x) name_at ∷ lexeme tokens.Equals equals_at ∷ [])) (InBinding at name_at x) (waiting k n before ∷ o)
@@ -118,6 +134,7 @@ abbrev pub opener_token : OpenerShape → Token
 opener_token ByRound = tokens.Open
 opener_token ByBrace = tokens.BraceOpen
 opener_token ByEquals = tokens.Equals
+opener_token ByComma = tokens.Comma
 
 -- the lexemes that lead to a state
 pub data Leads : Bool → List Lexeme → StateShape → Type 0 where
@@ -131,9 +148,8 @@ pub data Leads : Bool → List Lexeme → StateShape → Type 0 where
       → Leads s (ts ++ (us ++ (vs ++ lexeme tokens.Dot dot_at ∷ lexeme (tokens.Name label) at ∷ []))) (At (Have (Access x at label)) r o)
   dots : {s : Bool} {ts us vs : List Lexeme} {r : OpenShape} {o : List OpenShape} {x : PartShape} (dot_at : ℕ)
       → Opened s ts r.kind o → InLevel s us r → IsPost s vs x → Leads s (ts ++ (us ++ (vs ++ lexeme tokens.Dot dot_at ∷ []))) (At (Dotted x) r o)
-  calls : {s : Bool} {ts us vs : List Lexeme} {r : OpenShape} {o : List OpenShape} {x : PartShape} {at : ℕ} {label : Text} (dot_at open_at : ℕ)
-      → Opened s ts r.kind o → InLevel s us r → IsPost s vs x
-      → Leads s (ts ++ (us ++ (vs ++ lexeme tokens.Dot dot_at ∷ lexeme (tokens.Name label) at ∷ lexeme tokens.Open open_at ∷ []))) (At (Called x at label) r o)
+  lists : {s : Bool} {ts us vs : List Lexeme} {r : OpenShape} {o : List OpenShape} {x : TargetShape}
+      → Opened s ts r.kind o → InLevel s us r → IsTarget s vs x → Leads s (ts ++ (us ++ vs)) (At (ListBegun x) r o)
   opens : {s : Bool} {ls : List Lexeme} {r : OpenShape} {o : List OpenShape} {opener : OpenerShape} {k : KindShape}
       → ((at : ℕ) → Opened s (ls ++ lexeme (opener_token opener) at ∷ []) k (r ∷ o)) → Leads s ls (At (Opening opener k) r o)
   lets : {s : Bool} {ts us : List Lexeme} {k : KindShape} {n : ℕ} {before : List Marked} {o : List OpenShape} {at : ℕ}
@@ -144,6 +160,10 @@ pub data Leads : Bool → List Lexeme → StateShape → Type 0 where
   service_named : {s : Bool} {ts us vs : List Lexeme} {r : OpenShape} {o : List OpenShape} {at n label_at : ℕ} {xs : List Marked} {label : Text} (open_at comma_at : ℕ)
       → Opened s ts r.kind o → InLevel s us r → IsSeq s vs n xs
       → Leads s (ts ++ (us ++ lexeme tokens.Active at ∷ lexeme tokens.Open open_at ∷ (vs ++ lexeme tokens.Comma comma_at ∷ lexeme (tokens.Name label) label_at ∷ []))) (At (ServiceNamed at (terms_at n xs) label_at label) r o)
+  groups : {s : Bool} {ts us : List Lexeme} {r : OpenShape} {o : List OpenShape} {at : ℕ} → Opened s ts r.kind o → InLevel s us r → Leads s (ts ++ (us ++ lexeme tokens.Group at ∷ [])) (At (GroupOpening at) r o)
+  scatter_comes : {s : Bool} {ts us vs : List Lexeme} {r : OpenShape} {o : List OpenShape} {at n : ℕ} {xs : List Marked} (open_at comma_at : ℕ)
+      → Opened s ts r.kind o → InLevel s us r → IsSeq s vs n xs
+      → Leads s (ts ++ (us ++ lexeme tokens.Scatter at ∷ lexeme tokens.Open open_at ∷ (vs ++ lexeme tokens.Comma comma_at ∷ []))) (At (ScatterNaming at (terms_at n xs)) r o)
   serves : {s : Bool} {ts us : List Lexeme} {r : OpenShape} {o : List OpenShape} {at : ℕ} → Opened s ts r.kind o → InLevel s us r → Leads s (ts ++ (us ++ lexeme tokens.Serve at ∷ [])) (At (ServeOpening at) r o)
   serve_opens : {s : Bool} {ts us : List Lexeme} {r : OpenShape} {o : List OpenShape} {at : ℕ} (open_at : ℕ)
       → Opened s ts r.kind o → InLevel s us r → Leads s (ts ++ (us ++ lexeme tokens.Serve at ∷ lexeme tokens.Open open_at ∷ [])) (At (ServeBegun (new_labels at)) r o)

@@ -9,11 +9,11 @@ use Rattle.asp_tokens.specs.declared.token.Token.{Token}
 use Rattle.asp_tokens.specs.declared.token.Token.TheVariants as tokens
 use Rattle.asp_tokens.specs.Tokens.{Lexeme, lexeme}
 use Rattle.asp_grammar.specs.Nodes.{PartShape, terms_at, ObjectShape, made, with_parameter, served}
-use Rattle.asp_grammar.specs.Signs.{IsProductSign, multiplies, divides, leaves, IsSumSign, adds, subtracts, IsTestSign, is_less, is_same, IsWord, clones, repeats, prints, IsHead, head, parameter, IsLabels, first_label, and_label, IsLabelPart, no_labels, labels}
-use Rattle.asp_grammar.specs.Grammar.{IsPrim, number, variable, parentheses, object, word, choice, echo, active, serve}
-use Rattle.asp_grammar.specs.States.{PendingShape, KindShape, InWord, InCall, InField, InMethod, OpenShape, OperandShape, Plain, ByRound, Begin, Want, Have, Called, Opening, ObjectBegun, MethodNaming, HeadNamed, StateShape, At, has_terms, opened_with, fresh, new_object, with_field, with_method, operand_part, joined, put_all, first_start, sequence_part, ServeBegun, LabelNamed, new_labels}
+use Rattle.asp_grammar.specs.Signs.{IsProductSign, multiplies, divides, leaves, IsSumSign, adds, subtracts, IsTestSign, is_less, is_same, IsWord, clones, repeats, prints, sizes, awaits, IsHead, head, parameter, IsLabels, first_label, and_label, IsLabelPart, no_labels, labels}
+use Rattle.asp_grammar.specs.Grammar.{IsPrim, number, variable, parentheses, object, word, choice, echo, active, serve, group_none, group, scatter, member}
+use Rattle.asp_grammar.specs.States.{PendingShape, TargetShape, KindShape, InWord, InList, InField, InMethod, OpenShape, OperandShape, Plain, ByRound, Begin, Want, Have, ListBegun, Opening, ObjectBegun, MethodNaming, HeadNamed, StateShape, At, has_terms, opened_with, fresh, new_object, with_field, with_method, operand_part, listed, joined, put_all, first_start, sequence_part, ServeBegun, LabelNamed, new_labels}
 use Rattle.asp_grammar.specs.Machine as machine
-use Rattle.asp_grammar.specs.Closings.{◌>>=◌, FinishedShape, finished, over, finish, concluded, first_mode, close_square}
+use Rattle.asp_grammar.specs.Closings.{◌>>=◌, FinishedShape, finished, over, finish, concluded, first_mode, close, close_square}
 use Rattle.asp_grammar.specs.Changes.{ChangeShape, Goes, changed, operand, begin}
 use Rattle.asp_grammar.specs.Machine.{next_term, have, step, run}
 
@@ -38,11 +38,15 @@ pub word_goes : {token : Token} {head : Head} → IsWord token head → (at : �
 word_goes clones at = refl
 word_goes repeats at = refl
 word_goes prints at = refl
+word_goes sizes at = refl
+word_goes awaits at = refl
 
 pub word_begins : {token : Token} {head : Head} → IsWord token head → (at : ℕ) → begin token at ≡ operand token at
 word_begins clones at = refl
 word_begins repeats at = refl
 word_begins prints at = refl
+word_begins sizes at = refl
+word_begins awaits at = refl
 
 pub times_goes : {token : Token} {sign : SignShape} → IsProductSign token sign → (s : Bool) (x : OperandShape) (r : OpenShape) (o : List OpenShape)
     → have s x r o token ≡ machine.times sign (operand_part x) r o
@@ -73,22 +77,26 @@ begun_prim (active s at a c ls us n ts ns label h i) true r o = refl
 begun_prim (serve s at a c ls ns xs h) true r o = refl
 begun_prim (choice s at a b c d e f g ls us vs n m k cs ts es x y z) true r o = refl
 begun_prim (echo s at a b c text) true r o = refl
+begun_prim (group_none s at a c) true r o = refl
+begun_prim (group s at a c ls ts h) true r o = refl
+begun_prim (scatter s at a b d e c label ls us n m ts xs h g) true r o = refl
+begun_prim (member s at a b c ls us n m ts xs h g) true r o = refl
 
--- a call's list is read as a sequence
-pub call_first : (p : PartShape) (label_at : ℕ) (label : Text) (r : OpenShape) (o : List OpenShape) (token : Token) (at : ℕ) (y : StateShape)
-    → changed (begin token at) (fresh (InCall p label_at label [])) (r ∷ o) ≡ Some y → machine.call p label_at label r o token at ≡ Some y
-call_first p la label r o tokens.Close at y e = absurd cc
-call_first p la label r o _ at y e = e
+-- a list of terms is read as a sequence
+pub list_first : (target : TargetShape) (r : OpenShape) (o : List OpenShape) (token : Token) (at : ℕ) (y : StateShape)
+    → changed (begin token at) (fresh (InList target [])) (r ∷ o) ≡ Some y → machine.listing target r o token at ≡ Some y
+list_first target r o tokens.Close at y e = absurd cc
+list_first target r o _ at y e = e
 
-pub call_on : (s : Bool) (p : PartShape) (at : ℕ) (label : Text) (r : OpenShape) (o : List OpenShape) (l : Lexeme) (ls : List Lexeme) (x : StateShape) (z : Option StateShape)
-    → changed (begin l.token l.at) (fresh (InCall p at label [])) (r ∷ o) ≡ z → (z >>= λ y. run s y ls) ≡ Some x → run s (At (Called p at label) r o) (l ∷ ls) ≡ Some x
-call_on s p at label r o l ls x None e h = absurd cc
-call_on s p at label r o l ls x (Some y) e h = steps s (machine.call p at label r o l.token l.at) (Some y) ls (Some x) (call_first p at label r o l.token l.at y e) h
+pub list_on : (s : Bool) (target : TargetShape) (r : OpenShape) (o : List OpenShape) (l : Lexeme) (ls : List Lexeme) (x : StateShape) (z : Option StateShape)
+    → changed (begin l.token l.at) (fresh (InList target [])) (r ∷ o) ≡ z → (z >>= λ y. run s y ls) ≡ Some x → run s (At (ListBegun target) r o) (l ∷ ls) ≡ Some x
+list_on s target r o l ls x None e h = absurd cc
+list_on s target r o l ls x (Some y) e h = steps s (machine.listing target r o l.token l.at) (Some y) ls (Some x) (list_first target r o l.token l.at y e) h
 
-pub call_is : (s : Bool) (p : PartShape) (at : ℕ) (label : Text) (r : OpenShape) (o : List OpenShape) (ls : List Lexeme) (x : OperandShape) (m : OpenShape) (q : List OpenShape)
-    → run s (At Begin (fresh (InCall p at label [])) (r ∷ o)) ls ≡ Some (At (Have x) m q) → run s (At (Called p at label) r o) ls ≡ Some (At (Have x) m q)
-call_is s p at label r o [] x m q h = absurd cc
-call_is s p at label r o (l ∷ ls) x m q h = call_on s p at label r o l ls (At (Have x) m q) (changed (begin l.token l.at) (fresh (InCall p at label [])) (r ∷ o)) refl h
+pub list_is : (s : Bool) (target : TargetShape) (r : OpenShape) (o : List OpenShape) (ls : List Lexeme) (x : OperandShape) (m : OpenShape) (q : List OpenShape)
+    → run s (At Begin (fresh (InList target [])) (r ∷ o)) ls ≡ Some (At (Have x) m q) → run s (At (ListBegun target) r o) ls ≡ Some (At (Have x) m q)
+list_is s target r o [] x m q h = absurd cc
+list_is s target r o (l ∷ ls) x m q h = list_on s target r o l ls (At (Have x) m q) (changed (begin l.token l.at) (fresh (InList target [])) (r ∷ o)) refl h
 
 abbrev pub PostRuns : Bool → List Lexeme → PartShape → Type 0
 PostRuns s ls p = (b : Bool) (r : OpenShape) (o : List OpenShape) → (x : OperandShape) × (run s (At (first_mode b) r o) ls ≡ Some (At (Have x) r o)) × (operand_part x ≡ p)
@@ -121,9 +129,18 @@ SeqRuns s ls n ts = (k : KindShape) (i : ℕ) (before : List Marked) (o : List O
     × (finish (operand_part x) m q ≡ over k (sequence_part (first_start before i n) (before ++ ts)) o)
 
 abbrev pub ArgsRuns : Bool → List Lexeme → List Marked → Type 0
-ArgsRuns s ls ts = (p : PartShape) (at : ℕ) (label : Text) (o : List OpenShape)
-    → (x : OperandShape) × (m : OpenShape) × (q : List OpenShape) × (before : List Marked) × (v : PartShape) × (run s (At Begin (fresh (InCall p at label [])) o) ls ≡ Some (At (Have x) m q))
-    × (finish (operand_part x) m q ≡ finished (InCall p at label before) v o) × (before ++ v.term ∷ [] ≡ ts)
+ArgsRuns s ls ts = (target : TargetShape) (o : List OpenShape)
+    → (x : OperandShape) × (m : OpenShape) × (q : List OpenShape) × (before : List Marked) × (v : PartShape) × (run s (At Begin (fresh (InList target [])) o) ls ≡ Some (At (Have x) m q))
+    × (finish (operand_part x) m q ≡ finished (InList target before) v o) × (before ++ v.term ∷ [] ≡ ts)
+
+-- a list of terms up to its end
+pub listed_runs : (s : Bool) (us : List Lexeme) (ts : List Marked) → ArgsRuns s us ts → (target : TargetShape) (close_at : ℕ) (r : OpenShape) (o : List OpenShape)
+    → run s (At (ListBegun target) r o) (us ++ lexeme tokens.Close close_at ∷ []) ≡ Some (At (Have (Plain (listed target ts))) r o)
+listed_runs s us ts f target close_at r o =
+    let w = f target (r ∷ o) in
+    let z : Option StateShape = Some (At (Have (Plain (listed target ts))) r o) in
+    goes_on s (At (ListBegun target) r o) (At (Have w.0) w.1 w.2) us (lexeme tokens.Close close_at ∷ []) z (list_is s target r o us w.0 w.1 w.2 w.5)
+    (ap (λ (f : FinishedShape). concluded close f >>= λ v. run s v []) w.6 ∙ ap (λ (xs : List Marked). Some (At (Have (Plain (listed target xs))) r o)) w.7)
 
 -- the last field of an object, up to what follows it
 pub record FieldRun (s : Bool) (from : StateShape) (ls : List Lexeme) (r : OpenShape) (o : List OpenShape) (to : ObjectShape) : Type 0 where

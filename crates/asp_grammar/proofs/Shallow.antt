@@ -1,21 +1,20 @@
 -- The reader keeps its brackets and parentheses within the level.
 use Rattle.std.proofs.Common.{◌≡◌, ℕ, ◌+◌, ◌-◌, ◌≤◌, ◌<◌, Bool, true, false, List, [], ◌∷◌, Option, Some, None, length, refl, sym, ap, subst, arith}
 use Rattle.asp_model.specs.declared.limits.TheConstants.{MOST_LEVEL}
-use Rattle.asp_model.specs.Names.{Text}
 use Rattle.asp_tokens.specs.declared.token.Token.{Token}
 use Rattle.asp_tokens.specs.declared.token.Token.TheVariants as tokens
 use Rattle.asp_tokens.specs.Tokens.{Lexeme}
 use Rattle.asp_grammar.specs.Nodes.{PartShape}
 use Rattle.asp_tokens.specs.Levels.{BracketShape, WalkShape, walked, closed}
 use Rattle.asp_tokens.specs.Ordered.{IsOrdered}
-use Rattle.asp_grammar.specs.States.{KindShape, Top, InCall, InBinding, InBody, OpenShape, OperandShape, Plain, Access, OpenerShape, ByRound, ByBrace, ByEquals, ModeShape, Begin, Want, Have, Dotted, Called, Opening, LetNaming, ElseComing, EchoOpening, EchoText, EchoClosing, ObjectBegun, FieldNaming, MethodNaming, MethodNamed, SelfNaming, HeadNamed, ParameterNaming, StateShape, At, Done, has_terms, fresh, operand_part, ServiceNaming, ServiceNamed, ServeOpening, ServeBegun, LabelNaming, LabelNamed}
+use Rattle.asp_grammar.specs.States.{TargetShape, KindShape, Top, InList, InBinding, InBody, OpenShape, OperandShape, Plain, Access, OpenerShape, ByRound, ByBrace, ByEquals, ByComma, ModeShape, Begin, Want, Have, Dotted, ListBegun, Opening, LetNaming, ElseComing, EchoOpening, EchoText, EchoClosing, ObjectBegun, FieldNaming, MethodNaming, MethodNamed, SelfNaming, HeadNamed, ParameterNaming, StateShape, At, Done, has_terms, fresh, operand_part, ServiceNaming, ServiceNamed, GroupOpening, ScatterNaming, ServeOpening, ServeBegun, LabelNaming, LabelNamed}
 use Rattle.asp_grammar.specs.Changes as changes
 use Rattle.asp_grammar.specs.Machine as machine
 use Rattle.asp_grammar.specs.Closings.{first_mode, finished, finish}
 use Rattle.asp_grammar.specs.Changes.{ChangeShape, Goes, Opens, changed, operand, begin}
 use Rattle.asp_grammar.specs.Machine.{change_of, have, stepped, step}
 use Rattle.asp_grammar.specs.Depth.{parentheses_of, parentheses_in}
-use Rattle.asp_grammar.proofs.Depth.{kind_brackets, stack_brackets, opening_brackets, mode_brackets, ModeFits, Fits, IfFits, brackets_after, FinishedFits, finish_fits, behind_fits}
+use Rattle.asp_grammar.proofs.Depth.{kind_brackets, stack_brackets, opening_brackets, mode_brackets, ModeFits, Fits, IfFits, brackets_after, FinishedFits, finish_fits, behind_fits, listed_none}
 
 abbrev ChangeFits : Option ChangeShape → ℕ → ℕ → Type 0
 ChangeFits None b n = Unit {0}
@@ -49,6 +48,11 @@ operand_fits tokens.Repeat at b n h g = (omega (arith, h), omega (arith, g))
 operand_fits tokens.Print at b n h g = (omega (arith, h), omega (arith, g))
 operand_fits tokens.If at b n h g = (omega (arith, h), omega (arith, g))
 operand_fits tokens.Echo at b n h g = (omega (arith, h), omega (arith, g))
+operand_fits tokens.Group at b n h g = (omega (arith, h), omega (arith, g))
+operand_fits tokens.Scatter at b n h g = (omega (arith, h), omega (arith, g))
+operand_fits tokens.Size at b n h g = (omega (arith, h), omega (arith, g))
+operand_fits tokens.Member at b n h g = (omega (arith, h), omega (arith, g))
+operand_fits tokens.WaitAll at b n h g = (omega (arith, h), omega (arith, g))
 operand_fits _ at b n h g = tt
 
 begin_fits : (t : Token) (at b n : ℕ) → b ≤ n → brackets_after t n ≤ MOST_LEVEL → ChangeFits (begin t at) b (brackets_after t n)
@@ -62,6 +66,8 @@ opening_fits ByBrace k tokens.BraceOpen b n h g = (omega (arith, h, at_most_one 
 opening_fits ByBrace k _ b n h g = tt
 opening_fits ByEquals k tokens.Equals b n h g = (omega (arith, h), omega (arith, g))
 opening_fits ByEquals k _ b n h g = tt
+opening_fits ByComma k tokens.Comma b n h g = (omega (arith, h), omega (arith, g))
+opening_fits ByComma k _ b n h g = tt
 
 change_fits : (m : ModeShape) (t : Token) (at b n : ℕ) → mode_brackets m + b ≤ n → brackets_after t n ≤ MOST_LEVEL → ChangeFits (change_of m t at) b (brackets_after t n)
 change_fits Begin t at b n h g = begin_fits t at b n (omega (arith, h)) g
@@ -75,6 +81,10 @@ change_fits (ServiceNaming i u) (tokens.Name label) at b n h g = (omega (arith, 
 change_fits (ServiceNaming i u) _ at b n h g = tt
 change_fits (ServiceNamed i u j label) tokens.Close at b n h g = (omega (arith, h), omega (arith, g))
 change_fits (ServiceNamed i u j label) _ at b n h g = tt
+change_fits (GroupOpening i) tokens.Open at b n h g = (omega (arith, h), omega (arith, g))
+change_fits (GroupOpening i) _ at b n h g = tt
+change_fits (ScatterNaming i u) (tokens.Name label) at b n h g = (omega (arith, h), omega (arith, g))
+change_fits (ScatterNaming i u) _ at b n h g = tt
 change_fits (ServeOpening i) tokens.Open at b n h g = (omega (arith, h), omega (arith, g))
 change_fits (ServeOpening i) _ at b n h g = tt
 change_fits (ServeBegun x) tokens.Close at b n h g = (omega (arith, h), omega (arith, g))
@@ -118,14 +128,14 @@ have_fits (Plain p) s o tokens.Open n h low g = tt
 have_fits (Access p at label) s o tokens.Open n h low g = (omega (arith, h), omega (arith, g))
 have_fits x s o t n h low g = behind_fits (operand_part x) s o n h low t
 
-call_fits : (p : PartShape) (label_at : ℕ) (label : Text) (s : OpenShape) (o : List OpenShape) (t : Token) (at n : ℕ) → 1 + stack_brackets (s ∷ o) ≤ n
-    → brackets_after t n ≤ MOST_LEVEL → IfFits (machine.call p label_at label s o t at) (brackets_after t n)
-call_fits p i label s o tokens.Close at n h g = (omega (arith, h), omega (arith, g))
-call_fits p i label s o t at n h g = changed_fits (begin t at) (fresh (InCall p i label [])) (s ∷ o) (brackets_after t n) (begin_fits t at (1 + stack_brackets (s ∷ o)) n h g)
+list_fits : (target : TargetShape) (s : OpenShape) (o : List OpenShape) (t : Token) (at n : ℕ) → 1 + stack_brackets (s ∷ o) ≤ n
+    → brackets_after t n ≤ MOST_LEVEL → IfFits (machine.listing target s o t at) (brackets_after t n)
+list_fits target s o tokens.Close at n h g = (omega (arith, h), omega (arith, g, listed_none target []))
+list_fits target s o t at n h g = changed_fits (begin t at) (fresh (InList target [])) (s ∷ o) (brackets_after t n) (begin_fits t at (1 + stack_brackets (s ∷ o)) n h g)
 
 mode_fits : (m : ModeShape) (s : OpenShape) (o : List OpenShape) (t : Token) (at n : ℕ) → Fits (At m s o) n → brackets_after t n ≤ MOST_LEVEL → IfFits (stepped true m s o t at) (brackets_after t n)
 mode_fits (Have x) s o t at n h g = have_fits x s o t n (omega (arith, h.0)) h.1 g
-mode_fits (Called p i label) s o t at n h g = call_fits p i label s o t at n h.0 g
+mode_fits (ListBegun target) s o t at n h g = list_fits target s o t at n h.0 g
 mode_fits Begin s o t at n h g = changed_fits (change_of Begin t at) s o (brackets_after t n) (change_fits Begin t at (stack_brackets (s ∷ o)) n h.0 g)
 mode_fits Want s o t at n h g = changed_fits (change_of Want t at) s o (brackets_after t n) (change_fits Want t at (stack_brackets (s ∷ o)) n h.0 g)
 mode_fits (Dotted p) s o t at n h g = changed_fits (change_of (Dotted p) t at) s o (brackets_after t n) (change_fits (Dotted p) t at (stack_brackets (s ∷ o)) n h.0 g)
@@ -133,6 +143,8 @@ mode_fits (Opening opener k) s o t at n h g = changed_fits (change_of (Opening o
 mode_fits (LetNaming i) s o t at n h g = changed_fits (change_of (LetNaming i) t at) s o (brackets_after t n) (change_fits (LetNaming i) t at (stack_brackets (s ∷ o)) n h.0 g)
 mode_fits (ServiceNaming i u) s o t at n h g = changed_fits (change_of (ServiceNaming i u) t at) s o (brackets_after t n) (change_fits (ServiceNaming i u) t at (stack_brackets (s ∷ o)) n h.0 g)
 mode_fits (ServiceNamed i u j label) s o t at n h g = changed_fits (change_of (ServiceNamed i u j label) t at) s o (brackets_after t n) (change_fits (ServiceNamed i u j label) t at (stack_brackets (s ∷ o)) n h.0 g)
+mode_fits (GroupOpening i) s o t at n h g = changed_fits (change_of (GroupOpening i) t at) s o (brackets_after t n) (change_fits (GroupOpening i) t at (stack_brackets (s ∷ o)) n h.0 g)
+mode_fits (ScatterNaming i u) s o t at n h g = changed_fits (change_of (ScatterNaming i u) t at) s o (brackets_after t n) (change_fits (ScatterNaming i u) t at (stack_brackets (s ∷ o)) n h.0 g)
 mode_fits (ServeOpening i) s o t at n h g = changed_fits (change_of (ServeOpening i) t at) s o (brackets_after t n) (change_fits (ServeOpening i) t at (stack_brackets (s ∷ o)) n h.0 g)
 mode_fits (ServeBegun x) s o t at n h g = changed_fits (change_of (ServeBegun x) t at) s o (brackets_after t n) (change_fits (ServeBegun x) t at (stack_brackets (s ∷ o)) n h.0 g)
 mode_fits (LabelNaming x) s o t at n h g = changed_fits (change_of (LabelNaming x) t at) s o (brackets_after t n) (change_fits (LabelNaming x) t at (stack_brackets (s ∷ o)) n h.0 g)
@@ -214,8 +226,6 @@ pub shallow_few : (x : StateShape) (w : WalkShape) → IsShallow x w → parenth
 shallow_few (At (Have p) s o) w h = omega (arith, h.fits.1)
 shallow_few (At _ s o) w h = omega arith
 shallow_few (Done t) w h = omega arith
-
--- what a bracket closes has no more parentheses round it than the operand before it
 
 -- what a bracket closes has no more parentheses round it than the operand before it
 pub finished_few : (k : KindShape) (v : PartShape) (outer : List OpenShape) (p : PartShape) (s : OpenShape) (o : List OpenShape) → finished k v outer ≡ finish p s o → parentheses_of p.term ≤ MOST_LEVEL

@@ -8,16 +8,16 @@ use Rattle.asp_tokens.specs.declared.token.Token.{Token}
 use Rattle.asp_tokens.specs.declared.token.Token.TheVariants as tokens
 use Rattle.asp_tokens.specs.Tokens.{Lexeme, lexeme}
 use Rattle.asp_grammar.specs.Nodes.{PartShape, terms_at, ObjectShape, with_parameter}
-use Rattle.asp_grammar.specs.Signs.{IsProductSign, multiplies, divides, leaves, IsSumSign, adds, subtracts, IsTestSign, is_less, is_same, clones, repeats, prints, IsHead, head, parameter, service, IsLabels, first_label, and_label, no_labels, labels}
-use Rattle.asp_grammar.specs.Grammar.{may_put, number, variable, object, echo, IsPost, get, call_none, no_fields, no_methods, IsSeq, IsProgram, active, serve}
-use Rattle.asp_grammar.specs.States.{PendingShape, KindShape, InField, OpenShape, Plain, Access, OpenerShape, ByRound, ByBrace, ByEquals, HeadNamed, StateShape, At, Done, has_terms, opened_with, test_in, term_in, new_object, with_name, new_labels}
+use Rattle.asp_grammar.specs.Signs.{IsProductSign, multiplies, divides, leaves, IsSumSign, adds, subtracts, IsTestSign, is_less, is_same, clones, repeats, prints, sizes, awaits, IsHead, head, parameter, service, IsLabels, first_label, and_label, no_labels, labels}
+use Rattle.asp_grammar.specs.Grammar.{may_put, number, variable, object, echo, IsPost, get, no_fields, no_methods, IsSeq, IsProgram, active, serve}
+use Rattle.asp_grammar.specs.States.{PendingShape, TargetShape, KindShape, InField, OpenShape, Plain, Access, OpenerShape, ByRound, ByBrace, ByEquals, ByComma, HeadNamed, StateShape, At, Done, has_terms, opened_with, test_in, term_in, new_object, with_name, new_labels}
 use Rattle.asp_grammar.specs.Changes as changes
 use Rattle.asp_grammar.specs.Machine as machine
 use Rattle.asp_grammar.specs.Closings.{◌>>=◌}
 use Rattle.asp_grammar.specs.Changes.{changed, operand, begin}
 use Rattle.asp_grammar.specs.Machine.{next_term, step, run, start}
-use Rattle.asp_grammar.proofs.Parts.{no_product, some_product, no_sum, some_sum, no_test, some_test, more_put, StepPart, no_step, more_step, InLevel, in_level, names_more, NextField, a_field, NextMethod, a_method, waiting, Opened, top, in_parentheses, in_word, in_condition, in_else, in_call, in_binding, in_field, in_method, opener_token, Leads, begun, wants, has, accesses, dots, calls, opens, lets, else_comes, echoes, echo_opens, echo_reads, object_begins, field_comes, method_comes, method_named, self_comes, head_named, parameter_comes, ends, labels_of, in_active, service_comes, service_named, serves, serve_opens, label_comes, label_named}
-use Rattle.asp_grammar.proofs.Wholes.{leads_moved, opened_moved, product_is, as_sum, as_test, as_expr, fresh_level, field_end}
+use Rattle.asp_grammar.proofs.Parts.{no_product, some_product, no_sum, some_sum, no_test, some_test, more_put, StepPart, no_step, more_step, InLevel, in_level, names_more, NextField, a_field, NextMethod, a_method, IsTarget, of_call, of_group, waiting, Opened, top, in_parentheses, in_word, in_condition, in_else, in_list, in_scatter, in_arguments, in_member, in_binding, in_field, in_method, opener_token, Leads, begun, wants, has, accesses, dots, lists, opens, lets, else_comes, echoes, echo_opens, echo_reads, object_begins, field_comes, method_comes, method_named, self_comes, head_named, parameter_comes, ends, labels_of, in_active, service_comes, service_named, groups, scatter_comes, serves, serve_opens, label_comes, label_named}
+use Rattle.asp_grammar.proofs.Wholes.{leads_moved, opened_moved, product_is, as_sum, as_test, as_expr, list_none, fresh_level, field_end}
 use Rattle.asp_grammar.proofs.Ends.{finish_is, After, nothing, comes, after_moved, opened_is, has_prim, close_is, brace_is, square_is, field_semicolon, comma_is, bound_is, ended_is}
 
 times_next : {s : Bool} {ls us vs : List Lexeme} {r : OpenShape} {o : List OpenShape} {x : PartShape} {token : Token} {sign : SignShape} (at : ℕ) → IsProductSign token sign
@@ -75,7 +75,7 @@ have_next f g h token at = behind_next f g h token at
 
 access_next : {s : Bool} {ls us vs : List Lexeme} {r : OpenShape} {o : List OpenShape} {x : PartShape} (dot_at name_at : ℕ) (label : Text) → Opened s ls r.kind o → InLevel s us r → IsPost s vs x
     → (token : Token) (at : ℕ) → After s ((ls ++ (us ++ (vs ++ lexeme tokens.Dot dot_at ∷ lexeme (tokens.Name label) name_at ∷ []))) ++ lexeme token at ∷ []) (machine.have s (Access x name_at label) r o token)
-access_next dot_at name_at label f g h tokens.Open at = comes (leads_moved (calls dot_at at f g h) (simp append_assoc refl))
+access_next dot_at name_at label f g h tokens.Open at = comes (leads_moved (lists f g (of_call dot_at at h)) (simp append_assoc refl))
 access_next dot_at name_at label f g h token at = after_moved (behind_next f g (get _ _ _ dot_at name_at label h) token at) (simp append_assoc refl)
 
 -- a token where an operand is wanted
@@ -92,6 +92,11 @@ want_next f g tokens.Repeat at = comes (opens (λ i. opened_moved (in_word {at =
 want_next f g tokens.Print at = comes (opens (λ i. opened_moved (in_word {at = at} i f g prints) (simp append_assoc refl)))
 want_next f g tokens.If at = comes (opens (λ i. opened_moved (in_condition {at = at} i f g) (simp append_assoc refl)))
 want_next f g tokens.Echo at = comes (echoes f g)
+want_next f g tokens.Group at = comes (groups f g)
+want_next f g tokens.Scatter at = comes (opens (λ i. opened_moved (in_scatter {at = at} i f g) (simp append_assoc refl)))
+want_next f g tokens.Size at = comes (opens (λ i. opened_moved (in_word {at = at} i f g sizes) (simp append_assoc refl)))
+want_next f g tokens.Member at = comes (opens (λ i. opened_moved (in_member {at = at} i f g) (simp append_assoc refl)))
+want_next f g tokens.WaitAll at = comes (opens (λ i. opened_moved (in_word {at = at} i f g awaits) (simp append_assoc refl)))
 want_next f g _ at = nothing
 
 begin_next : {s : Bool} {ls us : List Lexeme} {k : KindShape} {n : ℕ} {before : List Marked} {o : List OpenShape} → Opened s ls k o → StepPart s k us n before → has_terms k ≡ true
@@ -99,10 +104,10 @@ begin_next : {s : Bool} {ls us : List Lexeme} {k : KindShape} {n : ℕ} {before 
 begin_next f d e tokens.Let at = comes (lets f d e)
 begin_next f d e token at = want_next f (fresh_level d) token at
 
-call_next : {s : Bool} {ls us vs : List Lexeme} {r : OpenShape} {o : List OpenShape} {x : PartShape} (dot_at name_at open_at : ℕ) (label : Text) → Opened s ls r.kind o → InLevel s us r → IsPost s vs x
-    → (token : Token) (at : ℕ) → After s ((ls ++ (us ++ (vs ++ lexeme tokens.Dot dot_at ∷ lexeme (tokens.Name label) name_at ∷ lexeme tokens.Open open_at ∷ []))) ++ lexeme token at ∷ []) (machine.call x name_at label r o token at)
-call_next dot_at name_at open_at label f g h tokens.Close at = comes (leads_moved (has f g (call_none _ _ _ dot_at name_at open_at at label h)) (simp append_assoc refl))
-call_next dot_at name_at open_at label f g h token at = begin_next (in_call dot_at open_at f g h) no_step refl token at
+list_next : {s : Bool} {ls us vs : List Lexeme} {r : OpenShape} {o : List OpenShape} {x : TargetShape} → Opened s ls r.kind o → InLevel s us r → IsTarget s vs x
+    → (token : Token) (at : ℕ) → After s ((ls ++ (us ++ vs)) ++ lexeme token at ∷ []) (machine.listing x r o token at)
+list_next f g h tokens.Close at = comes (leads_moved (has f g (list_none at h)) (simp append_assoc refl))
+list_next f g h token at = begin_next (in_list f g h) no_step refl token at
 
 dot_next : {s : Bool} {ls us vs : List Lexeme} {r : OpenShape} {o : List OpenShape} {x : PartShape} (dot_at : ℕ) → Opened s ls r.kind o → InLevel s us r → IsPost s vs x
     → (token : Token) (at : ℕ) → After s ((ls ++ (us ++ (vs ++ lexeme tokens.Dot dot_at ∷ []))) ++ lexeme token at ∷ []) (changed (changes.dotted x token at) r o)
@@ -117,6 +122,8 @@ open_next ls ByBrace f tokens.BraceOpen at = opened_is (f at) refl
 open_next ls ByBrace f _ at = nothing
 open_next ls ByEquals f tokens.Equals at = opened_is (f at) refl
 open_next ls ByEquals f _ at = nothing
+open_next ls ByComma f tokens.Comma at = opened_is (f at) refl
+open_next ls ByComma f _ at = nothing
 
 let_next : {s : Bool} {ls us : List Lexeme} {k : KindShape} {n : ℕ} {before : List Marked} {o : List OpenShape} (let_at : ℕ) → Opened s ls k o → StepPart s k us n before → has_terms k ≡ true
     → (token : Token) (at : ℕ) → After s ((ls ++ (us ++ lexeme tokens.Let let_at ∷ [])) ++ lexeme token at ∷ []) (changed (changes.let_named let_at token at) (waiting k n before) o)
@@ -154,6 +161,15 @@ module _ {s : Bool} {ls us : List Lexeme} {r : OpenShape} {o : List OpenShape} (
       (changed (changes.service_closed active_at (terms_at n xs) label_at label token) r o)
   service_end_next h active_at open_at comma_at label_at label tokens.Close at = has_prim f g (active _ active_at open_at at _ _ _ _ _ _ h (service comma_at label_at label)) (simp append_assoc refl)
   service_end_next h active_at open_at comma_at label_at label _ at = nothing
+
+  group_next : (group_at : ℕ) (token : Token) (at : ℕ) → After s ((ls ++ (us ++ lexeme tokens.Group group_at ∷ [])) ++ lexeme token at ∷ []) (changed (changes.group_opened group_at token) r o)
+  group_next group_at tokens.Open at = comes (leads_moved (lists f g (of_group {at = group_at} at)) (simp append_assoc refl))
+  group_next group_at _ at = nothing
+
+  scatter_next : {vs : List Lexeme} {n : ℕ} {xs : List Marked} → IsSeq s vs n xs → (scatter_at open_at comma_at : ℕ) (token : Token) (at : ℕ)
+      → After s ((ls ++ (us ++ lexeme tokens.Scatter scatter_at ∷ lexeme tokens.Open open_at ∷ (vs ++ lexeme tokens.Comma comma_at ∷ []))) ++ lexeme token at ∷ []) (changed (changes.scatter_named scatter_at (terms_at n xs) token at) r o)
+  scatter_next h scatter_at open_at comma_at (tokens.Name label) at = comes (opens (λ i. opened_moved (in_arguments {at = scatter_at} open_at comma_at i f g h) (simp append_assoc refl)))
+  scatter_next h scatter_at open_at comma_at _ at = nothing
 
   serve_next : (serve_at : ℕ) (token : Token) (at : ℕ) → After s ((ls ++ (us ++ lexeme tokens.Serve serve_at ∷ [])) ++ lexeme token at ∷ []) (changed (changes.serve_opened serve_at token) r o)
   serve_next serve_at tokens.Open at = comes (leads_moved (serve_opens {at = serve_at} at f g) (simp append_assoc refl))
@@ -225,11 +241,13 @@ next (wants f g) l = after_moved (want_next f g l.token l.at) (simp append_assoc
 next (has f g h) l = after_moved (have_next f g h l.token l.at) (simp append_assoc refl)
 next (accesses {at = at} {label = label} dot_at f g h) l = access_next dot_at at label f g h l.token l.at
 next (dots dot_at f g h) l = dot_next dot_at f g h l.token l.at
-next (calls {at = at} {label = label} dot_at open_at f g h) l = call_next dot_at at open_at label f g h l.token l.at
+next (lists f g h) l = list_next f g h l.token l.at
 next {ls = ls} (opens {opener = opener} f) l = open_next ls opener f l.token l.at
 next (lets {at = at} f d e) l = let_next at f d e l.token l.at
 next (service_comes {at = at} open_at comma_at f g h) l = service_next f g h at open_at comma_at l.token l.at
 next (service_named {at = at} {label_at = label_at} {label = label} open_at comma_at f g h) l = service_end_next f g h at open_at comma_at label_at label l.token l.at
+next (groups {at = at} f g) l = group_next f g at l.token l.at
+next (scatter_comes {at = at} open_at comma_at f g h) l = scatter_next f g h at open_at comma_at l.token l.at
 next (serves {at = at} f g) l = serve_next f g at l.token l.at
 next (serve_opens {at = at} open_at f g) l = first_label_next f g at open_at l.token l.at
 next (label_comes {at = at} open_at comma_at f g h) l = label_next f g h at open_at comma_at l.token l.at

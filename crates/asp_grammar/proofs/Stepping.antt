@@ -3,10 +3,10 @@ use Rattle.std.proofs.Common.{◌≡◌, ℕ, Bool, true, false, List, [], ◌�
 use Rattle.asp_model.specs.Marked.{Marked}
 use Rattle.asp_tokens.specs.declared.token.Token.{Token}
 use Rattle.asp_tokens.specs.declared.token.Token.TheVariants as tokens
-use Rattle.asp_tokens.specs.Tokens.{Lexeme, is_later}
+use Rattle.asp_tokens.specs.Tokens.{Lexeme}
 use Rattle.asp_grammar.specs.Nodes.{PartShape}
 use Rattle.asp_grammar.specs.Grammar.{may_put}
-use Rattle.asp_grammar.specs.States.{KindShape, Top, InCall, InField, PendingShape, OpenShape, OperandShape, ByRound, ByBrace, ByEquals, ModeShape, Begin, Want, Have, Dotted, Called, Opening, LetNaming, ElseComing, EchoOpening, EchoText, EchoClosing, ObjectBegun, FieldNaming, MethodNaming, MethodNamed, SelfNaming, HeadNamed, ParameterNaming, StateShape, At, Done, fresh, operand_part, test_in, term_in, ServiceNaming, ServiceNamed, ServeOpening, ServeBegun, LabelNaming, LabelNamed}
+use Rattle.asp_grammar.specs.States.{KindShape, Top, InList, InField, PendingShape, OpenShape, OperandShape, ByRound, ByBrace, ByEquals, ByComma, ModeShape, Begin, Want, Have, Dotted, ListBegun, Opening, LetNaming, ElseComing, EchoOpening, EchoText, EchoClosing, ObjectBegun, FieldNaming, MethodNaming, MethodNamed, SelfNaming, HeadNamed, ParameterNaming, StateShape, At, Done, fresh, operand_part, test_in, term_in, ServiceNaming, ServiceNamed, GroupOpening, ScatterNaming, ServeOpening, ServeBegun, LabelNaming, LabelNamed}
 use Rattle.asp_grammar.specs.Changes as changes
 use Rattle.asp_grammar.specs.Machine as machine
 use Rattle.asp_grammar.specs.Closings.{FinishedShape, finished, finish, ClosingShape, Back, Again, closed, concluded, back, close, close_brace, close_square, comma, bound, ended}
@@ -47,37 +47,20 @@ differs (Done t) l = inl refl
 abbrev pub IsNone : Token → Type 0
 IsNone tokens.BadByte = Unit {0}
 IsNone tokens.BadNumber = Unit {0}
-IsNone tokens.Group = Unit {0}
-IsNone tokens.Scatter = Unit {0}
-IsNone tokens.Size = Unit {0}
-IsNone tokens.Member = Unit {0}
-IsNone tokens.WaitAll = Unit {0}
-IsNone tokens.Pending = Unit {0}
 IsNone t = ⊥
 
 none_mode : (rule : Bool) (m : ModeShape) (s : OpenShape) (o : List OpenShape) (at : ℕ)
     → (stepped rule m s o tokens.BadByte at ≡ None)
     × (stepped rule m s o tokens.BadNumber at ≡ None)
-    × (stepped rule m s o tokens.Group at ≡ None)
-    × (stepped rule m s o tokens.Scatter at ≡ None)
-    × (stepped rule m s o tokens.Size at ≡ None)
-    × (stepped rule m s o tokens.Member at ≡ None)
-    × (stepped rule m s o tokens.WaitAll at ≡ None)
-    × (stepped rule m s o tokens.Pending at ≡ None)
-none_mode rule (Opening ByRound k) s o at = (refl, refl, refl, refl, refl, refl, refl, refl)
-none_mode rule (Opening ByBrace k) s o at = (refl, refl, refl, refl, refl, refl, refl, refl)
-none_mode rule (Opening ByEquals k) s o at = (refl, refl, refl, refl, refl, refl, refl, refl)
-none_mode rule _ s o at = (refl, refl, refl, refl, refl, refl, refl, refl)
+none_mode rule (Opening ByRound k) s o at = (refl, refl)
+none_mode rule (Opening ByBrace k) s o at = (refl, refl)
+none_mode rule (Opening ByEquals k) s o at = (refl, refl)
+none_mode rule (Opening ByComma k) s o at = (refl, refl)
+none_mode rule _ s o at = (refl, refl)
 
 none_stepped : (rule : Bool) (m : ModeShape) (s : OpenShape) (o : List OpenShape) (t : Token) (at : ℕ) → IsNone t → stepped rule m s o t at ≡ None
 none_stepped rule m s o tokens.BadByte at h = (none_mode rule m s o at).0
 none_stepped rule m s o tokens.BadNumber at h = (none_mode rule m s o at).1
-none_stepped rule m s o tokens.Group at h = (none_mode rule m s o at).2
-none_stepped rule m s o tokens.Scatter at h = (none_mode rule m s o at).3
-none_stepped rule m s o tokens.Size at h = (none_mode rule m s o at).4
-none_stepped rule m s o tokens.Member at h = (none_mode rule m s o at).5
-none_stepped rule m s o tokens.WaitAll at h = (none_mode rule m s o at).6
-none_stepped rule m s o tokens.Pending at h = (none_mode rule m s o at).7
 none_stepped rule m s o _ at h = absurd h
 
 pub none_steps : (rule : Bool) (x : StateShape) (l : Lexeme) → IsNone l.token → step rule x l ≡ None
@@ -95,6 +78,7 @@ mode_not (Have x) r o at m s p e = ended_not (finish (operand_part x) r o) m s p
 mode_not (Opening ByRound k) r o at m s p e = absurd cc
 mode_not (Opening ByBrace k) r o at m s p e = absurd cc
 mode_not (Opening ByEquals k) r o at m s p e = absurd cc
+mode_not (Opening ByComma k) r o at m s p e = absurd cc
 mode_not _ r o at m s p e = absurd cc
 
 pub end_not : (x : StateShape) (l : Lexeme) (m : ModeShape) (s : OpenShape) (p : List OpenShape) → step true x l ≡ Some (At m s p) → l.token ≡ tokens.End → ⊥
@@ -152,8 +136,8 @@ have_on x s o _ = inl tt
 
 mode_on : (m : ModeShape) (s : OpenShape) (o : List OpenShape) (t : Token) (at : ℕ) → IsOn (stepped true m s o t at) ⊎ (t ≡ tokens.End)
 mode_on (Have x) s o t at = have_on x s o t
-mode_on (Called p i label) s o tokens.Close at = inl tt
-mode_on (Called p i label) s o t at = inl (changed_on (begin t at) (fresh (InCall p i label [])) (s ∷ o))
+mode_on (ListBegun target) s o tokens.Close at = inl tt
+mode_on (ListBegun target) s o t at = inl (changed_on (begin t at) (fresh (InList target [])) (s ∷ o))
 mode_on Begin s o t at = inl (changed_on (begin t at) s o)
 mode_on Want s o t at = inl (changed_on (operand t at) s o)
 mode_on (Dotted p) s o t at = inl (changed_on (changes.dotted p t at) s o)
@@ -161,6 +145,8 @@ mode_on (Opening x k) s o t at = inl (changed_on (opening x k t) s o)
 mode_on (LetNaming i) s o t at = inl (changed_on (changes.let_named i t at) s o)
 mode_on (ServiceNaming i u) s o t at = inl (changed_on (changes.service_named i u t at) s o)
 mode_on (ServiceNamed i u j label) s o t at = inl (changed_on (changes.service_closed i u j label t) s o)
+mode_on (GroupOpening i) s o t at = inl (changed_on (changes.group_opened i t) s o)
+mode_on (ScatterNaming i u) s o t at = inl (changed_on (changes.scatter_named i u t at) s o)
 mode_on (ServeOpening i) s o t at = inl (changed_on (changes.serve_opened i t) s o)
 mode_on (ServeBegun x) s o t at = inl (changed_on (changes.serve_begun x t at) s o)
 mode_on (LabelNaming x) s o t at = inl (changed_on (changes.label_named x t at) s o)
@@ -185,13 +171,3 @@ on_not (Some (At m s o)) u h e = absurd cc
 pub done_end : (x : StateShape) (l : Lexeme) (u : Marked) → step true x l ≡ Some (Done u) → l.token ≡ tokens.End
 done_end (At m s o) l u e = elim (mode_on m s o l.token l.at) [ inl h ↦ absurd (on_not (stepped true m s o l.token l.at) u h e) | inr h ↦ h ]
 done_end (Done t) l u e = absurd cc
-
--- a token that no rule has
-pub later_none : (t : Token) → is_later t ≡ true → IsNone t
-later_none tokens.Group h = tt
-later_none tokens.Scatter h = tt
-later_none tokens.Size h = tt
-later_none tokens.Member h = tt
-later_none tokens.WaitAll h = tt
-later_none tokens.Pending h = tt
-later_none _ h = absurd cc

@@ -5,11 +5,11 @@ use Rattle.asp_tokens.specs.declared.token.Token.TheVariants as tokens
 use Rattle.asp_tokens.specs.Tokens.{Lexeme, lexeme}
 use Rattle.asp_grammar.specs.Nodes.{PartShape, part, number_at}
 use Rattle.asp_grammar.specs.Signs.{head, parameter, no_service, service, and_label, no_labels, labels}
-use Rattle.asp_grammar.specs.Grammar.{number, parentheses, object, word, choice, echo, IsPost, prim, get, call_none, call, argument, and_argument, post, prod, sum, IsExpr, tested, IsSeq, last, bind, no_fields, no_methods, IsProgram, Begins, active, serve}
+use Rattle.asp_grammar.specs.Grammar.{number, parentheses, object, word, choice, echo, IsPost, prim, get, argument, and_argument, post, prod, sum, IsExpr, tested, IsSeq, last, bind, no_fields, no_methods, IsProgram, Begins, active, serve, scatter, member}
 use Rattle.asp_grammar.specs.States.{KindShape, InField, OpenShape, StateShape}
 use Rattle.asp_grammar.specs.Machine.{run, start}
-use Rattle.asp_grammar.proofs.Parts.{Opened, top, in_parentheses, in_word, in_condition, in_then, in_else, in_call, in_more, in_binding, in_body, in_field, in_method, opener_token, Leads, begun, wants, has, accesses, dots, calls, opens, lets, else_comes, echoes, echo_opens, echo_reads, object_begins, field_comes, method_comes, method_named, self_comes, head_named, parameter_comes, ends, in_active, service_comes, service_named, serves, serve_opens, label_comes, label_named}
-use Rattle.asp_grammar.proofs.Wholes.{step_is, Body, terms, one_term, as_body, fresh_level, field_end, field_object, method_end, method_object}
+use Rattle.asp_grammar.proofs.Parts.{Opened, top, in_parentheses, in_word, in_condition, in_then, in_else, in_list, in_more, in_scatter, in_arguments, in_member, in_index, in_binding, in_body, in_field, in_method, opener_token, Leads, begun, wants, has, accesses, dots, lists, opens, lets, else_comes, echoes, echo_opens, echo_reads, object_begins, field_comes, method_comes, method_named, self_comes, head_named, parameter_comes, ends, in_active, service_comes, service_named, groups, scatter_comes, serves, of_group, serve_opens, label_comes, label_named}
+use Rattle.asp_grammar.proofs.Wholes.{step_is, Body, terms, one_term, as_body, list_none, list_some, fresh_level, field_end, field_object, method_end, method_object}
 use Rattle.asp_grammar.proofs.Ends.{After, comes}
 use Rattle.asp_grammar.proofs.Sound.{ran, start_leads}
 
@@ -49,10 +49,17 @@ ends_in {s = s} (in_then {at = at} open_at close_at brace_at f g c) (terms _ h) 
     (ends_in f (as_body g (prim _ _ _ (choice _ at open_at close_at brace_at 0 0 0 0 _ _ _ _ _ _ _ _ _ c h (zero_seq s))))) (simp append_assoc refl)
 ends_in (in_else {at = at} open_at close_at brace_at end_at else_at else_open f g c t) (terms _ h) =
     less (lexeme tokens.BraceClose 0 ∷ []) (ends_in f (as_body g (prim _ _ _ (choice _ at open_at close_at brace_at end_at else_at else_open 0 _ _ _ _ _ _ _ _ _ c t h)))) (simp append_assoc refl)
-ends_in (in_call {label = label} {at = at} dot_at open_at f g p) (terms _ h) =
-    less (lexeme tokens.Close 0 ∷ []) (ends_in f (as_body g (call _ _ _ _ dot_at at open_at 0 label _ p (argument _ _ _ _ h)))) (simp append_assoc refl)
-ends_in (in_more {label = label} {at = at} dot_at open_at comma_at f g p a) (terms _ h) =
-    less (lexeme tokens.Close 0 ∷ []) (ends_in f (as_body g (call _ _ _ _ dot_at at open_at 0 label _ p (and_argument _ _ _ comma_at _ _ _ a h)))) (simp append_assoc refl)
+ends_in (in_list f g p) (terms _ h) = less (lexeme tokens.Close 0 ∷ []) (ends_in f (as_body g (list_some 0 p (argument _ _ _ _ h)))) (simp append_assoc refl)
+ends_in (in_more comma_at f g p a) (terms _ h) = less (lexeme tokens.Close 0 ∷ []) (ends_in f (as_body g (list_some 0 p (and_argument _ _ _ comma_at _ _ _ a h)))) (simp append_assoc refl)
+ends_in {s = s} (in_scatter {at = at} open_at f g) (terms _ h) =
+    less (lexeme tokens.Comma 0 ∷ lexeme (tokens.Name []) 0 ∷ lexeme tokens.Comma 0 ∷ (zero ++ lexeme tokens.Close 0 ∷ []))
+    (ends_in f (as_body g (prim _ _ _ (scatter _ at open_at 0 0 0 0 [] _ _ _ _ _ _ h (zero_seq s))))) (simp append_assoc refl)
+ends_in (in_arguments {at = at} {label_at = label_at} {label = label} open_at comma_at second_at f g c) (terms _ h) =
+    less (lexeme tokens.Close 0 ∷ []) (ends_in f (as_body g (prim _ _ _ (scatter _ at open_at comma_at label_at second_at 0 label _ _ _ _ _ _ c h)))) (simp append_assoc refl)
+ends_in {s = s} (in_member {at = at} open_at f g) (terms _ h) =
+    less (lexeme tokens.Comma 0 ∷ (zero ++ lexeme tokens.Close 0 ∷ [])) (ends_in f (as_body g (prim _ _ _ (member _ at open_at 0 0 _ _ _ _ _ _ h (zero_seq s))))) (simp append_assoc refl)
+ends_in (in_index {at = at} open_at comma_at f g c) (terms _ h) =
+    less (lexeme tokens.Close 0 ∷ []) (ends_in f (as_body g (prim _ _ _ (member _ at open_at comma_at 0 _ _ _ _ _ _ c h)))) (simp append_assoc refl)
 ends_in {s = s} (in_binding {x = x} {at = at} {name_at = name_at} equals_at f d e) (terms _ h) = less (lexeme tokens.In 0 ∷ zero) (ends_in f (terms e (step_is d (bind _ at name_at equals_at 0 x _ _ _ _ _ _ h (zero_seq s))))) (simp append_assoc refl)
 ends_in (in_body {x = x} {at = at} {name_at = name_at} equals_at in_at f d e g) (terms _ h) = less [] (ends_in f (terms e (step_is d (bind _ at name_at equals_at in_at x _ _ _ _ _ _ g h)))) (simp (append_assoc, append-nil) refl)
 ends_in (in_field {label = label} at equals_at f g i) (one_term h) = less (lexeme tokens.SquareClose 0 ∷ []) (ends_in f (as_body g (prim _ _ _ (field_object 0 (field_end at equals_at label i h))))) (simp append_assoc refl)
@@ -69,13 +76,16 @@ begins {s = s} (wants f g) = less zero (ends_in f (as_body g (zero_post s))) (si
 begins (has f g h) = ends_in f (as_body g h)
 begins (accesses {at = at} {label = label} dot_at f g h) = ends_in f (as_body g (get _ _ _ dot_at at label h))
 begins (dots dot_at f g h) = less (lexeme (tokens.Name []) 0 ∷ []) (ends_in f (as_body g (get _ _ _ dot_at 0 [] h))) (simp append_assoc refl)
-begins (calls {at = at} {label = label} dot_at open_at f g h) = less (lexeme tokens.Close 0 ∷ []) (ends_in f (as_body g (call_none _ _ _ dot_at at open_at 0 label h))) (simp append_assoc refl)
+begins (lists f g h) = less (lexeme tokens.Close 0 ∷ []) (ends_in f (as_body g (list_none 0 h))) (simp append_assoc refl)
 begins (opens {opener = opener} f) = less (lexeme (opener_token opener) 0 ∷ []) (begun_in (f 0)) refl
 begins (lets {at = at} f d e) = less (lexeme (tokens.Name []) 0 ∷ lexeme tokens.Equals 0 ∷ []) (begun_in (in_binding {x = []} {at = at} {name_at = 0} 0 f d e)) (simp append_assoc refl)
 begins (service_comes {at = at} open_at comma_at f g h) =
     less (lexeme (tokens.Name []) 0 ∷ lexeme tokens.Close 0 ∷ []) (ends_in f (as_body g (prim _ _ _ (active _ at open_at 0 _ _ _ _ _ _ h (service comma_at 0 []))))) (simp append_assoc refl)
 begins (service_named {at = at} {label_at = label_at} {label = label} open_at comma_at f g h) =
     less (lexeme tokens.Close 0 ∷ []) (ends_in f (as_body g (prim _ _ _ (active _ at open_at 0 _ _ _ _ _ _ h (service comma_at label_at label))))) (simp append_assoc refl)
+begins (groups {at = at} f g) = less (lexeme tokens.Open 0 ∷ lexeme tokens.Close 0 ∷ []) (ends_in f (as_body g (list_none 0 (of_group {at = at} 0)))) (simp append_assoc refl)
+begins (scatter_comes {at = at} open_at comma_at f g h) =
+    less (lexeme (tokens.Name []) 0 ∷ lexeme tokens.Comma 0 ∷ []) (begun_in (in_arguments {at = at} {label_at = 0} {label = []} open_at comma_at 0 f g h)) (simp append_assoc refl)
 begins (serves {at = at} f g) = less (lexeme tokens.Open 0 ∷ lexeme tokens.Close 0 ∷ []) (ends_in f (as_body g (prim _ _ _ (serve _ at 0 0 _ _ _ no_labels)))) (simp append_assoc refl)
 begins (serve_opens {at = at} open_at f g) = less (lexeme tokens.Close 0 ∷ []) (ends_in f (as_body g (prim _ _ _ (serve _ at open_at 0 _ _ _ no_labels)))) (simp append_assoc refl)
 begins (label_comes {at = at} open_at comma_at f g h) =

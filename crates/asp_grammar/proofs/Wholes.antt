@@ -8,9 +8,9 @@ use Rattle.asp_tokens.specs.declared.token.Token.TheVariants as tokens
 use Rattle.asp_tokens.specs.Tokens.{Lexeme, lexeme}
 use Rattle.asp_grammar.specs.Nodes.{PartShape, terms_at, ObjectShape, made, method}
 use Rattle.asp_grammar.specs.Signs.{IsHead}
-use Rattle.asp_grammar.specs.Grammar.{IsPrim, object, IsPost, field, and_field, first_method, and_method, fields, no_methods, methods, IsProd, post, times, IsSum, prod, plus, IsTest, sum, test, IsExpr, tested, assign, IsSeq, last, then}
-use Rattle.asp_grammar.specs.States.{PendingShape, KindShape, InField, OpenShape, StateShape, has_terms, with_name, with_field, with_method, joined, put_all, first_start, sequence_part, value}
-use Rattle.asp_grammar.proofs.Parts.{ProductPart, SumPart, TestPart, PutPart, StepPart, InLevel, object_of, names_more, NextField, NextMethod, Fielded, Methoded, waiting, Opened, Leads, no_product, some_product, no_sum, some_sum, no_test, some_test, no_put, more_put, no_step, more_step, in_level, a_field, next_field, a_method, next_method, fielded, methoded}
+use Rattle.asp_grammar.specs.Grammar.{IsPrim, object, group_none, group, IsPost, prim, call_none, call, IsArgs, field, and_field, first_method, and_method, fields, no_methods, methods, IsProd, post, times, IsSum, prod, plus, IsTest, sum, test, IsExpr, tested, assign, IsSeq, last, then}
+use Rattle.asp_grammar.specs.States.{PendingShape, TargetShape, KindShape, InField, OpenShape, StateShape, has_terms, with_name, with_field, with_method, listed, joined, put_all, first_start, sequence_part, value}
+use Rattle.asp_grammar.proofs.Parts.{ProductPart, SumPart, TestPart, PutPart, StepPart, InLevel, object_of, names_more, NextField, NextMethod, Fielded, Methoded, IsTarget, of_call, of_group, waiting, Opened, Leads, no_product, some_product, no_sum, some_sum, no_test, some_test, no_put, more_put, no_step, more_step, in_level, a_field, next_field, a_method, next_method, fielded, methoded}
 
 -- the same, of equal lexemes
 pub seq_moved : {s : Bool} {ls ms : List Lexeme} {n : ℕ} {ts : List Marked} → IsSeq s ls n ts → ls ≡ ms → IsSeq s ms n ts
@@ -30,6 +30,9 @@ prod_moved {s = s} {p = p} h e = subst (λ l. IsProd s l p) e h
 
 pub prim_moved : {s : Bool} {ls ms : List Lexeme} {p : PartShape} → IsPrim s ls p → ls ≡ ms → IsPrim s ms p
 prim_moved {s = s} {p = p} h e = subst (λ l. IsPrim s l p) e h
+
+pub post_moved : {s : Bool} {ls ms : List Lexeme} {p : PartShape} → IsPost s ls p → ls ≡ ms → IsPost s ms p
+post_moved {s = s} {p = p} h e = subst (λ l. IsPost s l p) e h
 
 pub leads_moved : {s : Bool} {ls ms : List Lexeme} {x : StateShape} → Leads s ls x → ls ≡ ms → Leads s ms x
 leads_moved {s = s} {x = x} h e = subst (λ l. Leads s l x) e h
@@ -76,6 +79,15 @@ as_test e f g h = test_is e (as_sum f g h)
 pub as_expr : {s : Bool} {zs ts us vs ws : List Lexeme} {ps : List PartShape} {t m p : Option PendingShape} {x : PartShape} → PutPart s zs ps → TestPart s ts t → SumPart s us m → ProductPart s vs p → IsPost s ws x
     → IsExpr s (zs ++ (ts ++ (us ++ (vs ++ ws)))) (put_all ps (joined t (joined m (joined p x))))
 as_expr d e f g h = put_is d (tested _ _ _ (as_test e f g h))
+
+-- a list of terms, and one of none, with its end
+pub list_none : {s : Bool} {ls : List Lexeme} {x : TargetShape} (close_at : ℕ) → IsTarget s ls x → IsPost s (ls ++ lexeme tokens.Close close_at ∷ []) (listed x [])
+list_none close_at (of_call dot_at open_at h) = post_moved (call_none _ _ _ dot_at _ open_at close_at _ h) (simp append_assoc refl)
+list_none close_at (of_group open_at) = prim _ _ _ (group_none _ _ open_at close_at)
+
+pub list_some : {s : Bool} {ls us : List Lexeme} {x : TargetShape} {ts : List Marked} (close_at : ℕ) → IsTarget s ls x → IsArgs s us ts → IsPost s (ls ++ (us ++ lexeme tokens.Close close_at ∷ [])) (listed x ts)
+list_some close_at (of_call dot_at open_at h) g = post_moved (call _ _ _ _ dot_at _ open_at close_at _ _ h g) (simp append_assoc refl)
+list_some close_at (of_group open_at) g = prim _ _ _ (group _ _ open_at close_at _ _ g)
 
 pub data Body : Bool → KindShape → List Lexeme → PartShape → Type 0 where
   terms : {s : Bool} {k : KindShape} {ls : List Lexeme} {n : ℕ} {ts : List Marked} → has_terms k ≡ true → IsSeq s ls n ts → Body s k ls (sequence_part n ts)

@@ -7,7 +7,7 @@ use Rattle.asp_model.specs.Marked.{Marked}
 use Rattle.asp_tokens.specs.declared.token.Token.{Token}
 use Rattle.asp_tokens.specs.declared.token.Token.TheVariants as tokens
 use Rattle.asp_grammar.specs.Nodes.{PartShape, part, number_at, variable_at, echo_at, active_at, let_at, ObjectShape, made, LabelsShape, served, with_parameter}
-use Rattle.asp_grammar.specs.States.{KindShape, InParentheses, InWord, InActive, InCondition, InElse, InBinding, InField, InMethod, OpenShape, OperandShape, Plain, Access, OpenerShape, ByRound, ByBrace, ByEquals, ModeShape, Have, Called, Opening, LetNaming, ServiceNamed, ServeOpening, ServeBegun, LabelNaming, LabelNamed, EchoOpening, EchoText, EchoClosing, ObjectBegun, MethodNaming, MethodNamed, SelfNaming, HeadNamed, ParameterNaming, StateShape, At, new_object, with_name, new_labels, with_label}
+use Rattle.asp_grammar.specs.States.{KindShape, InParentheses, InWord, InActive, InCondition, InElse, OfCall, OfGroup, InScatter, InArguments, InMember, InBinding, InField, InMethod, OpenShape, OperandShape, Plain, Access, OpenerShape, ByRound, ByBrace, ByEquals, ByComma, ModeShape, Have, ListBegun, Opening, LetNaming, ServiceNamed, GroupOpening, ServeOpening, ServeBegun, LabelNaming, LabelNamed, EchoOpening, EchoText, EchoClosing, ObjectBegun, MethodNaming, MethodNamed, SelfNaming, HeadNamed, ParameterNaming, StateShape, At, new_object, with_name, new_labels, with_label}
 use Rattle.asp_grammar.specs.Closings.{opened}
 
 -- what a token makes of a mode, where what is open stays or gets one more
@@ -23,7 +23,7 @@ changed (Some (Opens kind)) s outer = opened kind s outer
 -- the bracket of a call stands behind a field access alone
 abbrev pub call_begun : OperandShape → Option ChangeShape
 call_begun (Plain p) = None
-call_begun (Access receiver at label) = Some (Goes (Called receiver at label))
+call_begun (Access receiver at label) = Some (Goes (ListBegun (OfCall receiver at label)))
 
 -- a token that begins an operand
 abbrev pub operand : Token → ℕ → Option ChangeShape
@@ -38,6 +38,11 @@ operand tokens.Repeat at = Some (Goes (Opening ByRound (InWord term.Repeat at)))
 operand tokens.Print at = Some (Goes (Opening ByRound (InWord term.Print at)))
 operand tokens.If at = Some (Goes (Opening ByRound (InCondition at)))
 operand tokens.Echo at = Some (Goes (EchoOpening at))
+operand tokens.Group at = Some (Goes (GroupOpening at))
+operand tokens.Scatter at = Some (Goes (Opening ByRound (InScatter at)))
+operand tokens.Size at = Some (Goes (Opening ByRound (InWord term.Size at)))
+operand tokens.Member at = Some (Goes (Opening ByRound (InMember at)))
+operand tokens.WaitAll at = Some (Goes (Opening ByRound (InWord term.WaitAll at)))
 operand token at = None
 
 -- a token that begins a sequence's term
@@ -49,6 +54,7 @@ abbrev pub opening : OpenerShape → KindShape → Token → Option ChangeShape
 opening ByRound kind tokens.Open = Some (Opens kind)
 opening ByBrace kind tokens.BraceOpen = Some (Opens kind)
 opening ByEquals kind tokens.Equals = Some (Opens kind)
+opening ByComma kind tokens.Comma = Some (Opens kind)
 opening opener kind token = None
 
 abbrev pub dotted : PartShape → Token → ℕ → Option ChangeShape
@@ -67,6 +73,15 @@ service_named active_at t token at = None
 abbrev pub service_closed : ℕ → Marked → ℕ → Text → Token → Option ChangeShape
 service_closed at t label_at label tokens.Close = Some (Goes (Have (Plain (part at (active_at at (label_at ∷ []) (Some label) t)))))
 service_closed at t label_at label token = None
+
+abbrev pub group_opened : ℕ → Token → Option ChangeShape
+group_opened at tokens.Open = Some (Goes (ListBegun (OfGroup at)))
+group_opened at token = None
+
+-- the label behind the first group of a `scatter`
+abbrev pub scatter_named : ℕ → Marked → Token → ℕ → Option ChangeShape
+scatter_named scatter_at t (tokens.Name label) at = Some (Goes (Opening ByComma (InArguments scatter_at t at label)))
+scatter_named scatter_at t token at = None
 
 abbrev pub serve_opened : ℕ → Token → Option ChangeShape
 serve_opened at tokens.Open = Some (Goes (ServeBegun (new_labels at)))

@@ -1,7 +1,7 @@
 -- What ends a sequence, and what that leaves.
 use Rattle.std.specs.Prelude.{Bool, true, false, List, [], ◌∷◌, ◌++◌, Option, Some, None}
-use Rattle.asp_grammar.specs.Nodes.{PartShape, part, word_at, active_at, if_at, let_at, called, in_parentheses, made}
-use Rattle.asp_grammar.specs.States.{KindShape, Top, InParentheses, InWord, InActive, InCondition, InThen, InElse, InCall, InBinding, InBody, InField, InMethod, OpenShape, Plain, ByBrace, ModeShape, Begin, Want, Have, Opening, ServiceNaming, ElseComing, FieldNaming, MethodNaming, StateShape, At, Done, has_terms, fresh, with_field, with_method, value}
+use Rattle.asp_grammar.specs.Nodes.{PartShape, part, word_at, active_at, if_at, let_at, scatter_at, member_at, in_parentheses, made}
+use Rattle.asp_grammar.specs.States.{KindShape, Top, InParentheses, InWord, InActive, InCondition, InThen, InElse, InList, InScatter, InArguments, InMember, InIndex, InBinding, InBody, InField, InMethod, OpenShape, Plain, ByBrace, ModeShape, Begin, Want, Have, Opening, ServiceNaming, ScatterNaming, ElseComing, FieldNaming, MethodNaming, StateShape, At, Done, has_terms, fresh, with_field, with_method, listed, value}
 
 infixl 10 ◌>>=◌
 abbrev pub ◌>>=◌ : {A B : Type 0} → Option A → (A → Option B) → Option B
@@ -54,7 +54,9 @@ close (InParentheses at) v = resumed (part at (in_parentheses v.term))
 close (InWord head at) v = resumed (part at (word_at head at v.term))
 close (InActive at) v = resumed (part at (active_at at [] None v.term))
 close (InCondition at) v = Some (Back (Opening ByBrace (InThen at v.term)))
-close (InCall receiver at label before) v = resumed (called receiver at label (before ++ v.term ∷ []))
+close (InList target before) v = resumed (listed target (before ++ v.term ∷ []))
+close (InArguments at t label_at label) v = resumed (part at (scatter_at at label_at label t v.term))
+close (InIndex at t) v = resumed (part at (member_at at t v.term))
 close kind v = None
 
 abbrev pub close_brace : KindShape → PartShape → Option ClosingShape
@@ -68,8 +70,10 @@ close_square (InMethod object head) v = resumed (made (with_method object head v
 close_square kind v = None
 
 abbrev pub comma : KindShape → PartShape → Option ClosingShape
-comma (InCall receiver at label before) v = Some (Again (InCall receiver at label (before ++ v.term ∷ [])))
+comma (InList target before) v = Some (Again (InList target (before ++ v.term ∷ [])))
 comma (InActive at) v = Some (Back (ServiceNaming at v.term))
+comma (InScatter at) v = Some (Back (ScatterNaming at v.term))
+comma (InMember at) v = Some (Again (InIndex at v.term))
 comma (InField object label) v = Some (Back (FieldNaming (with_field object label v.term)))
 comma (InMethod object head) v = Some (Back (MethodNaming (with_method object head v.term)))
 comma kind v = None

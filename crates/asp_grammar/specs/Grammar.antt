@@ -8,7 +8,7 @@ use Rattle.asp_model.specs.Shapes.{MarkedMethod}
 use Rattle.asp_tokens.specs.declared.token.Token.{Token}
 use Rattle.asp_tokens.specs.declared.token.Token.TheVariants as tokens
 use Rattle.asp_tokens.specs.Tokens.{Lexeme, lexeme}
-use Rattle.asp_grammar.specs.Nodes.{PartShape, part, number_at, variable_at, echo_at, word_at, active_at, if_at, let_at, operated, got, called, put, is_get, terms_at, in_parentheses, made, served, method}
+use Rattle.asp_grammar.specs.Nodes.{PartShape, part, number_at, variable_at, echo_at, word_at, active_at, if_at, let_at, group_at, scatter_at, member_at, operated, got, called, put, is_get, terms_at, in_parentheses, made, served, method}
 use Rattle.asp_grammar.specs.Signs.{IsProductSign, IsSumSign, IsTestSign, IsWord, IsHead, IsService, IsLabelPart}
 
 abbrev pub may_put : Bool → Marked → Bool
@@ -38,6 +38,18 @@ mutual
         (part at (if_at at (terms_at n cs) (terms_at m ts) (terms_at k es)))
     echo : (s : Bool) (at open_at text_at close_at : ℕ) (text : Text)
         → IsPrim s (lexeme tokens.Echo at ∷ lexeme tokens.Open open_at ∷ lexeme (tokens.Text text) text_at ∷ lexeme tokens.Close close_at ∷ []) (part at (echo_at at text))
+    group_none : (s : Bool) (at open_at close_at : ℕ)
+        → IsPrim s (lexeme tokens.Group at ∷ lexeme tokens.Open open_at ∷ lexeme tokens.Close close_at ∷ []) (part at (group_at at []))
+    group : (s : Bool) (at open_at close_at : ℕ) (ls : List Lexeme) (ts : List Marked) → IsArgs s ls ts
+        → IsPrim s (lexeme tokens.Group at ∷ lexeme tokens.Open open_at ∷ (ls ++ lexeme tokens.Close close_at ∷ [])) (part at (group_at at ts))
+    scatter : (s : Bool) (at open_at comma_at label_at second_at close_at : ℕ) (label : Text) (ls us : List Lexeme) (n m : ℕ) (ts xs : List Marked)
+        → IsSeq s ls n ts → IsSeq s us m xs
+        → IsPrim s (lexeme tokens.Scatter at ∷ lexeme tokens.Open open_at ∷ (ls ++ lexeme tokens.Comma comma_at ∷ lexeme (tokens.Name label) label_at ∷ lexeme tokens.Comma second_at
+        ∷ (us ++ lexeme tokens.Close close_at ∷ [])))
+        (part at (scatter_at at label_at label (terms_at n ts) (terms_at m xs)))
+    member : (s : Bool) (at open_at comma_at close_at : ℕ) (ls us : List Lexeme) (n m : ℕ) (ts xs : List Marked) → IsSeq s ls n ts → IsSeq s us m xs
+        → IsPrim s (lexeme tokens.Member at ∷ lexeme tokens.Open open_at ∷ (ls ++ lexeme tokens.Comma comma_at ∷ (us ++ lexeme tokens.Close close_at ∷ [])))
+        (part at (member_at at (terms_at n ts) (terms_at m xs)))
 
   -- an operand
   pub data IsPost : Bool → List Lexeme → PartShape → Type 0 where

@@ -1,15 +1,14 @@
 -- Reading lexeme by lexeme. `true` asks for the rule on `:=`.
 use Rattle.std.specs.Prelude.{ℕ, Bool, true, false, List, [], ◌∷◌, ◌++◌, Option, Some, None}
-use Rattle.asp_model.specs.Names.{Text}
 use Rattle.asp_model.specs.Term as term
 use Rattle.asp_tokens.specs.declared.token.Token.{Token}
 use Rattle.asp_tokens.specs.declared.token.Token.TheVariants as tokens
 use Rattle.asp_tokens.specs.Tokens.{Lexeme}
-use Rattle.asp_grammar.specs.Nodes.{PartShape, echo_at, if_at, let_at, called}
+use Rattle.asp_grammar.specs.Nodes.{PartShape, echo_at, if_at, let_at}
 use Rattle.asp_grammar.specs.Grammar.{may_put}
-use Rattle.asp_grammar.specs.States.{PendingShape, KindShape, Top, InCall, InField, OpenShape, OperandShape, Plain, ModeShape, Begin, Want, Have, Dotted, Called, Opening, LetNaming, ServiceNaming, ServiceNamed, ServeOpening, ServeBegun, LabelNaming, LabelNamed, ElseComing, EchoOpening, EchoText, EchoClosing, ObjectBegun, FieldNaming, MethodNaming, MethodNamed, SelfNaming, HeadNamed, ParameterNaming, StateShape, At, Done, with_product, with_sum, with_test, with_put, fresh, with_field, operand_part, test_in, term_in, first_start}
+use Rattle.asp_grammar.specs.States.{PendingShape, TargetShape, KindShape, Top, InList, InField, OpenShape, OperandShape, Plain, ModeShape, Begin, Want, Have, Dotted, ListBegun, Opening, LetNaming, ServiceNaming, ServiceNamed, GroupOpening, ScatterNaming, ServeOpening, ServeBegun, LabelNaming, LabelNamed, ElseComing, EchoOpening, EchoText, EchoClosing, ObjectBegun, FieldNaming, MethodNaming, MethodNamed, SelfNaming, HeadNamed, ParameterNaming, StateShape, At, Done, with_product, with_sum, with_test, with_put, fresh, with_field, operand_part, listed, test_in, term_in, first_start}
 use Rattle.asp_grammar.specs.Closings.{◌>>=◌, finish, back, concluded, close, close_brace, close_square, comma, bound, ended}
-use Rattle.asp_grammar.specs.Changes.{ChangeShape, changed, call_begun, operand, begin, opening, dotted, let_named, service_named, service_closed, serve_opened, serve_begun, label_named, labels_go_on, else_came, echo_opened, echo_read, echo_closed, field_named, object_begun, method_named, method_opened, self_named, head_goes_on, parameter_named}
+use Rattle.asp_grammar.specs.Changes.{ChangeShape, changed, call_begun, operand, begin, opening, dotted, let_named, service_named, service_closed, group_opened, scatter_named, serve_opened, serve_begun, label_named, labels_go_on, else_came, echo_opened, echo_read, echo_closed, field_named, object_begun, method_named, method_opened, self_named, head_goes_on, parameter_named}
 
 -- a term is over, and the next one of its sequence begins, or the methods behind the fields
 abbrev pub next_term : KindShape → PartShape → OpenShape → List OpenShape → Option StateShape
@@ -65,10 +64,10 @@ abbrev pub have : Bool → OperandShape → OpenShape → List OpenShape → Tok
 have rule x s outer tokens.Open = changed (call_begun x) s outer
 have rule x s outer token = behind rule (operand_part x) s outer token
 
--- the first token of a call's list, or its end
-abbrev pub call : PartShape → ℕ → Text → OpenShape → List OpenShape → Token → ℕ → Option StateShape
-call receiver label_at label s outer tokens.Close at = Some (At (Have (Plain (called receiver label_at label []))) s outer)
-call receiver label_at label s outer token at = changed (begin token at) (fresh (InCall receiver label_at label [])) (s ∷ outer)
+-- the first token of a list of terms, or its end
+abbrev pub listing : TargetShape → OpenShape → List OpenShape → Token → ℕ → Option StateShape
+listing target s outer tokens.Close at = Some (At (Have (Plain (listed target []))) s outer)
+listing target s outer token at = changed (begin token at) (fresh (InList target [])) (s ∷ outer)
 
 -- what a token makes of a mode in which no operand was read
 abbrev pub change_of : ModeShape → Token → ℕ → Option ChangeShape
@@ -76,11 +75,13 @@ change_of Begin token at = begin token at
 change_of Want token at = operand token at
 change_of (Have x) token at = None
 change_of (Dotted p) token at = dotted p token at
-change_of (Called p label_at label) token at = None
+change_of (ListBegun target) token at = None
 change_of (Opening opener kind) token at = opening opener kind token
 change_of (LetNaming let_at) token at = let_named let_at token at
 change_of (ServiceNaming active_at t) token at = service_named active_at t token at
 change_of (ServiceNamed active_at t label_at label) token at = service_closed active_at t label_at label token
+change_of (GroupOpening group_at) token at = group_opened group_at token
+change_of (ScatterNaming scatter_at t) token at = scatter_named scatter_at t token at
 change_of (ServeOpening serve_at) token at = serve_opened serve_at token
 change_of (ServeBegun x) token at = serve_begun x token at
 change_of (LabelNaming x) token at = label_named x token at
@@ -103,11 +104,13 @@ stepped rule Begin s outer token at = changed (begin token at) s outer
 stepped rule Want s outer token at = changed (operand token at) s outer
 stepped rule (Have x) s outer token at = have rule x s outer token
 stepped rule (Dotted p) s outer token at = changed (dotted p token at) s outer
-stepped rule (Called p label_at label) s outer token at = call p label_at label s outer token at
+stepped rule (ListBegun target) s outer token at = listing target s outer token at
 stepped rule (Opening opener kind) s outer token at = changed (opening opener kind token) s outer
 stepped rule (LetNaming let_at) s outer token at = changed (let_named let_at token at) s outer
 stepped rule (ServiceNaming active_at t) s outer token at = changed (service_named active_at t token at) s outer
 stepped rule (ServiceNamed active_at t label_at label) s outer token at = changed (service_closed active_at t label_at label token) s outer
+stepped rule (GroupOpening group_at) s outer token at = changed (group_opened group_at token) s outer
+stepped rule (ScatterNaming scatter_at t) s outer token at = changed (scatter_named scatter_at t token at) s outer
 stepped rule (ServeOpening serve_at) s outer token at = changed (serve_opened serve_at token) s outer
 stepped rule (ServeBegun x) s outer token at = changed (serve_begun x token at) s outer
 stepped rule (LabelNaming x) s outer token at = changed (label_named x token at) s outer

@@ -30,7 +30,7 @@ variable_at at x = marked (term.Var x) (mark_at at) no_marked
 abbrev pub echo_at : ℕ → Text → Marked
 echo_at at text = marked (term.Echo text) (mark_at at) no_marked
 
--- a `clone`, a `repeat` or a `print`
+-- a `clone`, a `repeat`, a `print`, a `size` or a `waitall`
 abbrev pub word_at : Head → ℕ → Marked → Marked
 word_at head at t = marked head (mark_at at) (one_marked t)
 
@@ -43,6 +43,17 @@ let_at at name_at x t u = marked (term.Let x) (named_mark at (name_at ∷ [])) (
 -- an `active`, with the label of its service where one is named
 abbrev pub active_at : ℕ → List ℕ → Option Text → Marked → Marked
 active_at at names service t = marked (term.Active service) (named_mark at names) (one_marked t)
+
+abbrev pub group_at : ℕ → List Marked → Marked
+group_at at ts = marked term.Group (mark_at at) (all_marked ts)
+
+-- a `scatter` of two groups, with the place of the label between them
+abbrev pub scatter_at : ℕ → ℕ → Text → Marked → Marked → Marked
+scatter_at at label_at label t u = marked (term.Scatter label) (named_mark at (label_at ∷ [])) (two_marked t u)
+
+-- a `member` of a group, and the term of its number
+abbrev pub member_at : ℕ → Marked → Marked → Marked
+member_at at t u = marked term.Member (mark_at at) (two_marked t u)
 
 -- two terms with a sign between them
 abbrev pub operated : SignShape → PartShape → PartShape → PartShape

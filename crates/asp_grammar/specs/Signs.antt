@@ -26,6 +26,8 @@ pub data IsWord : Token → Head → Type 0 where
   clones : IsWord tokens.Clone term.Clone
   repeats : IsWord tokens.Repeat term.Repeat
   prints : IsWord tokens.Print term.Print
+  sizes : IsWord tokens.Size term.Size
+  awaits : IsWord tokens.WaitAll term.WaitAll
 
 -- NAME "(" NAME { "," NAME }, with the places of the names
 pub data IsHead : List Lexeme → List ℕ → MethodHead → Type 0 where

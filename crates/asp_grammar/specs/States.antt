@@ -3,12 +3,17 @@ use Rattle.std.specs.Prelude.{ℕ, Bool, true, false, List, [], ◌∷◌, ◌++
 use Rattle.asp_model.specs.Names.{Text}
 use Rattle.asp_model.specs.Term.{Head, SignShape, MethodHead}
 use Rattle.asp_model.specs.Marked.{Marked}
-use Rattle.asp_grammar.specs.Nodes.{PartShape, part, operated, got, put, terms_at, ObjectShape, LabelsShape, method}
+use Rattle.asp_grammar.specs.Nodes.{PartShape, part, operated, got, called, put, group_at, terms_at, ObjectShape, LabelsShape, method}
 
 -- an operator whose right side has to come, and what stands on its left
 pub record PendingShape : Type 0 where
   pub sign : SignShape
   pub left : PartShape
+
+-- what a list of terms in parentheses is for: the arguments of a call, or the members of a group
+pub data TargetShape : Type 0 where
+  OfCall : (receiver : PartShape) (at : ℕ) (label : Text) → TargetShape
+  OfGroup : (at : ℕ) → TargetShape
 
 -- what a term stands in, with what was read of that
 pub data KindShape : Type 0 where
@@ -19,7 +24,11 @@ pub data KindShape : Type 0 where
   InCondition : (at : ℕ) → KindShape
   InThen : (at : ℕ) (condition : Marked) → KindShape
   InElse : (at : ℕ) (condition chosen : Marked) → KindShape
-  InCall : (receiver : PartShape) (at : ℕ) (label : Text) (arguments : List Marked) → KindShape
+  InList : (target : TargetShape) (terms : List Marked) → KindShape
+  InScatter : (at : ℕ) → KindShape
+  InArguments : (at : ℕ) (group : Marked) (label_at : ℕ) (label : Text) → KindShape
+  InMember : (at : ℕ) → KindShape
+  InIndex : (at : ℕ) (group : Marked) → KindShape
   InBinding : (at name_at : ℕ) (name : Text) → KindShape
   InBody : (at name_at : ℕ) (name : Text) (bound : Marked) → KindShape
   InField : (object : ObjectShape) (label : Text) → KindShape
@@ -46,6 +55,7 @@ pub data OpenerShape : Type 0 where
   ByRound : OpenerShape
   ByBrace : OpenerShape
   ByEquals : OpenerShape
+  ByComma : OpenerShape
 
 -- what the last lexeme asks for, or made
 pub data ModeShape : Type 0 where
@@ -53,11 +63,13 @@ pub data ModeShape : Type 0 where
   Want : ModeShape
   Have : (operand : OperandShape) → ModeShape
   Dotted : (receiver : PartShape) → ModeShape
-  Called : (receiver : PartShape) (at : ℕ) (label : Text) → ModeShape
+  ListBegun : (target : TargetShape) → ModeShape
   Opening : (opener : OpenerShape) (kind : KindShape) → ModeShape
   LetNaming : (at : ℕ) → ModeShape
   ServiceNaming : (at : ℕ) (object : Marked) → ModeShape
   ServiceNamed : (at : ℕ) (object : Marked) (label_at : ℕ) (label : Text) → ModeShape
+  GroupOpening : (at : ℕ) → ModeShape
+  ScatterNaming : (at : ℕ) (group : Marked) → ModeShape
   ServeOpening : (at : ℕ) → ModeShape
   ServeBegun : (labels : LabelsShape) → ModeShape
   LabelNaming : (labels : LabelsShape) → ModeShape
@@ -116,6 +128,11 @@ with_label x at label = record { at = x.at; names = x.names ++ at ∷ []; labels
 abbrev pub operand_part : OperandShape → PartShape
 operand_part (Plain p) = p
 operand_part (Access p at label) = got p at label
+
+-- what a list of terms makes
+abbrev pub listed : TargetShape → List Marked → PartShape
+listed (OfCall receiver at label) ts = called receiver at label ts
+listed (OfGroup at) ts = part at (group_at at ts)
 
 -- an operator with its right side
 abbrev pub joined : Option PendingShape → PartShape → PartShape

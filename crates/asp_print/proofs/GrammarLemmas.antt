@@ -10,7 +10,7 @@ use Rattle.asp_tokens.specs.declared.token.Token.TheVariants as tokens
 use Rattle.asp_tokens.specs.Tokens.{Lexeme, lexeme, tokens_in}
 use Rattle.asp_grammar.specs.Nodes.{PartShape, terms_at, named_mark, method}
 use Rattle.asp_grammar.specs.Signs.{IsHead, head, parameter, IsService, no_service, service, IsLabels, first_label, and_label, IsLabelPart, no_labels, labels}
-use Rattle.asp_grammar.specs.Grammar.{IsPrim, number, variable, parentheses, object, word, active, serve, choice, echo, IsPost, prim, get, call_none, call, IsArgs, argument, and_argument, IsFields, field, and_field, IsMethods, first_method, and_method, IsFieldPart, no_fields, fields, IsMethodPart, no_methods, methods, IsProd, post, times, IsSum, prod, plus, IsTest, sum, test, IsExpr, tested, assign, IsSeq, last, then, bind}
+use Rattle.asp_grammar.specs.Grammar.{IsPrim, number, variable, parentheses, object, word, active, serve, choice, echo, group_none, group, scatter, member, IsPost, prim, get, call_none, call, IsArgs, argument, and_argument, IsFields, field, and_field, IsMethods, first_method, and_method, IsFieldPart, no_fields, fields, IsMethodPart, no_methods, methods, IsProd, post, times, IsSum, prod, plus, IsTest, sum, test, IsExpr, tested, assign, IsSeq, last, then, bind}
 use Rattle.asp_print.specs.Tokens.{behind_each, between, name_pieces, service_tokens, method_part, sign_of, tokens_of, pieces_of}
 use Rattle.asp_print.specs.Parts.{field_tokens, method_tokens}
 use Rattle.asp_print.proofs.PieceLemmas.{both, behind_more, grown, between_is, method_part_is, pieces_all, steps_are, parentheses_tokens, put_tokens, put_is_get, word_laid, product_sign, sum_sign, test_sign, make_tokens}
@@ -82,6 +82,20 @@ mutual
       ap (λ (xs : List Token). tokens.If ∷ tokens.Open ∷ xs)
       (both ls (lexeme tokens.Close close_at ∷ lexeme tokens.BraceOpen then_open ∷ (us ++ elses)) (steps_are n (tokens_in ls) cs (seq_tokens f e)) (ap (λ (xs : List Token). tokens.Close ∷ tokens.BraceOpen ∷ xs) second))
   prim_tokens (echo s at open_at text_at close_at text) e = refl
+  prim_tokens (group_none s at open_at close_at) e = refl
+  prim_tokens (group s at open_at close_at ls ts h) e =
+      ap (λ (xs : List Token). tokens.Group ∷ tokens.Open ∷ xs) (both ls (lexeme tokens.Close close_at ∷ []) (args_are ls ts (args_tokens h e)) refl)
+  prim_tokens (scatter s at open_at comma_at label_at second_at close_at label ls us n m ts xs f g) e =
+      let lasts : List Lexeme = lexeme tokens.Comma comma_at ∷ lexeme (tokens.Name label) label_at ∷ lexeme tokens.Comma second_at ∷ (us ++ lexeme tokens.Close close_at ∷ []) in
+      let second : tokens_in (us ++ lexeme tokens.Close close_at ∷ []) ≡ tokens_of (terms_at m xs) ++ tokens.Close ∷ [] = both us (lexeme tokens.Close close_at ∷ []) (steps_are m (tokens_in us) xs (seq_tokens g e)) refl in
+      ap (λ (ys : List Token). tokens.Scatter ∷ tokens.Open ∷ ys)
+      (both ls lasts (steps_are n (tokens_in ls) ts (seq_tokens f e)) (ap (λ (ys : List Token). tokens.Comma ∷ tokens.Name label ∷ tokens.Comma ∷ ys) second)
+      ∙ sym (append_assoc (tokens_of (terms_at n ts)) (tokens.Comma ∷ tokens.Name label ∷ tokens.Comma ∷ tokens_of (terms_at m xs)) (tokens.Close ∷ [])))
+  prim_tokens (member s at open_at comma_at close_at ls us n m ts xs f g) e =
+      let second : tokens_in (us ++ lexeme tokens.Close close_at ∷ []) ≡ tokens_of (terms_at m xs) ++ tokens.Close ∷ [] = both us (lexeme tokens.Close close_at ∷ []) (steps_are m (tokens_in us) xs (seq_tokens g e)) refl in
+      ap (λ (ys : List Token). tokens.Member ∷ tokens.Open ∷ ys)
+      (both ls (lexeme tokens.Comma comma_at ∷ (us ++ lexeme tokens.Close close_at ∷ [])) (steps_are n (tokens_in ls) ts (seq_tokens f e)) (ap (onto tokens.Comma) second)
+      ∙ sym (append_assoc (tokens_of (terms_at n ts)) (tokens.Comma ∷ tokens_of (terms_at m xs)) (tokens.Close ∷ [])))
 
   post_tokens : {s : Bool} {ls : List Lexeme} {p : PartShape} → IsPost s ls p → s ≡ true → tokens_in ls ≡ tokens_of p.term
   post_tokens (prim s ls p h) e = prim_tokens h e

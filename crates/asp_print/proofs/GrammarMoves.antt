@@ -2,15 +2,15 @@
 use Rattle.std.proofs.Common.{◌≡◌, ℕ, Bool, List, [], ◌∷◌, ◌++◌, map, Option, refl, sym, ap, ◌∙◌, subst}
 use Rattle.std.proofs.lemmas.List.{map-append}
 use Rattle.asp_model.specs.Names.{Text}
-use Rattle.asp_model.specs.Term.{MethodHead, Call}
+use Rattle.asp_model.specs.Term.{MethodHead, Call, Group}
 use Rattle.asp_model.specs.Marked.{Marked, MarkedList, marked, and_marked}
 use Rattle.asp_model.specs.Shapes.{MarkedMethod}
 use Rattle.asp_tokens.specs.declared.token.Token.{Token}
 use Rattle.asp_tokens.specs.declared.token.Token.TheVariants as tokens
 use Rattle.asp_tokens.specs.Tokens.{Lexeme, lexeme}
-use Rattle.asp_grammar.specs.Nodes.{PartShape, part, terms_at, in_parentheses, word_at, if_at, let_at, active_at, named_mark, called, method, with_parameter}
+use Rattle.asp_grammar.specs.Nodes.{PartShape, part, terms_at, in_parentheses, word_at, if_at, let_at, active_at, scatter_at, member_at, mark_at, named_mark, called, method, with_parameter}
 use Rattle.asp_grammar.specs.Signs.{IsHead, head, parameter, IsService, no_service, service, IsLabels, first_label, and_label, IsLabelPart, no_labels, labels}
-use Rattle.asp_grammar.specs.Grammar.{IsPrim, number, variable, parentheses, object, word, active, serve, choice, echo, IsPost, prim, get, call_none, call, IsArgs, argument, and_argument, IsFields, field, and_field, IsMethods, first_method, and_method, IsFieldPart, no_fields, fields, IsMethodPart, no_methods, methods, IsProd, post, times, IsSum, prod, plus, IsTest, sum, test, IsExpr, tested, assign, IsSeq, last, then, bind}
+use Rattle.asp_grammar.specs.Grammar.{IsPrim, number, variable, parentheses, object, word, active, serve, choice, echo, group_none, group, scatter, member, IsPost, prim, get, call_none, call, IsArgs, argument, and_argument, IsFields, field, and_field, IsMethods, first_method, and_method, IsFieldPart, no_fields, fields, IsMethodPart, no_methods, methods, IsProd, post, times, IsSum, prod, plus, IsTest, sum, test, IsExpr, tested, assign, IsSeq, last, then, bind}
 use Rattle.asp_print.specs.Places.{moved}
 use Rattle.asp_print.proofs.MovingLemmas.{moved_all, moved_part, moved_field, moved_method, along, split, all_moved, terms_moved, parentheses_moved, put_moved, may_put_moved, object_moved}
 
@@ -87,6 +87,26 @@ mutual
       (ap second (ap third (split f vs ending) ∙ split f us elses) ∙ split f ls thens))
       (λ j. part (f at) (if_at (f at) (terms_moved f n cs j) (terms_moved f m ts j) (terms_moved f k es j)))
   prim_moved f (echo s at open_at text_at close_at text) = echo s (f at) (f open_at) (f text_at) (f close_at) text
+  prim_moved f (group_none s at open_at close_at) = group_none s (f at) (f open_at) (f close_at)
+  prim_moved f (group s at open_at close_at ls ts h) =
+      along (IsPrim s) (group s (f at) (f open_at) (f close_at) (moved_all f ls) (map (moved f) ts) (args_moved f h))
+      (ap (λ (ys : List Lexeme). lexeme tokens.Group (f at) ∷ lexeme tokens.Open (f open_at) ∷ ys) (split f ls (lexeme tokens.Close close_at ∷ [])))
+      (ap (λ (us : MarkedList). part (f at) (marked Group (mark_at (f at)) us)) (sym (all_moved f ts)))
+  prim_moved f (scatter s at open_at comma_at label_at second_at close_at label ls us n m ts xs h g) =
+      let close : List Lexeme = lexeme tokens.Close close_at ∷ [] in
+      let lasts : List Lexeme = lexeme tokens.Comma comma_at ∷ lexeme (tokens.Name label) label_at ∷ lexeme tokens.Comma second_at ∷ (us ++ close) in
+      along (IsPrim s)
+      (scatter s (f at) (f open_at) (f comma_at) (f label_at) (f second_at) (f close_at) label (moved_all f ls) (moved_all f us) (f n) (f m) (map (moved f) ts) (map (moved f) xs) (seq_moved f h) (seq_moved f g))
+      (ap (λ (ys : List Lexeme). lexeme tokens.Scatter (f at) ∷ lexeme tokens.Open (f open_at) ∷ ys)
+      (ap (λ (ys : List Lexeme). moved_all f ls ++ lexeme tokens.Comma (f comma_at) ∷ lexeme (tokens.Name label) (f label_at) ∷ lexeme tokens.Comma (f second_at) ∷ ys) (split f us close) ∙ split f ls lasts))
+      (λ j. part (f at) (scatter_at (f at) (f label_at) label (terms_moved f n ts j) (terms_moved f m xs j)))
+  prim_moved f (member s at open_at comma_at close_at ls us n m ts xs h g) =
+      let close : List Lexeme = lexeme tokens.Close close_at ∷ [] in
+      along (IsPrim s)
+      (member s (f at) (f open_at) (f comma_at) (f close_at) (moved_all f ls) (moved_all f us) (f n) (f m) (map (moved f) ts) (map (moved f) xs) (seq_moved f h) (seq_moved f g))
+      (ap (λ (ys : List Lexeme). lexeme tokens.Member (f at) ∷ lexeme tokens.Open (f open_at) ∷ ys)
+      (ap (λ (ys : List Lexeme). moved_all f ls ++ lexeme tokens.Comma (f comma_at) ∷ ys) (split f us close) ∙ split f ls (lexeme tokens.Comma comma_at ∷ (us ++ close))))
+      (λ j. part (f at) (member_at (f at) (terms_moved f n ts j) (terms_moved f m xs j)))
 
   post_moved : (f : ℕ → ℕ) {s : Bool} {ls : List Lexeme} {p : PartShape} → IsPost s ls p → IsPost s (moved_all f ls) (moved_part f p)
   post_moved f (prim s ls p h) = prim s (moved_all f ls) (moved_part f p) (prim_moved f h)

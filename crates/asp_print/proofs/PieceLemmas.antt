@@ -10,7 +10,7 @@ use Rattle.asp_tokens.specs.declared.token.Token.{Token}
 use Rattle.asp_tokens.specs.declared.token.Token.TheVariants as tokens
 use Rattle.asp_tokens.specs.Tokens.{Lexeme, lexeme, tokens_in}
 use Rattle.asp_grammar.specs.Nodes.{put_to, is_get, terms_at, in_parentheses}
-use Rattle.asp_grammar.specs.Signs.{IsProductSign, multiplies, divides, leaves, IsSumSign, adds, subtracts, IsTestSign, is_less, is_same, IsWord, clones, repeats, prints}
+use Rattle.asp_grammar.specs.Signs.{IsProductSign, multiplies, divides, leaves, IsSumSign, adds, subtracts, IsTestSign, is_less, is_same, IsWord, clones, repeats, prints, sizes, awaits}
 use Rattle.asp_grammar.specs.Grammar.{may_put}
 use Rattle.asp_print.specs.Tokens.{enclosed, behind_each, between, first, sign_of, field_pieces, behind_fields, method_pieces, method_part, word_tokens, laid, tokens_of, pieces_of, node_tokens}
 use Rattle.asp_print.specs.Parts.{field_tokens, method_tokens, object_tokens}
@@ -72,6 +72,8 @@ pub word_laid : {word : Token} {head : Head} → IsWord word head → (ps : List
 word_laid clones ps = refl
 word_laid repeats ps = refl
 word_laid prints ps = refl
+word_laid sizes ps = refl
+word_laid awaits ps = refl
 
 pub product_sign : {token : Token} {sign : SignShape} → IsProductSign token sign → token ≡ sign_of sign
 product_sign multiplies = refl

@@ -7,9 +7,9 @@ use Rattle.asp_model.specs.Marked.{Marked}
 use Rattle.asp_tokens.specs.declared.token.Token.{Token}
 use Rattle.asp_tokens.specs.declared.token.Token.TheVariants as tokens
 use Rattle.asp_syntax.specs.declared.error.SyntaxKind.{SyntaxKind}
-use Rattle.asp_syntax.specs.declared.error.SyntaxKind.TheVariants.{BadByte, BadNumber, Unexpected, TooDeep, NotAField, NotYet}
+use Rattle.asp_syntax.specs.declared.error.SyntaxKind.TheVariants.{BadByte, BadNumber, Unexpected, TooDeep, NotAField}
 use Rattle.asp_syntax.specs.declared.error.SyntaxFault.{SyntaxFault}
-use Rattle.asp_tokens.specs.Tokens.{Lexeme, is_later}
+use Rattle.asp_tokens.specs.Tokens.{Lexeme}
 use Rattle.asp_grammar.specs.Grammar.{IsProgram, Begins}
 use Rattle.asp_grammar.specs.States.{ModeShape, OpenShape, StateShape, At, Done}
 use Rattle.asp_grammar.specs.Closings.{◌>>=◌}
@@ -43,71 +43,50 @@ walk_one_more : (w : WalkShape) (ls : List Lexeme) (l : Lexeme) → walk w (ls +
 walk_one_more w [] l = refl
 walk_one_more w (k ∷ ls) l = walk_one_more (walked w k.token) ls l
 
--- a token that no rule has changes no level
-later_walked : (w : WalkShape) (t : Token) → is_later t ≡ true → walked w t ≡ w
-later_walked w tokens.Group e = refl
-later_walked w tokens.Scatter e = refl
-later_walked w tokens.Size e = refl
-later_walked w tokens.Member e = refl
-later_walked w tokens.WaitAll e = refl
-later_walked w tokens.Pending e = refl
-later_walked w _ e = absurd cc
-
-later_flat : (ls : List Lexeme) (l : Lexeme) → is_later l.token ≡ true → level_after (ls ++ l ∷ []) ≡ level_after ls
-later_flat ls l e = ap (λ (w : WalkShape). w.level) (walk_one_more flat ls l ∙ later_walked (walk flat ls) l.token e)
-
-unlike : (t u : Token) → is_later t ≡ true → is_later u ≡ false → t ≡ u → ⊥
-unlike t u h k e = let f : is_later t ≡ is_later u = ap is_later e in absurd cc
-
 -- what a verdict says
 abbrev Says : List Lexeme → Lexeme → Option SyntaxKind → Type 0
 Says ls l None = (kind : SyntaxKind) → IsFault kind ls l → ⊥
 Says ls l (Some k) = IsFault k ls l × ((kind : SyntaxKind) → IsFault kind ls l → number_of k ≤ number_of kind)
 
--- a token that stands in some rule
-record IsBuilt (t : Token) : Type 0 where
+-- a token, and no sign that none stands at a place
+record IsToken (t : Token) : Type 0 where
   not_byte : t ≢ tokens.BadByte
   not_number : t ≢ tokens.BadNumber
-  not_later : is_later t ≡ false
 
-module _ (ls : List Lexeme) (l : Lexeme) (x : StateShape) (strict : run true start ls ≡ Some x) (loose : run false start ls ≡ Some x) (low : level_after ls ≤ MOST_LEVEL) (built : IsBuilt l.token) where
+module _ (ls : List Lexeme) (l : Lexeme) (x : StateShape) (strict : run true start ls ≡ Some x) (loose : run false start ls ≡ Some x) (low : level_after ls ≤ MOST_LEVEL) (is_token : IsToken l.token) where
   none_at : (y z : StateShape) → step false x l ≡ Some y → nat_lt MOST_LEVEL (level_after (ls ++ l ∷ [])) ≡ false → step true x l ≡ Some z → (kind : SyntaxKind) → IsFault kind ls l → ⊥
-  none_at y z f d g BadByte i = built.not_byte i
-  none_at y z f d g BadNumber i = built.not_number i
-  none_at y z f d g Unexpected i = i.2 (yet false ls x y l loose f)
+  none_at y z f d g BadByte i = is_token.not_byte i
+  none_at y z f d g BadNumber i = is_token.not_number i
+  none_at y z f d g Unexpected i = i.1 (yet false ls x y l loose f)
   none_at y z f d g TooDeep i = let le : level_after (ls ++ l ∷ []) ≤ MOST_LEVEL = ltb-false MOST_LEVEL (level_after (ls ++ l ∷ [])) d in absurd (omega (arith, i.1, le))
   none_at y z f d g NotAField i = i.3 (yet true ls x z l strict g)
-  none_at y z f d g NotYet i = let n : is_later l.token ≡ false = built.not_later in absurd cc
 
   least_unexpected : (kind : SyntaxKind) → IsFault kind ls l → 3 ≤ number_of kind
-  least_unexpected BadByte i = absurd (built.not_byte i)
-  least_unexpected BadNumber i = absurd (built.not_number i)
+  least_unexpected BadByte i = absurd (is_token.not_byte i)
+  least_unexpected BadNumber i = absurd (is_token.not_number i)
   least_unexpected Unexpected i = omega arith
   least_unexpected TooDeep i = omega arith
   least_unexpected NotAField i = omega arith
-  least_unexpected NotYet i = omega arith
 
   least_deep : (y : StateShape) → step false x l ≡ Some y → (kind : SyntaxKind) → IsFault kind ls l → 4 ≤ number_of kind
-  least_deep y f BadByte i = absurd (built.not_byte i)
-  least_deep y f BadNumber i = absurd (built.not_number i)
-  least_deep y f Unexpected i = absurd (i.2 (yet false ls x y l loose f))
+  least_deep y f BadByte i = absurd (is_token.not_byte i)
+  least_deep y f BadNumber i = absurd (is_token.not_number i)
+  least_deep y f Unexpected i = absurd (i.1 (yet false ls x y l loose f))
   least_deep y f TooDeep i = omega arith
   least_deep y f NotAField i = omega arith
-  least_deep y f NotYet i = omega arith
 
   least_field : (y : StateShape) → step false x l ≡ Some y → nat_lt MOST_LEVEL (level_after (ls ++ l ∷ [])) ≡ false → (kind : SyntaxKind) → IsFault kind ls l → 5 ≤ number_of kind
-  least_field y f d BadByte i = absurd (built.not_byte i)
-  least_field y f d BadNumber i = absurd (built.not_number i)
-  least_field y f d Unexpected i = absurd (i.2 (yet false ls x y l loose f))
+  least_field y f d BadByte i = absurd (is_token.not_byte i)
+  least_field y f d BadNumber i = absurd (is_token.not_number i)
+  least_field y f d Unexpected i = absurd (i.1 (yet false ls x y l loose f))
   least_field y f d TooDeep i = let le : level_after (ls ++ l ∷ []) ≤ MOST_LEVEL = ltb-false MOST_LEVEL (level_after (ls ++ l ∷ [])) d in absurd (omega (arith, i.1, le))
   least_field y f d NotAField i = omega arith
-  least_field y f d NotYet i = omega arith
 
   assigns : (y : StateShape) → step false x l ≡ Some y → step true x l ≡ None → l.token ≡ tokens.Assign
   assigns y f g = elim (differs x l) [ inl e ↦ absurd cc | inr e ↦ e ]
 
   judged_says : (y : Option StateShape) (d : Bool) (z : Option StateShape) → step false x l ≡ y → nat_lt MOST_LEVEL (level_after (ls ++ l ∷ [])) ≡ d → step true x l ≡ z → Says ls l (judged y d z)
-  judged_says None d z f e g = ((built.not_later, viable false ls x loose, no_more false ls x l loose f), least_unexpected)
+  judged_says None d z f e g = ((viable false ls x loose, no_more false ls x l loose f), least_unexpected)
   judged_says (Some y) true z f e g =
       let lt : MOST_LEVEL < level_after (ls ++ l ∷ []) = ltb-true MOST_LEVEL (level_after (ls ++ l ∷ [])) e in
       ((omega (arith, lt, low), lt), least_deep y f)
@@ -120,7 +99,6 @@ least_byte ls l BadNumber i = omega arith
 least_byte ls l Unexpected i = omega arith
 least_byte ls l TooDeep i = omega arith
 least_byte ls l NotAField i = omega arith
-least_byte ls l NotYet i = omega arith
 
 least_number : (ls : List Lexeme) (l : Lexeme) → l.token ≡ tokens.BadNumber → (kind : SyntaxKind) → IsFault kind ls l → 2 ≤ number_of kind
 least_number ls l e BadByte i = absurd cc
@@ -128,26 +106,11 @@ least_number ls l e BadNumber i = omega arith
 least_number ls l e Unexpected i = omega arith
 least_number ls l e TooDeep i = omega arith
 least_number ls l e NotAField i = omega arith
-least_number ls l e NotYet i = omega arith
 
-least_later : (ls : List Lexeme) (l : Lexeme) → is_later l.token ≡ true → (kind : SyntaxKind) → IsFault kind ls l → 6 ≤ number_of kind
-least_later ls l e BadByte i = absurd (unlike l.token tokens.BadByte e refl i)
-least_later ls l e BadNumber i = absurd (unlike l.token tokens.BadNumber e refl i)
-least_later ls l e Unexpected i = let n : is_later l.token ≡ false = i.0 in absurd cc
-least_later ls l e TooDeep i = absurd (omega (arith, i.0, later_flat ls l e))
-least_later ls l e NotAField i = absurd (unlike l.token tokens.Assign e refl i.0)
-least_later ls l e NotYet i = omega arith
-
-bad_says : (ls : List Lexeme) (l : Lexeme) (t : Token) (v : Option SyntaxKind) → l.token ≡ t → (IsBuilt t → Says ls l v) → Says ls l (bad t v)
+bad_says : (ls : List Lexeme) (l : Lexeme) (t : Token) (v : Option SyntaxKind) → l.token ≡ t → (IsToken t → Says ls l v) → Says ls l (bad t v)
 bad_says ls l tokens.BadByte v e h = (e, least_byte ls l)
 bad_says ls l tokens.BadNumber v e h = (e, least_number ls l e)
-bad_says ls l tokens.Group v e h = (ap is_later e, least_later ls l (ap is_later e))
-bad_says ls l tokens.Scatter v e h = (ap is_later e, least_later ls l (ap is_later e))
-bad_says ls l tokens.Size v e h = (ap is_later e, least_later ls l (ap is_later e))
-bad_says ls l tokens.Member v e h = (ap is_later e, least_later ls l (ap is_later e))
-bad_says ls l tokens.WaitAll v e h = (ap is_later e, least_later ls l (ap is_later e))
-bad_says ls l tokens.Pending v e h = (ap is_later e, least_later ls l (ap is_later e))
-bad_says ls l _ v e h = h (record { not_byte = λ g. absurd cc; not_number = λ g. absurd cc; not_later = refl })
+bad_says ls l _ v e h = h (record { not_byte = λ g. absurd cc; not_number = λ g. absurd cc })
 
 verdict_says : (ls : List Lexeme) (l : Lexeme) (x : StateShape) → run true start ls ≡ Some x → run false start ls ≡ Some x → level_after ls ≤ MOST_LEVEL → Says ls l (verdict x (walk flat ls) l)
 verdict_says ls l x strict loose low =

@@ -7,7 +7,7 @@ use Rattle.asp_model.specs.Marked.{Marked}
 use Rattle.asp_tokens.specs.declared.token.Token.{Token}
 use Rattle.asp_tokens.specs.declared.token.Token.TheVariants as tokens
 use Rattle.asp_syntax.specs.declared.error.SyntaxKind.{SyntaxKind}
-use Rattle.asp_syntax.specs.declared.error.SyntaxKind.TheVariants.{BadByte, BadNumber, Unexpected, TooDeep, NotAField, NotYet}
+use Rattle.asp_syntax.specs.declared.error.SyntaxKind.TheVariants.{BadByte, BadNumber, Unexpected, TooDeep, NotAField}
 use Rattle.asp_syntax.specs.declared.error.SyntaxFault.{SyntaxFault}
 use Rattle.asp_tokens.specs.Tokens.{Lexeme}
 use Rattle.asp_grammar.specs.Grammar.{IsProgram, Begins}
@@ -21,7 +21,7 @@ use Rattle.asp_tokens.proofs.Endings.{EndsWell}
 use Rattle.asp_grammar.proofs.Running.{run_append}
 use Rattle.asp_grammar.proofs.Complete.{complete}
 use Rattle.asp_grammar.proofs.Sound.{sound}
-use Rattle.asp_grammar.proofs.Stepping.{strict_step, IsNone, later_none, none_steps, done_end}
+use Rattle.asp_grammar.proofs.Stepping.{strict_step, IsNone, none_steps, done_end}
 use Rattle.asp_syntax.proofs.First.{Answer, answers, shallow, comes_on, ends_next, last_one}
 
 strict_run : (ls : List Lexeme) (x y : StateShape) → run true x ls ≡ Some y → run false x ls ≡ Some y
@@ -55,10 +55,9 @@ begun_by s before ls l u p = record { rest = ls; program = u; is = subst (λ ms.
 no_fault : (kind : SyntaxKind) (before ls : List Lexeme) (l : Lexeme) (u : Marked) → IsProgram true (before ++ l ∷ ls) u → level_after (before ++ l ∷ []) ≤ MOST_LEVEL → IsFault kind before l → ⊥
 no_fault BadByte before ls l u p low i = never before ls l u p (none_is l.token tokens.BadByte i tt)
 no_fault BadNumber before ls l u p low i = never before ls l u p (none_is l.token tokens.BadNumber i tt)
-no_fault Unexpected before ls l u p low i = i.2 (begun_by false before ls l u (freely (before ++ l ∷ ls) u p))
+no_fault Unexpected before ls l u p low i = i.1 (begun_by false before ls l u (freely (before ++ l ∷ ls) u p))
 no_fault TooDeep before ls l u p low i = absurd (omega (arith, i.1, low))
 no_fault NotAField before ls l u p low i = i.3 (begun_by true before ls l u p)
-no_fault NotYet before ls l u p low i = never before ls l u p (later_none l.token i)
 
 abbrev pub IsLow : List Lexeme → Type 0
 IsLow ls = (before behind : List Lexeme) → ls ≡ before ++ behind → level_after before ≤ MOST_LEVEL

@@ -65,36 +65,24 @@ pub judged_on : (r : Result (Option (Box Term Global)) SyntaxError) (s : State) 
 judged_on (Ok t) s x n l h = judged_shallow (step false x l) (step true x l) n h.0
 judged_on (Err e) s x n l h = tt
 
--- the fault of a token that no rule has does not depend on the state
+-- the fault of a place at which no token stands does not depend on the state
 pub bad_some : (t : Token) (v : Option SyntaxKind) (k : SyntaxKind) → Some k ≡ bad t None → bad t v ≡ Some k
 bad_some tokens.BadByte v k e = sym e
 bad_some tokens.BadNumber v k e = sym e
-bad_some tokens.Group v k e = sym e
-bad_some tokens.Scatter v k e = sym e
-bad_some tokens.Size v k e = sym e
-bad_some tokens.Member v k e = sym e
-bad_some tokens.WaitAll v k e = sym e
-bad_some tokens.Pending v k e = sym e
 bad_some _ v k e = absurd cc
 
 bad_none : (t : Token) (v : Option SyntaxKind) → None ≡ bad t None → bad t v ≡ v
 bad_none tokens.BadByte v e = absurd cc
 bad_none tokens.BadNumber v e = absurd cc
-bad_none tokens.Group v e = absurd cc
-bad_none tokens.Scatter v e = absurd cc
-bad_none tokens.Size v e = absurd cc
-bad_none tokens.Member v e = absurd cc
-bad_none tokens.WaitAll v e = absurd cc
-bad_none tokens.Pending v e = absurd cc
 bad_none _ v e = refl
 
 pub bad_turns : (s : State) (v : Walk) (x : StateShape) (w : WalkShape) (l : Lexeme) (k : SyntaxKind) → Some k ≡ bad l.token None → Turns (Err (errors.Fault (fault_at l.at k))) s v x w l
 bad_turns s v x w l k e = (bad_some l.token (judgement x (is_deep w l) l) k e, refl)
 
-pub built_turns : (r : Result (Option (Box Term Global)) SyntaxError) (s : State) (v : Walk) (x : StateShape) (w : WalkShape) (l : Lexeme) → None ≡ bad l.token None → GoesOn r s v x w l → Turns r s v x w l
-built_turns (Ok t) s v x w l g (a, b, c) = (bad_none l.token (judgement x (is_deep w l) l) g ∙ a, b, c)
-built_turns (Err (errors.Fault e)) s v x w l g (a, b) = (bad_none l.token (judgement x (is_deep w l) l) g ∙ a, b)
-built_turns (Err errors.Memory) s v x w l g u = tt
+pub token_turns : (r : Result (Option (Box Term Global)) SyntaxError) (s : State) (v : Walk) (x : StateShape) (w : WalkShape) (l : Lexeme) → None ≡ bad l.token None → GoesOn r s v x w l → Turns r s v x w l
+token_turns (Ok t) s v x w l g (a, b, c) = (bad_none l.token (judgement x (is_deep w l) l) g ∙ a, b, c)
+token_turns (Err (errors.Fault e)) s v x w l g (a, b) = (bad_none l.token (judgement x (is_deep w l) l) g ∙ a, b)
+token_turns (Err errors.Memory) s v x w l g u = tt
 
 pub left_none : (o : Option (Box Term Global)) (s : State) → ((b : Box Term Global) → o ≢ Some b) → left o s ≡ state_shape s
 left_none None s h = refl

@@ -21,7 +21,7 @@ use Rattle.asp_syntax.specs.declared.error.SyntaxError.{SyntaxError}
 use Rattle.asp_syntax.specs.declared.error.SyntaxError.TheVariants as errors
 use Rattle.asp_syntax.specs.Read.{judged, verdict, fault_at}
 
--- the fault of a lexeme that some rule has, where its level is known to be too high or not
+-- the fault of a lexeme that is a token, where its level is known to be too high or not
 abbrev pub judgement : StateShape → Bool → Lexeme → Option SyntaxKind
 judgement x deep l = judged (step false x l) deep (step true x l)
 

@@ -1,11 +1,11 @@
 -- The faults of a text, apart from how it is read.
-use Rattle.std.specs.Prelude.{◌≡◌, ◌≢◌, ℕ, ◌≤◌, ◌<◌, true, false, List, [], ◌∷◌, ◌++◌}
+use Rattle.std.specs.Prelude.{◌≡◌, ℕ, ◌≤◌, ◌<◌, true, false, List, [], ◌∷◌, ◌++◌}
 use Rattle.asp_model.specs.declared.limits.TheConstants.{MOST_LEVEL}
 use Rattle.asp_tokens.specs.declared.token.Token.TheVariants as tokens
 use Rattle.asp_syntax.specs.declared.error.SyntaxKind.{SyntaxKind}
-use Rattle.asp_syntax.specs.declared.error.SyntaxKind.TheVariants.{BadByte, BadNumber, Unexpected, TooDeep, NotAField, NotYet}
+use Rattle.asp_syntax.specs.declared.error.SyntaxKind.TheVariants.{BadByte, BadNumber, Unexpected, TooDeep, NotAField}
 use Rattle.asp_syntax.specs.declared.error.SyntaxFault.{SyntaxFault}
-use Rattle.asp_tokens.specs.Tokens.{Lexeme, is_later}
+use Rattle.asp_tokens.specs.Tokens.{Lexeme}
 use Rattle.asp_grammar.specs.Grammar.{Begins}
 use Rattle.asp_tokens.specs.Levels.{level_after}
 
@@ -16,17 +16,15 @@ number_of BadNumber = 2
 number_of Unexpected = 3
 number_of TooDeep = 4
 number_of NotAField = 5
-number_of NotYet = 6
 
 -- a fault of a kind stands at a lexeme, behind others; `true` asks for the rule on `:=`
 abbrev pub IsFault : SyntaxKind → List Lexeme → Lexeme → Type 0
 IsFault BadByte before here = here.token ≡ tokens.BadByte
 IsFault BadNumber before here = here.token ≡ tokens.BadNumber
-IsFault Unexpected before here = (is_later here.token ≡ false) × Begins false before × (Begins false (before ++ here ∷ []) → ⊥)
+IsFault Unexpected before here = Begins false before × (Begins false (before ++ here ∷ []) → ⊥)
 IsFault TooDeep before here = (level_after before < level_after (before ++ here ∷ [])) × (MOST_LEVEL < level_after (before ++ here ∷ []))
 IsFault NotAField before here = (here.token ≡ tokens.Assign) × Begins true before
     × Begins false (before ++ here ∷ []) × (Begins true (before ++ here ∷ []) → ⊥)
-IsFault NotYet before here = is_later here.token ≡ true
 
 -- no fault stands at any of the lexemes
 pub data Clean : List Lexeme → Type 0 where

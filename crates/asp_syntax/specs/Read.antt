@@ -5,7 +5,7 @@ use Rattle.asp_model.specs.Marked.{Marked}
 use Rattle.asp_tokens.specs.declared.token.Token.{Token}
 use Rattle.asp_tokens.specs.declared.token.Token.TheVariants as tokens
 use Rattle.asp_syntax.specs.declared.error.SyntaxKind.{SyntaxKind}
-use Rattle.asp_syntax.specs.declared.error.SyntaxKind.TheVariants.{BadByte, BadNumber, Unexpected, TooDeep, NotAField, NotYet}
+use Rattle.asp_syntax.specs.declared.error.SyntaxKind.TheVariants.{BadByte, BadNumber, Unexpected, TooDeep, NotAField}
 use Rattle.asp_syntax.specs.declared.error.SyntaxFault.{SyntaxFault}
 use Rattle.asp_tokens.specs.Tokens.{Lexeme}
 use Rattle.asp_grammar.specs.States.{StateShape, At, Done}
@@ -20,7 +20,7 @@ abbrev pub depth : Bool → Option StateShape → Option SyntaxKind
 depth true z = Some TooDeep
 depth false z = field z
 
--- of a token that is built, from what it leaves without the rule on `:=`, whether it is too deep, and what it
+-- of a token, from what it leaves without the rule on `:=`, whether it is too deep, and what it
 -- leaves with the rule
 abbrev pub judged : Option StateShape → Bool → Option StateShape → Option SyntaxKind
 judged None deep z = Some Unexpected
@@ -29,12 +29,6 @@ judged (Some y) deep z = depth deep z
 abbrev pub bad : Token → Option SyntaxKind → Option SyntaxKind
 bad tokens.BadByte v = Some BadByte
 bad tokens.BadNumber v = Some BadNumber
-bad tokens.Group v = Some NotYet
-bad tokens.Scatter v = Some NotYet
-bad tokens.Size v = Some NotYet
-bad tokens.Member v = Some NotYet
-bad tokens.WaitAll v = Some NotYet
-bad tokens.Pending v = Some NotYet
 bad t v = v
 
 -- the fault at a lexeme, in a state

@@ -18,8 +18,6 @@ pub enum SyntaxKind {
     TooDeep,
     /// A `:=` stands here, and what stands on its left is no field access.
     NotAField,
-    /// A token of the language that is not built stands here.
-    NotYet,
 }
 
 /// A fault, and its place in the text.

@@ -71,7 +71,7 @@ fn read_from(
 }
 
 // The state and the walk one token on, or the term that the end leaves.
-#[tactic(auto, using(crate::proofs::Turning::bad_turns, crate::proofs::Turning::built_turns))]
+#[tactic(auto, using(crate::proofs::Turning::bad_turns, crate::proofs::Turning::token_turns))]
 fn turn(
     alloc: Global,
     state: &mut State,
@@ -91,24 +91,18 @@ fn turn(
     }
 }
 
-// The fault of a token that no rule has.
+// The fault of a place at which no token stands.
 fn unread(token: &Token) -> Option<SyntaxKind>
     ensures { result ≡ bad token.now None }
 {
     match token {
         Token::BadByte => Some(SyntaxKind::BadByte),
         Token::BadNumber => Some(SyntaxKind::BadNumber),
-        Token::Group
-        | Token::Scatter
-        | Token::Size
-        | Token::Member
-        | Token::WaitAll
-        | Token::Pending => Some(SyntaxKind::NotYet),
         _ => None,
     }
 }
 
-// The same of a token that some rule has.
+// The same where a token stands.
 fn go_on(
     alloc: Global,
     state: &mut State,

@@ -1,7 +1,7 @@
 -- The tokens of a text, from left to right, each as long as it can be.
-use Rattle.std.specs.Prelude.{ℕ, ◌+◌, ◌-◌, ◌*◌, ◌^◌, pos, ◌==◌, nat_lt, if◌then◌else◌, List, [], ◌∷◌, ◌++◌, map, Bool, true, false, Option, Some, None}
+use Rattle.std.specs.Prelude.{ℕ, ◌+◌, ◌-◌, ◌*◌, ◌^◌, pos, ◌==◌, nat_lt, if◌then◌else◌, List, [], ◌∷◌, ◌++◌, map, Option, Some, None}
 use Rattle.asp_tokens.specs.declared.token.Token.{Token}
-use Rattle.asp_tokens.specs.declared.token.Token.TheVariants.{Number, Text, Equals, Assign, Slash, Same, Group, Scatter, Size, Member, WaitAll, Pending, End, BadByte, BadNumber}
+use Rattle.asp_tokens.specs.declared.token.Token.TheVariants.{Number, Text, Equals, Assign, Slash, Same, End, BadByte, BadNumber}
 use Rattle.asp_model.specs.WellFormed.{is_printable}
 use Rattle.asp_tokens.specs.Bytes.{is_digit, is_letter, is_blank, is_inner, sign_token, word_token}
 
@@ -98,13 +98,3 @@ lex scan at (b ∷ bs) = after_move (move scan at b) (λ next. lex next (at + 1)
 
 abbrev pub lexemes_of : List ℕ → List Lexeme
 lexemes_of bytes = lex Between 0 bytes
-
--- a reserved word that stands in no rule of the grammar
-abbrev pub is_later : Token → Bool
-is_later Group = true
-is_later Scatter = true
-is_later Size = true
-is_later Member = true
-is_later WaitAll = true
-is_later Pending = true
-is_later token = false

@@ -4,7 +4,7 @@ use Rattle.std.specs.Fmt.{decimal}
 use Rattle.asp_model.specs.Names.{Name}
 use Rattle.asp_model.specs.Report.{name_text, with_feed}
 use Rattle.asp_syntax.specs.declared.error.SyntaxKind.{SyntaxKind}
-use Rattle.asp_syntax.specs.declared.error.SyntaxKind.TheVariants.{BadByte, BadNumber, Unexpected, TooDeep, NotAField, NotYet}
+use Rattle.asp_syntax.specs.declared.error.SyntaxKind.TheVariants.{BadByte, BadNumber, Unexpected, TooDeep, NotAField}
 use Rattle.asp_syntax.specs.declared.error.SyntaxFault.{SyntaxFault}
 use Rattle.asp_check.specs.declared.fault.CheckKind.{CheckKind}
 use Rattle.asp_check.specs.declared.fault.CheckKind.TheVariants.{Unbound, DoubleLabel, DoubleParameter, TooManyParameters, Arity, ServiceArity}
@@ -39,7 +39,6 @@ kind_text BadNumber = codes "BadNumber"
 kind_text Unexpected = codes "Unexpected"
 kind_text TooDeep = codes "TooDeep"
 kind_text NotAField = codes "NotAField"
-kind_text NotYet = codes "NotYet"
 
 abbrev pub check_text : CheckKind → List ℕ
 check_text Unbound = codes "Unbound"

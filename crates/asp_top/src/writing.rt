@@ -35,7 +35,6 @@ fn kind_text(kind: SyntaxKind) -> &'static str
         SyntaxKind::Unexpected => "Unexpected",
         SyntaxKind::TooDeep => "TooDeep",
         SyntaxKind::NotAField => "NotAField",
-        SyntaxKind::NotYet => "NotYet",
     }
 }
 

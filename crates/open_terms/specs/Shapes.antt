@@ -8,7 +8,9 @@ use Rattle.open_terms.specs.declared.open.Part.{Part}
 use Rattle.open_terms.specs.declared.open.Pending.{Pending}
 use Rattle.open_terms.specs.declared.open.Access.{Access}
 use Rattle.open_terms.specs.declared.open.Field.{Field}
-use Rattle.open_terms.specs.declared.open.Call.{Call}
+use Rattle.open_terms.specs.declared.open.Target.{Target}
+use Rattle.open_terms.specs.declared.open.Target.TheVariants as target
+use Rattle.open_terms.specs.declared.open.Listing.{Listing}
 use Rattle.open_terms.specs.declared.open.Object.{Object}
 use Rattle.open_terms.specs.declared.open.Labels.{Labels}
 use Rattle.open_terms.specs.declared.open.Head as declared_head
@@ -17,8 +19,8 @@ use Rattle.open_terms.specs.declared.open.Wrap.TheVariants as wrap
 use Rattle.open_terms.specs.declared.open.Kind.{Kind}
 use Rattle.open_terms.specs.declared.open.Kind.TheVariants as kind
 use Rattle.open_terms.specs.declared.open.Open.{Open}
-use Rattle.asp_grammar.specs.Nodes.{PartShape, part, got, called, ObjectShape, LabelsShape}
-use Rattle.asp_grammar.specs.States.{PendingShape, KindShape, OpenShape, pending}
+use Rattle.asp_grammar.specs.Nodes.{PartShape, part, got, ObjectShape, LabelsShape}
+use Rattle.asp_grammar.specs.States.{PendingShape, TargetShape, KindShape, OpenShape, pending, listed}
 use Rattle.asp_grammar.specs.States as states
 
 abbrev pub part_shape : Part → PartShape
@@ -38,9 +40,13 @@ access_shape a = part a.start (marked (term.Get a.label.text) (mark_shape a.mark
 abbrev pub field_part : Field → PartShape
 field_part f = got (part_shape f.receiver) f.at f.label.text
 
--- the term that a call is
-abbrev pub call_part : Call → PartShape
-call_part c = called (part_shape c.method.receiver) c.method.at c.method.label.text (map marked_of c.arguments.items)
+abbrev pub target_shape : Target → TargetShape
+target_shape (target.Call f) = states.OfCall (part_shape f.receiver) f.at f.label.text
+target_shape (target.Group at) = states.OfGroup at
+
+-- the call or the group that a list of terms makes
+abbrev pub listing_part : Listing → PartShape
+listing_part x = listed (target_shape x.target) (map marked_of x.terms.items)
 
 abbrev pub object_shape : Object → ObjectShape
 object_shape x = record { at = x.at; names = x.names.items; fields = map field_of x.fields.items; methods = map method_of x.methods.items }
@@ -55,6 +61,8 @@ abbrev pub wrap_shape : Wrap → Head
 wrap_shape wrap.Clone = term.Clone
 wrap_shape wrap.Repeat = term.Repeat
 wrap_shape wrap.Print = term.Print
+wrap_shape wrap.Size = term.Size
+wrap_shape wrap.WaitAll = term.WaitAll
 
 abbrev pub kind_shape : Kind → KindShape
 kind_shape kind.Top = states.Top
@@ -64,7 +72,11 @@ kind_shape (kind.InActive at) = states.InActive at
 kind_shape (kind.InCondition at) = states.InCondition at
 kind_shape (kind.InThen at c) = states.InThen at (marked_of c.value)
 kind_shape (kind.InElse c) = states.InElse c.at (marked_of c.condition.value) (marked_of c.chosen.value)
-kind_shape (kind.InCall c) = states.InCall (part_shape c.method.receiver) c.method.at c.method.label.text (map marked_of c.arguments.items)
+kind_shape (kind.InList x) = states.InList (target_shape x.target) (map marked_of x.terms.items)
+kind_shape (kind.InScatter at) = states.InScatter at
+kind_shape (kind.InArguments x) = states.InArguments x.at (marked_of x.group.value) x.label_at x.label.text
+kind_shape (kind.InMember at) = states.InMember at
+kind_shape (kind.InIndex at t) = states.InIndex at (marked_of t.value)
 kind_shape (kind.InBinding at name_at x) = states.InBinding at name_at x
 kind_shape (kind.InBody b) = states.InBody b.at b.name_at b.name (marked_of b.bound.value)
 kind_shape (kind.InField x label) = states.InField (object_shape x) label.text

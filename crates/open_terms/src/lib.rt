@@ -8,16 +8,16 @@ mod stop;
 mod terms;
 
 pub use node::{
-    active, active_with, binding, called, choice, echo, enclose, got, made, number, served,
-    variable, with_term, wrapped,
+    active, active_with, binding, choice, echo, enclose, got, listed, made, member, number,
+    scatter, served, variable, with_term, wrapped,
 };
 pub use object::{
     new_head, new_labels, new_object, with_field, with_label, with_method, with_name,
     with_parameter,
 };
 pub use open::{
-    Access, Binding, Call, Choice, Field, Head, Kind, Labels, Object, Open, Part, Pending, Service,
-    Wrap,
+    Access, Binding, Choice, Field, Head, Kind, Labels, Listing, Object, Open, Part, Pending,
+    Scatter, Service, Target, Wrap,
 };
 pub use stop::{Stop, refused, stopped};
 pub use terms::{add, assign, compare, first_start, fresh, multiply, term_in, value_of};

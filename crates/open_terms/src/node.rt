@@ -2,12 +2,14 @@
 
 ghost use Rattle.std.specs.Prelude.{◌≡◌, ◌+◌, ◌<◌, ◌^◌, ◌∷◌, ◌++◌, [], map, IfOk, OnOk, None, Some};
 ghost use Rattle.asp_model.specs.Shapes.{marked_of, mark_shape, sign_shape};
-ghost use Rattle.asp_grammar.specs.Nodes.{part, mark_at as new_mark, named_mark as new_named_mark, number_at, variable_at, echo_at, word_at, active_at, if_at, let_at, operated as operated_part, got as got_part, put as put_part, terms_at, once_more as one_more, in_parentheses, made as made_part, served as served_part};
+ghost use Rattle.asp_grammar.specs.Nodes.{part, mark_at as new_mark, named_mark as new_named_mark, number_at, variable_at, echo_at, word_at, active_at, if_at, let_at, scatter_at, member_at, operated as operated_part, got as got_part, called as called_part, put as put_part, terms_at, once_more as one_more, in_parentheses, made as made_part, served as served_part};
 ghost use Rattle.asp_grammar.specs.Depth.{parentheses_of};
-ghost use Rattle.open_terms.specs.Shapes.{part_shape, access_shape, object_shape, labels_shape, wrap_shape, field_part, call_part};
+ghost use Rattle.open_terms.specs.Shapes.{part_shape, access_shape, object_shape, labels_shape, wrap_shape, field_part, listing_part};
 ghost use Rattle.open_terms.specs.Answers.{IsAccess};
 
-use crate::open::{Access, Binding, Call, Choice, Field, Labels, Object, Part, Service, Wrap};
+use crate::open::{
+    Access, Binding, Choice, Field, Labels, Listing, Object, Part, Scatter, Service, Target, Wrap,
+};
 use crate::stop::stopped;
 use asp_model::{Mark, Sign, Term, Word};
 use std::alloc::{AllocError, Global};
@@ -81,6 +83,8 @@ pub fn wrapped(alloc: Global, wrap: Wrap, at: usize, term: Box<Term>) -> Result<
         Wrap::Clone => part_of(alloc, at, Term::Clone(term, mark)),
         Wrap::Repeat => part_of(alloc, at, Term::Repeat(term, mark)),
         Wrap::Print => part_of(alloc, at, Term::Print(term, mark)),
+        Wrap::Size => part_of(alloc, at, Term::Size(term, mark)),
+        Wrap::WaitAll => part_of(alloc, at, Term::WaitAll(term, mark)),
     }
 }
 
@@ -182,19 +186,60 @@ pub fn got(alloc: Global, field: Field) -> Result<Part, AllocError>
     }
 }
 
-/// A call.
-pub fn called(alloc: Global, call: Call) -> Result<Part, AllocError>
-    ensures called { IfOk result (λ p. part_shape p ≡ call_part call) }
+/// A call with its arguments, or a group with its members.
+pub fn listed(alloc: Global, listing: Listing) -> Result<Part, AllocError>
+    ensures listed { IfOk result (λ p. part_shape p ≡ listing_part listing) }
 {
-    let start = call.method.receiver.start;
-    match named_mark(alloc, start, call.method.at) {
+    let Listing { target, terms } = listing;
+    match target {
+        Target::Call(method) => called(alloc, method, terms),
+        Target::Group(at) => part_of(alloc, at, Term::Group(terms, mark_at(alloc, at))),
+    }
+}
+
+fn called(alloc: Global, method: Field, arguments: Vec<Term>) -> Result<Part, AllocError>
+    ensures { let terms = map marked_of arguments.items in
+        let whole = called_part (part_shape method.receiver) method.at method.label.text terms in
+        IfOk result (λ p. part_shape p ≡ whole) }
+{
+    let start = method.receiver.start;
+    match named_mark(alloc, start, method.at) {
         Ok(mark) => {
-            let Call { method, arguments } = call;
             let term = Term::Call(method.receiver.term, method.label, arguments, mark);
             part_of(alloc, start, term)
         }
-        Err(error) => stopped(call, error),
+        Err(error) => stopped((method, arguments), error),
     }
+}
+
+/// A `scatter` of two groups.
+pub fn scatter(alloc: Global, scatter: Scatter, second: Box<Term>) -> Result<Part, AllocError>
+    ensures scatter { let group = marked_of scatter.group.value in
+        let second = marked_of second.value in
+        let whole = scatter_at scatter.at scatter.label_at scatter.label.text group second in
+        IfOk result (λ p. part_shape p ≡ part scatter.at whole) }
+{
+    match named_mark(alloc, scatter.at, scatter.label_at) {
+        Ok(mark) => {
+            let at = scatter.at;
+            let term = Term::Scatter(scatter.group, scatter.label, second, mark);
+            part_of(alloc, at, term)
+        }
+        Err(error) => stopped((scatter, second), error),
+    }
+}
+
+/// A `member` of a group.
+pub fn member(
+    alloc: Global,
+    at: usize,
+    group: Box<Term>,
+    index: Box<Term>,
+) -> Result<Part, AllocError>
+    ensures member { let whole = member_at at (marked_of group.value) (marked_of index.value) in
+        IfOk result (λ p. part_shape p ≡ part at whole) }
+{
+    part_of(alloc, at, Term::Member(group, index, mark_at(alloc, at)))
 }
 
 /// A term taken apart, if it is a field access.
@@ -265,7 +310,6 @@ pub fn with_term(terms: &mut Vec<Term>, term: Box<Term>) -> Result<(), AllocErro
 }
 
 /// An object with what was read of it.
-
 pub fn made(alloc: Global, object: Object) -> Result<Part, AllocError>
     ensures made { IfOk result (λ p. part_shape p ≡ made_part (object_shape object)) }
 {

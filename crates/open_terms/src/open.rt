@@ -33,11 +33,27 @@ pub struct Access {
     pub mark: Mark,
 }
 
-/// A call that was begun: its method, and the arguments that were read.
+/// What a list of terms in parentheses is for: a method's arguments, or the members of a group.
 #[derive(Drop)]
-pub struct Call {
-    pub method: Field,
-    pub arguments: Vec<Term>,
+pub enum Target {
+    Call(Field),
+    Group(usize),
+}
+
+/// A list of terms that was begun: what it is for, and the terms that were read.
+#[derive(Drop)]
+pub struct Listing {
+    pub target: Target,
+    pub terms: Vec<Term>,
+}
+
+/// A `scatter` up to its second group, with the place of its label.
+#[derive(Drop)]
+pub struct Scatter {
+    pub at: usize,
+    pub group: Box<Term>,
+    pub label_at: usize,
+    pub label: Label,
 }
 
 /// An object that was begun: the place of its bracket, and what was read of it.
@@ -97,6 +113,8 @@ pub enum Wrap {
     Clone,
     Repeat,
     Print,
+    Size,
+    WaitAll,
 }
 
 /// What a term stands in, with what was read of that.
@@ -109,7 +127,11 @@ pub enum Kind {
     InCondition(usize),
     InThen(usize, Box<Term>),
     InElse(Choice),
-    InCall(Call),
+    InList(Listing),
+    InScatter(usize),
+    InArguments(Scatter),
+    InMember(usize),
+    InIndex(usize, Box<Term>),
     InBinding(usize, usize, Word),
     InBody(Binding),
     InField(Object, Label),

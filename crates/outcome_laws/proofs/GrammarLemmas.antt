@@ -13,8 +13,8 @@ use Rattle.asp_model.specs.Shapes.{MarkedMethod}
 use Rattle.asp_tokens.specs.declared.token.Token.{Token}
 use Rattle.asp_tokens.specs.Tokens.{Lexeme}
 use Rattle.asp_grammar.specs.Nodes.{PartShape, put_to, is_get, terms_at, in_parentheses, made, ObjectShape}
-use Rattle.asp_grammar.specs.Signs.{IsWord, clones, repeats, prints, IsHead, head, parameter, IsService, no_service, service, IsLabels, first_label, and_label, IsLabelPart, no_labels, labels}
-use Rattle.asp_grammar.specs.Grammar.{may_put, IsPrim, number, variable, parentheses, object, word, active, serve, choice, echo, IsPost, prim, get, call_none, call, IsArgs, argument, and_argument, IsFields, field, and_field, IsMethods, first_method, and_method, IsFieldPart, no_fields, fields, IsMethodPart, no_methods, methods, IsProd, post, times, IsSum, prod, plus, IsTest, sum, test, IsExpr, tested, assign, IsSeq, last, then, bind, IsProgram}
+use Rattle.asp_grammar.specs.Signs.{IsWord, clones, repeats, prints, sizes, awaits, IsHead, head, parameter, IsService, no_service, service, IsLabels, first_label, and_label, IsLabelPart, no_labels, labels}
+use Rattle.asp_grammar.specs.Grammar.{may_put, IsPrim, number, variable, parentheses, object, word, active, serve, choice, echo, group_none, group, scatter, member, IsPost, prim, get, call_none, call, IsArgs, argument, and_argument, IsFields, field, and_field, IsMethods, first_method, and_method, IsFieldPart, no_fields, fields, IsMethodPart, no_methods, methods, IsProd, post, times, IsSum, prod, plus, IsTest, sum, test, IsExpr, tested, assign, IsSeq, last, then, bind, IsProgram}
 use Rattle.laws.specs.Linked.{Each}
 use Rattle.laws.proofs.NameLemmas.{none_true}
 use Rattle.laws.proofs.EachLemmas.{each_both, each_first, each_second}
@@ -69,11 +69,15 @@ word_written : {token : Token} {h : Head} → IsWord token h → is_written h �
 word_written clones = refl
 word_written repeats = refl
 word_written prints = refl
+word_written sizes = refl
+word_written awaits = refl
 
 word_arity : {token : Token} {h : Head} → IsWord token h → HasArity h 1
 word_arity clones = refl
 word_arity repeats = refl
 word_arity prints = refl
+word_arity sizes = refl
+word_arity awaits = refl
 
 -- Names
 
@@ -173,6 +177,13 @@ mutual
       let elses = behind us _ thens.1.1 in
       (refl, refl, (terms_read n cs (seq_read e f (before ls _ w.1.1)), (terms_read m ts (seq_read e g (before us _ thens.1.1)), (terms_read k es (seq_read e h (before vs _ elses.1.1.1)), tt))))
   prim_read e (echo s at open_at text_at close_at text) w = (w.1.1.0, refl, tt)
+  prim_read e (group_none s at open_at close_at) w = (refl, tt, tt)
+  prim_read e (group s at open_at close_at ls ts h) w = (refl, tt, all_read ts (args_read e h (before ls _ w.1.1)))
+  prim_read e (scatter s at open_at comma_at label_at second_at close_at label ls us n m ts xs f g) w =
+      let lasts = (behind ls _ w.1.1).1 in
+      (one_name label lasts.0, refl, (terms_read n ts (seq_read e f (before ls _ w.1.1)), (terms_read m xs (seq_read e g (before us _ lasts.1.1)), tt)))
+  prim_read e (member s at open_at comma_at close_at ls us n m ts xs f g) w =
+      (refl, refl, (terms_read n ts (seq_read e f (before ls _ w.1.1)), (terms_read m xs (seq_read e g (before us _ (behind ls _ w.1.1).1)), tt)))
 
   post_read : {s : Bool} {ls : List Lexeme} {p : PartShape} → s ≡ true → IsPost s ls p → Sound ls → Reads p.term
   post_read e (prim s ls p h) w = prim_read e h w

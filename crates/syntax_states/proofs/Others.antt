@@ -1,5 +1,5 @@
 -- What ends no sequence of a kind, and what the other modes and tokens leave.
-use Rattle.std.proofs.Common.{◌≡◌, ◌≢◌, ℕ, List, [], ◌∷◌, ◌++◌, Option, Some, None, Bool, true, false, Result, Ok, Err, refl, ap, sym, subst, ◌∙◌}
+use Rattle.std.proofs.Common.{◌≡◌, ◌≢◌, ℕ, List, [], ◌∷◌, ◌++◌, Option, Some, None, Bool, true, false, Result, Err, refl, ap, sym, subst, ◌∙◌}
 use Rattle.std.specs.declared.alloc.Global.{Global}
 use Rattle.std.specs.declared.boxed.Box.{Box}
 use Rattle.asp_model.specs.Names.{Text}
@@ -9,17 +9,18 @@ use Rattle.asp_tokens.specs.declared.token.Token.{Token}
 use Rattle.asp_tokens.specs.declared.token.Token.TheVariants as tokens
 use Rattle.asp_model.specs.Shapes.{marked_of}
 use Rattle.asp_grammar.specs.Nodes.{PartShape, part, let_at}
-use Rattle.asp_grammar.specs.States.{Top, InCall, OpenShape, OperandShape, StateShape, At, fresh, operand_part, value}
+use Rattle.asp_grammar.specs.States.{TargetShape, Top, InList, OpenShape, OperandShape, StateShape, At, fresh, operand_part, value}
 use Rattle.asp_grammar.specs.Closings.{finished, finish, over, ended, close, close_brace, close_square, comma, bound, opened}
 use Rattle.asp_grammar.specs.Changes.{ChangeShape, Goes, begin, operand, changed}
-use Rattle.asp_grammar.specs.Machine.{behind, call, have, stepped}
+use Rattle.asp_grammar.specs.Machine.{behind, listing, have, stepped}
 use Rattle.open_terms.specs.declared.open.Open.{Open}
 use Rattle.open_terms.specs.declared.open.Part.{Part}
 use Rattle.open_terms.specs.declared.open.Binding.{Binding}
 use Rattle.open_terms.specs.declared.open.Kind.{Kind}
 use Rattle.open_terms.specs.declared.open.Kind.TheVariants as K
-use Rattle.open_terms.specs.declared.open.Field.{Field}
-use Rattle.open_terms.specs.declared.open.Call.{Call}
+use Rattle.open_terms.specs.declared.open.Target.{Target}
+use Rattle.open_terms.specs.declared.open.Listing.{Listing}
+use Rattle.open_terms.specs.declared.open.Scatter.{Scatter}
 use Rattle.open_terms.specs.declared.open.Choice.{Choice}
 use Rattle.open_terms.specs.declared.open.Object.{Object}
 use Rattle.open_terms.specs.declared.open.Head as declared_head
@@ -34,16 +35,18 @@ use Rattle.syntax_states.specs.declared.state.Operand.{Operand}
 use Rattle.syntax_states.specs.declared.state.Opener.{Opener}
 use Rattle.syntax_states.specs.declared.state.State.{State}
 use Rattle.syntax_states.specs.Shapes.{mode_shape, state_shape}
-use Rattle.syntax_states.specs.Answers.{Becomes, Leaves, Follows, Steps, plain_change, plain_operand, plain_behind}
+use Rattle.syntax_states.specs.Answers.{Becomes, Leaves, Steps, plain_change, plain_operand, plain_behind}
 
 pub close_other : (k : Kind) (v : PartShape) → ((at : ℕ) → k ≢ K.InParentheses at) → ((w : Wrap) (at : ℕ) → k ≢ K.InWord w at) → ((at : ℕ) → k ≢ K.InActive at) → ((at : ℕ) → k ≢ K.InCondition at)
-    → ((c : Call) → k ≢ K.InCall c) → close (kind_shape k) v ≡ None
-close_other (K.InParentheses at) v a b e c d = absurd (a at refl)
-close_other (K.InWord w at) v a b e c d = absurd (b w at refl)
-close_other (K.InActive at) v a b e c d = absurd (e at refl)
-close_other (K.InCondition at) v a b e c d = absurd (c at refl)
-close_other (K.InCall x) v a b e c d = absurd (d x refl)
-close_other _ v a b e c d = refl
+    → ((x : Listing) → k ≢ K.InList x) → ((x : Scatter) → k ≢ K.InArguments x) → ((at : ℕ) (t : Box Term Global) → k ≢ K.InIndex at t) → close (kind_shape k) v ≡ None
+close_other (K.InParentheses at) v a b e c d f g = absurd (a at refl)
+close_other (K.InWord w at) v a b e c d f g = absurd (b w at refl)
+close_other (K.InActive at) v a b e c d f g = absurd (e at refl)
+close_other (K.InCondition at) v a b e c d f g = absurd (c at refl)
+close_other (K.InList x) v a b e c d f g = absurd (d x refl)
+close_other (K.InArguments x) v a b e c d f g = absurd (f x refl)
+close_other (K.InIndex at t) v a b e c d f g = absurd (g at t refl)
+close_other _ v a b e c d f g = refl
 
 pub brace_other : (k : Kind) (v : PartShape) → ((at : ℕ) (t : Box Term Global) → k ≢ K.InThen at t) → ((c : Choice) → k ≢ K.InElse c) → close_brace (kind_shape k) v ≡ None
 brace_other (K.InThen at t) v a b = absurd (a at t refl)
@@ -55,13 +58,15 @@ square_other (K.InField x l) v a b = absurd (a x l refl)
 square_other (K.InMethod x h) v a b = absurd (b x h refl)
 square_other _ v a b = refl
 
-pub comma_other : (k : Kind) (v : PartShape) → ((at : ℕ) → k ≢ K.InActive at) → ((c : Call) → k ≢ K.InCall c) → ((x : Object) (l : Label) → k ≢ K.InField x l)
-    → ((x : Object) (h : declared_head.Head) → k ≢ K.InMethod x h) → comma (kind_shape k) v ≡ None
-comma_other (K.InActive at) v d c a b = absurd (d at refl)
-comma_other (K.InCall x) v d c a b = absurd (c x refl)
-comma_other (K.InField x l) v d c a b = absurd (a x l refl)
-comma_other (K.InMethod x h) v d c a b = absurd (b x h refl)
-comma_other _ v d c a b = refl
+pub comma_other : (k : Kind) (v : PartShape) → ((at : ℕ) → k ≢ K.InActive at) → ((at : ℕ) → k ≢ K.InScatter at) → ((at : ℕ) → k ≢ K.InMember at) → ((x : Listing) → k ≢ K.InList x)
+    → ((x : Object) (l : Label) → k ≢ K.InField x l) → ((x : Object) (h : declared_head.Head) → k ≢ K.InMethod x h) → comma (kind_shape k) v ≡ None
+comma_other (K.InActive at) v d e f c a b = absurd (d at refl)
+comma_other (K.InScatter at) v d e f c a b = absurd (e at refl)
+comma_other (K.InMember at) v d e f c a b = absurd (f at refl)
+comma_other (K.InList x) v d e f c a b = absurd (c x refl)
+comma_other (K.InField x l) v d e f c a b = absurd (a x l refl)
+comma_other (K.InMethod x h) v d e f c a b = absurd (b x h refl)
+comma_other _ v d e f c a b = refl
 
 pub bound_other : (k : Kind) (v : PartShape) → ((at name_at : ℕ) (x : Text) → k ≢ K.InBinding at name_at x) → bound (kind_shape k) v ≡ None
 bound_other (K.InBinding at name_at x) v a = absurd (a at name_at x refl)
@@ -82,12 +87,12 @@ body_over s b p v w ls ms a x e f g h d =
     ∙ ap (λ (q : List Open). over s.kind (value s p) (stack q)) (sym g)
 
 -- a mode that opens nothing, in which no operand was read, and no call begun
-pub mode_other : (rule : Bool) (m : Mode) (s : OpenShape) (o : List OpenShape) (t : Token) (at : ℕ) → m ≢ M.Begin → m ≢ M.Want → ((x : Operand) → m ≢ M.Have x) → ((f : Field) → m ≢ M.Called f) → ((x : Opener) (k : Kind) → m ≢ M.Opening x k)
+pub mode_other : (rule : Bool) (m : Mode) (s : OpenShape) (o : List OpenShape) (t : Token) (at : ℕ) → m ≢ M.Begin → m ≢ M.Want → ((x : Operand) → m ≢ M.Have x) → ((f : Target) → m ≢ M.ListBegun f) → ((x : Opener) (k : Kind) → m ≢ M.Opening x k)
     → stepped rule (mode_shape m) s o t at ≡ changed (plain_change (mode_shape m) t at) s o
 mode_other rule M.Begin s o t at a b c d e = absurd (a refl)
 mode_other rule M.Want s o t at a b c d e = absurd (b refl)
 mode_other rule (M.Have x) s o t at a b c d e = absurd (c x refl)
-mode_other rule (M.Called f) s o t at a b c d e = absurd (d f refl)
+mode_other rule (M.ListBegun f) s o t at a b c d e = absurd (d f refl)
 mode_other rule (M.Opening x k) s o t at a b c d e = absurd (e x k refl)
 mode_other rule _ s o t at a b c d e = refl
 
@@ -103,7 +108,7 @@ leaves_err stop.Unexpected x y h = (h, h)
 leaves_err stop.NotAField x y h = absurd h
 leaves_err stop.Memory x y h = tt
 
-pub step_err : (e : Stop) (m : Mode) (s : OpenShape) (o : List OpenShape) (x : State) (t : Token) (at : ℕ) → m ≢ M.Begin → m ≢ M.Want → ((x : Operand) → m ≢ M.Have x) → ((f : Field) → m ≢ M.Called f) → ((x : Opener) (k : Kind) → m ≢ M.Opening x k)
+pub step_err : (e : Stop) (m : Mode) (s : OpenShape) (o : List OpenShape) (x : State) (t : Token) (at : ℕ) → m ≢ M.Begin → m ≢ M.Want → ((x : Operand) → m ≢ M.Have x) → ((f : Target) → m ≢ M.ListBegun f) → ((x : Opener) (k : Kind) → m ≢ M.Opening x k)
     → Becomes (Err e) (plain_change (mode_shape m) t at) → Steps (Err e) x (stepped false (mode_shape m) s o t at) (stepped true (mode_shape m) s o t at)
 step_err e m s o x t at a b c d f h =
     subst (λ (z : Option StateShape). Steps (Err e) x z (stepped true (mode_shape m) s o t at)) (sym (mode_other false m s o t at a b c d f))
@@ -136,12 +141,12 @@ abbrev outer_of : Option StateShape → List OpenShape
 outer_of (Some (At m s o)) = o
 outer_of _ = []
 
--- a call's first argument begins in a new sequence
-pub call_argument : (r : Result (Unit {0}) Stop) (n x : State) (p : PartShape) (i : ℕ) (label : Text) (s : OpenShape) (o : List OpenShape) (t : Token) (at : ℕ) → t ≢ tokens.Close
-    → opened (InCall p i label []) s o ≡ Some (state_shape x) → Leaves r n (changed (begin t at) (open_shape x.inner) (stack x.outer.items)) → Leaves r n (call p i label s o t at)
-call_argument r n x p i label s o tokens.Close at a e h = absurd (a refl)
-call_argument r n x p i label s o t at a e h =
-    let inner_is : fresh (InCall p i label []) ≡ open_shape x.inner = ap inner_of e in
+-- the first term of a list begins in a new sequence
+pub list_term : (r : Result (Unit {0}) Stop) (n x : State) (target : TargetShape) (s : OpenShape) (o : List OpenShape) (t : Token) (at : ℕ) → t ≢ tokens.Close
+    → opened (InList target []) s o ≡ Some (state_shape x) → Leaves r n (changed (begin t at) (open_shape x.inner) (stack x.outer.items)) → Leaves r n (listing target s o t at)
+list_term r n x target s o tokens.Close at a e h = absurd (a refl)
+list_term r n x target s o t at a e h =
+    let inner_is : fresh (InList target []) ≡ open_shape x.inner = ap inner_of e in
     let outer_is : s ∷ o ≡ stack x.outer.items = ap outer_of e in
     subst (λ (m : OpenShape). Leaves r n (changed (begin t at) m (s ∷ o))) (sym inner_is)
     (subst (λ (q : List OpenShape). Leaves r n (changed (begin t at) (open_shape x.inner) q)) (sym outer_is) h)

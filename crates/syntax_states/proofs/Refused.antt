@@ -1,5 +1,5 @@
 -- What the machine does with the tokens that a mode does not ask for.
-use Rattle.std.proofs.Common.{◌≡◌, ◌≢◌, ℕ, List, [], ◌∷◌, ◌++◌, Some, None, Bool, refl}
+use Rattle.std.proofs.Common.{◌≡◌, ◌≢◌, ℕ, List, [], ◌∷◌, Some, None, Bool, refl}
 use Rattle.asp_model.specs.Names.{Text}
 use Rattle.asp_model.specs.Term.{MethodHead}
 use Rattle.asp_model.specs.Marked.{Marked}
@@ -11,9 +11,9 @@ use Rattle.open_terms.specs.Shapes.{kind_shape}
 use Rattle.asp_tokens.specs.declared.token.Token.{Token}
 use Rattle.asp_tokens.specs.declared.token.Token.TheVariants as tokens
 use Rattle.asp_grammar.specs.Nodes.{PartShape, ObjectShape, LabelsShape}
-use Rattle.asp_grammar.specs.States.{KindShape, InCall, OpenShape, OperandShape, ByRound, ByBrace, ByEquals, At, Begin, fresh, operand_part, with_next, without_puts}
-use Rattle.asp_grammar.specs.Changes.{changed, operand, begin, opening, dotted, let_named, else_came, echo_opened, echo_read, echo_closed, field_named, object_begun, method_named, method_opened, self_named, head_goes_on, parameter_named, service_named, service_closed, serve_opened, serve_begun, label_named, labels_go_on}
-use Rattle.asp_grammar.specs.Machine.{next_term, behind, have, call}
+use Rattle.asp_grammar.specs.States.{TargetShape, KindShape, InList, OpenShape, OperandShape, ByRound, ByBrace, ByEquals, ByComma, At, Begin, fresh, operand_part, with_next, without_puts}
+use Rattle.asp_grammar.specs.Changes.{changed, operand, begin, opening, dotted, let_named, else_came, echo_opened, echo_read, echo_closed, field_named, object_begun, method_named, method_opened, self_named, head_goes_on, parameter_named, service_named, service_closed, group_opened, scatter_named, serve_opened, serve_begun, label_named, labels_go_on}
+use Rattle.asp_grammar.specs.Machine.{next_term, behind, have, listing}
 
 pub have_other : (rule : Bool) (x : OperandShape) (s : OpenShape) (o : List OpenShape) (t : Token) → t ≢ tokens.Open → have rule x s o t ≡ behind rule (operand_part x) s o t
 have_other rule x s o tokens.Open h = absurd (h refl)
@@ -23,10 +23,10 @@ pub begin_other : (t : Token) (at : ℕ) → t ≢ tokens.Let → begin t at ≡
 begin_other tokens.Let at h = absurd (h refl)
 begin_other _ at h = refl
 
-pub call_other : (p : PartShape) (label_at : ℕ) (label : Text) (s : OpenShape) (o : List OpenShape) (t : Token) (at : ℕ) → t ≢ tokens.Close
-    → call p label_at label s o t at ≡ changed (begin t at) (fresh (InCall p label_at label [])) (s ∷ o)
-call_other p label_at label s o tokens.Close at h = absurd (h refl)
-call_other p label_at label s o _ at h = refl
+pub list_other : (target : TargetShape) (s : OpenShape) (o : List OpenShape) (t : Token) (at : ℕ) → t ≢ tokens.Close
+    → listing target s o t at ≡ changed (begin t at) (fresh (InList target [])) (s ∷ o)
+list_other target s o tokens.Close at h = absurd (h refl)
+list_other target s o _ at h = refl
 
 pub object_other : (x : ObjectShape) (t : Token) (at : ℕ) → t ≢ tokens.Semicolon → t ≢ tokens.SquareClose → object_begun x t at ≡ field_named x t at
 object_other x tokens.Semicolon at g h = absurd (g refl)
@@ -45,6 +45,10 @@ pub equals_other : (k : KindShape) (t : Token) → t ≢ tokens.Equals → openi
 equals_other k tokens.Equals h = absurd (h refl)
 equals_other k _ h = refl
 
+pub comma_other : (k : KindShape) (t : Token) → t ≢ tokens.Comma → opening ByComma k t ≡ None
+comma_other k tokens.Comma h = absurd (h refl)
+comma_other k _ h = refl
+
 pub dotted_other : (p : PartShape) (t : Token) (at : ℕ) → ((w : Text) → t ≢ tokens.Name w) → dotted p t at ≡ None
 dotted_other p (tokens.Name w) at h = absurd (h w refl)
 dotted_other p _ at h = refl
@@ -60,6 +64,14 @@ service_other at u _ name_at h = refl
 pub service_close_other : (at : ℕ) (u : Marked) (label_at : ℕ) (label : Text) (t : Token) → t ≢ tokens.Close → service_closed at u label_at label t ≡ None
 service_close_other at u label_at label tokens.Close h = absurd (h refl)
 service_close_other at u label_at label _ h = refl
+
+pub group_other : (at : ℕ) (t : Token) → t ≢ tokens.Open → group_opened at t ≡ None
+group_other at tokens.Open h = absurd (h refl)
+group_other at _ h = refl
+
+pub scatter_other : (at : ℕ) (u : Marked) (t : Token) (name_at : ℕ) → ((w : Text) → t ≢ tokens.Name w) → scatter_named at u t name_at ≡ None
+scatter_other at u (tokens.Name w) name_at h = absurd (h w refl)
+scatter_other at u _ name_at h = refl
 
 pub serve_other : (at : ℕ) (t : Token) → t ≢ tokens.Open → serve_opened at t ≡ None
 serve_other at tokens.Open h = absurd (h refl)

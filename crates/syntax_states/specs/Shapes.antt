@@ -1,6 +1,5 @@
 -- What the functions of the machine see of its states.
-use Rattle.open_terms.specs.declared.open.Field.{Field}
-use Rattle.open_terms.specs.Shapes.{part_shape, field_part, kind_shape, open_shape, stack, labels_shape, object_shape, head_shape}
+use Rattle.open_terms.specs.Shapes.{part_shape, target_shape, kind_shape, open_shape, stack, labels_shape, object_shape, head_shape}
 use Rattle.asp_model.specs.Shapes.{marked_of}
 use Rattle.asp_grammar.specs.States.{OperandShape, OpenerShape, ModeShape, StateShape}
 use Rattle.asp_grammar.specs.States as states
@@ -20,17 +19,20 @@ abbrev pub opener_shape : Opener → OpenerShape
 opener_shape opener.ByRound = states.ByRound
 opener_shape opener.ByBrace = states.ByBrace
 opener_shape opener.ByEquals = states.ByEquals
+opener_shape opener.ByComma = states.ByComma
 
 abbrev pub mode_shape : Mode → ModeShape
 mode_shape mode.Begin = states.Begin
 mode_shape mode.Want = states.Want
 mode_shape (mode.Have x) = states.Have (operand_shape x)
 mode_shape (mode.Dotted p) = states.Dotted (part_shape p)
-mode_shape (mode.Called f) = states.Called (part_shape f.receiver) f.at f.label.text
+mode_shape (mode.ListBegun x) = states.ListBegun (target_shape x)
 mode_shape (mode.Opening x k) = states.Opening (opener_shape x) (kind_shape k)
 mode_shape (mode.LetNaming at) = states.LetNaming at
 mode_shape (mode.ServiceNaming at t) = states.ServiceNaming at (marked_of t.value)
 mode_shape (mode.ServiceNamed s) = states.ServiceNamed s.at (marked_of s.object.value) s.label_at s.label.text
+mode_shape (mode.GroupOpening at) = states.GroupOpening at
+mode_shape (mode.ScatterNaming at t) = states.ScatterNaming at (marked_of t.value)
 mode_shape (mode.ServeOpening at) = states.ServeOpening at
 mode_shape (mode.ServeBegun x) = states.ServeBegun (labels_shape x)
 mode_shape (mode.LabelNaming x) = states.LabelNaming (labels_shape x)

@@ -3,7 +3,7 @@
 ghost use Rattle.std.specs.Prelude.{◌≡◌};
 ghost use Rattle.asp_model.specs.Shapes.{marked_of};
 ghost use Rattle.asp_grammar.specs.States as states;
-ghost use Rattle.asp_grammar.specs.Changes.{dotted as dotted_change, let_named as let_change, else_came as else_change, echo_opened as echo_open_change, echo_read as echo_read_change, echo_closed as echo_close_change, service_named as service_change, service_closed as closed_change, serve_opened as opened_change, serve_begun as begun_change, label_named as label_change, labels_go_on as labels_change};
+ghost use Rattle.asp_grammar.specs.Changes.{dotted as dotted_change, let_named as let_change, else_came as else_change, echo_opened as echo_open_change, echo_read as echo_read_change, echo_closed as echo_close_change, group_opened as group_change, scatter_named as scatter_change, service_named as service_change, service_closed as closed_change, serve_opened as opened_change, serve_begun as begun_change, label_named as label_change, labels_go_on as labels_change};
 ghost use Rattle.open_terms.specs.Shapes.{part_shape, labels_shape};
 ghost use Rattle.syntax_states.specs.Shapes.{mode_shape};
 ghost use Rattle.syntax_states.specs.Answers.{Becomes, plain_change};
@@ -16,8 +16,8 @@ use crate::state::{Mode, Opener, Operand};
 use asp_model::{Label, Term, Word};
 use asp_tokens::Token;
 use open_terms::{
-    Choice, Field, Kind, Labels, Part, Service, Stop, active_with, echo, new_labels, refused,
-    served, stopped, with_label,
+    Choice, Field, Kind, Labels, Part, Scatter, Service, Stop, Target, active_with, echo,
+    new_labels, refused, served, stopped, with_label,
 };
 use std::alloc::Global;
 
@@ -28,12 +28,14 @@ pub fn change(alloc: Global, mode: Mode, token: Token, at: usize) -> Result<Mode
     match mode {
         Mode::Begin | Mode::Want => refused(token),
         Mode::Have(operand) => refused((operand, token)),
-        Mode::Called(method) => refused((method, token)),
+        Mode::ListBegun(target) => refused((target, token)),
         Mode::Opening(_, kind) => refused((kind, token)),
         Mode::Dotted(part) => dotted(part, token, at),
         Mode::LetNaming(let_at) => let_named(let_at, token, at),
         Mode::ServiceNaming(active_at, object) => service_named(active_at, object, token, at),
         Mode::ServiceNamed(service) => service_closed(alloc, service, token),
+        Mode::GroupOpening(group_at) => group_opened(group_at, token),
+        Mode::ScatterNaming(scatter_at, group) => scatter_named(scatter_at, group, token, at),
         Mode::ServeOpening(serve_at) => serve_opened(alloc, serve_at, token),
         Mode::ServeBegun(labels) => serve_begun(alloc, labels, token, at),
         Mode::LabelNaming(labels) => label_named(labels, token, at),
@@ -161,6 +163,37 @@ fn service_closed(alloc: Global, service: Service, token: Token) -> Result<Mode,
     match token {
         Token::Close => Ok(plain(active_with(alloc, service)?)),
         other => refused((service, other)),
+    }
+}
+
+// The bracket behind a `group`.
+#[tactic(auto, using(crate::proofs::Refused::group_other))]
+fn group_opened(group_at: usize, token: Token) -> Result<Mode, Stop>
+    ensures { Becomes result (group_change group_at token) }
+{
+    match token {
+        Token::Open => Ok(Mode::ListBegun(Target::Group(group_at))),
+        other => refused(other),
+    }
+}
+
+// The label behind the first group of a `scatter`.
+#[tactic(auto, using(crate::proofs::Refused::scatter_other))]
+fn scatter_named(at: usize, group: Box<Term>, token: Token, label_at: usize) -> Result<Mode, Stop>
+    ensures { Becomes result (scatter_change at (marked_of group.value) token label_at) }
+{
+    match token {
+        Token::Name(name) => {
+            let label = Label { text: name };
+            let scatter = Scatter {
+                at,
+                group,
+                label_at,
+                label,
+            };
+            Ok(Mode::Opening(Opener::ByComma, Kind::InArguments(scatter)))
+        }
+        other => refused((group, other)),
     }
 }
 

@@ -16,9 +16,9 @@ use crate::change::plain;
 use crate::state::{Mode, Opener, State, again, back, enter};
 use asp_model::{Label, Term};
 use open_terms::{
-    Binding, Choice, Kind, Object, Open, Part, Stop, active, binding, called, choice, enclose,
-    first_start, made, refused, stopped, term_in, value_of, with_field, with_method, with_term,
-    wrapped,
+    Binding, Choice, Kind, Listing, Object, Open, Part, Scatter, Stop, active, binding, choice,
+    enclose, first_start, listed, made, member, refused, scatter, stopped, term_in, value_of,
+    with_field, with_method, with_term, wrapped,
 };
 use std::alloc::{AllocError, Global};
 use std::mem;
@@ -157,10 +157,12 @@ fn closing_round(alloc: Global, over: Finished) -> Result<Mode, Stop>
             let kind = Kind::InThen(at, value.term);
             Ok(Mode::Opening(Opener::ByBrace, kind))
         }
-        Kind::InCall(mut call) => match with_term(&mut call.arguments, value.term) {
-            Ok(()) => Ok(plain(called(alloc, call)?)),
-            Err(_) => stopped(call, Stop::Memory),
+        Kind::InList(mut listing) => match with_term(&mut listing.terms, value.term) {
+            Ok(()) => Ok(plain(listed(alloc, listing)?)),
+            Err(_) => stopped(listing, Stop::Memory),
         },
+        Kind::InArguments(begun) => Ok(plain(scatter(alloc, begun, value.term)?)),
+        Kind::InIndex(at, group) => Ok(plain(member(alloc, at, group, value.term)?)),
         other => refused((other, value)),
     }
 }
@@ -209,9 +211,11 @@ fn closing_comma(over: Finished) -> Result<Closing, Stop>
     let Finished { kind, value } = over;
     match kind {
         Kind::InActive(at) => Ok(Closing::Back(Mode::ServiceNaming(at, value.term))),
-        Kind::InCall(mut call) => match with_term(&mut call.arguments, value.term) {
-            Ok(()) => Ok(Closing::Again(Kind::InCall(call))),
-            Err(_) => stopped(call, Stop::Memory),
+        Kind::InScatter(at) => Ok(Closing::Back(Mode::ScatterNaming(at, value.term))),
+        Kind::InMember(at) => Ok(Closing::Again(Kind::InIndex(at, value.term))),
+        Kind::InList(mut listing) => match with_term(&mut listing.terms, value.term) {
+            Ok(()) => Ok(Closing::Again(Kind::InList(listing))),
+            Err(_) => stopped(listing, Stop::Memory),
         },
         Kind::InField(mut object, label) => match with_field(&mut object, label, value.term) {
             Ok(()) => Ok(Closing::Back(Mode::FieldNaming(object))),

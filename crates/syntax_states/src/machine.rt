@@ -9,8 +9,8 @@ ghost use Rattle.asp_grammar.specs.States.{operand_part as part_of, test_in as t
 ghost use Rattle.asp_grammar.specs.States as states;
 ghost use Rattle.asp_grammar.specs.Depth.{parentheses_of, parentheses_in};
 ghost use Rattle.asp_grammar.specs.Changes.{changed, call_begun as call_change, begin as begin_change, operand as operand_change, opening as opening_change};
-ghost use Rattle.asp_grammar.specs.Machine.{call as call_state, have as have_state, behind as behind_state, step as step_state, times as times_state, plus as plus_state, test_behind as test_state, assign as assign_state};
-ghost use Rattle.open_terms.specs.Shapes.{part_shape, kind_shape, open_shape, stack};
+ghost use Rattle.asp_grammar.specs.Machine.{listing as list_state, have as have_state, behind as behind_state, step as step_state, times as times_state, plus as plus_state, test_behind as test_state, assign as assign_state};
+ghost use Rattle.open_terms.specs.Shapes.{part_shape, target_shape, kind_shape, open_shape, stack};
 ghost use Rattle.syntax_states.specs.Shapes.{operand_shape, opener_shape, mode_shape, state_shape};
 ghost use Rattle.syntax_states.specs.Answers.{Becomes, Leaves, Follows, Steps, IsOpener, plain_operand, plain_behind};
 
@@ -20,8 +20,8 @@ use crate::state::{Mode, Opener, Operand, State, enter, open};
 use asp_model::{Sign, Term};
 use asp_tokens::Token;
 use open_terms::{
-    Call, Field, Kind, Part, Stop, Wrap, add, assign, called, compare, got, multiply, new_object,
-    number, refused, stopped, variable,
+    Kind, Listing, Part, Stop, Target, Wrap, add, assign, compare, got, listed, multiply,
+    new_object, number, refused, stopped, variable,
 };
 use std::alloc::{AllocError, Global};
 use std::mem;
@@ -43,7 +43,7 @@ pub fn step(
         Mode::Begin => begin(alloc, state, token, at)?,
         Mode::Want => operand(alloc, state, token, at)?,
         Mode::Have(operand) => return have(alloc, state, operand, token),
-        Mode::Called(method) => call(alloc, state, method, token, at)?,
+        Mode::ListBegun(target) => listing(alloc, state, target, token, at)?,
         Mode::Opening(opener, kind) => opening(alloc, state, opener, kind, token)?,
         other => enter(&mut state.mode, change(alloc, other, token, at)?),
     }
@@ -98,6 +98,11 @@ fn operand_mode(alloc: Global, token: Token, at: usize) -> Result<Mode, Stop>
         Token::Print => Ok(round(Kind::InWord(Wrap::Print, at))),
         Token::If => Ok(round(Kind::InCondition(at))),
         Token::Echo => Ok(Mode::EchoOpening(at)),
+        Token::Group => Ok(Mode::GroupOpening(at)),
+        Token::Scatter => Ok(round(Kind::InScatter(at))),
+        Token::Size => Ok(round(Kind::InWord(Wrap::Size, at))),
+        Token::Member => Ok(round(Kind::InMember(at))),
+        Token::WaitAll => Ok(round(Kind::InWord(Wrap::WaitAll, at))),
         Token::Text(_)
         | Token::Open
         | Token::Close
@@ -119,11 +124,6 @@ fn operand_mode(alloc: Global, token: Token, at: usize) -> Result<Mode, Stop>
         | Token::Let
         | Token::In
         | Token::Else
-        | Token::Group
-        | Token::Scatter
-        | Token::Size
-        | Token::Member
-        | Token::WaitAll
         | Token::Pending
         | Token::End
         | Token::BadByte
@@ -146,6 +146,7 @@ fn is_opener(opener: Opener, token: &Token) -> bool
         Opener::ByRound => matches!(token, Token::Open),
         Opener::ByBrace => matches!(token, Token::BraceOpen),
         Opener::ByEquals => matches!(token, Token::Equals),
+        Opener::ByComma => matches!(token, Token::Comma),
     }
 }
 
@@ -169,30 +170,28 @@ fn opening(
     }
 }
 
-// The first token of a call's list, or its end.
-#[tactic(auto, using(crate::proofs::Others::call_argument))]
-fn call(
+// The first token of a list of terms, or its end.
+#[tactic(auto, using(crate::proofs::Others::list_term))]
+fn listing(
     alloc: Global,
     state: &mut State,
-    method: Field,
+    target: Target,
     token: Token,
     at: usize,
 ) -> Result<(), Stop>
     ensures { let inner = open_shape state.old.inner in
-        let outer = stack state.old.outer.items in
-        let receiver = part_shape method.receiver in
-        let next = call_state receiver method.at method.label.text inner outer token at in
+        let next = list_state (target_shape target) inner (stack state.old.outer.items) token at in
         Leaves result state.new next }
 {
-    let arguments = Vec::new(alloc);
-    let call = Call { method, arguments };
+    let terms = Vec::new(alloc);
+    let listing = Listing { target, terms };
     match token {
         Token::Close => {
-            let mode = plain(called(alloc, call)?);
+            let mode = plain(listed(alloc, listing)?);
             enter(&mut state.mode, mode);
             Ok(())
         }
-        other => match open(alloc, state, Kind::InCall(call)) {
+        other => match open(alloc, state, Kind::InList(listing)) {
             Ok(()) => begin(alloc, state, other, at),
             Err(_) => stopped(other, Stop::Memory),
         },
@@ -235,7 +234,7 @@ fn call_begun(state: &mut State, operand: Operand) -> Result<(), Stop>
     match operand {
         Operand::Plain(part) => refused(part),
         Operand::Access(method) => {
-            enter(&mut state.mode, Mode::Called(method));
+            enter(&mut state.mode, Mode::ListBegun(Target::Call(method)));
             Ok(())
         }
     }

@@ -11,7 +11,7 @@ ghost use Rattle.syntax_states.specs.Answers.{Leaves};
 
 use asp_model::{Label, Term, Word};
 use open_terms::{
-    Choice, Field, Head, Kind, Labels, Object, Open, Part, Service, Stop, fresh, refused,
+    Choice, Field, Head, Kind, Labels, Object, Open, Part, Service, Stop, Target, fresh, refused,
 };
 use std::alloc::{AllocError, Global};
 use std::mem;
@@ -29,6 +29,7 @@ pub enum Opener {
     ByRound,
     ByBrace,
     ByEquals,
+    ByComma,
 }
 
 /// What the last token asks for, or made.
@@ -41,13 +42,16 @@ pub enum Mode {
     /// An operand was read.
     Have(Operand),
     Dotted(Part),
-    /// The bracket of a call was read.
-    Called(Field),
+    /// The bracket of a call or a group was read.
+    ListBegun(Target),
     Opening(Opener, Kind),
     LetNaming(usize),
     /// The label of the service that an `active` begins with has to come.
     ServiceNaming(usize, Box<Term>),
     ServiceNamed(Service),
+    GroupOpening(usize),
+    /// The label behind the first group of a `scatter` has to come.
+    ScatterNaming(usize, Box<Term>),
     ServeOpening(usize),
     ServeBegun(Labels),
     LabelNaming(Labels),
@@ -104,7 +108,11 @@ fn first_mode(kind: &Kind) -> Mode
         | Kind::InCondition(_)
         | Kind::InThen(_, _)
         | Kind::InElse(_)
-        | Kind::InCall(_)
+        | Kind::InList(_)
+        | Kind::InScatter(_)
+        | Kind::InArguments(_)
+        | Kind::InMember(_)
+        | Kind::InIndex(_, _)
         | Kind::InBinding(_, _, _)
         | Kind::InBody(_)
         | Kind::InMethod(_, _) => Mode::Begin,

@@ -1,101 +1,132 @@
-//! The nodes of groups, as text.
+//! Groups as texts: read with their marks, and printed.
 
-use asp_model::{Label, Mark, Program, Term, Word};
 use asp_print::print_program;
+use asp_syntax::{SyntaxError, SyntaxFault, SyntaxKind, read_program};
 use std::alloc::{AllocError, Global};
 
-fn word(alloc: Global, text: &str) -> Result<Word, AllocError> {
-    let mut name = String::new(alloc);
-    name.push_str(text)?;
-    Ok(Word::new(name))
+fn shown(alloc: Global, text: &str) -> Result<String, SyntaxError> {
+    let program = read_program(alloc, text.as_bytes())?;
+    Ok(format!(in alloc; "{:?}", program.root)?)
 }
 
-fn boxed(alloc: Global, term: Term) -> Result<Box<Term>, AllocError> {
-    Ok(Box::new(alloc, term)?)
+fn printed(alloc: Global, text: &str) -> Result<String, SyntaxError> {
+    let program = read_program(alloc, text.as_bytes())?;
+    Ok(print_program(alloc, &program)?)
 }
 
-fn named(alloc: Global, name: &str) -> Result<Box<Term>, AllocError> {
-    let name = word(alloc, name)?;
-    boxed(alloc, Term::Var(name, Mark::blank(alloc)))
-}
-
-fn both(alloc: Global, first: Box<Term>, second: Box<Term>) -> Result<Vec<Term>, AllocError> {
-    let mut terms = Vec::new(alloc);
-    terms.push(Box::into_inner(first))?;
-    terms.push(Box::into_inner(second))?;
-    Ok(terms)
-}
-
-fn group(alloc: Global) -> Result<Box<Term>, AllocError> {
-    let members = both(alloc, named(alloc, "a")?, named(alloc, "b")?)?;
-    boxed(alloc, Term::Group(members, Mark::blank(alloc)))
-}
-
-fn size(alloc: Global) -> Result<Box<Term>, AllocError> {
-    let group = named(alloc, "g")?;
-    boxed(alloc, Term::Size(group, Mark::blank(alloc)))
-}
-
-fn wait(alloc: Global) -> Result<Box<Term>, AllocError> {
-    let group = named(alloc, "g")?;
-    boxed(alloc, Term::WaitAll(group, Mark::blank(alloc)))
-}
-
-fn member(alloc: Global) -> Result<Box<Term>, AllocError> {
-    let group = named(alloc, "g")?;
-    let place = named(alloc, "i")?;
-    boxed(alloc, Term::Member(group, place, Mark::blank(alloc)))
-}
-
-fn scatter(alloc: Global) -> Result<Box<Term>, AllocError> {
-    let first = named(alloc, "g")?;
-    let second = named(alloc, "h")?;
-    let label = Label {
-        text: word(alloc, "m")?,
-    };
-    boxed(
-        alloc,
-        Term::Scatter(first, label, second, Mark::blank(alloc)),
-    )
-}
-
-// A call of the same label with no argument.
-fn call(alloc: Global) -> Result<Box<Term>, AllocError> {
-    let object = named(alloc, "x")?;
-    let label = Label {
-        text: word(alloc, "m")?,
-    };
-    let none = Vec::new(alloc);
-    boxed(alloc, Term::Call(object, label, none, Mark::blank(alloc)))
-}
-
-fn steps(alloc: Global) -> Result<Box<Term>, AllocError> {
-    let terms = both(alloc, call(alloc)?, scatter(alloc)?)?;
-    boxed(alloc, Term::Steps(terms, Mark::blank(alloc)))
-}
-
-fn printed(alloc: Global, root: Box<Term>) -> Result<String, AllocError> {
-    let root = Box::into_inner(root);
-    print_program(alloc, &Program { root })
+// The first fault of a text.
+fn fault_in(alloc: Global, text: &str) -> Result<Option<SyntaxFault>, AllocError> {
+    match read_program(alloc, text.as_bytes()) {
+        Ok(_) => Ok(None),
+        Err(SyntaxError::Fault(fault)) => Ok(Some(fault)),
+        Err(SyntaxError::Memory) => Err(AllocError),
+    }
 }
 
 #[test]
-fn each_node_of_groups_is_printed(rt: HostRuntime) -> Result<(), AllocError> {
+fn groups_are_read_with_their_marks(rt: HostRuntime) -> Result<(), SyntaxError> {
     let alloc = rt.alloc();
-    assert_eq!(rt; printed(alloc, group(alloc)?)?.as_str(), "group ( a , b )");
-    assert_eq!(rt; printed(alloc, size(alloc)?)?.as_str(), "size ( g )");
-    assert_eq!(rt; printed(alloc, wait(alloc)?)?.as_str(), "waitall ( g )");
-    assert_eq!(rt;
-        printed(alloc, member(alloc)?)?.as_str(),
-        "member ( g , i )"
-    );
+    let rows = [
+        (
+            "group()",
+            "Group([], Mark { at: 0, parentheses: 0, left: 0, names: [] })",
+        ),
+        (
+            "(group(1, (group())))",
+            "Group([\
+             Number(1, Mark { at: 7, parentheses: 0, left: 0, names: [] }), \
+             Group([], Mark { at: 11, parentheses: 1, left: 0, names: [] })], \
+             Mark { at: 1, parentheses: 1, left: 0, names: [] })",
+        ),
+        (
+            "scatter(g, m, (h))",
+            "Scatter(\
+             Var(Word { text: \"g\" }, Mark { at: 8, parentheses: 0, left: 0, names: [] }), \
+             Label { text: Word { text: \"m\" } }, \
+             Var(Word { text: \"h\" }, Mark { at: 15, parentheses: 1, left: 0, names: [] }), \
+             Mark { at: 0, parentheses: 0, left: 0, names: [11] })",
+        ),
+        (
+            "1; member(g, 2)",
+            "Steps([\
+             Number(1, Mark { at: 0, parentheses: 0, left: 0, names: [] }), \
+             Member(\
+             Var(Word { text: \"g\" }, Mark { at: 10, parentheses: 0, left: 0, names: [] }), \
+             Number(2, Mark { at: 13, parentheses: 0, left: 0, names: [] }), \
+             Mark { at: 3, parentheses: 0, left: 0, names: [] })], \
+             Mark { at: 0, parentheses: 0, left: 0, names: [] })",
+        ),
+        (
+            "size(waitall((g)))",
+            "Size(WaitAll(\
+             Var(Word { text: \"g\" }, Mark { at: 14, parentheses: 1, left: 0, names: [] }), \
+             Mark { at: 5, parentheses: 0, left: 0, names: [] }), \
+             Mark { at: 0, parentheses: 0, left: 0, names: [] })",
+        ),
+    ];
+    for (text, want) in rows {
+        assert_eq!(rt; shown(alloc, text)?.as_str(), want);
+    }
     Ok(())
 }
 
 #[test]
-fn a_scatter_is_printed_whatever_its_label_takes(rt: HostRuntime) -> Result<(), AllocError> {
+fn what_is_printed_of_groups_is_read(rt: HostRuntime) -> Result<(), SyntaxError> {
     let alloc = rt.alloc();
-    let text = printed(alloc, steps(alloc)?)?;
-    assert_eq!(rt; text.as_str(), "x . m ( ) ; scatter ( g , m , h )");
+    let rows = [
+        ("group()", "group ( )"),
+        (
+            "group(1,(2;3),group(group(),x))",
+            "group ( 1 , ( 2 ; 3 ) , group ( group ( ) , x ) )",
+        ),
+        ("x.m();scatter(g,m,h)", "x . m ( ) ; scatter ( g , m , h )"),
+        (
+            "scatter((let g=group()in g),m,1;f.l:=h)",
+            "scatter ( ( let g = group ( ) in g ) , m , 1 ; f . l := h )",
+        ),
+        (
+            "size(g)+member(1;g,size(g)-1)",
+            "size ( g ) + member ( 1 ; g , size ( g ) - 1 )",
+        ),
+        (
+            "((waitall(let g=x in g))).m(1)",
+            "( ( waitall ( let g = x in g ) ) ) . m ( 1 )",
+        ),
+    ];
+    for (text, want) in rows {
+        let once = printed(alloc, text)?;
+        assert_eq!(rt; once.as_str(), want);
+        assert_eq!(rt; printed(alloc, &once)?.as_str(), want);
+    }
+    Ok(())
+}
+
+#[test]
+fn a_token_in_the_wrong_place_is_unexpected(rt: HostRuntime) -> Result<(), AllocError> {
+    let alloc = rt.alloc();
+    let rows = [
+        ("pending", 0),
+        ("1 + pending", 4),
+        ("group(pending)", 6),
+        ("group(1,)", 8),
+        ("group 1", 6),
+        ("scatter(1, 2, 3)", 11),
+        ("scatter(1, m)", 12),
+        ("scatter(1, m,)", 13),
+        ("scatter(1, m, 2, 3)", 15),
+        ("size()", 5),
+        ("size(1, 2)", 6),
+        ("member(1)", 8),
+        ("member(1, 2, 3)", 11),
+        ("waitall(1", 9),
+        ("1 waitall", 2),
+    ];
+    for (text, at) in rows {
+        let want = SyntaxFault {
+            at,
+            kind: SyntaxKind::Unexpected,
+        };
+        assert_eq!(rt; fault_in(alloc, text)?, Some(want));
+    }
     Ok(())
 }

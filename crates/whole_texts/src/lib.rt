@@ -1,4 +1,4 @@
-//! Programs that are built by hand, as no text of the grammar has them, printed. Tests alone.
+//! Whole texts, read and printed. Tests alone.
 #![tactic(auto)]
 
 #[cfg(test)]
