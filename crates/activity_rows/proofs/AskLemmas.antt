@@ -1,5 +1,5 @@
 -- Redexes that choose a term, or that may ask something of other activities.
-use Rattle.std.proofs.Common.{◌≡◌, ℕ, List, [], ◌∷◌, Option, sym, ap, subst, ◌∙◌}
+use Rattle.std.proofs.Common.{◌≡◌, ℕ, List, [], ◌∷◌, Option, sym, ap, ◌∙◌}
 use Rattle.asp_model.specs.Names.{Text}
 use Rattle.asp_model.specs.Term.{If, Active, Tree, none, more}
 use Rattle.asp_model.specs.Store.{Store}

@@ -1,3 +1,4 @@
 pub mod ReadLemmas
 pub mod NumberLemmas
 pub mod AskLemmas
+pub mod GroupLemmas

@@ -1,12 +1,9 @@
 -- Strict operands that are read.
-use Rattle.std.proofs.Common.{◌≡◌, ℕ, ℤ, zero, suc, ◌<◌, ◌≤◌, Bool, true, false, List, [], ◌∷◌, Option, Some, None, length, refl, sym, ap, subst, ◌∙◌}
-use Rattle.std.specs.Prelude.{pos}
+use Rattle.std.proofs.Common.{◌≡◌, ℕ, ℤ, Bool, true, false, List, [], ◌∷◌, Option, Some, None, refl, sym, ap, ◌∙◌}
 use Rattle.asp_model.specs.Names.{Text}
-use Rattle.asp_model.specs.Shapes.{sign_shape, fault_shape}
-use Rattle.asp_model.specs.Term.{Head, SignShape, Get, Put, Clone, Active, Operate, Print, Size, Member, WaitAll, If, Scatter, Call, Tree, none, more}
-use Rattle.asp_model.specs.Store as store
+use Rattle.asp_model.specs.Term.{Head, SignShape, Get, Put, Clone, Active, Operate, Print, Size, Member, If, Scatter, Call, Tree, none, more}
 use Rattle.asp_model.specs.Store.{CellShape, Store, Number, Object, Reference, Future, Group, cell}
-use Rattle.asp_model.specs.Contraction.{Contraction, Faults, Needs, NotNumber, NotObject, Communicates, Creates, contract, first_future, is_future, allots, get_row, put_row, active_row, print_row, operate_row, size_row, member_row, wait_row, if_row, scatter_row, call_row}
+use Rattle.asp_model.specs.Contraction.{Contraction, Faults, Needs, NotNumber, Communicates, Creates, contract, first_future, is_future, allots, get_row, put_row, active_row, print_row, operate_row, size_row, member_row, if_row, scatter_row, call_row}
 use Rattle.program_code.specs.declared.code.Class.{Class}
 use Rattle.program_code.specs.declared.code.Node.{Node}
 use Rattle.coded_cells.specs.Cells.{CodedStore, CodedCell, cell_at}
@@ -38,7 +35,7 @@ cell_seen k s p c e = cell-store_of k s p ∙ ap (cell_of k) (sym e)
 
 -- First futures
 
-abbrev first_or : ℕ → Option ℕ → Bool → Option ℕ
+abbrev pub first_or : ℕ → Option ℕ → Bool → Option ℕ
 first_or i o true = Some i
 first_or i o false = o
 
@@ -53,7 +50,7 @@ two_at i j f (Object fields methods) d = one_at j (f (Object fields methods)) d
 two_at i j f (Reference n) d = one_at j (f (Reference n)) d
 two_at i j f (Group ns) d = one_at j (f (Group ns)) d
 
-elim_first : (S : Store) (i : ℕ) (o : Option ℕ) → elim (is_future (cell S i)) [ true ↦ Some i | false ↦ o ] ≡ first_or i o (is_future (cell S i))
+pub elim_first : (S : Store) (i : ℕ) (o : Option ℕ) → elim (is_future (cell S i)) [ true ↦ Some i | false ↦ o ] ≡ first_or i o (is_future (cell S i))
 elim_first S i o = elim (is_future (cell S i)) as (λ (b : Bool). elim b [ true ↦ Some i | false ↦ o ] ≡ first_or i o b) [ true ↦ refl | false ↦ refl ]
 
 pub first_of_one : (S : Store) (i : ℕ) (f : CellShape → Contraction) → needs_or (f (cell S i)) (first_future S (i ∷ [])) ≡ read i f (cell S i)
@@ -64,7 +61,7 @@ first_of_two S i j f =
     ap (needs_or (f (cell S i) (cell S j))) (elim_first S i (first_future S (j ∷ [])) ∙ ap (λ (o : Option ℕ). first_or i o (is_future (cell S i))) (elim_first S j None))
     ∙ two_at i j f (cell S i) (cell S j)
 
-to_needs : (c : Contraction) (o : Option ℕ) → elim o [ Some n ↦ Needs n | None ↦ c ] ≡ needs_or c o
+pub to_needs : (c : Contraction) (o : Option ℕ) → elim o [ Some n ↦ Needs n | None ↦ c ] ≡ needs_or c o
 to_needs c None = refl
 to_needs c (Some n) = refl
 
@@ -117,7 +114,7 @@ then_other S sign n (Number m) h = absurd h
 then_other S sign n (Future f) h = absurd h
 then_other S sign n d h = refl
 
-other_read : (i : ℕ) (f : CellShape → Contraction) (c : CellShape) → IsOther c → read i f c ≡ f c
+pub other_read : (i : ℕ) (f : CellShape → Contraction) (c : CellShape) → IsOther c → read i f c ≡ f c
 other_read i f (Number n) h = absurd h
 other_read i f (Future g) h = absurd h
 other_read i f c h = refl
@@ -165,7 +162,7 @@ two_row k s h ops i j c d f e g g2 r =
     ap (λ (ns : List ℕ). contract (store_of k s) (value_redex h ns)) e ∙ r
     ∙ (λ m. read i (λ x. read j (f x) (cell_seen k s j d g2 m)) (cell_seen k s i c g m))
 
-number_read : (i : ℕ) (f : CellShape → Contraction) (c : CellShape) (n : ℤ) → c ≡ Number n → read i f c ≡ f c
+pub number_read : (i : ℕ) (f : CellShape → Contraction) (c : CellShape) (n : ℤ) → c ≡ Number n → read i f c ≡ f c
 number_read i f c n h = ap (read i f) h ∙ sym (ap f h)
 
 pub seen_read : (i : ℕ) (f : CellShape → Contraction) (c : CellShape) (x : Seen) → IsSeen c x → read i f c ≡ seen_or i (f c) x

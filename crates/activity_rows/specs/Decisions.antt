@@ -1,5 +1,5 @@
 -- The contraction that a decision stands for.
-use Rattle.std.specs.Prelude.{◌≡◌, ℕ, List, [], ◌∷◌, Option, Some, None, Bool, true, false, length}
+use Rattle.std.specs.Prelude.{◌≡◌, ℕ, List, [], ◌∷◌, Option, Some, None, length}
 use Rattle.asp_model.specs.Names.{Text}
 use Rattle.asp_model.specs.Shapes.{fault_shape}
 use Rattle.asp_model.specs.Store as store

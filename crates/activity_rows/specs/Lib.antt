@@ -2,5 +2,6 @@
 pub mod Numbers
 pub mod Decisions
 pub mod Sights
+pub mod Groups
 pub mod Asks
 pub mod Redexes

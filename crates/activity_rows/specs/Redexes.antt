@@ -1,5 +1,5 @@
 -- The redex of the definition that is told.
-use Rattle.std.specs.Prelude.{◌≡◌, ℕ, List, [], ◌∷◌, map}
+use Rattle.std.specs.Prelude.{◌≡◌, List, [], ◌∷◌, map}
 use Rattle.std.specs.Option.{option_map}
 use Rattle.asp_model.specs.Term as term
 use Rattle.asp_model.specs.Term.{Tree, none, more}

@@ -1,5 +1,5 @@
 -- What strict operands are seen as.
-use Rattle.std.specs.Prelude.{◌≡◌, ℕ, List, [], ◌∷◌}
+use Rattle.std.specs.Prelude.{◌≡◌, ℕ}
 use Rattle.asp_model.specs.Names.{FutureShape}
 use Rattle.asp_model.specs.Term.{SignShape, Tree}
 use Rattle.asp_model.specs.Store.{CellShape, Store, Number, Future}

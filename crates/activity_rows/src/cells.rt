@@ -1,6 +1,6 @@
 //! Cells and operands as they are read.
 
-ghost use Rattle.std.specs.Prelude.{◌≡◌, ◌∷◌, [], IfSome};
+ghost use Rattle.std.specs.Prelude.{◌≡◌, ◌≤◌, ◌∷◌, [], IfNone, IfSome, length};
 ghost use Rattle.coded_cells.specs.Cells.{cell_at, coded};
 
 use coded_cells::{Cell, Place};
@@ -9,6 +9,7 @@ use coded_store::Store;
 /// The cell at a place.
 pub fn look<'a>(store: &'a Store, loc: Place) -> Option<&'a Cell>
     ensures cell { IfSome result (λ c. coded c.now ≡ cell_at store.now.cells loc) }
+    ensures none { IfNone result (length store.now.cells ≤ loc) }
 {
     if loc < store.len() {
         Some(store.cell(loc))

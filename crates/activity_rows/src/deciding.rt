@@ -7,6 +7,7 @@ ghost use Rattle.coded_cells.specs.Shapes.{store_of};
 ghost use Rattle.activity_rows.specs.Decisions.{decided, value_redex};
 
 use crate::decision::Decision;
+use crate::groups::{member_row, size_row, wait_row};
 use crate::rows::{clone_row, get_row, operate_row, print_row, put_row};
 use coded_cells::Place;
 use coded_store::Store;
@@ -30,6 +31,9 @@ pub fn decide(
         Kind::Clone => clone_row(store, operands),
         Kind::Operate(sign) => operate_row(store, *sign, operands),
         Kind::Print => print_row(store, operands),
+        Kind::Size => size_row(store, operands),
+        Kind::Member => member_row(store, operands),
+        Kind::WaitAll => wait_row(store, operands),
         _ => Err(AllocError),
     }
 }

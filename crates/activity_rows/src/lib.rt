@@ -7,6 +7,7 @@ mod cells;
 mod deciding;
 mod decision;
 mod fields;
+mod groups;
 mod numbers;
 mod redex;
 mod rows;
@@ -18,6 +19,9 @@ pub use cells::{look, one, two};
 pub use deciding::decide;
 pub use decision::Decision;
 pub use fields::{get, put};
+pub use groups::{
+    Scattering, SeenGroup, first_future, group_of, member_row, scatter_row, size_row, wait_row,
+};
 pub use numbers::operate;
 pub use redex::Redex;
 pub use rows::{Operand, clone_row, get_row, one_operand, operate_row, print_row, put_row};

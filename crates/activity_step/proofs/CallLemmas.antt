@@ -19,24 +19,29 @@ use Rattle.activity_rows.specs.declared.calls.Callee.TheVariants as callee
 use Rattle.activity_rows.specs.declared.decision.Decision.{Decision}
 use Rattle.activity_rows.specs.Decisions.{Leads, decided, read, value_redex}
 use Rattle.activity_rows.proofs.ReadLemmas.{call_reads}
-use Rattle.machine_frames.specs.Rows.{AtNode, IsAtRedex, Contracts, called_view, is_simple}
+use Rattle.machine_frames.specs.Rows.{Contracts, called_view}
 use Rattle.machine_frames.specs.Stacks.{last}
 use Rattle.machine_frames.specs.Standing.{View, Standing}
 use Rattle.machine_frames.specs.Items.{contexts_of}
+use Rattle.machine_frames.specs.Spreads.{IsAtCall, spread_view}
+use Rattle.machine_frames.specs.declared.frames.Spread.TheVariants as spread
+use Rattle.machine_frames.proofs.SpreadLemmas.{group_call}
 use Rattle.machine_frames.specs.declared.frames.Focus.TheVariants as focus
-use Rattle.machine_frames.proofs.RowLemmas.{AtAsked, asked, call_enters, call_row_here, value_row}
+use Rattle.machine_frames.proofs.RowLemmas.{AtAsked, asked, call_enters}
 use Rattle.asp_model.specs.Split.{Splits}
 use Rattle.activity_step.specs.Called.{IsCalled}
 
-pub call_at : (k : List Node) (v : View) (number from n : ℕ) (x : Node) (l : Label) (t : Tree) (vs : List ServiceShape) → Standing k v t vs → AtNode k v number from n x → x.kind ≡ kind.Call l → IsAtRedex k v t vs n (value_redex (Call l.text) (last n v.operands))
-call_at k v number from n x l t vs h at is =
-    subst (λ (q : Kind). IsAtRedex k v t vs n (value_redex (kind_head q) (last n v.operands))) is (value_row k v number from n x t vs h at.focus at.full at.node (ap is_simple is))
+pub method_contracts : (k : List Node) (v : View) (number n : ℕ) (l : Text) (t : Tree) (vs : List ServiceShape) (q : CodedStore) (m : Bor MethodCode) (cs : Bor (List ℕ)) → IsAtCall k v number n l t vs → IsCalled k q l (last n v.operands) (callee.Method m cs)
+    → Contracts k t vs (store_of k q) (store_of k q) [] (called_view n cs.now m.now.body v)
+method_contracts k v number n l t vs q m cs a w =
+    let leads : Leads k (cell_at q w.at) l (length w.arguments) m.now cs.now = w.callee in
+    call_enters k v n w.at w.arguments l t vs (store_of k q) a.below (a.splits ∙ ap (λ (ns : List ℕ). Splits (contexts_of a.below.items) (value_redex (Call l) ns)) w.operands_are)
+    w.operands_are leads.fields leads.methods (cell-store_of k q w.at ∙ leads.cell_is) m.now cs.now leads.found leads.sound leads.size leads.arity
 
-pub method_contracts : (k : List Node) (v : View) (number from n : ℕ) (x : Node) (l : Label) (t : Tree) (vs : List ServiceShape) (q : CodedStore) (m : Bor MethodCode) (cs : Bor (List ℕ)) → Standing k v t vs → AtNode k v number from n x → x.kind ≡ kind.Call l
-    → IsCalled k q l.text (last n v.operands) (callee.Method m cs) → Contracts k t vs (store_of k q) (store_of k q) [] (called_view n cs.now m.now.body v)
-method_contracts k v number from n x l t vs q m cs h at is w =
-    let leads : Leads k (cell_at q w.at) l.text (length w.arguments) m.now cs.now = w.callee in
-    call_row_here k v number from n w.at w.arguments l x t vs (store_of k q) h at.focus at.full at.node is w.operands_are leads.fields leads.methods (cell-store_of k q w.at ∙ leads.cell_is) m.now cs.now leads.found leads.sound leads.size leads.arity
+-- a call on a group becomes a call of each member
+pub members_contract : (k : List Node) (v : View) (number n : ℕ) (l : Text) (t : Tree) (vs : List ServiceShape) (q : CodedStore) (ns : Bor (List ℕ)) → IsAtCall k v number n l t vs → IsCalled k q l (last n v.operands) (callee.Members ns)
+    → Contracts k t vs (store_of k q) (store_of k q) [] (spread_view spread.Same number n ns.now [] v)
+members_contract k v number n l t vs q ns a w = group_call k v number n w.at w.arguments ns.now l t vs (store_of k q) a w.operands_are (cell-store_of k q w.at ∙ w.callee)
 
 reads : (k : List Node) (q : CodedStore) (l : Text) (ops : List ℕ) (c : Callee) (w : IsCalled k q l ops c) → contract (store_of k q) (value_redex (Call l) ops) ≡ read w.at (call_row (store_of k q) l w.at w.arguments) (cell_of k (cell_at q w.at))
 reads k q l ops c w =

@@ -5,7 +5,7 @@ use Rattle.std.specs.Borrow.{Bor}
 use Rattle.std.specs.Option.{option_map}
 use Rattle.asp_model.specs.Names.{Text}
 use Rattle.asp_model.specs.declared.word.Label.{Label}
-use Rattle.asp_model.specs.Term.{Call, If, Let, Repeat, Steps, more, none}
+use Rattle.asp_model.specs.Term.{Call, Group, If, Let, Repeat, Steps, more, none}
 use Rattle.asp_model.specs.Split.{Splits}
 use Rattle.asp_model.specs.Configuration as model
 use Rattle.program_code.specs.declared.code.Kind.{Kind}
@@ -18,6 +18,11 @@ use Rattle.code_laws.specs.Nodes.{after, in_place, nth, operand_count, redex_in}
 use Rattle.code_laws.proofs.BranchLemmas.{let_enters, repetition_goes_on, sequence_goes_on}
 use Rattle.machine_frames.specs.Sequences.{later}
 use Rattle.machine_frames.specs.Items.{contexts_of}
+use Rattle.machine_frames.specs.Calls.{called_label}
+use Rattle.machine_frames.specs.Spreads.{IsAtCall, IsAtResults}
+use Rattle.machine_frames.specs.Views.{all_done}
+use Rattle.machine_frames.specs.declared.frames.Spread.{Spread}
+use Rattle.machine_frames.proofs.CallLemmas.{at_calls, called, results}
 use Rattle.machine_frames.specs.Rows.{AtNode, IsAtIf, IsAtRedex, is_simple}
 use Rattle.machine_frames.specs.Stacks.{last, piece_from}
 use Rattle.machine_frames.specs.Standing.{View, Standing}
@@ -177,6 +182,29 @@ asked_at k v n i ks l a h at label operands_are =
       redex = value_redex (Call v.asked) (last n v.operands);
       splits = x.splits;
       is = λ j. value_redex (Call (label j)) (operands_are j);
+    }
+
+-- the call of a member
+pub called_at : (k : List Node) (v : View) (number n i : ℕ) (ks : Bor (List ℕ)) (l : Bor Label) (a : model.Activity) → Standing k v a.term (reverse a.services) → v.focus ≡ focus.Called number n → called_label (piece_at (pieces k) number) ≡ l.now.text
+    → last n v.operands ≡ i ∷ ks.now → IsAt a (redex.Call i l ks)
+called_at k v number n i ks l a h at label operands_are =
+    let x : IsAtCall k v number n (called_label (piece_at (pieces k) number)) a.term (reverse a.services) = called k v number n a.term (reverse a.services) h at in
+    record {
+      contexts = contexts_of x.below.items;
+      redex = value_redex (Call (called_label (piece_at (pieces k) number))) (last n v.operands);
+      splits = x.splits;
+      is = λ j. value_redex (Call (label j)) (operands_are j);
+    }
+
+-- a group of calls that all have their results
+pub results_at : (k : List Node) (v : View) (s : Spread) (number members done : ℕ) (a : model.Activity) → Standing k v a.term (reverse a.services) → v.focus ≡ focus.Calls s number members done → done ≡ all_done k s number members → IsAt a redex.Goes
+results_at k v s number members done a h at full =
+    let x : IsAtResults k v members done a.term (reverse a.services) = results k v s number members done a.term (reverse a.services) (at_calls k v s number members done a.term (reverse a.services) h at) full in
+    record {
+      contexts = contexts_of x.below.items;
+      redex = value_redex Group (last members v.operands);
+      splits = x.splits;
+      is = record { operands = refl; members = λ s. refl; goes = λ s. (_, _, _, refl) };
     }
 
 -- What a node shows

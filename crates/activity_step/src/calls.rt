@@ -7,11 +7,11 @@ ghost use Rattle.asp_model.specs.Contraction.{LineShape};
 ghost use Rattle.asp_model.specs.Names.{Text};
 ghost use Rattle.asp_model.specs.Store.{Store as StoreShape};
 ghost use Rattle.asp_model.specs.Term.{Active as ActiveHead, Tree};
-ghost use Rattle.program_code.specs.declared.code.Kind.TheVariants as kind;
 ghost use Rattle.program_code.specs.declared.code.Node.{Node as NodeShape};
 ghost use Rattle.activity_rows.specs.Decisions.{value_redex};
 ghost use Rattle.machine_frames.specs.declared.frames.Focus.TheVariants as focus;
-ghost use Rattle.machine_frames.specs.Rows.{AtNode, IsAtRedex};
+ghost use Rattle.machine_frames.specs.Rows.{IsAtRedex};
+ghost use Rattle.machine_frames.specs.Spreads.{IsAtCall};
 ghost use Rattle.machine_frames.specs.Stacks.{last};
 ghost use Rattle.machine_frames.specs.Standing.{view_of};
 ghost use Rattle.activity_step.specs.Called.{IsCalled};
@@ -23,7 +23,7 @@ use activity_rows::{Callee, Creation, active_row, callee_of, look};
 use asp_model::Label;
 use coded_cells::Place;
 use coded_store::Store;
-use machine_frames::Machine;
+use machine_frames::{Machine, Spread};
 use program_code::Code;
 use std::alloc::{AllocError, Global};
 
@@ -73,20 +73,19 @@ fn asked_of<'a>(
 }
 
 impl State {
-    /// `i.m(k ..)`.
+    /// `i.m(k ..)`, where the node with this number has the label.
     pub fn call_turn(
         &mut self,
         alloc: Global,
         code: &Code,
         label: &Label,
+        number: usize,
         count: usize,
         go: bool,
     ) -> Result<Turn, AllocError>
-        ensures turn { (number from : ℕ) (n : NodeShape) (t : Tree) (vs : List ServiceShape)
-            (s : StoreShape) (ls : List LineShape) →
+        ensures turn { (t : Tree) (vs : List ServiceShape) (s : StoreShape) (ls : List LineShape) →
             Stands code.now self.old t vs s ls →
-            AtNode code.now (view_of self.old.machine) number from count n →
-            n.kind ≡ kind.Call label.now →
+            IsAtCall code.now (view_of self.old.machine) number count label.now.text t vs →
             IfOk result (IsTurn code.now self.new t vs s ls go) }
     {
         let operands = self.machine.last_operands(count);
@@ -98,7 +97,13 @@ impl State {
                 }
                 Ok(Turn::Reduces)
             }
-            Callee::Members(_) => Err(AllocError),
+            Callee::Members(members) => {
+                if go {
+                    self.machine
+                        .spread(Spread::Same, number, count, members, &[])?;
+                }
+                Ok(Turn::Reduces)
+            }
             Callee::Activity(_) => Ok(Turn::Sends),
             Callee::Other(decision) => self.decided_turn(alloc, decision, count, go),
         }

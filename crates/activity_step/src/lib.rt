@@ -4,6 +4,7 @@
 mod activity;
 mod calls;
 mod communications;
+mod groups;
 mod objects;
 mod passing;
 mod performing;

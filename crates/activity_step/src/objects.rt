@@ -101,19 +101,25 @@ impl State {
         Ok(Turn::Reduces)
     }
 
-    /// A group of the last operands.
-    pub fn group_turn(&mut self, alloc: Global, count: usize, go: bool) -> Result<Turn, AllocError>
+    /// A group of the last operands, where more of them may be the redex's own.
+    pub fn group_turn(
+        &mut self,
+        alloc: Global,
+        size: usize,
+        count: usize,
+        go: bool,
+    ) -> Result<Turn, AllocError>
         ensures turn { (k : List NodeShape) (t : Tree) (vs : List ServiceShape) (s : StoreShape)
             (ls : List LineShape) →
             Stands k self.old t vs s ls →
             IsAtRedex k (view_of self.old.machine) t vs count
-            (value_redex GroupHead (last count self.old.machine.operands.items)) →
+            (value_redex GroupHead (last size self.old.machine.operands.items)) →
             IfOk result (IsTurn k self.new t vs s ls go) }
     {
         if !go {
             return Ok(Turn::Reduces);
         }
-        let operands = self.machine.last_operands(count);
+        let operands = self.machine.last_operands(size);
         let mut members = Vec::with_capacity(alloc, operands.len())?;
         members.extend_from_slice(operands)?;
         let place = self.store.add(Cell::Group(Box::new(alloc, members)?))?;

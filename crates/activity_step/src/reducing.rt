@@ -58,7 +58,7 @@ impl State {
         match kind {
             Kind::Number(n) => self.decided_turn(alloc, Decision::Number(*n), count, go),
             Kind::Echo(text) => self.echo_turn(alloc, text, count, go),
-            Kind::Group => self.group_turn(alloc, count, go),
+            Kind::Group => self.group_turn(alloc, count, count, go),
             Kind::Active(_) => self.active_turn(alloc, count, go),
             Kind::Serve(_) => Ok(Turn::Serves),
             Kind::Get(_) => self.value_turn(alloc, code, kind, count, go),
@@ -66,6 +66,9 @@ impl State {
             Kind::Clone => self.value_turn(alloc, code, kind, count, go),
             Kind::Operate(_) => self.value_turn(alloc, code, kind, count, go),
             Kind::Print => self.value_turn(alloc, code, kind, count, go),
+            Kind::Size => self.value_turn(alloc, code, kind, count, go),
+            Kind::Member => self.value_turn(alloc, code, kind, count, go),
+            Kind::WaitAll => self.value_turn(alloc, code, kind, count, go),
             _ => Err(AllocError),
         }
     }
@@ -91,7 +94,8 @@ impl State {
         };
         match &node.kind {
             Kind::Make(class) => self.make_turn(alloc, class, number, count, go),
-            Kind::Call(label) => self.call_turn(alloc, code, label, count, go),
+            Kind::Call(label) => self.call_turn(alloc, code, label, number, count, go),
+            Kind::Scatter(_) => self.scatter_turn(alloc, number, count, go),
             Kind::Let(_) => self.let_turn(node, count, go),
             Kind::Steps => self.steps_turn(node, number, from, count, go),
             Kind::If => self.if_turn(alloc, code, node, count, go),
@@ -106,7 +110,6 @@ impl State {
             | Kind::Print
             | Kind::Echo(_)
             | Kind::Group
-            | Kind::Scatter(_)
             | Kind::Size
             | Kind::Member
             | Kind::WaitAll => self.simple_turn(alloc, code, &node.kind, count, go),
@@ -124,6 +127,13 @@ impl State {
             Focus::Node { number, from, done } => self.reduce(alloc, code, number, from, done, go),
             Focus::Place(place) => Ok(Turn::Rests(place)),
             Focus::Asked(count) => self.asked_turn(alloc, code, count, go),
+            Focus::Calls {
+                spread: _spread,
+                number: _number,
+                members,
+                done,
+            } => self.group_turn(alloc, members, done, go),
+            Focus::Called { number, count } => self.called_turn(alloc, code, number, count, go),
         }
     }
 }

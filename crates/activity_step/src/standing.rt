@@ -15,7 +15,7 @@ ghost use Rattle.std.specs.Prelude.{
 ghost use Rattle.asp_model.specs.Configuration.{Activity as ActivityShape};
 ghost use Rattle.program_code.specs.declared.code.Node.{Node as NodeShape};
 ghost use Rattle.machine_frames.specs.declared.frames.Focus.TheVariants as focus;
-ghost use Rattle.machine_frames.specs.Standing.{Standing as IsStanding, view_of};
+ghost use Rattle.machine_frames.specs.Standing.{Standing as IsStanding, View, view_of};
 ghost use Rattle.activity_step.specs.Activities.{StandsFor};
 ghost use Rattle.activity_step.specs.Shown.{IsShown};
 ghost use Rattle.activity_step.specs.Standings.{IsAt, IsStandingAt, code_of};
@@ -25,7 +25,7 @@ use crate::calls::first_and_others;
 use crate::reducing::node_in;
 use activity_rows::Redex;
 use coded_cells::Place;
-use machine_frames::{Focus, Machine, in_place_count};
+use machine_frames::{Focus, Machine, Spread, call_label, have_results, in_place_count};
 use program_code::{Code, Kind};
 use std::alloc::AllocError;
 
@@ -98,6 +98,48 @@ fn asked_redex<'a>(machine: &'a Machine, count: usize) -> Result<Redex<'a>, Allo
     Ok(Redex::Call(at, &machine.asked, arguments))
 }
 
+/// A group of calls that all have their results: it contracts, whatever these are.
+fn results_redex<'a>(
+    code: &Code,
+    spread: Spread,
+    number: usize,
+    members: usize,
+    done: usize,
+) -> Result<Redex<'a>, AllocError>
+    ensures redex { (a : ActivityShape) (v : View) →
+        IsStanding code.now v a.term (reverse a.services) →
+        v.focus ≡ focus.Calls spread number members done → IfOk result (IsAt a) }
+{
+    if have_results(code.nodes(), spread, number, members, done) {
+        Ok(Redex::Goes)
+    } else {
+        Err(AllocError)
+    }
+}
+
+/// The call of a member.
+fn called_redex<'a>(
+    code: &'a Code,
+    machine: &'a Machine,
+    number: usize,
+    count: usize,
+) -> Result<Redex<'a>, AllocError>
+    ensures redex { (a : ActivityShape) →
+        IsStanding code.now (view_of machine.now) a.term (reverse a.services) →
+        machine.now.focus ≡ focus.Called number count → IfOk result (IsAt a) }
+{
+    let Some(node) = node_in(code, number) else {
+        return Err(AllocError);
+    };
+    let Some(label) = call_label(node) else {
+        return Err(AllocError);
+    };
+    let Some((at, arguments)) = first_and_others(machine.last_operands(count)) else {
+        return Err(AllocError);
+    };
+    Ok(Redex::Call(at, label, arguments))
+}
+
 impl Activity {
     /// Goes on to the next redex, or to the place that the term is.
     fn go_on(&mut self) -> Result<(), AllocError>
@@ -142,6 +184,19 @@ impl Activity {
                 }
             }
             Focus::Asked(count) => Ok(Standing::Redex(asked_redex(machine, count)?)),
+            Focus::Calls {
+                spread,
+                number,
+                members,
+                done,
+            } => {
+                let redex = results_redex(&self.code, spread, number, members, done)?;
+                Ok(Standing::Redex(redex))
+            }
+            Focus::Called { number, count } => {
+                let redex = called_redex(&self.code, machine, number, count)?;
+                Ok(Standing::Redex(redex))
+            }
             Focus::Node { number, from, done } => {
                 let redex = redex_at(&self.code, machine, number, from, done)?;
                 Ok(Standing::Redex(redex))

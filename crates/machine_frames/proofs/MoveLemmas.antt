@@ -1,8 +1,9 @@
 -- Moves of a machine within its term.
-use Rattle.std.proofs.Common.{◌≡◌, ℕ, ◌+◌, ◌<◌, ◌≤◌, List, [], ◌∷◌, ◌++◌, length, take, drop, reverse, refl, sym, ap, subst, ◌∙◌, arith, length-append}
+use Rattle.std.proofs.Common.{◌≡◌, ℕ, suc, ◌+◌, ◌<◌, ◌≤◌, List, [], ◌∷◌, ◌++◌, length, take, drop, reverse, refl, sym, ap, subst, ◌∙◌, arith, length-append}
 use Rattle.std.proofs.lemmas.List.{reverse-append, take_all, length-take-le}
-use Rattle.asp_model.specs.Term.{Tree, loc}
-use Rattle.asp_model.specs.Split.{Context, plug, plugged}
+use Rattle.asp_model.specs.Names.{Text}
+use Rattle.asp_model.specs.Term.{Group, Tree, Trees, more, Environment, loc, locs_then, child_count}
+use Rattle.asp_model.specs.Split.{Context, Redex, Splits, split, plug, plugged}
 use Rattle.asp_model.specs.Configuration.{ServiceShape}
 use Rattle.program_code.specs.declared.code.Leaf.{Leaf}
 use Rattle.program_code.specs.declared.code.Node.{Node}
@@ -11,14 +12,16 @@ use Rattle.program_code.specs.Fitting.{Runs, term_in}
 use Rattle.program_code.specs.Tables.{pieces, piece_at}
 use Rattle.code_laws.specs.Places.{leaf_place}
 use Rattle.code_laws.specs.Nodes.{IsTerm, parts, nth, in_place, redex_in, context_in}
-use Rattle.code_laws.specs.Splitting.{redex_node, AreContexts}
-use Rattle.code_laws.proofs.TurnLemmas.{leaf_term, begins, child_runs, opens, goes_on, is_context}
+use Rattle.code_laws.specs.Splitting.{redex_node, IsContext, AreContexts}
+use Rattle.code_laws.proofs.OpenLemmas.{count_locs}
+use Rattle.code_laws.proofs.TurnLemmas.{leaf_term, begins, child_runs, opens, goes_on, is_context, splits_here}
 use Rattle.machine_frames.specs.declared.frames.Frame.{Frame}
 use Rattle.machine_frames.specs.declared.frames.Focus.{Focus}
 use Rattle.machine_frames.specs.declared.frames.Focus.TheVariants as focus
 use Rattle.machine_frames.specs.declared.frames.Form.{Form}
 use Rattle.machine_frames.specs.declared.frames.Form.TheVariants as form
 use Rattle.machine_frames.specs.Items.{Item, Waits, Suspends, contexts_of, services_of, futures_of}
+use Rattle.machine_frames.specs.Calls.{calls_behind}
 use Rattle.machine_frames.specs.Stacks.{piece_from, last, but_last, IsWaiting, IsItem, IsWithin, IsStack}
 use Rattle.machine_frames.specs.Standing.{View, IsBegun, Standing}
 use Rattle.machine_frames.proofs.StackLemmas.{last_none, but_last_none, last_size, last_more, but_last_more, Popped, popped}
@@ -138,6 +141,10 @@ entered k v number from done i t vs h0 at lt part is_term =
       suspended = h.suspended;
     }
 
+-- all terms of a group are reduced in place
+before_calls : (ns : List ℕ) (ts : Trees) → IsContext (record { head = Group; before = ns; behind = ts })
+before_calls ns ts = let all : child_count (locs_then ns (more (loc 0) ts)) ≡ length ns + suc (child_count ts) = count_locs ns (more (loc 0) ts) in omega (arith, all)
+
 -- the contexts of a stack are those of a redex
 pub are_contexts : (k : List Node) (fs : List Frame) (env operands : List ℕ) (xs : List Item) → IsStack k fs env operands xs → AreContexts (contexts_of xs)
 are_contexts k [] env operands [] h = tt
@@ -150,9 +157,10 @@ are_contexts k (f ∷ fs) env operands (Waits c ∷ xs) h =
     ns : List ℕ
     ns = drop f.base (take f.height env)
 
-    waits : (x : Form) → IsItem k (drop f.base (take f.height env)) (last f.done operands) x f.node f.from (Waits c) → Rattle.code_laws.specs.Splitting.IsContext c
+    waits : (x : Form) → IsItem k (drop f.base (take f.height env)) (last f.done operands) x f.node f.from (Waits c) → IsContext c
     waits form.Service w = absurd w
-    waits form.Terms w = subst Rattle.code_laws.specs.Splitting.IsContext (sym w.is) (is_context w.names w.scope (drop f.base (take f.height env)) (piece_from k f.node f.from) (last f.done operands) w.runs w.unfinished)
+    waits (form.Calls s) w = subst IsContext (sym w.is) (before_calls w.laid.results (calls_behind k s f.node f.from (last f.done operands) w.laid (suc (length w.laid.results))))
+    waits form.Terms w = subst IsContext (sym w.is) (is_context w.names w.scope (drop f.base (take f.height env)) (piece_from k f.node f.from) (last f.done operands) w.runs w.unfinished)
 
 -- so many terms are done as lie on the operands, and no more than are reduced in place
 pub at_most : (k : List Node) (v : View) (number from done : ℕ) (t : Tree) (vs : List ServiceShape) → Standing k v t vs → v.focus ≡ focus.Node number from done → done ≤ in_place (piece_from k number from)

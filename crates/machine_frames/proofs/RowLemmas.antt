@@ -152,7 +152,7 @@ simple_from from ps kind.Repeat us e = absurd (false≢true e)
 simple_from zero ps k us e = refl
 simple_from (suc n) ps k us e = refl
 
-simple_splits : (k : List Node) (v : View) (number from done : ℕ) (n : Node) (t : Tree) (vs : List ServiceShape) (f : Found k v number from done t vs) → done ≡ in_place (piece_from k number from)
+pub simple_splits : (k : List Node) (v : View) (number from done : ℕ) (n : Node) (t : Tree) (vs : List ServiceShape) (f : Found k v number from done t vs) → done ≡ in_place (piece_from k number from)
     → piece_at (pieces k) number ≡ node_piece (pieces k) n → is_simple n.kind ≡ true
     → split t ≡ Splits (contexts_of f.below.items) (record { head = kind_head n.kind; places = last done v.operands; behind = none })
 simple_splits k v number from done n t vs f full is simple =
@@ -257,11 +257,11 @@ first_or i o b = elim b [ true ↦ Some i | false ↦ o ]
 abbrev needs_or : Contraction → Option ℕ → Contraction
 needs_or c o = elim o [ Some n ↦ Needs n | None ↦ c ]
 
-abbrev contracted : Store → ℕ → Contraction → Bool → Contraction
+abbrev pub contracted : Store → ℕ → Contraction → Bool → Contraction
 contracted s i c b = needs_or c (first_or i (first_future s []) b)
 
 -- the one strict operand is no future
-one_strict : (s : Store) (i : ℕ) (c : Contraction) → is_future (cell s i) ≡ false → contracted s i c (is_future (cell s i)) ≡ c
+pub one_strict : (s : Store) (i : ℕ) (c : Contraction) → is_future (cell s i) ≡ false → contracted s i c (is_future (cell s i)) ≡ c
 one_strict s i c e = ap (contracted s i c) e
 
 branch_runs : (xs : List Text) (scope : Environment) (ns : List ℕ) (us : Pieces) (z : ℤ) → Runs xs scope ns (nth 1 us) × Runs xs scope ns (nth 2 us) → Runs xs scope ns (nth (chosen z) us)
@@ -490,19 +490,6 @@ call_enters k v n i ks l t vs s b0 splits operands_are fields methods cell_is m 
       is = one_strict s i (call_row s l i ks (cell s i)) no_future ∙ ap (call_row s l i ks) cell_is ∙ ap (method_found s i ks) method_is ∙ calls (pieces k) m cs i ks s sound size arity;
       after = standing;
     }
-
-pub call_row_here : (k : List Node) (v : View) (number from done i : ℕ) (ks : List ℕ) (l : Label) (n : Node) (t : Tree) (vs : List ServiceShape) (s : Store) → Standing k v t vs → v.focus ≡ focus.Node number from done → done ≡ in_place (piece_from k number from)
-    → piece_at (pieces k) number ≡ node_piece (pieces k) n → n.kind ≡ kind.Call l → last done v.operands ≡ i ∷ ks
-    → (fields : List Field) (methods : List MethodShape) → cell s i ≡ Object fields methods
-    → (m : MethodCode) (cs : List ℕ) → method_at l.text methods ≡ Some (with_places (pieces k) m cs)
-    → IsSoundMethod (pieces k) m → length cs ≡ length m.captured.items → length ks ≡ length m.parameters.items
-    → Contracts k t vs s s [] (called_view done cs m.body v)
-call_row_here k v number from done i ks l n t vs s h at full is call_is operands_are fields methods cell_is m cs method_is sound size arity =
-    let f : Found k v number from done t vs = found k v number from done t vs h at full in
-    let simple : is_simple n.kind ≡ true = ap is_simple call_is in
-    call_enters k v done i ks l.text t vs s f.below
-    (simple_splits k v number from done n t vs f full is simple ∙ (λ j. Splits (contexts_of f.below.items) (record { head = kind_head (call_is j); places = operands_are j; behind = none })))
-    operands_are fields methods cell_is m cs method_is sound size arity
 
 -- The call that a service begins with
 

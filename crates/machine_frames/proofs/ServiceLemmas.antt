@@ -20,20 +20,8 @@ use Rattle.machine_frames.specs.Stacks.{last, but_last, IsWithin, IsItem, IsStac
 use Rattle.machine_frames.specs.Standing.{View, Standing}
 use Rattle.machine_frames.specs.Views.{outer}
 use Rattle.machine_frames.proofs.MoveLemmas.{at_focus}
-use Rattle.machine_frames.proofs.StackLemmas.{last_none, last_size, but_last_none}
+use Rattle.machine_frames.proofs.StackLemmas.{last_seam, but_last_seam, last_none, last_size, but_last_none}
 use Rattle.machine_frames.proofs.RowLemmas.{stand_node}
-
-last_seam : (ops ks : List ℕ) → last (length ks) (ops ++ ks) ≡ ks
-last_seam ops ks =
-    let longer : length (ops ++ ks) ≡ length ops + length ks = length-append ops ks in
-    let at : length (ops ++ ks) - length ks ≡ length ops = omega (arith, longer) in
-    ap (λ (n : ℕ). drop n (ops ++ ks)) at ∙ drop-append_seam ops ks
-
-but_last_seam : (ops ks : List ℕ) → but_last (length ks) (ops ++ ks) ≡ ops
-but_last_seam ops ks =
-    let longer : length (ops ++ ks) ≡ length ops + length ks = length-append ops ks in
-    let at : length (ops ++ ks) - length ks ≡ length ops = omega (arith, longer) in
-    ap (λ (n : ℕ). take n (ops ++ ks)) at ∙ take-append_seam ops ks
 
 -- the call of a label, at places behind the operands
 pub asks : (k : List Node) (v : View) (vs : List ServiceShape) (b : Below k v vs) (l : Text) (ks : List ℕ) → v.base ≤ length v.env → Standing k (asked_view l ks v) (plug (contexts_of b.items) (node (Call l) (locs_then ks none))) vs

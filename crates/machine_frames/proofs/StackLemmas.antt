@@ -1,7 +1,7 @@
 -- Frames, environments and operands that grow and are cut.
 use Rattle.std.proofs.Common.{◌≡◌, ℕ, ◌+◌, ◌-◌, ◌≤◌, List, [], ◌∷◌, ◌++◌, length, take, drop, refl, sym, ap, subst, ◌∙◌, arith, length-drop, length-append}
 use Rattle.std.proofs.lemmas.List.{take_all, take-take, take-append-le, drop-append-le, length-take-le}
-use Rattle.std.proofs.Math.Seq.{drop-length}
+use Rattle.std.proofs.Math.Seq.{drop-append_seam, drop-length, take-append_seam}
 use Rattle.asp_model.specs.Split.{Context}
 use Rattle.program_code.specs.declared.code.Node.{Node}
 use Rattle.machine_frames.specs.declared.frames.Frame.{Frame}
@@ -38,6 +38,18 @@ but_last_more n ks k h =
     let at : length (ks ++ k ∷ []) - (n + 1) ≡ length ks - n = omega (arith, longer) in
     let low : length ks - n ≤ length ks = omega arith in
     ap (λ (i : ℕ). take i (ks ++ k ∷ [])) at ∙ take-append-le (length ks - n) ks (k ∷ []) low
+
+pub last_seam : (ops ks : List ℕ) → last (length ks) (ops ++ ks) ≡ ks
+last_seam ops ks =
+    let longer : length (ops ++ ks) ≡ length ops + length ks = length-append ops ks in
+    let at : length (ops ++ ks) - length ks ≡ length ops = omega (arith, longer) in
+    ap (λ (n : ℕ). drop n (ops ++ ks)) at ∙ drop-append_seam ops ks
+
+pub but_last_seam : (ops ks : List ℕ) → but_last (length ks) (ops ++ ks) ≡ ops
+but_last_seam ops ks =
+    let longer : length (ops ++ ks) ≡ length ops + length ks = length-append ops ks in
+    let at : length (ops ++ ks) - length ks ≡ length ops = omega (arith, longer) in
+    ap (λ (n : ℕ). take n (ops ++ ks)) at ∙ take-append_seam ops ks
 
 -- Stacks
 

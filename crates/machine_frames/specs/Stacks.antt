@@ -13,6 +13,7 @@ use Rattle.machine_frames.specs.declared.frames.Form.{Form}
 use Rattle.machine_frames.specs.declared.frames.Form.TheVariants as form
 use Rattle.machine_frames.specs.Sequences.{later}
 use Rattle.machine_frames.specs.Items.{Item, Waits, Suspends}
+use Rattle.machine_frames.specs.Calls.{IsCalling}
 
 -- the piece of a number, whose first terms are gone
 abbrev pub piece_from : List Node → ℕ → ℕ → Piece
@@ -29,6 +30,8 @@ pub record IsWaiting (k : List Node) (ns operands : List ℕ) (number from : ℕ
 abbrev pub IsItem : List Node → (ns operands : List ℕ) → Form → (number from : ℕ) → Item → Type 0
 IsItem k ns operands form.Terms number from (Waits c) = IsWaiting k ns operands number from c
 IsItem k ns operands form.Terms number from (Suspends f) = ⊥
+IsItem k ns operands (form.Calls s) number from (Waits c) = IsCalling k s operands number from c
+IsItem k ns operands (form.Calls s) number from (Suspends f) = ⊥
 IsItem k ns operands form.Service number from (Waits c) = ⊥
 IsItem k ns operands form.Service number from (Suspends f) = operands ≡ []
 

@@ -15,6 +15,7 @@ use Rattle.machine_frames.specs.declared.frames.Focus.{Focus}
 use Rattle.machine_frames.specs.declared.frames.Focus.TheVariants as focus
 use Rattle.machine_frames.specs.declared.machine.Machine.{Machine}
 use Rattle.machine_frames.specs.Items.{Item, contexts_of, services_of, futures_of}
+use Rattle.machine_frames.specs.Calls.{IsCalled, IsDealt}
 use Rattle.machine_frames.specs.Stacks.{piece_from, last, but_last, IsStack}
 
 -- a machine without its vectors
@@ -43,11 +44,15 @@ abbrev pub taken : Focus → ℕ
 taken (focus.Node number from done) = done
 taken (focus.Place p) = 0
 taken (focus.Asked n) = n
+taken (focus.Calls s number members done) = done
+taken (focus.Called number n) = n
 
 abbrev pub IsFocus : List Node → Text → (ns operands : List ℕ) → Focus → Tree → Type 0
 IsFocus k asked ns operands (focus.Node number from done) t = IsBegun k ns operands number from t
 IsFocus k asked ns operands (focus.Place p) t = t ≡ loc p
 IsFocus k asked ns operands (focus.Asked n) t = t ≡ node (Call asked) (locs_then operands none)
+IsFocus k asked ns operands (focus.Calls s number members done) t = IsDealt k s operands number members t
+IsFocus k asked ns operands (focus.Called number n) t = IsCalled k operands number t
 
 -- the term of a machine, and its suspended services, newest first
 pub record Standing (k : List Node) (v : View) (t : Tree) (services : List ServiceShape) : Type 0 where

@@ -1,10 +1,21 @@
 //! Frames, and what a machine looks at.
 
+/// The arguments of the calls that a call on a group, or a `scatter`, becomes.
+#[derive(Clone, Copy)]
+pub enum Spread {
+    /// Each call has the same.
+    Same,
+    /// Each call has one of its own.
+    Own,
+}
+
 /// What a frame waits for.
 #[derive(Clone, Copy)]
 pub enum Form {
     /// The next term below its node.
     Terms,
+    /// The result of a call of one of several members. The node has the label.
+    Calls(Spread),
     /// The end of a service, after which the term below it goes on.
     Service,
 }
@@ -14,8 +25,10 @@ pub enum Form {
 pub struct Frame {
     pub form: Form,
     pub node: usize,
-    /// How many terms of a sequence are gone; 1 at a `repeat` for the sequence that it becomes.
+    /// How many terms of a sequence are gone; 1 at a `repeat` for the sequence that it becomes. How many
+    /// members are called.
     pub from: usize,
+    /// How many of the last operands are its own.
     pub done: usize,
     /// Where its environment begins.
     pub base: usize,
@@ -36,4 +49,17 @@ pub enum Focus {
     Place(usize),
     /// The call that a service begins with, of which so many places lie on the operands.
     Asked(usize),
+    /// A group of calls, of which the first have their results. What the node was given lies on the
+    /// operands, then the members, then the arguments of their own, then the results.
+    Calls {
+        spread: Spread,
+        number: usize,
+        members: usize,
+        done: usize,
+    },
+    /// The call of a member, of which so many places lie on the operands. The node has the label.
+    Called {
+        number: usize,
+        count: usize,
+    },
 }

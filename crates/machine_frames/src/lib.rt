@@ -2,12 +2,14 @@
 //! its operands.
 #![tactic(auto)]
 
+mod calls;
 mod frames;
 mod machine;
 mod nodes;
 mod rows;
 mod services;
 
-pub use frames::{Focus, Form, Frame};
+pub use calls::{Round, have_results, results_in, round_at};
+pub use frames::{Focus, Form, Frame, Spread};
 pub use machine::Machine;
-pub use nodes::{child_at, in_place_count, next_child, node_at};
+pub use nodes::{call_label, child_at, in_place_count, next_child, node_at};

@@ -19,18 +19,18 @@ ghost use Rattle.asp_model.specs.Configuration.{ServiceShape};
 ghost use Rattle.program_code.specs.declared.code.Node.{Node as NodeShape};
 ghost use Rattle.program_code.specs.Sound.{IsSound};
 ghost use Rattle.machine_frames.specs.declared.frames.Focus.TheVariants as focus;
-ghost use Rattle.machine_frames.specs.declared.frames.Form.TheVariants as form;
 ghost use Rattle.machine_frames.specs.Standing.{Standing, view_of};
 ghost use Rattle.machine_frames.specs.Views.{
   IsAdvanced,
   IsAlone,
-  IsAtNode,
   IsDeeper,
   IsFilled,
   IsInner,
+  IsOpen,
   Settled,
   closed_view,
   entered_view,
+  onward,
   outer,
   passed_view,
 };
@@ -61,13 +61,14 @@ pub struct Machine {
 impl Machine {
     /// The innermost frame, where it waits for a term.
     fn waiting(&self) -> Option<Frame>
-        ensures some { IfSome result (λ f. (f.form ≡ form.Terms)
+        ensures some { IfSome result (λ f. IsOpen f.form
             × (self.now.frames.items ≡ outer self.now.frames.items ++ f ∷ [])) }
         ensures none { IfNone result (IsAlone (reverse self.now.frames.items)) }
     {
         match self.frames.last() {
             Some(frame) => match frame.form {
                 Form::Terms => Some(*frame),
+                Form::Calls(_) => Some(*frame),
                 Form::Service => None,
             },
             None => None,
@@ -90,11 +91,7 @@ impl Machine {
         self.env.truncate(frame.height);
         self.operands.push(place)?;
         self.base = frame.base;
-        self.focus = Focus::Node {
-            number: frame.node,
-            from: frame.from,
-            done,
-        };
+        self.focus = onward(frame, done);
         Ok(())
     }
 
@@ -103,7 +100,7 @@ impl Machine {
         ensures filled { (k : List NodeShape) (t : Tree) (vs : List ServiceShape) →
             Standing k (view_of self.old) t vs → self.old.focus ≡ focus.Place place →
             IfOk result (IsFilled k t vs (view_of self.old) (view_of self.new)) }
-        ensures node { IfOk result (λ b. b ≡ true → IsAtNode self.new.focus) }
+        ensures inner { IfOk result (λ b. b ≡ true → IsInner self.new.focus) }
     {
         let Some(frame) = self.waiting() else {
             return Ok(false);
@@ -217,8 +214,15 @@ impl Machine {
                         return Ok(());
                     }
                 }
+                Focus::Calls {
+                    spread,
+                    number,
+                    members,
+                    done,
+                } => return self.deal(nodes, spread, number, members, done),
                 Focus::Place(_) => return Ok(()),
                 Focus::Asked(_) => return Ok(()),
+                Focus::Called { .. } => return Ok(()),
             }
         }
     }
@@ -236,6 +240,20 @@ impl Machine {
         }
     }
 
+    /// The place that it looks at.
+    fn place(&self) -> Option<usize>
+        ensures some { IfSome result (λ p. self.now.focus ≡ focus.Place p) }
+        ensures none { IfNone result (IsInner self.now.focus) }
+    {
+        match self.focus {
+            Focus::Place(place) => Some(place),
+            Focus::Node { .. } => None,
+            Focus::Asked(_) => None,
+            Focus::Calls { .. } => None,
+            Focus::Called { .. } => None,
+        }
+    }
+
     /// Goes to where the next contraction stands, or to the place that the term is.
     pub fn settle(&mut self, nodes: &[Node]) -> Result<(), AllocError>
         requires sound { IsSound nodes.now }
@@ -243,9 +261,33 @@ impl Machine {
             Standing nodes.now (view_of self.old) t vs →
             OnOk result (Settled nodes.now t vs (view_of self.new)) }
     {
-        match self.focus {
-            Focus::Place(place) => self.leave(nodes, place),
-            Focus::Node { .. } | Focus::Asked(_) => self.descend(nodes),
+        match self.place() {
+            Some(place) => self.leave(nodes, place),
+            None => self.descend(nodes),
         }
+    }
+}
+
+/// Where a frame goes on, once so many operands are its own.
+fn onward(frame: Frame, done: usize) -> Focus
+    ensures focus { result ≡ onward frame.form frame.node frame.from done }
+{
+    match frame.form {
+        Form::Calls(spread) => Focus::Calls {
+            spread,
+            number: frame.node,
+            members: frame.from,
+            done,
+        },
+        Form::Terms => Focus::Node {
+            number: frame.node,
+            from: frame.from,
+            done,
+        },
+        Form::Service => Focus::Node {
+            number: frame.node,
+            from: frame.from,
+            done,
+        },
     }
 }

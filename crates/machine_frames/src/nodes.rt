@@ -6,8 +6,10 @@ ghost use Rattle.program_code.specs.Sound.{AllBelow, IsBelow, IsSound};
 ghost use Rattle.program_code.specs.Classes.{class_at, class_of};
 ghost use Rattle.program_code.specs.Tables.{node_piece, piece_at, piece_of, pieces, pieces_of};
 ghost use Rattle.code_laws.specs.Nodes.{in_place, nth, parts};
+ghost use Rattle.machine_frames.specs.Calls.{called_label};
 ghost use Rattle.machine_frames.specs.Sequences.{child_number, later};
 
+use asp_model::Label;
 use program_code::{Child, Kind, Node};
 
 /// The node with a number.
@@ -73,4 +75,16 @@ pub fn child_at<'a>(node: &'a Node, number: usize) -> Option<&'a Child>
         return None;
     };
     Some(child)
+}
+
+/// The label of the calls that a node stands for: of a call, or of a `scatter`.
+pub fn call_label<'a>(node: &'a Node) -> Option<&'a Label>
+    ensures label { (ps : List Piece) → IfSome result
+        (λ l. called_label (node_piece ps node.now) ≡ l.now.text) }
+{
+    match &node.kind {
+        Kind::Call(label) => Some(label),
+        Kind::Scatter(label) => Some(label),
+        _ => None,
+    }
 }

@@ -116,7 +116,7 @@ impl Machine {
     }
 
     /// Where the environment of the innermost frame ends.
-    fn top_height(&self) -> usize
+    pub fn top_height(&self) -> usize
         ensures height { result ≡ top (reverse self.now.frames.items) }
     {
         match self.frames.last() {

@@ -86,6 +86,7 @@ impl Machine {
             Some(frame) => match frame.form {
                 Form::Service => Some(*frame),
                 Form::Terms => None,
+                Form::Calls(_) => None,
             },
             None => None,
         }
@@ -132,6 +133,16 @@ impl Machine {
                 done,
             } => Ok(done),
             Focus::Asked(count) => Ok(count),
+            Focus::Calls {
+                spread: _spread,
+                number: _number,
+                members: _members,
+                done,
+            } => Ok(done),
+            Focus::Called {
+                number: _number,
+                count,
+            } => Ok(count),
             Focus::Place(_) => Err(AllocError),
         }
     }

@@ -14,13 +14,30 @@ use Rattle.machine_frames.specs.declared.frames.Frame.{Frame}
 use Rattle.machine_frames.specs.declared.frames.Form.{Form}
 use Rattle.machine_frames.specs.declared.frames.Form.TheVariants as form
 use Rattle.machine_frames.specs.Items.{Item, Waits, Suspends, contexts_of, services_of, futures_of}
-use Rattle.machine_frames.specs.Stacks.{IsItem, IsWaiting, IsStack, last, but_last}
-use Rattle.machine_frames.specs.Views.{IsAlone}
-use Rattle.machine_frames.proofs.StackLemmas.{Popped, popped}
+use Rattle.machine_frames.specs.Stacks.{IsItem, IsStack, last, but_last}
+use Rattle.machine_frames.specs.Views.{IsAlone, IsOpen}
 use Rattle.machine_snapshots.specs.declared.shown.Suspended.{Suspended}
 use Rattle.machine_snapshots.specs.Shown.{hole_tree, ServiceTerms, service_terms, service_shown, IsSegment}
 
 -- Contexts
+
+-- the innermost frame, where it waits for a term
+record Opened (k : List Node) (f : Frame) (fs : List Frame) (env operands : List ℕ) (items : List Item) : Type 0 where
+  context : Context
+  others : List Item
+  are : items ≡ Waits context ∷ others
+  item : IsItem k (drop f.base (take f.height env)) (last f.done operands) f.form f.node f.from (Waits context)
+  below : IsStack k fs (take f.height env) (but_last f.done operands) others
+
+no_service : (k : List Node) (ns operands : List ℕ) (x : Form) (number from : ℕ) (g : Option FutureShape) → IsOpen x → IsItem k ns operands x number from (Suspends g) → ⊥
+no_service k ns operands form.Terms number from g o h = h
+no_service k ns operands (form.Calls s) number from g o h = h
+no_service k ns operands form.Service number from g o h = o
+
+opened : (k : List Node) (f : Frame) (fs : List Frame) (env operands : List ℕ) (xs : List Item) → IsOpen f.form → IsStack k (f ∷ fs) env operands xs → Opened k f fs env operands xs
+opened k f fs env operands [] o h = absurd h
+opened k f fs env operands (Suspends g ∷ xs) o h = absurd (no_service k (drop f.base (take f.height env)) (last f.done operands) f.form f.node f.from g o h.1)
+opened k f fs env operands (Waits c ∷ xs) o h = record { context = c; others = xs; are = refl; item = h.1; below = h.2 }
 
 pub record Walked (k : List Node) (items : List Item) (first terms : List Tree) (frames : List Frame) (env operands : List ℕ) : Type 0 where
   pub left : List Item
@@ -30,17 +47,17 @@ pub record Walked (k : List Node) (items : List Item) (first terms : List Tree) 
   pub futures : futures_of items ≡ futures_of left
 
 pub walked_on : (k : List Node) (items : List Item) (first terms : List Tree) (frames others : List Frame) (env operands : List ℕ) (f : Frame) (t : Tree) → Walked k items first terms frames env operands
-    → f.form ≡ form.Terms → frames ≡ others ++ f ∷ []
-    → ((c : Context) → IsWaiting k (drop f.base (take f.height env)) (last f.done operands) f.node f.from c → t ≡ hole_tree c)
+    → IsOpen f.form → frames ≡ others ++ f ∷ []
+    → ((c : Context) → IsItem k (drop f.base (take f.height env)) (last f.done operands) f.form f.node f.from (Waits c) → t ≡ hole_tree c)
     → Walked k items first (terms ++ t ∷ []) others (take f.height env) (but_last f.done operands)
 walked_on k items first terms frames others env operands f t w form_is are term =
     let stack : IsStack k (f ∷ reverse others) env operands w.left = subst (λ (fs : List Frame). IsStack k fs env operands w.left) (ap reverse are ∙ reverse-append others (f ∷ [])) w.stack in
-    let p : Popped k f (reverse others) env operands w.left = popped k f (reverse others) env operands w.left form_is stack in
+    let p : Opened k f (reverse others) env operands w.left = opened k f (reverse others) env operands w.left form_is stack in
     record {
       left = p.others;
       stack = p.below;
       are = w.are ∙ ap (λ (xs : List Item). terms ++ map hole_tree (contexts_of xs)) p.are
-          ∙ ap (λ (u : Tree). terms ++ u ∷ map hole_tree (contexts_of p.others)) (sym (term p.context p.waiting)) ∙ sym (append_assoc terms (t ∷ []) (map hole_tree (contexts_of p.others)));
+          ∙ ap (λ (u : Tree). terms ++ u ∷ map hole_tree (contexts_of p.others)) (sym (term p.context p.item)) ∙ sym (append_assoc terms (t ∷ []) (map hole_tree (contexts_of p.others)));
       services = w.services ∙ ap services_of p.are;
       futures = w.futures ∙ ap futures_of p.are;
     }
@@ -156,7 +173,7 @@ fewer frames others f e =
 -- Steps of the two walks
 
 pub segment_step : (k : List Node) (items : List Item) (first : List Tree) (terms more_terms : List Term) (frames others : List Frame) (env operands : List ℕ) (f : Frame) (t : Term) → Walked k items first (map tree_of terms) frames env operands
-    → f.form ≡ form.Terms → frames ≡ others ++ f ∷ [] → ((c : Context) → IsWaiting k (drop f.base (take f.height env)) (last f.done operands) f.node f.from c → tree_of t ≡ hole_tree c)
+    → IsOpen f.form → frames ≡ others ++ f ∷ [] → ((c : Context) → IsItem k (drop f.base (take f.height env)) (last f.done operands) f.form f.node f.from (Waits c) → tree_of t ≡ hole_tree c)
     → more_terms ≡ terms ++ t ∷ [] → (fs : List Frame) (low ops : List ℕ) → fs ≡ others → low ≡ take f.height env → ops ≡ but_last f.done operands
     → Walked k items first (map tree_of more_terms) fs low ops
 segment_step k items first terms more_terms frames others env operands f t w form_is are term grown fs low ops fs_is low_is ops_is =

@@ -1,9 +1,8 @@
 //! Walks down the frames of a machine, the innermost first.
 
 ghost use Rattle.std.specs.Prelude.{◌≡◌, ◌∷◌, ◌++◌, [], IfNone, IfSome, drop, reverse, take};
-ghost use Rattle.machine_frames.specs.declared.frames.Form.TheVariants as form;
 ghost use Rattle.machine_frames.specs.Stacks.{but_last, last};
-ghost use Rattle.machine_frames.specs.Views.{IsAlone};
+ghost use Rattle.machine_frames.specs.Views.{IsAlone, IsOpen};
 
 use machine_frames::{Form, Frame};
 
@@ -64,12 +63,13 @@ pub fn innermost(frames: &[Frame]) -> Option<(Frame, &[Frame])>
 /// The innermost frame, where it waits for a term, and the others.
 pub fn waiting(frames: &[Frame]) -> Option<(Frame, &[Frame])>
     ensures some { IfSome result
-        (λ p. (p.0.form ≡ form.Terms) × (frames.now ≡ p.1.now ++ p.0 ∷ [])) }
+        (λ p. IsOpen p.0.form × (frames.now ≡ p.1.now ++ p.0 ∷ [])) }
     ensures none { IfNone result (IsAlone (reverse frames.now)) }
 {
     match innermost(frames) {
         Some((frame, others)) => match frame.form {
             Form::Terms => Some((frame, others)),
+            Form::Calls(_) => Some((frame, others)),
             Form::Service => None,
         },
         None => None,

@@ -7,6 +7,7 @@ ghost use Rattle.machine_frames.specs.Stacks.{last};
 ghost use Rattle.machine_frames.specs.Standing.{IsFocus, taken};
 
 use crate::cursor::{behind, last_of};
+use crate::groups::{called_term, dealt_term};
 use asp_model::Term;
 use code_decoder::{call_of, location, redex_of};
 use machine_frames::{Focus, Machine};
@@ -21,6 +22,8 @@ pub fn taken_by(focus: Focus) -> usize
         Focus::Node { done, .. } => done,
         Focus::Place(_) => 0,
         Focus::Asked(count) => count,
+        Focus::Calls { done, .. } => done,
+        Focus::Called { count, .. } => count,
     }
 }
 
@@ -44,6 +47,19 @@ pub fn focus_term(alloc: Global, code: &Code, machine: &Machine) -> Result<Term,
         Focus::Asked(count) => {
             let own = last_of(&machine.operands, count);
             call_of(alloc, &machine.asked, own)
+        }
+        Focus::Calls {
+            spread,
+            number,
+            members,
+            done,
+        } => {
+            let own = last_of(&machine.operands, done);
+            dealt_term(alloc, code, spread, number, members, own)
+        }
+        Focus::Called { number, count } => {
+            let own = last_of(&machine.operands, count);
+            called_term(alloc, code, number, own)
         }
     }
 }

@@ -3,19 +3,20 @@
 ghost use Rattle.std.specs.Prelude.{◌≡◌, ◌≤◌, IfOk, List, drop, length, map, reverse, take};
 ghost use Rattle.asp_model.specs.Shapes.{tree_of};
 ghost use Rattle.asp_model.specs.Split.{Context};
-ghost use Rattle.machine_frames.specs.Items.{Item};
-ghost use Rattle.machine_frames.specs.Stacks.{IsStack, IsWaiting, last};
+ghost use Rattle.machine_frames.specs.Items.{Item, Waits};
+ghost use Rattle.machine_frames.specs.Stacks.{IsItem, IsStack, IsWaiting, last};
 ghost use Rattle.machine_snapshots.specs.Shown.{IsSegment, hole_tree};
 
 use crate::cursor::{Cursor, behind, below, last_of, up_to, waiting};
+use crate::groups::calling_term;
 use asp_model::Term;
 use code_decoder::context_of;
-use machine_frames::Frame;
+use machine_frames::{Form, Frame};
 use program_code::Code;
 use std::alloc::{AllocError, Global};
 
-/// The context that a frame is, as a term with a hole.
-fn frame_term(alloc: Global, code: &Code, cursor: &Cursor, frame: Frame) -> Result<Term, AllocError>
+/// A node round the next of its terms, as a term with a hole.
+fn node_term(alloc: Global, code: &Code, cursor: &Cursor, frame: Frame) -> Result<Term, AllocError>
     ensures context { let ns = drop frame.base (take frame.height cursor.now.env.now) in
         let done = last frame.done cursor.now.operands.now in
         (c : Context) → IsWaiting code.now ns done frame.node frame.from c →
@@ -27,6 +28,23 @@ fn frame_term(alloc: Global, code: &Code, cursor: &Cursor, frame: Frame) -> Resu
     let places = behind(up_to(cursor.env, frame.height), frame.base);
     let done = last_of(cursor.operands, frame.done);
     context_of(alloc, code, places, frame.node, frame.from, done)
+}
+
+/// The context that a frame is, as a term with a hole.
+fn frame_term(alloc: Global, code: &Code, cursor: &Cursor, frame: Frame) -> Result<Term, AllocError>
+    ensures context { let ns = drop frame.base (take frame.height cursor.now.env.now) in
+        let done = last frame.done cursor.now.operands.now in
+        (c : Context) → IsItem code.now ns done frame.form frame.node frame.from (Waits c) →
+        IfOk result (λ r. tree_of r ≡ hole_tree c) }
+{
+    match frame.form {
+        Form::Terms => node_term(alloc, code, cursor, frame),
+        Form::Calls(spread) => {
+            let own = last_of(cursor.operands, frame.done);
+            calling_term(alloc, code, spread, frame.node, frame.from, own)
+        }
+        Form::Service => Err(AllocError),
+    }
 }
 
 /// Puts the contexts of the innermost frames behind other terms, as far as they wait for terms.

@@ -5,6 +5,7 @@
 mod cursor;
 mod focus;
 mod frames;
+mod groups;
 mod shown;
 
 pub use shown::{Shown, Suspended, show};

@@ -1,6 +1,6 @@
-use Rattle.std.proofs.Common.{rules, ◌≡◌, ◌<◌, ℕ, List, ◌∷◌, Option, Some, None, length, get_or, take, drop, refl, sym, ap, subst, ◌∙◌, arith}
+use Rattle.std.proofs.Common.{◌≡◌, ◌<◌, ℕ, List, ◌∷◌, Option, Some, None, length, get_or, take, drop, sym, ap, subst, ◌∙◌, arith}
 use Rattle.asp_model.specs.Names.{Text}
-use Rattle.asp_model.specs.Store.{Store, CellShape, MethodShape}
+use Rattle.asp_model.specs.Store.{Store}
 use Rattle.asp_model.specs.Contraction.{call_row, method_at, method_found, invoked}
 use Rattle.program_code.specs.declared.code.Class.{Class}
 use Rattle.program_code.specs.declared.code.MethodCode.{MethodCode}
@@ -12,8 +12,7 @@ use Rattle.program_code.specs.Fitting.{head_names}
 use Rattle.program_code.proofs.LookupLemmas as lookup
 use Rattle.code_laws.proofs.BodyLemmas.{unbound}
 use Rattle.coded_cells.specs.Shapes.{class_object, store_of}
-use Rattle.activity_rows.specs.Decisions.{read, Leads}
-use Rattle.activity_rows.proofs.ReadLemmas.{object_read}
+use Rattle.activity_rows.specs.Decisions.{read}
 use Rattle.activity_rows.proofs.calls.method_in.Goals as goal
 
 pub returns-in_default-method : goal.returns-in_default-method

@@ -1,4 +1,4 @@
-use Rattle.std.proofs.Common.{rules, ◌≡◌, ◌<◌, ℕ, List, Option, Some, None, length, get_or, refl, sym, ap, subst, ◌∙◌}
+use Rattle.std.proofs.Common.{◌≡◌, ◌<◌, ℕ, List, Option, Some, None, length, get_or, sym, ap, subst, ◌∙◌}
 use Rattle.asp_model.specs.Names.{Text}
 use Rattle.asp_model.specs.Store.{Store}
 use Rattle.asp_model.specs.Contraction.{get_row, stays_at}

@@ -1,6 +1,6 @@
-use Rattle.std.proofs.Common.{rules, ◌≡◌, ◌<◌, ℕ, List, Option, Some, None, length, get_or, refl, sym, ap, subst, ◌∙◌, arith, drop}
+use Rattle.std.proofs.Common.{rules, ◌≡◌, ◌<◌, ℕ, List, Option, Some, None, length, sym, ap, ◌∙◌, arith, drop}
 use Rattle.asp_model.specs.Names.{Text}
-use Rattle.asp_model.specs.Store.{Store, CellShape, Object, Field, MethodShape, cell}
+use Rattle.asp_model.specs.Store.{Store, Object, Field, MethodShape, cell}
 use Rattle.asp_model.specs.Contraction.{put_row, stays_at, with_field, fields_at}
 use Rattle.asp_model.specs.Contraction as contraction
 use Rattle.program_code.specs.declared.code.Class.{Class}
@@ -8,7 +8,6 @@ use Rattle.program_code.specs.declared.code.Node.{Node}
 use Rattle.program_code.specs.Classes.{class_at, seen_class, field_number}
 use Rattle.program_code.specs.Tables.{labels_of, pieces, seen_methods}
 use Rattle.program_code.proofs.LookupLemmas as lookup
-use Rattle.coded_cells.specs.Cells.{cell_at}
 use Rattle.coded_cells.specs.Shapes.{class_object, cell_of, store_of}
 use Rattle.coded_cells.proofs.CodedLemmas.{cell-store_of}
 use Rattle.coded_store.proofs.FieldLemmas.{places_set}

@@ -1,6 +1,6 @@
-use Rattle.std.proofs.Common.{◌≡◌, List, [], sym, ap, ◌∙◌}
+use Rattle.std.proofs.Common.{[], sym, ap, ◌∙◌}
 use Rattle.asp_model.specs.Term.{Clone}
-use Rattle.asp_model.specs.Store.{CellShape, Store, cell}
+use Rattle.asp_model.specs.Store.{CellShape, Store}
 use Rattle.asp_model.specs.Contraction.{Contraction, allots}
 use Rattle.coded_cells.specs.Cells.{coded}
 use Rattle.coded_cells.specs.Shapes.{cell_of, store_of}

@@ -1,4 +1,4 @@
-use Rattle.std.proofs.Common.{◌≡◌, List, ◌∙◌}
+use Rattle.std.proofs.Common.{◌∙◌}
 use Rattle.asp_model.specs.Shapes.{sign_shape}
 use Rattle.asp_model.specs.Term.{Operate}
 use Rattle.asp_model.specs.Store.{Store}

@@ -1,4 +1,4 @@
-use Rattle.std.proofs.Common.{◌≡◌, List, ◌∙◌}
+use Rattle.std.proofs.Common.{◌∙◌}
 use Rattle.asp_model.specs.Term.{Print}
 use Rattle.asp_model.specs.Store.{Store}
 use Rattle.asp_model.specs.Contraction as contraction

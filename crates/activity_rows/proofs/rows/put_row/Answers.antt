@@ -1,4 +1,4 @@
-use Rattle.std.proofs.Common.{◌≡◌, ℕ, List, ◌∷◌, [], IfOk, sym, ap, subst, ◌∙◌}
+use Rattle.std.proofs.Common.{◌≡◌, ℕ, List, IfOk, sym, ap, subst, ◌∙◌}
 use Rattle.asp_model.specs.Term.{Put}
 use Rattle.asp_model.specs.Contraction.{Contraction, contract}
 use Rattle.asp_model.specs.Contraction as contraction

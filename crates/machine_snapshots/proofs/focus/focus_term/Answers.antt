@@ -10,6 +10,7 @@ use Rattle.code_decoder.proofs.BehindLemmas.{if_ok}
 use Rattle.machine_frames.specs.declared.frames.Focus.{Focus}
 use Rattle.machine_frames.specs.declared.frames.Focus.TheVariants as focus
 use Rattle.machine_frames.specs.Stacks.{last}
+use Rattle.machine_frames.specs.Calls.{IsCalled, IsDealt}
 use Rattle.machine_frames.specs.Standing.{IsBegun, IsFocus, taken}
 use Rattle.machine_snapshots.proofs.TermLemmas.{redex_is, locs_alone}
 use Rattle.machine_snapshots.proofs.focus.focus_term.Goals as goal
@@ -43,4 +44,28 @@ returns-in-Asked c = record {
       if_ok c.call_of.result (λ (r : Term). tree_of r ≡ node (Call c.args.machine.now.asked.text) (trees (map loc c.last_of-own-in-Asked.result.now))) (λ (r : Term). tree_of r ≡ t)
       (λ r h. h ∙ ap (λ (l : List ℕ). node (Call c.args.machine.now.asked.text) (trees (map loc l))) own_is ∙ ap (node (Call c.args.machine.now.asked.text)) (locs_alone own) ∙ sym is)
       c.call_of.ensures.call;
+}
+
+pub returns-in-Calls : goal.returns-in-Calls
+returns-in-Calls c = record {
+  inner = λ t stands.
+      let ns : List ℕ = drop c.args.machine.now.base c.args.machine.now.env.items in
+      let ops : List ℕ = c.args.machine.now.operands.items in
+      let own : List ℕ = last c.in-Calls.done ops in
+      let is : IsFocus c.args.code.now c.args.machine.now.asked.text ns own (focus.Calls c.in-Calls.spread c.in-Calls.number c.in-Calls.members c.in-Calls.done) t =
+      subst (λ (f : Focus). IsFocus c.args.code.now c.args.machine.now.asked.text ns (last (taken f) ops) f t) c.in-Calls.is stands in
+      let own_is : c.last_of-own-in-Calls.result.now ≡ own = c.last_of-own-in-Calls.ensures.places ∙ ap (last c.in-Calls.done) c.deref-in-Calls.ensures.value in
+      c.dealt_term.ensures.term t (subst (λ (l : List ℕ). IsDealt c.args.code.now c.in-Calls.spread l c.in-Calls.number c.in-Calls.members t) (sym own_is) is);
+}
+
+pub returns-in-Called : goal.returns-in-Called
+returns-in-Called c = record {
+  inner = λ t stands.
+      let ns : List ℕ = drop c.args.machine.now.base c.args.machine.now.env.items in
+      let ops : List ℕ = c.args.machine.now.operands.items in
+      let own : List ℕ = last c.in-Called.count ops in
+      let is : IsFocus c.args.code.now c.args.machine.now.asked.text ns own (focus.Called c.in-Called.number c.in-Called.count) t =
+      subst (λ (f : Focus). IsFocus c.args.code.now c.args.machine.now.asked.text ns (last (taken f) ops) f t) c.in-Called.is stands in
+      let own_is : c.last_of-own-in-Called.result.now ≡ own = c.last_of-own-in-Called.ensures.places ∙ ap (last c.in-Called.count) c.deref-in-Called.ensures.value in
+      c.called_term.ensures.term t (subst (λ (l : List ℕ). IsCalled c.args.code.now l c.in-Called.number t) (sym own_is) is);
 }

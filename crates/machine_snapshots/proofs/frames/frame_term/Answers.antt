@@ -1,25 +1,28 @@
-use Rattle.std.proofs.Common.{◌≡◌, ◌∙◌, List, ℕ, IfOk, drop, take, subst, ap}
+use Rattle.std.proofs.Common.{◌≡◌, IfOk, List, ℕ, drop, take, subst, sym}
 use Rattle.asp_model.specs.declared.term.Term.{Term}
 use Rattle.asp_model.specs.Shapes.{tree_of}
-use Rattle.program_code.specs.Pieces.{Piece}
-use Rattle.program_code.specs.Tables.{piece_at, pieces}
-use Rattle.code_laws.specs.Nodes as nodes
-use Rattle.code_decoder.specs.Decoded.{IsContextIn}
-use Rattle.code_decoder.proofs.BehindLemmas.{if_ok}
-use Rattle.machine_frames.specs.Stacks.{last}
+use Rattle.machine_frames.specs.declared.frames.Form.{Form}
+use Rattle.machine_frames.specs.declared.frames.Form.TheVariants as form
+use Rattle.machine_frames.specs.Calls.{IsCalling}
+use Rattle.machine_frames.specs.Items.{Waits}
+use Rattle.machine_frames.specs.Stacks.{IsItem, last}
 use Rattle.machine_snapshots.specs.Shown.{hole_tree}
-use Rattle.machine_snapshots.proofs.TermLemmas.{context_is}
 use Rattle.machine_snapshots.proofs.frames.frame_term.Goals as goal
 
-pub returns : goal.returns
-returns c = record {
-  context = λ context waits.
+pub returns-in-Terms : goal.returns-in-Terms
+returns-in-Terms c = record {
+  context = λ context item.
       let ns : List ℕ = drop c.args.frame.base (take c.args.frame.height c.args.cursor.now.env.now) in
       let done : List ℕ = last c.args.frame.done c.args.cursor.now.operands.now in
-      let p : Piece = nodes.later c.args.frame.from (piece_at (pieces c.args.code.now) c.args.frame.node) in
-      let places_are : c.behind-places.result.now ≡ ns = c.behind-places.ensures.places ∙ ap (drop c.args.frame.base) c.up_to.ensures.places in
-      if_ok c.context_of.result (λ (r : Term). IsContextIn c.behind-places.result.now c.last_of-done.result.now p (tree_of r)) (λ (r : Term). tree_of r ≡ hole_tree context)
-      (λ r h. context_is c.args.code.now ns done c.args.frame.node c.args.frame.from (tree_of r) context
-      (subst (λ (l : List ℕ). IsContextIn ns l p (tree_of r)) c.last_of-done.ensures.places (subst (λ (l : List ℕ). IsContextIn l c.last_of-done.result.now p (tree_of r)) places_are h)) waits)
-      c.context_of.ensures.context;
+      c.node_term.ensures.context context (subst (λ (x : Form). IsItem c.args.code.now ns done x c.args.frame.node c.args.frame.from (Waits context)) c.in-Terms.is item);
+}
+
+pub returns-in-Calls : goal.returns-in-Calls
+returns-in-Calls c = record {
+  context = λ context item.
+      let ns : List ℕ = drop c.args.frame.base (take c.args.frame.height c.args.cursor.now.env.now) in
+      let done : List ℕ = last c.args.frame.done c.args.cursor.now.operands.now in
+      let calling : IsCalling c.args.code.now c.in-Calls.spread done c.args.frame.node c.args.frame.from context =
+      subst (λ (x : Form). IsItem c.args.code.now ns done x c.args.frame.node c.args.frame.from (Waits context)) c.in-Calls.is item in
+      c.calling_term.ensures.context context (subst (λ (l : List ℕ). IsCalling c.args.code.now c.in-Calls.spread l c.args.frame.node c.args.frame.from context) (sym c.last_of-own.ensures.places) calling);
 }

@@ -18,7 +18,7 @@ returns-then-not-go c = record {
   turn = λ k t vs s ls h at.
       let a = c.args.self.now in
       let q = a.store.cells in
-      let ops : List ℕ = last c.args.count a.machine.operands.items in
+      let ops : List ℕ = last c.args.size a.machine.operands.items in
       let no0 : c.args.go ≡ false = search (rules, c.if-not-go.true) in
       could k a t vs s ls c.args.go c.args.count (value_redex Group ops) h at no0 (loc (length (store_of k q)), store_of k q ++ store.Group ops ∷ [], [], refl);
 }
@@ -28,7 +28,7 @@ returns c = record {
   turn = λ k t vs s ls h at.
       let a = c.args.self.now in
       let q = a.store.cells in
-      let ops : List ℕ = last c.args.count a.machine.operands.items in
+      let ops : List ℕ = last c.args.size a.machine.operands.items in
       let yes0 : c.args.go ≡ true = search (rules, c.if-not-go.false) in
       let members : c.extend_from_slice.new.self.items ≡ ops = search (rules, c.in_ok-extend_from_slice.ensures.items, c.in_ok-members.ensures.items, c.last_operands-operands.ensures.operands) in
       let row : contract (store_of k q) (value_redex Group ops) ≡ Becomes (loc c.in_ok-place.place) (store_of k c.add.new.self.cells) [] =

@@ -3,6 +3,7 @@ use Rattle.program_code.specs.declared.code.Node.{Node}
 use Rattle.machine_frames.specs.Rows.{AtNode, is_simple}
 use Rattle.machine_frames.specs.Standing.{View, view_of}
 use Rattle.machine_frames.proofs.RowLemmas.{value_row}
+use Rattle.machine_frames.proofs.SpreadLemmas.{at_call}
 use Rattle.program_code.specs.Classes.{class_of}
 use Rattle.program_code.specs.declared.code.Class.{Class}
 use Rattle.activity_step.proofs.TermLemmas.{simple_size}
@@ -25,7 +26,17 @@ returns-in-Call c = record {
       let v : View = view_of c.args.self.now.machine in
       let n : Node = c.in-Some.node.now in
       let here : AtNode k v c.args.number c.args.from c.args.count n = record { focus = at; full = full; node = c.in-Some.ensures.piece } in
-      c.call_turn.ensures.turn c.args.number c.args.from n t vs s ls h here c.in-Call.is;
+      c.call_turn.ensures.turn t vs s ls h (at_call k v c.args.number c.args.from c.args.count n c.in-Call.label t vs h.machine here c.in-Call.is);
+}
+
+pub returns-in-Scatter : goal.returns-in-Scatter
+returns-in-Scatter c = record {
+  turn = λ t vs s ls h at full.
+      let k = c.args.code.now in
+      let v : View = view_of c.args.self.now.machine in
+      let n : Node = c.in-Some.node.now in
+      let here : AtNode k v c.args.number c.args.from c.args.count n = record { focus = at; full = full; node = c.in-Some.ensures.piece } in
+      c.scatter_turn.ensures.turn k c.args.from n c.in-Scatter.field-0 t vs s ls h here c.in-Scatter.is;
 }
 
 pub returns-in-Let : goal.returns-in-Let
@@ -86,10 +97,9 @@ returns-in-Number c = record {
         | inr (inr (inr (inr (inr (inr (inr (inl x))))))) ↦ ap is_simple x
         | inr (inr (inr (inr (inr (inr (inr (inr (inl x)))))))) ↦ ap is_simple x.1
         | inr (inr (inr (inr (inr (inr (inr (inr (inr (inl x))))))))) ↦ ap is_simple x
-        | inr (inr (inr (inr (inr (inr (inr (inr (inr (inr (inl x)))))))))) ↦ ap is_simple x.1
+        | inr (inr (inr (inr (inr (inr (inr (inr (inr (inr (inl x)))))))))) ↦ ap is_simple x
         | inr (inr (inr (inr (inr (inr (inr (inr (inr (inr (inr (inl x))))))))))) ↦ ap is_simple x
-        | inr (inr (inr (inr (inr (inr (inr (inr (inr (inr (inr (inr (inl x)))))))))))) ↦ ap is_simple x
-        | inr (inr (inr (inr (inr (inr (inr (inr (inr (inr (inr (inr (inr x)))))))))))) ↦ ap is_simple x
+        | inr (inr (inr (inr (inr (inr (inr (inr (inr (inr (inr (inr x))))))))))) ↦ ap is_simple x
       ] in
       c.simple_turn.ensures.turn (length n.children.items) t vs s ls c.in-Some.ensures.sound h
       (value_row k v c.args.number c.args.from c.args.count n t vs h.machine at full c.in-Some.ensures.piece simple) (simple_size k v c.args.number c.args.from c.args.count n here simple);

@@ -101,3 +101,12 @@ returns-in-Operate c = record { turn = λ size t vs s ls sound h at whole. c.val
 
 pub returns-in-Print : goal.returns-in-Print
 returns-in-Print c = record { turn = λ size t vs s ls sound h at whole. c.value_turn-in-Print.ensures.turn t vs s ls h at }
+
+pub returns-in-Size : goal.returns-in-Size
+returns-in-Size c = record { turn = λ size t vs s ls sound h at whole. c.value_turn-in-Size.ensures.turn t vs s ls h at }
+
+pub returns-in-Member : goal.returns-in-Member
+returns-in-Member c = record { turn = λ size t vs s ls sound h at whole. c.value_turn-in-Member.ensures.turn t vs s ls h at }
+
+pub returns-in-WaitAll : goal.returns-in-WaitAll
+returns-in-WaitAll c = record { turn = λ size t vs s ls sound h at whole. c.value_turn-in-WaitAll.ensures.turn t vs s ls h at }

@@ -2,6 +2,7 @@ use Rattle.std.proofs.Common.{◌≡◌, List, subst}
 use Rattle.program_code.specs.declared.code.Node.{Node}
 use Rattle.machine_frames.specs.Standing.{View, view_of}
 use Rattle.activity_step.specs.Turns.{Stands}
+use Rattle.machine_frames.proofs.CallLemmas.{AtCalls, at_calls, results, results_redex}
 use Rattle.machine_frames.proofs.RowLemmas.{rests}
 use Rattle.asp_model.specs.Term.{Tree}
 use Rattle.asp_model.specs.Configuration.{ServiceShape}
@@ -50,4 +51,31 @@ returns-in-Asked c = record {
       let x : State = record { machine = c.settle.new.self; store = a.store; lines = a.lines } in
       let here : Stands k x t vs s ls = record { machine = settled.standing; store = h.store; lines = h.lines } in
       c.asked_turn.ensures.turn t vs s ls here c.in-Asked.is;
+}
+
+pub returns-in-Calls : goal.returns-in-Calls
+returns-in-Calls c = record {
+  turn = λ t vs s ls h.
+      let k = c.args.code.now in
+      let a = c.args.self.now in
+      let new : View = view_of c.settle.new.self in
+      let settled : Settled k t vs new = settles k c.nodes.result.now (view_of a.machine) new t vs c.nodes.ensures.nodes h.machine c.in_ok-settle.ensures.settled in
+      let x : State = record { machine = c.settle.new.self; store = a.store; lines = a.lines } in
+      let here : Stands k x t vs s ls = record { machine = settled.standing; store = h.store; lines = h.lines } in
+      let full = subst (IsSettledAt k new.frames) c.in-Calls.is settled.settled in
+      let at : AtCalls k new c.in-Calls._spread c.in-Calls._number c.in-Calls.members c.in-Calls.done t vs = at_calls k new c.in-Calls._spread c.in-Calls._number c.in-Calls.members c.in-Calls.done t vs settled.standing c.in-Calls.is in
+      c.group_turn.ensures.turn k t vs s ls here
+      (results_redex k new c.in-Calls.members c.in-Calls.done t vs (results k new c.in-Calls._spread c.in-Calls._number c.in-Calls.members c.in-Calls.done t vs at full));
+}
+
+pub returns-in-Called : goal.returns-in-Called
+returns-in-Called c = record {
+  turn = λ t vs s ls h.
+      let k = c.args.code.now in
+      let a = c.args.self.now in
+      let new : View = view_of c.settle.new.self in
+      let settled : Settled k t vs new = settles k c.nodes.result.now (view_of a.machine) new t vs c.nodes.ensures.nodes h.machine c.in_ok-settle.ensures.settled in
+      let x : State = record { machine = c.settle.new.self; store = a.store; lines = a.lines } in
+      let here : Stands k x t vs s ls = record { machine = settled.standing; store = h.store; lines = h.lines } in
+      c.called_turn.ensures.turn t vs s ls here c.in-Called.is;
 }

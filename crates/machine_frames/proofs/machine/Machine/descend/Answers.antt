@@ -26,3 +26,13 @@ returns-in-Asked c = record {
       let new : View = view_of c.loop-self.self in
       record { standing = (c.loop-self.invariant t vs h inner).0; settled = subst (IsSettledAt c.args.nodes.now new.frames) (sym c.in-Asked.is) tt };
 }
+
+pub returns-in-Called : goal.returns-in-Called
+returns-in-Called c = record {
+  settled = λ t vs h inner.
+      let new : View = view_of c.loop-self.self in
+      record { standing = (c.loop-self.invariant t vs h inner).0; settled = subst (IsSettledAt c.args.nodes.now new.frames) (sym c.in-Called.is) tt };
+}
+
+pub returns-in-Calls : goal.returns-in-Calls
+returns-in-Calls c = record { settled = λ t vs h inner. c.deal.ensures.settled t vs (c.loop-self.invariant t vs h inner).0 c.in-Calls.is }

@@ -1,11 +1,11 @@
 use Rattle.std.proofs.Common.{sym, subst}
 use Rattle.machine_frames.specs.Standing.{View, Standing, view_of}
 use Rattle.machine_frames.specs.Views.{outer}
-use Rattle.machine_frames.proofs.MoveLemmas.{closed}
+use Rattle.machine_frames.proofs.CallLemmas.{closes}
 use Rattle.machine_frames.proofs.machine.Machine.fill.Goals as goal
 
 pub returns-clause-filled : goal.returns-clause-filled
 returns-clause-filled c = λ k t vs h at.
     let v : View = view_of c.args.self.now in
     subst (λ (w : View). Standing k w t vs) (sym c.in_ok-close.ensures.view)
-    (closed k v (outer v.frames) c.in-Some.frame c.args.place t vs h at c.in-Some.ensures.some.1 c.in-Some.ensures.some.0)
+    (closes k v (outer v.frames) c.in-Some.frame c.args.place t vs c.in-Some.ensures.some.0 h at c.in-Some.ensures.some.1)

@@ -1,15 +1,9 @@
 use Rattle.std.proofs.Common.{rules, ◌≡◌, true, false, List, sym, ap, subst, ◌∙◌, reverse}
 use Rattle.program_code.specs.declared.code.Node.{Node}
-use Rattle.machine_frames.specs.declared.frames.Focus.{Focus}
 use Rattle.machine_frames.specs.declared.frames.Focus.TheVariants as focus
 use Rattle.machine_frames.specs.Standing.{Standing, View, view_of}
-use Rattle.machine_frames.specs.Views.{IsAlone, IsAtNode, IsFilled, IsInner, IsSettledAt}
+use Rattle.machine_frames.specs.Views.{IsAlone, IsFilled, IsSettledAt}
 use Rattle.machine_frames.proofs.machine.Machine.leave.Goals as goal
-
-inner : (f : Focus) → IsAtNode f → IsInner f
-inner (focus.Node number from done) h = tt
-inner (focus.Place p) h = absurd h
-inner (focus.Asked n) h = absurd h
 
 pub returns-then-branch : goal.returns-then-branch
 returns-then-branch c = record {
@@ -19,7 +13,7 @@ returns-then-branch c = record {
       let new : View = view_of c.fill.new.self in
       let filled : c.in_ok-fill.field-0 ≡ true = search (rules, c.if-branch.true) in
       let standing : Standing k new t vs = subst (IsFilled k t vs old new) filled (c.in_ok-fill.ensures.filled k t vs h at) in
-      c.descend.ensures.settled t vs standing (inner c.fill.new.self.focus (c.in_ok-fill.ensures.node filled));
+      c.descend.ensures.settled t vs standing (c.in_ok-fill.ensures.inner filled);
 }
 
 pub returns-else-branch : goal.returns-else-branch

@@ -2,6 +2,7 @@ use Rattle.std.proofs.Common.{List, subst}
 use Rattle.program_code.specs.declared.code.Node.{Node}
 use Rattle.machine_frames.specs.Standing.{View, view_of}
 use Rattle.machine_frames.specs.Views.{IsSettledAt, Settled}
+use Rattle.machine_frames.proofs.CallLemmas.{at_calls, called, call_some, results, results_some}
 use Rattle.machine_frames.proofs.RowLemmas.{asked, asked_some, at_some}
 use Rattle.machine_frames.proofs.machine.Machine.redex.Goals as goal
 
@@ -21,4 +22,24 @@ returns-in-Asked c = record {
       let new : View = view_of c.settle.new.self in
       let s : Settled k t vs new = c.in_ok-settle.ensures.settled t vs h in
       asked_some k new c.in-Asked.count t vs (asked k new c.in-Asked.count t vs s.standing c.in-Asked.is);
+}
+
+pub returns-in-Calls : goal.returns-in-Calls
+returns-in-Calls c = record {
+  redex = λ t vs h.
+      let k : List Node = c.args.nodes.now in
+      let new : View = view_of c.settle.new.self in
+      let s : Settled k t vs new = c.in_ok-settle.ensures.settled t vs h in
+      let full = subst (IsSettledAt k new.frames) c.in-Calls.is s.settled in
+      results_some k new c.in-Calls._members c.in-Calls.done t vs
+      (results k new c.in-Calls._spread c.in-Calls._number c.in-Calls._members c.in-Calls.done t vs (at_calls k new c.in-Calls._spread c.in-Calls._number c.in-Calls._members c.in-Calls.done t vs s.standing c.in-Calls.is) full);
+}
+
+pub returns-in-Called : goal.returns-in-Called
+returns-in-Called c = record {
+  redex = λ t vs h.
+      let k : List Node = c.args.nodes.now in
+      let new : View = view_of c.settle.new.self in
+      let s : Settled k t vs new = c.in_ok-settle.ensures.settled t vs h in
+      call_some k new c.in-Called._number c.in-Called.count _ t vs (called k new c.in-Called._number c.in-Called.count t vs s.standing c.in-Called.is);
 }

@@ -1,0 +1,74 @@
+//! Calls of the members of groups.
+
+ghost use Rattle.std.specs.Prelude.{◌≡◌, IfOk, List, ℕ};
+ghost use Rattle.asp_model.specs.declared.word.Label.{Label as LabelShape};
+ghost use Rattle.asp_model.specs.Configuration.{ServiceShape};
+ghost use Rattle.asp_model.specs.Contraction.{LineShape};
+ghost use Rattle.asp_model.specs.Store.{Store as StoreShape};
+ghost use Rattle.asp_model.specs.Term.{Tree};
+ghost use Rattle.program_code.specs.declared.code.Kind.TheVariants as kind;
+ghost use Rattle.program_code.specs.declared.code.Node.{Node as NodeShape};
+ghost use Rattle.machine_frames.specs.declared.frames.Focus.TheVariants as focus;
+ghost use Rattle.machine_frames.specs.Rows.{AtNode};
+ghost use Rattle.machine_frames.specs.Standing.{view_of};
+ghost use Rattle.activity_step.specs.Turns.{IsTurn, Stands};
+
+use crate::reducing::node_in;
+use crate::state::State;
+use crate::turn::Turn;
+use activity_rows::{Scattering, scatter_row};
+use machine_frames::{Spread, call_label};
+use program_code::Code;
+use std::alloc::{AllocError, Global};
+
+impl State {
+    /// `scatter(i, m, k)`.
+    pub fn scatter_turn(
+        &mut self,
+        alloc: Global,
+        number: usize,
+        count: usize,
+        go: bool,
+    ) -> Result<Turn, AllocError>
+        ensures turn { (k : List NodeShape) (from : ℕ) (n : NodeShape) (l : LabelShape) (t : Tree)
+            (vs : List ServiceShape) (s : StoreShape) (ls : List LineShape) →
+            Stands k self.old t vs s ls → AtNode k (view_of self.old.machine) number from count n →
+            n.kind ≡ kind.Scatter l → IfOk result (IsTurn k self.new t vs s ls go) }
+    {
+        let operands = self.machine.last_operands(count);
+        let scattering = scatter_row(&self.store, operands)?;
+        match scattering {
+            Scattering::Members(members, others) => {
+                if go {
+                    self.machine
+                        .spread(Spread::Own, number, count, members, others)?;
+                }
+                Ok(Turn::Reduces)
+            }
+            Scattering::Other(decision) => self.decided_turn(alloc, decision, count, go),
+        }
+    }
+
+    /// The call of a member.
+    pub fn called_turn(
+        &mut self,
+        alloc: Global,
+        code: &Code,
+        number: usize,
+        count: usize,
+        go: bool,
+    ) -> Result<Turn, AllocError>
+        ensures turn { (t : Tree) (vs : List ServiceShape) (s : StoreShape) (ls : List LineShape) →
+            Stands code.now self.old t vs s ls →
+            self.old.machine.focus ≡ focus.Called number count →
+            IfOk result (IsTurn code.now self.new t vs s ls go) }
+    {
+        let Some(node) = node_in(code, number) else {
+            return Err(AllocError);
+        };
+        let Some(label) = call_label(node) else {
+            return Err(AllocError);
+        };
+        self.call_turn(alloc, code, label, number, count, go)
+    }
+}
