@@ -5,3 +5,4 @@ pub mod EnterLemmas
 pub mod BelowLemmas
 pub mod ShowLemmas
 pub mod WalkLemmas
+pub mod ReadLemmas

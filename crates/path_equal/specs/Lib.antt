@@ -5,3 +5,4 @@ pub mod Spots
 pub mod Texts
 pub mod Walks
 pub mod Below
+pub mod Reading

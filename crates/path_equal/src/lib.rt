@@ -1,14 +1,19 @@
-//! Activities as they are read through filled futures, by paths.
+//! Activities as they are read through filled futures: the lines that show one, and what a path reads.
 #![tactic(auto)]
 
 mod below;
+mod children;
 mod entered;
+mod labels;
 mod lines;
 mod names;
+mod reading;
 mod seen;
 mod sights;
 mod state;
 mod texts;
 
+pub use labels::{PathLabel, Root};
 pub use lines::state_lines;
+pub use reading::{Found, read_path};
 pub use state::State;

@@ -1,0 +1,9 @@
+use Rattle.std.proofs.Common.{◌≡◌, ◌≤◌, drop, length}
+use Rattle.path_equal.specs.Reading.{captured_in}
+use Rattle.path_equal.proofs.children.captured_in.Given as goal
+
+abbrev pub invariant-loop-method : goal.invariant-loop-method
+invariant-loop-method l = record {
+  within : l.start ≤ length l.held;
+  so_far : captured_in l.label.text l.nth (drop l.method-index l.methods) (drop l.start l.held) ≡ captured_in l.label.text l.nth l.methods l.held;
+}

@@ -1,0 +1,35 @@
+use Rattle.std.proofs.Common.{List, ℕ, Option, ◌∙◌, sym, ap, slice_get}
+use Rattle.program_code.specs.declared.code.Class.{Class}
+use Rattle.coded_cells.specs.Shapes.{class_object}
+use Rattle.paths.specs.PathLabels.{To_field}
+use Rattle.path_equal.specs.declared.seen.Seen.{Seen}
+use Rattle.path_equal.specs.Reading.{child_cell, nth_of}
+use Rattle.path_equal.specs.Sights.{seen_shape}
+use Rattle.path_equal.proofs.ReadLemmas.{field_cell}
+use Rattle.path_equal.proofs.children.field.Goals as goal
+
+pub returns-in-Some : goal.returns-in-Some
+returns-in-Some c =
+    let code = c.in-Object.code.now in
+    let ns = c.in-Object.object.now.places.items in
+    let l = c.args.label.now.text in
+    record {
+      cell = c.place_at.ensures
+          ∙ ap (λ (xs : List ℕ). slice_get xs c.in-Some.number) c.deref.ensures.value
+          ∙ ap (nth_of ns) c.in-Some.ensures.number
+          ∙ field_cell code c.in_ok-class.class.now ns l
+          ∙ ap (λ (k : Option Class). child_cell (class_object code ns k) (To_field l)) c.in_ok-class.ensures.class
+          ∙ sym (ap (λ (s : Seen). child_cell (seen_shape s) (To_field l)) c.in-Object.is);
+    }
+
+pub returns-in-None : goal.returns-in-None
+returns-in-None c =
+    let code = c.in-Object.code.now in
+    let ns = c.in-Object.object.now.places.items in
+    let l = c.args.label.now.text in
+    record {
+      cell = ap (nth_of ns) c.in-None.ensures.number
+          ∙ field_cell code c.in_ok-class.class.now ns l
+          ∙ ap (λ (k : Option Class). child_cell (class_object code ns k) (To_field l)) c.in_ok-class.ensures.class
+          ∙ sym (ap (λ (s : Seen). child_cell (seen_shape s) (To_field l)) c.in-Object.is);
+    }

@@ -1,0 +1,6 @@
+use Rattle.std.proofs.Common.{◌≡◌, drop, slice_get}
+use Rattle.coded_copy.specs.Reached.{used_places}
+use Rattle.path_equal.proofs.children.used.Given as goal
+
+abbrev pub invariant-loop-slot : goal.invariant-loop-slot
+invariant-loop-slot l = slice_get (used_places l.captured (drop l.slot-index l.uses)) l.left ≡ slice_get (used_places l.captured l.uses) l.fn.nth

@@ -1,0 +1,11 @@
+use Rattle.std.proofs.Common.{◌≡◌, drop}
+use Rattle.paths.specs.PathLabels.{leads_by}
+use Rattle.paths.specs.Places.{Place, In_store}
+use Rattle.path_equal.specs.Reading.{labels_shape}
+use Rattle.path_equal.specs.Sights.{IsAt}
+use Rattle.path_equal.specs.States.{side_in}
+use Rattle.path_equal.proofs.reading.read_from.Given as goal
+
+abbrev pub invariant-loop-label : goal.invariant-loop-label
+invariant-loop-label l = (q : Place) × IsAt (side_in l.state) l.at q
+    × (leads_by (side_in l.state) (labels_shape (drop l.label-index l.path)) q ≡ leads_by (side_in l.state) (labels_shape l.path) (In_store l.fn.place))

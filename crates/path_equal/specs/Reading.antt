@@ -1,0 +1,92 @@
+-- What a path reads.
+use Rattle.std.specs.Prelude.{◌≡◌, ℕ, ℤ, true, false, List, [], ◌∷◌, Option, Some, None, length, map, take, drop, slice_get}
+use Rattle.asp_model.specs.Names.{Name, FutureShape, Text, same_text}
+use Rattle.asp_model.specs.Shapes.{future_shape}
+use Rattle.asp_model.specs.Store.{CellShape, reached}
+use Rattle.asp_model.specs.Store as store
+use Rattle.program_code.specs.declared.code.MethodCode.{MethodCode}
+use Rattle.coded_copy.specs.Reached.{used_places}
+use Rattle.paths.specs.Places.{Place, Side}
+use Rattle.paths.specs.PathLabels.{PathLabel, To_field, To_member, To_captured, number_by}
+use Rattle.paths.specs.Snapshots as roots
+use Rattle.path_equal.specs.declared.labels.Root.{Root}
+use Rattle.path_equal.specs.declared.labels.Root.TheVariants as root
+use Rattle.path_equal.specs.declared.labels.PathLabel.TheVariants as label
+use Rattle.path_equal.specs.declared.labels.PathLabel as labels
+use Rattle.path_equal.specs.declared.reading.Found.{Found}
+use Rattle.path_equal.specs.declared.reading.Found.TheVariants as found
+use Rattle.path_equal.specs.declared.sights.At.{At}
+use Rattle.path_equal.specs.declared.state.State.{State}
+use Rattle.path_equal.specs.Sights.{IsAt}
+
+-- What is found
+
+pub data FoundShape : Type 0 where
+  Number : (n : ℤ) → FoundShape
+  Object : FoundShape
+  Reference : (activity : Name) → FoundShape
+  -- a group of so many members
+  Group : (size : ℕ) → FoundShape
+  Unfilled : (future : FutureShape) → FoundShape
+  Nothing : FoundShape
+
+-- what a path found, without labels and places
+abbrev pub found_of : Option CellShape → FoundShape
+found_of None = Nothing
+found_of (Some (store.Number n)) = Number n
+found_of (Some (store.Object fields methods)) = Object
+found_of (Some (store.Reference n)) = Reference n
+found_of (Some (store.Future f)) = Unfilled f
+found_of (Some (store.Group ns)) = Group (length ns)
+
+abbrev pub found_shape : Found → FoundShape
+found_shape (found.Number n) = Number n
+found_shape found.Object = Object
+found_shape (found.Reference n) = Reference n.now
+found_shape (found.Group size) = Group size
+found_shape (found.Unfilled f) = Unfilled (future_shape f.now)
+found_shape found.Nothing = Nothing
+
+-- Paths
+
+abbrev pub root_shape : Root → roots.Root
+root_shape root.Active = roots.Active_object
+root_shape root.Value = roots.Result
+root_shape (root.TermAt n) = roots.Term_at n
+
+-- the cell of a root
+abbrev pub root_in : State → Root → Option ℕ
+root_in s root.Active = Some s.active
+root_in s root.Value = s.result
+root_in s (root.TermAt n) = slice_get s.locations.now n
+
+abbrev pub label_shape : labels.PathLabel → PathLabel
+label_shape (label.Field l) = To_field l.text
+label_shape (label.Member n) = To_member n
+label_shape (label.Captured m n) = To_captured m.text n
+
+abbrev pub labels_shape : List labels.PathLabel → List PathLabel
+labels_shape ls = map label_shape ls
+
+-- Children
+
+abbrev pub nth_of : List ℕ → Option ℕ → Option ℕ
+nth_of xs None = None
+nth_of xs (Some n) = slice_get xs n
+
+-- the cell to which a label leads from what is read
+abbrev pub child_cell : CellShape → PathLabel → Option ℕ
+child_cell c t = nth_of (reached c) (number_by c t)
+
+-- the number of a place that the first method with this label captured, among these places
+abbrev pub captured_in : Text → ℕ → List MethodCode → List ℕ → Option ℕ
+captured_in l k [] ns = None
+captured_in l k (m ∷ ms) ns = elim (same_text l m.label.text) [
+  | true ↦ slice_get (used_places (take (length m.captured.items) ns) m.uses.items) k
+  | false ↦ captured_in l k ms (drop (length m.captured.items) ns)
+]
+
+-- one reads at the child, or there is none
+abbrev pub IsAtChild : Side → Option At → Option Place → Type 0
+IsAtChild a None o = o ≡ None
+IsAtChild a (Some x) o = (q : Place) × (o ≡ Some q) × IsAt a x q
