@@ -11,7 +11,7 @@ use crate::rows::one_operand;
 use crate::seen::{Seen, sight_of};
 use asp_model::Fault;
 use coded_cells::{Cell, Place};
-use coded_store::Store;
+use object_store::Store;
 use std::alloc::AllocError;
 
 /// What the condition of an `if` comes to.

@@ -4,7 +4,7 @@ ghost use Rattle.std.specs.Prelude.{◌≡◌, ◌≤◌, ◌∷◌, [], IfNone,
 ghost use Rattle.coded_cells.specs.Cells.{cell_at, coded};
 
 use coded_cells::{Cell, Place};
-use coded_store::Store;
+use object_store::Store;
 
 /// The cell at a place.
 pub fn look<'a>(store: &'a Store, loc: Place) -> Option<&'a Cell>

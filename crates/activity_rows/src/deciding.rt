@@ -10,7 +10,7 @@ use crate::decision::Decision;
 use crate::groups::{member_row, size_row, wait_row};
 use crate::rows::{clone_row, get_row, operate_row, print_row, put_row};
 use coded_cells::Place;
-use coded_store::Store;
+use object_store::Store;
 use program_code::{Code, Kind};
 use std::alloc::AllocError;
 

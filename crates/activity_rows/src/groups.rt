@@ -38,7 +38,7 @@ use crate::rows::one_operand;
 use crate::seen::{Seen, sight_of};
 use asp_model::Fault;
 use coded_cells::{Cell, Place};
-use coded_store::Store;
+use object_store::Store;
 use std::alloc::AllocError;
 
 /// A group's members, a future, or neither.

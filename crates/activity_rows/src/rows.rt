@@ -25,7 +25,7 @@ use crate::numbers::operate;
 use crate::seen::{Seen, sight_of};
 use asp_model::{Fault, Label, Sign};
 use coded_cells::{Cell, Place};
-use coded_store::Store;
+use object_store::Store;
 use program_code::Code;
 use std::alloc::AllocError;
 

@@ -11,7 +11,7 @@ use crate::state::State;
 use crate::turn::Turn;
 use asp_model::{FutureName, Line};
 use coded_cells::Place;
-use coded_store::Store;
+use object_store::Store;
 use program_code::Code;
 use std::alloc::{AllocError, Global};
 use std::sync::Arc;

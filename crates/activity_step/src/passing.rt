@@ -11,7 +11,7 @@ ghost use Rattle.activity_step.specs.Standings.{code_of};
 
 use crate::activity::Activity;
 use coded_cells::{Parcel, Place};
-use coded_copy::unpack_at;
+use deep_copy::unpack_at;
 use std::alloc::{AllocError, Global};
 
 impl Activity {
@@ -26,7 +26,7 @@ impl Activity {
         ensures spent { self.now.spent ≡ true → result ≡ Err alloc_error }
     {
         self.unspent()?;
-        coded_copy::pack(alloc, &self.code, &self.state.store, places)
+        deep_copy::pack(alloc, &self.code, &self.state.store, places)
     }
 
     /// Puts a value at a place.

@@ -11,7 +11,7 @@ ghost use Rattle.activity_step.specs.Turns.{IsPerformed};
 use activity_rows::{Decision, look};
 use asp_model::Line;
 use coded_cells::{Cell, Object, Place};
-use coded_store::Store;
+use object_store::Store;
 use std::alloc::{AllocError, Global};
 
 /// The same cell.

@@ -28,7 +28,7 @@ use crate::activity::Activity;
 use crate::starting::code_is_sound;
 use asp_model::{FutureName, Label};
 use coded_cells::Parcel;
-use coded_copy::unpack;
+use deep_copy::unpack;
 use program_code::EMPTY_NUMBER;
 use std::alloc::{AllocError, Global};
 use std::mem;

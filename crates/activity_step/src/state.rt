@@ -1,7 +1,7 @@
 //! The state of an activity that contractions change.
 
 use asp_model::Line;
-use coded_store::Store;
+use object_store::Store;
 use machine_frames::Machine;
 
 /// Its term, its store, and its output in order.

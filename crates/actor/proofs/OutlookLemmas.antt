@@ -20,7 +20,7 @@ use Rattle.activity_step.specs.Activities.{StandsFor}
 use Rattle.activity_step.specs.Standings.{IsAt}
 use Rattle.coded_cells.specs.Cells.{CodedStore}
 use Rattle.coded_cells.specs.Shapes.{store_of}
-use Rattle.coded_store.specs.View.{StoreView}
+use Rattle.object_store.specs.View.{StoreView}
 use Rattle.program_code.specs.declared.code.Node.{Node}
 use Rattle.actor.specs.declared.actor.Actor.{Actor}
 use Rattle.actor.specs.declared.outlook.Outlook.TheVariants as outlook

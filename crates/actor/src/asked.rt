@@ -7,7 +7,7 @@ ghost use Rattle.actor.specs.Asking.{IsPlaced, asked_in, asked_shape, labels_in}
 use activity_rows::Redex;
 use asp_model::{ActivityName, Label};
 use coded_cells::{Cell, Place};
-use coded_store::Store;
+use object_store::Store;
 
 /// What a redex asks of others.
 #[derive(Clone, Copy)]

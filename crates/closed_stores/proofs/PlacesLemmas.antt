@@ -8,7 +8,7 @@ use Rattle.laws.proofs.MovedLemmas.{reached_moved}
 use Rattle.coded_cells.specs.Cells as coded
 use Rattle.coded_cells.specs.Cells.{CodedCell, moved_coded}
 use Rattle.coded_cells.specs.Shapes.{cell_of}
-use Rattle.coded_copy.proofs.MeaningLemmas.{cell_moved}
+use Rattle.deep_copy.proofs.MeaningLemmas.{cell_moved}
 use Rattle.closed_stores.specs.Places.{places_of}
 
 -- a map that keeps the places of a cell keeps the cell

@@ -10,7 +10,7 @@ ghost use Rattle.laws.specs.Closed.{AreBelow, CellsBelow, IsClosedParcel, IsClos
 ghost use Rattle.closed_stores.specs.Places.{places_of};
 
 use coded_cells::{Cell, Parcel, Place};
-use coded_store::Store;
+use object_store::Store;
 use program_code::Code;
 
 /// Each place is one of so many cells.

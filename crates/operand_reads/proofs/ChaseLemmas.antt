@@ -10,7 +10,7 @@ use Rattle.future_table.specs.Values as table
 use Rattle.future_table.specs.Values.{told}
 use Rattle.chase_laws.proofs.ChaseLemmas.{chase_finds}
 use Rattle.chase_laws.proofs.FutureLemmas.{no_some, some_is}
-use Rattle.coded_copy.proofs.UnpackLemmas.{some_cell}
+use Rattle.deep_copy.proofs.UnpackLemmas.{some_cell}
 use Rattle.operand_reads.specs.Faces.{face}
 use Rattle.operand_reads.specs.Sights.{Shows, value_sight}
 use Rattle.operand_reads.specs.Values.{AreClosedValues}

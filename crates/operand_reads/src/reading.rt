@@ -13,7 +13,7 @@ use crate::seen::{Seen, read, see};
 use crate::strict::Strict;
 use asp_model::FutureName;
 use coded_cells::{Parcel, Place};
-use coded_store::Store;
+use object_store::Store;
 use future_table::{Chase, FutureTable};
 use program_code::Code;
 

@@ -7,7 +7,7 @@ ghost use Rattle.operand_reads.specs.Sights.{seen_shape};
 
 use asp_model::{ActivityName, FutureName};
 use coded_cells::{Cell, Object, Place};
-use coded_store::Store;
+use object_store::Store;
 use program_code::Code;
 
 /// A cell as it is read. Past the end of a store the number 0 is read.

@@ -17,7 +17,7 @@ use crate::reading::{Operands, operands_of};
 use crate::rows::by_operands;
 use crate::strict::strict_of;
 use activity_rows::Redex;
-use coded_store::Store;
+use object_store::Store;
 use future_table::FutureTable;
 use program_code::Code;
 

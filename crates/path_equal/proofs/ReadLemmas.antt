@@ -25,7 +25,7 @@ use Rattle.program_code.specs.Tables.{pieces, piece_of, labels_of, head_of, seen
 use Rattle.program_code.proofs.UsesLemmas.{inside, found_in}
 use Rattle.coded_cells.specs.declared.cells.Parcel.{Parcel}
 use Rattle.coded_cells.specs.Shapes.{class_object, parcel_shape}
-use Rattle.coded_copy.specs.Reached.{used_places}
+use Rattle.deep_copy.specs.Reached.{used_places}
 use Rattle.future_table.specs.Values.{values_of}
 use Rattle.paths.specs.Places.{Place, In_store, Side, side_of, inner, beside, entered, read, found, children, child_by, told, nth_place, then_place, found_at}
 use Rattle.paths.specs.PathLabels.{PathLabel, To_field, To_member, To_captured, one_more, number_of_field, within, behind, number_of_captured, number_by, numbered_child, leads_by}

@@ -5,7 +5,7 @@ use Rattle.asp_model.specs.Shapes.{future_shape}
 use Rattle.asp_model.specs.Store.{CellShape, reached}
 use Rattle.asp_model.specs.Store as store
 use Rattle.program_code.specs.declared.code.MethodCode.{MethodCode}
-use Rattle.coded_copy.specs.Reached.{used_places}
+use Rattle.deep_copy.specs.Reached.{used_places}
 use Rattle.paths.specs.Places.{Place, Side}
 use Rattle.paths.specs.PathLabels.{PathLabel, To_field, To_member, To_captured, number_by}
 use Rattle.paths.specs.Snapshots as roots

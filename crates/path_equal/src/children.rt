@@ -16,7 +16,7 @@ ghost use Rattle.paths.specs.PathLabels.{
   number_by,
   numbered_child,
 };
-ghost use Rattle.coded_copy.specs.Reached.{used_places};
+ghost use Rattle.deep_copy.specs.Reached.{used_places};
 ghost use Rattle.path_equal.specs.Reading.{
   IsAtChild,
   captured_in as captured_of,

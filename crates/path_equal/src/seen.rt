@@ -8,7 +8,7 @@ ghost use Rattle.path_equal.specs.Sights.{seen_shape};
 
 use asp_model::{ActivityName, FutureName};
 use coded_cells::{Cell, Object, Parcel, Place};
-use coded_store::Store;
+use object_store::Store;
 use program_code::Code;
 
 /// A cell as it is read. Past the end of a store or a value the number 0 is read.

@@ -1,7 +1,7 @@
 //! The state of an activity.
 
 use coded_cells::Place;
-use coded_store::Store;
+use object_store::Store;
 use future_table::FutureTable;
 use program_code::Code;
 

@@ -3,7 +3,7 @@
 use asp_model::{ActivityName, FutureName};
 use closed_stores::FIELD;
 use coded_cells::{Cell, Object, Place};
-use coded_store::Store;
+use object_store::Store;
 use std::alloc::{AllocError, Global};
 
 /// What the cells of a store are.

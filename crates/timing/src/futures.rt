@@ -4,7 +4,7 @@ ghost use Rattle.std.specs.Prelude.{◌<◌};
 
 use crate::cells::{Kind, filled, future};
 use coded_cells::{Cell, Place};
-use coded_store::Store;
+use object_store::Store;
 use std::alloc::{AllocError, Global};
 
 /// The step from a replaced place to the next one, going round the store. It is a prime, so that all

@@ -4,8 +4,8 @@ use crate::cells::object;
 use anyhow::{Result, ensure};
 use closed_stores::{FIELD, FIELDS, code, is_closed_store};
 use coded_cells::{Cell, Place};
-use coded_copy::{pack, unpack};
-use coded_store::Store;
+use deep_copy::{pack, unpack};
+use object_store::Store;
 use std::alloc::{AllocError, Global};
 
 /// How the cells of a store hang together. What leads to all of them stands last.

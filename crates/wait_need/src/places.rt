@@ -10,7 +10,7 @@ ghost use Rattle.wait_need.specs.Needs.{need_of, need_shape, need_told};
 
 use crate::kinds::Need;
 use coded_cells::{Cell, Place};
-use coded_store::Store;
+use object_store::Store;
 use future_table::{Chase, FutureTable};
 
 /// What the cell at a place needs. It takes no memory.

@@ -10,7 +10,7 @@ use Rattle.program_code.specs.Tables.{labels_of, pieces, seen_methods}
 use Rattle.program_code.proofs.LookupLemmas as lookup
 use Rattle.coded_cells.specs.Shapes.{class_object, cell_of, store_of}
 use Rattle.coded_cells.proofs.CodedLemmas.{cell-store_of}
-use Rattle.coded_store.proofs.FieldLemmas.{places_set}
+use Rattle.object_store.proofs.FieldLemmas.{places_set}
 use Rattle.activity_rows.proofs.fields.put_in.Goals as goal
 
 pub returns-in_default-field : goal.returns-in_default-field

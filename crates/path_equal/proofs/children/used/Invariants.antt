@@ -1,5 +1,5 @@
 use Rattle.std.proofs.Common.{◌≡◌, drop, slice_get}
-use Rattle.coded_copy.specs.Reached.{used_places}
+use Rattle.deep_copy.specs.Reached.{used_places}
 use Rattle.path_equal.proofs.children.used.Given as goal
 
 abbrev pub invariant-loop-slot : goal.invariant-loop-slot

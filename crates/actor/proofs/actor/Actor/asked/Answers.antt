@@ -2,7 +2,7 @@ use Rattle.std.proofs.Common.{◌≡◌, ℕ, length, sym, ap, ◌∙◌, subst}
 use Rattle.asp_model.specs.Contraction.{Communicates, contract}
 use Rattle.activity_rows.specs.declared.redex.Redex.{Redex}
 use Rattle.asp_model.specs.Store.{Store}
-use Rattle.coded_store.specs.View.{StoreView}
+use Rattle.object_store.specs.View.{StoreView}
 use Rattle.laws.specs.Closed.{AreBelow}
 use Rattle.activity_step.specs.Standings.{IsAt}
 use Rattle.actor.specs.declared.actor.Actor.{Actor}

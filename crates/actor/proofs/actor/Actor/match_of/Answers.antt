@@ -5,7 +5,7 @@ use Rattle.asp_model.specs.Store.{CellShape, Store, cell}
 use Rattle.activity_rows.proofs.ReadLemmas.{cell_seen}
 use Rattle.coded_cells.specs.Cells.{CodedStore, cell_at, coded}
 use Rattle.coded_cells.specs.Shapes.{cell_shape}
-use Rattle.coded_store.specs.View.{StoreView}
+use Rattle.object_store.specs.View.{StoreView}
 use Rattle.program_code.specs.declared.code.Node.{Node}
 use Rattle.serve_rules.specs.Labels.{HaveSame, label_text}
 use Rattle.actor.specs.declared.actor.Actor.{Actor}

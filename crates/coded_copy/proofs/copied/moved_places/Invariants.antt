@@ -1,6 +1,0 @@
-use Rattle.std.proofs.Common.{◌≡◌, map, take}
-use Rattle.coded_copy.specs.Moves.{move_of}
-use Rattle.coded_copy.proofs.copied.moved_places.Given as goal
-
-abbrev pub invariant-loop-place : goal.invariant-loop-place
-invariant-loop-place l = l.copies.items ≡ map (move_of l.moves) (take l.place-index l.places)

@@ -1,9 +1,0 @@
-use Rattle.std.proofs.Common.{◌≡◌, ◌≤◌, ◌++◌, drop, length}
-use Rattle.coded_copy.specs.Reached.{captured_places}
-use Rattle.coded_copy.proofs.reached.note_captured.Given as goal
-
-abbrev pub invariant-loop-method : goal.invariant-loop-method
-invariant-loop-method l = record {
-  within : l.start ≤ length l.held;
-  so_far : l.places.items ++ captured_places (drop l.method-index l.methods) (drop l.start l.held) ≡ l.fn.places.items ++ captured_places l.methods l.held;
-}

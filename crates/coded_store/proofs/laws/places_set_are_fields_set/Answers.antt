@@ -1,5 +1,0 @@
-use Rattle.coded_store.proofs.FieldLemmas.{places_set}
-use Rattle.coded_store.proofs.laws.places_set_are_fields_set.Goals as goal
-
-pub returns : goal.returns
-returns c = record { law = places_set }

@@ -1,0 +1,84 @@
+//! Cells with other places. An object keeps its class, so no code is copied.
+
+ghost use Rattle.std.specs.Prelude.{◌≡◌, IfOk, map};
+ghost use Rattle.std.specs.Arc.{arc_value};
+ghost use Rattle.asp_model.specs.Shapes.{future_shape};
+ghost use Rattle.coded_cells.specs.Cells.{
+  Future,
+  Group,
+  Object as object_with,
+  Reference,
+  coded,
+  moved_coded,
+};
+ghost use Rattle.deep_copy.specs.Moves.{move_of};
+ghost use Rattle.program_code.specs.Sound.{IsSound};
+
+use crate::moves::Moves;
+use asp_model::{ActivityName, FutureName};
+use coded_cells::{Cell, Object, Place};
+use program_code::Code;
+use std::alloc::{AllocError, Global};
+use std::sync::Arc;
+
+/// Code is sound by its type. What a moved cell stands for rests on that.
+pub fn code_is_sound(code: &Arc<Code>)
+    ensures sound { IsSound (arc_value code.now) }
+{
+    let _nodes = code.nodes();
+}
+
+/// The cell with each of its places moved.
+pub fn moved_cell(alloc: Global, moves: &Moves, cell: &Cell) -> Result<Cell, AllocError>
+    ensures moved { IfOk result (λ r. coded r ≡ moved_coded (move_of moves.now) (coded cell.now)) }
+{
+    match cell {
+        Cell::Number(n) => Ok(Cell::Number(*n)),
+        Cell::Object(object) => moved_object(alloc, moves, object),
+        Cell::Reference(name) => reference(alloc, name),
+        Cell::Future(future) => held_future(alloc, future),
+        Cell::Group(members) => group(alloc, moved_places(alloc, moves, members)?),
+    }
+}
+
+/// Each of the places moved.
+pub fn moved_places(
+    alloc: Global,
+    moves: &Moves,
+    places: &[Place],
+) -> Result<Vec<Place>, AllocError>
+    ensures { IfOk result (λ r. r.items ≡ map (move_of moves.now) places.now) }
+{
+    let mut copies = Vec::with_capacity(alloc, places.len())?;
+    for place in places {
+        copies.push(moves.moved(*place))?;
+    }
+    Ok(copies)
+}
+
+fn moved_object(alloc: Global, moves: &Moves, object: &Object) -> Result<Cell, AllocError>
+    ensures { let places = map (move_of moves.now) object.now.places.items in
+        IfOk result (λ r. coded r ≡ object_with object.now.class places) }
+{
+    let places = moved_places(alloc, moves, &object.places)?;
+    let class = object.class;
+    Ok(Cell::Object(Box::new(alloc, Object { class, places })?))
+}
+
+fn reference(alloc: Global, name: &ActivityName) -> Result<Cell, AllocError>
+    ensures { IfOk result (λ r. coded r ≡ Reference name.now) }
+{
+    Ok(Cell::Reference(Box::new(alloc, name.copy(alloc)?)?))
+}
+
+fn held_future(alloc: Global, future: &FutureName) -> Result<Cell, AllocError>
+    ensures { IfOk result (λ r. coded r ≡ Future (future_shape future.now)) }
+{
+    Ok(Cell::Future(Box::new(alloc, future.copy(alloc)?)?))
+}
+
+fn group(alloc: Global, members: Vec<Place>) -> Result<Cell, AllocError>
+    ensures { IfOk result (λ r. coded r ≡ Group members.items) }
+{
+    Ok(Cell::Group(Box::new(alloc, members)?))
+}

@@ -1,0 +1,61 @@
+//! The parcel of what some places reach.
+
+ghost use Rattle.std.specs.Prelude.{◌≡◌, IfOk, length, map};
+ghost use Rattle.std.specs.Arc.{arc_value};
+ghost use Rattle.asp_model.specs.Parcel.{parcel_of};
+ghost use Rattle.coded_cells.specs.Cells.{all_coded};
+ghost use Rattle.coded_cells.specs.Fits.{AllFitCode};
+ghost use Rattle.coded_cells.specs.Shapes.{parcel_shape, store_of};
+ghost use Rattle.deep_copy.specs.Copied.{copied_cell};
+ghost use Rattle.laws.specs.Closed.{AreBelow, IsClosedParcel, IsClosedStore};
+
+use crate::copied::{code_is_sound, moved_cell, moved_places};
+use crate::moves::Moves;
+use crate::visiting::visit_order;
+use coded_cells::{Cell, Parcel, Place};
+use object_store::Store;
+use program_code::Code;
+use std::alloc::{AllocError, Global};
+use std::sync::Arc;
+
+/// The deep copy of what the roots reach, each cell once.
+pub fn pack(
+    alloc: Global,
+    code: &Arc<Code>,
+    store: &Store,
+    roots: &[Place],
+) -> Result<Parcel, AllocError>
+    requires closed { IsClosedStore (store_of (arc_value code.now) store.now.cells) }
+    requires within { AreBelow (length store.now.cells) roots.now }
+    ensures parcel { let s = store_of (arc_value code.now) store.now.cells in
+        IfOk result (λ p. parcel_shape p ≡ parcel_of s roots.now) }
+    ensures code { IfOk result (λ p. arc_value p.code ≡ arc_value code.now) }
+    ensures closed { IfOk result (λ p. IsClosedParcel (parcel_shape p)) }
+    ensures fits { let fit = AllFitCode (arc_value code.now) in
+        IfOk result (λ p. fit store.now.cells → fit (all_coded p.cells.items)) }
+{
+    code_is_sound(code);
+    let order = visit_order(alloc, code, store, roots)?;
+    let moves = Moves::ToNumber(&order);
+    let cells = copied_cells(alloc, store, &moves, order.as_slice())?;
+    let roots = moved_places(alloc, &moves, roots)?;
+    let code = Arc::try_clone(code)?;
+    Ok(Parcel { code, cells, roots })
+}
+
+fn copied_cells(
+    alloc: Global,
+    store: &Store,
+    moves: &Moves,
+    places: &[Place],
+) -> Result<Vec<Cell>, AllocError>
+    requires within { AreBelow (length store.now.cells) places.now }
+    ensures { let copies = map (copied_cell moves.now store.now.cells) places.now in
+        IfOk result (λ r. all_coded r.items ≡ copies) }
+{
+    let mut cells = Vec::with_capacity(alloc, places.len())?;
+    for place in places {
+        cells.push(moved_cell(alloc, moves, store.cell(*place))?)?;
+    }
+    Ok(cells)
+}

@@ -1,0 +1,79 @@
+//! A parcel's cells in a store.
+
+ghost use Rattle.std.specs.Prelude.{◌≡◌, ◌<◌, IfOk, OnErr, OnOk, length, map};
+ghost use Rattle.std.specs.Arc.{arc_value};
+ghost use Rattle.asp_model.specs.Parcel.{
+  unpack as unpacked_in,
+  unpack_at as unpacked_at,
+  unpacked_roots,
+};
+ghost use Rattle.coded_cells.specs.Cells.{all_coded, moved_coded};
+ghost use Rattle.coded_cells.specs.Shapes.{parcel_shape, store_of};
+ghost use Rattle.deep_copy.specs.Copied.{IsClosedWith, KeepsFit};
+ghost use Rattle.deep_copy.specs.Moves.{move_of};
+ghost use Rattle.laws.specs.Closed.{IsClosedParcel, IsClosedValue};
+
+use crate::copied::{code_is_sound, moved_cell, moved_places};
+use crate::moves::Moves;
+use coded_cells::{Cell, Parcel, Place};
+use object_store::Store;
+use std::alloc::{AllocError, Global};
+
+/// Appends a parcel's cells, and answers where its roots then stand.
+pub fn unpack(alloc: Global, store: &mut Store, parcel: &Parcel) -> Result<Vec<Place>, AllocError>
+    requires closed { IsClosedParcel (parcel_shape parcel.now) }
+    ensures cells { let code = arc_value parcel.now.code in
+        let after = unpacked_in (store_of code store.old.cells) (parcel_shape parcel.now) in
+        OnOk result (store_of code store.new.cells ≡ after) }
+    ensures roots { let s = store_of (arc_value parcel.now.code) store.old.cells in
+        IfOk result (λ places. places.items ≡ unpacked_roots s (parcel_shape parcel.now)) }
+    ensures err { OnErr result (store.new.cells ≡ store.old.cells) }
+    ensures closed { let closed = IsClosedWith parcel.now in
+        OnOk result (closed store.old.cells → closed store.new.cells) }
+    ensures fits { OnOk result (KeepsFit parcel.now store.old.cells store.new.cells) }
+{
+    code_is_sound(&parcel.code);
+    let moves = Moves::Up(store.len());
+    let roots = moved_places(alloc, &moves, &parcel.roots)?;
+    let cells = moved_cells(alloc, &moves, &parcel.cells)?;
+    store.graft(None, cells)?;
+    Ok(roots)
+}
+
+/// Puts the cell of a parcel's root at a place, and appends the others.
+pub fn unpack_at(
+    alloc: Global,
+    store: &mut Store,
+    loc: Place,
+    parcel: &Parcel,
+) -> Result<(), AllocError>
+    requires value { IsClosedValue (parcel_shape parcel.now) }
+    requires within { loc < length store.old.cells }
+    ensures cells { let code = arc_value parcel.now.code in
+        let after = unpacked_at (store_of code store.old.cells) loc (parcel_shape parcel.now) in
+        OnOk result (store_of code store.new.cells ≡ after) }
+    ensures err { OnErr result (store.new.cells ≡ store.old.cells) }
+    ensures closed { let closed = IsClosedWith parcel.now in
+        OnOk result (closed store.old.cells → closed store.new.cells) }
+    ensures fits { OnOk result (KeepsFit parcel.now store.old.cells store.new.cells) }
+{
+    code_is_sound(&parcel.code);
+    let moves = Moves::RootTo {
+        root: loc,
+        size: store.len(),
+    };
+    let cells = moved_cells(alloc, &moves, &parcel.cells)?;
+    store.graft(Some(loc), cells)?;
+    Ok(())
+}
+
+fn moved_cells(alloc: Global, moves: &Moves, cells: &[Cell]) -> Result<Vec<Cell>, AllocError>
+    ensures { let copied = map (moved_coded (move_of moves.now)) (all_coded cells.now) in
+        IfOk result (λ r. all_coded r.items ≡ copied) }
+{
+    let mut copies = Vec::with_capacity(alloc, cells.len())?;
+    for cell in cells {
+        copies.push(moved_cell(alloc, moves, cell)?)?;
+    }
+    Ok(copies)
+}

@@ -1,0 +1,51 @@
+//! The order of a deep copy: each place at its first visit, and before what it reaches.
+
+ghost use Rattle.std.specs.Prelude.{◌≡◌, ◌++◌, IfOk, OnOk, length, reverse};
+ghost use Rattle.asp_model.specs.Parcel.{visit_order as order_of};
+ghost use Rattle.asp_model.specs.Store.{reached};
+ghost use Rattle.coded_cells.specs.Shapes.{cell_shape, store_of};
+ghost use Rattle.laws.specs.Closed.{AreBelow, IsClosedStore};
+
+use crate::reached::note_reached;
+use coded_cells::{Cell, Place};
+use object_store::Store;
+use indexmap::IndexSet;
+use program_code::Code;
+use std::alloc::{AllocError, Global};
+
+/// What the roots reach, in the order of a depth-first visit.
+pub fn visit_order(
+    alloc: Global,
+    code: &Code,
+    store: &Store,
+    roots: &[Place],
+) -> Result<IndexSet<Place>, AllocError>
+    requires closed { IsClosedStore (store_of code.now store.now.cells) }
+    requires within { AreBelow (length store.now.cells) roots.now }
+    ensures order { let s = store_of code.now store.now.cells in
+        IfOk result (λ seen. seen.keys ≡ order_of s roots.now) }
+    ensures within { IfOk result (λ seen. AreBelow (length store.now.cells) seen.keys) }
+{
+    let mut seen = IndexSet::new(alloc);
+    let mut stack = Vec::new(alloc);
+    stack.extend_from_slice(roots)?;
+    stack.reverse();
+    while let Some(place) = stack.pop() {
+        let (_, is_new) = seen.insert_full(place)?;
+        if is_new {
+            push_reached(&mut stack, code, store.cell(place))?;
+        }
+    }
+    Ok(seen)
+}
+
+// The last place comes to lie lowest, so that the first is taken first.
+fn push_reached(stack: &mut Vec<Place>, code: &Code, cell: &Cell) -> Result<(), AllocError>
+    ensures { let pushed = reverse (reached (cell_shape code.now cell.now)) in
+        OnOk result (stack.new.items ≡ stack.old.items ++ pushed) }
+{
+    let before = stack.len();
+    note_reached(stack, code, cell)?;
+    stack[before..].reverse();
+    Ok(())
+}

@@ -1,0 +1,100 @@
+-- How the holders of a future change with the cells.
+use Rattle.std.proofs.Common.{◌≡◌, ℕ, zero, suc, ◌+◌, ◌<◌, Bool, true, false, List, [], ◌∷◌, ◌++◌, length, refl, sym, ap, ◌∙◌, arith}
+use Rattle.asp_model.specs.Names.{FutureShape}
+use Rattle.coded_cells.specs.Cells.{CodedCell, CodedStore, cell_at, with_cell_at}
+use Rattle.std.specs.List.{AllByRecursion}
+use Rattle.object_store.specs.Index.{with_place, without_place}
+use Rattle.object_store.specs.Holders.{is_future, holders_from, holders}
+use Rattle.object_store.proofs.PlaceLemmas.{with_above, with_below, with_first, without_first, without_below}
+use Rattle.object_store.proofs.IndexLemmas.{changed_so}
+
+-- the places from n on, where the first cell has or has not the future
+abbrev front : Bool → ℕ → List ℕ → List ℕ
+front here n rest = elim here [ true ↦ n ∷ rest | false ↦ rest ]
+
+-- Order
+
+abbrev AllAbove : ℕ → List ℕ → Type 0
+AllAbove n = AllByRecursion (λ m. n < m)
+
+above : (m n : ℕ) (f : FutureShape) (cs : CodedStore) → m < n → AllAbove m (holders_from n f cs)
+above m n f [] lt = tt
+above m n f (c ∷ cs) lt =
+    let rest = above m (suc n) f cs (omega arith) in
+    elim (is_future f c) as (λ b. AllAbove m (front b n (holders_from (suc n) f cs))) [ true ↦ (lt, rest) | false ↦ rest ]
+
+with_least : (n : ℕ) (xs : List ℕ) → AllAbove n xs → with_place n xs ≡ n ∷ xs
+with_least n [] h = refl
+with_least n (x ∷ xs) h = with_above n x xs h.0
+
+-- One cell in the place of another
+
+-- the places of a future, where one cell had it or not, and has it then or not
+abbrev pub exchanged : (had has : Bool) → ℕ → List ℕ → List ℕ
+exchanged had has p xs = elim has [ true ↦ with_place p xs | false ↦ changed_so (without_place p) had xs ]
+
+exchanged_behind : (had has : Bool) (n p : ℕ) (xs : List ℕ) → n < p → exchanged had has p (n ∷ xs) ≡ n ∷ exchanged had has p xs
+exchanged_behind had true n p xs lt = with_below p n xs lt
+exchanged_behind true false n p xs lt = without_below p n xs lt
+exchanged_behind false false n p xs lt = refl
+
+behind_front : (here had has : Bool) (n p : ℕ) (xs : List ℕ) → n < p → front here n (exchanged had has p xs) ≡ exchanged had has p (front here n xs)
+behind_front true had has n p xs lt = sym (exchanged_behind had has n p xs lt)
+behind_front false had has n p xs lt = refl
+
+exchanged_first : (had has : Bool) (n : ℕ) (xs : List ℕ) → AllAbove n xs → front has n xs ≡ exchanged had has n (front had n xs)
+exchanged_first true true n xs h = sym (with_first n n xs refl)
+exchanged_first false true n xs h = sym (with_least n xs h)
+exchanged_first true false n xs h = sym (without_first n n xs refl)
+exchanged_first false false n xs h = refl
+
+replaced_from : (n : ℕ) (f : FutureShape) (cs : CodedStore) (i : ℕ) (c : CodedCell) → i < length cs → holders_from n f (with_cell_at cs i c) ≡ exchanged (is_future f (cell_at cs i)) (is_future f c) (n + i) (holders_from n f cs)
+replaced_from n f [] i c lt = absurd (omega arith)
+replaced_from n f (d ∷ cs) zero c lt =
+    let e : n + 0 ≡ n = omega arith in
+    exchanged_first (is_future f d) (is_future f c) n (holders_from (suc n) f cs) (above n (suc n) f cs (omega arith))
+    ∙ ap (λ p. exchanged (is_future f d) (is_future f c) p (front (is_future f d) n (holders_from (suc n) f cs))) (sym e)
+replaced_from n f (d ∷ cs) (suc i) c lt =
+    let e : suc n + i ≡ n + suc i = omega arith in
+    let had = is_future f (cell_at cs i) in
+    let has = is_future f c in
+    let rest = holders_from (suc n) f cs in
+    ap (front (is_future f d) n) (replaced_from (suc n) f cs i c (omega arith) ∙ ap (λ p. exchanged had has p rest) e)
+    ∙ behind_front (is_future f d) had has n (n + suc i) rest (omega arith)
+
+pub replaced : (f : FutureShape) (cs : CodedStore) (i : ℕ) (c : CodedCell) → i < length cs → holders f (with_cell_at cs i c) ≡ exchanged (is_future f (cell_at cs i)) (is_future f c) i (holders f cs)
+replaced f cs i c lt = let e : 0 + i ≡ i = omega arith in
+    replaced_from 0 f cs i c lt ∙ ap (λ p. exchanged (is_future f (cell_at cs i)) (is_future f c) p (holders f cs)) e
+
+-- a cell that holds the future as the one before it did
+pub held_alike : (n : ℕ) (f : FutureShape) (cs : CodedStore) (i : ℕ) (c : CodedCell) → is_future f c ≡ is_future f (cell_at cs i) → holders_from n f (with_cell_at cs i c) ≡ holders_from n f cs
+held_alike n f [] i c e = refl
+held_alike n f (d ∷ cs) zero c e = ap (λ b. front b n (holders_from (suc n) f cs)) e
+held_alike n f (d ∷ cs) (suc i) c e = ap (front (is_future f d) n) (held_alike (suc n) f cs i c e)
+
+-- One cell more, or less
+
+added_from : (n : ℕ) (f : FutureShape) (cs : CodedStore) (c : CodedCell) → holders_from n f (cs ++ c ∷ []) ≡ changed_so (with_place (n + length cs)) (is_future f c) (holders_from n f cs)
+added_from n f [] c = let e : n ≡ n + 0 = omega arith in ap (λ p. changed_so (with_place p) (is_future f c) []) e
+added_from n f (d ∷ cs) c =
+    let e : suc n + length cs ≡ n + suc (length cs) = omega arith in
+    let rest = holders_from (suc n) f cs in
+    ap (front (is_future f d) n) (added_from (suc n) f cs c ∙ ap (λ p. changed_so (with_place p) (is_future f c) rest) e)
+    ∙ behind_front (is_future f d) false (is_future f c) n (n + suc (length cs)) rest (omega arith)
+
+pub added : (f : FutureShape) (cs : CodedStore) (c : CodedCell) → holders f (cs ++ c ∷ []) ≡ changed_so (with_place (length cs)) (is_future f c) (holders f cs)
+added f cs c = let e : 0 + length cs ≡ length cs = omega arith in added_from 0 f cs c ∙ ap (λ p. changed_so (with_place p) (is_future f c) (holders f cs)) e
+
+left_from : (n : ℕ) (f : FutureShape) (cs : CodedStore) (c : CodedCell) → changed_so (without_place (n + length cs)) (is_future f c) (holders_from n f (cs ++ c ∷ [])) ≡ holders_from n f cs
+left_from n f [] c = elim (is_future f c) as (λ b. changed_so (without_place (n + 0)) b (front b n []) ≡ []) [
+  | true ↦ without_first (n + 0) n [] (omega arith)
+  | false ↦ refl
+]
+left_from n f (d ∷ cs) c =
+    let e : n + suc (length cs) ≡ suc n + length cs = omega arith in
+    let rest = holders_from (suc n) f (cs ++ c ∷ []) in
+    sym (behind_front (is_future f d) (is_future f c) false n (n + suc (length cs)) rest (omega arith))
+    ∙ ap (front (is_future f d) n) (ap (λ p. changed_so (without_place p) (is_future f c) rest) e ∙ left_from (suc n) f cs c)
+
+pub left : (f : FutureShape) (cs : CodedStore) (c : CodedCell) → changed_so (without_place (length cs)) (is_future f c) (holders f (cs ++ c ∷ [])) ≡ holders f cs
+left f cs c = let e : length cs ≡ 0 + length cs = omega arith in ap (λ p. changed_so (without_place p) (is_future f c) (holders f (cs ++ c ∷ []))) e ∙ left_from 0 f cs c

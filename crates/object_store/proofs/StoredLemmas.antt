@@ -1,0 +1,99 @@
+-- The index of a store, after each change of its cells.
+use Rattle.std.proofs.Common.{◌≡◌, ℕ, ◌<◌, Bool, true, false, not, List, [], ◌∷◌, ◌++◌, length, refl, sym, ap, subst, ◌∙◌, T}
+use Rattle.std.specs.Prelude.{◌&&◌}
+use Rattle.std.proofs.lemmas.Cmp.{eq_by_cmp_equiv, then_total, on_total, nat_cmp_total}
+use Rattle.std.specs.Cmp.{IsTotalOrder}
+use Rattle.std.specs.Cmp.Lexicographic.{nat_list_cmp_total}
+use Rattle.asp_model.specs.declared.name.FutureName.{FutureName}
+use Rattle.asp_model.specs.Names.{FutureShape, same_future, future_cmp}
+use Rattle.asp_model.specs.Order.{same_future_same}
+use Rattle.coded_cells.specs.Cells.{CodedCell, CodedStore, Number, Object, Reference, Future, Group, cell_at, with_cell_at, with_place_at}
+use Rattle.asp_model.specs.Shapes.{future_shape}
+use Rattle.object_store.specs.Holders.{is_future, is_one_future, holders}
+use Rattle.object_store.specs.Index.{ChangesWhere, IsAlike, IsIndexed, is_given_up, is_in_cell, with_place, without_place}
+use Rattle.object_store.specs.declared.index.Index.{Index}
+use Rattle.object_store.proofs.IndexLemmas.{changed_so}
+use Rattle.object_store.proofs.HoldersLemmas.{added, left, replaced, exchanged, held_alike}
+
+pub alike : (old new : Index) (s : CodedStore) → IsIndexed old s → IsAlike old new → IsIndexed new s
+alike old new s h e = λ f. e f ∙ h f
+
+pub indexed_more : (old new : Index) (s : CodedStore) (c : CodedCell) → IsIndexed old s → ChangesWhere (is_in_cell c) (with_place (length s)) old new → IsIndexed new (s ++ c ∷ [])
+indexed_more old new s c h changes = λ f. changes f ∙ ap (changed_so (with_place (length s)) (is_in_cell c f)) (h f) ∙ sym (added (future_shape f) s c)
+
+pub indexed_less : (old new : Index) (s : CodedStore) (c : CodedCell) → IsIndexed old (s ++ c ∷ []) → ChangesWhere (is_in_cell c) (without_place (length s)) old new → IsIndexed new s
+indexed_less old new s c h changes = λ f. changes f ∙ ap (changed_so (without_place (length s)) (is_in_cell c f)) (h f) ∙ left (future_shape f) s c
+
+future_cmp_total : IsTotalOrder future_cmp
+future_cmp_total = then_total (on_total (λ (f : FutureShape). f.by) nat_list_cmp_total) (on_total (λ (f : FutureShape). f.index) nat_cmp_total)
+
+same_future_itself : (f : FutureShape) → same_future f f ≡ true
+same_future_itself f = (eq_by_cmp_equiv future_cmp_total).refl f
+
+clash : {b : Bool} {C : Type 0} → b ≡ true → b ≡ false → C
+clash e d = absurd (subst T (sym e ∙ d) tt)
+
+one_future_same : (c d : CodedCell) → is_one_future c d ≡ true → c ≡ d
+one_future_same (Future g) (Future h) e = ap Future (same_future_same g h e)
+one_future_same (Number n) (Future h) e = clash e refl
+one_future_same (Object k ns) (Future h) e = clash e refl
+one_future_same (Reference a) (Future h) e = clash e refl
+one_future_same (Group ns) (Future h) e = clash e refl
+one_future_same c (Number n) e = clash e refl
+one_future_same c (Object k ns) e = clash e refl
+one_future_same c (Reference a) e = clash e refl
+one_future_same c (Group ns) e = clash e refl
+
+held_by : (f : FutureShape) (c : CodedCell) → is_future f c ≡ true → c ≡ Future f
+held_by f (Future g) e = ap Future (same_future_same g f e)
+held_by f (Number n) e = clash e refl
+held_by f (Object k ns) e = clash e refl
+held_by f (Reference a) e = clash e refl
+held_by f (Group ns) e = clash e refl
+
+both_hold : (f : FutureShape) (c d : CodedCell) → is_future f c ≡ true → is_future f d ≡ true → is_one_future c d ≡ true
+both_hold f c d e h =
+    let same : is_one_future (Future f) (Future f) ≡ true = same_future_itself f in
+    subst (λ x. is_one_future x d ≡ true) (sym (held_by f c e)) (subst (λ x. is_one_future (Future f) x ≡ true) (sym (held_by f d h)) same)
+
+both_exchanged : (had has : Bool) (p : ℕ) (xs : List ℕ) → changed_so (without_place p) (had && not has) (changed_so (with_place p) has xs) ≡ exchanged had has p xs
+both_exchanged true true p xs = refl
+both_exchanged true false p xs = refl
+both_exchanged false true p xs = refl
+both_exchanged false false p xs = refl
+
+-- one cell in the place of another
+pub indexed_replaced : (old mid new : Index) (s : CodedStore) (p : ℕ) (c d : CodedCell) → p < length s → cell_at s p ≡ d → IsIndexed old s → ChangesWhere (is_in_cell c) (with_place p) old mid → ChangesWhere (is_given_up d c) (without_place p) mid new → IsIndexed new (with_cell_at s p c)
+indexed_replaced old mid new s p c d lt here h first second = λ f.
+    let xs = holders (future_shape f) s in
+    second f ∙ ap (changed_so (without_place p) (is_given_up d c f)) (first f ∙ ap (changed_so (with_place p) (is_in_cell c f)) (h f))
+    ∙ both_exchanged (is_in_cell d f) (is_in_cell c f) p xs
+    ∙ ap (λ b. exchanged b (is_in_cell c f) p xs) (sym (ap (is_future (future_shape f)) here)) ∙ sym (replaced (future_shape f) s p c lt)
+
+-- a place of an object set
+pub indexed_object : (index : Index) (s t : CodedStore) (p i n : ℕ) → t ≡ with_cell_at s p (with_place_at i n (cell_at s p)) → IsIndexed index s → IsIndexed index t
+indexed_object index s t p i n e h = λ f.
+    h f ∙ sym (ap (holders (future_shape f)) e ∙ held_alike 0 (future_shape f) s p (with_place_at i n (cell_at s p)) (alike_held (future_shape f) (cell_at s p)))
+  where
+    alike_held : (f : FutureShape) (c : CodedCell) → is_future f (with_place_at i n c) ≡ is_future f c
+    alike_held f (Object k ns) = refl
+    alike_held f (Number m) = refl
+    alike_held f (Reference a) = refl
+    alike_held f (Future g) = refl
+    alike_held f (Group ms) = refl
+
+-- what one future gives up to another
+pub given_up_same : (c d : CodedCell) (f : FutureName) → is_one_future c d ≡ true → is_given_up c d f ≡ false
+given_up_same c d f e = ap (λ x. is_future (future_shape f) x && not (is_in_cell d f)) (one_future_same c d e) ∙ nothing (is_in_cell d f)
+  where
+    nothing : (b : Bool) → (b && not b) ≡ false
+    nothing true = refl
+    nothing false = refl
+
+pub given_up_other : (c d : CodedCell) (f : FutureName) → is_one_future c d ≡ false → is_given_up c d f ≡ is_in_cell c f
+given_up_other c d f e = by (is_in_cell c f) (is_in_cell d f) (λ x y. clash (both_hold (future_shape f) c d x y) e)
+  where
+    by : (had has : Bool) → (had ≡ true → has ≡ true → ⊥) → (had && not has) ≡ had
+    by true true h = absurd (h refl refl)
+    by true false h = refl
+    by false has h = refl

@@ -1,0 +1,24 @@
+use Rattle.std.proofs.Common.{◌≡◌, ◌∙◌, length, ◌++◌, ◌∷◌, [], option_to_list, sym, ap, subst, arith, rules}
+use Rattle.std.proofs.lemmas.List.{length-map}
+use Rattle.coded_cells.specs.Cells.{all_coded, coded}
+use Rattle.object_store.specs.Index.{ChangesWhere, IsIndexed, is_in_cell, without_place}
+use Rattle.object_store.proofs.CellLemmas.{last_coded}
+use Rattle.object_store.proofs.StoredLemmas.{indexed_less}
+use Rattle.object_store.proofs.store.Store.unappend.Goals as goal
+
+pub invariant_of-self : goal.invariant_of-self
+invariant_of-self c =
+    let old = c.self.inside.index in
+    let new = c.release.new.self in
+    let cs = c.pop.new.self.items in
+    let last = c.unwrap-last.result in
+    let items : c.self.inside.cells.items ≡ cs ++ last ∷ [] = c.pop.ensures.items ∙ ap (λ o. cs ++ option_to_list o) c.unwrap-last.ensures in
+    let s = all_coded cs in
+    let shapes : all_coded c.self.inside.cells.items ≡ s ++ coded last ∷ [] = ap (all_coded) items ∙ last_coded cs last in
+    let count : c.len.result ≡ length s = (search rules) ∙ sym (length-map cs coded) in
+    let changes = subst (λ n. ChangesWhere (is_in_cell (coded last)) (without_place n) old new) count c.release.ensures.places in
+    record {
+      indexed = indexed_less old new s (coded last) (subst (IsIndexed old) shapes c.self.invariant.indexed) changes;
+      room = omega (arith, c.pop.ensures.len, c.pop.ensures.capacity, c.self.invariant.room);
+      none = c.self.invariant.none;
+    }

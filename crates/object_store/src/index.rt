@@ -1,0 +1,153 @@
+//! The places that hold each future.
+
+ghost use Rattle.std.specs.Prelude.{◌≡◌, None, Some, [], false, IsOk, IsSome, IsTrue, OnErr, OnOk};
+ghost use Rattle.std.specs.Option.{option_copied};
+ghost use Rattle.indexmap.specs.IndexMap.{get};
+ghost use Rattle.coded_cells.specs.Cells.{coded};
+ghost use Rattle.object_store.specs.Holders.{is_one_future as one_future, is_some_future};
+ghost use Rattle.object_store.specs.Index.{
+  Changes,
+  ChangesWhere,
+  IsAlike,
+  is_given_up,
+  is_in_cell,
+  is_same,
+  or_none,
+  places_in,
+  with_place,
+  without_place,
+};
+
+use asp_model::FutureName;
+use coded_cells::{Cell, Place};
+use indexmap::IndexMap;
+use std::alloc::{AllocError, Global};
+use std::collections::BTreeSet;
+
+/// For each future that is held the places that hold it.
+#[derive(Drop)]
+pub struct Index {
+    alloc: Global,
+    held: IndexMap<FutureName, BTreeSet<Place>>,
+}
+
+impl Index {
+    pub fn new(alloc: Global) -> Index
+        ensures none { (f : FutureName) → places_in result f ≡ [] }
+    {
+        Index {
+            alloc,
+            held: IndexMap::new(alloc),
+        }
+    }
+
+    /// The places of a future, if it is held.
+    pub fn places(&self, future: &FutureName) -> Option<&BTreeSet<Place>>
+        ensures places { or_none (option_copied result) ≡ places_in self.now future.now }
+    {
+        self.held.get(future)
+    }
+
+    /// Adds a place to those of a future, if it is not there.
+    pub fn insert(&mut self, future: &FutureName, place: Place) -> Result<(), AllocError>
+        ensures places { OnOk result (Changes future.now (with_place place) self.old self.new) }
+        ensures err { OnErr result (IsAlike self.old self.new) }
+    {
+        if self.held.contains_key(future) {
+            self.insert_known(future, place)
+        } else {
+            self.insert_new(future, place)
+        }
+    }
+
+    /// Takes a place from those of a future, which is forgotten with its last place.
+    pub fn remove(&mut self, future: &FutureName, place: Place)
+        ensures places { Changes future.now (without_place place) self.old self.new }
+    {
+        if self.take_out(future, place) {
+            self.held.swap_remove(future);
+        }
+    }
+
+    // Takes a place from those of a future, and answers whether it was the last one.
+    fn take_out(&mut self, future: &FutureName, place: Place) -> bool
+        ensures places { Changes future.now (without_place place) self.old self.new }
+        ensures none { IsTrue result → places_in self.new future.now ≡ [] }
+    {
+        match self.held.get_mut(future) {
+            Some(places) => {
+                places.remove(&place);
+                places.is_empty()
+            }
+            None => false,
+        }
+    }
+
+    /// Notes the place of a cell, where it is a future.
+    pub fn hold(&mut self, cell: &Cell, place: Place) -> Result<(), AllocError>
+        ensures places { let here = is_in_cell (coded cell.now) in
+            OnOk result (ChangesWhere here (with_place place) self.old self.new) }
+        ensures room { is_some_future (coded cell.now) ≡ false → IsOk result }
+        ensures err { OnErr result (IsAlike self.old self.new) }
+    {
+        match cell {
+            Cell::Future(future) => self.insert(future, place),
+            _ => Ok(()),
+        }
+    }
+
+    /// Forgets the place of a cell, where it is a future.
+    pub fn release(&mut self, cell: &Cell, place: Place)
+        ensures places { let here = is_in_cell (coded cell.now) in
+            ChangesWhere here (without_place place) self.old self.new }
+    {
+        if let Cell::Future(future) = cell {
+            self.remove(future, place);
+        }
+    }
+
+    /// Forgets the place of a cell that another one takes.
+    pub fn give_up(&mut self, old: Cell, new: &Cell, place: Place)
+        ensures places { let gone = is_given_up (coded old) (coded new.now) in
+            ChangesWhere gone (without_place place) self.old self.new }
+    {
+        if !is_one_future(&old, new) {
+            self.release(&old, place);
+        }
+    }
+
+    fn insert_known(&mut self, future: &FutureName, place: Place) -> Result<(), AllocError>
+        requires known { IsSome (get is_same self.old.held future.now) }
+        ensures places { OnOk result (Changes future.now (with_place place) self.old self.new) }
+        ensures err { OnErr result (IsAlike self.old self.new) }
+    {
+        match self.held.get_mut(future) {
+            Some(places) => {
+                places.insert(place)?;
+                Ok(())
+            }
+            None => Ok(()),
+        }
+    }
+
+    fn insert_new(&mut self, future: &FutureName, place: Place) -> Result<(), AllocError>
+        requires new { get is_same self.old.held future.now ≡ None }
+        ensures places { OnOk result (Changes future.now (with_place place) self.old self.new) }
+        ensures err { OnErr result (IsAlike self.old self.new) }
+    {
+        let name = future.copy(self.alloc)?;
+        let mut places = BTreeSet::new(self.alloc);
+        places.insert(place)?;
+        self.held.insert(name, places)?;
+        Ok(())
+    }
+}
+
+fn is_one_future(first: &Cell, second: &Cell) -> bool
+    ensures { result ≡ one_future (coded first.now) (coded second.now) }
+{
+    match (first, second) {
+        (Cell::Future(one), Cell::Future(other)) => one == other,
+        _ => false,
+    }
+}
