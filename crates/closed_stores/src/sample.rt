@@ -80,10 +80,7 @@ fn service(alloc: Global) -> Result<Node, AllocError>
 fn empty(alloc: Global) -> Result<Node, AllocError>
     ensures { IfOk result IsEmpty }
 {
-    let class = Class {
-        fields: Vec::new(alloc),
-        methods: Vec::new(alloc),
-    };
+    let class = Class::new(alloc, Vec::new(alloc), Vec::new(alloc))?;
     Ok(Node {
         kind: Kind::Make(Box::new(alloc, class)?),
         children: Vec::new(alloc),
@@ -133,10 +130,7 @@ fn outer_method(alloc: Global) -> Result<MethodCode, AllocError>
 fn make(alloc: Global, method: MethodCode) -> Result<Node, AllocError>
     ensures { IfOk result (Makes method) }
 {
-    let class = Class {
-        fields: Vec::new(alloc),
-        methods: vec![in alloc; method]?,
-    };
+    let class = Class::new(alloc, Vec::new(alloc), vec![in alloc; method]?)?;
     Ok(Node {
         kind: Kind::Make(Box::new(alloc, class)?),
         children: Vec::new(alloc),
@@ -168,10 +162,7 @@ fn labels(alloc: Global, count: u32) -> Result<Vec<Label>, AllocError> {
 fn fields(alloc: Global, count: u32) -> Result<Node, AllocError>
     ensures { IfOk result HasFields }
 {
-    let class = Class {
-        fields: labels(alloc, count)?,
-        methods: Vec::new(alloc),
-    };
+    let class = Class::new(alloc, labels(alloc, count)?, Vec::new(alloc))?;
     Ok(Node {
         kind: Kind::Make(Box::new(alloc, class)?),
         children: Vec::new(alloc),

@@ -43,10 +43,7 @@ fn prelude(alloc: Global) -> Result<Vec<Node>, AllocError>
         kind: Kind::Repeat,
         children: serve,
     })?;
-    let class = Class {
-        fields: Vec::new(alloc),
-        methods: Vec::new(alloc),
-    };
+    let class = Class::new(alloc, Vec::new(alloc), Vec::new(alloc))?;
     nodes.push(Node {
         kind: Kind::Make(Box::new(alloc, class)?),
         children: Vec::new(alloc),

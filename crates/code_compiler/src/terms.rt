@@ -279,7 +279,8 @@ fn put_object(
     ensures ends { OnOk result (EndsTable (length nodes.new.items) children.new.items) }
 {
     let methods = compile_methods(alloc, nodes, scope, uses, fields.len(), methods)?;
-    let class = Box::new(alloc, Class { fields, methods })?;
+    let made = Class::new(alloc, fields, methods)?;
+    let class = Box::new(alloc, made)?;
     put(nodes, children, Kind::Make(class), below)?;
     Ok(())
 }

@@ -1,4 +1,5 @@
 pub mod TableLemmas
 pub mod GrowthLemmas
 pub mod LookupLemmas
+pub mod NumberLemmas
 pub mod UsesLemmas

@@ -16,11 +16,11 @@ use Rattle.program_code.specs.Sound.{IsSoundMethod, MethodsSound, StartFrom}
 
 -- Numbers of labels
 
-abbrev chosen : Bool → Option ℕ → Option ℕ
+abbrev pub chosen : Bool → Option ℕ → Option ℕ
 chosen true o = Some 0
 chosen false o = option_map suc o
 
-number_cons : (l x : Text) (xs : List Text) → number_of l (x ∷ xs) ≡ chosen (same_text l x) (number_of l xs)
+pub number_cons : (l x : Text) (xs : List Text) → number_of l (x ∷ xs) ≡ chosen (same_text l x) (number_of l xs)
 number_cons l x xs = elim (same_text l x) as (λ (b : Bool). elim b [ true ↦ Some 0 | false ↦ option_map suc (number_of l xs) ] ≡ chosen b (number_of l xs)) [ true ↦ refl | false ↦ refl ]
 
 abbrev IsNumber : List Text → Option ℕ → Type 0
@@ -61,12 +61,12 @@ number_later l (x ∷ xs) (suc i) d lt h is =
     let e : (same_text l x ≡ false) × (number_of l (take i xs) ≡ None) = none_of (same_text l x) (number_of l (take i xs)) (sym (number_cons l x (take i xs)) ∙ h) in
     number_cons l x (take (suc i) xs) ∙ (λ j. chosen (e.0 j) (number_later l xs i d less e.1 is j))
 
-get_map : {A : Type 0} (name : A → Text) (xs : List A) (i : ℕ) (x : A) → i < length xs → get_or (map name xs) i (name x) ≡ name (get_or xs i x)
+pub get_map : {A : Type 0} (name : A → Text) (xs : List A) (i : ℕ) (x : A) → i < length xs → get_or (map name xs) i (name x) ≡ name (get_or xs i x)
 get_map name [] i x h = absurd (omega (arith, h))
 get_map name (y ∷ ys) zero x h = refl
 get_map name (y ∷ ys) (suc i) x h = let less : i < length ys = omega (arith, h) in get_map name ys i x less
 
-map_size : {A B : Type 0} (f : A → B) (xs : List A) → length (map f xs) ≡ length xs
+pub map_size : {A B : Type 0} (f : A → B) (xs : List A) → length (map f xs) ≡ length xs
 map_size f [] = refl
 map_size f (x ∷ xs) = ap suc (map_size f xs)
 

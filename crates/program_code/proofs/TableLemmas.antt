@@ -7,7 +7,7 @@ use Rattle.program_code.specs.declared.code.Kind.{Kind}
 use Rattle.program_code.specs.declared.code.Kind.TheVariants as kind
 use Rattle.program_code.specs.declared.code.MethodCode.{MethodCode}
 use Rattle.program_code.specs.declared.code.Node.{Node}
-use Rattle.program_code.specs.Pieces.{Piece, Pieces, piece, object, also, method}
+use Rattle.program_code.specs.Pieces.{Piece, Pieces, object, also, method}
 use Rattle.program_code.specs.Tables.{this_or, piece_at, piece_of, pieces_of, labels_of, head_of, bodies_of, kind_piece, node_piece, forest, pieces}
 use Rattle.program_code.specs.Sound.{IsBelow, AllBelow, MethodsBelow, KindBelow, IsOrdered, KindSound, ClassesSound, IsSound, MethodsSound, StartFrom}
 use Rattle.program_code.specs.Classes.{class_of, class_at, seen_class}

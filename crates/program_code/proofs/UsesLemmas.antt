@@ -3,7 +3,7 @@ use Rattle.std.proofs.Common.{◌≡◌, ℕ, zero, suc, ◌+◌, ◌<◌, List,
 use Rattle.std.proofs.lemmas.List.{append-nil}
 use Rattle.std.specs.List.{flat_map}
 use Rattle.asp_model.specs.Names.{Text}
-use Rattle.asp_model.specs.Term.{Head, Loc, Hole, Var, Make, Tree, Trees, none, loc, Environment, own_locations, locations, locations_below, binders}
+use Rattle.asp_model.specs.Term.{Head, Loc, Tree, Trees, none, loc, Environment, own_locations, locations, locations_below, binders}
 use Rattle.program_code.specs.declared.code.Leaf.{Leaf}
 use Rattle.program_code.specs.declared.code.Leaf.TheVariants as leaves
 use Rattle.program_code.specs.declared.code.Capture.{Capture}

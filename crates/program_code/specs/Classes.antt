@@ -1,12 +1,13 @@
 -- The class of the objects that a node makes.
-use Rattle.std.specs.Prelude.{ℕ, true, false, zero, suc, List, [], ◌∷◌, Option, Some, None, map}
+use Rattle.std.specs.Prelude.{ℕ, zero, suc, List, [], ◌∷◌, Option, Some, None, map}
 use Rattle.std.specs.Option.{option_map}
 use Rattle.std.specs.Borrow.{Bor}
-use Rattle.asp_model.specs.Names.{Text, same_text}
+use Rattle.asp_model.specs.Names.{Text}
 use Rattle.program_code.specs.declared.code.Class.{Class}
 use Rattle.program_code.specs.declared.code.Kind.{Kind}
 use Rattle.program_code.specs.declared.code.Kind.TheVariants as kind
 use Rattle.program_code.specs.declared.code.Node.{Node}
+pub use Rattle.program_code.specs.Numbers.{number_of}
 use Rattle.program_code.specs.Tables.{labels_of, head_of}
 
 abbrev pub class_of : Kind → Option Class
@@ -22,11 +23,7 @@ class_at (n ∷ ns) (suc i) = class_at ns i
 abbrev pub seen_class : Option (Bor Class) → Option Class
 seen_class o = option_map (λ k. k.now) o
 
--- the number of the first of these labels that is this one
-abbrev pub number_of : Text → List Text → Option ℕ
-number_of l [] = None
-number_of l (x ∷ xs) = elim (same_text l x) [ true ↦ Some 0 | false ↦ option_map suc (number_of l xs) ]
-
+-- the number of the first field with this label, and of the first method
 abbrev pub field_number : Text → Class → Option ℕ
 field_number l k = number_of l (labels_of k)
 

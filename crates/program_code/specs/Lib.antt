@@ -1,4 +1,5 @@
 -- in reading order
+pub mod Numbers
 pub mod Pieces
 pub mod Fitting
 pub mod Uses

@@ -1,5 +1,10 @@
 //! Code: a table of nodes that all activities of a run share.
 
+ghost use Rattle.std.specs.Prelude.{map};
+ghost use Rattle.std.specs.Option.{ForSome};
+ghost use Rattle.program_code.specs.Numbers.{AreNumbers};
+
+use crate::numbers::Numbers;
 use asp_model::{Label, Sign, Word};
 
 /// A variable of a body, by its slot in the body's environment. The environment begins with what the
@@ -49,6 +54,11 @@ pub struct MethodCode {
 pub struct Class {
     pub fields: Vec<Label>,
     pub methods: Vec<MethodCode>,
+    // The numbers of the labels, where these are many.
+    pub(crate) field_numbers: Option<Numbers>,
+    pub(crate) method_numbers: Option<Numbers>,
+    ghost fields_numbered: { ForSome field_numbers (AreNumbers (map (λ l. l.text) fields.items)) },
+    ghost methods_numbered: { ForSome method_numbers (AreNumbers (map (λ m. m.label.text) methods.items)) },
 }
 
 /// What a node is, apart from the terms below it.

@@ -4,6 +4,7 @@
 mod code;
 mod laws;
 mod lookup;
+mod numbers;
 mod table;
 
 pub use code::{Capture, Child, Class, Kind, Leaf, MethodCode, Node};

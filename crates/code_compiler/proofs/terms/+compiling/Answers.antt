@@ -107,11 +107,12 @@ put_object-returns-clause-adds t c = λ vs ns ts row size.
     let labels : List Text = map text_of c.args.fields.items in
     let heads : List MethodHead = map head_in c.args.methods.now in
     let us : List Tree = map body_tree c.args.methods.now in
-    let is = c.in_ok-class.ensures.ok in
+    let fields_are : k.value.fields.items ≡ c.args.fields.items = ap (λ (x : Class). x.fields.items) c.in_ok-class.ensures.ok ∙ (λ i. (c.in_ok-made.ensures.fields i).items) in
+    let methods_are : k.value.methods.items ≡ c.in_ok-methods.methods.items = ap (λ (x : Class). x.methods.items) c.in_ok-class.ensures.ok ∙ (λ i. (c.in_ok-made.ensures.methods i).items) in
     let start_is : c.len.result ≡ length c.args.fields.items = search (rules, c.len.ensures) in
     object_added a b d ns.items ms ls c.put.new.nodes.items c.args.children.now.items c.put.new.children.items c.args.below k c.len.result labels heads ts us row
-    (subst (λ (codes : List MethodCode). AddsMethods b d ms ls c.len.result codes heads us) (sym (ap (λ (x : Class). x.methods.items) is)) c.in_ok-methods.ensures.adds)
-    (ap labels_of is) (map_length text_of c.args.fields.items ∙ sym size) (start_is ∙ sym (ap (λ (x : Class). length x.fields.items) is)) c.in_ok-put.ensures.node c.in_ok-put.ensures.child
+    (subst (λ (codes : List MethodCode). AddsMethods b d ms ls c.len.result codes heads us) (sym methods_are) c.in_ok-methods.ensures.adds)
+    (ap (map text_of) fields_are) (map_length text_of c.args.fields.items ∙ sym size) (start_is ∙ sym (ap length fields_are)) c.in_ok-put.ensures.node c.in_ok-put.ensures.child
 
 pub put_object-returns-clause-ends : goal.put_object-returns-clause-ends
 put_object-returns-clause-ends t c =

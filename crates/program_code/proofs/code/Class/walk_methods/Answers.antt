@@ -1,8 +1,8 @@
-use Rattle.std.proofs.Common.{◌≡◌, ◌<◌, length, sym, ◌∙◌, arith}
+use Rattle.std.proofs.Common.{◌<◌, length, sym, ◌∙◌, arith}
 use Rattle.program_code.specs.declared.code.MethodCode.{MethodCode}
 use Rattle.program_code.specs.Tables.{head_of}
 use Rattle.program_code.proofs.LookupLemmas.{labelled_here, labelled_later}
-use Rattle.program_code.proofs.code.Class.method.Goals as goal
+use Rattle.program_code.proofs.code.Class.walk_methods.Goals as goal
 
 pub returns-then-eq : goal.returns-then-eq
 returns-then-eq c =

@@ -1,7 +1,7 @@
-use Rattle.std.proofs.Common.{◌≡◌, ◌<◌, length, sym, ◌∙◌, arith}
+use Rattle.std.proofs.Common.{◌<◌, length, sym, ◌∙◌, arith}
 use Rattle.program_code.specs.Tables.{text_of}
 use Rattle.program_code.proofs.LookupLemmas.{labelled_here, labelled_later}
-use Rattle.program_code.proofs.code.Class.field.Goals as goal
+use Rattle.program_code.proofs.code.Class.walk_fields.Goals as goal
 
 pub returns-then-eq : goal.returns-then-eq
 returns-then-eq c =
