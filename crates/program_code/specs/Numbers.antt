@@ -1,6 +1,6 @@
 -- The numbers of labels.
 use Rattle.std.specs.Prelude.{◌≡◌, ℕ, suc, true, false, List, [], ◌∷◌, Option, Some, None}
-use Rattle.std.specs.Option.{option_map}
+use Rattle.std.specs.Option.{option_map, ForSome}
 use Rattle.std.specs.BTreeMap.{is_at}
 use Rattle.std.specs.Map.{lookup}
 use Rattle.std.specs.declared.cmp.Ordering.{Ordering}
@@ -23,3 +23,7 @@ number_in es l = lookup (is_at (label_order l)) es
 -- the pairs have the number of each of these labels, and of no other
 abbrev pub AreNumbers : List Text → List (Label × ℕ) → Type 0
 AreNumbers ls es = (l : Label) → number_in es l ≡ number_of l.text ls
+
+-- these pairs, where there are some, have the numbers of these labels
+abbrev pub HaveNumbers : List Text → Option (List (Label × ℕ)) → Type 0
+HaveNumbers ls o = ForSome o (AreNumbers ls)

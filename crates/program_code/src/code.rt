@@ -1,8 +1,7 @@
 //! Code: a table of nodes that all activities of a run share.
 
 ghost use Rattle.std.specs.Prelude.{map};
-ghost use Rattle.std.specs.Option.{ForSome};
-ghost use Rattle.program_code.specs.Numbers.{AreNumbers};
+ghost use Rattle.program_code.specs.Numbers.{HaveNumbers};
 
 use crate::numbers::Numbers;
 use asp_model::{Label, Sign, Word};
@@ -57,8 +56,8 @@ pub struct Class {
     // The numbers of the labels, where these are many.
     pub(crate) field_numbers: Option<Numbers>,
     pub(crate) method_numbers: Option<Numbers>,
-    ghost fields_numbered: { ForSome field_numbers (AreNumbers (map (λ l. l.text) fields.items)) },
-    ghost methods_numbered: { ForSome method_numbers (AreNumbers (map (λ m. m.label.text) methods.items)) },
+    ghost fields_numbered: { HaveNumbers (map (λ l. l.text) fields.items) field_numbers },
+    ghost methods_numbered: { HaveNumbers (map (λ m. m.label.text) methods.items) method_numbers },
 }
 
 /// What a node is, apart from the terms below it.

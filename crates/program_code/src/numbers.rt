@@ -1,8 +1,7 @@
 //! The numbers of many labels, in a map. A few labels are found as fast by a walk.
 
 ghost use Rattle.std.specs.Prelude.{◌≡◌, IfOk, map};
-ghost use Rattle.std.specs.Option.{ForSome};
-ghost use Rattle.program_code.specs.Numbers.{AreNumbers, number_in};
+ghost use Rattle.program_code.specs.Numbers.{AreNumbers, HaveNumbers, number_in};
 
 use crate::code::MethodCode;
 use asp_model::Label;
@@ -39,7 +38,7 @@ impl Numbers {
 
 /// The numbers of the labels of fields, unless there are few.
 pub(crate) fn number_fields(alloc: Global, fields: &[Label]) -> Result<Option<Numbers>, AllocError>
-    ensures numbers { IfOk result (λ o. ForSome o (AreNumbers (map (λ l. l.text) fields.now))) }
+    ensures numbers { IfOk result (HaveNumbers (map (λ l. l.text) fields.now)) }
 {
     if fields.len() <= FEW {
         return Ok(None);
@@ -52,8 +51,7 @@ pub(crate) fn number_methods(
     alloc: Global,
     methods: &[MethodCode],
 ) -> Result<Option<Numbers>, AllocError>
-    ensures numbers { IfOk result
-        (λ o. ForSome o (AreNumbers (map (λ m. m.label.text) methods.now))) }
+    ensures numbers { IfOk result (HaveNumbers (map (λ m. m.label.text) methods.now)) }
 {
     if methods.len() <= FEW {
         return Ok(None);

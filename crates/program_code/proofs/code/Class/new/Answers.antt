@@ -1,12 +1,11 @@
 use Rattle.std.proofs.Common.{List, map, subst}
-use Rattle.std.specs.Option.{ForSome}
 use Rattle.asp_model.specs.declared.word.Label.{Label}
 use Rattle.program_code.specs.declared.code.MethodCode.{MethodCode}
-use Rattle.program_code.specs.Numbers.{AreNumbers}
+use Rattle.program_code.specs.Numbers.{HaveNumbers}
 use Rattle.program_code.proofs.code.Class.new.Goals as goal
 
 pub invariant_of-result : goal.invariant_of-result
 invariant_of-result c = record {
-  fields_numbered = subst (λ (xs : List Label). ForSome c.in_ok-field_numbers.field_numbers (AreNumbers (map (λ l. l.text) xs))) c.deref.ensures.value c.in_ok-field_numbers.ensures.numbers;
-  methods_numbered = subst (λ (xs : List MethodCode). ForSome c.in_ok-method_numbers.method_numbers (AreNumbers (map (λ m. m.label.text) xs))) c.deref-2.ensures.value c.in_ok-method_numbers.ensures.numbers;
+  fields_numbered = subst (λ (xs : List Label). HaveNumbers (map (λ l. l.text) xs) c.in_ok-field_numbers.field_numbers) c.deref.ensures.value c.in_ok-field_numbers.ensures.numbers;
+  methods_numbered = subst (λ (xs : List MethodCode). HaveNumbers (map (λ m. m.label.text) xs) c.in_ok-method_numbers.method_numbers) c.deref-2.ensures.value c.in_ok-method_numbers.ensures.numbers;
 }
