@@ -14,7 +14,7 @@ use Rattle.program_code.specs.declared.code.Kind.TheVariants as kind
 use Rattle.program_code.specs.declared.code.MethodCode.{MethodCode}
 use Rattle.program_code.specs.declared.code.Node.{Node}
 use Rattle.program_code.specs.Fitting.{names, slots_from}
-use Rattle.program_code.specs.Tables.{text_of, labels_of}
+use Rattle.program_code.specs.Tables.{text_of}
 use Rattle.code_compiler.specs.Added.{body_of, names_of, environment}
 use Rattle.code_compiler.specs.Closed.{IsClosed, AreClosed}
 use Rattle.code_compiler.specs.Free.{free_in}
