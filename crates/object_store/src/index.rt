@@ -49,6 +49,7 @@ impl Index {
     }
 
     /// Adds a place to those of a future, if it is not there.
+    #[inline(never)]
     pub fn insert(&mut self, future: &FutureName, place: Place) -> Result<(), AllocError>
         ensures places { OnOk result (Changes future.now (with_place place) self.old self.new) }
         ensures err { OnErr result (IsAlike self.old self.new) }
@@ -84,6 +85,7 @@ impl Index {
     }
 
     /// Notes the place of a cell, where it is a future.
+    #[inline(always)]
     pub fn hold(&mut self, cell: &Cell, place: Place) -> Result<(), AllocError>
         ensures places { let here = is_in_cell (coded cell.now) in
             OnOk result (ChangesWhere here (with_place place) self.old self.new) }

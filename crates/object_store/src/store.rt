@@ -87,6 +87,7 @@ impl Store {
     }
 
     /// Appends a cell, and answers its place.
+    #[inline(always)]
     pub fn add(&mut self, cell: Cell) -> Result<Place, AllocError>
         ensures place { IfOk result (λ place. place ≡ length self.old.cells) }
         ensures cells { OnOk result (self.new.cells ≡ self.old.cells ++ coded cell ∷ []) }
@@ -170,6 +171,7 @@ impl Store {
         self.index.places(future).unwrap_or(&self.none)
     }
 
+    #[inline(always)]
     fn append(&mut self, cell: Cell) -> Result<(), AllocError>
         ensures cells { OnOk result (self.new.cells ≡ self.old.cells ++ coded cell ∷ []) }
         ensures spare { OnOk result (self.new.spare ≡ self.old.spare - 1) }

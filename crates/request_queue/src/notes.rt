@@ -1,7 +1,7 @@
 //! The numbers of the pending requests, by their labels.
 
 ghost use Rattle.std.specs.Prelude.{◌≡◌, ℕ, IsSome, IsTrue, None, OnErr, OnOk, [], false, true};
-ghost use Rattle.std.specs.BTreeMap.{get};
+ghost use Rattle.std.specs.BTreeMap.{Updates, get};
 ghost use Rattle.asp_model.specs.declared.word.Label.{Label};
 ghost use Rattle.request_queue.specs.Notes.{
   AreAlike,
@@ -80,7 +80,7 @@ impl Notes {
         ensures forgotten { Changes label.now number false self.old self.new }
     {
         if self.is_last(label, number) {
-            self.numbers.remove(label);
+            take_out(&mut self.numbers, label);
         }
     }
 
@@ -139,6 +139,16 @@ impl Notes {
             Some(numbers) => first(numbers),
             None => None,
         }
+    }
+}
+
+// Takes out the numbers of a label. A map that is empty keeps no memory.
+fn take_out(numbers: &mut BTreeMap<Label, BTreeSet<u64>>, label: &Label)
+    ensures updates { Updates label_order numbers.old numbers.new label.now None }
+{
+    numbers.remove(label);
+    if numbers.is_empty() {
+        numbers.clear();
     }
 }
 

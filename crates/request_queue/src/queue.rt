@@ -1,7 +1,25 @@
 //! The queue. A served request leaves it, and the others keep their order and their numbers.
 
-ghost use Rattle.std.specs.Prelude.{◌≡◌, ◌+◌, ◌++◌, ◌∷◌, [], IsSome, OnErr, OnOk, Some, length};
+ghost use Rattle.std.specs.Prelude.{
+  ◌≡◌,
+  ◌+◌,
+  ◌++◌,
+  ◌∷◌,
+  [],
+  ℕ,
+  IsSome,
+  None,
+  OnErr,
+  OnOk,
+  Some,
+  cond,
+  length,
+};
+ghost use Rattle.std.specs.BTreeMap.{is_at};
+ghost use Rattle.std.specs.List.Sorted.{IsStrictlySortedBy};
+ghost use Rattle.std.specs.Map.{keys_of};
 ghost use Rattle.std.specs.Option.{option_map};
+ghost use Rattle.std.specs.Ordering.{nat_cmp};
 ghost use Rattle.request_queue.specs.Pending.{but, oldest, request_at, waiting};
 
 use crate::notes::Notes;
@@ -90,8 +108,23 @@ impl Queue {
         ensures others { self.new.pending ≡ but number self.old.pending }
         ensures arrived { self.new.arrived ≡ self.old.arrived }
     {
-        let request = self.pending.remove(&number).unwrap();
+        let request = take_out(&mut self.pending, number).unwrap();
         self.notes.forget(&request.label, number);
         request
     }
+}
+
+// Takes out the request of a number. A map that is empty keeps no memory.
+fn take_out(pending: &mut BTreeMap<u64, Request>, number: u64) -> Option<Request>
+    ensures value { result ≡ request_at number pending.old.entries }
+    ensures updates { (k : ℕ) → request_at k pending.new.entries
+        ≡ cond (is_at (nat_cmp number) k) None (request_at k pending.old.entries) }
+    ensures entries { pending.new.entries ≡ but number pending.old.entries }
+    ensures ordered { IsStrictlySortedBy nat_cmp (keys_of pending.new.entries) }
+{
+    let request = pending.remove(&number);
+    if pending.is_empty() {
+        pending.clear();
+    }
+    request
 }
