@@ -28,3 +28,7 @@ IsRedex r (redex.Serve ls) = r ≡ value_redex (term.Serve (map (λ x. x.text) l
 IsRedex r (redex.If i) = (a b : Tree) × (r ≡ record { head = term.If; places = i ∷ []; behind = more a (more b none) })
 IsRedex r (redex.Operate sign i k) = r ≡ value_redex (term.Operate (sign_shape sign)) (i ∷ k ∷ [])
 IsRedex r (redex.Print i) = r ≡ value_redex term.Print (i ∷ [])
+IsRedex r (redex.Scatter i l k) = r ≡ value_redex (term.Scatter l.now.text) (i ∷ k ∷ [])
+IsRedex r (redex.Size i) = r ≡ value_redex term.Size (i ∷ [])
+IsRedex r (redex.Member i k) = r ≡ value_redex term.Member (i ∷ k ∷ [])
+IsRedex r (redex.WaitAll i) = r ≡ value_redex term.WaitAll (i ∷ [])

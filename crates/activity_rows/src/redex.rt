@@ -18,4 +18,10 @@ pub enum Redex<'a> {
     If(Place),
     Operate(Sign, Place, Place),
     Print(Place),
+    /// A group, and the group of the arguments.
+    Scatter(Place, &'a Label, Place),
+    Size(Place),
+    /// A group, and the member's number.
+    Member(Place, Place),
+    WaitAll(Place),
 }

@@ -1,16 +1,12 @@
 -- Calls.
-use Rattle.std.proofs.Common.{◌≡◌, ℕ, List, [], length, ap, subst, ◌∙◌}
+use Rattle.std.proofs.Common.{◌≡◌, ℕ, List, [], length, ap, ◌∙◌}
 use Rattle.std.specs.Borrow.{Bor}
 use Rattle.asp_model.specs.Names.{Name, Text}
-use Rattle.asp_model.specs.declared.word.Label.{Label}
 use Rattle.asp_model.specs.Term.{Call, Tree}
 use Rattle.asp_model.specs.Configuration.{ServiceShape}
 use Rattle.asp_model.specs.Contraction.{Communicates, Sends, call_row, contract}
-use Rattle.program_code.specs.declared.code.Kind.{Kind}
-use Rattle.program_code.specs.declared.code.Kind.TheVariants as kind
 use Rattle.program_code.specs.declared.code.MethodCode.{MethodCode}
 use Rattle.program_code.specs.declared.code.Node.{Node}
-use Rattle.program_code.specs.Tables.{kind_head}
 use Rattle.coded_cells.specs.Cells.{CodedStore, cell_at}
 use Rattle.coded_cells.specs.Shapes.{cell_of, store_of}
 use Rattle.coded_cells.proofs.CodedLemmas.{cell-store_of}

@@ -22,8 +22,8 @@ use crate::turn::Turn;
 use activity_rows::{Callee, Creation, active_row, callee_of, look};
 use asp_model::Label;
 use coded_cells::Place;
-use object_store::Store;
 use machine_frames::{Machine, Spread};
+use object_store::Store;
 use program_code::Code;
 use std::alloc::{AllocError, Global};
 

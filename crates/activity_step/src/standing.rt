@@ -51,6 +51,10 @@ fn redex_of<'a>(kind: &'a Kind, operands: &'a [Place]) -> Option<Redex<'a>>
         (Kind::If, [at]) => Some(Redex::If(*at)),
         (Kind::Operate(sign), [first, second]) => Some(Redex::Operate(*sign, *first, *second)),
         (Kind::Print, [at]) => Some(Redex::Print(*at)),
+        (Kind::Scatter(label), [at, other]) => Some(Redex::Scatter(*at, label, *other)),
+        (Kind::Size, [at]) => Some(Redex::Size(*at)),
+        (Kind::Member, [at, number]) => Some(Redex::Member(*at, *number)),
+        (Kind::WaitAll, [at]) => Some(Redex::WaitAll(*at)),
         (Kind::Number(_), _)
         | (Kind::Make(_), _)
         | (Kind::Let(_), _)

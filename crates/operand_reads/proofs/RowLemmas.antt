@@ -1,15 +1,16 @@
 -- What a redex comes to in a store is told by the faces of its operands.
 use Rattle.std.proofs.Common.{◌≡◌, ◌==◌, ℕ, ℤ, suc, Bool, true, false, List, [], ◌∷◌, Option, Some, None, Ok, Err, length, map, refl, sym, ap, subst, ◌∙◌, ◌++◌, arith}
-use Rattle.std.specs.Prelude.{pos, negsuc, zero, is_some}
+use Rattle.std.specs.Prelude.{◌<◌, ◌≤◌, nat_lt, pos, negsuc, zero, is_some}
+use Rattle.std.proofs.lemmas.Option.{slice_get-get_or, slice_get_past}
 use Rattle.std.specs.Option.{option_map}
 use Rattle.std.proofs.lemmas.Bool.Decides.{nat_tests}
 use Rattle.asp_model.specs.Names.{Text}
 use Rattle.asp_model.specs.Term as term
-use Rattle.asp_model.specs.Term.{Tree, SignShape, Environment, has_text, none, more}
+use Rattle.asp_model.specs.Term.{Tree, Trees, SignShape, Environment, has_text, none, more}
 use Rattle.asp_model.specs.Store.{CellShape, Number, Object, Reference, Future, Group, Field, MethodShape, Store, cell}
 use Rattle.asp_model.specs.Split as split
 use Rattle.asp_model.specs.Contraction as contraction
-use Rattle.asp_model.specs.Contraction.{Contraction, Needs, bindings, call_row, contract, field_found, field_place, field_set, first_future, get_row, if_row, invoked, method_at, method_found, operate, operate_row, print_row, put_row, strict_operands, strict_members, active_row, row, with_field}
+use Rattle.asp_model.specs.Contraction.{Contraction, Needs, bindings, call_row, contract, field_found, field_place, field_set, first_future, get_row, if_row, invoked, method_at, method_found, operate, operate_row, print_row, put_row, strict_operands, strict_members, active_row, member_at, member_found, member_row, row, scatter_row, scattered, size_row, sizes_compared, wait_row, with_field}
 use Rattle.asp_model.specs.Shapes.{sign_shape}
 use Rattle.code_laws.proofs.BodyLemmas.{bound_from, unbound}
 use Rattle.activity_rows.specs.declared.redex.Redex.{Redex}
@@ -18,8 +19,10 @@ use Rattle.activity_rows.specs.Decisions.{value_redex}
 use Rattle.activity_rows.specs.Redexes.{IsRedex}
 use Rattle.activity_rows.specs.Numbers.{Answer, answer, answered}
 use Rattle.activity_rows.proofs.NumberLemmas.{operate_answers}
+use Rattle.activity_rows.proofs.GroupLemmas.{differ, member_is}
+use Rattle.machine_frames.proofs.RoundLemmas.{scattered_calls}
 use Rattle.operand_reads.specs.Prospects.{prospect_by}
-use Rattle.operand_reads.specs.Faces.{Face, face, at_answer, at_call, at_field, at_number, at_object, at_sign, goes_if, has_count, prospect_at}
+use Rattle.operand_reads.specs.Faces.{Face, face, at_answer, at_call, at_field, at_group, at_member, at_number, at_object, at_scatter, at_sign, goes_if, has_count, prospect_at}
 use Rattle.operand_reads.proofs.LabelLemmas.{head_at_map, labelled}
 
 -- Fields
@@ -114,6 +117,65 @@ operate_by s sign (Reference n) d = refl
 operate_by s sign (Future f) d = refl
 operate_by s sign (Group ns) d = refl
 
+-- Groups
+
+size_by : (s : Store) (c : CellShape) → prospect_by (size_row s c) ≡ at_group (face c)
+size_by s (Number z) = refl
+size_by s (Object fields methods) = refl
+size_by s (Reference n) = refl
+size_by s (Future f) = refl
+size_by s (Group ns) = refl
+
+pub wait_by : (s : Store) (i : ℕ) (c : CellShape) → prospect_by (wait_row s i c) ≡ at_group (face c)
+wait_by s i (Number z) = refl
+wait_by s i (Object fields methods) = refl
+wait_by s i (Reference n) = refl
+wait_by s i (Future f) = refl
+wait_by s i (Group ns) = refl
+
+sizes_by : (s : Store) (l : Text) (ns ks : List ℕ) (b : Bool) → length ns == length ks ≡ b → prospect_by (sizes_compared s (scattered l ns ks)) ≡ goes_if b contraction.BadMember
+sizes_by s l ns ks true e =
+    let same : length ns ≡ length ks = grind (arith, nat_tests, e) in
+    ap (λ (o : Option Trees). prospect_by (sizes_compared s o)) (scattered_calls l ns ks same)
+sizes_by s l ns ks false e = ap (λ (o : Option Trees). prospect_by (sizes_compared s o)) (differ l ns ks (λ h. grind (arith, nat_tests, e, h)))
+
+scatter_with : (s : Store) (l : Text) (ns : List ℕ) (d : CellShape) → prospect_by (scatter_row s l (Group ns) d) ≡ at_scatter (face (Group ns)) (face d)
+scatter_with s l ns (Number z) = refl
+scatter_with s l ns (Object fields methods) = refl
+scatter_with s l ns (Reference n) = refl
+scatter_with s l ns (Future f) = refl
+scatter_with s l ns (Group ks) = sizes_by s l ns ks (length ns == length ks) refl
+
+scatter_by : (s : Store) (l : Text) (c d : CellShape) → prospect_by (scatter_row s l c d) ≡ at_scatter (face c) (face d)
+scatter_by s l (Group ns) d = scatter_with s l ns d
+scatter_by s l (Number z) d = refl
+scatter_by s l (Object fields methods) d = refl
+scatter_by s l (Reference n) d = refl
+scatter_by s l (Future f) d = refl
+
+place_by : (s : Store) (ns : List ℕ) (k : ℕ) (b : Bool) → nat_lt k (length ns) ≡ b → prospect_by (member_found s (member_at ns k)) ≡ goes_if b contraction.BadMember
+place_by s ns k true e =
+    let lt : k < length ns = grind (arith, nat_tests, e) in
+    ap (λ (o : Option ℕ). prospect_by (member_found s o)) (member_is ns k ∙ slice_get-get_or ns k 0 lt)
+place_by s ns k false e =
+    let le : length ns ≤ k = grind (arith, nat_tests, e) in
+    ap (λ (o : Option ℕ). prospect_by (member_found s o)) (member_is ns k ∙ slice_get_past ns k le)
+
+member_with : (s : Store) (ns : List ℕ) (d : CellShape) → prospect_by (member_row s (Group ns) d) ≡ at_member (face (Group ns)) (face d)
+member_with s ns (Number (pos k)) = place_by s ns k (nat_lt k (length ns)) refl
+member_with s ns (Number (negsuc k)) = refl
+member_with s ns (Object fields methods) = refl
+member_with s ns (Reference n) = refl
+member_with s ns (Future f) = refl
+member_with s ns (Group ks) = refl
+
+member_by : (s : Store) (c d : CellShape) → prospect_by (member_row s c d) ≡ at_member (face c) (face d)
+member_by s (Group ns) d = member_with s ns d
+member_by s (Number z) d = refl
+member_by s (Object fields methods) d = refl
+member_by s (Reference n) d = refl
+member_by s (Future f) d = refl
+
 -- Redexes
 
 -- the faces of a redex's strict operands
@@ -127,7 +189,7 @@ strict_of r = strict_operands r.head r.places
 
 -- no future stands among the strict operands
 abbrev pub Stand : Store → split.Redex → Type 0
-Stand s r = first_future s (strict_of r) ≡ None
+Stand s r = first_future s (strict_of r ++ strict_members s r.head r.places) ≡ None
 
 -- what a redex of this shape comes to is told by the faces of its operands
 abbrev pub IsBy : Store → Redex → Face → Face → split.Redex → Type 0
@@ -176,3 +238,19 @@ told_by s (redex.Print i) f g r e =
     let q : split.Redex = value_redex term.Print (i ∷ []) in
     let is : IsBy s (redex.Print i) f g q = λ stand faces. ap prospect_by (by_row s q stand) ∙ print_by s i (cell s i) ∙ ap at_number faces in
     subst (IsBy s (redex.Print i) f g) (sym e) is
+told_by s (redex.Scatter i l k) f g r e =
+    let q : split.Redex = value_redex (term.Scatter l.now.text) (i ∷ k ∷ []) in
+    let is : IsBy s (redex.Scatter i l k) f g q = λ stand faces. ap prospect_by (by_row s q stand) ∙ scatter_by s l.now.text (cell s i) (cell s k) ∙ (λ j. at_scatter (faces.0 j) (faces.1 j)) in
+    subst (IsBy s (redex.Scatter i l k) f g) (sym e) is
+told_by s (redex.Size i) f g r e =
+    let q : split.Redex = value_redex term.Size (i ∷ []) in
+    let is : IsBy s (redex.Size i) f g q = λ stand faces. ap prospect_by (by_row s q stand) ∙ size_by s (cell s i) ∙ ap at_group faces in
+    subst (IsBy s (redex.Size i) f g) (sym e) is
+told_by s (redex.Member i k) f g r e =
+    let q : split.Redex = value_redex term.Member (i ∷ k ∷ []) in
+    let is : IsBy s (redex.Member i k) f g q = λ stand faces. ap prospect_by (by_row s q stand) ∙ member_by s (cell s i) (cell s k) ∙ (λ j. at_member (faces.0 j) (faces.1 j)) in
+    subst (IsBy s (redex.Member i k) f g) (sym e) is
+told_by s (redex.WaitAll i) f g r e =
+    let q : split.Redex = value_redex term.WaitAll (i ∷ []) in
+    let is : IsBy s (redex.WaitAll i) f g q = λ stand faces. ap prospect_by (by_row s q stand) ∙ wait_by s i (cell s i) ∙ ap at_group faces in
+    subst (IsBy s (redex.WaitAll i) f g) (sym e) is

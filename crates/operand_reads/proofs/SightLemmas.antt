@@ -1,6 +1,7 @@
 -- What is seen of operands without a change is what stands there after their values are unpacked.
 use Rattle.std.proofs.Common.{◌≡◌, ◌==◌, ◌<◌, ◌≤◌, ◌+◌, ◌≢◌, ℕ, zero, suc, Bool, true, false, List, [], ◌∷◌, ◌++◌, Some, None, length, map, refl, sym, ap, ◌∙◌, subst, length-append, arith}
 use Rattle.std.specs.Prelude.{pos}
+use Rattle.std.proofs.lemmas.List.{length-map}
 use Rattle.std.proofs.lemmas.Bool.Decides.{nat_tests}
 use Rattle.asp_model.specs.Names.{FutureShape}
 use Rattle.asp_model.specs.Term.{moved}
@@ -12,7 +13,7 @@ use Rattle.asp_model.specs.Intent.{Ready, Reads, Lacks, fetched, operand_ready, 
 use Rattle.laws.specs.Closed.{AreBelow}
 use Rattle.laws.specs.Linked.{Each}
 use Rattle.laws.proofs.EachLemmas.{below_more}
-use Rattle.operand_reads.specs.Faces.{Face, ObjectFace, face}
+use Rattle.operand_reads.specs.Faces.{Face, GroupFace, ObjectFace, face}
 use Rattle.operand_reads.specs.Sights.{Sight, Shows, Misses, sight, value_sight, missed_or, first_missed}
 use Rattle.operand_reads.proofs.ReadyLemmas.{more_ready}
 use Rattle.laws.proofs.MovedLemmas.{length_written}
@@ -24,7 +25,7 @@ map_over : {X Y : Type 0} (g : X → Y) (h : X → X) → ((x : X) → g (h x) �
 map_over g h e [] = refl
 map_over g h e (x ∷ xs) = λ i. e x i ∷ map_over g h e xs i
 
-face_moved : (f : ℕ → ℕ) (c : CellShape) → face (moved_cell f c) ≡ face c
+pub face_moved : (f : ℕ → ℕ) (c : CellShape) → face (moved_cell f c) ≡ face c
 face_moved f (Number z) = refl
 face_moved f (Object fields methods) =
     let place : Field → Field = λ x. record { label = x.label; place = f x.place } in
@@ -32,7 +33,7 @@ face_moved f (Object fields methods) =
     λ i. ObjectFace (map_over (λ (x : Field). x.label) place (λ x. refl) fields i) (map_over (λ (m : MethodShape). m.head) body (λ m. refl) methods i)
 face_moved f (Reference n) = refl
 face_moved f (Future g) = refl
-face_moved f (Group ns) = refl
+face_moved f (Group ns) = ap GroupFace (length-map ns f)
 
 future_moved : (f : ℕ → ℕ) (c : CellShape) → is_future (moved_cell f c) ≡ is_future c
 future_moved f (Number z) = refl
@@ -59,12 +60,12 @@ past_end [] p h = refl
 past_end (c ∷ s) zero h = absurd (omega arith)
 past_end (c ∷ s) (suc p) h = past_end s p (omega arith)
 
-cell_before : (s xs : Store) (n : ℕ) → n < length s → cell (s ++ xs) n ≡ cell s n
+pub cell_before : (s xs : Store) (n : ℕ) → n < length s → cell (s ++ xs) n ≡ cell s n
 cell_before [] xs n h = absurd (omega arith)
 cell_before (c ∷ s) xs zero h = refl
 cell_before (c ∷ s) xs (suc n) h = cell_before s xs n (omega arith)
 
-cell_written : (s : Store) (n : ℕ) (d : CellShape) → n < length s → cell (with_cell s n d) n ≡ d
+pub cell_written : (s : Store) (n : ℕ) (d : CellShape) → n < length s → cell (with_cell s n d) n ≡ d
 cell_written [] n d h = absurd (omega arith)
 cell_written (c ∷ s) zero d h = refl
 cell_written (c ∷ s) (suc n) d h = cell_written s n d (omega arith)
@@ -83,15 +84,17 @@ pub record IsSeenAs (chases : FutureShape → Chase) (s t : Store) : Type 0 wher
   pub grows : length s ≤ length t
   pub same : (k : ℕ) → k < length s → sight chases (cell t k) ≡ sight chases (cell s k)
   pub still : (k : ℕ) → k < length s → is_future (cell s k) ≡ false → is_future (cell t k) ≡ false
+  pub kept : (k : ℕ) → k < length s → is_future (cell s k) ≡ false → cell t k ≡ cell s k
 
-seen_same : (chases : FutureShape → Chase) (s : Store) → IsSeenAs chases s s
-seen_same chases s = record { grows = omega arith; same = λ k h. refl; still = λ k h e. e }
+pub seen_same : (chases : FutureShape → Chase) (s : Store) → IsSeenAs chases s s
+seen_same chases s = record { grows = omega arith; same = λ k h. refl; still = λ k h e. e; kept = λ k h e. refl }
 
-seen_then : (chases : FutureShape → Chase) (s t u : Store) → IsSeenAs chases s t → IsSeenAs chases t u → IsSeenAs chases s u
+pub seen_then : (chases : FutureShape → Chase) (s t u : Store) → IsSeenAs chases s t → IsSeenAs chases t u → IsSeenAs chases s u
 seen_then chases s t u a b = record {
   grows = omega (arith, a.grows, b.grows);
   same = λ k h. b.same k (omega (arith, h, a.grows)) ∙ a.same k h;
   still = λ k h e. b.still k (omega (arith, h, a.grows)) (a.still k h e);
+  kept = λ k h e. b.kept k (omega (arith, h, a.grows)) (a.still k h e) ∙ a.kept k h e;
 }
 
 pub record IsUnpacked (chases : FutureShape → Chase) (s : Store) (n : ℕ) (x : Ready) : Type 0 where
@@ -139,7 +142,17 @@ placed_still s t n c p e k below h false is =
     let other : k ≢ n = λ q. grind (arith, nat_tests, is, q) in
     ap is_future (p.others k below other) ∙ h
 
-by_chase : (chases : FutureShape → Chase) → HaveRoots chases → (s : Store) (n : ℕ) (g : FutureShape) (f : Face) (x : Chase) → cell s n ≡ Future g → chases g ≡ x → value_sight x ≡ Shows f → IsUnpacked chases s n (fetched s n x)
+placed_kept : (s t : Store) (n : ℕ) (c : CellShape) → IsPlaced s t n c → is_future (cell s n) ≡ true → (k : ℕ) → k < length s → is_future (cell s k) ≡ false → (b : Bool) → k == n ≡ b → cell t k ≡ cell s k
+placed_kept s t n c p e k below h true is =
+    let same : k ≡ n = grind (arith, nat_tests, is) in
+    let future : is_future (cell s k) ≡ true = subst (λ (m : ℕ). is_future (cell s m) ≡ true) (sym same) e in
+    let no : false ≡ true = sym h ∙ future in
+    absurd cc
+placed_kept s t n c p e k below h false is =
+    let other : k ≢ n = λ q. grind (arith, nat_tests, is, q) in
+    p.others k below other
+
+pub by_chase : (chases : FutureShape → Chase) → HaveRoots chases → (s : Store) (n : ℕ) (g : FutureShape) (f : Face) (x : Chase) → cell s n ≡ Future g → chases g ≡ x → value_sight x ≡ Shows f → IsUnpacked chases s n (fetched s n x)
 by_chase chases roots s n g f (Value h p) at is e =
     let root = roots g h p is in
     let here : IsPlaced s (unpack_at s n p) n (cell p.cells 0) = placed s n (place_at (length s) n) p.cells (future_below s n g at) root.0 in
@@ -151,6 +164,7 @@ by_chase chases roots s n g f (Value h p) at is e =
         grows = here.grows;
         same = λ k below. placed_same chases s (unpack_at s n p) n (cell p.cells 0) here root.1 seen k below (k == n) refl;
         still = λ k below h. placed_still s (unpack_at s n p) n (cell p.cells 0) here root.1 k below h (k == n) refl;
+        kept = λ k below h. placed_kept s (unpack_at s n p) n (cell p.cells 0) here (ap is_future at) k below h (k == n) refl;
       };
       stands = here.stands ∙ root.1;
     }
@@ -172,7 +186,7 @@ chase_lacks s n g (Value h p) e = absurd cc
 chase_lacks s n g (Unfilled h) e = let same : h ≡ g = cc in ap Lacks same
 chase_lacks s n g (Cycle h) e = let same : h ≡ g = cc in ap Lacks same
 
-cell_lacks : (chases : FutureShape → Chase) (s : Store) (n : ℕ) (g : FutureShape) (c : CellShape) → sight chases c ≡ Misses g → operand_ready chases s n c ≡ Lacks g
+pub cell_lacks : (chases : FutureShape → Chase) (s : Store) (n : ℕ) (g : FutureShape) (c : CellShape) → sight chases c ≡ Misses g → operand_ready chases s n c ≡ Lacks g
 cell_lacks chases s n g (Number z) e = absurd cc
 cell_lacks chases s n g (Object fields methods) e = absurd cc
 cell_lacks chases s n g (Reference m) e = absurd cc

@@ -1,5 +1,5 @@
 -- What a redex comes to, as far as the kinds and labels of its operands tell.
-use Rattle.std.specs.Prelude.{◌==◌, ℕ, ℤ, Bool, true, false, List, [], ◌∷◌, Option, Some, None, Ok, Err, length, map}
+use Rattle.std.specs.Prelude.{◌==◌, ℕ, ℤ, pos, negsuc, nat_lt, Bool, true, false, List, [], ◌∷◌, Option, Some, None, Ok, Err, length, map}
 use Rattle.asp_model.specs.Names.{Name, Text, same_text}
 use Rattle.asp_model.specs.Term.{MethodHead, SignShape, has_text}
 use Rattle.asp_model.specs.Store.{CellShape, Number, Object, Reference, Future, Group}
@@ -16,14 +16,14 @@ pub data Face : Type 0 where
   ObjectFace : (fields : List Text) (methods : List MethodHead) → Face
   ReferenceFace : (n : Name) → Face
   FutureFace : Face
-  GroupFace : Face
+  GroupFace : (size : ℕ) → Face
 
 abbrev pub face : CellShape → Face
 face (Number n) = NumberFace n
 face (Object fields methods) = ObjectFace (map (λ x. x.label) fields) (map (λ m. m.head) methods)
 face (Reference n) = ReferenceFace n
 face (Future f) = FutureFace
-face (Group ns) = GroupFace
+face (Group ns) = GroupFace (length ns)
 
 abbrev pub field_labels : Face → List Text
 field_labels (ObjectFace ls hs) = ls
@@ -32,6 +32,14 @@ field_labels f = []
 abbrev pub method_heads : Face → List MethodHead
 method_heads (ObjectFace ls hs) = hs
 method_heads f = []
+
+abbrev pub group_size : Face → Option ℕ
+group_size (GroupFace n) = Some n
+group_size f = None
+
+abbrev pub face_number : Face → Option ℤ
+face_number (NumberFace z) = Some z
+face_number f = None
 
 -- By what an operand is
 
@@ -59,7 +67,7 @@ at_call l k (NumberFace n) = Stops contraction.NotObject
 at_call l k (ObjectFace ls hs) = goes_if (has_count k (head_at l hs)) contraction.NoMethod
 at_call l k (ReferenceFace n) = GoesTo n
 at_call l k FutureFace = Still
-at_call l k GroupFace = Goes
+at_call l k (GroupFace n) = Goes
 
 abbrev pub at_object : Face → ProspectShape
 at_object (ObjectFace ls hs) = Goes
@@ -77,6 +85,25 @@ abbrev pub at_sign : SignShape → Face → Face → ProspectShape
 at_sign sign (NumberFace x) (NumberFace y) = at_answer (answer sign x y)
 at_sign sign f g = Stops contraction.NotNumber
 
+-- where a group is wanted
+abbrev pub at_group : Face → ProspectShape
+at_group (GroupFace n) = Goes
+at_group f = Stops contraction.NotGroup
+
+abbrev pub at_scatter : Face → Face → ProspectShape
+at_scatter (GroupFace n) (GroupFace k) = goes_if (n == k) contraction.BadMember
+at_scatter f g = Stops contraction.NotGroup
+
+-- of so many members the one with a number
+abbrev pub at_number_of : ℕ → ℤ → ProspectShape
+at_number_of n (pos k) = goes_if (nat_lt k n) contraction.BadMember
+at_number_of n (negsuc k) = Stops contraction.BadMember
+
+abbrev pub at_member : Face → Face → ProspectShape
+at_member (GroupFace n) (NumberFace z) = at_number_of n z
+at_member (GroupFace n) g = Stops contraction.NotNumber
+at_member f g = Stops contraction.NotGroup
+
 -- by the first and the second strict operand
 abbrev pub prospect_at : Redex → Face → Face → ProspectShape
 prospect_at redex.Goes f g = Goes
@@ -89,3 +116,7 @@ prospect_at (redex.Serve ls) f g = Asks
 prospect_at (redex.If i) f g = at_number f
 prospect_at (redex.Operate sign i k) f g = at_sign (sign_shape sign) f g
 prospect_at (redex.Print i) f g = at_number f
+prospect_at (redex.Scatter i l k) f g = at_scatter f g
+prospect_at (redex.Size i) f g = at_group f
+prospect_at (redex.Member i k) f g = at_member f g
+prospect_at (redex.WaitAll i) f g = at_group f

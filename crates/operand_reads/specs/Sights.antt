@@ -2,6 +2,7 @@
 use Rattle.std.specs.Prelude.{◌≡◌, ℕ, List, [], ◌∷◌, Option, Some, None}
 use Rattle.asp_model.specs.Names.{FutureShape}
 use Rattle.asp_model.specs.Store.{CellShape, Number, Reference, Future, Group, Store, cell}
+use Rattle.asp_model.specs.Contraction.{members_of}
 use Rattle.asp_model.specs.Chase as chase
 use Rattle.asp_model.specs.Chase.{Chase}
 use Rattle.asp_model.specs.Shapes.{future_shape}
@@ -13,7 +14,10 @@ use Rattle.operand_reads.specs.declared.reading.Operand.{Operand}
 use Rattle.operand_reads.specs.declared.reading.Operand.TheVariants as operand
 use Rattle.operand_reads.specs.declared.reading.Operands.{Operands}
 use Rattle.operand_reads.specs.declared.reading.Operands.TheVariants as operands
+use Rattle.operand_reads.specs.declared.strict.Strict.{Strict}
+use Rattle.operand_reads.specs.declared.strict.Strict.TheVariants as strict
 use Rattle.operand_reads.specs.Faces.{Face, face}
+use Rattle.operand_reads.specs.Strict.{strict_places}
 
 abbrev pub seen_shape : Seen → CellShape
 seen_shape (seen.Number n) = Number n
@@ -60,6 +64,26 @@ AreSeen chases s (i ∷ []) f g = sight chases (cell s i) ≡ Shows f
 AreSeen chases s (i ∷ k ∷ []) f g = (sight chases (cell s i) ≡ Shows f) × (sight chases (cell s k) ≡ Shows g)
 AreSeen chases s (i ∷ k ∷ j ∷ ns) f g = ⊥
 
-abbrev pub IsRead : (FutureShape → Chase) → Store → List ℕ → Operands → Type 0
-IsRead chases s ns (operands.Read x y) = AreSeen chases s ns (seen_face x) (seen_face y)
-IsRead chases s ns (operands.Awaits g) = first_missed chases s ns ≡ Some (future_shape g.now)
+-- the first future that is awaited among the members of a group, or of the value that is one
+abbrev pub value_missed : (FutureShape → Chase) → Chase → Option FutureShape
+value_missed chases (chase.Value f p) = first_missed chases p.cells (members_of (cell p.cells 0))
+value_missed chases (chase.Unfilled f) = None
+value_missed chases (chase.Cycle f) = None
+
+abbrev pub members_missed : (FutureShape → Chase) → Store → CellShape → Option FutureShape
+members_missed chases s (Future f) = value_missed chases (chases f)
+members_missed chases s c = first_missed chases s (members_of c)
+
+-- what strict operands look like, where none is awaited
+abbrev pub AreRead : (FutureShape → Chase) → Store → Strict → Face → Face → Type 0
+AreRead chases s (strict.Members i) f g = (sight chases (cell s i) ≡ Shows f) × (members_missed chases s (cell s i) ≡ None)
+AreRead chases s x f g = AreSeen chases s (strict_places x) f g
+
+-- the first future that is awaited
+abbrev pub missed : (FutureShape → Chase) → Store → Strict → Option FutureShape
+missed chases s (strict.Members i) = missed_or (sight chases (cell s i)) (members_missed chases s (cell s i))
+missed chases s x = first_missed chases s (strict_places x)
+
+abbrev pub IsRead : (FutureShape → Chase) → Store → Strict → Operands → Type 0
+IsRead chases s x (operands.Read a b) = AreRead chases s x (seen_face a) (seen_face b)
+IsRead chases s x (operands.Awaits g) = missed chases s x ≡ Some (future_shape g.now)

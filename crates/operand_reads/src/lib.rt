@@ -2,6 +2,7 @@
 #![tactic(auto)]
 
 mod fetching;
+mod members;
 mod prospect;
 mod reading;
 mod rows;

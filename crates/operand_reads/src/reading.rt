@@ -1,20 +1,21 @@
 //! Strict operands as they are read without a change: the root of a future's value in its place.
 
-ghost use Rattle.std.specs.Prelude.{◌≡◌, ◌∷◌, []};
+ghost use Rattle.std.specs.Prelude.{◌≡◌};
 ghost use Rattle.asp_model.specs.Store.{cell as cell_in};
 ghost use Rattle.asp_model.specs.Chase.{chase};
 ghost use Rattle.asp_model.specs.Shapes.{future_shape};
 ghost use Rattle.coded_cells.specs.Shapes.{parcel_shape, store_of};
 ghost use Rattle.future_table.specs.Values.{values_of};
 ghost use Rattle.operand_reads.specs.Sights.{IsRead, operand_sight, seen_shape, sight, value_sight};
-ghost use Rattle.operand_reads.specs.Strict.{strict_places};
+ghost use Rattle.operand_reads.specs.declared.strict.Strict.TheVariants as strict;
 
+use crate::members::missed_member;
 use crate::seen::{Seen, read, see};
 use crate::strict::Strict;
 use asp_model::FutureName;
 use coded_cells::{Parcel, Place};
-use object_store::Store;
 use future_table::{Chase, FutureTable};
+use object_store::Store;
 use program_code::Code;
 
 /// An operand, or the future that it awaits.
@@ -31,7 +32,7 @@ pub enum Operands<'a> {
     Awaits(&'a FutureName),
 }
 
-fn root_of(parcel: &Parcel) -> Seen
+pub fn root_of(parcel: &Parcel) -> Seen
     ensures root { seen_shape result ≡ cell_in (parcel_shape parcel.now).cells 0 }
 {
     match parcel.cells.first() {
@@ -54,6 +55,20 @@ fn value_of<'a>(futures: &'a FutureTable, future: &'a FutureName) -> Operand<'a>
     }
 }
 
+/// A cell through the futures.
+pub fn through<'a>(futures: &'a FutureTable, seen: Seen<'a>) -> Operand<'a>
+    ensures sight { let c = seen_shape seen.entry in
+        operand_sight result ≡ sight (chase (values_of futures.now)) c }
+{
+    match seen {
+        Seen::Future(future) => value_of(futures, future),
+        Seen::Number(n) => Operand::Reads(Seen::Number(n)),
+        Seen::Object(object, code) => Operand::Reads(Seen::Object(object, code)),
+        Seen::Reference(name) => Operand::Reads(Seen::Reference(name)),
+        Seen::Group(members) => Operand::Reads(Seen::Group(members)),
+    }
+}
+
 fn read_operand<'a>(
     code: &'a Code,
     store: &'a Store,
@@ -63,13 +78,7 @@ fn read_operand<'a>(
     ensures sight { let c = cell_in (store_of code.now store.now.cells) place in
         operand_sight result ≡ sight (chase (values_of futures.now)) c }
 {
-    match read(code, store, place) {
-        Seen::Future(future) => value_of(futures, future),
-        Seen::Number(n) => Operand::Reads(Seen::Number(n)),
-        Seen::Object(object, code) => Operand::Reads(Seen::Object(object, code)),
-        Seen::Reference(name) => Operand::Reads(Seen::Reference(name)),
-        Seen::Group(members) => Operand::Reads(Seen::Group(members)),
-    }
+    through(futures, read(code, store, place))
 }
 
 /// The strict operands, or the first future among them that has no value.
@@ -80,9 +89,10 @@ pub fn operands_of<'a>(
     strict: Strict,
 ) -> Operands<'a>
     ensures read { let s = store_of code.now store.now.cells in
-        IsRead (chase (values_of futures.now)) s (strict_places strict) result }
+        IsRead (chase (values_of futures.now)) s strict result }
 {
     match strict {
+        Strict::Members(place) => group_operand(code, store, futures, place),
         Strict::Nothing => Operands::Read(Seen::Number(0), Seen::Number(0)),
         Strict::One(place) => match read_operand(code, store, futures, place) {
             Operand::Awaits(future) => Operands::Awaits(future),
@@ -100,13 +110,32 @@ fn two_operands<'a>(
     second: Place,
 ) -> Operands<'a>
     ensures read { let s = store_of code.now store.now.cells in
-        IsRead (chase (values_of futures.now)) s (first ∷ second ∷ []) result }
+        IsRead (chase (values_of futures.now)) s (strict.Two first second) result }
 {
     match read_operand(code, store, futures, first) {
         Operand::Awaits(future) => Operands::Awaits(future),
         Operand::Reads(seen) => match read_operand(code, store, futures, second) {
             Operand::Awaits(future) => Operands::Awaits(future),
             Operand::Reads(other) => Operands::Read(seen, other),
+        },
+    }
+}
+
+/// A group, or the first future that it or a member of it awaits.
+fn group_operand<'a>(
+    code: &'a Code,
+    store: &'a Store,
+    futures: &'a FutureTable,
+    place: Place,
+) -> Operands<'a>
+    ensures read { let s = store_of code.now store.now.cells in
+        IsRead (chase (values_of futures.now)) s (strict.Members place) result }
+{
+    match read_operand(code, store, futures, place) {
+        Operand::Awaits(future) => Operands::Awaits(future),
+        Operand::Reads(seen) => match missed_member(code, store, futures, place) {
+            Some(future) => Operands::Awaits(future),
+            None => Operands::Read(seen, Seen::Number(0)),
         },
     }
 }

@@ -8,13 +8,19 @@ ghost use Rattle.coded_cells.specs.Shapes.{class_object};
 ghost use Rattle.operand_reads.specs.Faces.{
   at_call as call_at,
   at_field as field_at,
+  at_group as group_at,
+  at_member as member_at,
   at_number as number_at,
+  at_number_of as number_of_at,
   at_object as object_at,
+  at_scatter as scatter_at,
   at_sign as sign_at,
   field_labels,
   has_count,
   head_at,
   face,
+  face_number,
+  group_size,
   method_heads,
   prospect_at,
 };
@@ -94,6 +100,81 @@ fn at_call<'a>(seen: Seen<'a>, label: &Label, count: usize) -> Prospect<'a>
     }
 }
 
+fn at_group<'a>(seen: Seen<'a>) -> Prospect<'a>
+    ensures { prospect_shape result ≡ group_at (seen_face seen.entry) }
+{
+    match seen {
+        Seen::Group(_) => Prospect::Goes,
+        Seen::Number(_) => Prospect::Stops(Fault::NotGroup),
+        Seen::Object(_, _) => Prospect::Stops(Fault::NotGroup),
+        Seen::Reference(_) => Prospect::Stops(Fault::NotGroup),
+        Seen::Future(_) => Prospect::Stops(Fault::NotGroup),
+    }
+}
+
+/// What is the size of a group.
+fn size_of(seen: Seen) -> Option<usize>
+    ensures size { result ≡ group_size (seen_face seen.entry) }
+{
+    match seen {
+        Seen::Group(members) => Some(members.len()),
+        Seen::Number(_) => None,
+        Seen::Object(_, _) => None,
+        Seen::Reference(_) => None,
+        Seen::Future(_) => None,
+    }
+}
+
+fn number_of(seen: Seen) -> Option<i64>
+    ensures number { result ≡ face_number (seen_face seen.entry) }
+{
+    match seen {
+        Seen::Number(n) => Some(n),
+        Seen::Group(_) => None,
+        Seen::Object(_, _) => None,
+        Seen::Reference(_) => None,
+        Seen::Future(_) => None,
+    }
+}
+
+fn at_scatter<'a>(first: Seen, second: Seen) -> Prospect<'a>
+    ensures { let other = seen_face second.entry in
+        prospect_shape result ≡ scatter_at (seen_face first.entry) other }
+{
+    match (size_of(first), size_of(second)) {
+        (Some(size), Some(other)) => {
+            if size == other {
+                Prospect::Goes
+            } else {
+                Prospect::Stops(Fault::BadMember)
+            }
+        }
+        _ => Prospect::Stops(Fault::NotGroup),
+    }
+}
+
+/// Of so many members the one with a number.
+fn at_number_of<'a>(size: usize, number: i64) -> Prospect<'a>
+    ensures { prospect_shape result ≡ number_of_at size number }
+{
+    match usize::try_from(number) {
+        Ok(at) if at < size => Prospect::Goes,
+        _ => Prospect::Stops(Fault::BadMember),
+    }
+}
+
+fn at_member<'a>(group: Seen, number: Seen) -> Prospect<'a>
+    ensures { prospect_shape result ≡ member_at (seen_face group.entry) (seen_face number.entry) }
+{
+    match size_of(group) {
+        Some(size) => match number_of(number) {
+            Some(n) => at_number_of(size, n),
+            None => Prospect::Stops(Fault::NotNumber),
+        },
+        None => Prospect::Stops(Fault::NotGroup),
+    }
+}
+
 fn at_object<'a>(seen: Seen<'a>) -> Prospect<'a>
     ensures { prospect_shape result ≡ object_at (seen_face seen.entry) }
 {
@@ -136,6 +217,9 @@ pub fn by_operands<'a>(redex: Redex, first: Seen<'a>, second: Seen<'a>) -> Prosp
         Redex::Active(_, _) => at_object(first),
         Redex::If(_) | Redex::Print(_) => at_number(first),
         Redex::Operate(sign, _, _) => at_sign(sign, first, second),
+        Redex::Scatter(_, _, _) => at_scatter(first, second),
+        Redex::Member(_, _) => at_member(first, second),
+        Redex::Size(_) | Redex::WaitAll(_) => at_group(first),
         Redex::Serve(_) => Prospect::Asks,
         Redex::Goes | Redex::Clone(_) => Prospect::Goes,
     }

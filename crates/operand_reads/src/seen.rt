@@ -1,6 +1,7 @@
 //! Cells as they are read.
 
 ghost use Rattle.std.specs.Prelude.{◌≡◌};
+ghost use Rattle.asp_model.specs.Contraction.{members_of};
 ghost use Rattle.asp_model.specs.Store.{cell as cell_in};
 ghost use Rattle.coded_cells.specs.Shapes.{cell_shape, store_of};
 ghost use Rattle.operand_reads.specs.Sights.{seen_shape};
@@ -31,6 +32,19 @@ pub fn see<'a>(code: &'a Code, cell: &'a Cell) -> Seen<'a>
         Cell::Reference(name) => Seen::Reference(name),
         Cell::Future(future) => Seen::Future(future),
         Cell::Group(members) => Seen::Group(members),
+    }
+}
+
+/// The members of a group; none of what is no group.
+pub fn members_of<'a>(seen: Seen<'a>) -> &'a [Place]
+    ensures members { result.now ≡ members_of (seen_shape seen.entry) }
+{
+    match seen {
+        Seen::Group(members) => members,
+        Seen::Number(_) => &[],
+        Seen::Object(_, _) => &[],
+        Seen::Reference(_) => &[],
+        Seen::Future(_) => &[],
     }
 }
 

@@ -1,10 +1,7 @@
 //! The strict operands of a redex.
 
 ghost use Rattle.std.specs.Prelude.{◌≡◌};
-ghost use Rattle.asp_model.specs.Contraction.{strict_operands};
-ghost use Rattle.asp_model.specs.Split.{Redex as RedexShape};
-ghost use Rattle.activity_rows.specs.Redexes.{IsRedex};
-ghost use Rattle.operand_reads.specs.Strict.{strict_places};
+ghost use Rattle.operand_reads.specs.Strict.{strict_in};
 
 use activity_rows::Redex;
 use coded_cells::Place;
@@ -15,12 +12,13 @@ pub enum Strict {
     Nothing,
     One(Place),
     Two(Place, Place),
+    /// A group, and then its members.
+    Members(Place),
 }
 
 /// The strict operands of a redex.
 pub fn strict_of(redex: Redex) -> Strict
-    ensures places { (r : RedexShape) → IsRedex r redex.entry →
-        strict_places result ≡ strict_operands r.head r.places }
+    ensures strict { result ≡ strict_in redex.entry }
 {
     match redex {
         Redex::Get(place, _)
@@ -29,8 +27,12 @@ pub fn strict_of(redex: Redex) -> Strict
         | Redex::Clone(place)
         | Redex::Active(place, _)
         | Redex::If(place)
-        | Redex::Print(place) => Strict::One(place),
-        Redex::Operate(_, first, second) => Strict::Two(first, second),
+        | Redex::Print(place)
+        | Redex::Size(place) => Strict::One(place),
+        Redex::Operate(_, first, second)
+        | Redex::Scatter(first, _, second)
+        | Redex::Member(first, second) => Strict::Two(first, second),
+        Redex::WaitAll(place) => Strict::Members(place),
         Redex::Goes | Redex::Serve(_) => Strict::Nothing,
     }
 }

@@ -2,7 +2,7 @@
 
 ghost use Rattle.std.specs.Prelude.{◌≡◌, length};
 ghost use Rattle.asp_model.specs.Chase.{chase};
-ghost use Rattle.asp_model.specs.Contraction.{strict_operands};
+ghost use Rattle.asp_model.specs.Contraction.{strict_members, strict_operands};
 ghost use Rattle.asp_model.specs.Intent.{redex_ready};
 ghost use Rattle.asp_model.specs.Split.{Redex as RedexShape};
 ghost use Rattle.activity_rows.specs.Redexes.{IsRedex};
@@ -17,8 +17,8 @@ use crate::reading::{Operands, operands_of};
 use crate::rows::by_operands;
 use crate::strict::strict_of;
 use activity_rows::Redex;
-use object_store::Store;
 use future_table::FutureTable;
+use object_store::Store;
 use program_code::Code;
 
 /// What a redex comes to. It takes no memory, and unpacks nothing.
@@ -32,6 +32,7 @@ pub fn prospect_of<'a>(
     ensures prospect { (r : RedexShape) → IsRedex r redex.entry →
         AreBelow (length store.now.cells) (strict_operands r.head r.places) →
         let s = store_of code.now store.now.cells in
+        AreBelow (length store.now.cells) (strict_members s r.head r.places) →
         prospect_shape result ≡ comes_to (redex_ready (chase (values_of futures.now)) s r) r }
 {
     match operands_of(code, store, futures, strict_of(redex)) {

@@ -1,4 +1,4 @@
-use Rattle.std.proofs.Common.{◌≡◌, refl, sym, ap, ◌∙◌}
+use Rattle.std.proofs.Common.{◌≡◌, sym, ap, ◌∙◌}
 use Rattle.program_code.specs.Tables.{pieces, piece_at}
 use Rattle.machine_frames.specs.Calls.{called_label}
 use Rattle.machine_frames.specs.Standing.{view_of}

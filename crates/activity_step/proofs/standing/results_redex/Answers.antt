@@ -1,4 +1,4 @@
-use Rattle.std.proofs.Common.{rules, ◌≡◌, List, true, sym, subst}
+use Rattle.std.proofs.Common.{◌≡◌, List, subst}
 use Rattle.program_code.specs.declared.code.Node.{Node}
 use Rattle.machine_frames.specs.Views.{all_done}
 use Rattle.activity_step.proofs.StandingLemmas.{results_at}

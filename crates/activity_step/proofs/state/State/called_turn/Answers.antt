@@ -1,4 +1,4 @@
-use Rattle.std.proofs.Common.{◌≡◌, sym, ap, subst, ◌∙◌}
+use Rattle.std.proofs.Common.{◌≡◌, ap, subst, ◌∙◌}
 use Rattle.asp_model.specs.Names.{Text}
 use Rattle.program_code.specs.Tables.{pieces, piece_at}
 use Rattle.machine_frames.specs.Calls.{called_label}

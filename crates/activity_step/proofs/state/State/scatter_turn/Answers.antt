@@ -1,6 +1,6 @@
-use Rattle.std.proofs.Common.{rules, ◌≡◌, ℕ, Bool, true, false, List, length, refl, sym, ap, subst, ◌∙◌}
-use Rattle.asp_model.specs.Term.{Head, Scatter}
-use Rattle.asp_model.specs.Contraction.{contract, scattered, sizes_compared}
+use Rattle.std.proofs.Common.{rules, ◌≡◌, ℕ, true, false, List, refl, ap, subst}
+use Rattle.asp_model.specs.Term.{Scatter}
+use Rattle.asp_model.specs.Contraction.{contract}
 use Rattle.program_code.specs.declared.code.Kind.{Kind}
 use Rattle.program_code.specs.Tables.{kind_head}
 use Rattle.coded_cells.specs.Shapes.{store_of}
