@@ -1,15 +1,14 @@
 -- The values of strict operands leave an activity closed.
-use Rattle.std.proofs.Common.{◌≡◌, ◌<◌, ℕ, Bool, true, false, List, [], length, refl, sym, ap, subst, ◌∙◌, arith}
+use Rattle.std.proofs.Common.{◌≡◌, ◌<◌, ℕ, Bool, true, false, List, length, refl, sym, subst, ◌∙◌, arith}
 use Rattle.asp_model.specs.Names.{FutureShape}
 use Rattle.asp_model.specs.Term.{locations, own_locations, locations_below}
 use Rattle.asp_model.specs.Store.{Store}
 use Rattle.asp_model.specs.Split as terms
 use Rattle.asp_model.specs.Split.{Context, Redex, Split, Splits, split}
-use Rattle.asp_model.specs.Chase.{Chase, Values, chase}
-use Rattle.asp_model.specs.Contraction.{strict_operands, strict_members}
+use Rattle.asp_model.specs.Chase.{Values, chase}
 use Rattle.asp_model.specs.Configuration as model
 use Rattle.asp_model.specs.Configuration.{RequestShape}
-use Rattle.asp_model.specs.Intent.{Ready, Reads, Lacks, operands_ready, redex_ready}
+use Rattle.asp_model.specs.Intent.{Ready, Reads, Lacks, redex_ready}
 use Rattle.chase_laws.proofs.ChaseLemmas.{chase_finds}
 use Rattle.laws.specs.Closed.{AreBelow, IsClosedActivity, SplitBelow}
 use Rattle.laws.proofs.ClosedLemmas.{IsReadFrom, ReadsClosed, redex_closed, services_more}
@@ -19,7 +18,6 @@ use Rattle.activity_step.specs.declared.activity.Activity.{Activity}
 use Rattle.activity_step.specs.Activities.{StandsFor}
 use Rattle.operand_reads.specs.Strict.{IsFetched}
 use Rattle.operand_reads.specs.Values.{AreClosedValues}
-use Rattle.actor.specs.Actors.{HasOperands}
 
 reads_closed : (values : Values) → AreClosedValues values → ReadsClosed (chase values)
 reads_closed values h f y p e = (h y p (chase_finds values f y p e).0).closed
@@ -46,14 +44,6 @@ closed_over values a cs r t h closed e reads =
     }
 
 -- What was fetched
-
--- by operands alone
-then_members : (chases : FutureShape → Chase) (r : Redex) (y : Ready) → ((t : Store) → strict_members t r.head r.places ≡ []) → elim y [ Reads t ↦ operands_ready chases t (strict_members t r.head r.places) | Lacks f ↦ Lacks f ] ≡ y
-then_members chases r (Reads t) none = ap (operands_ready chases t) (none t)
-then_members chases r (Lacks f) none = refl
-
-pub ready_at : (chases : FutureShape → Chase) (a : model.Activity) (ns : List ℕ) (h : HasOperands a ns) → redex_ready chases a.store h.redex ≡ operands_ready chases a.store ns
-ready_at chases a ns h = then_members chases h.redex (operands_ready chases a.store (strict_operands h.redex.head h.redex.places)) h.members ∙ ap (operands_ready chases a.store) (sym h.operands)
 
 pub record Fetched (a : model.Activity) (x : Ready) (y : Activity) : Type 0 where
   pub store : Store

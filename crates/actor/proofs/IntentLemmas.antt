@@ -1,13 +1,13 @@
 -- What an activity intends where it stands, and what is left when that is done.
-use Rattle.std.proofs.Common.{◌≡◌, ◌++◌, ℕ, suc, true, false, List, [], refl, sym, ap, ◌∙◌, subst}
+use Rattle.std.proofs.Common.{◌≡◌, ◌++◌, ℕ, suc, true, false, List, refl, sym, ap, ◌∙◌, subst}
 use Rattle.asp_model.specs.Names.{FutureShape, Name, Text}
-use Rattle.asp_model.specs.Term.{Serve, Tree}
+use Rattle.asp_model.specs.Term.{Head, Serve, Tree}
 use Rattle.asp_model.specs.Store.{Store}
 use Rattle.asp_model.specs.Split as terms
 use Rattle.asp_model.specs.Split.{Context, Redex, Split, Splits, split}
 use Rattle.asp_model.specs.Chase.{Chase}
 use Rattle.asp_model.specs.Contraction as contraction
-use Rattle.asp_model.specs.Contraction.{Communication, Contraction, Becomes, Faults, Needs, Communicates, Breaks, Creates, Sends, Serves, contract, strict_operands}
+use Rattle.asp_model.specs.Contraction.{Communication, Contraction, Becomes, Faults, Needs, Communicates, Breaks, Creates, Sends, Serves, contract, strict_members, strict_operands}
 use Rattle.asp_model.specs.Configuration as model
 use Rattle.asp_model.specs.Configuration.{RequestShape}
 use Rattle.asp_model.specs.Intent.{Intent, Rests, Awaits, Ready, Reads, Lacks, operands_ready, redex_ready, intent, contracts, ends_service, newest}
@@ -19,13 +19,14 @@ use Rattle.activity_step.specs.Activities.{IsAfter, StandsFor}
 use Rattle.activity_step.specs.Standings as step
 use Rattle.activity_step.specs.Standings.{IsAt}
 use Rattle.activity_rows.specs.declared.redex.Redex.{Redex as Told}
-use Rattle.operand_reads.proofs.ReadyLemmas.{no_members}
+use Rattle.operand_reads.specs.declared.strict.Strict.{Strict}
+use Rattle.operand_reads.specs.Strict.{strict_in, strict_ready}
+use Rattle.operand_reads.proofs.ReadyLemmas.{ready_in}
 use Rattle.actor.specs.declared.actor.Actor.{Actor}
 use Rattle.actor.specs.declared.act.Given.TheVariants as given
 use Rattle.actor.specs.Actors.{HasOperands, Stands, code_of}
 use Rattle.actor.specs.Asking.{communicates}
 use Rattle.actor.specs.Effects.{IsDoneBy}
-use Rattle.actor.proofs.FetchLemmas.{ready_at}
 use Rattle.actor.proofs.StandLemmas.{stands_with}
 
 abbrev pub intended : List RequestShape → Name → model.Activity → List Context → Redex → Ready → Intent
@@ -58,23 +59,26 @@ contracts_over rs n a cs s Breaks own = refl
 reads_is : (s t : Store) → Reads s ≡ Reads t → s ≡ t
 reads_is s t e = ap (λ (x : Ready). elim x [ Reads u ↦ u | Lacks f ↦ s ]) e
 
-pub own_for : (chases : FutureShape → Chase) (a : model.Activity) (ns : List ℕ) (h : HasOperands a ns) (s : Store) → operands_ready chases a.store ns ≡ Reads s → OwnFor a.store s (contract s h.redex)
-own_for chases a ns h s reads labels e =
-    let head : h.redex.head ≡ Serve labels = serves_by_head s h.redex labels e in
-    let none : ns ≡ [] = h.operands ∙ ap (λ k. strict_operands k h.redex.places) head in
-    sym (reads_is a.store s (ap (operands_ready chases a.store) (sym none) ∙ reads))
+abbrev ready_of : (FutureShape → Chase) → Store → Head → List ℕ → Ready
+ready_of chases s h ns = elim (operands_ready chases s (strict_operands h ns)) [ Reads t ↦ operands_ready chases t (strict_members t h ns) | Lacks f ↦ Lacks f ]
+
+pub own_for : (chases : FutureShape → Chase) (a : model.Activity) (r : Redex) (s : Store) → redex_ready chases a.store r ≡ Reads s → OwnFor a.store s (contract s r)
+own_for chases a r s reads labels e =
+    let head : r.head ≡ Serve labels = serves_by_head s r labels e in
+    sym (reads_is a.store s (sym (ap (λ (h : Head). ready_of chases a.store h r.places) head) ∙ reads))
 
 -- the operands of a redex that is told
-abbrev pub has_operands : (a : model.Activity) (x : Told) (h : IsAt a x) (ns : List ℕ) → ns ≡ strict_operands h.redex.head h.redex.places → HasOperands a ns
-has_operands a x h ns e = record { contexts = h.contexts; redex = h.redex; splits = h.splits; operands = e; members = λ s. no_members s x h.redex h.is }
+pub has_operands : (a : model.Activity) (x : Told) (z : Strict) → IsAt a x → z ≡ strict_in x → HasOperands a z
+has_operands a x z h e = record { contexts = h.contexts; redex = h.redex; splits = h.splits; ready = λ chases. ready_in chases a.store x h.redex h.is ∙ ap (strict_ready chases a.store) (sym e) }
 
-pub intent_over : (chases : FutureShape → Chase) (rs : List RequestShape) (n : Name) (a : model.Activity) (ns : List ℕ) (h : HasOperands a ns) (s : Store) → operands_ready chases a.store ns ≡ Reads s
+pub intent_over : (chases : FutureShape → Chase) (rs : List RequestShape) (n : Name) (a : model.Activity) (z : Strict) (h : HasOperands a z) (s : Store) → strict_ready chases a.store z ≡ Reads s
     → intent chases rs n a ≡ contracts rs n (record a { store = s }) h.contexts s (contract s h.redex)
-intent_over chases rs n a ns h s reads =
-    intent_redex chases rs n a h.contexts h.redex (Reads s) h.splits (ready_at chases a ns h ∙ reads) ∙ contracts_over rs n a h.contexts s (contract s h.redex) (own_for chases a ns h s reads)
+intent_over chases rs n a z h s reads =
+    let whole : redex_ready chases a.store h.redex ≡ Reads s = h.ready chases ∙ reads in
+    intent_redex chases rs n a h.contexts h.redex (Reads s) h.splits whole ∙ contracts_over rs n a h.contexts s (contract s h.redex) (own_for chases a h.redex s whole)
 
-pub intent_lacks : (chases : FutureShape → Chase) (rs : List RequestShape) (n : Name) (a : model.Activity) (ns : List ℕ) (h : HasOperands a ns) (f : FutureShape) → operands_ready chases a.store ns ≡ Lacks f → intent chases rs n a ≡ Rests (Awaits f)
-intent_lacks chases rs n a ns h f lacks = intent_redex chases rs n a h.contexts h.redex (Lacks f) h.splits (ready_at chases a ns h ∙ lacks)
+pub intent_lacks : (chases : FutureShape → Chase) (rs : List RequestShape) (n : Name) (a : model.Activity) (z : Strict) (h : HasOperands a z) (f : FutureShape) → strict_ready chases a.store z ≡ Lacks f → intent chases rs n a ≡ Rests (Awaits f)
+intent_lacks chases rs n a z h f lacks = intent_redex chases rs n a h.contexts h.redex (Lacks f) h.splits (h.ready chases ∙ lacks)
 
 -- After a turn
 

@@ -6,14 +6,15 @@ use Rattle.std.specs.Borrow.{Bor}
 use Rattle.asp_model.specs.Names.{Name, FutureShape, Text}
 use Rattle.asp_model.specs.Store.{Store, cell}
 use Rattle.asp_model.specs.Split.{Context, Redex}
-use Rattle.asp_model.specs.Contraction.{Contraction, Becomes, Faults, Needs, Communicates, Breaks, Creates, Sends, Serves, contract, strict_operands}
+use Rattle.asp_model.specs.Contraction.{Contraction, Becomes, Faults, Needs, Communicates, Breaks, Creates, Sends, Serves, contract, strict_members, strict_operands}
 use Rattle.asp_model.specs.Configuration as model
 use Rattle.asp_model.specs.Configuration.{RequestShape}
 use Rattle.asp_model.specs.Chase.{Values, chase}
 use Rattle.asp_model.specs.Intent.{Intent, Ready, Reads, Lacks, contracts, intent, labels_served, oldest_match, redex_ready, serves}
 use Rattle.asp_model.specs.Shapes.{fault_shape, future_shape}
 use Rattle.operand_reads.specs.Prospects.{ProspectShape, Goes, GoesTo, Stops, Asks, Awaits, Still, comes_to, prospect_by}
-use Rattle.laws.specs.Closed.{AreBelow}
+use Rattle.laws.specs.Closed.{AreBelow, IsClosedStore}
+use Rattle.coded_cells.proofs.CodedLemmas.{length-store_of}
 use Rattle.activity_rows.specs.declared.redex.Redex.{Redex as Told}
 use Rattle.activity_rows.specs.Redexes.{IsRedex}
 use Rattle.activity_step.specs.Activities.{StandsFor}
@@ -24,12 +25,12 @@ use Rattle.object_store.specs.View.{StoreView}
 use Rattle.program_code.specs.declared.code.Node.{Node}
 use Rattle.actor.specs.declared.actor.Actor.{Actor}
 use Rattle.actor.specs.declared.outlook.Outlook.TheVariants as outlook
-use Rattle.actor.specs.Actors.{HasOperands, IsClosedFor, code_of}
+use Rattle.actor.specs.Actors.{IsClosedFor, code_of}
 use Rattle.actor.specs.Asking.{labels_in}
 use Rattle.actor.specs.Outlook.{IsOutlook}
-use Rattle.actor.proofs.FetchLemmas.{ready_at, redex_below}
-use Rattle.actor.proofs.IntentLemmas.{has_operands, intended, intent_redex, own_for}
-use Rattle.actor.proofs.RedexLemmas.{operands, operands_within, same_operands, serve_labels}
+use Rattle.actor.proofs.FetchLemmas.{redex_below}
+use Rattle.actor.proofs.IntentLemmas.{intended, intent_redex, own_for}
+use Rattle.actor.proofs.RedexLemmas.{operands, operands_within, same_operands, serve_labels, waited_within}
 use Rattle.actor.proofs.StandLemmas.{size}
 
 module _ (rs : List RequestShape) (n : Name) (a : model.Activity) (cs : List Context) where
@@ -122,7 +123,7 @@ asks r (Lacks f) e = absurd cc
 
 -- what the redex comes to over this store of this code is told
 abbrev pub By : Values → Told → ProspectShape → List Node → StoreView → Type 0
-By values x p k s = (r : Redex) → IsRedex r x → AreBelow (length s.cells) (strict_operands r.head r.places) → p ≡ comes_to (redex_ready (chase values) (store_of k s.cells) r) r
+By values x p k s = (r : Redex) → IsRedex r x → AreBelow (length s.cells) (strict_operands r.head r.places) → AreBelow (length s.cells) (strict_members (store_of k s.cells) r.head r.places) → p ≡ comes_to (redex_ready (chase values) (store_of k s.cells) r) r
 
 pub by_own : (values : Values) (x : Told) (p : ProspectShape) (k m : List Node) (s t : StoreView) → k ≡ m → s ≡ t → By values x p k s → By values x p m t
 by_own values x p k m s t code store by = subst (λ (l : List Node). By values x p l t) code (subst (By values x p k) store by)
@@ -137,7 +138,13 @@ module _ (x : Actor) (values : Values) (told : Told) (at : (a : model.Activity) 
       let b : IsAt closed.activity told = at closed.activity closed.stands.activity in
       let whole : AreBelow n b.redex.places = subst (λ (m : ℕ). AreBelow m b.redex.places) (size x closed.activity closed.received closed.stands) (redex_below closed.activity b.contexts b.redex closed.closed b.splits) in
       let below : AreBelow n (operands (at a h).redex) = subst (AreBelow n) (same_operands b.redex (at a h).redex told b.is (at a h).is) (operands_within n b.redex told b.is whole) in
-      by (at a h).redex (at a h).is below ∙ ap (λ (s : Store). comes_to (redex_ready (chase values) s (at a h).redex) (at a h).redex) h.state.store
+      let r : Redex = (at a h).redex in
+      let stores : closed.activity.store ≡ store_of (code_of x) x.activity.state.store.cells = sym closed.stands.activity.state.store in
+      let shut : IsClosedStore (store_of (code_of x) x.activity.state.store.cells) = subst IsClosedStore stores closed.closed.store in
+      let members : AreBelow n (strict_members (store_of (code_of x) x.activity.state.store.cells) r.head r.places) =
+      subst (λ (m : ℕ). AreBelow m (strict_members (store_of (code_of x) x.activity.state.store.cells) r.head r.places)) (length-store_of (code_of x) x.activity.state.store.cells)
+      (waited_within (store_of (code_of x) x.activity.state.store.cells) r.head r.places shut) in
+      by (at a h).redex (at a h).is below members ∙ ap (λ (s : Store). comes_to (redex_ready (chase values) s (at a h).redex) (at a h).redex) h.state.store
 
   pub outlook_at : (p : ProspectShape) → IsClosedFor x → By values told p (code_of x) x.activity.state.store → (a : model.Activity) (rs : List RequestShape) (n : Name) (h : StandsFor x.activity a) (Q : Intent → Type 0)
       → (p ≡ comes_to (ready a h) (at a h).redex → Q (intended rs n a (at a h).contexts (at a h).redex (ready a h))) → Q (intent (chase values) rs n a)
@@ -149,8 +156,7 @@ module _ (x : Actor) (values : Values) (told : Told) (at : (a : model.Activity) 
   serve_intent a rs n h written e w =
       let r : Redex = (at a h).redex in
       let cs : List Context = (at a h).contexts in
-      let ops : HasOperands a (operands r) = has_operands a told (at a h) (operands r) refl in
-      let own : w.store ≡ a.store = own_for (chase values) a (operands r) ops w.store (sym (ready_at (chase values) a (operands r) ops) ∙ w.reads) w.labels w.is in
+      let own : w.store ≡ a.store = own_for (chase values) a r w.store w.reads w.labels w.is in
       let cells : CodedStore = x.activity.state.store.cells in
       let is : contract (store_of (code_of x) cells) r ≡ Communicates (Serves w.labels) = ap (λ (s : Store). contract s r) (h.state.store ∙ sym own) ∙ w.is in
       let labels : w.labels ≡ written = sym (serve_labels (code_of x) cells r told w.labels (at a h).is is) ∙ sym e in

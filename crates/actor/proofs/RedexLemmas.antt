@@ -1,14 +1,14 @@
 -- A redex that is told tells its operands, and what it asks of others.
-use Rattle.std.proofs.Common.{◌≡◌, ◌∙◌, ℕ, List, [], ◌∷◌, Option, Some, None, refl, sym, ap, subst}
+use Rattle.std.proofs.Common.{◌≡◌, ◌∙◌, ℕ, zero, suc, length, List, [], ◌∷◌, Option, Some, None, refl, sym, ap, subst}
 use Rattle.asp_model.specs.Names.{Text}
 use Rattle.asp_model.specs.Term as term
 use Rattle.asp_model.specs.Term.{Head, Tree, none}
 use Rattle.asp_model.specs.Split.{Redex, Stands, split}
 use Rattle.asp_model.specs.Configuration.{Activity}
-use Rattle.laws.specs.Closed.{AreBelow}
+use Rattle.laws.specs.Closed.{AreBelow, CellsBelow, IsClosedStore}
 use Rattle.asp_model.specs.Store as store
-use Rattle.asp_model.specs.Store.{CellShape, Store, cell}
-use Rattle.asp_model.specs.Contraction.{Communication, LineShape, Creates, Sends, Serves, Communicates, Becomes, contract, strict_operands}
+use Rattle.asp_model.specs.Store.{CellShape, Store, cell, reached}
+use Rattle.asp_model.specs.Contraction.{Communication, LineShape, Creates, Sends, Serves, Communicates, Becomes, contract, members_at, members_of, strict_members, strict_operands}
 use Rattle.activity_rows.specs.declared.redex.Redex.{Redex as Told}
 use Rattle.activity_rows.specs.declared.redex.Redex.TheVariants as redex
 use Rattle.activity_rows.specs.Redexes.{IsRedex}
@@ -47,6 +47,10 @@ same_operands r q (redex.Serve ls) h g = ap operands (h ∙ sym g)
 same_operands r q (redex.If i) h g = ap operands h.2 ∙ sym (ap operands g.2)
 same_operands r q (redex.Operate sign i k) h g = ap operands (h ∙ sym g)
 same_operands r q (redex.Print i) h g = ap operands (h ∙ sym g)
+same_operands r q (redex.Scatter i l j) h g = ap operands (h ∙ sym g)
+same_operands r q (redex.Size i) h g = ap operands (h ∙ sym g)
+same_operands r q (redex.Member i j) h g = ap operands (h ∙ sym g)
+same_operands r q (redex.WaitAll i) h g = ap operands (h ∙ sym g)
 
 -- What is asked
 
@@ -89,6 +93,10 @@ module _ (k : List Node) (s : CodedStore) where
   created r (redex.If i) p service h _ head _ = absurd (if_creates service (sym (ap (λ (q : Redex). q.head) h.2) ∙ head))
   created r (redex.Operate sign i j) p service h _ head places = absurd cc
   created r (redex.Print i) p service h _ head places = absurd cc
+  created r (redex.Scatter i m j) p service h _ head places = absurd cc
+  created r (redex.Size i) p service h _ head places = absurd cc
+  created r (redex.Member i j) p service h _ head places = absurd cc
+  created r (redex.WaitAll i) p service h _ head places = absurd cc
 
   sent : (r : Redex) (x : Told) (i : ℕ) (n : List ℕ) (l : Text) (js : List ℕ) → IsRedex r x → contract (store_of k s) r ≡ Communicates (Sends n l js) → r.head ≡ term.Call l → r.places ≡ i ∷ js → cell (store_of k s) i ≡ store.Reference n → asked_in s x ≡ Some (Sends n l js)
   sent r redex.Goes i n l js h e head places at = absurd (goes_on r (store_of k s) (Sends n l js) (h.goes (store_of k s)) e)
@@ -107,6 +115,10 @@ module _ (k : List Node) (s : CodedStore) where
   sent r (redex.If j) i n l js h _ head _ _ = absurd (if_sends l (sym (ap (λ (q : Redex). q.head) h.2) ∙ head))
   sent r (redex.Operate sign j q) i n l js h _ head places at = absurd cc
   sent r (redex.Print j) i n l js h _ head places at = absurd cc
+  sent r (redex.Scatter j m q) i n l js h _ head places at = absurd cc
+  sent r (redex.Size j) i n l js h _ head places at = absurd cc
+  sent r (redex.Member j q) i n l js h _ head places at = absurd cc
+  sent r (redex.WaitAll j) i n l js h _ head places at = absurd cc
 
   served : (r : Redex) (x : Told) (ls : List Text) → IsRedex r x → contract (store_of k s) r ≡ Communicates (Serves ls) → r.head ≡ term.Serve ls → asked_in s x ≡ Some (Serves ls)
   served r redex.Goes ls h e head = absurd (goes_on r (store_of k s) (Serves ls) (h.goes (store_of k s)) e)
@@ -119,6 +131,10 @@ module _ (k : List Node) (s : CodedStore) where
   served r (redex.If i) ls h _ head = absurd (if_serves ls (sym (ap (λ (q : Redex). q.head) h.2) ∙ head))
   served r (redex.Operate sign i j) ls h _ head = absurd cc
   served r (redex.Print i) ls h _ head = absurd cc
+  served r (redex.Scatter i l j) ls h _ head = absurd cc
+  served r (redex.Size i) ls h _ head = absurd cc
+  served r (redex.Member i j) ls h _ head = absurd cc
+  served r (redex.WaitAll i) ls h _ head = absurd cc
 
   -- what the redex asks of others is told
   pub asked : (r : Redex) (x : Told) (y : Communication) → IsRedex r x → contract (store_of k s) r ≡ Communicates y → asked_in s x ≡ Some y
@@ -148,6 +164,10 @@ labels_told s (redex.Serve ms) ls e = ap labels_of e
 labels_told s (redex.If i) ls e = ap labels_of e
 labels_told s (redex.Operate sign i j) ls e = ap labels_of e
 labels_told s (redex.Print i) ls e = ap labels_of e
+labels_told s (redex.Scatter i l j) ls e = ap labels_of e
+labels_told s (redex.Size i) ls e = ap labels_of e
+labels_told s (redex.Member i j) ls e = ap labels_of e
+labels_told s (redex.WaitAll i) ls e = ap labels_of e
 
 -- the labels of a `serve` are told
 pub serve_labels : (k : List Node) (s : CodedStore) (r : Redex) (x : Told) (ls : List Text) → IsRedex r x → contract (store_of k s) r ≡ Communicates (Serves ls) → labels_in x ≡ ls
@@ -176,6 +196,10 @@ placed n r (redex.Serve ls) h b = tt
 placed n r (redex.If i) h b = tt
 placed n r (redex.Operate sign i j) h b = tt
 placed n r (redex.Print i) h b = tt
+placed n r (redex.Scatter i l j) h b = tt
+placed n r (redex.Size i) h b = tt
+placed n r (redex.Member i j) h b = tt
+placed n r (redex.WaitAll i) h b = tt
 
 sent_within : (n : ℕ) (c : CodedCell) (l : Text) (ks : List ℕ) → AreBelow n ks → IsWithin n (sent_to c l ks)
 sent_within n (coded.Reference m) l ks h = h
@@ -196,6 +220,10 @@ asked_within n s r (redex.Serve ls) h b = tt
 asked_within n s r (redex.If i) h b = tt
 asked_within n s r (redex.Operate sign i j) h b = tt
 asked_within n s r (redex.Print i) h b = tt
+asked_within n s r (redex.Scatter i l j) h b = tt
+asked_within n s r (redex.Size i) h b = tt
+asked_within n s r (redex.Member i j) h b = tt
+asked_within n s r (redex.WaitAll i) h b = tt
 
 -- strict operands are among the places
 pub operands_within : (n : ℕ) (r : Redex) (x : Told) → IsRedex r x → AreBelow n r.places → AreBelow n (operands r)
@@ -209,6 +237,31 @@ operands_within n r (redex.Serve ls) h b = subst (AreBelow n) (sym (ap operands 
 operands_within n r (redex.If i) h b = subst (AreBelow n) (sym (ap operands h.2)) (subst (AreBelow n) (ap places h.2) b)
 operands_within n r (redex.Operate sign i j) h b = subst (AreBelow n) (sym (ap operands h)) (subst (AreBelow n) (ap places h) b)
 operands_within n r (redex.Print i) h b = subst (AreBelow n) (sym (ap operands h)) (subst (AreBelow n) (ap places h) b)
+operands_within n r (redex.Scatter i l j) h b = subst (AreBelow n) (sym (ap operands h)) (subst (AreBelow n) (ap places h) b)
+operands_within n r (redex.Size i) h b = subst (AreBelow n) (sym (ap operands h)) (subst (AreBelow n) (ap places h) b)
+operands_within n r (redex.Member i j) h b = subst (AreBelow n) (sym (ap operands h)) (subst (AreBelow n) (ap places h) b)
+operands_within n r (redex.WaitAll i) h b = subst (AreBelow n) (sym (ap operands h)) (subst (AreBelow n) (ap places h) b)
+
+members_within : (s : Store) (c : CellShape) (k : ℕ) → AreBelow k (reached c) → AreBelow k (members_of c)
+members_within s (store.Number z) k h = tt
+members_within s (store.Object fields methods) k h = tt
+members_within s (store.Reference n) k h = tt
+members_within s (store.Future f) k h = tt
+members_within s (store.Group ns) k h = h
+
+cell_within : (k : ℕ) (cs : Store) (n : ℕ) → CellsBelow k cs → AreBelow k (members_of (cell cs n))
+cell_within k [] n h = tt
+cell_within k (c ∷ cs) zero h = members_within cs c k h.0
+cell_within k (c ∷ cs) (suc n) h = cell_within k cs n h.1
+
+group_within : (s : Store) (ns : List ℕ) → IsClosedStore s → AreBelow (length s) (members_at s ns)
+group_within s [] h = tt
+group_within s (n ∷ ns) h = cell_within (length s) s n h
+
+-- the members of a group that is waited for are in a closed store
+pub waited_within : (s : Store) (h : Head) (ns : List ℕ) → IsClosedStore s → AreBelow (length s) (strict_members s h ns)
+waited_within s term.WaitAll ns c = group_within s ns c
+waited_within s h ns c = tt
 
 -- The labels of methods
 

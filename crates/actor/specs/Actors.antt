@@ -1,19 +1,22 @@
 -- The activity of a configuration that an actor stands for, and the requests that it received.
-use Rattle.std.specs.Prelude.{◌≡◌, ℕ, List, [], length, map, Some}
+use Rattle.std.specs.Prelude.{◌≡◌, ℕ, List, length, map, Some}
 use Rattle.std.specs.Prelude.{slice_get}
 use Rattle.std.specs.List.{AllByRecursion}
 use Rattle.std.specs.Arc.{arc_value}
 use Rattle.asp_model.specs.Configuration as model
 use Rattle.asp_model.specs.Configuration.{RequestShape}
-use Rattle.asp_model.specs.Contraction.{strict_operands, strict_members}
+use Rattle.asp_model.specs.Names.{FutureShape}
+use Rattle.asp_model.specs.Chase.{Chase}
+use Rattle.asp_model.specs.Intent.{redex_ready}
 use Rattle.asp_model.specs.Split as terms
 use Rattle.asp_model.specs.Split.{Context, Splits, split}
-use Rattle.asp_model.specs.Store.{Store}
 use Rattle.laws.specs.Closed.{AreBelow, IsClosedActivity, IsClosedParcel}
 use Rattle.program_code.specs.declared.code.Node.{Node}
 use Rattle.request_queue.specs.Pending.{pending_of, waiting}
 use Rattle.activity_step.specs.Activities.{StandsFor}
 use Rattle.activity_step.specs.Standings as step
+use Rattle.operand_reads.specs.declared.strict.Strict.{Strict}
+use Rattle.operand_reads.specs.Strict.{strict_ready}
 use Rattle.actor.specs.declared.actor.Actor.{Actor}
 
 -- the code that it runs
@@ -45,10 +48,10 @@ pub record IsClosedFor (x : Actor) : Type 0 where
   pub arguments : (k : ℕ) (r : RequestShape)
       → slice_get received k ≡ Some r → IsClosedParcel r.arguments
 
--- its redex reads operands at these places, and no members of a group
-pub record HasOperands (a : model.Activity) (ns : List ℕ) : Type 0 where
+-- its redex reads these operands
+pub record HasOperands (a : model.Activity) (x : Strict) : Type 0 where
   pub contexts : List Context
   pub redex : terms.Redex
   pub splits : split a.term ≡ Splits contexts redex
-  pub operands : ns ≡ strict_operands redex.head redex.places
-  pub members : (s : Store) → strict_members s redex.head redex.places ≡ []
+  pub ready : (chases : FutureShape → Chase)
+      → redex_ready chases a.store redex ≡ strict_ready chases a.store x

@@ -10,7 +10,6 @@ ghost use Rattle.asp_model.specs.Split as terms;
 ghost use Rattle.asp_model.specs.Split.{Context, Redex, Splits, split};
 ghost use Rattle.activity_step.specs.Activities.{StandsFor};
 ghost use Rattle.future_table.specs.Values.{AreOfCode, values_of};
-ghost use Rattle.operand_reads.specs.Strict.{strict_places};
 ghost use Rattle.operand_reads.specs.Values.{AreClosedValues};
 ghost use Rattle.actor.specs.Actors.{HasOperands, IsClosedFor, Stands, code_of};
 ghost use Rattle.actor.specs.Asking.{communicates};
@@ -116,7 +115,7 @@ impl Actor {
         requires values { AreClosedValues (values_of futures.now) }
         requires code { AreOfCode (code_of self.old) futures.now }
         requires operands { (a : model.Activity) → StandsFor self.old.activity a →
-            HasOperands a (strict_places strict) }
+            HasOperands a strict }
         ensures acts { (a : model.Activity) (rs : List RequestShape) → Stands self.old a rs →
             let intended = intent (chase (values_of futures.now)) rs name.now a in
             IfOk result (IsDoneBy intended rs self.new) }

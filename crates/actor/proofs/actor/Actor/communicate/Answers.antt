@@ -1,4 +1,4 @@
-use Rattle.std.proofs.Common.{◌≡◌, ◌∙◌, IfOk, List, Option, Some, None, map, sym, subst}
+use Rattle.std.proofs.Common.{◌≡◌, ◌∙◌, IfOk, Option, Some, None, map, sym, subst}
 use Rattle.asp_model.specs.Configuration as model
 use Rattle.asp_model.specs.Contraction.{Communication, Creates, Sends, Serves}
 use Rattle.asp_model.specs.Intent.{Numbered, communicates, creates, labels_served, oldest_match, sends, serves}

@@ -1,14 +1,15 @@
-use Rattle.std.proofs.Common.{IfOk, List, ℕ, refl, sym, ◌∙◌, subst}
+use Rattle.std.proofs.Common.{IfOk, refl, sym, ◌∙◌, subst}
 use Rattle.asp_model.specs.Chase.{Values, chase}
 use Rattle.asp_model.specs.Configuration as model
-use Rattle.asp_model.specs.Intent.{Intent, operands_ready}
+use Rattle.asp_model.specs.Intent.{Intent}
 use Rattle.future_table.specs.Values.{values_of}
-use Rattle.operand_reads.specs.Strict.{strict_places}
+use Rattle.operand_reads.specs.declared.strict.Strict.{Strict}
+use Rattle.operand_reads.specs.Strict.{strict_ready}
 use Rattle.actor.specs.declared.actor.Actor.{Actor}
 use Rattle.actor.specs.declared.act.Given.TheVariants as given
 use Rattle.actor.specs.Actors.{HasOperands, IsClosedFor, Stands}
 use Rattle.actor.specs.Effects.{IsDoneBy}
-use Rattle.actor.proofs.FetchLemmas.{Fetched, closed_over, fetched_lacks, fetched_reads, ready_at}
+use Rattle.actor.proofs.FetchLemmas.{Fetched, closed_over, fetched_lacks, fetched_reads}
 use Rattle.actor.proofs.IntentLemmas.{intent_lacks, intent_over}
 use Rattle.actor.proofs.StandLemmas.{closed_with, stands_with}
 use Rattle.actor.proofs.actor.Actor.reduce.Goals as goal
@@ -20,11 +21,11 @@ contract-requires c =
     let a : model.Activity = h.activity in
     let y = c.fetch_all.new.activity in
     let values : Values = values_of c.args.futures.now in
-    let ns : List ℕ = strict_places c.args.strict in
-    let ops : HasOperands a ns = c.requires.operands a h.stands.activity in
-    let f : Fetched a (operands_ready (chase values) a.store ns) y = fetched_reads a (operands_ready (chase values) a.store ns) y c.in_ok-fetch_all.field-0 c.if-branch.true (c.in_ok-fetch_all.ensures.fetched a h.stands.activity) in
+    let z : Strict = c.args.strict in
+    let ops : HasOperands a z = c.requires.operands a h.stands.activity in
+    let f : Fetched a (strict_ready (chase values) a.store z) y = fetched_reads a (strict_ready (chase values) a.store z) y c.in_ok-fetch_all.field-0 c.if-branch.true (c.in_ok-fetch_all.ensures.fetched a h.stands.activity) in
     let b : model.Activity = record a { store = f.store } in
-    record { closed = closed_with x y h b f.stands c.in_ok-fetch_all.ensures.code refl refl refl (closed_over values a ops.contexts ops.redex f.store c.requires.values h.closed ops.splits (ready_at (chase values) a ns ops ∙ f.reads)) }
+    record { closed = closed_with x y h b f.stands c.in_ok-fetch_all.ensures.code refl refl refl (closed_over values a ops.contexts ops.redex f.store c.requires.values h.closed ops.splits (ops.ready (chase values) ∙ f.reads)) }
 
 pub returns-then-branch-clause-acts : goal.returns-then-branch-clause-acts
 returns-then-branch-clause-acts c = λ a rs h.
@@ -32,12 +33,12 @@ returns-then-branch-clause-acts c = λ a rs h.
     let y = c.fetch_all.new.activity in
     let chases = chase (values_of c.args.futures.now) in
     let n = c.args.name.now in
-    let ns : List ℕ = strict_places c.args.strict in
-    let ops : HasOperands a ns = c.requires.operands a h.activity in
-    let f : Fetched a (operands_ready chases a.store ns) y = fetched_reads a (operands_ready chases a.store ns) y c.in_ok-fetch_all.field-0 c.if-branch.true (c.in_ok-fetch_all.ensures.fetched a h.activity) in
+    let z : Strict = c.args.strict in
+    let ops : HasOperands a z = c.requires.operands a h.activity in
+    let f : Fetched a (strict_ready chases a.store z) y = fetched_reads a (strict_ready chases a.store z) y c.in_ok-fetch_all.field-0 c.if-branch.true (c.in_ok-fetch_all.ensures.fetched a h.activity) in
     let b : model.Activity = record a { store = f.store } in
     let now : Stands (record x { activity = y }) b rs = stands_with x y a b rs h f.stands c.in_ok-fetch_all.ensures.code refl refl refl in
-    subst (λ (i : Intent). IfOk c.contract.result (IsDoneBy i rs c.contract.new.self)) (sym (intent_over chases rs n a ns ops f.store f.reads)) (c.contract.ensures.contracts b rs ops.contexts ops.redex now ops.splits)
+    subst (λ (i : Intent). IfOk c.contract.result (IsDoneBy i rs c.contract.new.self)) (sym (intent_over chases rs n a z ops f.store f.reads)) (c.contract.ensures.contracts b rs ops.contexts ops.redex now ops.splits)
 
 pub returns-else-branch-clause-acts : goal.returns-else-branch-clause-acts
 returns-else-branch-clause-acts c = λ a rs h.
@@ -45,7 +46,7 @@ returns-else-branch-clause-acts c = λ a rs h.
     let y = c.fetch_all.new.activity in
     let chases = chase (values_of c.args.futures.now) in
     let n = c.args.name.now in
-    let ns : List ℕ = strict_places c.args.strict in
-    let ops : HasOperands a ns = c.requires.operands a h.activity in
-    let lacks = fetched_lacks a (operands_ready chases a.store ns) y c.in_ok-fetch_all.field-0 c.if-branch.false (c.in_ok-fetch_all.ensures.fetched a h.activity) in
-    subst (λ (i : Intent). IsDoneBy i rs (record x { activity = y }) given.Nothing) (sym (intent_lacks chases rs n a ns ops lacks.0 lacks.1)) tt
+    let z : Strict = c.args.strict in
+    let ops : HasOperands a z = c.requires.operands a h.activity in
+    let lacks = fetched_lacks a (strict_ready chases a.store z) y c.in_ok-fetch_all.field-0 c.if-branch.false (c.in_ok-fetch_all.ensures.fetched a h.activity) in
+    subst (λ (i : Intent). IsDoneBy i rs (record x { activity = y }) given.Nothing) (sym (intent_lacks chases rs n a z ops lacks.0 lacks.1)) tt
