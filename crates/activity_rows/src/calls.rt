@@ -37,6 +37,7 @@ fn captured_in<'a>(method: &MethodCode, places: &'a [Place]) -> Option<&'a [Plac
     Some(captured)
 }
 
+#[inline(always)]
 fn method_in<'a>(
     code: &'a Code,
     object: &'a Object,
@@ -66,6 +67,7 @@ fn method_in<'a>(
 }
 
 /// What a call leads to, where this cell is the receiver at a place.
+#[inline(always)]
 pub fn callee_of<'a>(
     code: &'a Code,
     cell: &'a Cell,

@@ -7,6 +7,7 @@ use coded_cells::{Cell, Place};
 use object_store::Store;
 
 /// The cell at a place.
+#[inline(always)]
 pub fn look<'a>(store: &'a Store, loc: Place) -> Option<&'a Cell>
     ensures cell { IfSome result (λ c. coded c.now ≡ cell_at store.now.cells loc) }
     ensures none { IfNone result (length store.now.cells ≤ loc) }
@@ -19,6 +20,7 @@ pub fn look<'a>(store: &'a Store, loc: Place) -> Option<&'a Cell>
 }
 
 /// The one operand.
+#[inline(always)]
 pub fn one(operands: &[Place]) -> Option<Place>
     ensures one { IfSome result (λ i. operands.now ≡ i ∷ []) }
 {
@@ -29,6 +31,7 @@ pub fn one(operands: &[Place]) -> Option<Place>
 }
 
 /// The two operands.
+#[inline(always)]
 pub fn two(operands: &[Place]) -> Option<(Place, Place)>
     ensures two { IfSome result (λ x. operands.now ≡ x.0 ∷ x.1 ∷ []) }
 {

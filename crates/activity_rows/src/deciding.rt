@@ -15,6 +15,7 @@ use program_code::{Code, Kind};
 use std::alloc::AllocError;
 
 /// What a redex of a row with strict operands comes to.
+#[inline(always)]
 pub fn decide(
     code: &Code,
     store: &Store,

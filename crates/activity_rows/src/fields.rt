@@ -14,6 +14,7 @@ use program_code::Code;
 use std::alloc::AllocError;
 
 /// The place of a field of an object.
+#[inline(always)]
 fn get_in(code: &Code, object: &Object, label: &Label) -> Result<Decision, AllocError>
     ensures row { (s : CodedStore) → IfOk result (λ d. get_row (store_of code.now s) label.now.text
         (class_object code.now object.now.places.items (class_at code.now object.now.class))
@@ -32,6 +33,7 @@ fn get_in(code: &Code, object: &Object, label: &Label) -> Result<Decision, Alloc
 }
 
 /// An access to a field.
+#[inline(always)]
 pub fn get(code: &Code, cell: &Cell, label: &Label, place: Place) -> Result<Decision, AllocError>
     ensures row { (s : CodedStore) → IfOk result
         (λ d. read place (get_row (store_of code.now s) label.now.text) (cell_shape code.now cell.now)
@@ -47,6 +49,7 @@ pub fn get(code: &Code, cell: &Cell, label: &Label, place: Place) -> Result<Deci
 }
 
 /// Another place in a field of an object, which stands at a place.
+#[inline(always)]
 fn put_in(
     code: &Code,
     object: &Object,
@@ -76,6 +79,7 @@ fn put_in(
 }
 
 /// Another place in a field of the cell at a place.
+#[inline(always)]
 pub fn put(
     code: &Code,
     cell: &Cell,

@@ -73,6 +73,7 @@ fn size_at(group: SeenGroup, at: Place) -> Decision
 }
 
 /// `size(i)`.
+#[inline(never)]
 pub fn size_row(store: &Store, operands: &[Place]) -> Result<Decision, AllocError>
     ensures row { (k : List NodeShape) → let s = store.now.cells in
         IfOk result
@@ -134,6 +135,7 @@ fn member_at(group: SeenGroup, number: Seen, at: Place, other: Place) -> Decisio
 }
 
 /// `member(i, k)`.
+#[inline(never)]
 pub fn member_row(store: &Store, operands: &[Place]) -> Result<Decision, AllocError>
     ensures row { (k : List NodeShape) → let s = store.now.cells in
         IfOk result
@@ -196,6 +198,7 @@ fn wait_at(store: &Store, group: SeenGroup, at: Place) -> Decision
 }
 
 /// `waitall(i)`.
+#[inline(never)]
 pub fn wait_row(store: &Store, operands: &[Place]) -> Result<Decision, AllocError>
     ensures row { (k : List NodeShape) → let s = store.now.cells in
         IfOk result
@@ -261,6 +264,7 @@ fn scatter_at<'a>(
 }
 
 /// `scatter(i, m, k)`.
+#[inline(never)]
 pub fn scatter_row<'a>(store: &'a Store, operands: &[Place]) -> Result<Scattering<'a>, AllocError>
     ensures row { (k : List NodeShape) (l : Text) → let s = store.now.cells in
         let c = contract (store_of k s) (value_redex (ScatterHead l) operands.now) in

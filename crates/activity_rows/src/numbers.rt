@@ -7,6 +7,7 @@ ghost use Rattle.activity_rows.specs.Numbers.{answer};
 use asp_model::{Fault, Sign};
 
 /// What a sign gives. Division cuts toward zero, and a test gives 1 or 0.
+#[inline(always)]
 pub fn operate(sign: Sign, x: i64, y: i64) -> Result<i64, Fault>
     ensures answer { result ≡ answer (sign_shape sign) x y }
 {

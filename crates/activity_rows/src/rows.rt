@@ -37,6 +37,7 @@ pub struct Operand<'a> {
 }
 
 /// The one operand.
+#[inline(always)]
 pub fn one_operand<'a>(store: &'a Store, operands: &[Place]) -> Option<Operand<'a>>
     ensures one { IfSome result (λ x. operands.now ≡ x.at ∷ []) }
     ensures cell { IfSome result (λ x. coded x.cell.now ≡ cell_at store.now.cells x.at) }
@@ -51,6 +52,7 @@ pub fn one_operand<'a>(store: &'a Store, operands: &[Place]) -> Option<Operand<'
 }
 
 /// `i.l`.
+#[inline(always)]
 pub fn get_row(
     code: &Code,
     store: &Store,
@@ -67,6 +69,7 @@ pub fn get_row(
 }
 
 /// `i.l := k`.
+#[inline(always)]
 pub fn put_row(
     code: &Code,
     store: &Store,
@@ -133,6 +136,7 @@ pub fn print_row(store: &Store, operands: &[Place]) -> Result<Decision, AllocErr
     Ok(print_at(sight, x.at))
 }
 
+#[inline(always)]
 fn answer_of(sign: Sign, x: i64, y: i64) -> Decision
     ensures row { (k : List NodeShape) (s : CodedStore) →
         operate_of (store_of k s) (sign_shape sign) x y ≡ decided k s result }
@@ -143,6 +147,7 @@ fn answer_of(sign: Sign, x: i64, y: i64) -> Decision
     }
 }
 
+#[inline(always)]
 fn second_at(sign: Sign, x: i64, second: Seen, at: Place, other: Place) -> Decision
     ensures row { (k : List NodeShape) (s : CodedStore) →
         operated (store_of k s) (sign_shape sign) at other (seen.Number x) second
@@ -155,6 +160,7 @@ fn second_at(sign: Sign, x: i64, second: Seen, at: Place, other: Place) -> Decis
     }
 }
 
+#[inline(always)]
 fn operate_at(sign: Sign, first: Seen, second: Seen, at: Place, other: Place) -> Decision
     ensures row { (k : List NodeShape) (s : CodedStore) →
         operated (store_of k s) (sign_shape sign) at other first second ≡ decided k s result }
@@ -171,6 +177,7 @@ fn operate_at(sign: Sign, first: Seen, second: Seen, at: Place, other: Place) ->
 }
 
 /// A sign over two numbers.
+#[inline(always)]
 pub fn operate_row(store: &Store, sign: Sign, operands: &[Place]) -> Result<Decision, AllocError>
     ensures row { (k : List NodeShape) → let s = store.now.cells in
         let r = value_redex (OperateHead (sign_shape sign)) operands.now in

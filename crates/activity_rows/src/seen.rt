@@ -15,6 +15,7 @@ pub enum Seen {
     Other,
 }
 
+#[inline(always)]
 pub fn sight_of(cell: &Cell) -> Seen
     ensures seen { (k : List NodeShape) → IsSeen (cell_shape k cell.now) result }
 {

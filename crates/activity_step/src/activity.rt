@@ -113,6 +113,7 @@ impl Activity {
     }
 
     /// One contraction, where it may be taken, or what the redex comes to.
+    #[inline(always)]
     fn take(&mut self, alloc: Global, go: bool) -> Result<Turn, AllocError>
         ensures after { (a : ActivityShape) → StandsFor self.old a →
             IfOk result (IsAfter self.new a go) }
@@ -132,6 +133,7 @@ impl Activity {
 
     /// One contraction, where it may be taken, or what the redex comes to. After `AllocError` it is
     /// spent.
+    #[inline(never)]
     pub fn step(&mut self, alloc: Global, go: bool) -> Result<Turn, AllocError>
         ensures after { (a : ActivityShape) → StandsFor self.old a →
             IfOk result (IsAfter self.new a go) }
@@ -145,6 +147,7 @@ impl Activity {
     }
 
     /// Takes the contractions before its stop, at most so many.
+    #[inline(always)]
     fn run(&mut self, alloc: Global, most: u64) -> Result<Turn, AllocError>
         ensures run { (a : ActivityShape) → StandsFor self.old a →
             IfOk result (IsRun self.new a most) }
@@ -164,6 +167,7 @@ impl Activity {
 
     /// Takes the contractions before its stop, at most so many. `Reduces` where all of them were taken
     /// and one more could be. After `AllocError` it is spent.
+    #[inline(never)]
     pub fn local(&mut self, alloc: Global, most: u64) -> Result<Turn, AllocError>
         ensures run { (a : ActivityShape) → StandsFor self.old a →
             IfOk result (IsRun self.new a most) }

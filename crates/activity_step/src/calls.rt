@@ -38,6 +38,7 @@ pub fn first_and_others(operands: &[Place]) -> Option<(Place, &[Place])>
 }
 
 /// What a call of these operands leads to: the receiver, then the arguments.
+#[inline(always)]
 pub fn call_of<'a>(
     code: &'a Code,
     store: &'a Store,
@@ -74,6 +75,7 @@ fn asked_of<'a>(
 
 impl State {
     /// `i.m(k ..)`, where the node with this number has the label.
+    #[inline(never)]
     pub fn call_turn(
         &mut self,
         alloc: Global,
@@ -110,6 +112,7 @@ impl State {
     }
 
     /// The call that a service begins with.
+    #[inline(never)]
     pub fn asked_turn(
         &mut self,
         alloc: Global,
@@ -136,6 +139,7 @@ impl State {
     }
 
     /// `active(i)`, or `active(i, m)`.
+    #[inline(never)]
     pub fn active_turn(&mut self, alloc: Global, count: usize, go: bool) -> Result<Turn, AllocError>
         ensures turn { (k : List NodeShape) (service : Option Text) (t : Tree)
             (vs : List ServiceShape) (s : StoreShape) (ls : List LineShape) →

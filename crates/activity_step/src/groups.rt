@@ -23,6 +23,7 @@ use std::alloc::{AllocError, Global};
 
 impl State {
     /// `scatter(i, m, k)`.
+    #[inline(never)]
     pub fn scatter_turn(
         &mut self,
         alloc: Global,
@@ -50,6 +51,7 @@ impl State {
     }
 
     /// The call of a member.
+    #[inline(never)]
     pub fn called_turn(
         &mut self,
         alloc: Global,

@@ -74,6 +74,7 @@ fn object_places(
 
 impl State {
     /// An object of the class of a node.
+    #[inline(never)]
     pub fn make_turn(
         &mut self,
         alloc: Global,
@@ -102,6 +103,7 @@ impl State {
     }
 
     /// A group of the last operands, where more of them may be the redex's own.
+    #[inline(never)]
     pub fn group_turn(
         &mut self,
         alloc: Global,
@@ -128,6 +130,7 @@ impl State {
     }
 
     /// `echo("t")`.
+    #[inline(never)]
     pub fn echo_turn(
         &mut self,
         alloc: Global,

@@ -46,6 +46,7 @@ fn copy_group(alloc: Global, members: &[Place]) -> Result<Cell, AllocError>
 }
 
 /// The redex becomes a new number.
+#[inline(always)]
 fn add_number(store: &mut Store, lines: &[Line], number: i64) -> Result<Place, AllocError>
     ensures performed { (k : List NodeShape) → IfOk result
         (IsPerformed k store.old.cells store.new.cells lines.now lines.now
@@ -55,6 +56,7 @@ fn add_number(store: &mut Store, lines: &[Line], number: i64) -> Result<Place, A
 }
 
 /// A new cell that equals another.
+#[inline(never)]
 fn add_copy(
     alloc: Global,
     store: &mut Store,
@@ -91,6 +93,7 @@ fn put_place(
 }
 
 /// A line of output.
+#[inline(never)]
 fn print_number(lines: &mut Vec<Line>, number: i64) -> Result<(), AllocError>
     ensures lines { IfOk result
         (λ _. map line_shape lines.new.items
@@ -101,6 +104,7 @@ fn print_number(lines: &mut Vec<Line>, number: i64) -> Result<(), AllocError>
 }
 
 /// Does what a decision says, and answers the place that the redex becomes.
+#[inline(always)]
 pub fn perform(
     alloc: Global,
     store: &mut Store,

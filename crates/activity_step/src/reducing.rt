@@ -39,6 +39,7 @@ pub fn node_in<'a>(code: &'a Code, number: usize) -> Option<&'a Node>
 
 impl State {
     /// A redex whose terms are all places.
+    #[inline(always)]
     fn simple_turn(
         &mut self,
         alloc: Global,
@@ -74,6 +75,7 @@ impl State {
     }
 
     /// The redex of a node whose terms that are reduced in place are done.
+    #[inline(always)]
     fn reduce(
         &mut self,
         alloc: Global,
@@ -117,6 +119,7 @@ impl State {
     }
 
     /// Goes on to the next redex, and takes its contraction where it may, or tells what it comes to.
+    #[inline(always)]
     pub fn turn(&mut self, alloc: Global, code: &Code, go: bool) -> Result<Turn, AllocError>
         ensures turn { (t : Tree) (vs : List ServiceShape) (s : StoreShape) (ls : List LineShape) →
             Stands code.now self.old t vs s ls →

@@ -32,6 +32,7 @@ impl State {
     }
 
     /// `let x = i in a`.
+    #[inline(never)]
     pub fn let_turn(&mut self, node: &Node, count: usize, go: bool) -> Result<Turn, AllocError>
         ensures turn { (k : List NodeShape) (number from : ℕ) (x : Text) (t : Tree)
             (vs : List ServiceShape) (s : StoreShape) (ls : List LineShape) →
@@ -105,6 +106,7 @@ impl State {
     }
 
     /// `i; rest`, where so many terms of the sequence are gone.
+    #[inline(never)]
     pub fn steps_turn(
         &mut self,
         node: &Node,
@@ -161,6 +163,7 @@ impl State {
     }
 
     /// `if (i) {a} else {b}`.
+    #[inline(never)]
     pub fn if_turn(
         &mut self,
         alloc: Global,

@@ -31,6 +31,7 @@ pub enum Turn {
 }
 
 /// What a decision that is no contraction comes to.
+#[inline(always)]
 pub fn stop_of(decision: Decision) -> Option<Turn>
     ensures stops { (k : List NodeShape) (s : CodedStore) (c : Contraction) →
         c ≡ decided k s decision →

@@ -24,6 +24,7 @@ use std::alloc::{AllocError, Global};
 
 impl State {
     /// Does what the redex of the last operands comes to, or tells it.
+    #[inline(always)]
     pub fn decided_turn(
         &mut self,
         alloc: Global,
@@ -49,6 +50,7 @@ impl State {
     }
 
     /// A row with strict operands, which are the last operands.
+    #[inline(always)]
     pub fn value_turn(
         &mut self,
         alloc: Global,

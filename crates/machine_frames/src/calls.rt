@@ -122,6 +122,7 @@ pub fn have_results(
 impl Machine {
     /// The redex of the last operands has become calls of these members, each with the same arguments,
     /// or with one of what stands beside them.
+    #[inline(never)]
     pub fn spread(
         &mut self,
         spread: Spread,
@@ -195,6 +196,7 @@ impl Machine {
     }
 
     /// Goes on to the next of the calls, or stays where all have their results.
+    #[inline(never)]
     pub fn deal(
         &mut self,
         nodes: &[Node],

@@ -60,6 +60,7 @@ pub struct Machine {
 
 impl Machine {
     /// The innermost frame, where it waits for a term.
+    #[inline(always)]
     fn waiting(&self) -> Option<Frame>
         ensures some { IfSome result (λ f. IsOpen f.form
             × (self.now.frames.items ≡ outer self.now.frames.items ++ f ∷ [])) }
@@ -82,6 +83,7 @@ impl Machine {
         self.waiting().is_none()
     }
 
+    #[inline(always)]
     fn close(&mut self, frame: Frame, place: usize) -> Result<(), AllocError>
         ensures view { OnOk result
             (view_of self.new ≡ closed_view frame place (view_of self.old)) }
@@ -96,6 +98,7 @@ impl Machine {
     }
 
     /// Gives the place that it looks at to the innermost frame. Answers false where no frame waits.
+    #[inline(always)]
     pub fn fill(&mut self, place: usize) -> Result<bool, AllocError>
         ensures filled { (k : List NodeShape) (t : Tree) (vs : List ServiceShape) →
             Standing k (view_of self.old) t vs → self.old.focus ≡ focus.Place place →
@@ -110,6 +113,7 @@ impl Machine {
     }
 
     /// Puts the place of a variable to the operands.
+    #[inline(always)]
     fn pass(&mut self, leaf: &Leaf) -> Result<(), AllocError>
         ensures view { OnOk result
             (view_of self.new ≡ passed_view leaf.now (view_of self.old)) }
@@ -128,6 +132,7 @@ impl Machine {
     }
 
     /// Enters a node below a node.
+    #[inline(always)]
     fn enter(
         &mut self,
         number: usize,
@@ -155,6 +160,7 @@ impl Machine {
     }
 
     /// Looks at something else.
+    #[inline(always)]
     pub fn look_at(&mut self, focus: Focus)
         ensures view { view_of self.new ≡ record (view_of self.old) { focus = focus } }
     {
@@ -163,6 +169,7 @@ impl Machine {
 
     /// Goes on to the next node below a node, over the variables before it. Answers true where all the
     /// terms that are reduced in place are done.
+    #[inline(always)]
     pub fn advance(
         &mut self,
         nodes: &[Node],
@@ -201,6 +208,7 @@ impl Machine {
     }
 
     /// Goes down to a node whose terms that are reduced in place are done.
+    #[inline(always)]
     fn descend(&mut self, nodes: &[Node]) -> Result<(), AllocError>
         requires sound { IsSound nodes.now }
         ensures settled { (t : Tree) (vs : List ServiceShape) →
@@ -227,6 +235,7 @@ impl Machine {
         }
     }
 
+    #[inline(always)]
     fn leave(&mut self, nodes: &[Node], place: usize) -> Result<(), AllocError>
         requires sound { IsSound nodes.now }
         ensures settled { (t : Tree) (vs : List ServiceShape) →
@@ -241,6 +250,7 @@ impl Machine {
     }
 
     /// The place that it looks at.
+    #[inline(always)]
     fn place(&self) -> Option<usize>
         ensures some { IfSome result (λ p. self.now.focus ≡ focus.Place p) }
         ensures none { IfNone result (IsInner self.now.focus) }
@@ -255,6 +265,7 @@ impl Machine {
     }
 
     /// Goes to where the next contraction stands, or to the place that the term is.
+    #[inline(always)]
     pub fn settle(&mut self, nodes: &[Node]) -> Result<(), AllocError>
         requires sound { IsSound nodes.now }
         ensures settled { (t : Tree) (vs : List ServiceShape) →
@@ -269,6 +280,7 @@ impl Machine {
 }
 
 /// Where a frame goes on, once so many operands are its own.
+#[inline(always)]
 fn onward(frame: Frame, done: usize) -> Focus
     ensures focus { result ≡ onward frame.form frame.node frame.from done }
 {

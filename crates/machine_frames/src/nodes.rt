@@ -13,6 +13,7 @@ use asp_model::Label;
 use program_code::{Child, Kind, Node};
 
 /// The node with a number.
+#[inline(always)]
 pub fn node_at<'a>(nodes: &'a [Node], number: usize) -> Option<&'a Node>
     ensures piece { IsSound nodes.now → IfSome result
         (λ n. piece_at (pieces nodes.now) number ≡ node_piece (pieces nodes.now) n.now) }
@@ -27,6 +28,7 @@ pub fn node_at<'a>(nodes: &'a [Node], number: usize) -> Option<&'a Node>
 }
 
 /// How many terms below a node are reduced in place, where its first ones are gone.
+#[inline(always)]
 pub fn in_place_count(node: &Node, from: usize) -> usize
     ensures count { (ps : List Piece) → result ≡ in_place (later from (node_piece ps node.now)) }
 {
@@ -40,6 +42,7 @@ pub fn in_place_count(node: &Node, from: usize) -> usize
 }
 
 /// Which child stands next below a node.
+#[inline(always)]
 fn child_number(kind: &Kind, from: usize, done: usize) -> Option<usize>
     ensures number { IfSome result (λ i. i ≡ child_number kind.now from done) }
 {
@@ -50,6 +53,7 @@ fn child_number(kind: &Kind, from: usize, done: usize) -> Option<usize>
 }
 
 /// The next term below a node, where its first ones are gone and so many of the others are done.
+#[inline(always)]
 pub fn next_child<'a>(node: &'a Node, from: usize, done: usize) -> Option<&'a Child>
     ensures child { (ps : List Piece) → done < in_place (later from (node_piece ps node.now)) →
         IfSome result
@@ -67,6 +71,7 @@ pub fn next_child<'a>(node: &'a Node, from: usize, done: usize) -> Option<&'a Ch
 }
 
 /// The term with a number below a node.
+#[inline(always)]
 pub fn child_at<'a>(node: &'a Node, number: usize) -> Option<&'a Child>
     ensures child { (ps : List Piece) → IfSome result
         (λ c. nth number (pieces_of ps node.now.children.items) ≡ piece_of ps c.now) }

@@ -22,6 +22,7 @@ use std::alloc::AllocError;
 
 impl Machine {
     /// Takes off the last operands.
+    #[inline(always)]
     pub fn take_off(&mut self, count: usize)
         ensures view { view_of self.new ≡ without_last count (view_of self.old) }
     {
@@ -30,6 +31,7 @@ impl Machine {
     }
 
     /// The last operands.
+    #[inline(always)]
     pub fn last_operands(&self, count: usize) -> &[usize]
         ensures operands { result.now ≡ last count self.now.operands.items }
     {
@@ -38,6 +40,7 @@ impl Machine {
     }
 
     /// The redex of the last operands has become a place.
+    #[inline(always)]
     pub fn become_place(&mut self, count: usize, place: usize)
         ensures view { view_of self.new ≡ place_view count place (view_of self.old) }
     {
@@ -46,6 +49,7 @@ impl Machine {
     }
 
     /// It has become a node of which so many terms are gone.
+    #[inline(always)]
     pub fn become_node(&mut self, count: usize, number: usize, from: usize)
         ensures view { view_of self.new ≡ node_view count number from (view_of self.old) }
     {
@@ -58,6 +62,7 @@ impl Machine {
     }
 
     /// The place of a variable.
+    #[inline(always)]
     pub fn place_of(&self, leaf: &Leaf) -> Option<usize>
         ensures place { IfSome result
             (λ p. p ≡ leaf_place (drop self.now.base self.now.env.items) leaf.now) }
@@ -76,6 +81,7 @@ impl Machine {
     }
 
     /// Where a child leads.
+    #[inline(always)]
     fn toward(&self, child: &Child) -> Option<Focus>
         ensures focus { IfSome result
             (λ f. f ≡ toward (drop self.now.base self.now.env.items) child.now) }
@@ -94,6 +100,7 @@ impl Machine {
     }
 
     /// The redex of the last operands has become a term below its node.
+    #[inline(always)]
     pub fn become_child(&mut self, count: usize, child: &Child) -> Result<(), AllocError>
         ensures view { OnOk result
             (view_of self.new ≡ child_view count child.now (view_of self.old)) }
