@@ -8,8 +8,8 @@ ghost use Rattle.laws.specs.Closed.{AreBelow, IsClosedStore};
 
 use crate::reached::note_reached;
 use coded_cells::{Cell, Place};
-use object_store::Store;
 use indexmap::IndexSet;
+use object_store::Store;
 use program_code::Code;
 use std::alloc::{AllocError, Global};
 

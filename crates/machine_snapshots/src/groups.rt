@@ -22,9 +22,7 @@ ghost use Rattle.machine_snapshots.specs.Shown.{hole_tree};
 use crate::cursor::last_of;
 use asp_model::{Label, Mark, Term};
 use code_decoder::{call_of, location};
-use machine_frames::{
-    Round, Spread, call_label, in_place_count, node_at, results_in, round_at,
-};
+use machine_frames::{Round, Spread, call_label, in_place_count, node_at, results_in, round_at};
 use program_code::Code;
 use std::alloc::{AllocError, Global};
 

@@ -10,8 +10,8 @@ ghost use Rattle.wait_need.specs.Needs.{need_of, need_shape, need_told};
 
 use crate::kinds::Need;
 use coded_cells::{Cell, Place};
-use object_store::Store;
 use future_table::{Chase, FutureTable};
+use object_store::Store;
 
 /// What the cell at a place needs. It takes no memory.
 pub fn need<'a>(store: &'a Store, loc: Place, futures: &'a FutureTable) -> Need<'a>
