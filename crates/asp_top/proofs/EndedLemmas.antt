@@ -1,5 +1,5 @@
 -- Two calls that ended.
-use Rattle.std.proofs.Common.{◌≡◌, List, ℕ, sym, subst}
+use Rattle.std.proofs.Common.{◌≡◌, List, ℕ, Option, sym, subst}
 use Rattle.asp_model.specs.Term.{Tree}
 use Rattle.asp_model.specs.Marked.{plain}
 use Rattle.asp_model.specs.Step.{ListsShape}
@@ -12,8 +12,8 @@ use Rattle.asp_top.specs.Ended.{IsEnded, EndedRunsPrintTheSame}
 use Rattle.asp_top.proofs.StatusLemmas.{stuck_at}
 
 -- the report of a run that has ended
-end_report : (o : Outside) (file : List ℕ) (budget : ℕ) (report : List ℕ) (status : ℕ) (a : Answers o (Runs file budget) report status) → IsEnded status → IsEndReport (plain a.0.program) a.0.lists report
-end_report o file budget report status a h = record {
+end_report : (o : Outside) (file : List ℕ) (budget : ℕ) (depth : Option ℕ) (report : List ℕ) (status : ℕ) (a : Answers o (Runs file budget depth) report status) → IsEnded status → IsEndReport depth (plain a.0.program) a.0.lists report
+end_report o file budget depth report status a h = record {
   counts = a.0.counts;
   read = a.2;
   fits = a.0.fits;
@@ -22,7 +22,7 @@ end_report o file budget report status a h = record {
 }
 
 pub ended_runs_print_the_same : EndedRunsPrintTheSame
-ended_runs_print_the_same o p file name budget limit report other status code a b ended stopped same lists =
-    let first : IsEndReport (plain b.0.program) b.0.lists report =
-    subst (λ (t : Tree). IsEndReport t b.0.lists report) same (subst (λ (l : ListsShape). IsEndReport (plain a.0.program) l report) lists (end_report o file budget report status a ended)) in
-    end_reports_agree (plain b.0.program) b.0.lists report other first (end_report p name limit other code b stopped)
+ended_runs_print_the_same o p file name budget limit depth report other status code a b ended stopped same lists =
+    let first : IsEndReport depth (plain b.0.program) b.0.lists report =
+    subst (λ (t : Tree). IsEndReport depth t b.0.lists report) same (subst (λ (l : ListsShape). IsEndReport depth (plain a.0.program) l report) lists (end_report o file budget depth report status a ended)) in
+    end_reports_agree depth (plain b.0.program) b.0.lists report other first (end_report p name limit depth other code b stopped)

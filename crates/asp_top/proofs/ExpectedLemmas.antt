@@ -32,31 +32,31 @@ same_file : (o : Outside) (name : List ℕ) (most : ℕ) (bytes other : List ℕ
 same_file o name most bytes other e f = subst (λ (c : Option (List ℕ)). IsContent c other) e f.told
 
 same_text : (o : Outside) (task : TaskShape) (bytes other : List ℕ) → IsToldText o task bytes → IsText o task other → other ≡ bytes
-same_text o (Runs file budget) bytes other e f = same_file o file MOST_PROGRAM_BYTES bytes other e.0 f
+same_text o (Runs file budget depth) bytes other e f = same_file o file MOST_PROGRAM_BYTES bytes other e.0 f
 same_text o (Checks file) bytes other e f = same_file o file MOST_PROGRAM_BYTES bytes other e.0 f
-same_text o (Replays file name) bytes other e f = same_file o file MOST_PROGRAM_BYTES bytes other e.0 f
+same_text o (Replays file name depth) bytes other e f = same_file o file MOST_PROGRAM_BYTES bytes other e.0 f
 same_text o (Makes pairs budget) bytes other e f = f ∙ sym e
 
 -- A program that a call may answer
 
 -- no file of the program is too long
 program_fits : (o : Outside) (task : TaskShape) (bytes name : List ℕ) → IsToldText o task bytes → NamesProgram task name → IsLong MOST_PROGRAM_BYTES (o.content name) → ⊥
-program_fits o (Runs file budget) bytes name e n l = too_long (o.content name) bytes MOST_PROGRAM_BYTES (ap o.content (sym n) ∙ e.0) e.1 l
+program_fits o (Runs file budget depth) bytes name e n l = too_long (o.content name) bytes MOST_PROGRAM_BYTES (ap o.content (sym n) ∙ e.0) e.1 l
 program_fits o (Checks file) bytes name e n l = too_long (o.content name) bytes MOST_PROGRAM_BYTES (ap o.content (sym n) ∙ e.0) e.1 l
-program_fits o (Replays file report) bytes name e n l = too_long (o.content name) bytes MOST_PROGRAM_BYTES (ap o.content (sym n) ∙ e.0) e.1 l
+program_fits o (Replays file report depth) bytes name e n l = too_long (o.content name) bytes MOST_PROGRAM_BYTES (ap o.content (sym n) ∙ e.0) e.1 l
 program_fits o (Makes pairs budget) bytes name e n l = n
 
 report_fits : (o : Outside) (task : TaskShape) (program : Marked) (name : List ℕ) → MayReplay o task program → NamesReport task name → IsLong MOST_REPORT_BYTES (o.content name) → ⊥
-report_fits o (Runs file budget) program name m n l = n
+report_fits o (Runs file budget depth) program name m n l = n
 report_fits o (Checks file) program name m n l = n
-report_fits o (Replays file report) program name m n l = too_long (o.content name) m.0 MOST_REPORT_BYTES (ap o.content (sym n) ∙ m.1.0) m.1.1 l
+report_fits o (Replays file report depth) program name m n l = too_long (o.content name) m.0 MOST_REPORT_BYTES (ap o.content (sym n) ∙ m.1.0) m.1.1 l
 report_fits o (Makes pairs budget) program name m n l = n
 
 -- the bytes of a told report are read as the lists and counts that fit
 report_reads : (o : Outside) (task : TaskShape) (program : Marked) (name bytes : List ℕ) (line : ℕ) → MayReplay o task program → NamesReport task name → IsFile o name MOST_REPORT_BYTES bytes → read_report bytes ≡ BadLine line → ⊥
-report_reads o (Runs file budget) program name bytes line m n f e = n
+report_reads o (Runs file budget depth) program name bytes line m n f e = n
 report_reads o (Checks file) program name bytes line m n f e = n
-report_reads o (Replays file report) program name bytes line m n f e =
+report_reads o (Replays file report depth) program name bytes line m n f e =
     let same : bytes ≡ m.0 = same_file o name MOST_REPORT_BYTES m.0 bytes (ap o.content (sym n) ∙ m.1.0) f in
     let no : Reads m.2.lists m.2.counts ≡ BadLine line = sym m.2.reads ∙ ap read_report (sym same) ∙ e in
     absurd cc
@@ -69,9 +69,9 @@ one_reading program lists others counts more e fits =
     subst (λ (x : ListsShape). Fits (plain program) x more) l (subst (λ (x : CountsShape). Fits (plain program) lists x) c fits)
 
 report_replays : (o : Outside) (task : TaskShape) (program : Marked) (name : List ℕ) (lists : ListsShape) (counts : CountsShape) → MayReplay o task program → NamesReport task name → HasReport o name lists counts → (Fits (plain program) lists counts → ⊥) → ⊥
-report_replays o (Runs file budget) program name lists counts m n r unfit = n
+report_replays o (Runs file budget depth) program name lists counts m n r unfit = n
 report_replays o (Checks file) program name lists counts m n r unfit = n
-report_replays o (Replays file report) program name lists counts m n r unfit =
+report_replays o (Replays file report depth) program name lists counts m n r unfit =
     let same : r.bytes ≡ m.0 = same_file o name MOST_REPORT_BYTES m.0 r.bytes (ap o.content (sym n) ∙ m.1.0) r.file in
     let e : Reads m.2.lists m.2.counts ≡ Reads lists counts = sym m.2.reads ∙ ap read_report (sym same) ∙ r.reads in
     unfit (one_reading program m.2.lists lists m.2.counts counts e m.2.fits)
@@ -128,9 +128,9 @@ refuses_words (Unwritten text other a took told e) none = inr (inl e)
 
 -- the program that was answered for
 given_in : (o : Outside) (task : TaskShape) (text : List ℕ) (status : ℕ) → Answers o task text status → (program : Marked) × HasProgram o task program
-given_in o (Runs file budget) text status a = (a.0.program, a.0.given)
+given_in o (Runs file budget depth) text status a = (a.0.program, a.0.given)
 given_in o (Checks file) text status a = (a.0, a.1)
-given_in o (Replays file name) text status a = (a.0.program, a.0.given)
+given_in o (Replays file name depth) text status a = (a.0.program, a.0.given)
 given_in o (Makes pairs budget) text status a = (a.0.program, a.0.given)
 
 -- a file whose bytes are too long, or no checked program, is none
@@ -146,9 +146,9 @@ not_given o file bytes other program told (inr none) f is =
 
 module _ (c : Call) (a : AsksUnfit c) where
   never_has : (task : TaskShape) → NamesProgram task a.name → (program : Marked) → HasProgram c.outside task program → ⊥
-  never_has (Runs file budget) n program h = not_given c.outside file a.bytes h.bytes program (ap c.outside.content n ∙ a.told) a.unfit h.text h.is
+  never_has (Runs file budget depth) n program h = not_given c.outside file a.bytes h.bytes program (ap c.outside.content n ∙ a.told) a.unfit h.text h.is
   never_has (Checks file) n program h = not_given c.outside file a.bytes h.bytes program (ap c.outside.content n ∙ a.told) a.unfit h.text h.is
-  never_has (Replays file report) n program h = not_given c.outside file a.bytes h.bytes program (ap c.outside.content n ∙ a.told) a.unfit h.text h.is
+  never_has (Replays file report depth) n program h = not_given c.outside file a.bytes h.bytes program (ap c.outside.content n ∙ a.told) a.unfit h.text h.is
   never_has (Makes pairs budget) n program h = n
 
   unfit_end : (r : Refusal) (status : ℕ) → HoldsFor c.outside a.task r → status ≡ status_of_refusal r → RefusesProgram c status ⊎ CouldNot c status
@@ -185,7 +185,7 @@ module _ (c : Call) (a : AsksNoReplay c) where
   End status = RefusesReport c a status ⊎ RefusesProgram c status ⊎ CouldNot c status
 
   abbrev AsksReplay : TaskShape
-  AsksReplay = Replays a.file a.name
+  AsksReplay = Replays a.file a.name a.depth
 
   never_replays : (program : Marked) (lists : ListsShape) (counts : CountsShape) → HasProgram c.outside AsksReplay program → HasReport c.outside a.name lists counts → Fits (plain program) lists counts → ⊥
   never_replays program lists counts given r fits =

@@ -55,9 +55,9 @@ report_is_replayable o name bytes log file reads same ascending within = record 
   replayable = replayable_by (lists_shape log.0) (counts_shape log.1) same ascending within;
 }
 
-pub replay_stops : (o : Outside) (file name : List ℕ) (program : Marked) (lists : ListsShape) (counts : CountsShape) → IsInFile o file program → HasReport o name lists counts
-    → (s : ReplayStop) → IsStop (plain program) lists counts s → StopsTask o (Replays file name) (replay_stop s)
-replay_stops o file name program lists counts given old (replays.Diverged activity) h = record {
+pub replay_stops : (o : Outside) (file name : List ℕ) (depth : Option ℕ) (program : Marked) (lists : ListsShape) (counts : CountsShape) → IsInFile o file program → HasReport o name lists counts
+    → (s : ReplayStop) → IsStop (plain program) lists counts s → StopsTask o (Replays file name depth) (replay_stop s)
+replay_stops o file name depth program lists counts given old (replays.Diverged activity) h = record {
   program = program;
   given = given;
   name = name;
@@ -68,7 +68,7 @@ replay_stops o file name program lists counts given old (replays.Diverged activi
   least = h.0;
   unfit = h.1;
 }
-replay_stops o file name program lists counts given old replays.Memory h = tt
+replay_stops o file name depth program lists counts given old replays.Memory h = tt
 
 -- two reads of one source, of which the second comes after the first
 
@@ -82,22 +82,22 @@ module _ {S : Type 0} (told : S → SourceTells) (first middle last : S) (same :
   pub report_is : (name : List ℕ) (lists : ListsShape) (counts : CountsShape) → HasReport (outside_between told middle last) name lists counts → HasReport (outside_between told first last) name lists counts
   report_is name lists counts h = record { bytes = h.bytes; file = file_is name MOST_REPORT_BYTES h.bytes h.file; reads = h.reads }
 
-  pub report_stops : (file report : List ℕ) (program : Marked) → (told first).faults ≤ (told middle).faults → IsInFile (outside_between told first middle) file program
-      → (r : Refusal) → RefusedInReport (outside_between told middle last) report r → HoldsFor (outside_between told first last) (Replays file report) r
-  report_stops file report program later given Usage h = absurd h
-  report_stops file report program later given (Unread name) h =
+  pub report_stops : (file report : List ℕ) (depth : Option ℕ) (program : Marked) → (told first).faults ≤ (told middle).faults → IsInFile (outside_between told first middle) file program
+      → (r : Refusal) → RefusedInReport (outside_between told middle last) report r → HoldsFor (outside_between told first last) (Replays file report depth) r
+  report_stops file report depth program later given Usage h = absurd h
+  report_stops file report depth program later given (Unread name) h =
       OfReport program (program_stays file program given) h.0 (rose_later (told first).faults (told middle).faults (told last).faults later h.1)
-  report_stops file report program later given LongProgram h = absurd h
-  report_stops file report program later given (NoProgram fault) h = absurd h
-  report_stops file report program later given (Unchecked fault) h = absurd h
-  report_stops file report program later given LongReport h = record {
+  report_stops file report depth program later given LongProgram h = absurd h
+  report_stops file report depth program later given (NoProgram fault) h = absurd h
+  report_stops file report depth program later given (Unchecked fault) h = absurd h
+  report_stops file report depth program later given LongReport h = record {
     program = program;
     given = program_stays file program given;
     name = report;
     named = refl;
     long = subst (λ (k : List ℕ → Option (List ℕ)). IsLong MOST_REPORT_BYTES (k report)) same h;
   }
-  report_stops file report program later given (NoReport line) h = record {
+  report_stops file report depth program later given (NoReport line) h = record {
     program = program;
     given = program_stays file program given;
     name = report;
@@ -106,5 +106,5 @@ module _ {S : Type 0} (told : S → SourceTells) (first middle last : S) (same :
     file = file_is report MOST_REPORT_BYTES h.0 h.1;
     reads = h.2;
   }
-  report_stops file report program later given (Diverges activity) h = absurd h
-  report_stops file report program later given NoMemory h = tt
+  report_stops file report depth program later given (Diverges activity) h = absurd h
+  report_stops file report depth program later given NoMemory h = tt

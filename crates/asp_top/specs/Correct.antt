@@ -1,13 +1,15 @@
 -- The main theorem: `Reports` is the clause `report`, and `Answers` what is written for a task.
-use Rattle.std.specs.Prelude.{◌≡◌, ◌⊎◌, ℕ, ◌≤◌, List, Some, codes}
+use Rattle.std.specs.Prelude.{◌≡◌, ◌⊎◌, ℕ, ◌≤◌, List, Option, Some, codes}
 use Rattle.asp_model.specs.Marked.{Marked, plain}
 use Rattle.asp_model.specs.Configuration.{Configuration}
 use Rattle.asp_model.specs.Step.{ListsShape}
 use Rattle.asp_model.specs.Status.{Budget, verdict_of}
 use Rattle.asp_model.specs.Replay.{CountsShape, Fits, replay, total}
-use Rattle.asp_model.specs.Outcome.{OutcomeShape, outcome_of, exit_status}
-use Rattle.asp_model.specs.Report.{report_of, with_feed}
+use Rattle.asp_model.specs.Outcome.{outcome_of, exit_status}
+use Rattle.asp_model.specs.Report.{with_feed}
 use Rattle.asp_model.specs.ReadReport.{read_report, Reads}
+use Rattle.paths.specs.Outcomes.{whole_outcome_of}
+use Rattle.report_laws.specs.Depths.{report_to}
 use Rattle.run_report.specs.Summary.{summary_of}
 use Rattle.command_line.specs.Task.{TaskShape, Runs, Checks, Replays, Makes, task_of}
 use Rattle.asp_top.specs.Seen.{Call, Outside, IsUntouched, Takes}
@@ -25,25 +27,29 @@ pub record ReplayOf (o : Outside) (task : TaskShape) : Type 0 where
 abbrev pub end_of : {o : Outside} {task : TaskShape} → ReplayOf o task → Configuration
 end_of r = replay (plain r.program) r.lists r.counts
 
--- the text and the status are those of the replay's outcome
-abbrev pub Tells : (OutcomeShape → List ℕ) → Configuration → List ℕ → ℕ → Type 0
-Tells told c text status = (text ≡ told (outcome_of c)) × (status ≡ exit_status (outcome_of c))
+-- the report of a replay, with the states of its activities where a depth is given
+abbrev pub report_at : Option ℕ → Configuration → List ℕ
+report_at depth c = report_to depth (whole_outcome_of c)
+
+-- the text and the status are those of the replay
+abbrev pub Tells : (Configuration → List ℕ) → Configuration → List ℕ → ℕ → Type 0
+Tells told c text status = (text ≡ told c) × (status ≡ exit_status (outcome_of c))
 
 -- no more reductions than the budget, and as many where the replay can go on
 abbrev pub IsWithin : ℕ → CountsShape → Configuration → Type 0
 IsWithin budget counts c = (total counts ≤ budget) × (verdict_of c ≡ Budget → total counts ≡ budget)
 
 abbrev pub Answers : Outside → TaskShape → List ℕ → ℕ → Type 0
--- `asp FILE`: the report of the replay under the lists and counts that the report reads as
-Answers o (Runs file budget) report status = (r : ReplayOf o (Runs file budget))
-    × Tells report_of (end_of r) report status × (read_report report ≡ Reads r.lists r.counts)
+-- `asp FILE`: the report, at the depth asked for, of the replay under the lists and counts that it reads as
+Answers o (Runs file budget depth) report status = (r : ReplayOf o (Runs file budget depth))
+    × Tells (report_at depth) (end_of r) report status × (read_report report ≡ Reads r.lists r.counts)
     × IsWithin budget r.counts (end_of r)
 -- `asp FILE --replay REPORT`: the report of the replay under those that the file REPORT reads as
-Answers o (Replays file name) report status = (r : ReplayOf o (Replays file name))
-    × Tells report_of (end_of r) report status × HasReport o name r.lists r.counts
+Answers o (Replays file name depth) report status = (r : ReplayOf o (Replays file name depth))
+    × Tells (report_at depth) (end_of r) report status × HasReport o name r.lists r.counts
 -- `asp --make N`: the summary of a replay of the generated program
 Answers o (Makes pairs budget) summary status = (r : ReplayOf o (Makes pairs budget))
-    × Tells (summary_of pairs) (end_of r) summary status × IsWithin budget r.counts (end_of r)
+    × Tells (λ c. summary_of pairs (outcome_of c)) (end_of r) summary status × IsWithin budget r.counts (end_of r)
 -- `asp FILE --check`: the file is a checked program
 Answers o (Checks file) text status = (program : Marked)
     × HasProgram o (Checks file) program × (text ≡ with_feed (codes "checked")) × (status ≡ 0)

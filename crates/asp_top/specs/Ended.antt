@@ -1,5 +1,5 @@
 -- What two calls say of each other.
-use Rattle.std.specs.Prelude.{◌≡◌, ◌⊎◌, ℕ, List}
+use Rattle.std.specs.Prelude.{◌≡◌, ◌⊎◌, ℕ, List, Option}
 use Rattle.asp_model.specs.Marked.{plain}
 use Rattle.command_line.specs.Task.{Runs}
 use Rattle.asp_top.specs.Seen.{Outside}
@@ -9,10 +9,12 @@ use Rattle.asp_top.specs.Correct.{Answers}
 abbrev pub IsEnded : ℕ → Type 0
 IsEnded status = (status ≡ 0) ⊎ (status ≡ 1) ⊎ (status ≡ 4)
 
--- two runs of one program that have ended, whose reports read as equal sender lists, print equal bytes
+-- two runs of one program that have ended, whose reports show states to one depth and read as equal sender
+-- lists, print equal bytes
 abbrev pub EndedRunsPrintTheSame : Type 0
 EndedRunsPrintTheSame = (o p : Outside) (file name : List ℕ) (budget limit : ℕ)
-    → (report other : List ℕ) (status code : ℕ)
-    → (a : Answers o (Runs file budget) report status) (b : Answers p (Runs name limit) other code)
+    → (depth : Option ℕ) (report other : List ℕ) (status code : ℕ)
+    → (a : Answers o (Runs file budget depth) report status)
+    → (b : Answers p (Runs name limit depth) other code)
     → IsEnded status → IsEnded code
     → plain a.0.program ≡ plain b.0.program → a.0.lists ≡ b.0.lists → report ≡ other

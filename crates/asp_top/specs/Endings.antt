@@ -32,14 +32,14 @@ pub record IsUncheckedText (bytes : List ℕ) (fault : CheckFault) : Type 0 wher
 
 -- the task names a file for its program
 abbrev pub NamesProgram : TaskShape → List ℕ → Type 0
-NamesProgram (Runs file budget) name = file ≡ name
+NamesProgram (Runs file budget depth) name = file ≡ name
 NamesProgram (Checks file) name = file ≡ name
-NamesProgram (Replays file report) name = file ≡ name
+NamesProgram (Replays file report depth) name = file ≡ name
 NamesProgram (Makes pairs budget) name = ⊥
 
 -- the task names a report
 abbrev pub NamesReport : TaskShape → List ℕ → Type 0
-NamesReport (Replays file report) name = report ≡ name
+NamesReport (Replays file report depth) name = report ≡ name
 NamesReport task name = ⊥
 
 -- the file of the task's program is longer than a program may be

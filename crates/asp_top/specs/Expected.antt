@@ -1,5 +1,5 @@
 -- Which status is to come: all of it follows from `Ends`.
-use Rattle.std.specs.Prelude.{◌≡◌, ◌⊎◌, ℕ, ◌≤◌, ◌<◌, List, length, Some}
+use Rattle.std.specs.Prelude.{◌≡◌, ◌⊎◌, ℕ, ◌≤◌, ◌<◌, List, length, Option, Some}
 use Rattle.asp_model.specs.declared.limits.TheConstants.{MOST_PROGRAM_BYTES, MOST_REPORT_BYTES}
 use Rattle.asp_model.specs.Marked.{Marked, plain}
 use Rattle.asp_model.specs.Step.{ListsShape}
@@ -22,9 +22,9 @@ IsTold o name most bytes = (o.content name ≡ Some bytes) × (length bytes ≤ 
 
 -- the text of the program is told, and short enough
 abbrev pub IsToldText : Outside → TaskShape → List ℕ → Type 0
-IsToldText o (Runs file budget) bytes = IsTold o file MOST_PROGRAM_BYTES bytes
+IsToldText o (Runs file budget depth) bytes = IsTold o file MOST_PROGRAM_BYTES bytes
 IsToldText o (Checks file) bytes = IsTold o file MOST_PROGRAM_BYTES bytes
-IsToldText o (Replays file name) bytes = IsTold o file MOST_PROGRAM_BYTES bytes
+IsToldText o (Replays file name depth) bytes = IsTold o file MOST_PROGRAM_BYTES bytes
 IsToldText o (Makes pairs budget) bytes = bytes ≡ generated pairs
 
 -- a report in these bytes reads as lists and counts that fit the program
@@ -36,7 +36,7 @@ pub record IsReportOf (program : Marked) (bytes : List ℕ) : Type 0 where
 
 -- a report that is named is told, short enough, and fits the program
 abbrev pub MayReplay : Outside → TaskShape → Marked → Type 0
-MayReplay o (Replays file name) program =
+MayReplay o (Replays file name depth) program =
     (bytes : List ℕ) × IsTold o name MOST_REPORT_BYTES bytes × IsReportOf program bytes
 MayReplay o task program = Unit {0}
 
@@ -70,11 +70,12 @@ pub record AsksUnfit (c : Call) : Type 0 where
 pub record AsksNoReplay (c : Call) : Type 0 where
   pub file : List ℕ
   pub name : List ℕ
-  pub asked : task_of c.words ≡ Some (Replays file name)
+  pub depth : Option ℕ
+  pub asked : task_of c.words ≡ Some (Replays file name depth)
   pub report : List ℕ
   pub told : c.outside.content name ≡ Some report
   pub unfit : (MOST_REPORT_BYTES < length report) ⊎ ((program : Marked)
-      → HasProgram c.outside (Replays file name) program → IsReportOf program report → ⊥)
+      → HasProgram c.outside (Replays file name depth) program → IsReportOf program report → ⊥)
 
 -- why a report in these bytes is refused for a program: it is too long; or it is not of its form,
 -- by its first bad line; or the program's replay diverges, at the least such activity
@@ -89,7 +90,7 @@ IsRefusedFor program report r = ⊥
 -- the report is refused for the program in the file, and one message tells why
 pub record RefusesReport (c : Call) (a : AsksNoReplay c) (status : ℕ) : Type 0 where
   pub program : Marked
-  pub given : HasProgram c.outside (Replays a.file a.name) program
+  pub given : HasProgram c.outside (Replays a.file a.name a.depth) program
   pub refusal : Refusal
   pub cause : IsRefusedFor program a.report refusal
   pub told : Takes c.err (message_of refusal)

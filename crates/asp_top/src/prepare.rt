@@ -1,9 +1,12 @@
 //! The work up to the writing, for each task: all pieces are made.
 
 ghost use Rattle.std.specs.Prelude.{◌≡◌, ◌≤◌, IfOk, IfErr, codes, map, string_bytes};
-ghost use Rattle.asp_model.specs.Report.{report_of, text_of, with_feed};
+ghost use Rattle.asp_model.specs.Report.{text_of, with_feed};
 ghost use Rattle.asp_model.specs.Outcome.{exit_status};
 ghost use Rattle.asp_model.specs.Shapes.{outcome_shape};
+ghost use Rattle.paths.specs.Outcomes.{WholeOutcome};
+ghost use Rattle.report_laws.specs.Depths.{report_to};
+ghost use Rattle.run_ends.specs.Ends.{IsEndOf};
 ghost use Rattle.run_report.specs.Summary.{summary_of};
 ghost use Rattle.command_line.specs.Task.{Runs, Checks, Replays, Makes, IsWithin};
 ghost use Rattle.command_line.specs.Shapes.{task_shape};
@@ -19,6 +22,7 @@ use asp_model::{MOST_PAIRS, MOST_REDUCTIONS, Outcome, Word, exit_number};
 use command_line::{Task, read_words};
 use load_gen::make;
 use replay_one::{replay, run_plain};
+use run_ends::RunEnd;
 use run_report::{render, summarize};
 use std::alloc::{AllocError, Global};
 
@@ -53,11 +57,13 @@ fn text_for(alloc: Global, lines: Vec<Word>, outcome: &Outcome) -> Result<Prepar
     })
 }
 
-fn report_for(alloc: Global, outcome: &Outcome) -> Result<Prepared, AllocError>
-    ensures text { IfOk result (λ p. text_in p ≡ report_of (outcome_shape outcome.now)) }
-    ensures status { IfOk result (λ p. p.status ≡ exit_status (outcome_shape outcome.now)) }
+fn report_for(alloc: Global, end: &RunEnd, depth: Option<u32>) -> Result<Prepared, AllocError>
+    ensures text { (o : WholeOutcome) → IsEndOf end.now o →
+        IfOk result (λ p. text_in p ≡ report_to depth o) }
+    ensures status { let shown = outcome_shape end.now.outcome in
+        IfOk result (λ p. p.status ≡ exit_status shown) }
 {
-    text_for(alloc, render(alloc, outcome)?, outcome)
+    text_for(alloc, render(alloc, end, depth)?, &end.outcome)
 }
 
 fn summary_for(alloc: Global, pairs: u64, outcome: &Outcome) -> Result<Prepared, AllocError>
@@ -80,15 +86,18 @@ fn prepare_run<'a, S: Source>(
     alloc: Global,
     file: &'a str,
     budget: u64,
+    depth: Option<u32>,
     source: &mut S,
 ) -> Result<Prepared, Stop<'a>>
     requires within { budget ≤ MOST_REDUCTIONS }
-    ensures answer { IfOk result (IsReady (outside S.told source) (Runs file.entry.now budget)) }
-    ensures stop { IfErr result (StopsTask (outside S.told source) (Runs file.entry.now budget)) }
+    ensures answer { let task = Runs file.entry.now budget depth in
+        IfOk result (IsReady (outside S.told source) task) }
+    ensures stop { let task = Runs file.entry.now budget depth in
+        IfErr result (StopsTask (outside S.told source) task) }
 {
     let checked = program_of(alloc, file, source)?;
-    let outcome = run_plain(alloc, &checked, budget)?;
-    Ok(report_for(alloc, &outcome)?)
+    let end = run_plain(alloc, &checked, budget)?;
+    Ok(report_for(alloc, &end, depth)?)
 }
 
 fn prepare_check<'a, S: Source>(
@@ -107,17 +116,18 @@ fn prepare_replay<'a, S: Source>(
     alloc: Global,
     file: &'a str,
     report: &'a str,
+    depth: Option<u32>,
     source: &mut S,
 ) -> Result<Prepared, Stop<'a>>
-    ensures answer { let task = Replays file.entry.now report.entry.now in
+    ensures answer { let task = Replays file.entry.now report.entry.now depth in
         IfOk result (IsReady (outside S.told source) task) }
-    ensures stop { let task = Replays file.entry.now report.entry.now in
+    ensures stop { let task = Replays file.entry.now report.entry.now depth in
         IfErr result (StopsTask (outside S.told source) task) }
 {
     let checked = program_of(alloc, file, source)?;
     let (lists, counts) = lists_of(alloc, report, source)?;
-    let outcome = replay(alloc, &checked, &lists, &counts)?;
-    Ok(report_for(alloc, &outcome)?)
+    let end = replay(alloc, &checked, &lists, &counts)?;
+    Ok(report_for(alloc, &end, depth)?)
 }
 
 fn prepare_made<'a>(alloc: Global, pairs: u64, budget: u64) -> Result<Prepared, Stop<'a>>
@@ -129,8 +139,8 @@ fn prepare_made<'a>(alloc: Global, pairs: u64, budget: u64) -> Result<Prepared, 
 {
     let text = make(alloc, pairs)?;
     let program = checked_in(alloc, text.as_bytes())?;
-    let outcome = run_plain(alloc, &program, budget)?;
-    Ok(summary_for(alloc, pairs, &outcome)?)
+    let end = run_plain(alloc, &program, budget)?;
+    Ok(summary_for(alloc, pairs, &end.outcome)?)
 }
 
 fn prepare_task<'a, S: Source>(
@@ -143,9 +153,17 @@ fn prepare_task<'a, S: Source>(
     ensures stop { IfErr result (StopsTask (outside S.told source) (task_shape task.entry)) }
 {
     match task {
-        Task::Run { file, budget } => prepare_run(alloc, file, budget, source),
+        Task::Run {
+            file,
+            budget,
+            depth,
+        } => prepare_run(alloc, file, budget, depth, source),
         Task::Check { file } => prepare_check(alloc, file, source),
-        Task::Replay { file, report } => prepare_replay(alloc, file, report, source),
+        Task::Replay {
+            file,
+            report,
+            depth,
+        } => prepare_replay(alloc, file, report, depth, source),
         Task::Make { pairs, budget } => prepare_made(alloc, pairs, budget),
     }
 }

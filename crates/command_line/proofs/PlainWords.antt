@@ -57,10 +57,10 @@ rows : (word : Text) → IsPlainWord word → rows_given (word ∷ []) ≡ finis
 unfolding rows_given
 rows word plain = ap (λ (w : Walk). finished top.rules w.held) (walk_is word plain)
 
-asked : (word : Text) → task_in (texts_in (finished top.rules (file_walk word).held)) ≡ Some (Runs word 1000000)
+asked : (word : Text) → task_in (texts_in (finished top.rules (file_walk word).held)) ≡ Some (Runs word 1000000 None)
 asked word = refl
 
-one_file : (word : Text) → IsPlainWord word → task_of (word ∷ []) ≡ Some (Runs word 1000000)
+one_file : (word : Text) → IsPlainWord word → task_of (word ∷ []) ≡ Some (Runs word 1000000 None)
 unfolding is_taken task_of
 one_file word plain =
     ap (λ b. if b then task_in (texts_of (word ∷ [])) else None) (taken word plain)

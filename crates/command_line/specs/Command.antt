@@ -30,7 +30,7 @@ bare_command = on_top (λ s. record s {
 abbrev pub command : App
 command = on_top (λ s. record s {
   rules = file_rule ∷ check_rule ∷ option_rule (codes "budget")
-      ∷ option_rule (codes "replay") ∷ option_rule (codes "make") ∷ [];
+      ∷ option_rule (codes "replay") ∷ option_rule (codes "make") ∷ option_rule (codes "state") ∷ [];
 }) bare_command
 
 -- the command takes the words
@@ -47,6 +47,7 @@ pub record TextsShape : Type 0 where
   pub replay : Option Text
   pub make : Option Text
   pub budget : Option Text
+  pub state : Option Text
 
 -- the value of a flag that was given is the word true
 abbrev pub says_true : Option Text → Bool
@@ -60,6 +61,7 @@ texts_in rows = record {
   replay = first_of (codes "replay") rows;
   make = first_of (codes "make") rows;
   budget = first_of (codes "budget") rows;
+  state = first_of (codes "state") rows;
 }
 
 abbrev pub texts_of : List Text → TextsShape

@@ -18,10 +18,11 @@ texts_shape t = record {
   replay = text_behind t.replay;
   make = text_behind t.make;
   budget = text_behind t.budget;
+  state = text_behind t.state;
 }
 
 abbrev pub task_shape : Task → TaskShape
-task_shape (task.Run file budget) = Runs file.now budget
+task_shape (task.Run file budget depth) = Runs file.now budget depth
 task_shape (task.Check file) = Checks file.now
-task_shape (task.Replay file report) = Replays file.now report.now
+task_shape (task.Replay file report depth) = Replays file.now report.now depth
 task_shape (task.Make pairs budget) = Makes pairs budget

@@ -20,6 +20,7 @@ pub struct Texts<'a> {
     pub replay: Option<&'a str>,
     pub make: Option<&'a str>,
     pub budget: Option<&'a str>,
+    pub state: Option<&'a str>,
 }
 
 /// The texts in words that are the command's.
@@ -59,7 +60,8 @@ fn command<'a>(alloc: Global) -> Result<Command<'a>, AllocError>
     let command = with_file_and_check(alloc)?;
     let command = with_option(alloc, command, "budget")?;
     let command = with_option(alloc, command, "replay")?;
-    with_option(alloc, command, "make")
+    let command = with_option(alloc, command, "make")?;
+    with_option(alloc, command, "state")
 }
 
 // The program's name, FILE and `--check`.
@@ -104,6 +106,7 @@ fn texts_found<'a>(matches: &ArgMatches<'a>) -> Texts<'a>
         replay: text_of(matches, "replay"),
         make: text_of(matches, "make"),
         budget: text_of(matches, "budget"),
+        state: text_of(matches, "state"),
     }
 }
 

@@ -1,14 +1,25 @@
 //! What the words ask for.
 
 ghost use Rattle.std.specs.Prelude.{◌≡◌, IfOk, IfErr, Some, None, map, string_bytes};
-ghost use Rattle.command_line.specs.Task.{IsBudget, IsWithin, budget_of, making, running, task_in, task_of};
+ghost use Rattle.command_line.specs.Task.{
+  IsBudget,
+  IsDepth,
+  IsWithin,
+  budget_of,
+  depth_of,
+  making,
+  replaying,
+  running,
+  task_in,
+  task_of,
+};
 ghost use Rattle.command_line.specs.Shapes.{task_shape, text_behind, texts_shape};
 ghost use Rattle.command_line.specs.declared.error.WordsError.TheVariants as errors;
 
 use crate::command::{Texts, read_texts};
 use crate::error::WordsError;
 use crate::number::number_in;
-use asp_model::{MOST_PAIRS, MOST_REDUCTIONS};
+use asp_model::{MOST_DEPTH, MOST_PAIRS, MOST_REDUCTIONS};
 use std::alloc::Global;
 
 const DEFAULT_BUDGET: u64 = 1_000_000;
@@ -22,6 +33,8 @@ pub enum Task<'a> {
         file: &'a str,
         /// The most reductions that it may take.
         budget: u64,
+        /// How deep the report shows states, if it shows any.
+        depth: Option<u32>,
     },
     /// Read and check it alone.
     Check {
@@ -34,6 +47,8 @@ pub enum Task<'a> {
         file: &'a str,
         /// The report's file.
         report: &'a str,
+        /// How deep the report of the replay shows states, if it shows any.
+        depth: Option<u32>,
     },
     /// Run the generated program of so many pairs.
     Make {
@@ -68,23 +83,53 @@ fn task_from<'a>(texts: &Texts<'a>) -> Result<Task<'a>, WordsError>
         texts.replay,
         texts.make,
         texts.budget,
+        texts.state,
     ) {
-        (Some(file), false, None, None, budget) => run(file, budget),
-        (Some(file), true, None, None, None) => Ok(Task::Check { file }),
-        (Some(file), false, Some(report), None, None) => Ok(Task::Replay { file, report }),
-        (None, false, None, Some(pairs), budget) => make(pairs, budget),
+        (Some(file), false, None, None, budget, state) => run(file, budget, state),
+        (Some(file), true, None, None, None, None) => Ok(Task::Check { file }),
+        (Some(file), false, Some(report), None, None, state) => replay(file, report, state),
+        (None, false, None, Some(pairs), budget, None) => make(pairs, budget),
         _ => Err(WordsError::Usage),
     }
 }
 
-fn run<'a>(file: &'a str, budget: Option<&str>) -> Result<Task<'a>, WordsError>
-    ensures ok { IfOk result
-        (λ t. running file.entry.now (text_behind budget.entry) ≡ Some (task_shape t)) }
-    ensures usage { IfErr result (λ _. running file.entry.now (text_behind budget.entry) ≡ None) }
+fn run<'a>(
+    file: &'a str,
+    budget: Option<&str>,
+    state: Option<&str>,
+) -> Result<Task<'a>, WordsError>
+    ensures ok { let depth = text_behind state.entry in IfOk result
+        (λ t. running file.entry.now (text_behind budget.entry) depth ≡ Some (task_shape t)) }
+    ensures usage { let depth = text_behind state.entry in IfErr result
+        (λ _. running file.entry.now (text_behind budget.entry) depth ≡ None) }
     ensures within { IfOk result (λ t. IsWithin (task_shape t)) }
 {
     let budget = budget_in(budget)?;
-    Ok(Task::Run { file, budget })
+    let depth = depth_in(state)?;
+    Ok(Task::Run {
+        file,
+        budget,
+        depth,
+    })
+}
+
+fn replay<'a>(
+    file: &'a str,
+    report: &'a str,
+    state: Option<&str>,
+) -> Result<Task<'a>, WordsError>
+    ensures ok { let depth = text_behind state.entry in IfOk result
+        (λ t. replaying file.entry.now report.entry.now depth ≡ Some (task_shape t)) }
+    ensures usage { let depth = text_behind state.entry in IfErr result
+        (λ _. replaying file.entry.now report.entry.now depth ≡ None) }
+    ensures within { IfOk result (λ t. IsWithin (task_shape t)) }
+{
+    let depth = depth_in(state)?;
+    Ok(Task::Replay {
+        file,
+        report,
+        depth,
+    })
 }
 
 fn make<'a>(pairs: &str, budget: Option<&str>) -> Result<Task<'a>, WordsError>
@@ -107,4 +152,18 @@ fn budget_in(text: Option<&str>) -> Result<u64, WordsError>
         Some(text) => number_in(text, 1, MOST_REDUCTIONS).ok_or(WordsError::Usage),
         None => Ok(DEFAULT_BUDGET),
     }
+}
+
+fn depth_in(text: Option<&str>) -> Result<Option<u32>, WordsError>
+    ensures ok { IfOk result (λ d. depth_of (text_behind text.entry) ≡ Some d) }
+    ensures usage { IfErr result (λ _. depth_of (text_behind text.entry) ≡ None) }
+    ensures within { IfOk result IsDepth }
+{
+    let Some(text) = text else {
+        return Ok(None);
+    };
+    let Some(depth) = number_in(text, 0, MOST_DEPTH as u64) else {
+        return Err(WordsError::Usage);
+    };
+    Ok(Some(depth as u32))
 }

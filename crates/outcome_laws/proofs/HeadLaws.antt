@@ -2,15 +2,15 @@
 use Rattle.std.specs.Prelude.{◌≡◌, true, List, [], ◌∷◌, Option, Some, None, ℕ, map, length}
 use Rattle.std.specs.List.{list_all}
 use Rattle.std.proofs.Common.{refl, sym, subst, ⊎_elim}
-use Rattle.std.proofs.lemmas.Bool.{and_from}
+use Rattle.std.proofs.lemmas.Bool.{and_parts, and_from}
 use Rattle.commuting_systems.specs.Systems.{Leads}
-use Rattle.asp_model.specs.Names.{Name, main_name, name_cmp}
-use Rattle.asp_model.specs.Term.{Head, Tree}
+use Rattle.asp_model.specs.Names.{Name, Text, main_name, name_cmp}
+use Rattle.asp_model.specs.Term.{MethodHead, Head, Tree}
 use Rattle.asp_model.specs.Store.{Object, Store, moved_cell}
 use Rattle.asp_model.specs.Contraction.{LineShape, NumberLine, TextLine}
 use Rattle.asp_model.specs.Chase.{chase}
 use Rattle.asp_model.specs.Configuration.{Configuration, requests_of, begun, start, Activity}
-use Rattle.asp_model.specs.WellFormed.{is_printable_line}
+use Rattle.asp_model.specs.WellFormed.{is_printable, is_printable_line}
 use Rattle.asp_model.specs.Intent.{Acts, Effect}
 use Rattle.asp_model.specs.Step.{ListsShape, intent_in, step, with_effect}
 use Rattle.laws.specs.Reached.{Move, Steps, Makes, IsReached, Edges, Needs}
@@ -20,7 +20,7 @@ use Rattle.laws.proofs.StepLemmas.{step_taken}
 use Rattle.laws.proofs.ChaseLemmas.{chase_finds}
 use Rattle.laws.proofs.SoundLemmas.{came}
 use Rattle.laws.proofs.LinkedLemmas.{acting, found_after, value_after}
-use Rattle.outcome_laws.specs.Heads.{EachHead, HoldsOfWritten, CellHas, LineHas, ActivityHas, HasEverywhere, Passes, ReachedHave}
+use Rattle.outcome_laws.specs.Heads.{EachHead, LabelHas, MethodHas, HoldsOfWritten, CellHas, LineHas, ActivityHas, HasEverywhere, Passes, ReachedHave}
 use Rattle.outcome_laws.specs.Texts.{has_printable_text, LinesArePrintable}
 use Rattle.outcome_laws.proofs.HeadIntentLemmas.{EffectHas, IntentHas, intent_has}
 use Rattle.journals.specs.Deliveries.{with_store, holders_from, unpack_each}
@@ -56,7 +56,7 @@ module _ (P : Head → Type 0) (w : HoldsOfWritten P) where
   start_has program h = record {
     activities = λ m a is. ⊎_elim
         (λ old. no_some old)
-        (λ y. ⊎_elim (λ own. subst (ActivityHas P) own (record { term = h; services = tt; store = (tt, tt); lines = tt })) (λ z. no_some z.1) y)
+        (λ y. ⊎_elim (λ own. subst (ActivityHas P) own (record { term = h; services = tt; store = ((tt, tt), tt); lines = tt })) (λ z. no_some z.1) y)
         (found_after main_name (begun program (Object [] [] ∷ [])) None [] m a is);
     arguments = λ m k r st. no_some st;
     values = λ f p is. no_some is;
@@ -93,8 +93,30 @@ reached_have test program c w h reached = reached_with (Passes test) w program c
 
 -- Texts
 
-printable_written : HoldsOfWritten (Passes has_printable_text)
-printable_written = record { loc = λ n. refl; make = refl; call = λ l. refl; serve = refl; steps = refl; repeat = refl; group = refl }
+fields_printable : (ls : List Text) → list_all (list_all is_printable) ls ≡ true → Each (LabelHas (Passes has_printable_text)) ls
+fields_printable [] h = tt
+fields_printable (l ∷ ls) h =
+    let p = and_parts (list_all is_printable l) (list_all (list_all is_printable) ls) h in
+    (and_from _ _ (and_from _ _ p.0 refl) refl, fields_printable ls p.1)
+
+methods_printable : (ms : List MethodHead) → list_all (λ m. list_all is_printable m.label) ms ≡ true → Each (MethodHas (Passes has_printable_text)) ms
+methods_printable [] h = tt
+methods_printable (m ∷ ms) h =
+    let p = and_parts (list_all is_printable m.label) (list_all (λ x. list_all is_printable x.label) ms) h in
+    (and_from _ _ p.0 refl, methods_printable ms p.1)
+
+pub printable_written : HoldsOfWritten (Passes has_printable_text)
+printable_written = record {
+  loc = λ n. refl;
+  make = refl;
+  call = λ l. refl;
+  serve = refl;
+  steps = refl;
+  repeat = refl;
+  group = refl;
+  fields = λ ls ms h. fields_printable ls (and_parts (list_all (list_all is_printable) ls) (list_all (λ m. list_all is_printable m.label) ms) h).0;
+  methods = λ ls ms h. methods_printable ms (and_parts (list_all (list_all is_printable) ls) (list_all (λ m. list_all is_printable m.label) ms) h).1;
+}
 
 lines_printable : (ls : List LineShape) → Each (LineHas (Passes has_printable_text)) ls → list_all is_printable_line ls ≡ true
 lines_printable [] h = refl

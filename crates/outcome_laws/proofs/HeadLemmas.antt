@@ -7,7 +7,7 @@ use Rattle.asp_model.specs.Store.{CellShape, Object, Store, cell, with_cell, mov
 use Rattle.asp_model.specs.Parcel.{parcel_of, visit_order, number_in}
 use Rattle.laws.specs.Linked.{Each}
 use Rattle.laws.proofs.EachLemmas.{each_both, each_mapped}
-use Rattle.outcome_laws.specs.Heads.{EachHead, EachBelow, HoldsOfWritten, ContextHas, CellHas}
+use Rattle.outcome_laws.specs.Heads.{EachHead, EachBelow, LabelHas, MethodHas, HoldsOfWritten, ContextHas, CellHas}
 
 module _ (P : Head → Type 0) where
   -- of the contexts of a redex, of its head and behind it
@@ -69,7 +69,10 @@ module _ (P : Head → Type 0) (w : HoldsOfWritten P) where
     moved_below_has f (more t ts) g = (moved_has f t g.0, moved_below_has f ts g.1)
 
   moved_cell_has : (f : ℕ → ℕ) (c : CellShape) → CellHas P c → CellHas P (moved_cell f c)
-  moved_cell_has f (Object fields methods) h = each_mapped (λ m. EachHead P m.body) (λ m. EachHead P m.body) (λ m. record { head = m.head; body = moved f m.body }) (λ m. moved_has f m.body) methods h
+  moved_cell_has f (Object fields methods) h = (
+    each_mapped (λ x. LabelHas P x.label) (λ x. LabelHas P x.label) (λ x. record { label = x.label; place = f x.place }) (λ x k. k) fields h.0,
+    each_mapped (λ m. MethodHas P m.head × EachHead P m.body) (λ m. MethodHas P m.head × EachHead P m.body) (λ m. record { head = m.head; body = moved f m.body }) (λ m k. (k.0, moved_has f m.body k.1)) methods h.1,
+  )
   moved_cell_has f c h = tt
 
   pub all_moved : (f : ℕ → ℕ) (cs : List CellShape) → Each (CellHas P) cs → Each (CellHas P) (map (moved_cell f) cs)

@@ -4,12 +4,12 @@ use Rattle.asp_model.specs.Names.{Text, same_text}
 use Rattle.asp_model.specs.Term.{SignShape, Add, Subtract, Multiply, Divide, Remainder, Less, Equal, MethodHead, Head, Tree, Trees, node, none, more, loc, Make, Get, Put, Call, Clone, Active, Serve, Let, Steps, If, Repeat, Operate, Print, Echo, Scatter, Size, Member, WaitAll, Environment}
 use Rattle.asp_model.specs.Term as term
 use Rattle.asp_model.specs.Split.{Redex}
-use Rattle.asp_model.specs.Store.{MethodShape, CellShape, Number, Object, Group, Store, cell}
+use Rattle.asp_model.specs.Store.{MethodShape, Field, CellShape, Number, Object, Group, Store, cell}
 use Rattle.asp_model.specs.Contraction.{Contraction, Becomes, Faults, Needs, LineShape, TextLine, row, contract}
 use Rattle.asp_model.specs.Contraction as rows
 use Rattle.laws.specs.Linked.{Each}
 use Rattle.laws.proofs.EachLemmas.{each_both}
-use Rattle.outcome_laws.specs.Heads.{EachHead, EachBelow, HoldsOfWritten, CellHas, LineHas}
+use Rattle.outcome_laws.specs.Heads.{EachHead, EachBelow, LabelHas, MethodHas, HoldsOfWritten, CellHas, LineHas}
 use Rattle.outcome_laws.proofs.HeadLemmas.{locs_have, put_in_has, cell_has, written_has}
 
 module _ (P : Head → Type 0) where
@@ -18,18 +18,33 @@ module _ (P : Head → Type 0) where
   Keeps (Becomes t store lines) = EachHead P t × Each (CellHas P) store × Each (LineHas P) lines
   Keeps r = Unit {0}
 
-  methods_have : (ms : List MethodHead) (ts : Trees) → EachBelow P ts → Each (λ m. EachHead P m.body) (rows.methods_with ms ts)
-  methods_have [] ts h = tt
-  methods_have (m ∷ ms) none h = tt
-  methods_have (m ∷ ms) (more t ts) h = (h.0, methods_have ms ts h.1)
+  abbrev FieldsHave : List Field → Type 0
+  FieldsHave = Each (λ x. LabelHas P x.label)
+
+  abbrev MethodsHave : List MethodShape → Type 0
+  MethodsHave = Each (λ m. MethodHas P m.head × EachHead P m.body)
+
+  fields_have : (ls : List Text) (ns : List ℕ) → Each (LabelHas P) ls → FieldsHave (rows.fields_at ls ns)
+  fields_have [] ns h = tt
+  fields_have (l ∷ ls) [] h = tt
+  fields_have (l ∷ ls) (n ∷ ns) h = (h.0, fields_have ls ns h.1)
+
+  field_has : (l : Text) (n : ℕ) (fs : List Field) → FieldsHave fs → FieldsHave (rows.with_field l n fs)
+  field_has l n [] h = tt
+  field_has l n (f ∷ fs) h = elim (same_text l f.label) as (λ b. FieldsHave (elim b [ true ↦ record { label = f.label; place = n } ∷ fs | false ↦ f ∷ rows.with_field l n fs ])) [ true ↦ h | false ↦ (h.0, field_has l n fs h.1) ]
+
+  methods_have : (ms : List MethodHead) (ts : Trees) → Each (MethodHas P) ms → EachBelow P ts → MethodsHave (rows.methods_with ms ts)
+  methods_have [] ts g h = tt
+  methods_have (m ∷ ms) none g h = tt
+  methods_have (m ∷ ms) (more t ts) g h = ((g.0, h.0), methods_have ms ts g.1 h.1)
 
   abbrev BodyHas : Option MethodShape → Type 0
   BodyHas None = Unit {0}
   BodyHas (Some m) = EachHead P m.body
 
-  body_has : (l : Text) (ms : List MethodShape) → Each (λ m. EachHead P m.body) ms → BodyHas (rows.method_at l ms)
+  body_has : (l : Text) (ms : List MethodShape) → MethodsHave ms → BodyHas (rows.method_at l ms)
   body_has l [] h = tt
-  body_has l (m ∷ ms) h = elim (same_text l m.head.label) as (λ b. BodyHas (elim b [ true ↦ Some m | false ↦ rows.method_at l ms ])) [ true ↦ h.0 | false ↦ body_has l ms h.1 ]
+  body_has l (m ∷ ms) h = elim (same_text l m.head.label) as (λ b. BodyHas (elim b [ true ↦ Some m | false ↦ rows.method_at l ms ])) [ true ↦ h.0.1 | false ↦ body_has l ms h.1 ]
 
   remaining_has : P Steps → (ts : Trees) → EachBelow P ts → EachHead P (rows.remaining ts)
   remaining_has steps none h = (steps, tt)
@@ -116,7 +131,7 @@ module _ (P : Head → Type 0) (w : HoldsOfWritten P) (s : Store) (k : Each (Cel
   set_keeps i c (Some n) h = ((w.loc i, tt), written_has P w s i c k h, tt)
 
   put_keeps : (l : Text) (i j : ℕ) (c : CellShape) → CellHas P c → Keeps P (rows.put_row s l i j c)
-  put_keeps l i j (Object fields methods) h = set_keeps i (Object (rows.with_field l j fields) methods) (rows.field_place l fields) h
+  put_keeps l i j (Object fields methods) h = set_keeps i (Object (rows.with_field l j fields) methods) (rows.field_place l fields) (field_has P l j fields h.0, h.1)
   put_keeps l i j c h = tt
 
   invoked_keeps : (body : Tree) (bs : Option Environment) → EachHead P body → Keeps P (rows.invoked s body bs)
@@ -128,7 +143,7 @@ module _ (P : Head → Type 0) (w : HoldsOfWritten P) (s : Store) (k : Each (Cel
   method_keeps i js (Some m) h = invoked_keeps m.body (rows.bindings (m.head.slf ∷ m.head.parameters) (i ∷ js)) h
 
   call_keeps : (l : Text) (i : ℕ) (js : List ℕ) (c : CellShape) → CellHas P c → Keeps P (rows.call_row s l i js c)
-  call_keeps l i js (Object fields methods) h = method_keeps i js (rows.method_at l methods) (body_has P l methods h)
+  call_keeps l i js (Object fields methods) h = method_keeps i js (rows.method_at l methods) (body_has P l methods h.1)
   call_keeps l i js (Group ns) h = becomes (node term.Group (rows.broadcast l ns js)) (w.group, calls_have P w l ns js)
   call_keeps l i js c h = tt
 
@@ -168,8 +183,8 @@ module _ (P : Head → Type 0) (w : HoldsOfWritten P) (s : Store) (k : Each (Cel
 
   row_keeps : (h : Head) (ns : List ℕ) (ts : Trees) → P h → EachBelow P ts → Keeps P (row s h ns ts)
   row_keeps (term.Number z) [] none p b = allots_keeps (Number z) [] tt tt
-  row_keeps (Make ls ms) ns ts p b = allots_keeps (Object (rows.fields_at ls ns) (rows.methods_with ms ts)) [] (methods_have P ms ts b) tt
-  row_keeps (Echo t) [] none p b = allots_keeps (Object [] []) (TextLine t ∷ []) tt (p, tt)
+  row_keeps (Make ls ms) ns ts p b = allots_keeps (Object (rows.fields_at ls ns) (rows.methods_with ms ts)) [] (fields_have P ls ns (w.fields ls ms p), methods_have P ms ts (w.methods ls ms p) b) tt
+  row_keeps (Echo t) [] none p b = allots_keeps (Object [] []) (TextLine t ∷ []) (tt, tt) (p, tt)
   row_keeps (Get l) (i ∷ []) none p b = get_keeps l (cell s i)
   row_keeps (Put l) (i ∷ j ∷ []) none p b = put_keeps l i j (cell s i) (cell_has P w s k i)
   row_keeps (Call l) (i ∷ js) none p b = call_keeps l i js (cell s i) (cell_has P w s k i)

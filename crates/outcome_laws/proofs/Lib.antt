@@ -9,3 +9,4 @@ pub mod ReportLaws
 pub mod TokenLemmas
 pub mod GrammarLemmas
 pub mod ProgramLaws
+pub mod LabelLemmas

@@ -3,6 +3,7 @@ use Rattle.std.specs.Prelude.{◌≡◌, ℕ, zero, suc, ◌≤◌, ◌&&◌, Bo
 use Rattle.std.specs.List.{list_all}
 use Rattle.std.proofs.Common.{refl, sym, ap, subst, ◌∙◌, arith, inl, inr}
 use Rattle.std.proofs.lemmas.Bool.{and_from, and_parts, eqb-true}
+use Rattle.std.proofs.lemmas.Simd.{map-map}
 use Rattle.std.specs.FinMap.{find, is_sorted}
 use Rattle.std.specs.FinMap.Entries.{below_all}
 use Rattle.std.specs.Ordering.{is_lt}
@@ -11,10 +12,11 @@ use Rattle.asp_model.specs.Names.{Name, FutureShape, main_name, name_cmp, same_n
 use Rattle.asp_model.specs.Term.{Tree}
 use Rattle.asp_model.specs.Configuration.{RequestShape, Activity, Configuration, requests_of}
 use Rattle.asp_model.specs.Intent.{StatusShape, Awaits}
-use Rattle.asp_model.specs.Status.{status_of}
+use Rattle.asp_model.specs.Status.{status_of, verdict_of}
 use Rattle.asp_model.specs.Replay.{total, lists_of, counts_of}
-use Rattle.asp_model.specs.Outcome.{activity_report, outcome_of, lists_in, counts_in}
+use Rattle.asp_model.specs.Outcome.{ActivityReportShape, activity_report, outcome_of, lists_in, counts_in}
 use Rattle.asp_model.specs.WellFormed.{is_index, is_name, is_future_name, is_named_status, is_sound_report, begins_with_main}
+use Rattle.paths.specs.Outcomes.{EndShape, end_of, whole_outcome_of, reported}
 use Rattle.laws.specs.Reached.{IsAt}
 use Rattle.laws.proofs.NameLemmas.{none_true, name_itself, is_there}
 use Rattle.laws.proofs.EntryLemmas.{In, entry_found, found_entry, first_of_both, second_of_both}
@@ -37,6 +39,10 @@ counts_shown c (e ∷ es) = ap (λ l. (e.0, e.1.reductions) ∷ l) (counts_shown
 
 pub outcome_lists : (c : Configuration) → lists_in (outcome_of c) ≡ lists_of c
 outcome_lists c = lists_shown c c.activities
+
+-- a whole outcome without the states
+pub reported_is : (c : Configuration) → reported (whole_outcome_of c) ≡ outcome_of c
+reported_is c = ap (λ (as : List ActivityReportShape). record { verdict = verdict_of c; activities = as }) (map-map (λ (e : EndShape). e.report) (end_of c) c.activities)
 
 pub outcome_counts : (c : Configuration) → counts_in (outcome_of c) ≡ counts_of c
 outcome_counts c = counts_shown c c.activities

@@ -9,10 +9,12 @@ use Rattle.asp_model.specs.Configuration.{Configuration, start}
 use Rattle.asp_model.specs.Step.{ListsShape}
 use Rattle.asp_model.specs.Status.{IsStuck}
 use Rattle.asp_model.specs.Replay.{CountsShape, total, lists_of, counts_of, senders_in, AreCompatible, plain_run, replay, Fits}
-use Rattle.asp_model.specs.Outcome.{outcome_of}
-use Rattle.asp_model.specs.Report.{report_of}
+use Rattle.asp_model.specs.Outcome.{outcome_of, lists_in, counts_in}
+use Rattle.asp_model.specs.WellFormed.{IsWellFormed}
 use Rattle.asp_model.specs.ReadReport.{Reads}
-use Rattle.report_laws.proofs.ReadingLemmas.{report_is_read}
+use Rattle.paths.specs.Outcomes.{WholeOutcome, whole_outcome_of, reported}
+use Rattle.report_laws.specs.Depths.{report_to}
+use Rattle.report_laws.proofs.DepthLemmas.{depths_are_read}
 use Rattle.laws.specs.Reached.{RunsTo}
 use Rattle.laws.proofs.StepLemmas.{listed_is_free}
 use Rattle.laws.proofs.ListLemmas.{prefix_same}
@@ -23,41 +25,47 @@ use Rattle.laws.proofs.ReplayLemmas.{runs_replay, plain_runs_replay, plain_runs_
 use Rattle.laws.proofs.SpendLemmas.{counts_sum, plain_runs_spend}
 use Rattle.outcome_laws.specs.Outcomes.{IsShown, ReportsOfRunsAreRead, ReportsShowReplays, RunsShowReplays, PlainRunsShowReplays, ReplayReportsAreRead, EndReportsAgree}
 use Rattle.outcome_laws.specs.Texts.{HasPrintableTexts}
-use Rattle.outcome_laws.proofs.OutcomeLemmas.{outcome_lists, outcome_counts, outcomes_are_well_formed}
+use Rattle.outcome_laws.proofs.LabelLemmas.{labels_are_printable}
+use Rattle.outcome_laws.proofs.OutcomeLemmas.{reported_is, outcome_lists, outcome_counts, outcomes_are_well_formed}
 
 pub reports_of_runs_are_read : ReportsOfRunsAreRead
-reports_of_runs_are_read program c s = report_is_read (outcome_of c) (outcomes_are_well_formed program c s) ∙ (λ i. Reads (outcome_lists c i) (outcome_counts c i))
+reports_of_runs_are_read depth program c s =
+    let o : WholeOutcome = whole_outcome_of c in
+    let same : reported o ≡ outcome_of c = reported_is c in
+    depths_are_read depth o (subst IsWellFormed (sym same) (outcomes_are_well_formed program c s)) (labels_are_printable program c s.texts s.reached)
+    ∙ (λ i. Reads (lists_in (same i)) (counts_in (same i)))
+    ∙ (λ i. Reads (outcome_lists c i) (outcome_counts c i))
 
 pub reports_show_replays : ReportsShowReplays
-reports_show_replays program c s r = record {
+reports_show_replays depth program c s r = record {
   lists = lists_of c;
   counts = counts_of c;
-  read = reports_of_runs_are_read program c s;
+  read = reports_of_runs_are_read depth program c s;
   fits = r.0;
-  outcome = ap outcome_of r.1;
+  outcome = ap whole_outcome_of r.1;
 }
 
 run_shown : (program : Tree) (lists : Option ListsShape) (names : List Name) (c : Configuration) → HasPrintableTexts program → RunsTo lists (start program) names c → total (counts_of c) ≤ MOST_REDUCTIONS → IsShown program c
 run_shown program lists names c texts run within = record { texts = texts; reached = runs_go_on program lists names (start program) c (start_is_reached program) run; within = within }
 
 pub runs_show_replays : RunsShowReplays
-runs_show_replays program names c texts run within =
+runs_show_replays depth program names c texts run within =
     let shown = run_shown program None names c texts run (omega (arith, within, counts_sum program None names c run)) in
-    reports_show_replays program c shown (runs_replay program names c run)
+    reports_show_replays depth program c shown (runs_replay program names c run)
 
 pub plain_runs_show_replays : PlainRunsShowReplays
-plain_runs_show_replays n program texts within =
+plain_runs_show_replays depth n program texts within =
     let c = plain_run n program in
     let r = plain_runs_are_runs n program in
     let shown = run_shown program None r.0 c texts r.1 (omega (arith, within, (plain_runs_spend n program).0)) in
-    reports_show_replays program c shown (plain_runs_replay n program)
+    reports_show_replays depth program c shown (plain_runs_replay n program)
 
 pub replay_reports_are_read : ReplayReportsAreRead
-replay_reports_are_read program lists counts texts fits within =
+replay_reports_are_read depth program lists counts texts fits within =
     let c = replay program lists counts in
     let r = replays_are_runs program lists counts in
     let few : total (counts_of c) ≤ MOST_REDUCTIONS = subst (λ k. total k ≤ MOST_REDUCTIONS) (sym fits.reached) within in
-    reports_of_runs_are_read program c (run_shown program (Some lists) r.0 c texts r.1 few) ∙ (λ i. Reads (fits.used_up i) (fits.reached i))
+    reports_of_runs_are_read depth program c (run_shown program (Some lists) r.0 c texts r.1 few) ∙ (λ i. Reads (fits.used_up i) (fits.reached i))
 
 -- Two ended runs with equal lists
 
@@ -87,5 +95,5 @@ stuck_replays_agree program lists counts others fits fits_too stuck stuck_too =
     }) stuck stuck_too
 
 pub end_reports_agree : EndReportsAgree
-end_reports_agree program lists report other r s =
-    r.same ∙ ap (λ c. report_of (outcome_of c)) (stuck_replays_agree program lists r.counts s.counts r.fits s.fits r.stuck s.stuck) ∙ sym s.same
+end_reports_agree depth program lists report other r s =
+    r.same ∙ ap (λ c. report_to depth (whole_outcome_of c)) (stuck_replays_agree program lists r.counts s.counts r.fits s.fits r.stuck s.stuck) ∙ sym s.same

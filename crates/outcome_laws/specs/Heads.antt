@@ -1,7 +1,7 @@
 -- A fact of what the nodes of terms are, wherever terms stand in a configuration.
-use Rattle.std.specs.Prelude.{◌≡◌, ℕ, Bool, true, []}
+use Rattle.std.specs.Prelude.{◌≡◌, ℕ, Bool, true, List, [], ◌∷◌}
 use Rattle.asp_model.specs.Names.{Name, FutureShape, Text}
-use Rattle.asp_model.specs.Term.{Head, Loc, Make, Call, Serve, Steps, Repeat, Echo, Tree, Trees, node, none, more}
+use Rattle.asp_model.specs.Term.{MethodHead, Head, Loc, Make, Call, Serve, Steps, Repeat, Echo, Tree, Trees, node, none, more}
 use Rattle.asp_model.specs.Term as term
 use Rattle.asp_model.specs.Split.{Context}
 use Rattle.asp_model.specs.Store.{CellShape, Object}
@@ -21,7 +21,14 @@ abbrev mutual
   EachBelow P none = Unit {0}
   EachBelow P (more t ts) = EachHead P t × EachBelow P ts
 
--- it holds of the heads that reductions write
+-- it holds of an object of this field alone, and of one of this method
+abbrev pub LabelHas : (Head → Type 0) → Text → Type 0
+LabelHas P l = P (Make (l ∷ []) [])
+
+abbrev pub MethodHas : (Head → Type 0) → MethodHead → Type 0
+MethodHas P m = P (Make [] (m ∷ []))
+
+-- it holds of the heads that reductions write, and what holds of an object holds of each label in it
 pub record HoldsOfWritten (P : Head → Type 0) : Type 0 where
   pub loc : (place : ℕ) → P (Loc place)
   pub make : P (Make [] [])
@@ -30,14 +37,16 @@ pub record HoldsOfWritten (P : Head → Type 0) : Type 0 where
   pub steps : P Steps
   pub repeat : P Repeat
   pub group : P term.Group
+  pub fields : (labels : List Text) (methods : List MethodHead) → P (Make labels methods) → Each (LabelHas P) labels
+  pub methods : (labels : List Text) (methods : List MethodHead) → P (Make labels methods) → Each (MethodHas P) methods
 
 -- of the node round a hole, and of those behind it
 abbrev pub ContextHas : (Head → Type 0) → Context → Type 0
 ContextHas P x = P x.head × EachBelow P x.behind
 
--- of the bodies of an object's methods
+-- of the labels of an object's fields, and of its methods and their bodies
 abbrev pub CellHas : (Head → Type 0) → CellShape → Type 0
-CellHas P (Object fields methods) = Each (λ m. EachHead P m.body) methods
+CellHas P (Object fields methods) = Each (λ x. LabelHas P x.label) fields × Each (λ m. MethodHas P m.head × EachHead P m.body) methods
 CellHas P c = Unit {0}
 
 -- of the node that wrote a text

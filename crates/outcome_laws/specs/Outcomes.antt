@@ -1,5 +1,5 @@
 -- The outcomes of runs, and their reports.
-use Rattle.std.specs.Prelude.{◌≡◌, ◌≤◌, ℕ, List, None, length}
+use Rattle.std.specs.Prelude.{◌≡◌, ◌≤◌, ℕ, List, Option, None, length}
 use Rattle.asp_model.specs.declared.limits.TheConstants.{MOST_REDUCTIONS}
 use Rattle.asp_model.specs.Names.{Name}
 use Rattle.asp_model.specs.Term.{Tree}
@@ -7,10 +7,11 @@ use Rattle.asp_model.specs.Configuration.{Configuration, start}
 use Rattle.asp_model.specs.Step.{ListsShape}
 use Rattle.asp_model.specs.Status.{IsStuck}
 use Rattle.asp_model.specs.Replay.{CountsShape, total, lists_of, counts_of, plain_run, replay, Fits}
-use Rattle.asp_model.specs.Outcome.{OutcomeShape, outcome_of}
+use Rattle.asp_model.specs.Outcome.{outcome_of}
 use Rattle.asp_model.specs.WellFormed.{IsWellFormed}
-use Rattle.asp_model.specs.Report.{report_of}
 use Rattle.asp_model.specs.ReadReport.{read_report, Reads}
+use Rattle.paths.specs.Outcomes.{WholeOutcome, whole_outcome_of}
+use Rattle.report_laws.specs.Depths.{report_to}
 use Rattle.laws.specs.Reached.{IsReached, RunsTo}
 use Rattle.laws.specs.Kept.{creations_of, sends_of}
 use Rattle.laws.specs.Replays.{IsItsReplay}
@@ -32,52 +33,52 @@ abbrev pub OutcomesAreWellFormed : Type 0
 OutcomesAreWellFormed = (program : Tree) (c : Configuration)
     → IsShown program c → IsWellFormed (outcome_of c)
 
--- and its report reads as the configuration's sender lists and counts
+-- and its report, at whatever depth it shows states, reads as the configuration's sender lists and counts
 abbrev pub ReportsOfRunsAreRead : Type 0
-ReportsOfRunsAreRead = (program : Tree) (c : Configuration)
-    → IsShown program c → read_report (report_of (outcome_of c)) ≡ Reads (lists_of c) (counts_of c)
+ReportsOfRunsAreRead = (depth : Option ℕ) (program : Tree) (c : Configuration)
+    → IsShown program c → read_report (report_to depth (whole_outcome_of c)) ≡ Reads (lists_of c) (counts_of c)
 
--- the report of an outcome reads as lists and counts that fit, and their replay has this outcome
-pub record ShowsItsReplay (program : Tree) (o : OutcomeShape) : Type 0 where
+-- the report of an outcome at a depth reads as lists and counts that fit, and their replay has this outcome
+pub record ShowsItsReplay (depth : Option ℕ) (program : Tree) (o : WholeOutcome) : Type 0 where
   pub lists : ListsShape
   pub counts : CountsShape
-  pub read : read_report (report_of o) ≡ Reads lists counts
+  pub read : read_report (report_to depth o) ≡ Reads lists counts
   pub fits : Fits program lists counts
-  pub outcome : outcome_of (replay program lists counts) ≡ o
+  pub outcome : whole_outcome_of (replay program lists counts) ≡ o
 
 -- a configuration that is its own replay shows it
 abbrev pub ReportsShowReplays : Type 0
-ReportsShowReplays = (program : Tree) (c : Configuration)
-    → IsShown program c → IsItsReplay program c → ShowsItsReplay program (outcome_of c)
+ReportsShowReplays = (depth : Option ℕ) (program : Tree) (c : Configuration)
+    → IsShown program c → IsItsReplay program c → ShowsItsReplay depth program (whole_outcome_of c)
 
 -- a run without lists shows its replay, in whatever order its activities stepped
 abbrev pub RunsShowReplays : Type 0
-RunsShowReplays = (program : Tree) (names : List Name) (c : Configuration)
+RunsShowReplays = (depth : Option ℕ) (program : Tree) (names : List Name) (c : Configuration)
     → HasPrintableTexts program → RunsTo None (start program) names c → length names ≤ MOST_REDUCTIONS
-    → ShowsItsReplay program (outcome_of c)
+    → ShowsItsReplay depth program (whole_outcome_of c)
 
 -- and so does the run of one thread
 abbrev pub PlainRunsShowReplays : Type 0
-PlainRunsShowReplays = (n : ℕ) (program : Tree)
+PlainRunsShowReplays = (depth : Option ℕ) (n : ℕ) (program : Tree)
     → HasPrintableTexts program → n ≤ MOST_REDUCTIONS
-    → ShowsItsReplay program (outcome_of (plain_run n program))
+    → ShowsItsReplay depth program (whole_outcome_of (plain_run n program))
 
 -- the report of a replay reads as the lists and counts that it was made under, where they fit
 abbrev pub ReplayReportsAreRead : Type 0
-ReplayReportsAreRead = (program : Tree) (lists : ListsShape) (counts : CountsShape)
+ReplayReportsAreRead = (depth : Option ℕ) (program : Tree) (lists : ListsShape) (counts : CountsShape)
     → HasPrintableTexts program → Fits program lists counts → total counts ≤ MOST_REDUCTIONS
-    → read_report (report_of (outcome_of (replay program lists counts))) ≡ Reads lists counts
+    → read_report (report_to depth (whole_outcome_of (replay program lists counts))) ≡ Reads lists counts
 
--- the report of a run of the program that ended: it reads as these sender lists, with counts that fit
--- beside them, and is that of the replay under them, which is stuck
-pub record IsEndReport (program : Tree) (lists : ListsShape) (report : List ℕ) : Type 0 where
+-- the report at a depth of a run of the program that ended: it reads as these sender lists, with counts that
+-- fit beside them, and is that of the replay under them, which is stuck
+pub record IsEndReport (depth : Option ℕ) (program : Tree) (lists : ListsShape) (report : List ℕ) : Type 0 where
   pub counts : CountsShape
   pub read : read_report report ≡ Reads lists counts
   pub fits : Fits program lists counts
-  pub same : report ≡ report_of (outcome_of (replay program lists counts))
+  pub same : report ≡ report_to depth (whole_outcome_of (replay program lists counts))
   pub stuck : IsStuck (replay program lists counts)
 
--- two such reports with equal lists are equal bytes
+-- two such reports at one depth with equal lists are equal bytes
 abbrev pub EndReportsAgree : Type 0
-EndReportsAgree = (program : Tree) (lists : ListsShape) (report other : List ℕ)
-    → IsEndReport program lists report → IsEndReport program lists other → report ≡ other
+EndReportsAgree = (depth : Option ℕ) (program : Tree) (lists : ListsShape) (report other : List ℕ)
+    → IsEndReport depth program lists report → IsEndReport depth program lists other → report ≡ other

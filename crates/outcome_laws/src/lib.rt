@@ -12,4 +12,4 @@ pub use outcomes::{
     replay_reports_are_read, reports_of_runs_are_read, reports_show_replays, runs_show_replays,
 };
 pub use programs::{program_texts_are_printable, programs_are_readable, programs_have_no_places};
-pub use texts::{lines_are_printable, reached_have};
+pub use texts::{labels_are_printable, lines_are_printable, reached_have};

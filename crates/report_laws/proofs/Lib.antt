@@ -4,3 +4,5 @@ pub mod DigitLemmas
 pub mod NameLemmas
 pub mod LineLemmas
 pub mod ReadingLemmas
+pub mod StateLemmas
+pub mod DepthLemmas

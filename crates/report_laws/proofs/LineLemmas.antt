@@ -1,6 +1,6 @@
 -- Lines of a report, written and read.
 use Rattle.std.proofs.Common.{◌≡◌, ◌≤◌, Bool, true, false, not, List, [], ◌∷◌, ◌++◌, map, Some, None, refl, ap, ◌∙◌, arith, append_assoc}
-use Rattle.std.specs.Prelude.{◌||◌, nat_le, codes}
+use Rattle.std.specs.Prelude.{◌||◌, ◌&&◌, nat_le, codes}
 use Rattle.std.specs.List.{list_all, flat_map}
 use Rattle.std.specs.Fmt.{decimal, signed_decimal}
 use Rattle.std.proofs.lemmas.Bool.{and_parts, and_from, ne_eqb, leb-true}
@@ -105,11 +105,15 @@ senders_lack ns = lacks-append 10 (codes "senders") (flat_map (λ n. codes " " +
 
 -- Other lines
 
+-- it may stand where outputs do, and has no line feed
+abbrev pub is_plain : Text → Bool
+is_plain t = is_output t && lacks 10 t
+
 pub output_is_read : (l : LineShape) → is_output (output_line l) ≡ true
 output_is_read (NumberLine n) = refl
 output_is_read (TextLine t) = refl
 
-printable_lack : (t : Text) → list_all is_printable t ≡ true → lacks 10 t ≡ true
+pub printable_lack : (t : Text) → list_all is_printable t ≡ true → lacks 10 t ≡ true
 printable_lack [] h = refl
 printable_lack (b ∷ t) h =
     let p = and_parts (is_printable b) (list_all is_printable t) h in

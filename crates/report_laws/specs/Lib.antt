@@ -1,1 +1,3 @@
+-- in reading order
 pub mod Laws
+pub mod Depths

@@ -4,4 +4,4 @@
 
 mod laws;
 
-pub use laws::reports_are_read;
+pub use laws::{reports_are_read, reports_to_depths_are_read};

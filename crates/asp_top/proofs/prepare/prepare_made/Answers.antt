@@ -19,8 +19,8 @@ returns-in_err-program-clause-stop c = λ o.
 pub returns-clause-answer : goal.returns-clause-answer
 returns-clause-answer c = λ o.
     let made : c.as_bytes.result.now ≡ generated c.args.pairs = c.as_bytes.ensures.value ∙ c.in_ok-text.ensures.program in
-    let ran = c.in_ok-outcome.ensures in
+    let ran = c.in_ok-end.ensures in
     let told = c.in_ok-summary_for.ensures in
     let p = c.in_ok-summary_for.field-0 in
-    made_is o c.args.pairs c.args.budget c.as_bytes.result.now c.in_ok-program.program (outcome_shape c.in_ok-outcome.outcome) (text_in p) p.status made c.in_ok-program.ensures.checked
+    made_is o c.args.pairs c.args.budget c.as_bytes.result.now c.in_ok-program.program (outcome_shape c.in_ok-end.end.outcome) (text_in p) p.status made c.in_ok-program.ensures.checked
     (record { few = c.requires.within; run = ran.outcome; within = ran.within; spent = ran.spent }) told.text told.status

@@ -16,6 +16,9 @@ combinations = record {
   check_budget = refl;
   check_replay = refl;
   replay_budget = refl;
+  state_alone = refl;
+  check_state = refl;
+  make_state = refl;
 }
 
 numbers : RefusedNumbers
@@ -26,6 +29,9 @@ numbers = record {
   nine_digits = refl;
   no_digit = refl;
   sign = refl;
+  state_above = refl;
+  no_state = refl;
+  state_word = refl;
   no_pairs = refl;
   pairs_above = refl;
 }
@@ -35,6 +41,7 @@ unfolding clap_on_literals is_taken rows_given task_of
 words = record {
   two_files = refl;
   twice = refl;
+  state_twice = refl;
   flag_twice = refl;
   flag_with_value = refl;
   no_value = refl;
