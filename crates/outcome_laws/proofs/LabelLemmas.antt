@@ -1,5 +1,5 @@
 -- The objects that a program with printable labels reaches have printable labels.
-use Rattle.std.specs.Prelude.{◌≡◌, ◌&&◌, Bool, true, T, cond, List, [], ◌∷◌, Option, Some, None, map}
+use Rattle.std.specs.Prelude.{◌≡◌, ◌&&◌, Bool, true, T, cond, List, [], ◌∷◌, Some, None}
 use Rattle.std.specs.List.{list_all}
 use Rattle.std.specs.FinMap.{find, is_sorted}
 use Rattle.std.specs.FinMap.Entries.{below_all, find_tied}
@@ -7,7 +7,7 @@ use Rattle.std.specs.Ordering.{is_eq, is_lt}
 use Rattle.std.specs.declared.cmp.Ordering.{Ordering}
 use Rattle.std.specs.declared.cmp.Ordering.TheVariants.{Less, Equal, Greater}
 use Rattle.std.specs.Cmp.{IsTotalOrder, tied_itself}
-use Rattle.std.proofs.Common.{refl, sym, ap, absurd, ◌∙◌}
+use Rattle.std.proofs.Common.{refl, sym, ap, ◌∙◌}
 use Rattle.std.proofs.lemmas.Bool.{and_parts, and_from}
 use Rattle.std.proofs.lemmas.List.Folds.{list_all-map}
 use Rattle.asp_model.specs.Names.{Name, FutureShape, name_cmp, future_cmp}

@@ -42,7 +42,7 @@ outcome_lists c = lists_shown c c.activities
 
 -- a whole outcome without the states
 pub reported_is : (c : Configuration) → reported (whole_outcome_of c) ≡ outcome_of c
-reported_is c = ap (λ (as : List ActivityReportShape). record { verdict = verdict_of c; activities = as }) (map-map (λ (e : EndShape). e.report) (end_of c) c.activities)
+reported_is c = ap (λ (rs : List ActivityReportShape). record { verdict = verdict_of c; activities = rs }) (map-map (λ (e : EndShape). e.report) (end_of c) c.activities)
 
 pub outcome_counts : (c : Configuration) → counts_in (outcome_of c) ≡ counts_of c
 outcome_counts c = counts_shown c c.activities

@@ -6,3 +6,4 @@ pub mod BelowLemmas
 pub mod ShowLemmas
 pub mod WalkLemmas
 pub mod ReadLemmas
+pub mod ViewLemmas

@@ -1,5 +1,6 @@
 -- in reading order
 pub mod States
+pub mod Views
 pub mod Sights
 pub mod Spots
 pub mod Texts

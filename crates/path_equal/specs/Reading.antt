@@ -54,11 +54,11 @@ root_shape root.Active = roots.Active_object
 root_shape root.Value = roots.Result
 root_shape (root.TermAt n) = roots.Term_at n
 
--- the cell of a root
-abbrev pub root_in : State → Root → Option ℕ
-root_in s root.Active = Some s.active
-root_in s root.Value = s.result
-root_in s (root.TermAt n) = slice_get s.locations.now n
+-- the cell of a root, where these are the locations of the term and the services
+abbrev pub root_in : State → List ℕ → Root → Option ℕ
+root_in s locations root.Active = Some s.active
+root_in s locations root.Value = s.result
+root_in s locations (root.TermAt n) = slice_get locations n
 
 abbrev pub label_shape : labels.PathLabel → PathLabel
 label_shape (label.Field l) = To_field l.text

@@ -1,5 +1,5 @@
 -- What a state stands for: what stays of an activity, with its status.
-use Rattle.std.specs.Prelude.{◌≡◌, ◌∷◌}
+use Rattle.std.specs.Prelude.{◌≡◌, ℕ, List, ◌∷◌}
 use Rattle.asp_model.specs.Intent.{StatusShape}
 use Rattle.coded_cells.specs.Shapes.{store_of}
 use Rattle.future_table.specs.Values.{values_of}
@@ -15,5 +15,8 @@ side_in s = side_of (values_of s.futures.now) (store_of s.code.now s.store.now.c
 pub record IsStateOf (s : State) (snapshot : SnapshotShape) (status : StatusShape) : Type 0 where
   pub store : store_of s.code.now s.store.now.cells ≡ snapshot.store
   pub active : s.active ≡ snapshot.active
-  pub locations : s.active ∷ s.locations.now ≡ roots_in snapshot
   pub result : s.result ≡ result_in status snapshot.term
+
+-- these are the locations of its term and services, in order
+abbrev pub AreLocationsOf : State → List ℕ → SnapshotShape → Type 0
+AreLocationsOf s locations snapshot = s.active ∷ locations ≡ roots_in snapshot

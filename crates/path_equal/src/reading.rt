@@ -14,7 +14,7 @@ ghost use Rattle.path_equal.specs.Reading.{
   root_shape,
 };
 ghost use Rattle.path_equal.specs.Sights.{seen_shape};
-ghost use Rattle.path_equal.specs.States.{IsStateOf, side_in};
+ghost use Rattle.path_equal.specs.States.{AreLocationsOf, IsStateOf, side_in};
 ghost use Rattle.path_equal.specs.Texts.{shown_by};
 
 use crate::children::child;
@@ -41,26 +41,33 @@ pub enum Found<'a> {
 }
 
 /// What a path finds from a root, with each filled future on the way read as unpacked at its place.
-pub fn read_path<'a>(state: &State<'a>, root: Root, path: &[PathLabel]) -> Found<'a>
+/// `locations` are those of the term and of the suspended services, in order.
+pub fn read_path<'a>(
+    state: &State<'a>,
+    locations: &[Place],
+    root: Root,
+    path: &[PathLabel],
+) -> Found<'a>
     // for what the state stands for
     ensures found { (s : SnapshotShape) (status : StatusShape) → IsStateOf state.now s status →
+        AreLocationsOf state.now locations.now s →
         let values = values_of state.now.futures.now in
         let labels = labels_shape path.now in
         found_shape result ≡ found_of (path_read values status s (root_shape root) labels) }
 {
-    match root_place(state, root) {
+    match root_place(state, locations, root) {
         Some(place) => read_from(state, place, path),
         None => Found::Nothing,
     }
 }
 
-fn root_place(state: &State, root: Root) -> Option<Place>
-    ensures place { result ≡ root_in state.now root }
+fn root_place(state: &State, locations: &[Place], root: Root) -> Option<Place>
+    ensures place { result ≡ root_in state.now locations.now root }
 {
     match root {
         Root::Active => Some(state.active),
         Root::Value => state.result,
-        Root::TermAt(number) => state.locations.get(number).copied(),
+        Root::TermAt(number) => locations.get(number).copied(),
     }
 }
 

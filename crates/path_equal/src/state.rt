@@ -13,8 +13,6 @@ pub struct State<'a> {
     pub futures: &'a FutureTable,
     /// Its active object.
     pub active: Place,
-    /// The locations of its term and of its suspended services, in order.
-    pub locations: &'a [Place],
     /// The location that its term is, where it is done.
     pub result: Option<Place>,
 }

@@ -1,5 +1,5 @@
 -- Reports that show states, written and read.
-use Rattle.std.proofs.Common.{◌≡◌, ℕ, zero, suc, true, List, [], ◌∷◌, Option, Some, None, map, length, refl, ap, ◌∙◌}
+use Rattle.std.proofs.Common.{◌≡◌, ℕ, zero, suc, true, List, [], ◌∷◌, Option, Some, None, length, refl, ◌∙◌}
 use Rattle.std.specs.Prelude.{◌&&◌, cond, false}
 use Rattle.std.specs.List.{list_all}
 use Rattle.std.specs.FinMap.{find}
@@ -14,8 +14,8 @@ use Rattle.asp_model.specs.Chase.{Values, Lead, Ends, Goes, Misses, lead, lead_b
 use Rattle.asp_model.specs.WellFormed.{is_printable}
 use Rattle.paths.specs.Places.{Place, In_store, In_value, Side, part, read_by, entered_by, told, written, entered, read, found, value_by, side_of}
 use Rattle.paths.specs.Snapshots.{result_in}
-use Rattle.paths.specs.Outcomes.{EndShape, WholeOutcome, lines_to}
-use Rattle.report_laws.specs.Depths.{has_printable_labels, HasPrintableLabels, ReportsToDepthsAreRead}
+use Rattle.paths.specs.Outcomes.{EndShape, lines_to}
+use Rattle.report_laws.specs.Depths.{has_printable_labels, ReportsToDepthsAreRead}
 use Rattle.report_laws.proofs.LineLemmas.{is_plain}
 use Rattle.report_laws.proofs.StateLemmas.{shown_plain}
 use Rattle.report_laws.proofs.ReadingLemmas.{extended_is_read}
@@ -60,14 +60,14 @@ abbrev WalkPrints : Option Chase → Type 0
 WalkPrints None = Unit {0}
 WalkPrints (Some c) = MayPrint (value_by c)
 
+led_prints : (n : ℕ) (values : Values) (f : FutureShape) → ((g : FutureShape) → WalkPrints (walk_end n values g)) → (l : Lead) → LeadPrints l → WalkPrints (elim l [ Ends p ↦ Some (Value f p) | Goes g ↦ walk_end n values g | Misses ↦ Some (Unfilled f) ])
+led_prints n values f on (Ends p) h = h
+led_prints n values f on (Goes g) h = on g
+led_prints n values f on Misses h = tt
+
 walk_prints : (n : ℕ) (values : Values) → ValuesPrint values → (f : FutureShape) → WalkPrints (walk_end n values f)
 walk_prints zero values h f = tt
-walk_prints (suc n) values h f = by_lead (lead values f) (lead_prints (find future_cmp f values) (found_prints f values h))
-  where
-    by_lead : (l : Lead) → LeadPrints l → WalkPrints (elim l [ Ends p ↦ Some (Value f p) | Goes g ↦ walk_end n values g | Misses ↦ Some (Unfilled f) ])
-    by_lead (Ends p) k = k
-    by_lead (Goes g) k = walk_prints n values h g
-    by_lead Misses k = tt
+walk_prints (suc n) values h f = led_prints n values f (λ g. walk_prints n values h g) (lead values f) (lead_prints (find future_cmp f values) (found_prints f values h))
 
 chased_prints : (values : Values) (f : FutureShape) (o : Option Chase) → WalkPrints o → MayPrint (value_by (elim o [ Some c ↦ c | None ↦ Cycle (cycle_of values f) ]))
 chased_prints values f (Some c) h = h

@@ -176,21 +176,21 @@ module _ {X : Type 0} (report : X → ActivityReportShape) (extra : X → List T
 no_lines : ActivityReportShape → List Text
 no_lines a = []
 
-none_plain : (as : List ActivityReportShape) → list_all (λ a. list_all is_plain (no_lines a)) as ≡ true
+none_plain : (rs : List ActivityReportShape) → list_all (λ a. list_all is_plain (no_lines a)) rs ≡ true
 unfolding no_lines
 none_plain [] = refl
-none_plain (a ∷ as) = none_plain as
+none_plain (a ∷ rs) = none_plain rs
 
-bare_lines : (as : List ActivityReportShape) → flat_map activity_lines as ≡ flat_map (λ a. activity_lines a ++ no_lines a) as
+bare_lines : (rs : List ActivityReportShape) → flat_map activity_lines rs ≡ flat_map (λ a. activity_lines a ++ no_lines a) rs
 unfolding no_lines
 bare_lines [] = refl
-bare_lines (a ∷ as) = λ i. (sym (append-nil (activity_lines a))) i ++ bare_lines as i
+bare_lines (a ∷ rs) = λ i. (sym (append-nil (activity_lines a))) i ++ bare_lines rs i
 
 pub report_is_read : (o : OutcomeShape) → IsWellFormed o → read_report (report_of o) ≡ Reads (lists_in o) (counts_in o)
 unfolding report_lines
 report_is_read o w =
     let same : map (λ a. a) o.activities ≡ o.activities = map-id o.activities in
-    let well : IsWellFormed (record { verdict = o.verdict; activities = map (λ a. a) o.activities }) = subst (λ (as : List ActivityReportShape). IsWellFormed (record { verdict = o.verdict; activities = as })) (sym same) w in
+    let well : IsWellFormed (record { verdict = o.verdict; activities = map (λ a. a) o.activities }) = subst (λ (rs : List ActivityReportShape). IsWellFormed (record { verdict = o.verdict; activities = rs })) (sym same) w in
     ap (λ (ls : List Text). read_report (text_of (codes "asp report 1" ∷ verdict_line o.verdict ∷ ls))) (bare_lines o.activities)
     ∙ extended_is_read (λ a. a) no_lines o.verdict o.activities well (none_plain o.activities)
-    ∙ ap (λ (as : List ActivityReportShape). Reads (map (λ a. (a.name, a.senders)) as) (map (λ a. (a.name, a.count)) as)) same
+    ∙ ap (λ (rs : List ActivityReportShape). Reads (map (λ a. (a.name, a.senders)) rs) (map (λ a. (a.name, a.count)) rs)) same

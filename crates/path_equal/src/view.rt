@@ -1,0 +1,42 @@
+//! The states of activities at the end of a run.
+
+ghost use Rattle.std.specs.Prelude.{◌≡◌, slice_get};
+ghost use Rattle.std.specs.Arc.{arc_value};
+ghost use Rattle.asp_model.specs.Shapes.{status_shape};
+ghost use Rattle.paths.specs.Outcomes.{EndShape, WholeOutcome};
+ghost use Rattle.run_ends.specs.Ends.{IsEndOf, IsSnapshotOf};
+ghost use Rattle.path_equal.specs.Views.{IsSeen, IsSeenAs};
+
+use crate::state::State;
+use asp_model::Status;
+use run_ends::{EndState, RunEnd};
+
+// What is read of an activity that ended with this status.
+fn state_of<'a>(end: &'a RunEnd, state: &'a EndState, status: &Status) -> State<'a>
+    ensures state { (o : WholeOutcome) (e : EndShape) → IsEndOf end.now o →
+        IsSnapshotOf (arc_value end.now.code) state.now e.snapshot →
+        status_shape status.now ≡ e.report.status → IsSeenAs o e result }
+{
+    State {
+        code: &end.code,
+        store: &state.store,
+        futures: &end.futures,
+        active: state.active,
+        result: state.result(status),
+    }
+}
+
+/// What is read of the activity with a number, in the order of names.
+pub fn state_at(end: &RunEnd, number: usize) -> Option<State<'_>>
+    // for what the end of the run stands for
+    ensures state { (o : WholeOutcome) → IsEndOf end.now o →
+        IsSeen o (slice_get o.ends number) result }
+{
+    let Some(activity) = end.outcome.activities.get(number) else {
+        return None;
+    };
+    let Some(state) = end.states.get(number) else {
+        return None;
+    };
+    Some(state_of(end, state, &activity.status))
+}
