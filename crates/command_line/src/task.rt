@@ -93,11 +93,7 @@ fn task_from<'a>(texts: &Texts<'a>) -> Result<Task<'a>, WordsError>
     }
 }
 
-fn run<'a>(
-    file: &'a str,
-    budget: Option<&str>,
-    state: Option<&str>,
-) -> Result<Task<'a>, WordsError>
+fn run<'a>(file: &'a str, budget: Option<&str>, state: Option<&str>) -> Result<Task<'a>, WordsError>
     ensures ok { let depth = text_behind state.entry in IfOk result
         (λ t. running file.entry.now (text_behind budget.entry) depth ≡ Some (task_shape t)) }
     ensures usage { let depth = text_behind state.entry in IfErr result
@@ -113,11 +109,7 @@ fn run<'a>(
     })
 }
 
-fn replay<'a>(
-    file: &'a str,
-    report: &'a str,
-    state: Option<&str>,
-) -> Result<Task<'a>, WordsError>
+fn replay<'a>(file: &'a str, report: &'a str, state: Option<&str>) -> Result<Task<'a>, WordsError>
     ensures ok { let depth = text_behind state.entry in IfOk result
         (λ t. replaying file.entry.now report.entry.now depth ≡ Some (task_shape t)) }
     ensures usage { let depth = text_behind state.entry in IfErr result

@@ -1,8 +1,8 @@
 //! The state of an activity.
 
 use coded_cells::Place;
-use object_store::Store;
 use future_table::FutureTable;
+use object_store::Store;
 use program_code::Code;
 
 /// What is read of an activity.

@@ -49,7 +49,7 @@ same_activities r o h = ap (λ s. s.activities) h.outcome
 pub all_ends : (r : RunEnd) (o : WholeOutcome) → IsEndOf r o → (n : ℕ) → n ≡ length r.outcome.activities.items → take n o.ends ≡ o.ends
 all_ends r o h n e =
     let count : length r.outcome.activities.items ≡ length o.ends =
-        sym (length-map r.outcome.activities.items activity_shape) ∙ ap length (same_activities r o h) ∙ length-map o.ends (λ (x : EndShape). x.report) in
+    sym (length-map r.outcome.activities.items activity_shape) ∙ ap length (same_activities r o h) ∙ length-map o.ends (λ (x : EndShape). x.report) in
     take_all n o.ends (omega (arith, e, count))
 
 -- the lines of a well-formed outcome's report are read again

@@ -24,4 +24,3 @@ name_is name (x ∷ xs) old first whole e h f w =
 pub on_ok : {T E P Q : Type 0} (r : Result T E) → (P → Q) → OnOk r P → OnOk r Q
 on_ok (Ok x) f p = f p
 on_ok (Err x) f p = tt
-
