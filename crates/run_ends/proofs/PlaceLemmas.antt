@@ -1,9 +1,7 @@
 -- The term of a machine is a place exactly where the machine looks at one and no frame waits.
-use Rattle.std.proofs.Common.{◌≡◌, ℕ, suc, ◌+◌, ◌<◌, true, false, List, [], ◌∷◌, ◌++◌, Option, Some, None, length, take, drop, get_or, refl, sym, ap, subst, ◌∙◌, arith}
+use Rattle.std.proofs.Common.{◌≡◌, ℕ, ◌<◌, true, false, List, [], ◌∷◌, Some, None, length, take, drop, refl, sym, ap, subst, ◌∙◌, arith}
 use Rattle.std.specs.Prelude.{reverse}
 use Rattle.std.proofs.lemmas.Bool.{false≢true}
-use Rattle.std.proofs.lemmas.List.{reverse-append, take_all}
-use Rattle.std.proofs.Math.Seq.{take-suc}
 use Rattle.asp_model.specs.Names.{Text}
 use Rattle.asp_model.specs.Term.{Head, Loc, Tree, Trees, Environment, node, more, loc, locs_then}
 use Rattle.asp_model.specs.Split.{Context, plugged, plug, reduced_count}
@@ -125,10 +123,3 @@ elsewhere k v t vs f h at other =
     let inner : IsNoPlace h.inner = focus_no_place k v.asked (drop v.base v.env) (last (taken v.focus) v.operands) v.focus h.inner no h.focus in
     let are = are_contexts k (reverse v.frames) v.env (but_last (taken v.focus) v.operands) h.items h.stack in
     sym (no_result t (subst IsNoPlace (sym h.term) (plugged_no_place (contexts_of h.items) h.inner are inner)))
-
--- Frames
-
-pub last_waits : (fs : List Frame) (n : ℕ) (f : Frame) → length fs ≡ suc n → f ≡ get_or fs n f → is_service f.form ≡ none_waits (reverse fs)
-last_waits fs n f whole at =
-    let front : fs ≡ take n fs ++ f ∷ [] = sym (take_all (suc n) fs (omega (arith, whole))) ∙ take-suc fs n f (omega (arith, whole)) ∙ ap (λ (x : Frame). take n fs ++ x ∷ []) (sym at) in
-    sym (ap (λ (xs : List Frame). none_waits (reverse xs)) front ∙ ap none_waits (reverse-append (take n fs) (f ∷ [])))

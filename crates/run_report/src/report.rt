@@ -18,8 +18,8 @@ use path_equal::{state_at, state_lines};
 use run_ends::RunEnd;
 use std::alloc::{AllocError, Global};
 
-/// The lines of the report, without their line feeds. With a depth, the lines that show an activity's
-/// state down to it stand behind its outputs.
+/// The lines of the report, without their line feeds. With a depth, the lines that show the state of
+/// an activity down to it stand behind its outputs.
 pub fn render(alloc: Global, end: &RunEnd, depth: Option<u32>) -> Result<Vec<Word>, AllocError>
     // for what the end of the run stands for
     ensures lines { (o : WholeOutcome) → IsEndOf end.now o →
