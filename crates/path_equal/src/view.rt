@@ -32,11 +32,12 @@ pub fn state_at(end: &RunEnd, number: usize) -> Option<State<'_>>
     ensures state { (o : WholeOutcome) → IsEndOf end.now o →
         IsSeen o (slice_get o.ends number) result }
 {
-    let Some(activity) = end.outcome.activities.get(number) else {
+    if number >= end.outcome.activities.len() {
         return None;
-    };
-    let Some(state) = end.states.get(number) else {
+    }
+    if number >= end.states.len() {
         return None;
-    };
-    Some(state_of(end, state, &activity.status))
+    }
+    let activity = &end.outcome.activities[number];
+    Some(state_of(end, &end.states[number], &activity.status))
 }
