@@ -1,8 +1,8 @@
 -- The lines of activities one by one, and of the whole report.
-use Rattle.std.proofs.Common.{◌≡◌, ℕ, zero, suc, ◌+◌, ◌<◌, List, [], ◌∷◌, ◌++◌, map, length, take, get_or, Option, Some, None, Result, Ok, Err, refl, sym, ap, ◌∙◌, arith, append_assoc}
+use Rattle.std.proofs.Common.{◌≡◌, ℕ, zero, suc, ◌+◌, ◌<◌, List, [], ◌∷◌, ◌++◌, map, length, take, get_or, Option, Result, Ok, Err, refl, sym, ap, ◌∙◌, arith, append_assoc}
 use Rattle.std.specs.Prelude.{IfOk, slice_get}
 use Rattle.std.specs.List.{flat_map}
-use Rattle.std.proofs.lemmas.List.{append-nil, length-map, take_all}
+use Rattle.std.proofs.lemmas.List.{append-nil}
 use Rattle.asp_model.specs.declared.outcome.ActivityReport.{ActivityReport}
 use Rattle.asp_model.specs.Outcome.{lists_in, counts_in}
 use Rattle.asp_model.specs.WellFormed.{IsWellFormed}
@@ -44,13 +44,6 @@ one_end (y ∷ xs) (e ∷ es) (suc n) x extra same lt is =
 
 pub same_activities : (r : RunEnd) (o : WholeOutcome) → IsEndOf r o → map activity_shape r.outcome.activities.items ≡ map (λ e. e.report) o.ends
 same_activities r o h = ap (λ s. s.activities) h.outcome
-
--- there are as many
-pub all_ends : (r : RunEnd) (o : WholeOutcome) → IsEndOf r o → (n : ℕ) → n ≡ length r.outcome.activities.items → take n o.ends ≡ o.ends
-all_ends r o h n e =
-    let count : length r.outcome.activities.items ≡ length o.ends =
-    sym (length-map r.outcome.activities.items activity_shape) ∙ ap length (same_activities r o h) ∙ length-map o.ends (λ (x : EndShape). x.report) in
-    take_all n o.ends (omega (arith, e, count))
 
 -- the lines of a well-formed outcome's report are read again
 pub if_read : {S E : Type 0} (f : S → Lines) (r : Result S E) (depth : Option ℕ) (o : WholeOutcome) → IfOk r (λ s. f s ≡ report_lines_to depth o) → IsWellFormed (reported o) → HasPrintableLabels o
