@@ -1,11 +1,12 @@
 //! An activity, and its contractions.
 
-ghost use Rattle.std.specs.Prelude.{◌≡◌, Err, IfOk, OnErr, OnOk, alloc_error, map, true};
+ghost use Rattle.std.specs.Prelude.{◌≡◌, Err, IfOk, OnErr, OnOk, alloc_error, reverse, true};
 ghost use Rattle.std.specs.Option.{option_map};
-ghost use Rattle.asp_model.specs.Shapes.{future_shape, line_shape};
+ghost use Rattle.asp_model.specs.Shapes.{future_shape};
 ghost use Rattle.asp_model.specs.Configuration.{Activity as ActivityShape};
 ghost use Rattle.activity_step.specs.Activities.{IsAfter, IsRun, StandsFor, reduces};
 ghost use Rattle.activity_step.specs.Standings.{code_of};
+ghost use Rattle.activity_step.specs.Turns.{Stands};
 
 use crate::state::State;
 use crate::turn::Turn;
@@ -67,13 +68,13 @@ impl Activity {
         &self.state.lines
     }
 
-    /// Its output lines, where it is done with.
-    pub fn into_lines(self) -> Vec<Line>
-        ensures lines { (a : ActivityShape) → StandsFor self a →
-            map line_shape result.items ≡ a.lines }
+    /// Its state and where its active object stands, where it is done with.
+    pub fn into_state(self) -> (State, Place)
+        ensures stands { (a : ActivityShape) → StandsFor self a →
+            Stands (code_of self) result.0 a.term (reverse a.services) a.store a.lines }
+        ensures active { (a : ActivityShape) → StandsFor self a → result.1 ≡ a.active }
     {
-        let state = self.state;
-        state.lines
+        (self.state, self.active)
     }
 
     /// The future of the service that runs; none where the start term runs.
