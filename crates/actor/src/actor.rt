@@ -15,14 +15,17 @@ ghost use Rattle.program_code.specs.Pieces.{tree};
 ghost use Rattle.program_code.specs.Sound.{root_of};
 ghost use Rattle.program_code.specs.Tables.{piece_at, pieces};
 ghost use Rattle.activity_step.specs.Activities.{StandsFor};
+ghost use Rattle.paths.specs.Snapshots.{snapshot_of};
 ghost use Rattle.request_queue.specs.Requests.{request_shape};
+ghost use Rattle.run_ends.specs.Ends.{IsSnapshotOf};
 ghost use Rattle.actor.specs.Actors.{Stands, code_of};
 
-use activity_step::Activity;
+use activity_step::{Activity, State};
 use asp_model::{ActivityName, ActivityReport, Label, Status};
 use coded_cells::Parcel;
 use program_code::Code;
 use request_queue::{Queue, Request};
+use run_ends::EndState;
 use std::alloc::{AllocError, Global};
 use std::sync::Arc;
 
@@ -103,24 +106,45 @@ impl Actor {
         self.senders.len()
     }
 
-    /// What a run's end tells of it.
-    pub fn into_report(self, name: ActivityName, status: Status) -> ActivityReport
+    /// The code that it runs.
+    pub fn code(&self) -> &Arc<Code>
+        ensures code { arc_value result.now ≡ code_of self.now }
+    {
+        self.activity.code()
+    }
+
+    /// What a run's end tells of it, and its state.
+    pub fn into_end(self, name: ActivityName, status: Status) -> (ActivityReport, EndState)
         ensures report { (a : model.Activity) (rs : List RequestShape) → Stands self a rs →
-            report_shape result ≡ record {
+            report_shape result.0 ≡ record {
               name = name;
               count = a.reductions;
               status = status_shape status;
               senders = map (λ r. r.sender) rs;
               lines = a.lines;
             } }
+        ensures state { (a : model.Activity) (rs : List RequestShape) → Stands self a rs →
+            IsSnapshotOf (code_of self) result.1 (snapshot_of a) }
     {
         let count = self.activity.count();
-        ActivityReport {
+        let (state, active) = self.activity.into_state();
+        let State {
+            machine,
+            store,
+            lines,
+        } = state;
+        let report = ActivityReport {
             name,
             count,
             status,
             senders: self.senders,
-            lines: self.activity.into_lines(),
-        }
+            lines,
+        };
+        let end = EndState {
+            machine,
+            store,
+            active,
+        };
+        (report, end)
     }
 }
