@@ -325,4 +325,5 @@ def main():
             PARTS[name](Folder(path))
 
 
-main()
+if __name__ == "__main__":
+    main()
