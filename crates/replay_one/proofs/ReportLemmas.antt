@@ -1,6 +1,7 @@
--- The reports of the activities of a population are those of its configuration.
-use Rattle.std.proofs.Common.{◌≡◌, ◌<◌, ◌||◌, ◌∷◌, [], Bool, T, List, Option, Some, None, length, map, refl, sym, ap, subst, ◌∙◌, inl, inr, ⊎_elim, arith}
-use Rattle.std.specs.List.{list_any}
+-- The ends of the activities of a population are those of its configuration.
+use Rattle.std.proofs.Common.{◌≡◌, ◌<◌, ◌||◌, ◌∷◌, ◌++◌, [], Bool, T, List, Option, Some, None, length, map, refl, sym, ap, subst, ◌∙◌, inl, inr, ⊎_elim, arith}
+use Rattle.std.specs.List.{list_any, AllByRecursion}
+use Rattle.std.proofs.lemmas.List.{append_assoc, append-nil, map-append}
 use Rattle.std.specs.List.Sorted.{IsStrictlySortedBy}
 use Rattle.std.specs.FinMap.{find, is_sorted}
 use Rattle.std.specs.Map.{keys_of}
@@ -14,12 +15,17 @@ use Rattle.asp_model.specs.Chase.{Values, chase}
 use Rattle.asp_model.specs.Configuration as model
 use Rattle.asp_model.specs.Configuration.{Configuration, RequestShape, requests_of}
 use Rattle.asp_model.specs.Intent.{Rests, Done, intent}
-use Rattle.asp_model.specs.Status.{status_of, status_of_intent, statuses_of}
+use Rattle.asp_model.specs.Status.{status_of, status_of_intent, statuses_of, verdict_of}
 use Rattle.asp_model.specs.Replay.{counts_of, lists_of}
 use Rattle.asp_model.specs.Outcome.{ActivityReportShape, activity_report, counts_in, lists_in, outcome_of}
 use Rattle.asp_model.specs.Shapes.{activity_shape, status_shape}
 use Rattle.asp_model.specs.Term.{Tree}
 use Rattle.future_table.specs.Values.{values_of}
+use Rattle.program_code.specs.declared.code.Node.{Node}
+use Rattle.paths.specs.Snapshots.{snapshot_of}
+use Rattle.paths.specs.Outcomes.{EndShape, end_of, whole_outcome_of, reported}
+use Rattle.run_ends.specs.declared.ends.EndState.{EndState}
+use Rattle.run_ends.specs.Ends.{AreSnapshotsOf, IsSnapshotOf}
 use Rattle.laws.specs.Reached.{IsAt}
 use Rattle.laws.specs.Closed.{IsClosed}
 use Rattle.laws.proofs.ClosedLaws.{reached_are_closed}
@@ -27,10 +33,10 @@ use Rattle.laws.proofs.EntryLemmas.{In, entry_found, first_of_both, second_of_bo
 use Rattle.laws.proofs.NameLemmas.{name_total, name_case, no_some}
 use Rattle.laws.proofs.NamesLaws.{entries_ascend}
 use Rattle.actor.specs.declared.actor.Actor.{Actor}
-use Rattle.actor.specs.Actors.{Stands}
+use Rattle.actor.specs.Actors.{Stands, code_of}
 use Rattle.replay_one.specs.declared.population.Population.{Population}
 use Rattle.replay_one.specs.Population.{IsReachedPopulation, StandsAt}
-use Rattle.replay_one.specs.Reports.{AreClosedStates, AreReportsOf, IsReportOf, report_with}
+use Rattle.replay_one.specs.Ends.{AreClosedStates, AreEndsBy, AreEndsFor, IsEndBy, IsEndFor, end_with}
 use Rattle.replay_one.proofs.EntryLemmas.{absent_below, absent_less, find_head, find_skip, lookup_find, sorted_by}
 use Rattle.replay_one.proofs.PopulationLemmas.{stands_no, stands_none}
 
@@ -90,17 +96,43 @@ paired c (x ∷ xs) (y ∷ ys) s t h = by (name_cmp x.0 y.0) refl (λ e. paired 
 abbrev AreThere : Configuration → List (Name × model.Activity) → Type 0
 AreThere c ys = (y : Name × model.Activity) → In y ys → IsAt c y.0 y.1
 
-report_is : (c : Configuration) (n : Name) (y : Name × model.Activity) → n ≡ y.0 → IsAt c y.0 y.1 → activity_report c y ≡ report_with c.futures n y.1 (requests_of c y.0)
+report_is : (c : Configuration) (n : Name) (y : Name × model.Activity) → n ≡ y.0 → IsAt c y.0 y.1 → activity_report c y ≡ (end_with c.futures n y.1 (requests_of c y.0)).report
 report_is c n y e is =
     let status : status_of c y.0 ≡ status_of_intent (intent (chase c.futures) (requests_of c y.0) y.0 y.1) = ap (λ (q : Option model.Activity). status_of_intent (elim q [ None ↦ Rests Done | Some a ↦ intent (chase c.futures) (requests_of c y.0) y.0 a ])) is in
     (λ i. record { name = y.0; count = y.1.reductions; status = status i; senders = map (λ r. r.sender) (requests_of c y.0); lines = y.1.lines })
     ∙ (λ i. record { name = sym e i; count = y.1.reductions; status = status_of_intent (intent (chase c.futures) (requests_of c y.0) (sym e i) y.1); senders = map (λ r. r.sender) (requests_of c y.0); lines = y.1.lines })
 
-reports_paired : (c : Configuration) (xs : List (Name × Actor)) (ys : List (Name × model.Activity)) → ArePaired c xs ys → AreThere c ys → AreReportsOf c.futures xs (map (activity_report c) ys)
-reports_paired c [] [] h t = tt
-reports_paired c [] (y ∷ ys) h t = absurd h
-reports_paired c (x ∷ xs) [] h t = absurd h
-reports_paired c (x ∷ xs) (y ∷ ys) h t = ((y.1, requests_of c y.0, h.1, report_is c x.0 y h.0 (t y (inl refl))), reports_paired c xs ys h.2 (λ z i. t z (inr i)))
+end_is : (c : Configuration) (n : Name) (y : Name × model.Activity) → n ≡ y.0 → IsAt c y.0 y.1 → end_of c y ≡ end_with c.futures n y.1 (requests_of c y.0)
+end_is c n y e is = let report = report_is c n y e is in λ i. record { report = report i; snapshot = snapshot_of y.1 }
+
+-- Codes
+
+abbrev AreCoded : List Node → List (Name × Actor) → Type 0
+AreCoded k = AllByRecursion (λ x. code_of x.1 ≡ k)
+
+abbrev CodedBy : List Node → List (Name × Actor) → Type 0
+CodedBy k xs = (n : Name) (x : Actor) → find name_cmp n xs ≡ Some x → code_of x ≡ k
+
+coded : (k : List Node) (xs : List (Name × Actor)) → T (is_sorted name_cmp xs) → CodedBy k xs → AreCoded k xs
+coded k [] s h = tt
+coded k (x ∷ xs) s h = (
+  h x.0 x.1 (find_head x xs),
+  coded k xs (second_of_both _ _ s) (λ n y e. ⊎_elim
+      (λ q. no_some (sym (ap (λ m. find name_cmp m xs) q ∙ absent_below x.0 xs (first_of_both _ _ s)) ∙ e))
+      (λ d. h n y (find_skip n x xs d ∙ e))
+      (name_case n x.0)),
+)
+
+-- Ends
+
+ends_paired : (k : List Node) (c : Configuration) (xs : List (Name × Actor)) (ys : List (Name × model.Activity)) → AreCoded k xs → ArePaired c xs ys → AreThere c ys → AreEndsFor k c.futures xs (map (end_of c) ys)
+ends_paired k c [] [] d h t = tt
+ends_paired k c [] (y ∷ ys) d h t = absurd h
+ends_paired k c (x ∷ xs) [] d h t = absurd h
+ends_paired k c (x ∷ xs) (y ∷ ys) d h t = (
+  record { activity = y.1; received = requests_of c y.0; stands = h.1; is = end_is c x.0 y h.0 (t y (inl refl)); coded = d.0 },
+  ends_paired k c xs ys d.1 h.2 (λ z i. t z (inr i)),
+)
 
 closed_paired : (c : Configuration) (xs : List (Name × Actor)) (ys : List (Name × model.Activity)) → IsClosed c → ArePaired c xs ys → AreThere c ys → AreClosedStates xs
 closed_paired c [] [] k h t = tt
@@ -116,21 +148,67 @@ module _ (p : Population) (program : Tree) (c : Configuration) (h : IsReachedPop
   all_there : AreThere c c.activities
   all_there y i = entry_found c.activities y (entries_ascend program c h.reached).activities i
 
-  pub population_reports : AreReportsOf (values_of p.futures) p.activities.entries (map (activity_report c) c.activities)
-  population_reports = subst (λ (vs : Values). AreReportsOf vs p.activities.entries (map (activity_report c) c.activities)) (sym h.population.futures) (reports_paired c p.activities.entries c.activities population_paired all_there)
+  population_coded : AreCoded h.population.code p.activities.entries
+  population_coded = coded h.population.code p.activities.entries (sorted_by p.activities.entries sorted) (λ n x e. h.population.actors n x (lookup_find n p.activities.entries ∙ e))
+
+  pub population_ends : AreEndsFor h.population.code (values_of p.futures) p.activities.entries (map (end_of c) c.activities)
+  population_ends = subst (λ (vs : Values). AreEndsFor h.population.code vs p.activities.entries (map (end_of c) c.activities)) (sym h.population.futures) (ends_paired h.population.code c p.activities.entries c.activities population_coded population_paired all_there)
 
   pub population_closed : AreClosedStates p.activities.entries
   population_closed = closed_paired c p.activities.entries c.activities (reached_are_closed program c h.bare h.reached) population_paired all_there
 
--- One report after the other
+-- One end after the other
 
-pub first_report : (values : Values) (x : Name × Actor) (xs : List (Name × Actor)) (rs : List ActivityReportShape) → AreReportsOf values (x ∷ xs) rs → (r : ActivityReportShape) × (ss : List ActivityReportShape) × (rs ≡ r ∷ ss) × IsReportOf values x r × AreReportsOf values xs ss
-first_report values x xs [] h = absurd h
-first_report values x xs (r ∷ rs) h = (r, rs, refl, h.0, h.1)
+-- some ends were made, and the others are still to come
+pub record IsPart (k : List Node) (values : Values) (xs : List (Name × Actor)) (es : List EndShape) (rs : List ActivityReport) (ss : List EndState) : Type 0 where
+  pub done : List EndShape
+  pub rest : List EndShape
+  pub all : es ≡ done ++ rest
+  pub made : AreEndsBy k rs ss done
+  pub left : AreEndsFor k values xs rest
 
-pub no_report : (values : Values) (rs : List ActivityReportShape) → AreReportsOf values [] rs → rs ≡ []
-no_report values [] h = refl
-no_report values (r ∷ rs) h = absurd h
+pub none_made : (k : List Node) (values : Values) (xs : List (Name × Actor)) (es : List EndShape) → AreEndsFor k values xs es → IsPart k values xs es [] []
+none_made k values xs es h = record { done = []; rest = es; all = refl; made = record { reports = refl; states = tt }; left = h }
+
+states_more : (k : List Node) (ss : List EndState) (s : EndState) (es : List EndShape) (e : EndShape) → AreSnapshotsOf k ss es → IsSnapshotOf k s e.snapshot → AreSnapshotsOf k (ss ++ s ∷ []) (es ++ e ∷ [])
+states_more k [] s [] e h g = (g, tt)
+states_more k [] s (f ∷ es) e h g = absurd h
+states_more k (t ∷ ss) s [] e h g = absurd h
+states_more k (t ∷ ss) s (f ∷ es) e h g = (h.0, states_more k ss s es e h.1 g)
+
+ends_more : (k : List Node) (rs : List ActivityReport) (ss : List EndState) (es : List EndShape) (e : EndShape) (r : ActivityReport) (s : EndState) → AreEndsBy k rs ss es → IsEndBy k e (r, s) → AreEndsBy k (rs ++ r ∷ []) (ss ++ s ∷ []) (es ++ e ∷ [])
+ends_more k rs ss es e r s h g = record {
+  reports = map-append activity_shape rs (r ∷ [])
+      ∙ (λ i. h.reports i ++ g.0 i ∷ [])
+      ∙ sym (map-append (λ (x : EndShape). x.report) es (e ∷ []));
+  states = states_more k ss s es e h.states g.1;
+}
+
+-- one more end is made
+pub one_made : (k : List Node) (values : Values) (x : Name × Actor) (xs : List (Name × Actor)) (es : List EndShape) (rs : List ActivityReport) (ss : List EndState) (r : ActivityReport) (s : EndState) → IsPart k values (x ∷ xs) es rs ss
+    → ((a : model.Activity) (qs : List RequestShape) → Stands x.1 a qs → IsEndBy (code_of x.1) (end_with values x.0 a qs) (r, s)) → IsPart k values xs es (rs ++ r ∷ []) (ss ++ s ∷ [])
+one_made k values x xs es rs ss r s p is = by p.rest p.all p.left
+  where
+    by : (rest : List EndShape) → es ≡ p.done ++ rest → AreEndsFor k values (x ∷ xs) rest → IsPart k values xs es (rs ++ r ∷ []) (ss ++ s ∷ [])
+    by [] all left = absurd left
+    by (e ∷ rest) all left =
+        let f : IsEndFor k values x e = left.0 in
+        let here : IsEndBy k (end_with values x.0 f.activity f.received) (r, s) = subst (λ (c : List Node). IsEndBy c (end_with values x.0 f.activity f.received) (r, s)) f.coded (is f.activity f.received f.stands) in
+        record {
+          done = p.done ++ e ∷ [];
+          rest = rest;
+          all = all ∙ sym (append_assoc p.done (e ∷ []) rest);
+          made = ends_more k rs ss p.done e r s p.made (subst (λ (d : EndShape). IsEndBy k d (r, s)) (sym f.is) here);
+          left = left.1;
+        }
+
+-- all are made
+pub all_made : (k : List Node) (values : Values) (es : List EndShape) (rs : List ActivityReport) (ss : List EndState) → IsPart k values [] es rs ss → AreEndsBy k rs ss es
+all_made k values es rs ss p = by p.rest p.all p.left
+  where
+    by : (rest : List EndShape) → es ≡ p.done ++ rest → AreEndsFor k values [] rest → AreEndsBy k rs ss es
+    by [] all left = subst (AreEndsBy k rs ss) (sym (all ∙ append-nil p.done)) p.made
+    by (e ∷ rest) all left = absurd left
 
 pub empty_if : {A : Type 0} (xs : List A) → (0 < length xs → ⊥) → xs ≡ []
 empty_if [] h = refl
@@ -144,6 +222,10 @@ map_map g f (x ∷ xs) = ap (λ ys. g (f x) ∷ ys) (map_map g f xs)
 
 pub statuses_shown : (c : Configuration) (xs : List ActivityReport) → map activity_shape xs ≡ map (activity_report c) c.activities → map (λ (a : ActivityReport). status_shape a.status) xs ≡ statuses_of c
 statuses_shown c xs e = sym (map_map (λ (r : ActivityReportShape). r.status) activity_shape xs) ∙ ap (map (λ (r : ActivityReportShape). r.status)) e ∙ map_map (λ (r : ActivityReportShape). r.status) (activity_report c) c.activities
+
+-- a whole outcome without the states
+pub reported_is : (c : Configuration) → reported (whole_outcome_of c) ≡ outcome_of c
+reported_is c = ap (λ (rs : List ActivityReportShape). record { verdict = verdict_of c; activities = rs }) (map_map (λ (e : EndShape). e.report) (end_of c) c.activities)
 
 pub lists_shown : (c : Configuration) → lists_in (outcome_of c) ≡ lists_of c
 lists_shown c = map_map (λ (r : ActivityReportShape). (r.name, r.senders)) (activity_report c) c.activities

@@ -3,7 +3,7 @@ pub mod Bounds
 pub mod Population
 pub mod Schedule
 pub mod Round
-pub mod Reports
+pub mod Ends
 pub mod Rows
 pub mod Listed
 pub mod Correct

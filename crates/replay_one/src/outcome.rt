@@ -1,6 +1,7 @@
-//! What a run leaves: how each activity stands, and the verdict.
+//! What a run leaves: how each activity stands, its state, and the verdict.
 
 ghost use Rattle.std.specs.Prelude.{◌≡◌, List, IfOk, map};
+ghost use Rattle.std.specs.Arc.{arc_value};
 ghost use Rattle.std.specs.List.{list_any};
 ghost use Rattle.asp_model.specs.Names.{Name};
 ghost use Rattle.asp_model.specs.Term.{Tree};
@@ -14,24 +15,30 @@ ghost use Rattle.asp_model.specs.Status.{
   status_of_intent,
   verdict_among as verdict_of,
 };
-ghost use Rattle.asp_model.specs.Outcome.{activity_report, outcome_of as outcome_shown};
-ghost use Rattle.asp_model.specs.Shapes.{
-  activity_shape,
-  outcome_shape,
-  status_shape,
-  verdict_shape,
-};
+ghost use Rattle.asp_model.specs.Outcome.{outcome_of as outcome_shown};
+ghost use Rattle.asp_model.specs.Shapes.{outcome_shape, status_shape, verdict_shape};
 ghost use Rattle.future_table.specs.Values.{values_of};
 ghost use Rattle.operand_reads.specs.Values.{AreClosedValues};
-ghost use Rattle.actor.specs.Actors.{IsClosedFor, Stands};
-ghost use Rattle.replay_one.specs.Population.{IsReachedBySome, IsReachedPopulation};
-ghost use Rattle.replay_one.specs.Reports.{report_with};
+ghost use Rattle.actor.specs.Actors.{IsClosedFor, Stands, code_of};
+ghost use Rattle.paths.specs.Outcomes.{EndShape, whole_outcome_of};
+ghost use Rattle.program_code.specs.declared.code.Node.{Node as NodeShape};
+ghost use Rattle.run_ends.specs.Ends.{IsEndOf};
+ghost use Rattle.replay_one.specs.Ends.{AreClosedStates, AreEndsBy, AreEndsFor, IsEndBy, end_with};
+ghost use Rattle.replay_one.specs.Population.{
+  IsPopulation,
+  IsReachedBySome,
+  IsReachedPopulation,
+};
 
 use crate::population::Population;
 use actor::{Actor, Outlook};
 use asp_model::{ActivityName, ActivityReport, Outcome, Status, Verdict};
 use future_table::FutureTable;
+use program_code::Code;
+use run_ends::{EndState, RunEnd};
 use std::alloc::{AllocError, Global};
+use std::collections::BTreeMap;
+use std::sync::Arc;
 
 /// The status of an activity that has settled.
 fn status_of(alloc: Global, actor: &Actor, futures: &FutureTable) -> Result<Status, AllocError>
@@ -51,40 +58,44 @@ fn status_of(alloc: Global, actor: &Actor, futures: &FutureTable) -> Result<Stat
     }
 }
 
-fn report_of(
+fn end_of(
     alloc: Global,
     name: ActivityName,
     mut actor: Actor,
     futures: &FutureTable,
-) -> Result<ActivityReport, AllocError>
+) -> Result<(ActivityReport, EndState), AllocError>
     requires closed { IsClosedFor actor }
     requires values { AreClosedValues (values_of futures.now) }
-    ensures report { (a : model.Activity) (rs : List RequestShape) → Stands actor a rs →
-        let report = report_with (values_of futures.now) name a rs in
-        IfOk result (λ r. activity_shape r ≡ report) }
+    ensures end { (a : model.Activity) (rs : List RequestShape) → Stands actor a rs →
+        let end = end_with (values_of futures.now) name a rs in
+        IfOk result (IsEndBy (code_of actor) end) }
 {
     actor.settle()?;
     let status = status_of(alloc, &actor, futures)?;
-    Ok(actor.into_report(name, status))
+    Ok(actor.into_end(name, status))
 }
 
-/// The activities in ascending order of names.
-fn reports_of(alloc: Global, population: Population) -> Result<Vec<ActivityReport>, AllocError>
-    requires reached { IsReachedBySome population }
-    ensures reports { (program : Tree) (c : Configuration) →
-        IsReachedPopulation population program c →
-        IfOk result (λ v. map activity_shape v.items ≡ map (activity_report c) c.activities) }
+/// The ends of so many activities, in ascending order of names.
+fn ends_of(
+    alloc: Global,
+    count: usize,
+    mut activities: BTreeMap<ActivityName, Actor>,
+    futures: &FutureTable,
+) -> Result<(Vec<ActivityReport>, Vec<EndState>), AllocError>
+    requires closed { AreClosedStates activities.entries }
+    requires values { AreClosedValues (values_of futures.now) }
+    ensures ends { (k : List NodeShape) (es : List EndShape) →
+        AreEndsFor k (values_of futures.now) activities.entries es →
+        IfOk result (λ r. AreEndsBy k r.0.items r.1.items es) }
 {
-    let Population {
-        mut activities,
-        futures,
-    } = population;
-    let mut reports = Vec::with_capacity(alloc, activities.len())?;
+    let mut reports = Vec::with_capacity(alloc, count)?;
+    let mut states = Vec::with_capacity(alloc, count)?;
     while let Some((name, actor)) = activities.pop_first() {
-        let report = report_of(alloc, name, actor, &futures)?;
+        let (report, state) = end_of(alloc, name, actor, futures)?;
         reports.push(report)?;
+        states.push(state)?;
     }
-    Ok(reports)
+    Ok((reports, states))
 }
 
 fn is_runner(report: &ActivityReport) -> bool
@@ -124,16 +135,43 @@ fn verdict_among(reports: &[ActivityReport]) -> Verdict
     Verdict::End
 }
 
+/// The code that the activities run.
+fn code_of_all(population: &Population) -> Result<Arc<Code>, AllocError>
+    ensures code { (c : Configuration) → (p : IsPopulation population.now c) →
+        IfOk result (λ k. arc_value k ≡ p.code) }
+{
+    match population.activities.first_key_value() {
+        Some((_name, actor)) => Arc::try_clone(actor.code()),
+        // There is always main.
+        None => Err(AllocError),
+    }
+}
+
 /// What the activities leave.
-pub fn outcome_of(alloc: Global, population: Population) -> Result<Outcome, AllocError>
+pub fn run_end_of(alloc: Global, population: Population) -> Result<RunEnd, AllocError>
     requires reached { IsReachedBySome population }
+    ensures end { (program : Tree) (c : Configuration) →
+        IsReachedPopulation population program c →
+        IfOk result (λ r. IsEndOf r (whole_outcome_of c)) }
     ensures outcome { (program : Tree) (c : Configuration) →
         IsReachedPopulation population program c →
-        IfOk result (λ o. outcome_shape o ≡ outcome_shown c) }
+        IfOk result (λ r. outcome_shape r.outcome ≡ outcome_shown c) }
 {
-    let activities = reports_of(alloc, population)?;
-    Ok(Outcome {
+    let count = population.activities.len();
+    let code = code_of_all(&population)?;
+    let Population {
+        activities,
+        futures,
+    } = population;
+    let (activities, states) = ends_of(alloc, count, activities, &futures)?;
+    let outcome = Outcome {
         verdict: verdict_among(&activities),
         activities,
+    };
+    Ok(RunEnd {
+        outcome,
+        states,
+        futures,
+        code,
     })
 }

@@ -5,6 +5,8 @@ ghost use Rattle.asp_model.specs.declared.limits.TheConstants.{MOST_REDUCTIONS};
 ghost use Rattle.asp_model.specs.Outcome.{outcome_of};
 ghost use Rattle.asp_model.specs.Replay.{Fits, replay as replay_of, total};
 ghost use Rattle.asp_model.specs.Shapes.{counts_shape, lists_shape, outcome_shape, tree_of};
+ghost use Rattle.paths.specs.Outcomes.{whole_outcome_of};
+ghost use Rattle.run_ends.specs.Ends.{IsEndOf};
 ghost use Rattle.replay_one.specs.declared.replays.ReplayStop.TheVariants.{Memory};
 ghost use Rattle.replay_one.specs.Correct.{IsStop};
 ghost use Rattle.replay_one.specs.Listed.{AreReplayable};
@@ -13,7 +15,8 @@ use crate::bounds::Bounds;
 use crate::difference::first_difference;
 use crate::run::run_within;
 use asp_check::Checked;
-use asp_model::{ActivityName, Counts, Lists, Outcome};
+use asp_model::{ActivityName, Counts, Lists};
+use run_ends::RunEnd;
 use std::alloc::{AllocError, Global};
 
 /// Why a replay gives no outcome.
@@ -52,21 +55,25 @@ pub fn replay(
     program: &Checked,
     lists: &Lists,
     counts: &Counts,
-) -> Result<Outcome, ReplayStop>
+) -> Result<RunEnd, ReplayStop>
     requires replayable { AreReplayable (lists_shape lists.now) (counts_shape counts.now) }
-    ensures fits { IfOk result (λ o. Fits (tree_of program.now.program.root)
+    ensures fits { IfOk result (λ r. Fits (tree_of program.now.program.root)
         (lists_shape lists.now) (counts_shape counts.now)) }
+    // With the state of each activity, and the filled futures.
+    ensures end { let last = replay_of (tree_of program.now.program.root)
+        (lists_shape lists.now) (counts_shape counts.now) in
+        IfOk result (λ r. IsEndOf r (whole_outcome_of last)) }
     ensures outcome { let last = replay_of (tree_of program.now.program.root)
         (lists_shape lists.now) (counts_shape counts.now) in
-        IfOk result (λ o. outcome_shape o ≡ outcome_of last) }
+        IfOk result (λ r. outcome_shape r.outcome ≡ outcome_of last) }
     ensures diverged { IfErr result (IsStop (tree_of program.now.program.root)
         (lists_shape lists.now) (counts_shape counts.now)) }
 {
     let bounds = Bounds::Listed(lists, counts);
     let sum = sum_of(&counts.entries);
-    let outcome = run_within(alloc, program, &bounds, sum)?;
-    match first_difference(&outcome.activities, &lists.entries, &counts.entries) {
-        None => Ok(outcome),
+    let end = run_within(alloc, program, &bounds, sum)?;
+    match first_difference(&end.outcome.activities, &lists.entries, &counts.entries) {
+        None => Ok(end),
         Some(name) => Err(ReplayStop::Diverged {
             activity: name.copy(alloc)?,
         }),

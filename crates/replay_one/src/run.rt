@@ -6,17 +6,19 @@ ghost use Rattle.asp_model.specs.Configuration.{Configuration, start as start_of
 ghost use Rattle.asp_model.specs.Outcome.{counts_in, outcome_of as outcome_shown};
 ghost use Rattle.asp_model.specs.Replay.{plain_run, steps_from, total as total_of};
 ghost use Rattle.asp_model.specs.Shapes.{outcome_shape, tree_of};
+ghost use Rattle.paths.specs.Outcomes.{whole_outcome_of};
+ghost use Rattle.run_ends.specs.Ends.{IsEndOf};
 ghost use Rattle.replay_one.specs.Bounds.{IsAscending, count_within, lists_within};
 ghost use Rattle.replay_one.specs.Correct.{IsReplayed, IsSpent};
 ghost use Rattle.replay_one.specs.Population.{IsReachedPopulation};
 ghost use Rattle.replay_one.specs.Round.{IsRunAt, IsRunSomewhere};
 
 use crate::bounds::Bounds;
-use crate::outcome::outcome_of;
+use crate::outcome::run_end_of;
 use crate::round::Machine;
 use asp_check::Checked;
-use asp_model::Outcome;
 use code_compiler::compile;
+use run_ends::RunEnd;
 use std::alloc::{AllocError, Global};
 use std::sync::Arc;
 
@@ -47,26 +49,32 @@ pub fn run_within(
     program: &Checked,
     bounds: &Bounds,
     total: u64,
-) -> Result<Outcome, AllocError>
+) -> Result<RunEnd, AllocError>
     requires ascending { IsAscending bounds.now }
+    ensures end { let first = start_of (tree_of program.now.program.root) in
+        let last = steps_from total (lists_within bounds.now) (count_within bounds.now) first in
+        IfOk result (λ r. IsEndOf r (whole_outcome_of last)) }
     ensures outcome { let first = start_of (tree_of program.now.program.root) in
         let last = steps_from total (lists_within bounds.now) (count_within bounds.now) first in
-        IfOk result (λ o. outcome_shape o ≡ outcome_shown last) }
+        IfOk result (λ r. outcome_shape r.outcome ≡ outcome_shown last) }
 {
     let code = Arc::new(alloc, compile(alloc, program)?)?;
     let mut machine = Machine::start(alloc, code)?;
     machine.run(alloc, bounds, total)?;
-    outcome_of(alloc, machine.population)
+    run_end_of(alloc, machine.population)
 }
 
 /// Runs a program with at most as many reductions as the budget says.
-pub fn run_plain(alloc: Global, program: &Checked, budget: u64) -> Result<Outcome, AllocError>
+pub fn run_plain(alloc: Global, program: &Checked, budget: u64) -> Result<RunEnd, AllocError>
+    // With the state of each activity, and the filled futures.
+    ensures end { let last = plain_run budget (tree_of program.now.program.root) in
+        IfOk result (λ r. IsEndOf r (whole_outcome_of last)) }
     ensures outcome { let last = plain_run budget (tree_of program.now.program.root) in
-        IfOk result (λ o. outcome_shape o ≡ outcome_shown last) }
+        IfOk result (λ r. outcome_shape r.outcome ≡ outcome_shown last) }
     ensures replays { IfOk result
-        (λ o. IsReplayed (tree_of program.now.program.root) (outcome_shape o)) }
-    ensures within { IfOk result (λ o. total_of (counts_in (outcome_shape o)) ≤ budget) }
-    ensures spent { IfOk result (λ o. IsSpent budget (outcome_shape o)) }
+        (λ r. IsReplayed (tree_of program.now.program.root) (outcome_shape r.outcome)) }
+    ensures within { IfOk result (λ r. total_of (counts_in (outcome_shape r.outcome)) ≤ budget) }
+    ensures spent { IfOk result (λ r. IsSpent budget (outcome_shape r.outcome)) }
 {
     run_within(alloc, program, &Bounds::Budget(budget), budget)
 }

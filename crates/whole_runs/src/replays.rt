@@ -1,9 +1,10 @@
 //! Replays by the calls themselves: under the lists and counts of an outcome, and under none.
 
 use asp_check::{Checked, check};
-use asp_model::{Counts, Lists, Outcome};
+use asp_model::{Counts, Lists, MOST_DEPTH};
 use asp_syntax::read_program;
 use replay_one::{ReplayStop, are_replayable, counts_in, lists_in, replay, run_plain};
+use run_ends::RunEnd;
 use run_report::render;
 use std::alloc::{AllocError, Global};
 use std::process::Abort;
@@ -24,7 +25,7 @@ fn replayed(
     program: &Checked,
     lists: &Lists,
     counts: &Counts,
-) -> Result<Outcome, ReplayStop> {
+) -> Result<RunEnd, ReplayStop> {
     assert!(rt; are_replayable(lists, counts));
     replay(alloc, program, lists, counts)
 }
@@ -34,21 +35,23 @@ fn again(
     rt: &impl Abort,
     alloc: Global,
     program: &Checked,
-    outcome: &Outcome,
-) -> Result<Outcome, ReplayStop> {
-    let lists = lists_in(alloc, outcome)?;
-    let counts = counts_in(alloc, outcome)?;
+    end: &RunEnd,
+) -> Result<RunEnd, ReplayStop> {
+    let lists = lists_in(alloc, &end.outcome)?;
+    let counts = counts_in(alloc, &end.outcome)?;
     replayed(rt, alloc, program, &lists, &counts)
 }
 
-fn is_same(alloc: Global, one: &Outcome, other: &Outcome) -> Result<bool, AllocError> {
-    Ok(render(alloc, one)? == render(alloc, other)?)
+// With the states, as deep as a report may show them.
+fn is_same(alloc: Global, one: &RunEnd, other: &RunEnd) -> Result<bool, AllocError> {
+    let depth = Some(MOST_DEPTH);
+    Ok(render(alloc, one, depth)? == render(alloc, other, depth)?)
 }
 
 fn repeats(rt: &impl Abort, alloc: Global, program: &Checked, budget: u64) -> Result<(), Fail> {
-    let outcome = run_plain(alloc, program, budget)?;
-    let repeated = again(rt, alloc, program, &outcome)?;
-    assert!(rt; is_same(alloc, &outcome, &repeated)?, "within {budget}");
+    let end = run_plain(alloc, program, budget)?;
+    let repeated = again(rt, alloc, program, &end)?;
+    assert!(rt; is_same(alloc, &end, &repeated)?, "within {budget}");
     Ok(())
 }
 

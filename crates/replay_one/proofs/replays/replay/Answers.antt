@@ -29,10 +29,10 @@ returns-in-None-clause-fits c =
     let cs : CountsShape = c.args.counts.now.entries.items in
     let t : Tree = tree_of c.args.program.now.program.root in
     let sum : c.sum_of-sum.result ≡ total cs = c.sum_of-sum.ensures ∙ ap total c.deref.ensures.value in
-    let outcome : outcome_shape c.in_ok-outcome.outcome ≡ outcome_of (replay t (map list_shape ls) cs) = c.in_ok-outcome.ensures.outcome ∙ (λ i. outcome_of (steps_from (sum i) (Some (map list_shape ls)) (count_in cs) (start t))) in
+    let outcome : outcome_shape c.in_ok-end.end.outcome ≡ outcome_of (replay t (map list_shape ls) cs) = c.in_ok-end.ensures.outcome ∙ (λ i. outcome_of (steps_from (sum i) (Some (map list_shape ls)) (count_in cs) (start t))) in
     let order : AreInOrder (map list_shape ls) cs = c.requires.replayable.ordered in
-    let differs : difference_in c.deref-2.result.now c.deref-3.result.now c.deref-4.result.now ≡ difference_in c.in_ok-outcome.outcome.activities.items ls cs = λ i. difference_in (c.deref-2.ensures.value i) (c.deref-3.ensures.value i) (c.deref-4.ensures.value i) in
-    let none : divergence_of t (map list_shape ls) cs ≡ None = divergence_is t c.in_ok-outcome.outcome ls cs outcome ∙ sym (c.in-None.ensures ∙ differs) in
+    let differs : difference_in c.deref-2.result.now c.deref-3.result.now c.deref-4.result.now ≡ difference_in c.in_ok-end.end.outcome.activities.items ls cs = λ i. difference_in (c.deref-2.ensures.value i) (c.deref-3.ensures.value i) (c.deref-4.ensures.value i) in
+    let none : divergence_of t (map list_shape ls) cs ≡ None = divergence_is t c.in_ok-end.end.outcome ls cs outcome ∙ sym (c.in-None.ensures ∙ differs) in
     fits_where_none_differs t (map list_shape ls) cs order none
 
 pub returns-in_ok-copy-in-Some-clause-diverged : goal.returns-in_ok-copy-in-Some-clause-diverged
@@ -41,9 +41,9 @@ returns-in_ok-copy-in-Some-clause-diverged c =
     let cs : CountsShape = c.args.counts.now.entries.items in
     let t : Tree = tree_of c.args.program.now.program.root in
     let sum : c.sum_of-sum.result ≡ total cs = c.sum_of-sum.ensures ∙ ap total c.deref.ensures.value in
-    let outcome : outcome_shape c.in_ok-outcome.outcome ≡ outcome_of (replay t (map list_shape ls) cs) = c.in_ok-outcome.ensures.outcome ∙ (λ i. outcome_of (steps_from (sum i) (Some (map list_shape ls)) (count_in cs) (start t))) in
+    let outcome : outcome_shape c.in_ok-end.end.outcome ≡ outcome_of (replay t (map list_shape ls) cs) = c.in_ok-end.ensures.outcome ∙ (λ i. outcome_of (steps_from (sum i) (Some (map list_shape ls)) (count_in cs) (start t))) in
     let order : AreInOrder (map list_shape ls) cs = c.requires.replayable.ordered in
-    let differs : difference_in c.deref-2.result.now c.deref-3.result.now c.deref-4.result.now ≡ difference_in c.in_ok-outcome.outcome.activities.items ls cs = λ i. difference_in (c.deref-2.ensures.value i) (c.deref-3.ensures.value i) (c.deref-4.ensures.value i) in
-    let some : divergence_of t (map list_shape ls) cs ≡ Some c.in-Some.name.now = divergence_is t c.in_ok-outcome.outcome ls cs outcome ∙ sym (c.in-Some.ensures ∙ differs) in
+    let differs : difference_in c.deref-2.result.now c.deref-3.result.now c.deref-4.result.now ≡ difference_in c.in_ok-end.end.outcome.activities.items ls cs = λ i. difference_in (c.deref-2.ensures.value i) (c.deref-3.ensures.value i) (c.deref-4.ensures.value i) in
+    let some : divergence_of t (map list_shape ls) cs ≡ Some c.in-Some.name.now = divergence_is t c.in_ok-end.end.outcome ls cs outcome ∙ sym (c.in-Some.ensures ∙ differs) in
     let d = diverges_where_first t (map list_shape ls) cs c.in-Some.name.now order some in
     (subst (IsLeastDiverging t (map list_shape ls) cs) (sym c.in_ok-copy-in-Some.ensures.name) d.0, d.1)

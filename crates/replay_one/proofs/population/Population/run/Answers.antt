@@ -1,4 +1,4 @@
-use Rattle.std.proofs.Common.{◌≡◌, ◌∙◌, ◌≤◌, ◌-◌, ℕ, Some, is_some, inl, sym, ap, refl, subst, min, arith}
+use Rattle.std.proofs.Common.{◌≡◌, ◌∙◌, ◌≤◌, ◌-◌, Some, is_some, inl, sym, ap, refl, min, arith}
 use Rattle.asp_model.specs.Configuration.{requests_of}
 use Rattle.actor.specs.declared.actor.Actor.{Actor}
 use Rattle.actor.specs.Running.{IsRunBy}

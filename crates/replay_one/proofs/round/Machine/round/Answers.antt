@@ -1,4 +1,4 @@
-use Rattle.std.proofs.Common.{◌≡◌, ◌≤◌, ◌<◌, ◌+◌, sym, subst, arith}
+use Rattle.std.proofs.Common.{◌≡◌, ◌≤◌, subst, arith}
 use Rattle.schedules.proofs.LeastLemmas.{none_is_ready}
 use Rattle.replay_one.specs.declared.bounds.Bounds.{Bounds}
 use Rattle.asp_model.specs.Names.{Name}

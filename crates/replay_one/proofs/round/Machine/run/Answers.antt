@@ -1,4 +1,4 @@
-use Rattle.std.proofs.Common.{◌≡◌, ◌≤◌, ◌<◌, ◌+◌, ◌-◌, zero, sym, subst, ap, ◌∙◌, arith}
+use Rattle.std.proofs.Common.{◌≡◌, ◌+◌, ◌-◌, zero, sym, subst, ap, ◌∙◌, arith}
 use Rattle.asp_model.specs.Replay.{steps_from}
 use Rattle.replay_one.specs.Bounds.{count_within, lists_within}
 use Rattle.replay_one.specs.Population.{IsReachedPopulation}

@@ -3,13 +3,12 @@ use Rattle.asp_model.specs.declared.name.FutureName.{FutureName}
 use Rattle.asp_model.specs.Names.{Name}
 use Rattle.asp_model.specs.Shapes.{future_shape}
 use Rattle.replay_one.specs.declared.bounds.Bounds.{Bounds}
-use Rattle.replay_one.specs.declared.population.Population.{Population}
 use Rattle.replay_one.specs.declared.schedule.Schedule.{Schedule}
 use Rattle.replay_one.specs.declared.round.Machine.{Machine}
 use Rattle.replay_one.specs.Bounds.{count_within, lists_within}
-use Rattle.replay_one.specs.Population.{IsGiving, IsReachedPopulation}
+use Rattle.replay_one.specs.Population.{IsGiving}
 use Rattle.replay_one.specs.Schedule.{IsNoted}
-use Rattle.replay_one.specs.Round.{CanStep, IsLook, IsRunBut}
+use Rattle.replay_one.specs.Round.{CanStep, IsLook}
 use Rattle.replay_one.proofs.RunLemmas.{awaits_round, but_reached, leaves_round, steps_round}
 use Rattle.replay_one.proofs.round.Machine.try_step.Goals as goal
 
