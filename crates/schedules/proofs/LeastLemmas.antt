@@ -14,6 +14,7 @@ use Rattle.asp_model.specs.Step.{ListsShape, step}
 use Rattle.asp_model.specs.Replay.{least_step}
 use Rattle.laws.specs.Reached.{IsReached, IsAt, IsThere}
 use Rattle.schedules.specs.Schedules.{RestsIn, WaitsFor, RestersLeave, NotesLeave, LeastSteps, NoneIsReady, MainIsReady}
+use Rattle.schedules.specs.Watches.{MainIsWatched}
 use Rattle.laws.proofs.NameLemmas.{name_total, name_case, names_apart, no_some, some_is, none_true, true_false}
 use Rattle.laws.proofs.EntryLemmas.{In, first_of_both, second_of_both, entry_found, found_entry}
 use Rattle.laws.proofs.NamesLaws.{entries_ascend}
@@ -130,3 +131,12 @@ main_is_ready program lists count ready noted main =
       rest = λ n there not. absurd (no n there not);
       waiting = λ n f a is below not w. absurd (no n (ap is_some is) not);
     }
+
+ready_there : {A : Type 0} (program : Tree) (n : Name) (ready : Name → Bool) → ready main_name ≡ true → ready n ≡ false → IsThere (start program) n → A
+ready_there program n ready main not there = absurd (true_false (ready n) (ap ready (only_main program n there) ∙ main) not)
+
+pub main_is_watched : MainIsWatched
+main_is_watched program count w ready main n not = record {
+  serving = λ a l is below st h. ready_there program n ready main not (ap is_some is);
+  sending = λ a e x is below intends sent. ready_there program n ready main not (ap is_some is);
+}

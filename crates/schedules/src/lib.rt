@@ -14,5 +14,6 @@ pub use effects::{
     others_receive_none, own_is_there, targets_receive,
 };
 pub use schedules::{
-    least_steps, main_is_ready, none_is_ready, notes_leave, resters_leave, woken_are_scheduled,
+    called_are_scheduled, least_steps, main_is_ready, main_is_watched, none_is_ready, notes_leave,
+    resters_leave, woken_are_scheduled,
 };

@@ -1,6 +1,7 @@
 //! Who steps next, where those who are not ready rest.
 
 ghost use Rattle.schedules.specs.Schedules.{LeastSteps, MainIsReady, NoneIsReady, NotesLeave, RestersLeave, WokenAreScheduled};
+ghost use Rattle.schedules.specs.Watches.{CalledAreScheduled, MainIsWatched};
 
 /// After a step, with those ready whom it wakes, who is not ready rests still.
 pub fn woken_are_scheduled()
@@ -30,4 +31,15 @@ pub fn none_is_ready()
 /// At the start main is ready.
 pub fn main_is_ready()
     ensures { MainIsReady }
+{}
+
+/// After a step, with those ready whom it is for, who is not ready rests still, and waits for what
+/// is noted.
+pub fn called_are_scheduled()
+    ensures { CalledAreScheduled }
+{}
+
+/// At the start main is ready.
+pub fn main_is_watched()
+    ensures { MainIsWatched }
 {}
