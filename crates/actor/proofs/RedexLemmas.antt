@@ -2,10 +2,11 @@
 use Rattle.std.proofs.Common.{◌≡◌, ◌∙◌, ℕ, zero, suc, length, List, [], ◌∷◌, Option, Some, None, refl, sym, ap, subst}
 use Rattle.asp_model.specs.Names.{Text}
 use Rattle.asp_model.specs.Term as term
-use Rattle.asp_model.specs.Term.{Head, Tree, none}
-use Rattle.asp_model.specs.Split.{Redex, Stands, split}
+use Rattle.asp_model.specs.Term.{Head, Tree, Trees, none, more}
+use Rattle.asp_model.specs.Split.{Redex, Split, Stands, split}
 use Rattle.asp_model.specs.Configuration.{Activity}
 use Rattle.laws.specs.Closed.{AreBelow, CellsBelow, IsClosedStore}
+use Rattle.laws.specs.Waking.{labels_at, labels_of_head, labels_wanted}
 use Rattle.asp_model.specs.Store as store
 use Rattle.asp_model.specs.Store.{CellShape, Store, cell, reached}
 use Rattle.asp_model.specs.Contraction.{Communication, LineShape, Creates, Sends, Serves, Communicates, Becomes, contract, members_at, members_of, strict_members, strict_operands}
@@ -27,7 +28,7 @@ use Rattle.coded_cells.specs.Shapes.{cell_of, class_object, store_of}
 use Rattle.activity_step.specs.declared.standing.Standing.{Standing}
 use Rattle.activity_step.specs.declared.standing.Standing.TheVariants as standing
 use Rattle.activity_step.specs.Standings.{IsAt, IsStandingAt}
-use Rattle.actor.specs.Asking.{IsPlaced, IsWithin, asked_in, class_in, labels_in, sent_to}
+use Rattle.actor.specs.Asking.{IsPlaced, IsWithin, asked_for, asked_in, class_in, labels_in, sent_to}
 use Rattle.actor.proofs.AskLemmas.{contract_asks}
 
 -- Operands
@@ -262,6 +263,41 @@ group_within s (n ∷ ns) h = cell_within (length s) s n h
 pub waited_within : (s : Store) (h : Head) (ns : List ℕ) → IsClosedStore s → AreBelow (length s) (strict_members s h ns)
 waited_within s term.WaitAll ns c = group_within s ns c
 waited_within s h ns c = tt
+
+-- The labels that are asked for
+
+serve_goes : (s : Store) (ls : List Text) (ns : List ℕ) (ts : Trees) (t : Tree) (u : Store) (added : List LineShape) → contract s (record { head = term.Serve ls; places = ns; behind = ts }) ≡ Becomes t u added → ⊥
+serve_goes s ls [] none t u added e = cc
+serve_goes s ls [] (more x xs) t u added e = cc
+serve_goes s ls (n ∷ ns) ts t u added e = cc
+
+free_asks : (h : Head) (ns : List ℕ) (ts : Trees) (c : CellShape) → ((s : Store) → (t : Tree) × (u : Store) × (added : List LineShape) × (contract s (record { head = h; places = ns; behind = ts }) ≡ Becomes t u added)) → labels_of_head h c ≡ []
+free_asks (term.Serve ls) ns ts c goes = let g = goes [] in absurd (serve_goes [] ls ns ts g.0 g.1 g.2 g.3)
+free_asks h ns ts c goes = refl
+
+asks_for : (r : Redex) (x : Told) (c : CellShape) → IsRedex r x → labels_of_head r.head c ≡ asked_for x c
+asks_for r redex.Goes c h = free_asks r.head r.places r.behind c h.goes
+asks_for r (redex.If i) c h = ap (λ (q : Redex). labels_of_head q.head c) h.2
+asks_for r (redex.Get i l) c h = ap (λ (q : Redex). labels_of_head q.head c) h
+asks_for r (redex.Put i l k) c h = ap (λ (q : Redex). labels_of_head q.head c) h
+asks_for r (redex.Call i l ks) c h = ap (λ (q : Redex). labels_of_head q.head c) h
+asks_for r (redex.Clone i) c h = ap (λ (q : Redex). labels_of_head q.head c) h
+asks_for r (redex.Active i l) c h = ap (λ (q : Redex). labels_of_head q.head c) h
+asks_for r (redex.Serve ls) c h = ap (λ (q : Redex). labels_of_head q.head c) h
+asks_for r (redex.Operate sign i k) c h = ap (λ (q : Redex). labels_of_head q.head c) h
+asks_for r (redex.Print i) c h = ap (λ (q : Redex). labels_of_head q.head c) h
+asks_for r (redex.Scatter i l k) c h = ap (λ (q : Redex). labels_of_head q.head c) h
+asks_for r (redex.Size i) c h = ap (λ (q : Redex). labels_of_head q.head c) h
+asks_for r (redex.Member i k) c h = ap (λ (q : Redex). labels_of_head q.head c) h
+asks_for r (redex.WaitAll i) c h = ap (λ (q : Redex). labels_of_head q.head c) h
+
+-- an activity at a redex asks for what that asks for
+pub wanted_at : (a : Activity) (x : Told) → IsAt a x → labels_wanted a ≡ asked_for x (cell a.store a.active)
+wanted_at a x h = ap (λ (q : Split). labels_at q (cell a.store a.active)) h.splits ∙ asks_for h.redex x (cell a.store a.active) h.is
+
+-- and none at a place
+pub wanted_none : (a : Activity) (p : ℕ) → split a.term ≡ Stands p → labels_wanted a ≡ []
+wanted_none a p e = ap (λ (q : Split). labels_at q (cell a.store a.active)) e
 
 -- The labels of methods
 

@@ -4,7 +4,9 @@ use Rattle.std.specs.Option.{option_map}
 use Rattle.std.specs.Borrow.{Bor}
 use Rattle.asp_model.specs.declared.word.Label.{Label}
 use Rattle.asp_model.specs.Names.{Text}
+use Rattle.asp_model.specs.Store.{CellShape}
 use Rattle.asp_model.specs.Contraction.{Communication, Creates, Sends, Serves}
+use Rattle.asp_model.specs.Intent.{labels_served}
 use Rattle.activity_rows.specs.declared.redex.Redex.{Redex}
 use Rattle.activity_rows.specs.declared.redex.Redex.TheVariants as redex
 use Rattle.program_code.specs.declared.code.Class.{Class}
@@ -70,3 +72,8 @@ communicates r = false
 abbrev pub class_in : List Node → CodedCell → Option Class
 class_in code (coded.Object k ns) = class_at code k
 class_in code c = None
+
+-- the labels that a redex asks for, where the active object is this cell
+abbrev pub asked_for : Redex → CellShape → List Text
+asked_for (redex.Serve ls) c = labels_served (map label_text ls.now) c
+asked_for x c = []

@@ -6,14 +6,17 @@ ghost use Rattle.asp_model.specs.Configuration as model;
 ghost use Rattle.asp_model.specs.Configuration.{RequestShape};
 ghost use Rattle.asp_model.specs.Intent.{labels_served, method_labels, oldest_match};
 ghost use Rattle.asp_model.specs.Store.{cell as cell_in};
+ghost use Rattle.laws.specs.Waking.{labels_wanted};
 ghost use Rattle.coded_cells.specs.Cells.{coded};
 ghost use Rattle.coded_cells.specs.Shapes.{cell_shape};
 ghost use Rattle.program_code.specs.Classes.{seen_class};
 ghost use Rattle.serve_rules.specs.Labels.{HaveSame, label_text};
 ghost use Rattle.actor.specs.Actors.{IsClosedFor, Stands};
-ghost use Rattle.actor.specs.Asking.{class_in};
+ghost use Rattle.actor.specs.Asking.{asked_for, class_in};
 
 use crate::actor::Actor;
+use activity_rows::Redex;
+use activity_step::Standing;
 use asp_model::Label;
 use coded_cells::Cell;
 use program_code::{Class, Code};
@@ -31,9 +34,45 @@ impl Actor {
         if self.queue.len() == 0 {
             return Ok(None);
         }
-        let active = self.activity.store().cell(self.activity.active());
-        let wanted = label_set(alloc, self.activity.code(), active, labels)?;
+        let wanted = self.served_by(alloc, labels)?;
         Ok(self.queue.first_of(&wanted))
+    }
+
+    /// The labels that the activity asks for where it stands, once it has settled: those of a
+    /// `serve`, and none elsewhere.
+    pub fn wanted(&self, alloc: Global) -> Result<LabelSet, AllocError>
+        requires closed { IsClosedFor self.now }
+        ensures labels { (a : model.Activity) (rs : List RequestShape) → Stands self.now a rs →
+            IfOk result (λ s. HaveSame s (labels_wanted a)) }
+    {
+        match self.activity.standing()? {
+            Standing::Place(_place) => LabelSet::of_labels(alloc, &[]),
+            Standing::Redex(redex) => self.asked_by(alloc, redex),
+        }
+    }
+
+    /// The labels that a redex asks for.
+    fn asked_by(&self, alloc: Global, redex: Redex) -> Result<LabelSet, AllocError>
+        requires closed { IsClosedFor self.now }
+        ensures labels { (a : model.Activity) (rs : List RequestShape) → Stands self.now a rs →
+            let active = cell_in a.store a.active in
+            IfOk result (λ s. HaveSame s (asked_for redex.entry active)) }
+    {
+        match redex {
+            Redex::Serve(labels) => self.served_by(alloc, labels),
+            _ => LabelSet::of_labels(alloc, &[]),
+        }
+    }
+
+    /// The labels that a `serve` with these labels asks for.
+    fn served_by(&self, alloc: Global, labels: &[Label]) -> Result<LabelSet, AllocError>
+        requires closed { IsClosedFor self.now }
+        ensures labels { (a : model.Activity) (rs : List RequestShape) → Stands self.now a rs →
+            let wanted = labels_served (map label_text labels.now) (cell_in a.store a.active) in
+            IfOk result (λ s. HaveSame s wanted) }
+    {
+        let active = self.activity.store().cell(self.activity.active());
+        label_set(alloc, self.activity.code(), active, labels)
     }
 }
 
