@@ -1,6 +1,5 @@
 -- Groups of calls, and their terms.
-use Rattle.std.proofs.Common.{◌≡◌, ℕ, zero, suc, ◌+◌, ◌-◌, ◌<◌, ◌≤◌, List, [], ◌∷◌, ◌++◌, length, map, take, drop, refl, sym, ap, subst, ◌∙◌, arith, append_assoc}
-use Rattle.std.proofs.lemmas.List.{append-nil, map-append}
+use Rattle.std.proofs.Common.{◌≡◌, ℕ, suc, ◌+◌, ◌<◌, ◌≤◌, List, [], ◌∷◌, ◌++◌, length, map, drop, refl, sym, ap, subst, ◌∙◌, arith, append_assoc}
 use Rattle.asp_model.specs.Names.{Text}
 use Rattle.asp_model.specs.Term.{Call, Group, Hole, Tree, Trees, leaf, loc, locs_then, more, node, none, trees}
 use Rattle.asp_model.specs.Split.{Context}
@@ -9,7 +8,7 @@ use Rattle.program_code.specs.Tables.{piece_at, pieces}
 use Rattle.code_laws.specs.Nodes.{in_place}
 use Rattle.machine_frames.specs.declared.calls.Round.{Round}
 use Rattle.machine_frames.specs.declared.frames.Spread.{Spread}
-use Rattle.machine_frames.specs.Calls.{IsCalled, IsCalling, IsDealt, IsLaid, IsRoundAt, beside_count, called_label, calls, calls_behind, round_in, rounds}
+use Rattle.machine_frames.specs.Calls.{IsCalling, IsDealt, IsLaid, IsRoundAt, beside_count, called_label, calls, round_in, rounds}
 use Rattle.machine_frames.specs.Stacks.{last}
 use Rattle.machine_frames.proofs.RoundLemmas.{length-own, next_round, round, round_found, rounds_over}
 use Rattle.machine_frames.proofs.StackLemmas.{last_seam}

@@ -1,7 +1,6 @@
 -- What decoded terms show.
 use Rattle.std.proofs.Common.{◌≡◌, ℕ, zero, suc, List, [], ◌∷◌, map, refl, sym, ap, subst, ◌∙◌}
-use Rattle.asp_model.specs.Term.{Call, Steps, Repeat, Tree, Trees, node, none, more, trees, loc, locs_then}
-use Rattle.asp_model.specs.Names.{Text}
+use Rattle.asp_model.specs.Term.{Steps, Repeat, Tree, none, more, trees, loc, locs_then}
 use Rattle.asp_model.specs.Split.{Context}
 use Rattle.program_code.specs.declared.code.Node.{Node}
 use Rattle.program_code.specs.Pieces.{Piece, variable, piece, object}

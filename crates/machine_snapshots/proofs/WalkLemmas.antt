@@ -1,5 +1,5 @@
 -- Walks down a stack.
-use Rattle.std.proofs.Common.{◌≡◌, ℕ, suc, ◌+◌, ◌<◌, arith, List, [], ◌∷◌, ◌++◌, Option, length, map, take, drop, reverse, refl, sym, ap, subst, ◌∙◌, append_assoc}
+use Rattle.std.proofs.Common.{◌≡◌, ℕ, ◌+◌, ◌<◌, arith, List, [], ◌∷◌, ◌++◌, Option, length, map, take, drop, reverse, refl, sym, ap, subst, ◌∙◌, append_assoc}
 use Rattle.std.proofs.lemmas.List.{append-nil, reverse-append, map-append, length-append}
 use Rattle.std.specs.Option.{option_map}
 use Rattle.asp_model.specs.declared.name.FutureName.{FutureName}

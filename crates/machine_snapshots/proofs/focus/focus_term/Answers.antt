@@ -1,7 +1,7 @@
-use Rattle.std.proofs.Common.{◌≡◌, ◌∙◌, List, ℕ, IfOk, drop, map, subst, sym, ap}
+use Rattle.std.proofs.Common.{◌≡◌, ◌∙◌, List, ℕ, drop, map, subst, sym, ap}
 use Rattle.asp_model.specs.declared.term.Term.{Term}
 use Rattle.asp_model.specs.Shapes.{tree_of}
-use Rattle.asp_model.specs.Term.{Call, node, trees, loc, Tree, Trees}
+use Rattle.asp_model.specs.Term.{Call, node, trees, loc}
 use Rattle.program_code.specs.Pieces.{Piece}
 use Rattle.program_code.specs.Tables.{piece_at, pieces}
 use Rattle.code_laws.specs.Nodes as nodes

@@ -1,12 +1,8 @@
-use Rattle.std.proofs.Common.{◌≡◌, IfOk, List, ℕ, drop, take, subst, sym}
-use Rattle.asp_model.specs.declared.term.Term.{Term}
-use Rattle.asp_model.specs.Shapes.{tree_of}
+use Rattle.std.proofs.Common.{List, ℕ, drop, take, subst, sym}
 use Rattle.machine_frames.specs.declared.frames.Form.{Form}
-use Rattle.machine_frames.specs.declared.frames.Form.TheVariants as form
 use Rattle.machine_frames.specs.Calls.{IsCalling}
 use Rattle.machine_frames.specs.Items.{Waits}
 use Rattle.machine_frames.specs.Stacks.{IsItem, last}
-use Rattle.machine_snapshots.specs.Shown.{hole_tree}
 use Rattle.machine_snapshots.proofs.frames.frame_term.Goals as goal
 
 pub returns-in-Terms : goal.returns-in-Terms

@@ -1,4 +1,4 @@
-use Rattle.std.proofs.Common.{◌≡◌, ◌∷◌, ◌++◌, [], ◌<◌, ◌≤◌, List, ℕ, ap, arith, length, map}
+use Rattle.std.proofs.Common.{◌≡◌, ◌<◌, ◌≤◌, List, ap, arith, length, map}
 use Rattle.asp_model.specs.Shapes.{tree_of}
 use Rattle.machine_frames.specs.declared.frames.Frame.{Frame}
 use Rattle.machine_snapshots.proofs.WalkLemmas.{fewer, segment_step}

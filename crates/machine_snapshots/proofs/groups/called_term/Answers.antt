@@ -1,23 +1,23 @@
-use Rattle.std.proofs.Common.{◌≡◌, List, ℕ, sym, ap, subst, ◌∙◌}
+use Rattle.std.proofs.Common.{◌≡◌, List, map, sym, ap, subst, ◌∙◌}
 use Rattle.asp_model.specs.declared.term.Term.{Term}
 use Rattle.asp_model.specs.Names.{Text}
 use Rattle.asp_model.specs.Shapes.{tree_of}
 use Rattle.asp_model.specs.Term.{Call, loc, locs_then, node, none, trees}
 use Rattle.program_code.specs.declared.code.Node.{Node}
+use Rattle.program_code.specs.Sound.{IsSound}
 use Rattle.program_code.specs.Tables.{node_piece, piece_at, pieces}
 use Rattle.code_decoder.proofs.BehindLemmas.{if_ok}
 use Rattle.machine_frames.specs.Calls.{called_label}
 use Rattle.machine_snapshots.proofs.TermLemmas.{locs_alone}
 use Rattle.machine_snapshots.proofs.groups.called_term.Goals as goal
-use Rattle.std.proofs.Common.{map}
 
 pub returns : goal.returns
 returns c = record {
   term = λ t x.
       let k : List Node = c.args.code.now in
-      let m : List Node = c.nodes-nodes.result.now in
-      let here : piece_at (pieces m) c.args.number ≡ node_piece (pieces m) c.in-Some.node.now = c.in-Some.ensures.piece c.nodes-nodes.ensures.sound in
-      let is : piece_at (pieces k) c.args.number ≡ node_piece (pieces k) c.in-Some.node.now = subst (λ (q : List Node). piece_at (pieces q) c.args.number ≡ node_piece (pieces q) c.in-Some.node.now) c.nodes-nodes.ensures.nodes here in
+      let e : c.nodes-nodes.result.now ≡ k = c.nodes-nodes.ensures.nodes in
+      let is : piece_at (pieces k) c.args.number ≡ node_piece (pieces k) c.in-Some.node.now =
+      subst (λ (q : List Node). IsSound q → piece_at (pieces q) c.args.number ≡ node_piece (pieces q) c.in-Some.node.now) e c.in-Some.ensures.piece c.nodes-nodes.ensures.sound in
       let label : called_label (piece_at (pieces k) c.args.number) ≡ c.in-Some-call_label.label.now.text = ap called_label is ∙ c.in-Some-call_label.ensures.label (pieces k) in
       let l : Text = c.in-Some-call_label.label.now.text in
       if_ok c.call_of.result (λ (r : Term). tree_of r ≡ node (Call l) (trees (map loc c.args.own.now))) (λ (r : Term). tree_of r ≡ t)

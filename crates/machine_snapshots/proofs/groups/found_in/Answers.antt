@@ -1,6 +1,6 @@
-use Rattle.std.proofs.Common.{◌≡◌, ◌+◌, ℕ, List, length, sym, ap, subst, ◌∙◌, arith}
+use Rattle.std.proofs.Common.{◌≡◌, ◌+◌, List, length, sym, ap, subst, ◌∙◌, arith}
 use Rattle.program_code.specs.declared.code.Node.{Node}
-use Rattle.program_code.specs.Pieces.{Piece}
+use Rattle.program_code.specs.Sound.{IsSound}
 use Rattle.program_code.specs.Tables.{node_piece, piece_at, pieces}
 use Rattle.code_laws.specs.Nodes.{in_place}
 use Rattle.machine_frames.specs.Calls.{beside_count, called_label}
@@ -10,11 +10,11 @@ use Rattle.machine_snapshots.proofs.groups.found_in.Goals as goal
 pub returns : goal.returns
 returns c =
     let k : List Node = c.args.code.now in
-    let m : List Node = c.nodes-nodes.result.now in
-    let here : piece_at (pieces m) c.args.number ≡ node_piece (pieces m) c.in-Some.node.now = c.in-Some.ensures.piece c.nodes-nodes.ensures.sound in
-    let is : piece_at (pieces k) c.args.number ≡ node_piece (pieces k) c.in-Some.node.now = subst (λ (q : List Node). piece_at (pieces q) c.args.number ≡ node_piece (pieces q) c.in-Some.node.now) c.nodes-nodes.ensures.nodes here in
+    let e : c.nodes-nodes.result.now ≡ k = c.nodes-nodes.ensures.nodes in
+    let is : piece_at (pieces k) c.args.number ≡ node_piece (pieces k) c.in-Some.node.now =
+    subst (λ (q : List Node). IsSound q → piece_at (pieces q) c.args.number ≡ node_piece (pieces q) c.in-Some.node.now) e c.in-Some.ensures.piece c.nodes-nodes.ensures.sound in
     let given : c.in_place_count-given.result ≡ in_place (piece_at (pieces k) c.args.number) = c.in_place_count-given.ensures.count (pieces k) ∙ ap in_place (sym is) in
-    let all : length c.args.own.now ≡ in_place (piece_at (pieces k) c.args.number) + c.args.members + beside_count c.args.spread c.args.members + c.in-Some-results_in.count = omega (arith, given, c.in-Some-results_in.ensures.results, c.len.ensures) in
+    let all : length c.args.own.now ≡ in_place (piece_at (pieces k) c.args.number) + c.args.members + beside_count c.args.spread c.args.members + c.in-Some-results_in.count = omega (arith, given, c.in-Some-results_in.ensures.results) in
     record {
       label = ap called_label is ∙ c.in-Some-call_label.ensures.label (pieces k);
       given = given;

@@ -1,4 +1,4 @@
-use Rattle.std.proofs.Common.{◌≡◌, ◌∙◌, [], List, ap, map, subst}
+use Rattle.std.proofs.Common.{◌∙◌, List, ap, map, subst}
 use Rattle.asp_model.specs.Shapes.{tree_of}
 use Rattle.asp_model.specs.Term.{Tree}
 use Rattle.machine_snapshots.specs.declared.shown.Suspended.{Suspended}

@@ -2,12 +2,11 @@ use Rattle.std.proofs.Common.{◌≡◌, ◌∙◌, ◌∷◌, ◌++◌, [], Lis
 use Rattle.std.specs.Option.{option_map}
 use Rattle.asp_model.specs.declared.name.FutureName.{FutureName}
 use Rattle.asp_model.specs.Configuration.{ServiceShape}
-use Rattle.asp_model.specs.Names.{FutureShape}
 use Rattle.asp_model.specs.Shapes.{future_shape, tree_of}
 use Rattle.asp_model.specs.Term.{Tree}
 use Rattle.program_code.specs.declared.code.Node.{Node}
 use Rattle.machine_frames.specs.declared.frames.Frame.{Frame}
-use Rattle.machine_frames.specs.Items.{Item, contexts_of, futures_of, services_of}
+use Rattle.machine_frames.specs.Items.{Item, contexts_of, futures_of}
 use Rattle.machine_frames.specs.Stacks.{IsStack, but_last}
 use Rattle.machine_frames.specs.Standing.{taken}
 use Rattle.machine_snapshots.specs.Shown.{IsSegment, hole_tree, service_terms}
