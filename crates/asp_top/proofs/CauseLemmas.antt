@@ -1,7 +1,7 @@
 -- The causes of single statuses.
 use Rattle.std.proofs.Common.{◌≡◌, ℕ, List, None, false, refl, sym, subst, ◌∙◌, ◌⊎◌, inl, inr}
 use Rattle.std.specs.Prelude.{nat_eq}
-use Rattle.command_line.specs.Task.{TaskShape, task_of}
+use Rattle.command_line.specs.Task.{task_of}
 use Rattle.asp_top.specs.Seen.{Call, Rises}
 use Rattle.asp_top.specs.Correct.{IsReported}
 use Rattle.asp_top.specs.Refusals.{Refusal, Usage, Unread, LongProgram, NoProgram, Unchecked, LongReport, NoReport, Diverges, NoMemory, status_of_refusal}

@@ -1,5 +1,5 @@
 -- How a call ends, from what was told.
-use Rattle.std.proofs.Common.{ℕ, List, sym, subst, inl, inr, refl}
+use Rattle.std.proofs.Common.{ℕ, sym, subst, inl, inr, refl}
 use Rattle.asp_top.specs.declared.prepare.Prepared.{Prepared}
 use Rattle.asp_top.specs.Seen.{Call, IsUntouched}
 use Rattle.asp_top.specs.Refusals.{Refusal, NoMemory}

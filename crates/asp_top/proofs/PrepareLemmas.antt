@@ -1,5 +1,5 @@
 -- From the causes of single functions to those of a task.
-use Rattle.std.proofs.Common.{◌≡◌, ℕ, ◌≤◌, ◌^◌, List, Option, Some, true, map, Result, Ok, Err, refl, subst}
+use Rattle.std.proofs.Common.{◌≡◌, ℕ, ◌≤◌, List, Option, Some, true, map, Result, Ok, Err, refl, subst}
 use Rattle.std.specs.Prelude.{IfErr}
 use Rattle.std.specs.FinMap.{is_sorted}
 use Rattle.std.specs.declared.alloc.Global.{Global}

@@ -32,7 +32,7 @@ fn run_words<S: Source, O: Sink, E: Sink>(
 /// Runs the command that the words give, and writes its text, one write for each line. `asp FILE`
 /// runs the program in a file and writes its report, `asp FILE --replay REPORT` replays a report of
 /// it, `asp FILE --check` reads and checks it, and `asp --make N` runs the generated program of N
-/// pairs and writes a summary. The words come first, then the program's file, the reading, the
+/// pairs and writes a summary. With `--state D` a report shows the states of its activities. The words come first, then the program's file, the reading, the
 /// check, the report's file, the run or the replay, and the writing; the first refusal in this order
 /// ends the call. All lines are made before the first is written.
 pub fn run_asp<R: AllocGlobal, S: Source, O: Sink, E: Sink>(
