@@ -1,0 +1,4 @@
+-- in reading order
+pub mod Numbers
+pub mod Waiting
+pub mod Ranks
