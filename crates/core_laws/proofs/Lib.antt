@@ -1,0 +1,3 @@
+pub mod LocalLemmas
+pub mod NewcomerLemmas
+pub mod CommitLemmas

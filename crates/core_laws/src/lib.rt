@@ -1,0 +1,7 @@
+//! Laws of cores over the definitions of journals. Each law is the contract of a function that does
+//! nothing.
+#![tactic(auto)]
+
+mod commits;
+
+pub use commits::{acts_are_commits, runs_are_commits};

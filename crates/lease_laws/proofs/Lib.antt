@@ -1,0 +1,4 @@
+pub mod NameListLemmas
+pub mod NumberLemmas
+pub mod EntryLemmas
+pub mod LeaseLemmas

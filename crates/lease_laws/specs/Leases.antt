@@ -1,0 +1,46 @@
+-- Leases in a journal: since when an activity is out, and what becomes of it.
+use Rattle.std.specs.Prelude.{◌≡◌, ℕ, suc, ◌==◌, ◌&&◌, not, Bool, true, List, [], ◌∷◌, ◌++◌, Some}
+use Rattle.std.specs.FinMap.{find}
+use Rattle.asp_model.specs.Names.{Name, name_cmp}
+use Rattle.asp_model.specs.Term.{Tree}
+use Rattle.asp_model.specs.Configuration.{RequestShape, requests_of}
+use Rattle.asp_model.specs.Step.{name_at}
+use Rattle.asp_model.specs.History.{EntryShape, Lent, Committed, Delivered}
+use Rattle.journals.specs.Journals.{RunShape, grant_of, granted, run_of}
+
+-- no entry brings the activity of this number back
+abbrev pub stays_out : ℕ → List EntryShape → Bool
+stays_out k [] = true
+stays_out k (Lent j ∷ xs) = stays_out k xs
+stays_out k (Committed j r ∷ xs) = not (k == j) && stays_out k xs
+stays_out k (Delivered d ∷ xs) = stays_out k xs
+
+-- how many leases there were
+abbrev pub bursts_in : List EntryShape → ℕ
+bursts_in [] = 0
+bursts_in (Lent j ∷ xs) = suc (bursts_in xs)
+bursts_in (Committed j r ∷ xs) = bursts_in xs
+bursts_in (Delivered d ∷ xs) = bursts_in xs
+
+-- the activity of a number is out with this burst, and was lent in this run
+pub record IsLentAt (program : Tree) (budget : ℕ) (entries : List EntryShape) (k burst : ℕ) (s : RunShape) : Type 0 where
+  pub before : List EntryShape
+  pub after : List EntryShape
+  pub is : entries ≡ before ++ Lent k ∷ after
+  pub stays : stays_out k after ≡ true
+  pub burst : burst ≡ suc (bursts_in before)
+  pub run : run_of program budget before ≡ Some s
+
+-- it is as it was, and has received some requests more
+pub record IsOutSince (s t : RunShape) (k : ℕ) (n : Name) : Type 0 where
+  pub named : name_at t.names k ≡ Some n
+  pub there : find name_cmp n t.configuration.activities ≡ find name_cmp n s.configuration.activities
+  pub more : List RequestShape
+  pub received : requests_of t.configuration n ≡ requests_of s.configuration n ++ more
+  pub out : grant_of k t.out ≡ Some (granted s)
+
+-- while an activity is out, it stays as it was lent, and only receives
+abbrev pub LeasesStay : Type 0
+LeasesStay = (program : Tree) (budget : ℕ) (entries : List EntryShape) (k burst : ℕ) (n : Name) (s t : RunShape)
+    → IsLentAt program budget entries k burst s → name_at s.names k ≡ Some n
+    → run_of program budget entries ≡ Some t → IsOutSince s t k n

@@ -1,0 +1,4 @@
+-- in reading order
+pub mod Numbered
+pub mod Leases
+pub mod Entries
