@@ -1,21 +1,15 @@
 -- Commits are entries.
-use Rattle.std.proofs.Common.{◌≡◌, ◌+◌, ◌-◌, ◌≤◌, ℕ, zero, suc, Bool, true, false, List, [], ◌++◌, Option, Some, None, refl, sym, ap, subst, ◌∙◌, arith, nat_le}
+use Rattle.std.proofs.Common.{◌≡◌, ◌+◌, ◌-◌, ◌≤◌, ℕ, suc, true, false, Option, Some, None, sym, ap, ◌∙◌, arith}
 use Rattle.std.proofs.lemmas.Bool.{le-leb}
-use Rattle.std.specs.FinMap.{find}
-use Rattle.asp_model.specs.Names.{Name, name_cmp}
-use Rattle.asp_model.specs.Configuration.{Activity, Configuration}
-use Rattle.asp_model.specs.Intent.{Effect, Acts}
-use Rattle.asp_model.specs.Step.{intent_in, step, with_effect}
-use Rattle.asp_model.specs.History.{Committed}
-use Rattle.journals.specs.Journals.{RunShape, back, committed, entered, newcomers, reduced}
-use Rattle.laws.specs.Reached.{IsAt}
+use Rattle.asp_model.specs.Names.{Name}
+use Rattle.asp_model.specs.Configuration.{Configuration}
+use Rattle.asp_model.specs.Step.{step, with_effect}
+use Rattle.journals.specs.Journals.{RunShape, back, committed, newcomers, reduced}
 use Rattle.laws.specs.Sound.{IsSound}
 use Rattle.laws.proofs.FrameLemmas.{effects_on}
 use Rattle.laws.proofs.LinkedLemmas.{step_on}
-use Rattle.laws.proofs.MapLemmas.{find_other}
-use Rattle.laws.proofs.NameLemmas.{name_total, name_same}
 use Rattle.laws.proofs.WholeLemmas.{right_of}
-use Rattle.core_laws.specs.Commits.{ActsAreCommits, HasRun, RunsAreCommits, made_by, returned, with_activity}
+use Rattle.core_laws.specs.Commits.{ActsAreCommits, RunsAreCommits, returned, with_activity}
 use Rattle.core_laws.proofs.LocalLemmas.{run_reduced, run_sound}
 use Rattle.core_laws.proofs.NewcomerLemmas.{absent_before, made_is_new, no_newcomer}
 

@@ -12,8 +12,8 @@ use Rattle.asp_model.specs.Store.{Store, CellShape, cell}
 use Rattle.asp_model.specs.Contraction.{Contraction, LineShape, Becomes, Needs, contract, first_future, is_future, row, strict_members, strict_operands}
 use Rattle.asp_model.specs.Chase.{Chase, chase}
 use Rattle.asp_model.specs.Configuration.{Activity, Configuration, RequestShape, requests_of}
-use Rattle.asp_model.specs.Intent.{Acts, Awaits, Done, Effect, Intent, Ready, Reads, Rests, Lacks, alone, contracts, ends_service, intent, newest, operand_ready, operands_ready, redex_ready}
-use Rattle.asp_model.specs.Step.{intent_in, step, with_effect}
+use Rattle.asp_model.specs.Intent.{Acts, Awaits, Done, Effect, Reads, Rests, Lacks, alone, contracts, ends_service, intent, newest, operand_ready, operands_ready, redex_ready}
+use Rattle.asp_model.specs.Step.{intent_in, step}
 use Rattle.journals.specs.Communications.{communicates_next, is_asking, is_communication}
 use Rattle.journals.specs.Journals.{reduced}
 use Rattle.laws.specs.Reached.{IsAt, Steps}

@@ -1,12 +1,12 @@
 -- Names by their numbers in a list.
-use Rattle.std.proofs.Common.{◌≡◌, ◌≢◌, ◌+◌, ◌++◌, ◌∷◌, [], ℕ, zero, suc, Bool, true, false, cond, T, List, Option, Some, None, length, map, refl, sym, ap, subst, ◌∙◌, ◌⊎◌, inl, inr, ⊎_elim, arith}
+use Rattle.std.proofs.Common.{◌≡◌, ◌++◌, ◌∷◌, [], ℕ, zero, suc, Bool, true, false, cond, T, List, Option, Some, None, map, refl, sym, ap, subst, ◌∙◌, ◌⊎◌, inl, inr, ⊎_elim}
 use Rattle.std.specs.FinMap.{is_sorted}
 use Rattle.std.specs.List.{filter}
 use Rattle.asp_model.specs.Names.{Name, name_cmp, same_name}
 use Rattle.asp_model.specs.Step.{name_at}
 use Rattle.journals.specs.Journals.{number_of}
 use Rattle.laws.proofs.EntryLemmas.{In, below_apart, first_of_both, second_of_both}
-use Rattle.laws.proofs.NameLemmas.{name_itself, names_tied, no_some, some_is, none_true}
+use Rattle.laws.proofs.NameLemmas.{name_itself, names_tied, no_some, some_is}
 
 -- who has a number stands in the list
 pub numbered_in : (ns : List Name) (k : ℕ) (n : Name) → name_at ns k ≡ Some n → In n ns
@@ -116,8 +116,8 @@ one_later o = elim o [ None ↦ None | Some k ↦ Some (suc k) ]
 pub numbered_so : (ns : List Name) → AreApart ns → (k : ℕ) (n : Name) → name_at ns k ≡ Some n → number_of n ns ≡ Some k
 numbered_so [] a k n h = no_some h
 numbered_so (m ∷ ns) a zero n h = ap (λ b. elim b [ true ↦ Some 0 | false ↦ one_later (number_of n ns) ]) (ap (same_name n) (some_is h) ∙ name_itself n)
-numbered_so (m ∷ ns) a (suc k) n h = by (same_name n m) refl
+numbered_so (m ∷ ns) a (suc k) n h = by (same_name n m) refl (numbered_so ns a.1 k n h)
   where
-    by : (b : Bool) → same_name n m ≡ b → elim b [ true ↦ Some 0 | false ↦ one_later (number_of n ns) ] ≡ Some (suc k)
-    by true e = absurd (a.0 (subst (λ q. In q ns) (names_tied n m e) (numbered_in ns k n h)))
-    by false e = ap one_later (numbered_so ns a.1 k n h)
+    by : (b : Bool) → same_name n m ≡ b → number_of n ns ≡ Some k → elim b [ true ↦ Some 0 | false ↦ one_later (number_of n ns) ] ≡ Some (suc k)
+    by true e rest = absurd (a.0 (subst (λ q. In q ns) (names_tied n m e) (numbered_in ns k n h)))
+    by false e rest = ap one_later rest

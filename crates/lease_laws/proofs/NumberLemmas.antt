@@ -1,20 +1,21 @@
 -- Entries keep the numbers of activities.
-use Rattle.std.proofs.Common.{◌≡◌, ◌∷◌, ◌++◌, [], ℕ, true, false, Bool, List, Option, Some, None, is_none, is_some, map, refl, sym, ap, subst, ◌∙◌, inl, inr, ⊎_elim, ◌⊎◌}
+use Rattle.std.proofs.Common.{◌≡◌, ◌∷◌, ◌++◌, [], ℕ, suc, arith, true, false, Bool, cond, List, Option, Some, None, is_none, is_some, map, refl, sym, ap, subst, ◌∙◌, inl, ⊎_elim}
 use Rattle.std.specs.FinMap.{find}
-use Rattle.asp_model.specs.Names.{Name, name_cmp, main_name}
+use Rattle.asp_model.specs.Names.{Name, name_cmp, main_name, same_name}
 use Rattle.asp_model.specs.Configuration.{Activity, Configuration}
+use Rattle.asp_model.specs.Configuration.{begun as begins}
+use Rattle.asp_model.specs.Term.{Tree}
 use Rattle.asp_model.specs.Step.{name_at}
-use Rattle.asp_model.specs.History.{DeliveryShape, Edge, Need, EntryShape, Lent, Committed, Delivered}
-use Rattle.asp_model.specs.Store.{Store}
-use Rattle.journals.specs.Deliveries.{with_store}
-use Rattle.journals.specs.Journals.{RunShape, all_entered, begun, entered, newcomers, run_of}
+use Rattle.asp_model.specs.History.{Edge, Need, EntryShape, Lent, Committed, Delivered}
+use Rattle.asp_model.specs.Store.{Object}
+use Rattle.journals.specs.Journals.{RunShape, all_entered, begun, newcomers}
 use Rattle.journal_laws.proofs.GrowLemmas.{Grows, grows_itself, grows_then, move_grows}
 use Rattle.journal_laws.proofs.JournalLemmas.{Done, entry_done, entry_keeps, first_entered, reduced_keeps}
-use Rattle.laws.specs.Reached.{IsAt, IsThere, Makes, Move}
+use Rattle.laws.specs.Reached.{IsThere, Makes, Move}
 use Rattle.laws.specs.Sound.{IsSound}
 use Rattle.laws.proofs.DeliveryLemmas.{edge_done, need_done, same_there}
 use Rattle.laws.proofs.EntryLemmas.{In, entry_found, found_entry}
-use Rattle.laws.proofs.NameLemmas.{is_there, no_some, none_true, some_is, true_false}
+use Rattle.laws.proofs.NameLemmas.{is_there, name_itself, names_tied, none_true, some_is}
 use Rattle.laws.proofs.WholeLemmas.{moves_keep_sound, start_is_sound}
 use Rattle.lease_laws.specs.Numbered.{AreNumbered, EntriesKeepNumbers, JournalsAreNumbered}
 use Rattle.lease_laws.proofs.NameListLemmas.{AreApart, apart_both, apart_passed, entry_of, in_back, in_both, in_front, in_numbered, in_passed, name_in, names_apart_in, numbered_in, one_number, passed_in}
@@ -125,8 +126,21 @@ entries_named (x ∷ entries) s t e sound h =
     let done = entry_done x s u.0 u.1 in
     entries_named entries u.0 t u.2 (entry_keeps IsSound moves_keep_sound x s u.0 done sound) (entry_named x s u.0 done sound h)
 
-pub begun_named : (program : _) (budget : ℕ) → AreNamed (begun program budget)
-begun_named program budget = record { apart = (λ i. i, tt); there = λ n i. ?; named = λ n t. ? }
+only_main : (n : Name) (a : Activity) → is_some (find name_cmp n ((main_name, a) ∷ [])) ≡ true → n ≡ main_name
+only_main n a t = by (same_name n main_name) refl t
+  where
+    by : (b : Bool) → same_name n main_name ≡ b → is_some (cond b (Some a) None) ≡ true → n ≡ main_name
+    by true e h = names_tied n main_name e
+    by false e h = none_true h
+
+pub begun_named : (program : Tree) (budget : ℕ) → AreNamed (begun program budget)
+begun_named program budget =
+    let main : Activity = begins program (Object [] [] ∷ []) in
+    record {
+      apart = (λ i. i, tt);
+      there = λ n i. ⊎_elim (λ e. ap (λ m. is_some (find name_cmp m ((main_name, main) ∷ []))) e ∙ ap (λ b. is_some (cond b (Some main) None)) (name_itself main_name)) (λ j. absurd j) i;
+      named = λ n t. inl (only_main n main t);
+    }
 
 pub entries_keep_numbers : EntriesKeepNumbers
 entries_keep_numbers entries s t e sound h = numbered_by t (entries_named entries s t e sound (named_by s h))

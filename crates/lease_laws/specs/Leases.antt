@@ -1,5 +1,5 @@
 -- Leases in a journal: since when an activity is out, and what becomes of it.
-use Rattle.std.specs.Prelude.{◌≡◌, ℕ, suc, ◌==◌, ◌&&◌, not, Bool, true, List, [], ◌∷◌, ◌++◌, Some}
+use Rattle.std.specs.Prelude.{◌≡◌, ℕ, suc, ◌==◌, ◌&&◌, not, Bool, true, List, false, [], ◌∷◌, ◌++◌, Option, Some, None}
 use Rattle.std.specs.FinMap.{find}
 use Rattle.asp_model.specs.Names.{Name, name_cmp}
 use Rattle.asp_model.specs.Term.{Tree}
@@ -8,10 +8,10 @@ use Rattle.asp_model.specs.Step.{name_at}
 use Rattle.asp_model.specs.History.{EntryShape, Lent, Committed, Delivered}
 use Rattle.journals.specs.Journals.{RunShape, grant_of, granted, run_of}
 
--- no entry brings the activity of this number back
+-- no entry lends the activity of this number, or brings it back
 abbrev pub stays_out : ℕ → List EntryShape → Bool
 stays_out k [] = true
-stays_out k (Lent j ∷ xs) = stays_out k xs
+stays_out k (Lent j ∷ xs) = not (k == j) && stays_out k xs
 stays_out k (Committed j r ∷ xs) = not (k == j) && stays_out k xs
 stays_out k (Delivered d ∷ xs) = stays_out k xs
 
@@ -22,14 +22,24 @@ bursts_in (Lent j ∷ xs) = suc (bursts_in xs)
 bursts_in (Committed j r ∷ xs) = bursts_in xs
 bursts_in (Delivered d ∷ xs) = bursts_in xs
 
--- the activity of a number is out with this burst, and was lent in this run
-pub record IsLentAt (program : Tree) (budget : ℕ) (entries : List EntryShape) (k burst : ℕ) (s : RunShape) : Type 0 where
+-- the activity of a number is out with the burst of that number, and was lent in this run
+pub record IsLentAt (program : Tree) (budget : ℕ) (entries : List EntryShape) (k number : ℕ) (s : RunShape) : Type 0 where
   pub before : List EntryShape
   pub after : List EntryShape
   pub is : entries ≡ before ++ Lent k ∷ after
   pub stays : stays_out k after ≡ true
-  pub burst : burst ≡ suc (bursts_in before)
+  pub burst : number ≡ suc (bursts_in before)
   pub run : run_of program budget before ≡ Some s
+
+-- the burst with which the activity of a number is out: by how many leases there were before, and the burst so far
+abbrev pub burst_from : ℕ → ℕ → Option ℕ → List EntryShape → Option ℕ
+burst_from k count burst [] = burst
+burst_from k count burst (Lent j ∷ xs) = burst_from k (suc count) (elim (k == j) [ true ↦ Some (suc count) | false ↦ burst ]) xs
+burst_from k count burst (Committed j r ∷ xs) = burst_from k count (elim (k == j) [ true ↦ None | false ↦ burst ]) xs
+burst_from k count burst (Delivered d ∷ xs) = burst_from k count burst xs
+
+abbrev pub burst_out : ℕ → List EntryShape → Option ℕ
+burst_out k = burst_from k 0 None
 
 -- it is as it was, and has received some requests more
 pub record IsOutSince (s t : RunShape) (k : ℕ) (n : Name) : Type 0 where
@@ -44,3 +54,15 @@ abbrev pub LeasesStay : Type 0
 LeasesStay = (program : Tree) (budget : ℕ) (entries : List EntryShape) (k burst : ℕ) (n : Name) (s t : RunShape)
     → IsLentAt program budget entries k burst s → name_at s.names k ≡ Some n
     → run_of program budget entries ≡ Some t → IsOutSince s t k n
+
+-- and is out with that burst, from one run alone
+abbrev pub LeasesAreOne : Type 0
+LeasesAreOne = (program : Tree) (budget : ℕ) (entries : List EntryShape) (k number other : ℕ) (s t : RunShape)
+    → IsLentAt program budget entries k number s → IsLentAt program budget entries k other t
+    → (burst_out k entries ≡ Some number) × (number ≡ other) × (s ≡ t)
+
+-- a lease of a journal is one of a longer journal by which its burst is out still
+abbrev pub LeasesGoOn : Type 0
+LeasesGoOn = (program : Tree) (budget : ℕ) (entries rest : List EntryShape) (k number : ℕ) (s : RunShape)
+    → IsLentAt program budget entries k number s → burst_out k (entries ++ rest) ≡ Some number
+    → IsLentAt program budget (entries ++ rest) k number s

@@ -2,3 +2,4 @@
 pub mod Numbered
 pub mod Leases
 pub mod Entries
+pub mod Growing

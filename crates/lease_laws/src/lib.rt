@@ -3,9 +3,11 @@
 #![tactic(auto)]
 
 mod entries;
+mod growing;
 mod leases;
 mod numbered;
 
 pub use entries::{edges_are_entered, lends_are_entered, needs_are_entered};
-pub use leases::leases_stay;
+pub use growing::{entries_go_on, holders_go_on};
+pub use leases::{leases_are_one, leases_go_on, leases_stay};
 pub use numbered::{entries_keep_numbers, journals_are_numbered};
