@@ -2,7 +2,8 @@
 
 ghost use Rattle.lease_laws.specs.Numbered.{EntriesKeepNumbers, JournalsAreNumbered};
 
-/// In the run of a lawful journal each activity that is there has one number, and nobody else has one.
+/// In the run of a lawful journal each activity that is there has one number, and nobody else has
+/// one.
 pub fn journals_are_numbered()
     ensures { JournalsAreNumbered }
 {}

@@ -1,0 +1,8 @@
+//! Activities by numbers from 0, each with its name: here, or with a worker.
+#![tactic(auto)]
+
+mod seat;
+mod seats;
+
+pub use seat::Seat;
+pub use seats::Seats;

@@ -1,0 +1,153 @@
+//! The seats of all activities.
+
+ghost use Rattle.std.specs.Prelude.{◌≡◌, ◌++◌, ◌∷◌, [], IfOk, IfSome, None, OnErr, OnOk, Some};
+ghost use Rattle.std.specs.Prelude.{false, length, slice_get};
+ghost use Rattle.activity_seats.specs.Seats.{
+  AreSeats,
+  In,
+  IsFound,
+  IsKnown,
+  IsOut,
+  IsTaken,
+  Out,
+  is_in,
+  names_in,
+  seat_at,
+  seat_shape,
+  seats_in,
+  with_seat,
+};
+
+use crate::seat::Seat;
+use asp_model::ActivityName;
+use indexmap::IndexSet;
+use std::alloc::{AllocError, Global};
+use std::mem;
+
+/// Activities under numbers from 0, in the order in which they were added.
+#[derive(Drop)]
+pub struct Seats<X, R> {
+    alloc: Global,
+    names: IndexSet<ActivityName>,
+    seats: Vec<Seat<X, R>>,
+}
+
+impl<X: Drop, R: Drop> Seats<X, R> {
+    /// No activity.
+    pub fn new(alloc: Global) -> Seats<X, R>
+        ensures names { names_in result ≡ [] }
+        ensures seats { seats_in result ≡ [] }
+        ensures kept { AreSeats result }
+    {
+        Seats {
+            alloc,
+            names: IndexSet::new(alloc),
+            seats: Vec::new(alloc),
+        }
+    }
+
+    /// How many activities there are.
+    pub fn len(&self) -> usize
+        ensures len { result ≡ length (seats_in self.now) }
+    {
+        self.seats.len()
+    }
+
+    /// The name of an activity.
+    pub fn name(&self, number: u32) -> &ActivityName
+        requires kept { AreSeats self.now }
+        requires known { IsKnown number self.now }
+        ensures name { slice_get (names_in self.now) number ≡ Some result.now }
+    {
+        &self.names.as_slice()[number as usize]
+    }
+
+    /// The number of a name, if an activity has it.
+    pub fn number_of(&self, name: &ActivityName) -> Option<u32>
+        requires kept { AreSeats self.now }
+        ensures found { IsFound (names_in self.now) name.now result }
+        ensures known { IfSome result (λ k. IsKnown k self.now) }
+    {
+        match self.names.get_index_of(name) {
+            Some(number) => Some(number as u32),
+            None => None,
+        }
+    }
+
+    /// An activity that is here, under the next number.
+    pub fn add(&mut self, name: ActivityName, here: X) -> Result<u32, AllocError>
+        requires kept { AreSeats self.old }
+        requires new { IsFound (names_in self.old) name None }
+        ensures number { IfOk result (λ k. k ≡ length (seats_in self.old)) }
+        ensures names { OnOk result (names_in self.new ≡ names_in self.old ++ name ∷ []) }
+        ensures seats { OnOk result (seats_in self.new ≡ seats_in self.old ++ In here ∷ []) }
+        ensures kept { OnOk result (AreSeats self.new) }
+    {
+        let number = self.seats.len();
+        if number >= u32::MAX as usize {
+            return Err(AllocError);
+        }
+        self.seats.push(Seat::In(here))?;
+        self.names.insert(name)?;
+        Ok(number as u32)
+    }
+
+    /// Whether an activity is here.
+    pub fn is_in(&self, number: u32) -> bool
+        requires known { IsKnown number self.now }
+        ensures here { result ≡ is_in (seat_at self.now number) }
+    {
+        match &self.seats[number as usize] {
+            Seat::In(_) => true,
+            Seat::Out(_) => false,
+        }
+    }
+
+    /// Another seat for an activity. What was there is answered.
+    fn swap(&mut self, number: u32, seat: Seat<X, R>) -> Seat<X, R>
+        requires kept { AreSeats self.old }
+        requires known { IsKnown number self.old }
+        ensures was { seat_at self.old number ≡ Some (seat_shape result) }
+        ensures names { names_in self.new ≡ names_in self.old }
+        ensures seats { seats_in self.new
+            ≡ with_seat (seats_in self.old) number (seat_shape seat) }
+        ensures kept { AreSeats self.new }
+    {
+        mem::replace(&mut self.seats[number as usize], seat)
+    }
+
+    /// Takes an activity that is here, and leaves an empty box for what comes. It takes no memory.
+    pub fn take(&mut self, number: u32) -> Option<X>
+        requires kept { AreSeats self.old }
+        requires known { IsKnown number self.old }
+        ensures taken { IsTaken (seat_at self.old number) result }
+        ensures left { IfSome result (λ x. seats_in self.new
+            ≡ with_seat (seats_in self.old) number (Out [])) }
+        ensures names { names_in self.new ≡ names_in self.old }
+        ensures kept { AreSeats self.new }
+    {
+        match self.swap(number, Seat::Out(Vec::new(self.alloc))) {
+            Seat::In(here) => Some(here),
+            Seat::Out(came) => {
+                self.swap(number, Seat::Out(came));
+                None
+            }
+        }
+    }
+
+    /// Brings an activity back that was taken, and answers what came for it. It takes no memory.
+    pub fn put(&mut self, number: u32, here: X) -> Vec<R>
+        requires kept { AreSeats self.old }
+        requires known { IsKnown number self.old }
+        requires out { is_in (seat_at self.old number) ≡ false }
+        ensures came { IsOut (seat_at self.old number) result.items }
+        ensures names { names_in self.new ≡ names_in self.old }
+        ensures seats { seats_in self.new ≡ with_seat (seats_in self.old) number (In here) }
+        ensures kept { AreSeats self.new }
+    {
+        match self.swap(number, Seat::In(here)) {
+            Seat::In(_) => Vec::new(self.alloc),
+            Seat::Out(came) => came,
+        }
+    }
+}
