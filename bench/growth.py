@@ -1,16 +1,20 @@
 #!/usr/bin/env python3
 """Measures how the cost of runs and of replays grows: each at a size and at twice the size.
 
-    bench/growth.py [--program PATH] [--turns N] [--scale F] [--runs-alone] [NAME ..]
+    bench/growth.py [--program PATH] [--turns N] [--scale F] [--runs-alone] [--counts] [NAME ..]
 
 With no NAME all are measured: bench/growth.py --list prints the names. A size is multiplied by F, which
 may be below 1. The seconds are medians of the processor's seconds of N runs, and what is marked grew to
 more than 2.5 times at twice the size, so that it is worth a look: figures depend on the machine, and a
-ratio of short runs means little. Nothing here is a test.
+ratio of short runs means little. With --counts the instructions that callgrind counts stand in place of
+seconds, in thousands of millions: they are the same each time, and take some fifty times as long.
+Nothing here is a test.
 """
 import argparse
 import os
+import re
 import statistics
+import subprocess
 import sys
 import tempfile
 from typing import NamedTuple
@@ -215,9 +219,10 @@ PROGRAMS = [
 
 
 BODIES = {
-    "call": lambda n, body: f"let o = [; m(s, k) = if (k == 0) {{ {body} }} else {{ s.m(k - 1) }}] in o.m({n}); 0",
+    "call": lambda n, body: f"let o = [; m(s, k) = {COUNTS} {{ if (k) {{ s.m(k - 1) }} else {{ {body} }} }}] in o.m({n})",
     "repeat": lambda n, body: f"repeat(if (1) {{ 1 }} else {{ {body} }})",
-    "let": lambda n, body: f"let o = [; m(s, k) = let x = k in if (x == 0) {{ {body} }} else {{ s.m(x - 1) }}] in o.m({n}); 0",
+    "let": lambda n, body: f"let o = [; m(s, k) = {COUNTS} "
+    f"{{ let x = k - 1 in if (k) {{ s.m(x) }} else {{ {body} }} }}] in o.m({n})",
     "clone": lambda n, body: f"let b = [; big(s) = {body}] in "
     f"let o = [; m(s, k) = {COUNTS} {{ clone(b); s.m(k - 1) }}] in o.m({n})",
     "object": lambda n, body: f"let o = [; m(s, k) = {COUNTS} {{ [; big(t) = {body}]; s.m(k - 1) }}] in o.m({n})",
@@ -228,7 +233,7 @@ BODIES = {
     "answered": lambda n, body: f"let a = active([; make(s) = [; big(t) = {body}]]) in "
     f"let o = [; m(s, k) = {COUNTS} {{ a.make(); s.m(k - 1) }}] in o.m({n})",
 }
-TURNS = {"active": 4_000, "sent": 20_000, "answered": 20_000}
+TURNS = {"active": 100_000, "sent": 200_000, "answered": 200_000}
 
 
 def body(size):
@@ -238,8 +243,20 @@ def body(size):
 # Measuring
 
 
-def median(program, words, turns):
-    runs = [measure.once(program, words) for _ in range(turns)]
+def counted(program, words):
+    """A run whose seconds are the instructions that callgrind counts, in thousands of millions."""
+    call = ["valgrind", "--tool=callgrind", "--callgrind-out-file=/dev/null", program, *words]
+    child = subprocess.run(call, stdout=subprocess.DEVNULL, stderr=subprocess.PIPE)
+    count = int(re.search(rb"Collected : (\d+)", child.stderr)[1]) / 1e9
+    return measure.Run(count, 0, child.returncode, 0, 0)
+
+
+def median(options, words):
+    """The run whose seconds are the median, or None where the program refuses the words."""
+    if options.counts:
+        runs = [counted(options.program, words)]
+    else:
+        runs = [measure.once(options.program, words) for _ in range(options.turns)]
     if any(run.status not in (0, 1, 4, 5) for run in runs):
         return None
     middle = statistics.median(run.seconds for run in runs)
@@ -260,15 +277,14 @@ def ratio(small, large):
 def show_growth(folder, program, options):
     size = max(2, int(program.size * options.scale))
     texts = [folder.text(program.text(n)) for n in (size // 2, size)]
-    runs = [median(options.program, [text, *MOST], options.turns) for text in texts]
+    runs = [median(options, [text, *MOST]) for text in texts]
     times, mark = ratio(*runs)
     line = f"{size:>9,} {program.shows:<56}{seconds(runs[0])}{seconds(runs[1])}{times}"
     if not options.runs_alone:
         reports = [folder.new() for _ in texts]
         for text, report in zip(texts, reports):
             measure.once(options.program, [text, *MOST], report)
-        replays = [median(options.program, [text, "--replay", report], options.turns)
-                   for text, report in zip(texts, reports)]
+        replays = [median(options, [text, "--replay", report]) for text, report in zip(texts, reports)]
         times, other = ratio(*replays)
         line += f"{seconds(replays[0])}{seconds(replays[1])}{times}"
         mark = mark or other
@@ -280,15 +296,15 @@ def turn(folder, name, size, turns, options):
     """Nanoseconds of a turn beside a body of that size: the reading of the text is not in them."""
     text = folder.text(BODIES[name](turns, body(size)))
     words = ["--budget", str(turns * 5)] if name == "repeat" else MOST
-    run = median(options.program, [text, *words], options.turns)
-    read = median(options.program, [text, "--budget", "1"], options.turns)
+    run, read = median(options, [text, *words]), median(options, [text, "--budget", "1"])
     return (run.seconds - read.seconds) / turns * 1e9, run.peak - read.peak
 
 
 def show_bodies(folder, options):
-    print(f"\n{'':>9} {'a turn, ns: beside a body of 1 KiB, and of 1,000 KiB':<56}{'1 KiB':>9}{'1 MB':>9}{'times':>7}{'MiB':>9}{'MiB':>9}")
+    print(f"\n{'turns':>9} {'of a loop, beside a body that does not run: ns a turn':<56}"
+          f"{'1 KB':>9}{'1 MB':>9}{'times':>7}{'MiB':>9}{'MiB':>9}")
     for name in BODIES:
-        turns = max(10, int(TURNS.get(name, 100_000) * options.scale))
+        turns = max(10, int(TURNS.get(name, 1_000_000) * options.scale))
         (small, least), (large, most) = (turn(folder, name, size, turns, options) for size in (1_000, 1_000_000))
         mark = f"  <-- more than {ALLOWED}" if large > ALLOWED * small else ""
         print(f"{turns:>9,} {name:<56}{small:9,.0f}{large:9,.0f}{large / small:7.2f}"
@@ -301,6 +317,7 @@ def words():
     parser.add_argument("--turns", type=int, default=3)
     parser.add_argument("--scale", type=float, default=1.0)
     parser.add_argument("--runs-alone", action="store_true")
+    parser.add_argument("--counts", action="store_true")
     parser.add_argument("--list", action="store_true")
     parser.add_argument("names", nargs="*")
     return parser.parse_args()
