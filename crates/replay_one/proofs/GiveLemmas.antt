@@ -1,5 +1,6 @@
 -- What an effect gives to others is handed on.
-use Rattle.std.proofs.Common.{◌≡◌, [], ℕ, true, List, Option, Some, None, length, refl, sym, ap, subst, ◌∙◌}
+use Rattle.std.proofs.Common.{◌≡◌, [], ℕ, true, false, List, Option, Some, None, length, refl, sym, ap, subst, ◌∙◌}
+use Rattle.std.proofs.lemmas.Bool.{false_from_ne_true}
 use Rattle.std.specs.FinMap.{find, put}
 use Rattle.asp_model.specs.declared.name.FutureName.{FutureName}
 use Rattle.asp_model.specs.Names.{Name, FutureShape, name_cmp, future_cmp}
@@ -21,7 +22,7 @@ use Rattle.laws.proofs.ClosedLaws.{reached_are_closed}
 use Rattle.laws.proofs.FrameLemmas.{effects_are_new}
 use Rattle.laws.proofs.LinkedLemmas.{intends_step, targets_are_there}
 use Rattle.laws.proofs.MapLemmas.{find_same, stays_there}
-use Rattle.laws.proofs.NameLemmas.{future_total, future_same, name_total, name_same, no_some, some_is}
+use Rattle.laws.proofs.NameLemmas.{future_total, future_same, name_total, name_same, no_some, some_is, true_false}
 use Rattle.laws.proofs.ReachedLemmas.{moves_go_on}
 use Rattle.actor.specs.declared.actor.Actor.{Actor}
 use Rattle.actor.specs.declared.act.Given.TheVariants as given
@@ -32,8 +33,23 @@ use Rattle.schedules.proofs.EffectLemmas.{absent_received_none}
 use Rattle.replay_one.specs.declared.population.Population.{Population}
 use Rattle.replay_one.specs.declared.schedule.Schedule.{Schedule}
 use Rattle.replay_one.specs.Population.{IsGiving, IsPopulation, with_activity, with_request, with_value}
-use Rattle.replay_one.specs.Schedule.{IsMoreReady, noted_in, ready_in}
+use Rattle.replay_one.specs.Schedule.{IsMoreReady, asks_in, noted_in, ready_in, sends_in}
 use Rattle.replay_one.specs.Round.{IsHandedOn}
+
+-- who was ready before is ready, and else this says so
+by_ready : (u t : Schedule) (q : Name) → (ready_in u q ≡ true → ready_in t q ≡ true) → (ready_in u q ≡ false → ready_in t q ≡ true) → ready_in t q ≡ true
+by_ready u t q was not = elim (ready_in u q) as (λ b. ready_in u q ≡ b → ready_in t q ≡ true) [ true ↦ was | false ↦ not ] refl
+
+-- one after the other
+more_twice : (s u t : Schedule) → IsMoreReady s None u → IsMoreReady u None t → IsMoreReady s None t
+more_twice s u t x y =
+    let was : (m : Name) → ready_in t m ≡ false → ready_in u m ≡ false = λ m not. false_from_ne_true (ready_in u m) (λ h. true_false (ready_in t m) (y.ready m h) not) in
+    record {
+      ready = λ m h. y.ready m (x.ready m h);
+      noted = λ g m d. y.noted g m d ∙ x.noted g m d;
+      asks = λ m l not h. y.asks m l not (x.asks m l (was m not) h);
+      sends = λ m k not h. y.sends m k not (x.sends m k (was m not) h);
+    }
 
 -- the effect's configuration, by what it gives
 effect_of : (n : Name) (e : Effect) (c : Configuration) (s : Option (Name × RequestShape)) (m : Option (Name × model.Activity)) (f : Option (FutureShape × ParcelShape)) → e.sent ≡ s → e.made ≡ m → e.filled ≡ f
@@ -89,11 +105,13 @@ module _ (p : Population) (n : Name) (program : Tree) (c : Configuration) (e : E
   pub nothing_handed : (lists : Option ListsShape) (s : Schedule) → IsGiving p n given.Nothing program c e → IsHandedOn lists c n e s s
   nothing_handed lists s h = record {
     made = λ m b is. no_some (sym h.given.1 ∙ is);
-    target = λ m is. no_some (sym h.given.0 ∙ is.1);
+    target = λ m r is. no_some (sym h.given.0 ∙ is);
     next = λ m q is. no_some (sym h.given.0 ∙ is.1);
     filled = λ f q is. no_some (sym h.given.2 ∙ is.1);
     ready = λ m r. r;
     noted = λ f m d. refl;
+    asks = λ m l not a. a;
+    sends = λ m k not a. a;
   }
 
   pub made_handed : (lists : Option ListsShape) (s t : Schedule) (m : Name) (x : Actor) → IsGiving p n (given.Made m x) program c e → IsMoreReady s None t → ready_in t m ≡ true → IsHandedOn lists c n e s t
@@ -101,35 +119,39 @@ module _ (p : Population) (n : Name) (program : Tree) (c : Configuration) (e : E
       let b = made_given m x h in
       record {
         made = λ k a is. ap (ready_in t) (ap (λ (z : Name × model.Activity). z.0) (some_is (sym is ∙ b.1))) ∙ woken;
-        target = λ k is. no_some (sym h.given.0 ∙ is.1);
+        target = λ k r is. no_some (sym h.given.0 ∙ is);
         next = λ k q is. no_some (sym h.given.0 ∙ is.1);
         filled = λ f q is. no_some (sym h.given.2 ∙ is.1);
         ready = more.ready;
         noted = λ f k d. more.noted f k no_some;
+        asks = more.asks;
+        sends = more.sends;
       }
 
-  pub sent_handed : (lists : Option ListsShape) (s t : Schedule) (to : Name) (r : Request) → IsGiving p n (given.Sent to r) program c e → IsMoreReady s None t → ready_in t to ≡ true → ((q : Name) → IsNextIn lists (with_effect n e c) to q → ready_in t q ≡ true) → IsHandedOn lists c n e s t
-  sent_handed lists s t to r h more woken next =
-      let same : (m : Name) → IsSentTo e m → to ≡ m = λ m is. ap (λ (z : Name × RequestShape). z.0) (some_is (sym h.given.0 ∙ is.1)) in
+  pub sent_handed : (lists : Option ListsShape) (s u t : Schedule) (to : Name) (r : Request) → IsGiving p n (given.Sent to r) program c e → IsMoreReady s None u → (asks_in s to r.label.text ≡ true → ready_in u to ≡ true) → IsMoreReady u None t → ((q : Name) → IsNextIn lists (with_effect n e c) to q → sends_in u q to ≡ true → ready_in t q ≡ true) → IsHandedOn lists c n e s t
+  sent_handed lists s u t to r h first woken then next =
+      let both : IsMoreReady s None t = more_twice s u t first then in
+      let same : (z : Name × RequestShape) → e.sent ≡ Some z → (to, request_shape r) ≡ z = λ z is. some_is (sym h.given.0 ∙ is) in
       record {
         made = λ k a is. no_some (sym h.given.1 ∙ is);
-        target = λ m is. ap (ready_in t) (sym (same m is)) ∙ woken;
-        next = λ m q is i. next q (subst (λ k. IsNextIn lists (with_effect n e c) k q) (sym (same m is)) i);
+        target = λ m q is. subst (λ (z : Name × RequestShape). asks_in s z.0 z.1.label ≡ true → ready_in t z.0 ≡ true) (same (m, q) is) (λ a. then.ready to (woken a));
+        next = λ m q is. subst (λ (z : Name × RequestShape). IsNextIn lists (with_effect n e c) z.0 q → sends_in s q z.0 ≡ true → ready_in t q ≡ true) (same (m, is.0) is.1) (λ i a.
+            by_ready u t q (then.ready q) (λ not. next q i (first.sends q to not a)));
         filled = λ f q is. no_some (sym h.given.2 ∙ is.1);
-        ready = more.ready;
-        noted = λ f k d. more.noted f k no_some;
+        ready = both.ready;
+        noted = λ f k d. both.noted f k no_some;
+        asks = both.asks;
+        sends = both.sends;
       }
 
   pub filled_handed : (lists : Option ListsShape) (s t : Schedule) (f : FutureName) (v : Parcel) → IsGiving p n (given.Filled f v) program c e → IsMoreReady s (Some (future_shape f)) t → ((m : Name) → noted_in s (future_shape f) m ≡ true → ready_in t m ≡ true) → IsHandedOn lists c n e s t
   filled_handed lists s t f v h more woken = record {
     made = λ k a is. no_some (sym h.given.1 ∙ is);
-    target = λ k is. no_some (sym h.given.0 ∙ is.1);
+    target = λ k r is. no_some (sym h.given.0 ∙ is);
     next = λ k q is. no_some (sym h.given.0 ∙ is.1);
     filled = λ g q is noted. woken q (ap (λ k. noted_in s k q) (ap (λ (z : FutureShape × ParcelShape). z.0) (some_is (sym h.given.2 ∙ is.1))) ∙ noted);
     ready = more.ready;
     noted = λ g k d. more.noted g k (λ is. d (parcel_shape v, h.given.2 ∙ ap (λ k. Some (k, parcel_shape v)) (some_is is)));
+    asks = more.asks;
+    sends = more.sends;
   }
-
--- one after the other
-pub more_twice : (s t u : Schedule) → IsMoreReady s None t → IsMoreReady t None u → IsMoreReady s None u
-more_twice s t u x y = record { ready = λ m h. y.ready m (x.ready m h); noted = λ g m d. y.noted g m d ∙ x.noted g m d }

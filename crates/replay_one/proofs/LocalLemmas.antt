@@ -23,7 +23,8 @@ use Rattle.laws.proofs.ReachedLemmas.{moves_go_on}
 use Rattle.laws.proofs.StepLemmas.{takes_step}
 use Rattle.schedules.specs.Schedules.{IsScheduled}
 use Rattle.schedules.proofs.LeastLemmas.{least_steps}
-use Rattle.schedules.proofs.WokenLemmas.{woken_are_scheduled}
+use Rattle.schedules.specs.Watches.{IsWatched, Watches}
+use Rattle.schedules.proofs.WokenLemmas.{called_are_scheduled}
 use Rattle.activity_step.specs.Local.{IsLocalStep, LocalRun}
 use Rattle.replay_one.specs.Population.{with_activity}
 
@@ -115,38 +116,45 @@ module _ (program : Tree) (c : Configuration) (n : Name) (reached : IsReached pr
 -- Steps of the run
 
 -- so many steps lead to the other configuration, which is reached, and the same are ready and noted
-pub record Goes (program : Tree) (lists : Option ListsShape) (count : Name → ℕ) (ready : Name → Bool) (noted : FutureShape → Name → Bool) (k : ℕ) (c d : Configuration) : Type 0 where
+pub record Goes (program : Tree) (lists : Option ListsShape) (count : Name → ℕ) (ready : Name → Bool) (noted : FutureShape → Name → Bool) (w : Watches) (k : ℕ) (c d : Configuration) : Type 0 where
   pub reached : IsReached program d
   pub steps : (m : ℕ) → steps_from (k + m) lists count c ≡ steps_from m lists count d
   pub scheduled : IsScheduled lists count d ready noted
+  pub watched : IsWatched w count d ready
 
-module _ (program : Tree) (lists : Option ListsShape) (count : Name → ℕ) (ready : Name → Bool) (noted : FutureShape → Name → Bool) (n : Name) (here : ready n ≡ true) (least : (m : Name) → ready m ≡ true → is_lt (name_cmp m n) ≡ false) where
+module _ (program : Tree) (lists : Option ListsShape) (count : Name → ℕ) (ready : Name → Bool) (noted : FutureShape → Name → Bool) (w : Watches) (n : Name) (here : ready n ≡ true) (least : (m : Name) → ready m ≡ true → is_lt (name_cmp m n) ≡ false) where
   abbrev Ahead : ℕ → Configuration → Configuration → Type 0
-  Ahead = Goes program lists count ready noted
+  Ahead = Goes program lists count ready noted w
 
-  stays : (c : Configuration) → IsReached program c → IsScheduled lists count c ready noted → Ahead 0 c c
-  stays c reached scheduled = record {
-    reached = reached;
+  -- where the run stands
+  record Here (c : Configuration) : Type 0 where
+    reached : IsReached program c
+    scheduled : IsScheduled lists count c ready noted
+    watched : IsWatched w count c ready
+
+  stays : (c : Configuration) → Here c → Ahead 0 c c
+  stays c h = record {
+    reached = h.reached;
     steps = λ m. let same : 0 + m ≡ m = omega arith in ap (λ k. steps_from k lists count c) same;
-    scheduled = scheduled;
+    scheduled = h.scheduled;
+    watched = h.watched;
   }
 
-  takes_one : (c : Configuration) (a b : Activity) → IsReached program c → IsScheduled lists count c ready noted → IsAt c n a → IsLocalStep a b → a.reductions < count n
-      → IsReached program (with_activity n b c) × (least_step lists count c c.activities ≡ Some (with_activity n b c)) × IsScheduled lists count (with_activity n b c) ready noted
-  takes_one c a b reached scheduled is x below =
+  takes_one : (c : Configuration) (a b : Activity) → Here c → IsAt c n a → IsLocalStep a b → a.reductions < count n → (least_step lists count c c.activities ≡ Some (with_activity n b c)) × Here (with_activity n b c)
+  takes_one c a b h is x below =
       let e : Effect = own_effect b in
       let d : Configuration = with_activity n b c in
       let intends : intent_in c n ≡ Acts e = local_in c n a b is x in
-      let steps : step lists c n ≡ Some d = takes_step lists c n e (record { intends = intends; may = refl }) in (
-        moves_go_on program c d (Steps lists n) reached steps,
-        least_steps program lists count c d n a ready noted reached scheduled least is below steps,
-        woken_are_scheduled program lists count c n e noted ready ready reached intends steps scheduled (λ m h. h) (record {
-          stepper = here;
-          made = λ m q h. no_some h;
-          target = λ m h. no_some h.1;
-          next = λ m q h i. no_some h.1;
-          filled = λ f q h i. no_some h.1;
-        }),
+      let steps : step lists c n ≡ Some d = takes_step lists c n e (record { intends = intends; may = refl }) in
+      let after = called_are_scheduled program lists count c n e noted w ready ready h.reached intends steps h.scheduled h.watched (λ m r. r) (record {
+        stepper = here;
+        made = λ m q r. no_some r;
+        target = λ m r sent. no_some sent;
+        next = λ m q r i. no_some r.1;
+        filled = λ f q r i. no_some r.1;
+      }) in (
+        least_steps program lists count c d n a ready noted h.reached h.scheduled least is below steps,
+        record { reached = moves_go_on program c d (Steps lists n) h.reached steps; scheduled = after.0; watched = after.1 },
       )
 
   goes_on : (c d : Configuration) (k m : ℕ) → least_step lists count c c.activities ≡ Some d → steps_from (suc k + m) lists count c ≡ steps_from (k + m) lists count d
@@ -154,19 +162,20 @@ module _ (program : Tree) (lists : Option ListsShape) (count : Name → ℕ) (re
       let same : suc k + m ≡ suc (k + m) = omega arith in
       ap (λ j. steps_from j lists count c) same ∙ ap (λ (o : Option Configuration). elim o [ None ↦ c | Some d ↦ steps_from (k + m) lists count d ]) h
 
-  run_ahead : (k : ℕ) (c : Configuration) (a b : Activity) → IsReached program c → IsScheduled lists count c ready noted → IsAt c n a → LocalRun k a b → k ≤ count n - a.reductions → Ahead k c (with_activity n b c)
-  run_ahead zero c a b reached scheduled is run within = subst (Ahead 0 c) (sym (written_itself program c n reached b (is ∙ ap Some run))) (stays c reached scheduled)
-  run_ahead (suc k) c a b reached scheduled is run within =
+  run_ahead : (k : ℕ) (c : Configuration) (a b : Activity) → Here c → IsAt c n a → LocalRun k a b → k ≤ count n - a.reductions → Ahead k c (with_activity n b c)
+  run_ahead zero c a b h is run within = subst (Ahead 0 c) (sym (written_itself program c n h.reached b (is ∙ ap Some run))) (stays c h)
+  run_ahead (suc k) c a b h is run within =
       let x = run.0 in
       let d : Configuration = with_activity n x c in
-      let one = takes_one c a x reached scheduled is run.1 (omega (arith, within)) in
+      let one = takes_one c a x h is run.1 (omega (arith, within)) in
       let more : x.reductions ≡ suc a.reductions = ap (λ y. y.reductions) run.1.after in
-      let rest : Ahead k d (with_activity n b d) = run_ahead k d x b one.0 one.2 (find_same name_cmp name_total name_same n x c.activities) run.2 (omega (arith, within, more)) in
-      let all : Ahead (suc k) c (with_activity n b d) = record { reached = rest.reached; steps = λ m. goes_on c d k m one.1 ∙ rest.steps m; scheduled = rest.scheduled } in
-      subst (Ahead (suc k) c) (written_over program c n reached x b) all
+      let rest : Ahead k d (with_activity n b d) = run_ahead k d x b one.1 (find_same name_cmp name_total name_same n x c.activities) run.2 (omega (arith, within, more)) in
+      let all : Ahead (suc k) c (with_activity n b d) = record { reached = rest.reached; steps = λ m. goes_on c d k m one.0 ∙ rest.steps m; scheduled = rest.scheduled; watched = rest.watched } in
+      subst (Ahead (suc k) c) (written_over program c n h.reached x b) all
 
 -- so many contractions of the least-named that is ready, within its count, are as many steps of the run
-pub local_runs_go_on : (program : Tree) (lists : Option ListsShape) (count : Name → ℕ) (ready : Name → Bool) (noted : FutureShape → Name → Bool) (c : Configuration) (n : Name) (k : ℕ) (a b : Activity)
-    → IsReached program c → IsScheduled lists count c ready noted → ready n ≡ true → ((m : Name) → ready m ≡ true → is_lt (name_cmp m n) ≡ false)
-    → IsAt c n a → LocalRun k a b → k ≤ count n - a.reductions → Goes program lists count ready noted k c (with_activity n b c)
-local_runs_go_on program lists count ready noted c n k a b reached scheduled here least is run within = run_ahead program lists count ready noted n here least k c a b reached scheduled is run within
+pub local_runs_go_on : (program : Tree) (lists : Option ListsShape) (count : Name → ℕ) (ready : Name → Bool) (noted : FutureShape → Name → Bool) (w : Watches) (c : Configuration) (n : Name) (k : ℕ) (a b : Activity)
+    → IsReached program c → IsScheduled lists count c ready noted → IsWatched w count c ready → ready n ≡ true → ((m : Name) → ready m ≡ true → is_lt (name_cmp m n) ≡ false)
+    → IsAt c n a → LocalRun k a b → k ≤ count n - a.reductions → Goes program lists count ready noted w k c (with_activity n b c)
+local_runs_go_on program lists count ready noted w c n k a b reached scheduled watched here least is run within =
+    run_ahead program lists count ready noted w n here least k c a b (record { reached = reached; scheduled = scheduled; watched = watched }) is run within

@@ -1,5 +1,5 @@
 -- What is seen of an activity says whether it steps.
-use Rattle.std.proofs.Common.{◌≡◌, ◌≢◌, ◌≤◌, ◌<◌, ◌&&◌, ℕ, true, false, List, Option, Some, None, Bor, length, is_some, refl, sym, ap, subst, ◌∙◌, inl, inr, arith}
+use Rattle.std.proofs.Common.{◌≡◌, ◌≢◌, ◌≤◌, ◌<◌, ◌&&◌, ℕ, Bool, true, false, List, Option, Some, None, Bor, length, is_some, refl, sym, ap, subst, ◌∙◌, inl, inr, arith}
 use Rattle.std.specs.FinMap.{find}
 use Rattle.asp_model.specs.declared.name.ActivityName.{ActivityName}
 use Rattle.asp_model.specs.declared.name.FutureName.{FutureName}
@@ -17,7 +17,7 @@ use Rattle.asp_model.specs.Shapes.{fault_shape, future_shape}
 use Rattle.future_table.specs.Values.{values_of}
 use Rattle.laws.specs.Reached.{IsReached, IsAt, IsThere}
 use Rattle.laws.proofs.LinkedLemmas.{targets_are_there}
-use Rattle.laws.proofs.NameLemmas.{no_some, some_is}
+use Rattle.laws.proofs.NameLemmas.{no_some, none_true, some_is}
 use Rattle.laws.proofs.StepLemmas.{holds_back, takes_step}
 use Rattle.actor.specs.declared.actor.Actor.{Actor}
 use Rattle.actor.specs.declared.outlook.Outlook.{Outlook}
@@ -29,7 +29,7 @@ use Rattle.replay_one.specs.declared.bounds.Next.TheVariants as next
 use Rattle.replay_one.specs.declared.population.Population.{Population}
 use Rattle.replay_one.specs.Bounds.{IsNextAt}
 use Rattle.replay_one.specs.Population.{IsPopulation, StandsAt, found_in}
-use Rattle.replay_one.specs.Round.{CanStep, Leaves}
+use Rattle.replay_one.specs.Round.{CanStep, Leaves, SendsTo}
 use Rattle.replay_one.proofs.PopulationLemmas.{found_stands, stands_none}
 
 -- Intents by their outlook
@@ -109,18 +109,42 @@ resting lists c n s e = ap (stepped lists c n) e
 pub absent_leaves : (lists : Option ListsShape) (count : Name → ℕ) (p : Population) (c : Configuration) (n : Name) → IsPopulation p c → found_in p n ≡ None → Leaves lists count c n
 absent_leaves lists count p c n h is =
     let none = stands_none (find name_cmp n c.activities) (requests_of c n) (subst (λ o. StandsAt o (find name_cmp n c.activities) (requests_of c n)) is (h.activities n)) in
-    record { rests = inl (λ a at. no_some (sym none ∙ at)); waits = λ f a at below w. no_some (sym none ∙ at) }
+    record { rests = inl (λ a at. no_some (sym none ∙ at)); waits = λ f a at below w. no_some (sym none ∙ at); serves = λ a at below st. no_some (sym none ∙ at); sends = λ a to at below s. no_some (sym none ∙ at) }
 
 -- it is at its count
 pub counted_leaves : (lists : Option ListsShape) (count : Name → ℕ) (c : Configuration) (n : Name) (a : model.Activity) → IsAt c n a → count n ≤ a.reductions → Leaves lists count c n
 counted_leaves lists count c n a is le = record {
   rests = inl (λ b at. let e : a ≡ b = some_is (sym is ∙ at) in let f : a.reductions ≡ b.reductions = ap (λ x. x.reductions) e in omega (arith, f, le));
-  waits = λ f b at below w. let e : a ≡ b = some_is (sym is ∙ at) in let g : a.reductions ≡ b.reductions = ap (λ x. x.reductions) e in absurd (omega (arith, g, le, below));
+  waits = λ f b at below w. not_below b at below;
+  serves = λ b at below st. not_below b at below;
+  sends = λ b to at below s. not_below b at below;
 }
+  where
+    not_below : (b : model.Activity) → IsAt c n b → b.reductions < count n → ⊥
+    not_below b at below =
+        let e : a ≡ b = some_is (sym is ∙ at) in
+        let g : a.reductions ≡ b.reductions = ap (λ x. x.reductions) e in
+        omega (arith, g, le, below)
 
--- it rests, and not at a future
-pub done_leaves : (lists : Option ListsShape) (count : Name → ℕ) (c : Configuration) (n : Name) (s : StatusShape) → intent_in c n ≡ Rests s → ((f : FutureShape) → s ≢ Awaits f) → Leaves lists count c n
-done_leaves lists count c n s e d = record { rests = inr (resting lists c n s e); waits = λ f a at below w. d f (sym (ap status_of_intent e) ∙ w.0) }
+-- it rests, neither at a future nor at a `serve`
+pub done_leaves : (lists : Option ListsShape) (count : Name → ℕ) (c : Configuration) (n : Name) (s : StatusShape) → intent_in c n ≡ Rests s → ((f : FutureShape) → s ≢ Awaits f) → s ≢ Serving → Leaves lists count c n
+done_leaves lists count c n s e d v = record {
+  rests = inr (resting lists c n s e);
+  waits = λ f a at below w. d f (sym (ap status_of_intent e) ∙ w.0);
+  serves = λ a at below st. v (sym (ap status_of_intent e) ∙ st);
+  sends = λ a to at below x. never (intent_in c n) s x.0 e x.1;
+}
+  where
+    acting : Intent → Bool
+    acting (Acts g) = true
+    acting (Rests t) = false
+
+    never : (p : Intent) (t : StatusShape) (g : Effect) → p ≡ Rests t → p ≡ Acts g → ⊥
+    never p t g x y = none_true (ap acting (sym x ∙ y))
+
+-- it rests at a `serve`
+pub serves_rests : (lists : Option ListsShape) (count : Name → ℕ) (c : Configuration) (n : Name) → intent_in c n ≡ Rests Serving → RestsIn lists count c n × (status_of c n ≡ Serving)
+serves_rests lists count c n e = (inr (resting lists c n Serving e), ap status_of_intent e)
 
 pub awaits_rests : (lists : Option ListsShape) (count : Name → ℕ) (c : Configuration) (n : Name) (f : FutureShape) → intent_in c n ≡ Rests (Awaits f) → RestsIn lists count c n × (status_of c n ≡ Awaits f)
 awaits_rests lists count c n f e = (inr (resting lists c n (Awaits f) e), ap status_of_intent e)
@@ -147,16 +171,12 @@ sends_now lists count program c n a to r is below o round =
     record { activity = a; there = is; below = below; effect = p.0; intends = p.1; steps = takes_step lists c n p.0 (record { intends = p.1; may = may }) }
 
 -- it sends out of round
-pub held_leaves : (lists : Option ListsShape) (count : Name → ℕ) (program : Tree) (c : Configuration) (n : Name) (to : Bor ActivityName) → IsReached program c → IsOutlook (intent_in c n) (outlook.Sends to) → is_next lists c to.now n ≡ false → Leaves lists count c n
-held_leaves lists count program c n to r o round =
+pub held_rests : (lists : Option ListsShape) (count : Name → ℕ) (program : Tree) (c : Configuration) (n : Name) (to : Bor ActivityName) → IsReached program c → IsOutlook (intent_in c n) (outlook.Sends to) → is_next lists c to.now n ≡ false → RestsIn lists count c n × SendsTo c n to.now
+held_rests lists count program c n to r o round =
     let p = sends_intent (intent_in c n) to o in
     let there = target_there program c n to r o in
     let may : may_send lists c n p.0.sent ≡ false = ap (may_send lists c n) p.3 ∙ (λ i. is_some (find name_cmp (p.4 i) c.activities) && is_next lists c (p.4 i) n) ∙ (λ i. there i && round i) in
-    let running : status_of c n ≡ Running = ap status_of_intent p.1 in
-    record { rests = inr (holds_back lists c n p.0 p.1 may); waits = λ f a at below w. not_awaiting f (sym running ∙ w.0) }
-  where
-    not_awaiting : (f : FutureShape) → Running ≢ Awaits f
-    not_awaiting f e = cc
+    (inr (holds_back lists c n p.0 p.1 may), (p.0, p.1, p.2.1, p.3 ∙ ap (λ (m : Name). Some (m, p.2.1)) p.4))
 
 -- Who is next
 

@@ -11,13 +11,13 @@ use Rattle.asp_model.specs.Names.{main_name}
 use Rattle.laws.proofs.ReachedLemmas.{start_is_reached}
 use Rattle.laws.proofs.ReplayLemmas.{plain_runs_replay}
 use Rattle.laws.proofs.SpendLemmas.{plain_runs_spend}
-use Rattle.schedules.proofs.LeastLemmas.{main_is_ready}
+use Rattle.schedules.proofs.LeastLemmas.{main_is_ready, main_is_watched}
 use Rattle.replay_one.specs.declared.bounds.Bounds.{Bounds}
 use Rattle.replay_one.specs.declared.round.Machine.{Machine}
 use Rattle.replay_one.specs.Bounds.{count_within, lists_within}
 use Rattle.replay_one.specs.Correct.{IsReplayed, IsSpent}
 use Rattle.replay_one.specs.Population.{IsPopulation}
-use Rattle.replay_one.specs.Schedule.{noted_in, ready_in}
+use Rattle.replay_one.specs.Schedule.{noted_in, ready_in, watches_in}
 use Rattle.replay_one.specs.Round.{IsRunAt}
 use Rattle.replay_one.proofs.ReportLemmas.{counts_shown, lists_shown}
 
@@ -28,6 +28,7 @@ begins_run b m program copied same bare population ready = record {
   reached = start_is_reached program;
   population = subst (λ t. IsPopulation m.population (start t)) same population;
   scheduled = main_is_ready program (lists_within b) (count_within b) (ready_in m.schedule) (noted_in m.schedule) ready;
+  watched = main_is_watched program (count_within b) (watches_in m.schedule) (ready_in m.schedule) ready;
 }
 
 module _ (n : ℕ) (program : Tree) (o : OutcomeShape) (e : o ≡ outcome_of (plain_run n program)) where

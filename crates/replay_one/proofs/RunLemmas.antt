@@ -1,29 +1,32 @@
 -- Rounds and runs of the machine.
-use Rattle.std.proofs.Common.{◌≡◌, ◌≤◌, ◌+◌, ℕ, zero, suc, true, false, Option, Some, None, refl, sym, ap, subst, ◌∙◌, inl, inr, ⊎_elim, arith}
+use Rattle.std.proofs.Common.{◌≡◌, ◌≢◌, ◌≤◌, ◌+◌, ℕ, zero, suc, true, false, List, Option, Some, None, refl, sym, ap, subst, ◌∙◌, inl, inr, ⊎_elim, arith}
 use Rattle.std.proofs.lemmas.Bool.{false_from_ne_true}
 use Rattle.std.specs.FinMap.{find}
-use Rattle.asp_model.specs.Names.{Name, FutureShape, future_cmp}
-use Rattle.asp_model.specs.Term.{Tree}
-use Rattle.asp_model.specs.Configuration.{Configuration}
-use Rattle.asp_model.specs.Intent.{StatusShape, Awaits}
+use Rattle.asp_model.specs.Names.{Name, FutureShape, Text, future_cmp}
+use Rattle.asp_model.specs.Term.{Tree, has_text}
+use Rattle.asp_model.specs.Configuration.{Activity, Configuration, RequestShape}
+use Rattle.asp_model.specs.Intent.{Acts, Effect, Intent, Rests, StatusShape, Awaits, Serving}
 use Rattle.asp_model.specs.Step.{ListsShape, put_some, with_effect}
-use Rattle.asp_model.specs.Status.{status_of}
+use Rattle.asp_model.specs.Status.{is_awaiting, is_running, status_of, status_of_intent}
 use Rattle.asp_model.specs.Replay.{least_step, steps_from}
-use Rattle.laws.specs.Reached.{Steps}
+use Rattle.laws.specs.Reached.{IsAt, Steps}
+use Rattle.laws.specs.Waking.{labels_wanted}
 use Rattle.laws.proofs.MapLemmas.{find_same}
-use Rattle.laws.proofs.NameLemmas.{future_total, future_same, name_case, no_some, true_false}
+use Rattle.laws.proofs.NameLemmas.{future_total, future_same, name_case, no_some, none_true, some_is, true_false}
 use Rattle.laws.proofs.ReachedLemmas.{moves_go_on}
 use Rattle.schedules.specs.Schedules.{IsFilledBy, IsScheduled, RestsIn}
 use Rattle.schedules.proofs.LeastLemmas.{least_steps, notes_leave, resters_leave}
-use Rattle.schedules.proofs.WokenLemmas.{woken_are_scheduled}
+use Rattle.schedules.specs.Watches.{IsWatched, IsWatchedAt, Watches}
+use Rattle.schedules.proofs.WokenLemmas.{called_are_scheduled}
+use Rattle.serve_rules.specs.Labels.{HaveSame}
 use Rattle.replay_one.specs.declared.bounds.Bounds.{Bounds}
 use Rattle.replay_one.specs.declared.population.Population.{Population}
 use Rattle.replay_one.specs.declared.schedule.Schedule.{Schedule}
 use Rattle.replay_one.specs.declared.round.Machine.{Machine}
 use Rattle.replay_one.specs.Bounds.{count_within, lists_within}
 use Rattle.replay_one.specs.Population.{IsPopulation, IsReachedPopulation, IsRunIn, with_activity}
-use Rattle.replay_one.specs.Schedule.{IsMoreReady, IsNoted, IsTaken, noted_in, ready_in}
-use Rattle.replay_one.specs.Round.{CanStep, IsHandedOn, IsRunAt, IsRunBut, LeadsTo, Leaves, next_by}
+use Rattle.replay_one.specs.Schedule.{IsMoreReady, IsNoted, IsTaken, IsWatching, asks_in, noted_in, ready_in, sends_in, watches_in}
+use Rattle.replay_one.specs.Round.{CanStep, IsHandedOn, IsRunAt, IsRunBut, LeadsTo, Leaves, SendsTo, next_by}
 use Rattle.replay_one.proofs.LocalLemmas.{local_runs_go_on}
 
 pub reached_population : (b : Bounds) (m : Machine) (program : Tree) (c : Configuration) → IsRunAt b m program c → IsReachedPopulation m.population program c
@@ -39,18 +42,39 @@ awaits_is f g e = ap (awaited f) e
 pub but_reached : (b : Bounds) (m : Machine) (n : Name) (program : Tree) (c : Configuration) → IsRunBut b m n program c → IsReachedPopulation m.population program c
 but_reached b m n program c h = reached_population b (record { population = m.population; schedule = h.before }) program c h.run
 
+acts_is : (e g : Effect) → Acts e ≡ Acts g → e ≡ g
+acts_is e g h = ap (λ (p : Intent). elim p [ Acts f ↦ f | Rests s ↦ e ]) h
+
 -- the population is another that stands for the same
 pub settled_run : (b : Bounds) (program : Tree) (c : Configuration) (m : Machine) (q : Population) → IsRunAt b m program c → IsPopulation q c → IsRunAt b (record { population = q; schedule = m.schedule }) program c
-settled_run b program c m q h population = record { bare = h.bare; reached = h.reached; population = population; scheduled = h.scheduled }
+settled_run b program c m q h population = record { bare = h.bare; reached = h.reached; population = population; scheduled = h.scheduled; watched = h.watched }
 
 module _ (b : Bounds) (program : Tree) (c : Configuration) (n : Name) (p : Population) (old : Schedule) where
+  -- who leaves is noted by what it waits for, and the others stay noted
+  watched_but : (new : Schedule) (w : Watches) → IsWatched w (count_within b) c (ready_in old) → ((m : Name) → m ≢ n → ready_in new m ≡ ready_in old m)
+      → ((m : Name) (l : Text) → m ≢ n → w.asks m l ≡ true → asks_in new m l ≡ true) → ((m k : Name) → m ≢ n → w.sends m k ≡ true → sends_in new m k ≡ true)
+      → IsWatchedAt (watches_in new) (count_within b) c n → IsWatched (watches_in new) (count_within b) c (ready_in new)
+  watched_but new w h others asks sends own m not = ⊎_elim
+      (λ same. subst (IsWatchedAt (watches_in new) (count_within b) c) (sym same) own)
+      (λ apart.
+      let was : IsWatchedAt w (count_within b) c m = h m (sym (others m apart) ∙ not) in
+      record {
+        serving = λ a l is below st has. asks m l apart (was.serving a l is below st has);
+        sending = λ a e x is below intends sent. sends m x.0 apart (was.sending a e x is below intends sent);
+      })
+      (name_case m n)
+
   -- who rests leaves
   pub leaves_round : (new : Schedule) → IsRunAt b (record { population = p; schedule = old }) program c → IsTaken old n new → Leaves (lists_within b) (count_within b) c n → IsRunAt b (record { population = p; schedule = new }) program c
-  leaves_round new h t l = record {
+  leaves_round new h t l' = record {
     bare = h.bare;
     reached = h.reached;
     population = h.population;
-    scheduled = resters_leave (lists_within b) (count_within b) c n (noted_in old) (noted_in new) (ready_in old) (ready_in new) h.scheduled l.rests t.others (λ f m k. ap (λ g. g f m) t.noted ∙ k) (λ f a at below w. absurd (l.waits f a at below w));
+    scheduled = resters_leave (lists_within b) (count_within b) c n (noted_in old) (noted_in new) (ready_in old) (ready_in new) h.scheduled l'.rests t.others (λ f m k. ap (λ g. g f m) t.noted ∙ k) (λ f a at below w. absurd (l'.waits f a at below w));
+    watched = watched_but new (watches_in old) h.watched t.others (λ m l d a. ap (λ (w : Watches). w.asks m l) t.watches ∙ a) (λ m k d a. ap (λ (w : Watches). w.sends m k) t.watches ∙ a) (record {
+      serving = λ a l is below st has. absurd (l'.serves a is below st);
+      sending = λ a e x is below intends sent. absurd (l'.sends a x.0 is below (e, intends, x.1, sent));
+    });
   }
 
   pub awaits_round : (f : FutureShape) (mid new : Schedule) → IsRunAt b (record { population = p; schedule = old }) program c → IsTaken old n mid → IsNoted mid f n new → RestsIn (lists_within b) (count_within b) c n → status_of c n ≡ Awaits f → IsRunAt b (record { population = p; schedule = new }) program c
@@ -62,10 +86,51 @@ module _ (b : Bounds) (program : Tree) (c : Configuration) (n : Name) (p : Popul
         (λ m d. ready_by m ∙ t.others m d)
         (λ g m is. k.noted g m (ap (λ r. r g m) t.noted ∙ is))
         (λ g a at below w. ap (λ r. noted_in new r n) (awaits_is g f (sym w.0 ∙ s)) ∙ k.here);
+    watched = watched_but new (watches_in old) h.watched (λ m d. ready_by m ∙ t.others m d)
+        (λ m l d a. ap (λ (w : Watches). w.asks m l) (k.watches ∙ t.watches) ∙ a) (λ m j d a. ap (λ (w : Watches). w.sends m j) (k.watches ∙ t.watches) ∙ a) (record {
+          serving = λ a l is below st has. none_true (ap is_awaiting (sym st ∙ s));
+          sending = λ a e x is below intends sent. none_true (ap is_running (sym s ∙ ap status_of_intent intends));
+        });
   }
     where
       ready_by : (m : Name) → ready_in new m ≡ ready_in mid m
       ready_by m = ap (λ r. ready_in (record new { ready = r }) m) k.ready
+
+  -- it rests, and waits for no future
+  quiet_round : (mid new : Schedule) → IsRunAt b (record { population = p; schedule = old }) program c → IsTaken old n mid → IsWatching mid n new → RestsIn (lists_within b) (count_within b) c n → is_awaiting (status_of c n) ≡ false → IsWatchedAt (watches_in new) (count_within b) c n
+      → IsRunAt b (record { population = p; schedule = new }) program c
+  quiet_round mid new h t k rests not own = record {
+    bare = h.bare;
+    reached = h.reached;
+    population = h.population;
+    scheduled = resters_leave (lists_within b) (count_within b) c n (noted_in old) (noted_in new) (ready_in old) (ready_in new) h.scheduled rests
+        (λ m d. ready_by m ∙ t.others m d)
+        (λ g m is. ap (λ r. r g m) (k.noted ∙ t.noted) ∙ is)
+        (λ g a at below w. none_true (sym not ∙ ap is_awaiting w.0));
+    watched = watched_but new (watches_in old) h.watched (λ m d. ready_by m ∙ t.others m d)
+        (λ m l d a. k.asks m l d ∙ ap (λ (w : Watches). w.asks m l) t.watches ∙ a) (λ m j d a. k.sends m j d ∙ ap (λ (w : Watches). w.sends m j) t.watches ∙ a) own;
+  }
+    where
+      ready_by : (m : Name) → ready_in new m ≡ ready_in mid m
+      ready_by m = ap (λ r. ready_in (record new { ready = r }) m) k.ready
+
+  -- a server rests
+  pub serves_round : (mid new : Schedule) (labels : List Text) → IsRunAt b (record { population = p; schedule = old }) program c → IsTaken old n mid → IsWatching mid n new → ((l : Text) → asks_in new n l ≡ has_text l labels) → ((a : Activity) → IsAt c n a → HaveSame labels (labels_wanted a))
+      → RestsIn (lists_within b) (count_within b) c n → status_of c n ≡ Serving → IsRunAt b (record { population = p; schedule = new }) program c
+  serves_round mid new labels h t k asks wanted rests st = quiet_round mid new h t k rests (ap is_awaiting st) (record {
+    serving = λ a l is below s has. asks l ∙ wanted a is l ∙ has;
+    sending = λ a e x is below intends sent. none_true (ap is_running (sym st ∙ ap status_of_intent intends));
+  })
+
+  -- a sender is held
+  pub holds_round : (mid new : Schedule) (to : Name) → IsRunAt b (record { population = p; schedule = old }) program c → IsTaken old n mid → IsWatching mid n new → sends_in new n to ≡ true → RestsIn (lists_within b) (count_within b) c n → SendsTo c n to → IsRunAt b (record { population = p; schedule = new }) program c
+  holds_round mid new to h t k sends rests s = quiet_round mid new h t k rests (ap is_awaiting (ap status_of_intent s.1)) (record {
+    serving = λ a l is below st has. none_true (ap is_running (sym st ∙ ap status_of_intent s.1));
+    sending = λ a e x is below intends sent.
+        let same : e ≡ s.0 = acts_is e s.0 (sym intends ∙ s.1) in
+        let target : Some x ≡ Some (to, s.2) = sym sent ∙ ap (λ (y : Effect). y.sent) same ∙ s.3 in
+        ap (sends_in new n) (ap (λ (z : Name × RequestShape). z.0) (some_is target)) ∙ sends;
+  })
 
   -- a step is taken
   pub steps_round : (q : Population) (mid given new : Schedule) (x : CanStep (lists_within b) (count_within b) c n) → IsRunAt b (record { population = p; schedule = old }) program c → IsTaken old n mid → IsPopulation q (with_effect n x.effect c) → IsHandedOn (lists_within b) c n x.effect mid given → IsMoreReady given None new → ready_in new n ≡ true
@@ -81,13 +146,15 @@ module _ (b : Bounds) (program : Tree) (c : Configuration) (n : Name) (p : Popul
       (λ k. more.ready m (handed.ready m (t.others m k ∙ r)))
       (name_case m n) in
       let before : IsScheduled lists count c (ready_in old) (noted_in mid) = subst (λ r. IsScheduled lists count c (ready_in old) r) (sym t.noted) h.scheduled in
-      let after : IsScheduled lists count d (ready_in new) (noted_in mid) = woken_are_scheduled program lists count c n e (noted_in mid) (ready_in old) (ready_in new) h.reached x.intends x.steps before now (record {
+      let after : IsScheduled lists count d (ready_in new) (noted_in mid) × IsWatched (watches_in mid) count d (ready_in new) =
+      called_are_scheduled program lists count c n e (noted_in mid) (watches_in mid) (ready_in old) (ready_in new) h.reached x.intends x.steps before (subst (λ (w : Watches). IsWatched w count c (ready_in old)) (sym t.watches) h.watched) now (record {
         stepper = woken;
         made = λ m a is. more.ready m (handed.made m a is);
-        target = λ m is. more.ready m (handed.target m is);
-        next = λ m q is i. more.ready q (handed.next m q is i);
+        target = λ m r is a. more.ready m (handed.target m r is a);
+        next = λ m q is i a. more.ready q (handed.next m q is i a);
         filled = λ f q is i. more.ready q (handed.filled f q is i);
       }) in
+      let unwoken : (m : Name) → ready_in new m ≡ false → ready_in given m ≡ false = λ m not. false_from_ne_true (ready_in given m) (λ r. true_false (ready_in new m) (more.ready m r) not) in
       let unfilled : (f : FutureShape) → find future_cmp f d.futures ≡ None → IsFilledBy e f → ⊥ = λ f none is. no_some (sym none ∙ ap (λ o. find future_cmp f (put_some future_cmp o c.futures)) is.1 ∙ find_same future_cmp future_total future_same f is.0 c.futures) in (
         d,
         least_steps program lists count c d n x.activity (ready_in old) (noted_in old) h.reached h.scheduled t.least x.there x.below x.steps,
@@ -95,7 +162,13 @@ module _ (b : Bounds) (program : Tree) (c : Configuration) (n : Name) (p : Popul
           bare = h.bare;
           reached = reached;
           population = population;
-          scheduled = notes_leave lists count d (ready_in new) (noted_in mid) (noted_in new) after (λ f m none is. more.noted f m no_some ∙ handed.noted f m (unfilled f none) ∙ is);
+          scheduled = notes_leave lists count d (ready_in new) (noted_in mid) (noted_in new) after.0 (λ f m none is. more.noted f m no_some ∙ handed.noted f m (unfilled f none) ∙ is);
+          watched = λ m not.
+              let was : IsWatchedAt (watches_in mid) count d m = after.1 m not in
+              record {
+                serving = λ a l is below st has. more.asks m l not (handed.asks m l (unwoken m not) (was.serving a l is below st has));
+                sending = λ a g z is below intends sent. more.sends m z.0 not (handed.sends m z.0 (unwoken m not) (was.sending a g z is below intends sent));
+              };
         },
       )
 
@@ -126,14 +199,20 @@ woken_run b program c n q old mid new h t more woken =
         rest = λ m there not. h.scheduled.rest m there (was m not);
         waiting = λ m f a is below not w. more.noted f m no_some ∙ ap (λ g. g f m) t.noted ∙ h.scheduled.waiting m f a is below (was m not) w;
       };
+      watched = λ m not.
+          let before : IsWatchedAt (watches_in old) (count_within b) c m = h.watched m (was m not) in
+          record {
+            serving = λ a l is below st has. more.asks m l not (ap (λ (w : Watches). w.asks m l) t.watches ∙ before.serving a l is below st has);
+            sending = λ a g z is below intends sent. more.sends m z.0 not (ap (λ (w : Watches). w.sends m z.0) t.watches ∙ before.sending a g z is below intends sent);
+          };
     }
 
 -- reductions that need no other are steps of the run
 pub ran : (b : Bounds) (program : Tree) (c : Configuration) (n : Name) (m : Machine) (q : Population) (mid : Schedule) (most k : ℕ) → IsRunAt b m program c → IsTaken m.schedule n mid → IsRunIn q c n most (count_within b n) k
     → (d : Configuration) × LeadsTo b k c d × IsRunAt b (record { population = q; schedule = m.schedule }) program d × (k ≤ most)
 ran b program c n m q mid most k h t (inl r) =
-    let g = local_runs_go_on program (lists_within b) (count_within b) (ready_in m.schedule) (noted_in m.schedule) c n k r.activity r.end h.reached h.scheduled t.ready t.least r.there r.run r.below in
-    (with_activity n r.end c, g.steps, record { bare = h.bare; reached = g.reached; population = r.population; scheduled = g.scheduled }, r.within)
+    let g = local_runs_go_on program (lists_within b) (count_within b) (ready_in m.schedule) (noted_in m.schedule) (watches_in m.schedule) c n k r.activity r.end h.reached h.scheduled h.watched t.ready t.least r.there r.run r.below in
+    (with_activity n r.end c, g.steps, record { bare = h.bare; reached = g.reached; population = r.population; scheduled = g.scheduled; watched = g.watched }, r.within)
 ran b program c n m q mid most k h t (inr e) =
     let none : k ≡ 0 = e.0 in
     (c, (λ j. let same : k + j ≡ j = omega (arith, none) in ap (λ i. steps_from i (lists_within b) (count_within b) c) same), settled_run b program c m q h e.1, omega (arith, none))

@@ -1,16 +1,17 @@
 -- What a round of the machine leads to.
 use Rattle.std.specs.Prelude.{◌≡◌, ◌<◌, ◌≤◌, ◌+◌, ℕ, Bool, true, false, Option, Some, None, [], length}
-use Rattle.asp_model.specs.Names.{Name, FutureShape}
+use Rattle.asp_model.specs.Names.{Name, FutureShape, Text}
 use Rattle.asp_model.specs.Term.{Tree, locations}
 use Rattle.asp_model.specs.Configuration as model
-use Rattle.asp_model.specs.Configuration.{Configuration}
-use Rattle.asp_model.specs.Intent.{Effect, Acts, Awaits}
+use Rattle.asp_model.specs.Configuration.{Configuration, RequestShape}
+use Rattle.asp_model.specs.Intent.{Effect, Acts, Awaits, Serving}
 use Rattle.asp_model.specs.Step.{ListsShape, intent_in, step, with_effect}
 use Rattle.asp_model.specs.Status.{status_of}
 use Rattle.asp_model.specs.Replay.{least_step, steps_from}
 use Rattle.asp_model.specs.Shapes.{future_shape}
 use Rattle.laws.specs.Reached.{IsReached, IsAt}
 use Rattle.schedules.specs.Schedules.{IsFilledBy, IsNextIn, IsScheduled, IsSentTo, RestsIn, WaitsFor}
+use Rattle.schedules.specs.Watches.{IsWatched}
 use Rattle.replay_one.specs.declared.bounds.Bounds.{Bounds}
 use Rattle.replay_one.specs.declared.schedule.Schedule.{Schedule}
 use Rattle.replay_one.specs.declared.round.Look.{Look}
@@ -20,7 +21,7 @@ use Rattle.replay_one.specs.declared.round.Round.TheVariants as round
 use Rattle.replay_one.specs.declared.round.Machine.{Machine}
 use Rattle.replay_one.specs.Bounds.{count_within, lists_within}
 use Rattle.replay_one.specs.Population.{IsPopulation}
-use Rattle.replay_one.specs.Schedule.{IsTaken, noted_in, ready_in}
+use Rattle.replay_one.specs.Schedule.{IsTaken, asks_in, noted_in, ready_in, sends_in, watches_in}
 
 -- an activity is below its count, and this is its step
 pub record CanStep (lists : Option ListsShape) (count : Name → ℕ) (c : Configuration) (n : Name) : Type 0 where
@@ -31,31 +32,44 @@ pub record CanStep (lists : Option ListsShape) (count : Name → ℕ) (c : Confi
   pub intends : intent_in c n ≡ Acts effect
   pub steps : step lists c n ≡ Some (with_effect n effect c)
 
--- it rests, and awaits no future that is not filled
+-- it intends to send to this activity
+abbrev pub SendsTo : Configuration → Name → Name → Type 0
+SendsTo c n to = (e : Effect) × (intent_in c n ≡ Acts e) × (r : RequestShape) × (e.sent ≡ Some (to, r))
+
+-- it rests for good: at its count, or neither at a future that is not filled, nor at a `serve`, nor
+-- at a send
 pub record Leaves (lists : Option ListsShape) (count : Name → ℕ) (c : Configuration) (n : Name) : Type 0 where
   pub rests : RestsIn lists count c n
   pub waits : (f : FutureShape) (a : model.Activity) → IsAt c n a → a.reductions < count n → WaitsFor c n f → ⊥
+  pub serves : (a : model.Activity) → IsAt c n a → a.reductions < count n → status_of c n ≡ Serving → ⊥
+  pub sends : (a : model.Activity) (to : Name) → IsAt c n a → a.reductions < count n → SendsTo c n to → ⊥
 
 abbrev pub IsLook : Option ListsShape → (Name → ℕ) → Configuration → Name → Look → Type 0
 IsLook lists count c n look.Leaves = Leaves lists count c n
 IsLook lists count c n (look.Awaits f) = RestsIn lists count c n × (status_of c n ≡ Awaits (future_shape f.now))
+IsLook lists count c n look.Serves = RestsIn lists count c n × (status_of c n ≡ Serving)
+IsLook lists count c n (look.Holds to) = RestsIn lists count c n × SendsTo c n to.now
 IsLook lists count c n look.Steps = CanStep lists count c n
 
--- whom the effect wakes, apart from its stepper, is ready
+-- whom the effect is for, apart from its stepper, is ready, and who is not ready waits for what it did
 pub record IsHandedOn (lists : Option ListsShape) (c : Configuration) (n : Name) (e : Effect) (old new : Schedule) : Type 0 where
   pub made : (m : Name) (b : model.Activity) → e.made ≡ Some (m, b) → ready_in new m ≡ true
-  pub target : (m : Name) → IsSentTo e m → ready_in new m ≡ true
-  pub next : (m q : Name) → IsSentTo e m → IsNextIn lists (with_effect n e c) m q → ready_in new q ≡ true
+  pub target : (m : Name) (r : RequestShape) → e.sent ≡ Some (m, r) → asks_in old m r.label ≡ true → ready_in new m ≡ true
+  pub next : (m q : Name) → IsSentTo e m → IsNextIn lists (with_effect n e c) m q → sends_in old q m ≡ true → ready_in new q ≡ true
   pub filled : (f : FutureShape) (q : Name) → IsFilledBy e f → noted_in old f q ≡ true → ready_in new q ≡ true
   pub ready : (m : Name) → ready_in old m ≡ true → ready_in new m ≡ true
   pub noted : (f : FutureShape) (m : Name) → (IsFilledBy e f → ⊥) → noted_in new f m ≡ noted_in old f m
+  pub asks : (m : Name) (l : Text) → ready_in new m ≡ false → asks_in old m l ≡ true → asks_in new m l ≡ true
+  pub sends : (m k : Name) → ready_in new m ≡ false → sends_in old m k ≡ true → sends_in new m k ≡ true
 
--- the machine stands for a configuration that the program reaches, and who is not ready rests
+-- the machine stands for a configuration that the program reaches, and who is not ready rests, noted by
+-- what it waits for
 pub record IsRunAt (b : Bounds) (m : Machine) (program : Tree) (c : Configuration) : Type 0 where
   pub bare : locations program ≡ []
   pub reached : IsReached program c
   pub population : IsPopulation m.population c
   pub scheduled : IsScheduled (lists_within b) (count_within b) c (ready_in m.schedule) (noted_in m.schedule)
+  pub watched : IsWatched (watches_in m.schedule) (count_within b) c (ready_in m.schedule)
 
 abbrev pub IsRunSomewhere : Bounds → Machine → Type 0
 IsRunSomewhere b m = (program : Tree) × (c : Configuration) × IsRunAt b m program c

@@ -13,7 +13,9 @@ ghost use Rattle.asp_model.specs.Step.{intent_in};
 ghost use Rattle.coded_cells.specs.Shapes.{parcel_shape};
 ghost use Rattle.request_queue.specs.Requests.{request_shape};
 ghost use Rattle.future_table.specs.Values.{values_of};
-ghost use Rattle.laws.specs.Reached.{IsThere};
+ghost use Rattle.laws.specs.Reached.{IsAt, IsThere};
+ghost use Rattle.laws.specs.Waking.{labels_wanted};
+ghost use Rattle.serve_rules.specs.Labels.{HaveSame};
 ghost use Rattle.actor.specs.Actors.{Stands, code_of};
 ghost use Rattle.actor.specs.Effects.{IsGiven};
 ghost use Rattle.replay_one.specs.Population.{
@@ -34,6 +36,7 @@ use coded_cells::Parcel;
 use future_table::FutureTable;
 use program_code::Code;
 use request_queue::Request;
+use serve_rules::LabelSet;
 use std::alloc::{AllocError, Global};
 use std::collections::BTreeMap;
 use std::sync::Arc;
@@ -131,6 +134,18 @@ impl Population {
         match self.activities.get_mut(to) {
             Some(actor) => actor.receive(alloc, request),
             None => Ok(()),
+        }
+    }
+
+    /// The labels that an activity asks for where it stands.
+    pub fn wanted(&self, alloc: Global, name: &ActivityName) -> Result<LabelSet, AllocError>
+        requires reached { IsReachedBySome self.now }
+        ensures wanted { (c : Configuration) (a : model.Activity) → IsPopulation self.now c →
+            IsAt c name.now a → IfOk result (λ s. HaveSame s (labels_wanted a)) }
+    {
+        match self.activities.get(name) {
+            Some(actor) => actor.wanted(alloc),
+            None => LabelSet::of_labels(alloc, &[]),
         }
     }
 

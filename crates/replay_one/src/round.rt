@@ -1,15 +1,15 @@
 //! A round: the least of those who are ready takes reductions, or leaves them.
 
-ghost use Rattle.std.specs.Prelude.{◌≡◌, ◌<◌, true, IfOk, None, OnOk};
+ghost use Rattle.std.specs.Prelude.{◌≡◌, ◌<◌, true, IfOk, None, OnOk, length};
 ghost use Rattle.std.specs.Arc.{arc_value};
 ghost use Rattle.asp_model.specs.Names.{Name, main_name};
 ghost use Rattle.asp_model.specs.Term.{Tree};
-ghost use Rattle.asp_model.specs.Configuration.{Configuration, start as start_of};
+ghost use Rattle.asp_model.specs.Configuration.{Configuration, requests_of, start as start_of};
 ghost use Rattle.asp_model.specs.Intent.{Effect};
 ghost use Rattle.asp_model.specs.Step.{is_next, with_effect};
 ghost use Rattle.laws.specs.Reached.{IsThere};
 ghost use Rattle.schedules.specs.Schedules.{IsNextIn};
-ghost use Rattle.replay_one.specs.Bounds.{IsAscending, count_within, lists_within};
+ghost use Rattle.replay_one.specs.Bounds.{IsAscending, IsNextAt, count_within, lists_within};
 ghost use Rattle.replay_one.specs.Population.{
   IsGiving,
   IsGivingSome,
@@ -18,7 +18,7 @@ ghost use Rattle.replay_one.specs.Population.{
   IsReachedPopulation,
   term_of,
 };
-ghost use Rattle.replay_one.specs.Schedule.{IsMoreReady, ready_in};
+ghost use Rattle.replay_one.specs.Schedule.{IsMoreReady, ready_in, sends_in};
 ghost use Rattle.replay_one.specs.Round.{
   IsFewer,
   IsHandedOn,
@@ -45,9 +45,13 @@ use std::sync::Arc;
 /// What an activity that is ready does.
 #[derive(Clone, Copy)]
 pub enum Look<'a> {
-    /// It is not there, is at its count, or cannot step.
+    /// It is not there, is at its count, or rests for good.
     Leaves,
     Awaits(&'a FutureName),
+    /// No pending request matches its `serve`.
+    Serves,
+    /// It is not next in the list of the activity that it sends to.
+    Holds(&'a ActivityName),
     Steps,
 }
 
@@ -69,6 +73,18 @@ pub struct Machine {
     pub schedule: Schedule,
 }
 
+/// Who may send the next request to an activity.
+fn next_sender<'a>(population: &Population, bounds: &'a Bounds, to: &ActivityName) -> Next<'a>
+    requires ascending { IsAscending bounds.now }
+    ensures next { (c : Configuration) → IsPopulation population.now c → IsThere c to.now →
+        IsNextAt (lists_within bounds.now) to.now (length (requests_of c to.now)) result }
+{
+    match bounds {
+        Bounds::Budget(_) => Next::Anyone,
+        Bounds::Listed(_, _) => bounds.next(to, population.received(to)),
+    }
+}
+
 /// Whether a request to an activity may come from this one now.
 fn may_come(
     population: &Population,
@@ -80,7 +96,7 @@ fn may_come(
     ensures { (c : Configuration) → IsPopulation population.now c → IsThere c to.now →
         result ≡ is_next (lists_within bounds.now) c to.now name.now }
 {
-    match bounds.next(to, population.received(to)) {
+    match next_sender(population, bounds, to) {
         Next::Anyone => true,
         Next::Only(next) => name == next,
         Next::Nobody => false,
@@ -113,19 +129,18 @@ fn look_at<'a>(
             if may_come(population, bounds, to, name) {
                 Ok(Look::Steps)
             } else {
-                Ok(Look::Leaves)
+                Ok(Look::Holds(to))
             }
         }
         Outlook::Awaits(future) => Ok(Look::Awaits(future)),
         Outlook::Faulted(_) => Ok(Look::Leaves),
-        Outlook::Serving => Ok(Look::Leaves),
+        Outlook::Serving => Ok(Look::Serves),
         Outlook::Done => Ok(Look::Leaves),
     }
 }
 
-/// Who is next in the list of an activity is ready.
+/// Who is next in the list of an activity is ready, if it is held that sends there.
 fn wake_next(
-    alloc: Global,
     schedule: &mut Schedule,
     population: &Population,
     bounds: &Bounds,
@@ -135,11 +150,11 @@ fn wake_next(
     ensures more { OnOk result (IsMoreReady schedule.old None schedule.new) }
     ensures next { (c : Configuration) (q : Name) →
         IsPopulation population.now c → IsThere c to.now →
-        IsNextIn (lists_within bounds.now) c to.now q →
+        IsNextIn (lists_within bounds.now) c to.now q → sends_in schedule.old q to.now ≡ true →
         OnOk result (ready_in schedule.new q ≡ true) }
 {
-    match bounds.next(to, population.received(to)) {
-        Next::Only(next) => schedule.wake(next.copy(alloc)?),
+    match next_sender(population, bounds, to) {
+        Next::Only(next) => schedule.wake_sender(next, to),
         Next::Anyone | Next::Nobody => Ok(()),
     }
 }
@@ -157,7 +172,7 @@ impl Machine {
         })
     }
 
-    /// What a reduction gives to others, all but who stepped being ready whom that wakes.
+    /// What a reduction gives to others, all but who stepped being ready whom that is for.
     fn give(
         &mut self,
         alloc: Global,
@@ -182,9 +197,9 @@ impl Machine {
                 self.population.insert(made, actor)
             }
             Given::Sent(to, request) => {
+                self.schedule.wake_server(&to, &request.label)?;
                 self.population.send(alloc, &to, request)?;
-                wake_next(alloc, &mut self.schedule, &self.population, bounds, &to)?;
-                self.schedule.wake(to)
+                wake_next(&mut self.schedule, &self.population, bounds, &to)
             }
             Given::Filled(future, value) => {
                 self.schedule.wake_noted(&future)?;
@@ -214,6 +229,16 @@ impl Machine {
             Look::Awaits(future) => {
                 let future = future.copy(alloc)?;
                 self.schedule.note(alloc, future, name)?;
+                Ok(false)
+            }
+            Look::Serves => {
+                let wanted = self.population.wanted(alloc, &name)?;
+                self.schedule.serve(name, wanted)?;
+                Ok(false)
+            }
+            Look::Holds(to) => {
+                let to = to.copy(alloc)?;
+                self.schedule.hold(name, to)?;
                 Ok(false)
             }
             Look::Steps => {

@@ -1,21 +1,35 @@
-//! Who may be able to step, and who is noted at the future that it awaits.
+//! Who may be able to step, and what the others wait for.
 
 ghost use Rattle.std.specs.Prelude.{◌≡◌, false, true, IfOk, MatchOption, None, OnOk, Some};
 ghost use Rattle.std.specs.List.{list_any};
-ghost use Rattle.asp_model.specs.Names.{Name, main_name, same_name};
+ghost use Rattle.asp_model.specs.Names.{Name, Text, main_name, same_name};
 ghost use Rattle.asp_model.specs.Shapes.{future_shape};
-ghost use Rattle.replay_one.specs.Schedule.{IsMoreReady, IsNoted, IsTaken, noted_in, ready_in};
+ghost use Rattle.asp_model.specs.Term.{has_text};
+ghost use Rattle.replay_one.specs.Schedule.{
+  IsMoreReady,
+  IsNoted,
+  IsTaken,
+  IsWatching,
+  asks_in,
+  noted_in,
+  ready_in,
+  sends_in,
+};
 
-use asp_model::{ActivityName, FutureName};
+use asp_model::{ActivityName, FutureName, Label};
+use serve_rules::LabelSet;
 use std::alloc::{AllocError, Global};
 use std::collections::{BTreeMap, BTreeSet};
 
-/// The names of those who may be able to step, and for each awaited future the names of those who
-/// wait for it.
+/// The names of those who may be able to step. Of the others: for each awaited future the names of
+/// those who wait for it, the labels that each server asks for, and to whom each sender is held that
+/// is not next in the list there.
 #[derive(Drop)]
 pub struct Schedule {
     ready: BTreeSet<ActivityName>,
     awaiting: BTreeMap<FutureName, Vec<ActivityName>>,
+    serving: BTreeMap<ActivityName, LabelSet>,
+    held: BTreeMap<ActivityName, ActivityName>,
 }
 
 impl Schedule {
@@ -28,6 +42,8 @@ impl Schedule {
         Ok(Schedule {
             ready,
             awaiting: BTreeMap::new(alloc),
+            serving: BTreeMap::new(alloc),
+            held: BTreeMap::new(alloc),
         })
     }
 
@@ -63,6 +79,72 @@ impl Schedule {
         names.push(name)?;
         self.awaiting.insert(future, names)?;
         Ok(())
+    }
+
+    /// A server is noted by the labels that it asks for.
+    pub fn serve(&mut self, name: ActivityName, labels: LabelSet) -> Result<(), AllocError>
+        ensures watching { OnOk result (IsWatching self.old name self.new) }
+        ensures asks { (l : Text) → OnOk result (asks_in self.new name l ≡ has_text l labels) }
+    {
+        self.serving.insert(name, labels)?;
+        Ok(())
+    }
+
+    /// A sender that is not next in a list is noted by whom it sends to.
+    pub fn hold(&mut self, name: ActivityName, to: ActivityName) -> Result<(), AllocError>
+        ensures watching { OnOk result (IsWatching self.old name self.new) }
+        ensures sends { OnOk result (sends_in self.new name to ≡ true) }
+    {
+        self.held.insert(name, to)?;
+        Ok(())
+    }
+
+    /// A server is ready, if it asks for a request with this label.
+    pub fn wake_server(&mut self, name: &ActivityName, label: &Label) -> Result<(), AllocError>
+        ensures more { OnOk result (IsMoreReady self.old None self.new) }
+        ensures ready { asks_in self.old name.now label.now.text ≡ true →
+            OnOk result (ready_in self.new name.now ≡ true) }
+    {
+        if !self.asks(name, label) {
+            return Ok(());
+        }
+        match self.serving.remove_entry(name) {
+            Some((server, _labels)) => self.wake(server),
+            None => Ok(()),
+        }
+    }
+
+    fn asks(&self, name: &ActivityName, label: &Label) -> bool
+        ensures asks { result ≡ asks_in self.now name.now label.now.text }
+    {
+        match self.serving.get(name) {
+            Some(labels) => labels.has(label),
+            None => false,
+        }
+    }
+
+    /// A sender is ready, if it is held that sends to this activity.
+    pub fn wake_sender(&mut self, name: &ActivityName, to: &ActivityName) -> Result<(), AllocError>
+        ensures more { OnOk result (IsMoreReady self.old None self.new) }
+        ensures ready { sends_in self.old name.now to.now ≡ true →
+            OnOk result (ready_in self.new name.now ≡ true) }
+    {
+        if !self.sends(name, to) {
+            return Ok(());
+        }
+        match self.held.remove_entry(name) {
+            Some((sender, _to)) => self.wake(sender),
+            None => Ok(()),
+        }
+    }
+
+    fn sends(&self, name: &ActivityName, to: &ActivityName) -> bool
+        ensures sends { result ≡ sends_in self.now name.now to.now }
+    {
+        match self.held.get(name) {
+            Some(target) => target == to,
+            None => false,
+        }
     }
 
     /// All who wait for a future are ready.

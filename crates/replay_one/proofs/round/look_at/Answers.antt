@@ -1,6 +1,6 @@
 use Rattle.std.proofs.Common.{◌≡◌, ◌<◌, Some, sym, subst, ◌∙◌, arith}
 use Rattle.asp_model.specs.Configuration.{requests_of}
-use Rattle.asp_model.specs.Intent.{Done, Serving, Faulted}
+use Rattle.asp_model.specs.Intent.{Done, Faulted}
 use Rattle.asp_model.specs.Shapes.{fault_shape, future_shape}
 use Rattle.actor.specs.declared.actor.Actor.{Actor}
 use Rattle.asp_model.specs.Step.{intent_in}
@@ -8,7 +8,7 @@ use Rattle.actor.specs.Outlook.{IsOutlook}
 use Rattle.replay_one.specs.declared.population.Population.{Population}
 use Rattle.replay_one.specs.Bounds.{count_within, lists_within}
 use Rattle.replay_one.specs.Population.{found_in}
-use Rattle.replay_one.proofs.LookLemmas.{absent_leaves, awaits_intent, awaits_rests, counted_leaves, done_leaves, done_intent, faulted_intent, held_leaves, intended, sends_now, serving_intent, steps_now, target_there}
+use Rattle.replay_one.proofs.LookLemmas.{absent_leaves, awaits_intent, awaits_rests, counted_leaves, done_leaves, done_intent, faulted_intent, held_rests, intended, sends_now, serves_rests, serving_intent, steps_now, target_there}
 use Rattle.replay_one.proofs.PopulationLemmas.{found_stands, actor_closed, values_closed}
 use Rattle.replay_one.proofs.round.look_at.Goals as goal
 
@@ -84,7 +84,7 @@ returns-else-may_come c =
           let to = c.in-Sends.to in
           let o = subst (IsOutlook (intent_in k n)) c.in-Sends.is (intended p k n x c.in_ok-outlook.outlook h.population is c.in_ok-outlook.ensures.outlook) in
           let round = sym (c.may_come.ensures k h.population (target_there program k n to h.reached o)) ∙ c.if-may_come.false in
-          held_leaves (lists_within b) (count_within b) program k n to h.reached o round;
+          held_rests (lists_within b) (count_within b) program k n to h.reached o round;
     }
 
 pub returns-in-Awaits : goal.returns-in-Awaits
@@ -110,7 +110,7 @@ returns-in-Faulted c =
     record {
       look = λ program k h.
           let y = c.in-Faulted.field-0 in
-          done_leaves (lists_within b) (count_within b) k n (Faulted (fault_shape y)) (faulted_intent _ y (subst (IsOutlook (intent_in k n)) c.in-Faulted.is (intended p k n x c.in_ok-outlook.outlook h.population is c.in_ok-outlook.ensures.outlook))) (λ f e. cc);
+          done_leaves (lists_within b) (count_within b) k n (Faulted (fault_shape y)) (faulted_intent _ y (subst (IsOutlook (intent_in k n)) c.in-Faulted.is (intended p k n x c.in_ok-outlook.outlook h.population is c.in_ok-outlook.ensures.outlook))) (λ f e. cc) (λ e. cc);
     }
 
 pub returns-in-Serving : goal.returns-in-Serving
@@ -122,7 +122,7 @@ returns-in-Serving c =
     let is : found_in p n ≡ Some x = sym c.in-Some.ensures.value in
     record {
       look = λ program k h.
-          done_leaves (lists_within b) (count_within b) k n Serving (serving_intent _ (subst (IsOutlook (intent_in k n)) c.in-Serving.is (intended p k n x c.in_ok-outlook.outlook h.population is c.in_ok-outlook.ensures.outlook))) (λ f e. cc);
+          serves_rests (lists_within b) (count_within b) k n (serving_intent _ (subst (IsOutlook (intent_in k n)) c.in-Serving.is (intended p k n x c.in_ok-outlook.outlook h.population is c.in_ok-outlook.ensures.outlook)));
     }
 
 pub returns-in-Done : goal.returns-in-Done
@@ -134,5 +134,5 @@ returns-in-Done c =
     let is : found_in p n ≡ Some x = sym c.in-Some.ensures.value in
     record {
       look = λ program k h.
-          done_leaves (lists_within b) (count_within b) k n Done (done_intent _ (subst (IsOutlook (intent_in k n)) c.in-Done.is (intended p k n x c.in_ok-outlook.outlook h.population is c.in_ok-outlook.ensures.outlook))) (λ f e. cc);
+          done_leaves (lists_within b) (count_within b) k n Done (done_intent _ (subst (IsOutlook (intent_in k n)) c.in-Done.is (intended p k n x c.in_ok-outlook.outlook h.population is c.in_ok-outlook.ensures.outlook))) (λ f e. cc) (λ e. cc);
     }

@@ -1,4 +1,4 @@
-use Rattle.std.proofs.Common.{◌≡◌, ◌∙◌, true, None, sym, ap, subst}
+use Rattle.std.proofs.Common.{◌≡◌, ◌∙◌, true, None, Ok, Err, Result, OnOk, sym, ap, subst}
 use Rattle.asp_model.specs.Names.{Name}
 use Rattle.asp_model.specs.Configuration.{Configuration}
 use Rattle.request_queue.specs.Requests.{request_shape}
@@ -9,10 +9,14 @@ use Rattle.replay_one.specs.declared.population.Population.{Population}
 use Rattle.replay_one.specs.declared.schedule.Schedule.{Schedule}
 use Rattle.replay_one.specs.Bounds.{lists_within}
 use Rattle.replay_one.specs.Population.{AreActorsOf, IsGiving, IsPopulation, with_activity, with_request}
-use Rattle.replay_one.specs.Schedule.{IsMoreReady, ready_in}
-use Rattle.replay_one.proofs.GiveLemmas.{filled_handed, filled_is, filled_new, filled_root, made_alone, made_given, made_handed, made_population, more_twice, nothing_handed, nothing_population, sent_handed, sent_is, sent_there}
-use Rattle.replay_one.proofs.PopulationLemmas.{any_way, if_ok_with, on_ok}
+use Rattle.replay_one.specs.Schedule.{IsMoreReady, ready_in, sends_in}
+use Rattle.replay_one.proofs.GiveLemmas.{filled_handed, filled_is, filled_new, filled_root, made_alone, made_given, made_handed, made_population, nothing_handed, nothing_population, sent_handed, sent_is, sent_there}
+use Rattle.replay_one.proofs.PopulationLemmas.{any_way, on_ok}
 use Rattle.replay_one.proofs.round.Machine.give.Goals as goal
+
+handed_by : {T E : Type 0} (r : Result T E) (P : Type 0) (Q R : Name → Type 0) (X : Type 0) → (P → ((m : Name) → Q m → R m) → X) → OnOk r P → ((m : Name) → Q m → OnOk r (R m)) → OnOk r X
+handed_by (Ok t) P Q R X f h k = f h k
+handed_by (Err e) P Q R X f h k = tt
 
 pub returns-in-Nothing : goal.returns-in-Nothing
 returns-in-Nothing c =
@@ -39,8 +43,8 @@ returns-in_ok-wake-in-Made c =
       handed_on = λ program k e h. any_way c.insert.result _ (made_handed p n program k e (lists_within c.args.bounds.now) c.args.self.now.schedule c.wake.new.self m x (subst (λ g. IsGiving p n g program k e) c.in-Made.is h) c.in_ok-wake-in-Made.ensures.more woken);
     }
 
-pub returns-in_ok-wake_next-in-Sent : goal.returns-in_ok-wake_next-in-Sent
-returns-in_ok-wake_next-in-Sent c =
+pub returns-in_ok-send-in-Sent : goal.returns-in_ok-send-in-Sent
+returns-in_ok-send-in-Sent c =
     let p : Population = c.args.self.now.population in
     let q : Population = c.send.new.self in
     let n = c.args.name.now in
@@ -48,19 +52,22 @@ returns-in_ok-wake_next-in-Sent c =
     let r = c.in-Sent.request in
     let lists = lists_within c.args.bounds.now in
     let s : Schedule = c.args.self.now.schedule in
+    let u : Schedule = c.wake_server.new.self in
     let t : Schedule = c.wake_next.new.schedule in
-    let u : Schedule = c.wake-in-Sent.new.self in
     record {
       population = λ program k e h.
           let g : IsGiving p n (given.Sent to r) program k e = subst (λ g. IsGiving p n g program k e) c.in-Sent.is h in
-          any_way c.wake-in-Sent.result _ (subst (IsPopulation q) (sent_is p n program k e to r g) (c.in_ok-send-in-Sent.ensures.received (with_activity n e.own k) g.here.population (sent_there p n program k e to r g)));
+          any_way c.wake_next.result _ (subst (IsPopulation q) (sent_is p n program k e to r g) (c.in_ok-send-in-Sent.ensures.received (with_activity n e.own k) g.here.population (sent_there p n program k e to r g)));
       handed_on = λ program k e h.
           let g : IsGiving p n (given.Sent to r) program k e = subst (λ g. IsGiving p n g program k e) c.in-Sent.is h in
           let d : Configuration = with_request to (request_shape r) (with_activity n e.own k) in
           let there = sent_there p n program k e to r g in
           let population : IsPopulation q d = c.in_ok-send-in-Sent.ensures.received (with_activity n e.own k) g.here.population there in
-          let next : (m : Name) → IsNextIn lists (with_effect n e k) to m → ready_in t m ≡ true = λ m i. c.in_ok-wake_next-in-Sent.ensures.next d m population there (subst (λ c'. IsNextIn lists c' to m) (sym (sent_is p n program k e to r g)) i) in
-          if_ok_with c.wake-in-Sent.result (IsMoreReady t None u) (ready_in u to ≡ true) _ (λ more woken. sent_handed p n program k e lists s u to r g (more_twice s t u c.in_ok-wake_next-in-Sent.ensures.more more) woken (λ m i. more.ready m (next m i))) c.wake-in-Sent.ensures.more c.wake-in-Sent.ensures.ready;
+          let next : (m : Name) → IsNextIn lists (with_effect n e k) to m → sends_in u m to ≡ true → OnOk c.wake_next.result (ready_in t m ≡ true) =
+          λ m i. c.wake_next.ensures.next d m population there (subst (λ c'. IsNextIn lists c' to m) (sym (sent_is p n program k e to r g)) i) in
+          handed_by c.wake_next.result (IsMoreReady u None t) (λ m. IsNextIn lists (with_effect n e k) to m × (sends_in u m to ≡ true)) (λ m. ready_in t m ≡ true) _
+          (λ more woken. sent_handed p n program k e lists s u t to r g c.in_ok-wake_server-in-Sent.ensures.more c.in_ok-wake_server-in-Sent.ensures.ready more (λ m i a. woken m (i, a)))
+          c.wake_next.ensures.more (λ m x. next m x.0 x.1);
     }
 
 pub send-requires : goal.send-requires

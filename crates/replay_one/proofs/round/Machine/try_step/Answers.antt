@@ -1,4 +1,4 @@
-use Rattle.std.proofs.Common.{subst}
+use Rattle.std.proofs.Common.{◌≡◌, true, subst}
 use Rattle.asp_model.specs.declared.name.FutureName.{FutureName}
 use Rattle.asp_model.specs.Names.{Name}
 use Rattle.asp_model.specs.Shapes.{future_shape}
@@ -7,9 +7,9 @@ use Rattle.replay_one.specs.declared.schedule.Schedule.{Schedule}
 use Rattle.replay_one.specs.declared.round.Machine.{Machine}
 use Rattle.replay_one.specs.Bounds.{count_within, lists_within}
 use Rattle.replay_one.specs.Population.{IsGiving}
-use Rattle.replay_one.specs.Schedule.{IsNoted}
+use Rattle.replay_one.specs.Schedule.{IsNoted, sends_in}
 use Rattle.replay_one.specs.Round.{CanStep, IsLook}
-use Rattle.replay_one.proofs.RunLemmas.{awaits_round, but_reached, leaves_round, steps_round}
+use Rattle.replay_one.proofs.RunLemmas.{awaits_round, but_reached, holds_round, leaves_round, serves_round, steps_round}
 use Rattle.replay_one.proofs.round.Machine.try_step.Goals as goal
 
 pub look_at-requires-clause-reached : goal.look_at-requires-clause-reached
@@ -62,3 +62,27 @@ returns-in_ok-wake-in-Steps-clause-tried c = λ program k h.
     (c.in_ok-give-in-Steps.ensures.population program k x.effect giving)
     (c.in_ok-give-in-Steps.ensures.handed_on program k x.effect giving)
     c.in_ok-wake-in-Steps.ensures.more c.in_ok-wake-in-Steps.ensures.ready
+
+pub wanted-requires : goal.wanted-requires
+wanted-requires c =
+    let r = c.requires.running in
+    record { reached = (r.0, r.1, but_reached c.args.bounds.now c.args.self.now c.args.name r.0 r.1 r.2) }
+
+pub returns-in_ok-serve-in-Serves-clause-tried : goal.returns-in_ok-serve-in-Serves-clause-tried
+returns-in_ok-serve-in-Serves-clause-tried c = λ program k h.
+    let b : Bounds = c.args.bounds.now in
+    let m : Machine = c.args.self.now in
+    let n : Name = c.args.name in
+    let look = subst (IsLook (lists_within b) (count_within b) k n) c.in-Serves.is (c.in_ok-look.ensures.look program k (but_reached b m n program k h)) in
+    serves_round b program k n m.population h.before m.schedule c.serve.new.self c.in_ok-wanted-in-Serves.wanted h.run h.taken c.in_ok-serve-in-Serves.ensures.watching c.in_ok-serve-in-Serves.ensures.asks
+    (λ a is. c.in_ok-wanted-in-Serves.ensures.wanted k a h.run.population is) look.0 look.1
+
+pub returns-in_ok-hold-in-Holds-clause-tried : goal.returns-in_ok-hold-in-Holds-clause-tried
+returns-in_ok-hold-in-Holds-clause-tried c = λ program k h.
+    let b : Bounds = c.args.bounds.now in
+    let m : Machine = c.args.self.now in
+    let n : Name = c.args.name in
+    let to : Name = c.in-Holds.to.now in
+    let look = subst (IsLook (lists_within b) (count_within b) k n) c.in-Holds.is (c.in_ok-look.ensures.look program k (but_reached b m n program k h)) in
+    let sends = subst (λ (q : Name). sends_in c.hold.new.self n q ≡ true) c.in_ok-to-in-Holds.ensures.name c.in_ok-hold-in-Holds.ensures.sends in
+    holds_round b program k n m.population h.before m.schedule c.hold.new.self to h.run h.taken c.in_ok-hold-in-Holds.ensures.watching sends look.0 look.1

@@ -14,6 +14,6 @@ returns-in-Some-clause-more c =
     let old : Schedule = c.args.self.now in
     let f = future_shape c.args.future.now in
     elim c.wake_all.result as (λ r. OnOk r (IsMoreReady (record old { awaiting = c.remove.new.self }) None c.wake_all.new.self) → OnOk r (IsMoreReady old (Some f) c.wake_all.new.self)) [
-      | Ok x ↦ λ h. record { ready = h.ready; noted = λ g m d. h.noted g m (no_future g) ∙ taken_out old.awaiting c.remove.new.self c.args.future.now g m c.in-Some.ensures.updates d }
+      | Ok x ↦ λ h. record { ready = h.ready; noted = λ g m d. h.noted g m (no_future g) ∙ taken_out old.awaiting c.remove.new.self c.args.future.now g m c.in-Some.ensures.updates d; asks = h.asks; sends = h.sends }
       | Err e ↦ λ h. h
     ] c.wake_all.ensures.more
