@@ -1,9 +1,4 @@
-pub mod MarkLemmas
-pub mod NameLemmas
-pub mod NumberLemmas
-pub mod RecordLemmas
 pub mod SettlingLemmas
-pub mod GrowthLemmas
 pub mod OwedLemmas
-pub mod PlaceLemmas
+pub mod EdgeLemmas
 pub mod HolderLemmas

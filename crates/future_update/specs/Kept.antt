@@ -2,8 +2,8 @@
 use Rattle.std.specs.Prelude.{◌≡◌, ℕ, ◌≤◌, length}
 use Rattle.future_update.specs.declared.holders.Holders.TheInside.{Inside}
 use Rattle.future_update.specs.Holders.{HoldersView}
-use Rattle.future_update.specs.Marks.{IsTree, is_marked, room}
-use Rattle.future_update.specs.Records.{AreRecords, answers_of, owes, shape_of}
+use Rattle.marked_places.specs.Marks.{IsTree, is_marked, room}
+use Rattle.edge_records.specs.Records.{AreRecords, answers_of, owes, shape_of}
 use Rattle.future_update.specs.Passings.{ArePassings}
 
 abbrev pub view_of : Inside → HoldersView

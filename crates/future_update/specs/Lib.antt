@@ -1,10 +1,3 @@
-pub mod Firsts
-pub mod Marks
-pub mod Ticks
-pub mod Names
-pub mod Numbered
-pub mod Changes
-pub mod Records
 pub mod Passings
 pub mod Holders
 pub mod Kept

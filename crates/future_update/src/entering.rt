@@ -4,12 +4,12 @@ ghost use Rattle.std.specs.Prelude.{◌≡◌, ◌+◌, ◌<◌, ◌≤◌, ◌+
 ghost use Rattle.std.specs.BTreeSet.{contains};
 ghost use Rattle.asp_model.specs.Shapes.{choice_shape};
 ghost use Rattle.journals.specs.Edges.{Passes, after_event, has_edge};
-ghost use Rattle.future_update.specs.Marks.{IsTree, SameMarks, is_marked, room as room_of};
-ghost use Rattle.future_update.specs.Names.{edge_of};
-ghost use Rattle.future_update.specs.declared.numbered.Passing.{Passing};
-ghost use Rattle.future_update.specs.Numbered.{IsPassed};
+ghost use Rattle.marked_places.specs.Marks.{IsTree, SameMarks, is_marked, room as room_of};
+ghost use Rattle.edge_records.specs.Names.{edge_of};
+ghost use Rattle.edge_records.specs.declared.numbered.Passing.{Passing};
+ghost use Rattle.edge_records.specs.Numbered.{IsPassed};
 ghost use Rattle.future_update.specs.Passings.{ArePassings, passing_cmp, passing_of};
-ghost use Rattle.future_update.specs.Records.{
+ghost use Rattle.edge_records.specs.Records.{
   AreRecords,
   HasRoom,
   answers_of,
@@ -18,11 +18,10 @@ ghost use Rattle.future_update.specs.Records.{
   shape_of,
 };
 
-use crate::marks::Marks;
-use crate::numbered::{Edge, Passing};
-use crate::records::Records;
 use crate::settling::settle_at;
 use asp_model::Choice;
+use edge_records::{Edge, Passing, Records};
+use marked_places::Marks;
 use std::alloc::AllocError;
 use std::collections::BTreeSet;
 

@@ -19,8 +19,8 @@ ghost use Rattle.std.specs.Prelude.{
 ghost use Rattle.std.specs.Option.{option_copied};
 ghost use Rattle.asp_model.specs.Shapes.{delivery_shape, future_shape};
 ghost use Rattle.journals.specs.Edges.{Begins, Passes, after_event, home_of, is_no_edge, no_holders};
-ghost use Rattle.future_update.specs.Changes.{once_filled, once_received};
-ghost use Rattle.future_update.specs.Firsts.{IsFirstFrom};
+ghost use Rattle.edge_records.specs.Changes.{once_filled, once_received};
+ghost use Rattle.marked_places.specs.Firsts.{IsFirstFrom};
 ghost use Rattle.future_update.specs.Holders.{
   AreEdges,
   answered,
@@ -30,15 +30,13 @@ ghost use Rattle.future_update.specs.Holders.{
   place_in,
   with_delivery,
 };
-ghost use Rattle.future_update.specs.Names.{edge_between, edge_named};
+ghost use Rattle.edge_records.specs.Names.{edge_between, edge_named};
 
-use crate::edge::EdgeNames;
 use crate::entering::{enter, make_room};
-use crate::marks::Marks;
-use crate::numbered::Passing;
-use crate::records::Records;
 use crate::settling::{settle_filled, settle_received};
 use asp_model::{ActivityName, Delivery, FutureName};
+use edge_records::{EdgeNames, Passing, Records};
+use marked_places::Marks;
 use std::alloc::{AllocError, Global};
 use std::collections::BTreeSet;
 use std::marker::Model;

@@ -2,13 +2,12 @@
 
 ghost use Rattle.std.specs.Prelude.{◌≡◌, ◌≤◌, ℕ, length};
 ghost use Rattle.std.specs.BTreeMap.Range.{IsLeBy};
-ghost use Rattle.future_update.specs.Marks.{IsTree, MarkedIf, is_marked, room as room_of};
+ghost use Rattle.marked_places.specs.Marks.{IsTree, MarkedIf, is_marked, room as room_of};
 ghost use Rattle.future_update.specs.Passings.{ArePassings, IsLeft, IsLeftOf, IsSound, passing_cmp};
-ghost use Rattle.future_update.specs.Records.{AreRecords, owes};
+ghost use Rattle.edge_records.specs.Records.{AreRecords, owes};
 
-use crate::marks::Marks;
-use crate::numbered::{Future, Passing, Receipt};
-use crate::records::Records;
+use edge_records::{Future, Passing, Receipt, Records};
+use marked_places::Marks;
 use std::collections::BTreeSet;
 
 /// Marks what is owed between two passings, where all else that is owed is marked.

@@ -1,5 +1,5 @@
 use Rattle.std.proofs.Common.{◌≡◌}
-use Rattle.future_update.specs.Marks.{IsTree, room}
+use Rattle.marked_places.specs.Marks.{IsTree, room}
 use Rattle.future_update.specs.Passings.{AreAhead, IsSound}
 use Rattle.future_update.proofs.settling.settle.Given as goal
 

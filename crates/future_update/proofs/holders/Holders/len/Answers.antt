@@ -1,7 +1,7 @@
 use Rattle.std.proofs.Common.{subst}
 use Rattle.future_update.specs.Holders.{AreEdges, HoldersView}
-use Rattle.future_update.specs.Records.{names_of}
-use Rattle.future_update.proofs.PlaceLemmas.{edges_apart}
+use Rattle.edge_records.specs.Records.{names_of}
+use Rattle.future_update.proofs.EdgeLemmas.{edges_apart}
 use Rattle.future_update.proofs.holders.Holders.len.Goals as goal
 
 pub returns-clause-edges : goal.returns-clause-edges

@@ -3,8 +3,8 @@ use Rattle.std.specs.Prelude.{slice_get}
 use Rattle.std.proofs.lemmas.Option.{slice_get_past}
 use Rattle.asp_model.specs.History.{ChoiceShape}
 use Rattle.journals.specs.Edges.{EdgeShape, no_holders, owed_at}
-use Rattle.future_update.specs.declared.numbered.Edge.{Edge}
-use Rattle.future_update.specs.Marks.{room}
+use Rattle.edge_records.specs.declared.numbered.Edge.{Edge}
+use Rattle.marked_places.specs.Marks.{room}
 use Rattle.future_update.specs.Passings.{ArePassings}
 use Rattle.future_update.proofs.HolderLemmas.{owes_by}
 use Rattle.future_update.proofs.holders.Holders.new.Goals as goal

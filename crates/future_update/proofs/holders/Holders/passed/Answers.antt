@@ -1,6 +1,6 @@
 use Rattle.std.proofs.Common.{◌≡◌, ◌≤◌, ◌∙◌, ◌++◌, ◌∷◌, [], ◌+◌, List, length, length-append, sym, ap, subst, arith}
-use Rattle.future_update.specs.declared.numbered.Edge.{Edge}
-use Rattle.future_update.specs.Marks.{room}
+use Rattle.edge_records.specs.declared.numbered.Edge.{Edge}
+use Rattle.marked_places.specs.Marks.{room}
 use Rattle.future_update.specs.Passings.{ArePassings}
 use Rattle.future_update.proofs.HolderLemmas.{kept, owes_same, passings_more}
 use Rattle.future_update.proofs.holders.Holders.passed.Goals as goal

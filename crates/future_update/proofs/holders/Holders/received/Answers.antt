@@ -1,6 +1,6 @@
 use Rattle.std.proofs.Common.{◌∙◌, sym}
-use Rattle.future_update.specs.Names.{future_of, name_of}
-use Rattle.future_update.specs.Records.{names_of, shape_of}
+use Rattle.edge_records.specs.Names.{future_of, name_of}
+use Rattle.edge_records.specs.Records.{names_of, shape_of}
 use Rattle.future_update.proofs.HolderLemmas.{first_received, kept, owes_same, receive_left, receive_sound, received_before, settled}
 use Rattle.future_update.proofs.holders.Holders.received.Goals as goal
 

@@ -1,0 +1,4 @@
+pub mod Names
+pub mod Numbered
+pub mod Changes
+pub mod Records
