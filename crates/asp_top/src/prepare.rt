@@ -96,7 +96,9 @@ fn prepare_run<'a, S: Source>(
         IfErr result (StopsTask (outside S.told source) task) }
 {
     let checked = program_of(alloc, file, source)?;
-    let end = run_plain(alloc, &checked, budget)?;
+    let end = run_plain(alloc, &checked, budget);
+    drop(checked);
+    let end = end?;
     Ok(report_for(alloc, &end, depth)?)
 }
 
@@ -108,7 +110,7 @@ fn prepare_check<'a, S: Source>(
     ensures answer { IfOk result (IsReady (outside S.told source) (Checks file.entry.now)) }
     ensures stop { IfErr result (StopsTask (outside S.told source) (Checks file.entry.now)) }
 {
-    program_of(alloc, file, source)?;
+    drop(program_of(alloc, file, source)?);
     Ok(checked_text(alloc)?)
 }
 
@@ -125,9 +127,18 @@ fn prepare_replay<'a, S: Source>(
         IfErr result (StopsTask (outside S.told source) task) }
 {
     let checked = program_of(alloc, file, source)?;
-    let (lists, counts) = lists_of(alloc, report, source)?;
-    let end = replay(alloc, &checked, &lists, &counts)?;
-    Ok(report_for(alloc, &end, depth)?)
+    match lists_of(alloc, report, source) {
+        Ok((lists, counts)) => {
+            let end = replay(alloc, &checked, &lists, &counts);
+            drop((checked, lists, counts));
+            let end = end?;
+            Ok(report_for(alloc, &end, depth)?)
+        }
+        Err(stop) => {
+            drop(checked);
+            Err(stop)
+        }
+    }
 }
 
 fn prepare_made<'a>(alloc: Global, pairs: u64, budget: u64) -> Result<Prepared, Stop<'a>>
@@ -139,7 +150,9 @@ fn prepare_made<'a>(alloc: Global, pairs: u64, budget: u64) -> Result<Prepared, 
 {
     let text = make(alloc, pairs)?;
     let program = checked_in(alloc, text.as_bytes())?;
-    let end = run_plain(alloc, &program, budget)?;
+    let end = run_plain(alloc, &program, budget);
+    drop(program);
+    let end = end?;
     Ok(summary_for(alloc, pairs, &end.outcome)?)
 }
 
