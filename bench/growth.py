@@ -17,12 +17,14 @@ import statistics
 import subprocess
 import sys
 import tempfile
+from itertools import repeat
 from typing import NamedTuple
 
 import measure
 
 MOST = ["--budget", "10000000"]
 ALLOWED = 2.5
+LIMIT = 60  # seconds of the processor, after which a run is stopped
 COUNTS = "if (k == 0) { 0 } else"
 
 
@@ -31,6 +33,7 @@ class Program(NamedTuple):
     size: int  # the larger of the two
     text: object  # the program's text at a size
     shows: str  # what is measured
+    words: tuple = ()  # further words of the command, of runs and of replays
 
 
 def joined(pieces):
@@ -146,19 +149,19 @@ def nested(n):
 
 def passive_group(n):
     """A group of n objects is called."""
-    members = ",".join("o" for _ in range(n))
+    members = ",".join(repeat("o", n))
     return f"let o = [; f(s, v) = v] in print(size(group({members}).f(1)))"
 
 
 def active_group(n):
     """A group of n references is called, and the answers are waited for."""
-    members = ",".join("a" for _ in range(n))
+    members = ",".join(repeat("a", n))
     return f"let a = active([; f(s, v) = v]) in print(size(waitall(group({members}).f(1))))"
 
 
 def scattered(n):
     """A group of n references is called, each with an answer of its own as the argument."""
-    members = ",".join("a" for _ in range(n))
+    members = ",".join(repeat("a", n))
     return (
         "let a = active([; f(s, v) = v]) in let b = active([; id(s, v) = v]) in "
         f"let g = group({members}) in print(size(waitall(scatter(g, f, waitall(g.f(b.id(1)))))))"
@@ -167,7 +170,7 @@ def scattered(n):
 
 def passed_group(n):
     """A group of n objects in a request, and in its answer."""
-    members = ",".join("[]" for _ in range(n))
+    members = ",".join(repeat("[]", n))
     return f"let a = active([; f(s, v) = v]) in print(size(a.f(group({members}))))"
 
 
@@ -193,6 +196,20 @@ def wide_class(n):
     return f"let o = [; {methods}] in let m = [; many(s, k) = {COUNTS} {{ o.f{n - 1}(); s.many(k - 1) }}] in m.many({n})"
 
 
+def wide_server(n):
+    """An activity of n methods, that serves as many requests for the last."""
+    methods = ",".join(f"f{k}(s)=1" for k in range(n))
+    return (
+        f"let a = active([; {methods}]) in "
+        f"let m = [; many(s, k) = {COUNTS} {{ a.f{n - 1}(); s.many(k - 1) }}] in m.many({n})"
+    )
+
+
+def members(n, member):
+    """Main ends with a group of n members."""
+    return f"let o = [x = 1] in group({','.join(repeat(member, n))})"
+
+
 PROGRAMS = [
     Program("newest", 20_000, newest, "pending requests, and the newest label is served"),
     Program("in_turn", 20_000, in_turn, "pending requests of two labels, served in turn"),
@@ -212,7 +229,10 @@ PROGRAMS = [
     Program("passed_group", 200_000, passed_group, "objects in a group, passed and answered"),
     Program("parcel", 1_000_000, parcel, "cells of a parcel, passed and answered"),
     Program("wide_object", 80_000, wide_object, "fields of an object, the last written as often"),
+    Program("wide_server", 4_000, wide_server, "methods of an activity, the last asked for as often"),
     Program("wide_class", 80_000, wide_class, "methods of an object, the last called as often"),
+    Program("places", 160_000, lambda n: members(n, "[x=1]"), "objects in a group, shown", ("--state", "4")),
+    Program("one_place", 400_000, lambda n: members(n, "o"), "times one object in a group, shown", ("--state", "4")),
 ]
 
 # Bodies: what holds a body, of which another branch runs, by the number of turns and the body
@@ -252,11 +272,12 @@ def counted(program, words):
 
 
 def median(options, words):
-    """The run whose seconds are the median, or None where the program refuses the words."""
+    """The run whose seconds are the median, or None where one was refused or stopped."""
     if options.counts:
         runs = [counted(options.program, words)]
     else:
-        runs = [measure.once(options.program, words) for _ in range(options.turns)]
+        limited = [f"--cpu={LIMIT}", options.program, *words]
+        runs = [measure.once("prlimit", limited) for _ in range(options.turns)]
     if any(run.status not in (0, 1, 4, 5) for run in runs):
         return None
     middle = statistics.median(run.seconds for run in runs)
@@ -264,12 +285,12 @@ def median(options, words):
 
 
 def seconds(run):
-    return f"{run.seconds:9.3f}" if run else f"{'refused':>9}"
+    return f"{run.seconds:9.3f}" if run else f"{'none':>9}"
 
 
 def ratio(small, large):
     if not small or not large:
-        return f"{'':>7}", ""
+        return f"{'':>7}", f"  <-- refused, or stopped after {LIMIT} s"
     times = large.seconds / small.seconds
     return f"{times:7.2f}", "  <-- more than 2.5" if times > ALLOWED else ""
 
@@ -277,14 +298,14 @@ def ratio(small, large):
 def show_growth(folder, program, options):
     size = max(2, int(program.size * options.scale))
     texts = [folder.text(program.text(n)) for n in (size // 2, size)]
-    runs = [median(options, [text, *MOST]) for text in texts]
+    runs = [median(options, [text, *MOST, *program.words]) for text in texts]
     times, mark = ratio(*runs)
     line = f"{size:>9,} {program.shows:<56}{seconds(runs[0])}{seconds(runs[1])}{times}"
     if not options.runs_alone:
         reports = [folder.new() for _ in texts]
         for text, report in zip(texts, reports):
-            measure.once(options.program, [text, *MOST], report)
-        replays = [median(options, [text, "--replay", report]) for text, report in zip(texts, reports)]
+            measure.once(options.program, [text, *MOST, *program.words], report)
+        replays = [median(options, [text, "--replay", report, *program.words]) for text, report in zip(texts, reports)]
         times, other = ratio(*replays)
         line += f"{seconds(replays[0])}{seconds(replays[1])}{times}"
         mark = mark or other
