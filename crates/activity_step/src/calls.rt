@@ -28,6 +28,7 @@ use program_code::Code;
 use std::alloc::{AllocError, Global};
 
 /// The first operand, and the others.
+#[inline(always)]
 pub fn first_and_others(operands: &[Place]) -> Option<(Place, &[Place])>
     ensures first { IfSome result (λ x. operands.now ≡ x.0 ∷ x.1.now) }
 {
@@ -75,7 +76,7 @@ fn asked_of<'a>(
 
 impl State {
     /// `i.m(k ..)`, where the node with this number has the label.
-    #[inline(never)]
+    #[inline(always)]
     pub fn call_turn(
         &mut self,
         alloc: Global,

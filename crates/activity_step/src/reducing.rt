@@ -24,6 +24,7 @@ use program_code::{Code, Kind, Node};
 use std::alloc::{AllocError, Global};
 
 /// The node with a number.
+#[inline(always)]
 pub fn node_in<'a>(code: &'a Code, number: usize) -> Option<&'a Node>
     ensures piece { IfSome result
         (λ n. piece_at (pieces code.now) number ≡ node_piece (pieces code.now) n.now) }

@@ -24,6 +24,7 @@ use std::alloc::{AllocError, Global};
 
 impl State {
     /// The one operand of the redex.
+    #[inline(always)]
     fn last_operand(&self, count: usize) -> Option<Place>
         ensures one { IfSome result
             (λ p. last count self.now.machine.operands.items ≡ p ∷ []) }
@@ -54,6 +55,7 @@ impl State {
     }
 
     /// A sequence that goes on with its last term.
+    #[inline(always)]
     fn last_step(
         &mut self,
         node: &Node,
@@ -81,6 +83,7 @@ impl State {
     }
 
     /// A sequence that goes on with several terms.
+    #[inline(always)]
     fn next_steps(
         &mut self,
         node: &Node,
@@ -106,7 +109,7 @@ impl State {
     }
 
     /// `i; rest`, where so many terms of the sequence are gone.
-    #[inline(never)]
+    #[inline(always)]
     pub fn steps_turn(
         &mut self,
         node: &Node,
@@ -134,6 +137,7 @@ impl State {
     }
 
     /// `repeat(a)`, or the sequence that it became, whose first term is done.
+    #[inline(always)]
     pub fn repeat_turn(
         &mut self,
         number: usize,
@@ -163,7 +167,7 @@ impl State {
     }
 
     /// `if (i) {a} else {b}`.
-    #[inline(never)]
+    #[inline(always)]
     pub fn if_turn(
         &mut self,
         alloc: Global,
@@ -187,6 +191,7 @@ impl State {
     }
 
     /// The branch that a number chooses.
+    #[inline(always)]
     fn choose(
         &mut self,
         node: &Node,
@@ -213,6 +218,7 @@ impl State {
 }
 
 /// A number that is 0 chooses the second branch, which is the third child.
+#[inline(always)]
 fn branch_of(number: i64) -> usize
     ensures chosen { result ≡ chosen number }
 {

@@ -9,7 +9,7 @@ ghost use Rattle.asp_check.specs.ReadableProp.{readable_prop as one_proof};
 use asp_model::Program;
 
 /// A program that was read, and has no fault.
-#[derive(Debug, Drop)]
+#[derive(Drop)]
 pub struct Checked {
     program: Program,
     ghost readable: { IsReadable (tree_of program.root) } by { one_proof (tree_of program.root) },

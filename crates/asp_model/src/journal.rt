@@ -15,7 +15,7 @@ pub enum Choice {
 }
 
 /// A value of a future that goes to an activity.
-#[derive(Debug, Drop)]
+#[derive(Drop)]
 pub enum Delivery {
     /// To each place that holds the future, since one activity passed it to another.
     Edge {
@@ -32,7 +32,7 @@ pub enum Delivery {
 }
 
 /// One line of a journal. Activities are numbered from 0, in the order in which they were created.
-#[derive(Debug, Drop)]
+#[derive(Drop)]
 pub enum Entry {
     /// An activity was lent.
     Lent(u32),
@@ -42,7 +42,7 @@ pub enum Entry {
 }
 
 /// What a run begins with.
-#[derive(Debug, Drop)]
+#[derive(Drop)]
 pub struct Start {
     pub program: Program,
     pub budget: u64,

@@ -57,14 +57,14 @@ pub enum Verdict {
 }
 
 /// A line of output.
-#[derive(Debug, Drop)]
+#[derive(Drop)]
 pub enum Line {
     Number(i64),
     Text(Word),
 }
 
 /// One activity at the end of a run.
-#[derive(Debug, Drop)]
+#[derive(Drop)]
 pub struct ActivityReport {
     pub name: ActivityName,
     /// Its reductions.
@@ -78,19 +78,19 @@ pub struct ActivityReport {
 
 /// For each activity the senders of its requests, in order of arrival, in strictly ascending order of
 /// names.
-#[derive(Debug, Drop)]
+#[derive(Drop)]
 pub struct Lists {
     pub entries: Vec<(ActivityName, Vec<ActivityName>)>,
 }
 
 /// For each activity the number of its reductions, in strictly ascending order of names.
-#[derive(Debug, Drop)]
+#[derive(Drop)]
 pub struct Counts {
     pub entries: Vec<(ActivityName, u64)>,
 }
 
 /// A run at its end: the activities in ascending order of names.
-#[derive(Debug, Drop)]
+#[derive(Drop)]
 pub struct Outcome {
     pub verdict: Verdict,
     pub activities: Vec<ActivityReport>,

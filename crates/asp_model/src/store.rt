@@ -8,14 +8,14 @@ use std::alloc::{AllocError, Global};
 
 /// An object: its fields' places, and its methods, whose bodies hold places in place of the variables
 /// that were bound round the object.
-#[derive(Debug, Drop)]
+#[derive(Drop)]
 pub struct Object {
     pub fields: Vec<(Label, Place)>,
     pub methods: Vec<Method>,
 }
 
 /// A cell of a store.
-#[derive(Debug, Drop)]
+#[derive(Drop)]
 pub enum Cell {
     Number(i64),
     Object(Object),
@@ -29,7 +29,7 @@ pub enum Cell {
 
 /// A deep copy: cells that hold each other's numbers, and the numbers of the roots. It passes
 /// between two activities, or is the value of a future.
-#[derive(Debug, Drop)]
+#[derive(Drop)]
 pub struct Parcel {
     cells: Vec<Cell>,
     roots: Vec<Place>,
@@ -60,7 +60,7 @@ impl Parcel {
 }
 
 /// What is asked of an activity. The arguments stay a closed copy until they are served.
-#[derive(Debug, Drop)]
+#[derive(Drop)]
 pub struct Request {
     pub label: Label,
     pub arguments: Parcel,

@@ -23,7 +23,7 @@ pub enum Sign {
 }
 
 /// Where a node stood in its source text. A mark means nothing in a run.
-#[derive(Debug, Drop)]
+#[derive(Drop)]
 pub struct Mark {
     /// The place of the node's first token, behind the parentheses directly round the node.
     pub at: usize,
@@ -59,7 +59,7 @@ impl Mark {
 }
 
 /// A method of an object.
-#[derive(Debug, Drop)]
+#[derive(Drop)]
 #[cycle(term)]
 pub struct Method {
     pub label: Label,
@@ -70,7 +70,7 @@ pub struct Method {
 }
 
 /// A term, whose values are places of a store.
-#[derive(Debug, Drop)]
+#[derive(Drop)]
 #[cycle(term)]
 pub enum Term {
     Loc(Place, Mark),
@@ -108,7 +108,7 @@ pub enum Term {
 }
 
 /// A program as it was read: it has neither places nor holes.
-#[derive(Debug, Drop)]
+#[derive(Drop)]
 pub struct Program {
     pub root: Term,
 }

@@ -123,6 +123,7 @@ impl Machine {
     }
 
     /// Where the environment of the innermost frame ends.
+    #[inline(always)]
     pub fn top_height(&self) -> usize
         ensures height { result ≡ top (reverse self.now.frames.items) }
     {
@@ -132,6 +133,7 @@ impl Machine {
         }
     }
 
+    #[inline(always)]
     fn put_environment(&mut self, count: usize, captured: &[usize]) -> Result<(), AllocError>
         ensures view { OnOk result
             (view_of self.new ≡ environment_view count captured.now (view_of self.old)) }
@@ -140,12 +142,13 @@ impl Machine {
         let first = self.operands.len().saturating_sub(count);
         self.env.truncate(height);
         self.base = self.env.len();
-        self.env.extend_from_slice(captured)?;
-        self.env.extend_from_slice(&self.operands[first..])?;
+        push_all(&mut self.env, captured)?;
+        push_all(&mut self.env, &self.operands[first..])?;
         Ok(())
     }
 
     /// A call of the last operands has become a method's body, behind what the method captured.
+    #[inline(always)]
     pub fn enter_body(
         &mut self,
         count: usize,
@@ -158,4 +161,15 @@ impl Machine {
         self.put_environment(count, captured)?;
         self.become_child(count, body)
     }
+}
+
+// Appends places one by one, since most bodies have few.
+#[inline(always)]
+fn push_all(env: &mut Vec<usize>, places: &[usize]) -> Result<(), AllocError>
+    ensures places { OnOk result (env.new.items ≡ env.old.items ++ places.now) }
+{
+    for place in places {
+        env.push(*place)?;
+    }
+    Ok(())
 }

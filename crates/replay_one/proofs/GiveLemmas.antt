@@ -28,7 +28,7 @@ use Rattle.actor.specs.declared.actor.Actor.{Actor}
 use Rattle.actor.specs.declared.act.Given.TheVariants as given
 use Rattle.actor.specs.Actors.{Stands}
 use Rattle.actor.specs.Effects.{IsMade}
-use Rattle.schedules.specs.Schedules.{IsNextIn, IsSentTo}
+use Rattle.schedules.specs.Schedules.{IsNextIn}
 use Rattle.schedules.proofs.EffectLemmas.{absent_received_none}
 use Rattle.replay_one.specs.declared.population.Population.{Population}
 use Rattle.replay_one.specs.declared.schedule.Schedule.{Schedule}

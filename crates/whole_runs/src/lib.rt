@@ -1,11 +1,9 @@
-//! Whole runs of which no command shows what is tested: reads and writes that fail, marks, printed
+//! Whole runs of which no command shows what is tested: reads and writes that fail, printed
 //! programs, and replays under lists that no report has.
 #![tactic(auto)]
 
 #[cfg(test)]
 mod faults_of_the_outside;
-#[cfg(test)]
-mod marks;
 #[cfg(test)]
 mod printing;
 #[cfg(test)]

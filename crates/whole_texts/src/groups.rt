@@ -1,13 +1,8 @@
-//! Groups as texts: read with their marks, and printed.
+//! Groups as texts: read, and printed.
 
 use asp_print::print_program;
 use asp_syntax::{SyntaxError, SyntaxFault, SyntaxKind, read_program};
 use std::alloc::{AllocError, Global};
-
-fn shown(alloc: Global, text: &str) -> Result<String, SyntaxError> {
-    let program = read_program(alloc, text.as_bytes())?;
-    Ok(format!(in alloc; "{:?}", program.root)?)
-}
 
 fn printed(alloc: Global, text: &str) -> Result<String, SyntaxError> {
     let program = read_program(alloc, text.as_bytes())?;
@@ -21,53 +16,6 @@ fn fault_in(alloc: Global, text: &str) -> Result<Option<SyntaxFault>, AllocError
         Err(SyntaxError::Fault(fault)) => Ok(Some(fault)),
         Err(SyntaxError::Memory) => Err(AllocError),
     }
-}
-
-#[test]
-fn groups_are_read_with_their_marks(rt: HostRuntime) -> Result<(), SyntaxError> {
-    let alloc = rt.alloc();
-    let rows = [
-        (
-            "group()",
-            "Group([], Mark { at: 0, parentheses: 0, left: 0, names: [] })",
-        ),
-        (
-            "(group(1, (group())))",
-            "Group([\
-             Number(1, Mark { at: 7, parentheses: 0, left: 0, names: [] }), \
-             Group([], Mark { at: 11, parentheses: 1, left: 0, names: [] })], \
-             Mark { at: 1, parentheses: 1, left: 0, names: [] })",
-        ),
-        (
-            "scatter(g, m, (h))",
-            "Scatter(\
-             Var(Word { text: \"g\" }, Mark { at: 8, parentheses: 0, left: 0, names: [] }), \
-             Label { text: Word { text: \"m\" } }, \
-             Var(Word { text: \"h\" }, Mark { at: 15, parentheses: 1, left: 0, names: [] }), \
-             Mark { at: 0, parentheses: 0, left: 0, names: [11] })",
-        ),
-        (
-            "1; member(g, 2)",
-            "Steps([\
-             Number(1, Mark { at: 0, parentheses: 0, left: 0, names: [] }), \
-             Member(\
-             Var(Word { text: \"g\" }, Mark { at: 10, parentheses: 0, left: 0, names: [] }), \
-             Number(2, Mark { at: 13, parentheses: 0, left: 0, names: [] }), \
-             Mark { at: 3, parentheses: 0, left: 0, names: [] })], \
-             Mark { at: 0, parentheses: 0, left: 0, names: [] })",
-        ),
-        (
-            "size(waitall((g)))",
-            "Size(WaitAll(\
-             Var(Word { text: \"g\" }, Mark { at: 14, parentheses: 1, left: 0, names: [] }), \
-             Mark { at: 5, parentheses: 0, left: 0, names: [] }), \
-             Mark { at: 0, parentheses: 0, left: 0, names: [] })",
-        ),
-    ];
-    for (text, want) in rows {
-        assert_eq!(rt; shown(alloc, text)?.as_str(), want);
-    }
-    Ok(())
 }
 
 #[test]

@@ -1,12 +1,10 @@
-use Rattle.std.proofs.Common.{◌≡◌, ◌∙◌, IfOk, Some, sym, ap, subst}
+use Rattle.std.proofs.Common.{◌≡◌, ◌∙◌, IfOk, sym, subst}
 use Rattle.asp_model.specs.Configuration as model
 use Rattle.asp_model.specs.Configuration.{requests_of}
 use Rattle.laws.specs.Waking.{labels_wanted}
-use Rattle.laws.proofs.NameLemmas.{is_there, no_some, some_is}
+use Rattle.laws.proofs.NameLemmas.{no_some, some_is}
 use Rattle.serve_rules.specs.Labels.{HaveSame}
 use Rattle.actor.specs.declared.actor.Actor.{Actor}
-use Rattle.replay_one.specs.declared.population.Population.{Population}
-use Rattle.replay_one.specs.Population.{found_in}
 use Rattle.replay_one.proofs.PopulationLemmas.{actor_closed, found_stands, there_found}
 use Rattle.replay_one.proofs.population.Population.wanted.Goals as goal
 
