@@ -1,5 +1,5 @@
 -- Names and seats by numbers, as an index set and a vector have them.
-use Rattle.std.proofs.Common.{◌≡◌, ◌≢◌, ◌+◌, ◌-◌, ◌^◌, ◌<◌, ◌++◌, ◌∷◌, [], ℕ, zero, suc, Bool, true, false, List, Option, Some, None, length, length-append, map, slice_get, slice_index_or, slice_set, refl, sym, ap, subst, ◌∙◌, T, arith}
+use Rattle.std.proofs.Common.{◌≡◌, ◌+◌, ◌-◌, ◌^◌, ◌<◌, ◌++◌, ◌∷◌, [], ℕ, zero, suc, Bool, true, false, List, Option, Some, None, length, length-append, map, slice_get, slice_index_or, slice_set, refl, sym, ap, subst, ◌∙◌, T, arith}
 use Rattle.std.specs.Prelude.{◌||◌, if◌then◌else◌, position}
 use Rattle.std.specs.List.{list_any}
 use Rattle.std.proofs.lemmas.List.Folds.{list_any_at}
@@ -11,7 +11,7 @@ use Rattle.std.proofs.lemmas.Cmp.{eq_by_cmp_equiv}
 use Rattle.std.specs.Cmp.Lexicographic.{nat_list_cmp_total}
 use Rattle.activity_seats.specs.declared.seat.Seat.{Seat}
 use Rattle.activity_seats.specs.declared.seats.Seats.{Seats}
-use Rattle.activity_seats.specs.Seats.{AreSeats, IsFound, names_in, seat_shape, seats_in}
+use Rattle.activity_seats.specs.Seats.{AreSeats, In, IsFound, Out, SeatShape, names_in, seat_shape, seats_in}
 
 pub clash : {b : Bool} {C : Type 0} → b ≡ true → b ≡ false → C
 clash e d = absurd (subst T (sym e ∙ d) tt)
@@ -78,3 +78,29 @@ module _ {X R : Type 0} where
       let named : length (names_in t) ≡ length (names_in s) + 1 = ap length names ∙ length-append (names_in s) (n ∷ []) in
       let was : length (names_in s) ≡ length s.seats.items = h.same ∙ length_map seat_shape s.seats.items in
       record { same = omega (arith, long, named, was); few = omega (arith, long, few) }
+
+-- two seats one after the other
+pub set_twice : {A : Type 0} (xs : List A) (k : ℕ) (x y : A) → slice_set (slice_set xs k x) k y ≡ slice_set xs k y
+set_twice [] k x y = refl
+set_twice (z ∷ zs) zero x y = refl
+set_twice (z ∷ zs) (suc k) x y = ap (λ ys. z ∷ ys) (set_twice zs k x y)
+
+module _ {X R : Type 0} where
+  -- what is in a box is one
+  pub same_box : (o : Option (SeatShape X R)) (rs came : List R) → o ≡ Some (Out came) → o ≡ Some (Out rs) → came ≡ rs
+  same_box o rs came h g = ap box_in (sym h ∙ g)
+    where
+      box_in : Option (SeatShape X R) → List R
+      box_in (Some (Out cs)) = cs
+      box_in (Some (In x)) = []
+      box_in None = []
+
+-- a seat in its own place
+pub set_back : {A : Type 0} (xs : List A) (k : ℕ) (x : A) → slice_get xs k ≡ Some x → slice_set xs k x ≡ xs
+set_back [] k x h = refl
+set_back (y ∷ ys) zero x h = ap (λ o. elim o [ None ↦ y | Some z ↦ z ] ∷ ys) (sym h)
+set_back (y ∷ ys) (suc k) x h = ap (λ zs. y ∷ zs) (set_back ys k x h)
+
+-- and after another one
+pub set_there_back : {A : Type 0} (xs : List A) (k : ℕ) (x y : A) → slice_get xs k ≡ Some x → slice_set (slice_set xs k y) k x ≡ xs
+set_there_back xs k x y h = set_twice xs k y x ∙ set_back xs k x h

@@ -1,6 +1,5 @@
 -- Names and seats by numbers.
-use Rattle.std.specs.Prelude.{◌≡◌, ◌≢◌, ◌<◌, ◌^◌, ℕ, Bool, true, false, List, [], Option, Some, None, length, map, slice_get, slice_set}
-use Rattle.std.specs.Global.{Vec}
+use Rattle.std.specs.Prelude.{◌≡◌, ◌≢◌, ◌<◌, ◌^◌, ℕ, Bool, true, false, List, Option, Some, None, length, map, slice_get, slice_set}
 use Rattle.asp_model.specs.Names.{Name}
 use Rattle.activity_seats.specs.declared.seat.Seat.{Seat}
 use Rattle.activity_seats.specs.declared.seat.Seat.TheVariants as seat

@@ -1,7 +1,8 @@
 //! The seats of all activities.
 
-ghost use Rattle.std.specs.Prelude.{◌≡◌, ◌++◌, ◌∷◌, [], IfOk, IfSome, None, OnErr, OnOk, Some};
+ghost use Rattle.std.specs.Prelude.{◌≡◌, ◌++◌, ◌∷◌, [], IfOk, IfSome, List, None, OnOk, Some};
 ghost use Rattle.std.specs.Prelude.{false, length, slice_get};
+ghost use Rattle.std.specs.Option.{option_map};
 ghost use Rattle.activity_seats.specs.Seats.{
   AreSeats,
   In,
@@ -103,6 +104,17 @@ impl<X: Drop, R: Drop> Seats<X, R> {
         }
     }
 
+    /// The activity that is here.
+    pub fn get(&self, number: u32) -> Option<&X>
+        requires known { IsKnown number self.now }
+        ensures here { IsTaken (seat_at self.now number) (option_map (λ x. x.now) result) }
+    {
+        match &self.seats[number as usize] {
+            Seat::In(activity) => Some(activity),
+            Seat::Out(_) => None,
+        }
+    }
+
     /// Another seat for an activity. What was there is answered.
     fn swap(&mut self, number: u32, seat: Seat<X, R>) -> Seat<X, R>
         requires kept { AreSeats self.old }
@@ -123,6 +135,7 @@ impl<X: Drop, R: Drop> Seats<X, R> {
         ensures taken { IsTaken (seat_at self.old number) result }
         ensures left { IfSome result (λ x. seats_in self.new
             ≡ with_seat (seats_in self.old) number (Out [])) }
+        ensures none { result ≡ None → seats_in self.new ≡ seats_in self.old }
         ensures names { names_in self.new ≡ names_in self.old }
         ensures kept { AreSeats self.new }
     {
@@ -148,6 +161,47 @@ impl<X: Drop, R: Drop> Seats<X, R> {
         match self.swap(number, Seat::In(here)) {
             Seat::In(_) => Vec::new(self.alloc),
             Seat::Out(came) => came,
+        }
+    }
+
+    /// Empties the box of an activity that was taken, and answers what came for it. It takes no
+    /// memory.
+    pub fn collect(&mut self, number: u32) -> Vec<R>
+        requires kept { AreSeats self.old }
+        requires known { IsKnown number self.old }
+        requires out { is_in (seat_at self.old number) ≡ false }
+        ensures came { IsOut (seat_at self.old number) result.items }
+        ensures names { names_in self.new ≡ names_in self.old }
+        ensures seats { seats_in self.new ≡ with_seat (seats_in self.old) number (Out []) }
+        ensures kept { AreSeats self.new }
+    {
+        match self.swap(number, Seat::Out(Vec::new(self.alloc))) {
+            Seat::In(_) => Vec::new(self.alloc),
+            Seat::Out(came) => came,
+        }
+    }
+
+    /// What comes for an activity that was taken goes into its box, behind the rest.
+    pub fn post(&mut self, number: u32, came: R) -> Result<(), AllocError>
+        requires kept { AreSeats self.old }
+        requires known { IsKnown number self.old }
+        requires out { is_in (seat_at self.old number) ≡ false }
+        ensures posted { (rs : List R) → seat_at self.old number ≡ Some (Out rs) →
+            let more = Out (rs ++ came ∷ []) in
+            OnOk result (seats_in self.new ≡ with_seat (seats_in self.old) number more) }
+        ensures names { names_in self.new ≡ names_in self.old }
+        ensures kept { AreSeats self.new }
+    {
+        match self.swap(number, Seat::Out(Vec::new(self.alloc))) {
+            Seat::In(here) => {
+                self.swap(number, Seat::In(here));
+                Ok(())
+            }
+            Seat::Out(mut rest) => {
+                rest.push(came)?;
+                self.swap(number, Seat::Out(rest));
+                Ok(())
+            }
         }
     }
 }

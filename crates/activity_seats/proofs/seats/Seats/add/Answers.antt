@@ -1,4 +1,4 @@
-use Rattle.std.proofs.Common.{◌≡◌, ◌<◌, ◌-◌, ◌^◌, ◌++◌, ◌∷◌, [], List, length, arith, rules}
+use Rattle.std.proofs.Common.{◌<◌, ◌-◌, ◌^◌, length, arith, rules}
 use Rattle.activity_seats.specs.declared.seat.Seat.TheVariants as seat
 use Rattle.activity_seats.specs.declared.seats.Seats.{Seats}
 use Rattle.activity_seats.specs.Seats.{names_in}

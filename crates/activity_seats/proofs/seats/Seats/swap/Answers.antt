@@ -1,4 +1,4 @@
-use Rattle.std.proofs.Common.{◌≡◌, ◌<◌, ◌∙◌, Some, length, map, slice_set, refl, sym, ap, subst}
+use Rattle.std.proofs.Common.{◌<◌, ◌∙◌, Some, length, map, slice_set, refl, sym, ap, subst}
 use Rattle.std.specs.Vec.{with_item}
 use Rattle.activity_seats.specs.declared.seats.Seats.{Seats}
 use Rattle.activity_seats.specs.Seats.{seat_shape}
