@@ -1,10 +1,10 @@
 -- With which burst an activity is out.
-use Rattle.std.proofs.Common.{◌≡◌, ◌+◌, ◌≤◌, ◌<◌, ◌==◌, ◌&&◌, ◌++◌, ◌∷◌, [], ℕ, suc, not, Bool, true, false, List, Option, Some, None, refl, sym, ap, subst, ◌∙◌, arith}
+use Rattle.std.proofs.Common.{◌≡◌, ◌+◌, ◌≤◌, ◌<◌, ◌==◌, ◌&&◌, ◌++◌, ◌∷◌, [], ℕ, suc, not, Bool, true, false, List, Option, Some, None, length, refl, sym, ap, subst, ◌∙◌, arith}
 use Rattle.std.proofs.lemmas.List.{append_assoc}
 use Rattle.asp_model.specs.History.{EntryShape, Lent, Committed, Delivered}
 use Rattle.journals.specs.Journals.{run_of}
 use Rattle.laws.proofs.NameLemmas.{no_some, none_true, some_is}
-use Rattle.lease_laws.specs.Leases.{LeasesAreOne, LeasesGoOn, burst_from, burst_out, bursts_in, stays_out}
+use Rattle.lease_laws.specs.Leases.{BurstsAreCounted, LeasesAreOne, LeasesBegin, LeasesGoOn, LeasesLast, burst_from, burst_out, bursts_in, lends_by, stays_out}
 
 not_both : (a b : Bool) → (not a && b) ≡ true → (a ≡ false) × (b ≡ true)
 not_both true b h = none_true h
@@ -120,3 +120,39 @@ leases_go_on program budget entries rest k number s x e =
       burst = x.burst;
       run = x.run;
     }
+
+pub leases_begin : LeasesBegin
+leases_begin program budget entries k s h = record { before = entries; after = []; is = refl; stays = refl; burst = refl; run = h }
+
+stays_both : (k : ℕ) (xs ys : List EntryShape) → stays_out k xs ≡ true → stays_out k ys ≡ true → stays_out k (xs ++ ys) ≡ true
+stays_both k [] ys h g = g
+stays_both k (Lent j ∷ xs) ys h g = let b = not_both (k == j) (stays_out k xs) h in ap (λ t. not t && stays_out k (xs ++ ys)) b.0 ∙ stays_both k xs ys b.1 g
+stays_both k (Committed j r ∷ xs) ys h g = let b = not_both (k == j) (stays_out k xs) h in ap (λ t. not t && stays_out k (xs ++ ys)) b.0 ∙ stays_both k xs ys b.1 g
+stays_both k (Delivered d ∷ xs) ys h g = stays_both k xs ys h g
+
+pub leases_last : LeasesLast
+leases_last program budget entries x k number s last h = record {
+  before = h.before;
+  after = h.after ++ x ∷ [];
+  is = ap (λ xs. xs ++ x ∷ []) h.is ∙ append_assoc h.before (Lent k ∷ h.after) (x ∷ []);
+  stays = stays_both k h.after (x ∷ []) h.stays last;
+  burst = h.burst;
+  run = h.run;
+}
+
+one_more : (entries : List EntryShape) (x : EntryShape) → bursts_in (entries ++ x ∷ []) ≡ bursts_in entries + lends_by x
+one_more [] (Lent k) = refl
+one_more [] (Committed k r) = refl
+one_more [] (Delivered d) = refl
+one_more (Lent j ∷ xs) x = omega (arith, one_more xs x)
+one_more (Committed j r ∷ xs) x = one_more xs x
+one_more (Delivered d ∷ xs) x = one_more xs x
+
+no_more_than : (entries : List EntryShape) → bursts_in entries ≤ length entries
+no_more_than [] = omega arith
+no_more_than (Lent j ∷ xs) = omega (arith, no_more_than xs)
+no_more_than (Committed j r ∷ xs) = omega (arith, no_more_than xs)
+no_more_than (Delivered d ∷ xs) = omega (arith, no_more_than xs)
+
+pub bursts_are_counted : BurstsAreCounted
+bursts_are_counted entries = (one_more entries, no_more_than entries)

@@ -1,5 +1,5 @@
 -- Leases in a journal: since when an activity is out, and what becomes of it.
-use Rattle.std.specs.Prelude.{◌≡◌, ℕ, suc, ◌==◌, ◌&&◌, not, Bool, true, List, false, [], ◌∷◌, ◌++◌, Option, Some, None}
+use Rattle.std.specs.Prelude.{◌≡◌, ◌≤◌, ◌+◌, ℕ, suc, length, ◌==◌, ◌&&◌, not, Bool, true, List, false, [], ◌∷◌, ◌++◌, Option, Some, None}
 use Rattle.std.specs.FinMap.{find}
 use Rattle.asp_model.specs.Names.{Name, name_cmp}
 use Rattle.asp_model.specs.Term.{Tree}
@@ -66,3 +66,27 @@ abbrev pub LeasesGoOn : Type 0
 LeasesGoOn = (program : Tree) (budget : ℕ) (entries rest : List EntryShape) (k number : ℕ) (s : RunShape)
     → IsLentAt program budget entries k number s → burst_out k (entries ++ rest) ≡ Some number
     → IsLentAt program budget (entries ++ rest) k number s
+
+-- who is lent now is out with the next burst, from this run
+abbrev pub LeasesBegin : Type 0
+LeasesBegin = (program : Tree) (budget : ℕ) (entries : List EntryShape) (k : ℕ) (s : RunShape)
+    → run_of program budget entries ≡ Some s
+    → IsLentAt program budget (entries ++ Lent k ∷ []) k (suc (bursts_in entries)) s
+
+-- and stays out by an entry that neither lends its number nor brings it back
+abbrev pub LeasesLast : Type 0
+LeasesLast = (program : Tree) (budget : ℕ) (entries : List EntryShape) (x : EntryShape) (k number : ℕ) (s : RunShape)
+    → stays_out k (x ∷ []) ≡ true → IsLentAt program budget entries k number s
+    → IsLentAt program budget (entries ++ x ∷ []) k number s
+
+-- how many leases an entry is
+abbrev pub lends_by : EntryShape → ℕ
+lends_by (Lent k) = 1
+lends_by (Committed k r) = 0
+lends_by (Delivered d) = 0
+
+-- leases are counted one by one, and there are no more of them than entries
+abbrev pub BurstsAreCounted : Type 0
+BurstsAreCounted = (entries : List EntryShape)
+    → ((x : EntryShape) → bursts_in (entries ++ x ∷ []) ≡ bursts_in entries + lends_by x)
+    × (bursts_in entries ≤ length entries)

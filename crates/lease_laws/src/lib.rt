@@ -9,5 +9,7 @@ mod numbered;
 
 pub use entries::{edges_are_entered, lends_are_entered, needs_are_entered};
 pub use growing::{entries_go_on, holders_go_on};
-pub use leases::{leases_are_one, leases_go_on, leases_stay};
+pub use leases::{
+    bursts_are_counted, leases_are_one, leases_begin, leases_go_on, leases_last, leases_stay,
+};
 pub use numbered::{entries_keep_numbers, journals_are_numbered};

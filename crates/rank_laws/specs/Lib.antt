@@ -1,2 +1,4 @@
 -- in reading order
 pub mod Ranked
+pub mod Keeping
+pub mod Runs

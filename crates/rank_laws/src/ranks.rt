@@ -1,0 +1,19 @@
+//! What becomes of the ranks of others, and what a rank tells.
+
+ghost use Rattle.rank_laws.specs.Keeping.{RanksTell, StepsKeepRanks, WritesKeepRanks};
+
+/// A step of one shifts who waited for the future that it fills; all others stand as before, unless
+/// they rested and receive.
+pub fn steps_keep_ranks()
+    ensures { StepsKeepRanks }
+{}
+
+/// What an activity becomes changes no rank but its own.
+pub fn writes_keep_ranks()
+    ensures { WritesKeepRanks }
+{}
+
+/// Who may step is running and lacks nothing, and a need is told.
+pub fn ranks_tell()
+    ensures { RanksTell }
+{}
