@@ -34,7 +34,7 @@ not_both false b h = (refl, h)
 
 -- Others who come back leave the grant
 
-grant_but : (k j : ℕ) (xs : List (ℕ × ℕ)) → (k == j) ≡ false → grant_of k (out_but j xs) ≡ grant_of k xs
+pub grant_but : (k j : ℕ) (xs : List (ℕ × ℕ)) → (k == j) ≡ false → grant_of k (out_but j xs) ≡ grant_of k xs
 grant_but k j [] h = refl
 grant_but k j (x ∷ xs) h = by (j == x.0) refl (grant_but k j xs h)
   where

@@ -29,7 +29,7 @@ use Rattle.laws.proofs.ChaseLemmas.{awaited}
 use Rattle.chase_laws.proofs.ChaseLemmas.{chase_by, is_end}
 use Rattle.activity_ranks.specs.Ranks.{RankShape, Goes, Waits, Rests, goes, has_need, shifted}
 use Rattle.rank_laws.specs.Ranked.{rank_at, rank_awaiting, rank_by, rank_in, rank_of, rank_unless}
-use Rattle.rank_laws.specs.Keeping.{RanksTell, StepsKeepRanks, WritesKeepRanks, shifted_by}
+use Rattle.rank_laws.specs.Keeping.{RanksTell, ReceiversRank, StepsKeepRanks, WritesKeepRanks, shifted_by}
 use Rattle.rank_laws.proofs.OperandLemmas.{AwaitsNothing, future_at, future_of, intent_by, lacks_so, operand_by, operand_of, operands, quiet_by}
 
 -- who is awaited, where a chase ends without a value, is not filled
@@ -207,6 +207,27 @@ module _ (c : Configuration) (n m : Name) (a : Activity) (e : Effect) (sound : I
       ranked d d_sorted m a there
       ∙ by_operand (operand_of a) refl allowed
       ∙ ap (shifted_by e.filled d) (sym (ranked c sound.ordered.futures m a is))
+
+  gains_by : (p q : Intent) → AwaitsNothing p → AwaitsNothing q → ((x : Effect) → p ≡ Acts x → q ≡ Acts x) → (rank_by d.futures q ≡ rank_by c.futures p) ⊎ ((rank_by c.futures p ≡ Rests) × (rank_by d.futures q ≡ Goes))
+  gains_by (Acts x) q r t still = inl (ap (rank_by d.futures) (still x refl))
+  gains_by (intents.Rests status) (Acts y) r t still = inr (plain_rank c (intents.Rests status) r, refl)
+  gains_by (intents.Rests status) (intents.Rests other) r t still = inl (plain_rank d (intents.Rests other) t ∙ sym (plain_rank c (intents.Rests status) r))
+
+  gains : e.filled ≡ None → (o : Option FutureShape) → operand_of a ≡ o → (by_operand_of d then o ≡ by_operand_of c before o) ⊎ ((by_operand_of c before o ≡ Rests) × (by_operand_of d then o ≡ Goes))
+  gains none (Some g) first = inl (ap (λ o. rank_at (chase (put_some future_cmp o c.futures) g)) none)
+  gains none None first =
+      let was = quiet_by (requests_of c m) m a (chase c.futures) (chase c.futures) (split a.term) first in
+      let now = quiet_by (requests_of d m) m a (chase d.futures) (chase d.futures) (split a.term) first in
+      gains_by before then was.1 now.1 (λ x p. sym then_is ∙ left_alone.intents m x apart (before_is ∙ p))
+
+  receiver : e.filled ≡ None → (rank_in d m ≡ rank_in c m) ⊎ ((rank_in c m ≡ Rests) × (rank_in d m ≡ Goes))
+  receiver none =
+      let was = ranked c sound.ordered.futures m a is in
+      let now = ranked d d_sorted m a there in
+      ⊎_elim (λ p. inl (now ∙ p ∙ sym was)) (λ p. inr (was ∙ p.0, now ∙ p.1)) (gains none (operand_of a) refl)
+
+pub receivers_rank : ReceiversRank
+receivers_rank c n m a e sound is apart intends none = receiver c n m a e sound is apart intends none
 
 pub steps_keep_ranks : StepsKeepRanks
 steps_keep_ranks c n m a e sound is apart intends = shifts c n m a e sound is apart intends

@@ -11,7 +11,7 @@ use Rattle.asp_model.specs.Step.{intent_in, with_effect}
 use Rattle.journals.specs.Owed.{need_to}
 use Rattle.laws.specs.Reached.{IsAt}
 use Rattle.laws.specs.Sound.{IsSound}
-use Rattle.activity_ranks.specs.Ranks.{RankShape, Rests, goes, has_need, shifted}
+use Rattle.activity_ranks.specs.Ranks.{RankShape, Goes, Rests, goes, has_need, shifted}
 use Rattle.rank_laws.specs.Ranked.{rank_at, rank_in}
 
 -- what a step fills shifts who waited for it
@@ -26,6 +26,12 @@ StepsKeepRanks = (c : Configuration) (n m : Name) (a : Activity) (e : Effect) �
     → intent_in c n ≡ Acts e → let d : Configuration = with_effect n e c in
     (requests_of d m ≡ requests_of c m) ⊎ (rank_in c m ≢ Rests)
     → rank_in d m ≡ shifted_by e.filled d (rank_in c m)
+
+-- who receives, in a step that fills nothing, stands as before, or may step now and rested
+abbrev pub ReceiversRank : Type 0
+ReceiversRank = (c : Configuration) (n m : Name) (a : Activity) (e : Effect) → IsSound c → IsAt c m a → m ≢ n
+    → intent_in c n ≡ Acts e → e.filled ≡ None → let d : Configuration = with_effect n e c in
+    (rank_in d m ≡ rank_in c m) ⊎ ((rank_in c m ≡ Rests) × (rank_in d m ≡ Goes))
 
 -- whatever another activity becomes by itself, or gets delivered, changes no rank but its own
 abbrev pub WritesKeepRanks : Type 0

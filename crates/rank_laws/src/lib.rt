@@ -5,5 +5,5 @@
 mod ranks;
 mod runs;
 
-pub use ranks::{ranks_tell, steps_keep_ranks, writes_keep_ranks};
+pub use ranks::{ranks_tell, receivers_rank, steps_keep_ranks, writes_keep_ranks};
 pub use runs::{lends_keep_ranks, ranks_tell_ready};
