@@ -1,0 +1,13 @@
+-- What a delivery along an edge makes of its receiver's rank.
+use Rattle.std.specs.Prelude.{◌≡◌, ◌≢◌}
+use Rattle.asp_model.specs.Names.{Name, FutureShape}
+use Rattle.asp_model.specs.Configuration.{Configuration}
+use Rattle.laws.specs.Reached.{Edges, Makes}
+use Rattle.path_laws.specs.Whole.{IsWhole}
+use Rattle.activity_ranks.specs.Ranks.{HasNeed}
+use Rattle.rank_laws.specs.Ranked.{rank_in}
+
+-- nothing, where no value was owed to it
+abbrev pub DeliveriesKeepRank : Type 0
+DeliveriesKeepRank = (c d : Configuration) (f : FutureShape) (to : Name) → IsWhole c → Makes (Edges f to) c d
+    → rank_in c to ≢ HasNeed → rank_in d to ≡ rank_in c to
