@@ -1,1 +1,3 @@
 pub mod ReceiverLemmas
+pub mod OwedLemmas
+pub mod VerdictLemmas

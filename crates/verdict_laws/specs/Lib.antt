@@ -1,2 +1,4 @@
 -- in reading order
 pub mod Receivers
+pub mod Owed
+pub mod Verdicts

@@ -2,6 +2,10 @@
 //! the outcome. Each law is the contract of a function that does nothing.
 #![tactic(auto)]
 
+mod owed;
 mod receivers;
+mod verdicts;
 
+pub use owed::{edges_are_first, edges_are_next, needs_are_first};
 pub use receivers::deliveries_keep_rank;
+pub use verdicts::{verdicts_are_held, verdicts_are_told};
