@@ -1,3 +1,4 @@
 pub mod ReceiverLemmas
 pub mod OwedLemmas
 pub mod VerdictLemmas
+pub mod OutcomeLemmas

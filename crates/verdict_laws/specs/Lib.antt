@@ -2,3 +2,4 @@
 pub mod Receivers
 pub mod Owed
 pub mod Verdicts
+pub mod Outcomes

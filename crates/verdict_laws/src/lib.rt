@@ -2,10 +2,12 @@
 //! the outcome. Each law is the contract of a function that does nothing.
 #![tactic(auto)]
 
+mod outcomes;
 mod owed;
 mod receivers;
 mod verdicts;
 
+pub use outcomes::{journals_end, verdicts_spend};
 pub use owed::{edges_are_first, edges_are_next, needs_are_first};
 pub use receivers::deliveries_keep_rank;
 pub use verdicts::{verdicts_are_held, verdicts_are_told};
