@@ -2,3 +2,4 @@ pub mod ReceiverLemmas
 pub mod OwedLemmas
 pub mod VerdictLemmas
 pub mod OutcomeLemmas
+pub mod ReadingLemmas

@@ -3,3 +3,4 @@ pub mod Receivers
 pub mod Owed
 pub mod Verdicts
 pub mod Outcomes
+pub mod Readings
