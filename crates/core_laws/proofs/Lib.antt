@@ -1,3 +1,4 @@
 pub mod LocalLemmas
 pub mod NewcomerLemmas
 pub mod CommitLemmas
+pub mod EventLemmas

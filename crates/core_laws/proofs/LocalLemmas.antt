@@ -65,9 +65,13 @@ module _ (chases : FutureShape → Chase) (s : Store) where
 
 -- One contraction
 
+-- no strict operand of it is a future
+pub no_future_read : (a b : Activity) (x : IsLocalStep a b) → first_future a.store (strict_operands x.redex.head x.redex.places ++ strict_members a.store x.redex.head x.redex.places) ≡ None
+no_future_read a b x = no_future a.store x.redex (first_future a.store (strict_operands x.redex.head x.redex.places ++ strict_members a.store x.redex.head x.redex.places)) x.becomes x.store x.added x.is
+
 module _ (chases : FutureShape → Chase) (a b : Activity) (x : IsLocalStep a b) where
   reads_store : redex_ready chases a.store x.redex ≡ Reads a.store
-  reads_store = redex_reads chases a.store x.redex (no_future a.store x.redex (first_future a.store (strict_operands x.redex.head x.redex.places ++ strict_members a.store x.redex.head x.redex.places)) x.becomes x.store x.added x.is)
+  reads_store = redex_reads chases a.store x.redex (no_future_read a b x)
 
   -- it acts alone
   local_intends : (rs : List RequestShape) (n : Name) → intent chases rs n a ≡ alone b
@@ -84,11 +88,11 @@ module _ (chases : FutureShape → Chase) (a b : Activity) (x : IsLocalStep a b)
       ∙ ap (λ q. elim q [ Lacks f ↦ false | Reads s ↦ is_asking (contract s x.redex) ]) reads_store
       ∙ ap is_asking x.is
 
-abbrev own_effect : Activity → Effect
+abbrev pub own_effect : Activity → Effect
 own_effect b = record { own = b; sent = None; made = None; filled = None }
 
 module _ (c : Configuration) (n : Name) (a b : Activity) (is : IsAt c n a) (x : IsLocalStep a b) where
-  local_in : intent_in c n ≡ Acts (own_effect b)
+  pub local_in : intent_in c n ≡ Acts (own_effect b)
   local_in =
       ap (λ (q : Option Activity). elim q [ None ↦ Rests Done | Some a ↦ intent (chase c.futures) (requests_of c n) n a ]) is
       ∙ local_intends (chase c.futures) a b x (requests_of c n) n

@@ -3,5 +3,7 @@
 #![tactic(auto)]
 
 mod commits;
+mod events;
 
 pub use commits::{acts_are_commits, runs_are_commits};
+pub use events::{acts_are_events, runs_are_silent};
