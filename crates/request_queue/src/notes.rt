@@ -1,8 +1,22 @@
 //! The numbers of the pending requests, by their labels.
 
-ghost use Rattle.std.specs.Prelude.{◌≡◌, ℕ, IsSome, IsTrue, None, OnErr, OnOk, [], false, true};
+ghost use Rattle.std.specs.Prelude.{
+  ◌≡◌,
+  ℕ,
+  IsSome,
+  IsTrue,
+  None,
+  OnErr,
+  OnOk,
+  [],
+  false,
+  map,
+  true,
+};
 ghost use Rattle.std.specs.BTreeMap.{Updates, get};
 ghost use Rattle.asp_model.specs.declared.word.Label.{Label};
+ghost use Rattle.asp_model.specs.Term.{has_text};
+ghost use Rattle.serve_rules.specs.Labels.{class_labels, label_text};
 ghost use Rattle.request_queue.specs.Notes.{
   AreAlike,
   Changes,
@@ -16,6 +30,7 @@ ghost use Rattle.request_queue.specs.Notes.{
 };
 
 use asp_model::Label;
+use program_code::Class;
 use serve_rules::LabelSet;
 use std::alloc::{AllocError, Global};
 use std::collections::{BTreeMap, BTreeSet};
@@ -132,6 +147,51 @@ impl Notes {
         best
     }
 
+    /// The least number that one of these labels has. Each is looked up.
+    pub fn oldest_of(&self, labels: &[Label]) -> Option<u64>
+        ensures oldest { IsOldest (map label_text labels.now) self.now result }
+    {
+        let mut best = None;
+        for label in labels {
+            best = earlier(best, self.oldest_with(label));
+        }
+        best
+    }
+
+    /// The least number that a method's label has. As many labels are looked up as the class has, or as
+    /// are pending, whichever are fewer.
+    pub fn oldest_method(&self, class: &Class) -> Option<u64>
+        ensures oldest { IsOldest (class_labels class.now) self.now result }
+    {
+        if class.methods.len() < self.numbers.len() {
+            self.method_asked(class)
+        } else {
+            self.method_pending(class)
+        }
+    }
+
+    fn method_asked(&self, class: &Class) -> Option<u64>
+        ensures oldest { IsOldest (class_labels class.now) self.now result }
+    {
+        let mut best = None;
+        for method in &class.methods {
+            best = earlier(best, self.oldest_with(&method.label));
+        }
+        best
+    }
+
+    fn method_pending(&self, class: &Class) -> Option<u64>
+        ensures oldest { IsOldest (class_labels class.now) self.now result }
+    {
+        let mut best = None;
+        for label in self.numbers.keys() {
+            if has_method(class, label) {
+                best = earlier(best, self.oldest_with(label));
+            }
+        }
+        best
+    }
+
     fn oldest_with(&self, label: &Label) -> Option<u64>
         ensures oldest { IsOldestWith self.now label.now result }
     {
@@ -140,6 +200,13 @@ impl Notes {
             None => None,
         }
     }
+}
+
+// Whether a class has a method with this label.
+fn has_method(class: &Class, label: &Label) -> bool
+    ensures member { result ≡ has_text label.now.text (class_labels class.now) }
+{
+    class.method(label).is_some()
 }
 
 // Takes out the numbers of a label. A map that is empty keeps no memory.

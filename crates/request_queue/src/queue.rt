@@ -14,16 +14,20 @@ ghost use Rattle.std.specs.Prelude.{
   Some,
   cond,
   length,
+  map,
 };
 ghost use Rattle.std.specs.BTreeMap.{is_at};
 ghost use Rattle.std.specs.List.Sorted.{IsStrictlySortedBy};
 ghost use Rattle.std.specs.Map.{keys_of};
 ghost use Rattle.std.specs.Option.{option_map};
 ghost use Rattle.std.specs.Ordering.{nat_cmp};
+ghost use Rattle.serve_rules.specs.Labels.{class_labels, label_text};
 ghost use Rattle.request_queue.specs.Pending.{but, oldest, request_at, waiting};
 
 use crate::notes::Notes;
 use crate::request::Request;
+use asp_model::Label;
+use program_code::Class;
 use serve_rules::LabelSet;
 use std::alloc::{AllocError, Global};
 use std::collections::BTreeMap;
@@ -99,6 +103,22 @@ impl Queue {
             result ≡ option_map (λ x. x.0) found }
     {
         self.notes.oldest(labels)
+    }
+
+    /// The number of the oldest request with one of these labels. No set of them is made.
+    pub fn first_labelled(&self, labels: &[Label]) -> Option<u64>
+        ensures oldest { let found = oldest (map label_text labels.now) (waiting self.now) in
+            result ≡ option_map (λ x. x.0) found }
+    {
+        self.notes.oldest_of(labels)
+    }
+
+    /// The number of the oldest request for a method of a class.
+    pub fn first_method(&self, class: &Class) -> Option<u64>
+        ensures oldest { let found = oldest (class_labels class.now) (waiting self.now) in
+            result ≡ option_map (λ x. x.0) found }
+    {
+        self.notes.oldest_method(class)
     }
 
     /// Removes the request of a number, and returns it.
