@@ -32,7 +32,7 @@ use Rattle.actor.proofs.StandLemmas.{stands_with}
 abbrev pub intended : List RequestShape → Name → model.Activity → List Context → Redex → Ready → Intent
 intended rs n a cs r x = elim x [ Lacks f ↦ Rests (Awaits f) | Reads s ↦ contracts rs n a cs s (contract s r) ]
 
-abbrev intent_at : (FutureShape → Chase) → List RequestShape → Name → model.Activity → Split → Intent
+abbrev pub intent_at : (FutureShape → Chase) → List RequestShape → Name → model.Activity → Split → Intent
 intent_at chases rs n a v = elim v [ terms.Stands p ↦ ends_service a p (newest a.services) | Splits cs r ↦ intended rs n a cs r (redex_ready chases a.store r) ]
 
 pub intent_place : (chases : FutureShape → Chase) (rs : List RequestShape) (n : Name) (a : model.Activity) (p : ℕ) → split a.term ≡ terms.Stands p → intent chases rs n a ≡ ends_service a p (newest a.services)

@@ -6,3 +6,5 @@ pub mod FetchLemmas
 pub mod IntentLemmas
 pub mod ServiceLemmas
 pub mod OutlookLemmas
+pub mod HeldLemmas
+pub mod StanceLemmas

@@ -266,7 +266,7 @@ waited_within s h ns c = tt
 
 -- The labels that are asked for
 
-serve_goes : (s : Store) (ls : List Text) (ns : List ℕ) (ts : Trees) (t : Tree) (u : Store) (added : List LineShape) → contract s (record { head = term.Serve ls; places = ns; behind = ts }) ≡ Becomes t u added → ⊥
+pub serve_goes : (s : Store) (ls : List Text) (ns : List ℕ) (ts : Trees) (t : Tree) (u : Store) (added : List LineShape) → contract s (record { head = term.Serve ls; places = ns; behind = ts }) ≡ Becomes t u added → ⊥
 serve_goes s ls [] none t u added e = cc
 serve_goes s ls [] (more x xs) t u added e = cc
 serve_goes s ls (n ∷ ns) ts t u added e = cc

@@ -4,3 +4,4 @@ pub mod Effects
 pub mod Outlook
 pub mod Asking
 pub mod Running
+pub mod Stances

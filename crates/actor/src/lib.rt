@@ -5,10 +5,14 @@ mod act;
 mod actor;
 mod asked;
 mod communicate;
+mod filling;
+mod held;
 mod matching;
 mod outlook;
 mod running;
+mod stance;
 
 pub use act::Given;
 pub use actor::Actor;
 pub use outlook::Outlook;
+pub use stance::Stance;

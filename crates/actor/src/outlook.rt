@@ -89,7 +89,7 @@ impl Actor {
         }
     }
 
-    fn at_redex<'a>(
+    pub(crate) fn at_redex<'a>(
         &'a self,
         alloc: Global,
         futures: &'a FutureTable,

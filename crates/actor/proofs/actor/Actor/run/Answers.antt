@@ -1,5 +1,6 @@
 use Rattle.std.proofs.Common.{◌≡◌, ◌+◌, ◌≤◌, ℕ, zero, suc, sym, ap, subst, ◌∙◌, arith}
 use Rattle.asp_model.specs.Configuration as model
+use Rattle.activity_step.specs.Activities.{IsUsed}
 use Rattle.activity_step.specs.Local.{LocalRun}
 use Rattle.actor.specs.declared.actor.Actor.{Actor}
 use Rattle.actor.proofs.StandLemmas.{stands_with}
@@ -33,7 +34,10 @@ returns-clause-runs c = λ a rs h.
     let all : r.count ≡ c.saturating_sub.result = omega (arith, before, after, kept.count, c.saturating_sub.ensures) in
     record {
       end = r.end;
+      turn = c.in_ok-local.field-0;
       run = subst (λ (n : ℕ). LocalRun n a r.end) all r.run;
       within = subst (λ (n : ℕ). n ≤ c.args.most) all r.within;
       stands = stands_with x c.local.new.self a r.end rs h r.stands c.in_ok-local.ensures.code kept.sends kept.creations kept.served;
+      stop = r.stop;
+      used = subst (λ (n : ℕ). IsUsed n c.args.most c.in_ok-local.field-0) all r.used;
     }

@@ -1,0 +1,145 @@
+//! Where an activity stands, for whoever lends it and delivers values to it.
+
+ghost use Rattle.std.specs.Prelude.{◌≡◌, IfOk, List, ℕ};
+ghost use Rattle.asp_model.specs.Chase.{Chase as ChaseShape, chase};
+ghost use Rattle.asp_model.specs.Configuration as model;
+ghost use Rattle.asp_model.specs.Configuration.{RequestShape};
+ghost use Rattle.asp_model.specs.Names.{FutureShape, Name};
+ghost use Rattle.asp_model.specs.Shapes.{future_shape};
+ghost use Rattle.asp_model.specs.Split as terms;
+ghost use Rattle.asp_model.specs.Split.{split};
+ghost use Rattle.activity_step.specs.Activities.{StandsFor};
+ghost use Rattle.activity_step.specs.Standings.{IsAt};
+ghost use Rattle.future_table.specs.Values.{values_of};
+ghost use Rattle.operand_reads.specs.Values.{AreClosedValues};
+ghost use Rattle.actor.specs.Actors.{IsClosedFor, Stands};
+ghost use Rattle.actor.specs.Stances.{
+  asks_others,
+  free_stance,
+  held_stance,
+  stance_of,
+  stance_shape,
+};
+
+use crate::actor::Actor;
+use crate::held::{Held, first_held};
+use crate::outlook::Outlook;
+use activity_rows::Redex;
+use activity_step::Standing;
+use asp_model::{Fault, FutureName};
+use coded_cells::Place;
+use future_table::{Chase, FutureTable};
+use operand_reads::strict_of;
+use std::alloc::{AllocError, Global};
+
+/// Where an activity stands.
+#[derive(Clone, Copy)]
+pub enum Stance<'a> {
+    /// The value of this future is owed to it: the first strict operand that is a future stands at
+    /// this place, and leads to that value.
+    Needs(Place, &'a FutureName),
+    /// It has a contraction.
+    Contracts,
+    /// It has a communication that may be done.
+    Communicates,
+    /// Its first strict operand that is a future awaits this one, which has no value.
+    Awaits(&'a FutureName),
+    /// It stands at a fault.
+    Faulted(Fault),
+    /// It stands at a `serve` that no pending request matches.
+    Serving,
+    /// Its term is a place, and no service is suspended.
+    Done,
+}
+
+/// By the end of the chase of the first operand that is a future.
+fn held_stance<'a>(futures: &'a FutureTable, held: Held<'a>) -> Stance<'a>
+    ensures stance { let end = chase (values_of futures.now) (future_shape held.entry.future.now) in
+        stance_shape result ≡ held_stance end held.entry.place }
+{
+    match futures.chase(held.future) {
+        Chase::Value(name) => Stance::Needs(held.place, name),
+        Chase::Unfilled(name) => Stance::Awaits(name),
+        Chase::Cycle(name) => Stance::Awaits(name),
+    }
+}
+
+/// Whether a redex that sends nothing asks others, where it reduces.
+fn asks_others(redex: Redex) -> bool
+    ensures { result ≡ asks_others redex.entry }
+{
+    matches!(redex, Redex::Active(_, _) | Redex::Serve(_))
+}
+
+fn free_stance(outlook: Outlook, asks: bool) -> Stance
+    ensures stance { stance_shape result ≡ free_stance asks outlook.entry }
+{
+    match outlook {
+        Outlook::Steps => {
+            if asks {
+                Stance::Communicates
+            } else {
+                Stance::Contracts
+            }
+        }
+        Outlook::Sends(_) => Stance::Communicates,
+        Outlook::Awaits(future) => Stance::Awaits(future),
+        Outlook::Faulted(fault) => Stance::Faulted(fault),
+        Outlook::Serving => Stance::Serving,
+        Outlook::Done => Stance::Done,
+    }
+}
+
+impl Actor {
+    /// Where the activity stands, once it has settled. Nothing is changed.
+    pub fn stance<'a>(
+        &'a self,
+        alloc: Global,
+        futures: &'a FutureTable,
+    ) -> Result<Stance<'a>, AllocError>
+        requires closed { IsClosedFor self.now }
+        requires values { AreClosedValues (values_of futures.now) }
+        ensures stance { (a : model.Activity) (rs : List RequestShape) (n : Name) →
+            Stands self.now a rs → let chases = chase (values_of futures.now) in
+            IfOk result (λ x. stance_shape x ≡ stance_of chases rs n a) }
+    {
+        match self.activity.standing()? {
+            Standing::Place(_place) => Ok(self.place_stance()),
+            Standing::Redex(redex) => self.redex_stance(alloc, futures, redex),
+        }
+    }
+
+    fn place_stance(&self) -> Stance<'_>
+        ensures stance { (a : model.Activity) (rs : List RequestShape) (n : Name)
+            (chases : FutureShape → ChaseShape) (place : ℕ) → StandsFor self.now.activity a →
+            split a.term ≡ terms.Stands place → stance_shape result ≡ stance_of chases rs n a }
+    {
+        if self.activity.is_serving() {
+            Stance::Communicates
+        } else {
+            Stance::Done
+        }
+    }
+
+    fn redex_stance<'a>(
+        &'a self,
+        alloc: Global,
+        futures: &'a FutureTable,
+        redex: Redex<'a>,
+    ) -> Result<Stance<'a>, AllocError>
+        requires closed { IsClosedFor self.now }
+        requires values { AreClosedValues (values_of futures.now) }
+        requires stands { (a : model.Activity) → StandsFor self.now.activity a → IsAt a redex }
+        ensures stance { (a : model.Activity) (rs : List RequestShape) (n : Name) →
+            Stands self.now a rs → let chases = chase (values_of futures.now) in
+            IfOk result (λ x. stance_shape x ≡ stance_of chases rs n a) }
+    {
+        match first_held(self.activity.store(), strict_of(redex)) {
+            Some(held) => Ok(held_stance(futures, held)),
+            None => {
+                let outlook = self.at_redex(alloc, futures, redex)?;
+                Ok(free_stance(outlook, asks_others(redex)))
+            }
+        }
+    }
+}
