@@ -13,7 +13,7 @@ use std::alloc::{AllocError, Global};
 use std::collections::BTreeMap;
 
 /// A place where a label has an arity.
-#[derive(Clone, Copy, Debug)]
+#[derive(Clone, Copy)]
 pub struct ArityPlace<'a> {
     pub label: &'a str,
     pub arity: usize,

@@ -7,7 +7,7 @@ ghost use Rattle.asp_check.specs.Walk.{names_of, left_by};
 use asp_model::{Mark, Method};
 
 /// The places that a mark has left, for a node at a place of its own.
-#[derive(Clone, Copy, Debug)]
+#[derive(Clone, Copy)]
 pub struct Places<'a> {
     pub left: &'a [usize],
     pub node: usize,

@@ -79,6 +79,16 @@ impl<'a> Walk<'a> {
         Ok(())
     }
 
+    /// Adds the label that a `scatter` calls, with one argument each.
+    fn add_scatter(&mut self, label: &'a Label, at: usize) -> Result<(), AllocError>
+        ensures bound { OnOk result (bound_in self.new ≡ bound_in self.old) }
+        ensures arities { let place = label_arity kind.Arity label.entry.now.text 1 at in
+            OnOk result (Sees self.old (place ∷ []) self.new) }
+        ensures least { OnOk result (self.new.least ≡ self.old.least) }
+    {
+        self.add_arity(CheckKind::Arity, label, 1, at)
+    }
+
     /// Adds the label of the method that an activity begins with.
     fn add_service(&mut self, service: &'a Option<Label>, at: usize) -> Result<(), AllocError>
         ensures bound { OnOk result (bound_in self.new ≡ bound_in self.old) }
@@ -139,7 +149,7 @@ impl<'a> Walk<'a> {
             Term::Scatter(a, label, b, mark) => {
                 self.visit(a)?;
                 let at = Places::of(mark).next();
-                self.add_arity(CheckKind::Arity, label, 1, at)?;
+                self.add_scatter(label, at)?;
                 self.visit(b)
             }
             Term::Get(a, _, _)

@@ -23,9 +23,16 @@ pub fn check(alloc: Global, program: Program) -> Result<Checked, CheckError>
         IfErr result (λ e. (f : CheckFault) → e ≡ errors.Fault f → IsFirstFault text f) }
     ensures only { IfErr result (λ e. IsChecked (marked_of program.root) → e ≡ errors.Memory) }
 {
-    match first_fault(alloc, &program)? {
-        Some(fault) => Err(CheckError::Fault(fault)),
-        None => Ok(Checked::new(program)),
+    match first_fault(alloc, &program) {
+        Ok(None) => Ok(Checked::new(program)),
+        Ok(Some(fault)) => {
+            drop(program);
+            Err(CheckError::Fault(fault))
+        }
+        Err(AllocError) => {
+            drop(program);
+            Err(CheckError::Memory)
+        }
     }
 }
 

@@ -5,9 +5,9 @@ use Rattle.asp_check.proofs.Firsts.{least_none, least_some}
 use Rattle.asp_check.proofs.whole.check.Goals as goal
 
 pub new-requires-clause-checked : goal.new-requires-clause-checked
-new-requires-clause-checked c = least_none (faults_of (marked_of c.args.program.root)) (sym c.in_ok-fault.ensures ∙ c.in-None.is)
+new-requires-clause-checked c = least_none (faults_of (marked_of c.args.program.root)) (sym c.in-Ok-None.ensures ∙ c.in-Ok-None.field-0-is)
 
-pub returns-in-Some-clause-fault : goal.returns-in-Some-clause-fault
-returns-in-Some-clause-fault c = λ f e.
-    let same : c.in-Some.fault ≡ f = cc in
-    least_some (marked_of c.args.program.root) f (sym c.in_ok-fault.ensures ∙ c.in-Some.is ∙ ap (λ g. Some g) same)
+pub returns-in-Ok-Some-clause-fault : goal.returns-in-Ok-Some-clause-fault
+returns-in-Ok-Some-clause-fault c = λ f e.
+    let same : c.in-Ok-Some.fault ≡ f = cc in
+    least_some (marked_of c.args.program.root) f (sym c.in-Ok-Some.ensures ∙ c.in-Ok-Some.field-0-is ∙ ap (λ g. Some g) same)
