@@ -1,6 +1,5 @@
 -- What definitions see of how far a report has been read.
-use Rattle.std.specs.Prelude.{◌≡◌, ℕ, Bool, false, [], ◌∷◌, ◌++◌, map, Option}
-use Rattle.std.specs.Option.{option_map}
+use Rattle.std.specs.Prelude.{◌≡◌, ℕ, Bool, true, false, [], ◌∷◌, ◌++◌, map, Option, Some, None}
 use Rattle.asp_model.specs.Names.{Name, Text, main_name, same_name}
 use Rattle.asp_model.specs.ReadReport.{Next as NextShape, Title, Verdict, Main, Senders, Later, Progress as ProgressShape, is_behind, behind, with_activity, ended, Reading}
 use Rattle.sender_log.specs.declared.progress.Next.{Next}
@@ -39,9 +38,9 @@ fits_at Main n = same_name main_name n
 fits_at (Later m) n = is_behind m n
 fits_at next n = false
 
--- what was found is this
-abbrev pub Shows : Option ProgressShape → Option Progress → Type 0
-Shows shape found = option_map progress_shape found ≡ shape
+-- what was read with a line, and whether the line fits, are these
+abbrev pub Shows : Option ProgressShape → Progress → Bool → Type 0
+Shows shape p fits = elim fits [ true ↦ Some (progress_shape p) | false ↦ None ] ≡ shape
 
 -- what stands behind one more line
 abbrev pub behind_line : Progress → Text → Option ProgressShape

@@ -8,7 +8,7 @@ use asp_model::ActivityName;
 use std::alloc::Global;
 
 /// What may stand in the next line.
-#[derive(Debug, Drop)]
+#[derive(Drop)]
 pub enum Next {
     Title,
     Verdict,
@@ -21,7 +21,7 @@ pub enum Next {
 }
 
 /// What was read so far.
-#[derive(Debug, Drop)]
+#[derive(Drop)]
 pub struct Progress {
     pub next: Next,
     pub lists: Vec<(ActivityName, Vec<ActivityName>)>,

@@ -1,6 +1,6 @@
 //! A whole report.
 
-ghost use Rattle.std.specs.Prelude.{◌≡◌, ◌<◌, ◌≤◌, true, length, map, IfOk, IfErr};
+ghost use Rattle.std.specs.Prelude.{◌≡◌, ◌<◌, ◌≤◌, true, length, map, IfOk, IfErr, OnOk};
 ghost use Rattle.std.specs.FinMap.{is_sorted};
 ghost use Rattle.asp_model.specs.declared.limits.TheConstants.{MOST_REDUCTIONS};
 ghost use Rattle.asp_model.specs.Names.{name_cmp};
@@ -50,24 +50,26 @@ fn read_lines(alloc: Global, lines: &[&[u8]]) -> Result<(Lists, Counts), LogErro
     let last = lines.len() - 1;
     let mut progress = Progress::new(alloc);
     for i in 0..last {
-        progress = advance(alloc, progress, lines[i], i as u64 + 1)?;
+        advance(alloc, &mut progress, lines[i], i as u64 + 1)?;
     }
     ended(progress, last as u64 + 1, lines[last])
 }
 
-// What was read with the line of this number.
+// Reads the line of this number.
 fn advance(
     alloc: Global,
-    progress: Progress,
+    progress: &mut Progress,
     line: &[u8],
     number: u64,
-) -> Result<Progress, LogError>
-    ensures ok { IfOk result (λ q. behind_line progress line.now ≡ Some (progress_shape q)) }
-    ensures bad_line { IfErr result (IsRefusedAt number (behind_line progress line.now)) }
+) -> Result<(), LogError>
+    ensures ok { let now = progress_shape progress.new in
+        OnOk result (behind_line progress.old line.now ≡ Some now) }
+    ensures bad_line { IfErr result (IsRefusedAt number (behind_line progress.old line.now)) }
 {
-    match behind(alloc, progress, line)? {
-        Some(progress) => Ok(progress),
-        None => Err(LogError::BadLine { line: number }),
+    if behind(alloc, progress, line)? {
+        Ok(())
+    } else {
+        Err(LogError::BadLine { line: number })
     }
 }
 

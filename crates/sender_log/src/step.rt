@@ -1,22 +1,22 @@
 //! One line of a report behind others.
 
-ghost use Rattle.std.specs.Prelude.{◌≡◌, ◌+◌, ◌≤◌, IfOk};
+ghost use Rattle.std.specs.Prelude.{◌≡◌, ◌+◌, ◌≤◌, IfOk, OnOk};
 ghost use Rattle.asp_model.specs.ReportLines.{parts, activity_in as activity_in_words, senders_of as senders_in_words};
 ghost use Rattle.asp_model.specs.ReadReport.{goes_on as goes_on_shape, with_senders as with_senders_shape};
-ghost use Rattle.sender_log.specs.Progress.{Shows, behind_line, fits_at, next_shape, progress_shape, with_entry as with_entry_shape, with_found};
+ghost use Rattle.sender_log.specs.Progress.{Shows, behind_line, fits_at, next_shape, progress_shape, with_entry, with_found};
 
 use crate::lines::{activity_in, is_output, is_title, is_verdict, senders_in};
 use crate::progress::{Next, Progress};
 use asp_model::{ActivityName, MOST_REDUCTIONS};
 use std::alloc::{AllocError, Global};
 
-/// What was read behind one more line; nothing where it cannot stand there.
+/// Reads one more line, and returns whether it can stand there.
 pub fn behind(
     alloc: Global,
-    progress: Progress,
+    progress: &mut Progress,
     line: &[u8],
-) -> Result<Option<Progress>, AllocError>
-    ensures behind { IfOk result (Shows (behind_line progress line.now)) }
+) -> Result<bool, AllocError>
+    ensures behind { IfOk result (Shows (behind_line progress.old line.now) progress.new) }
 {
     match &progress.next {
         Next::Title => Ok(goes_on(progress, Next::Verdict, is_title(line))),
@@ -28,7 +28,7 @@ pub fn behind(
         }
         Next::Later(_) => {
             if is_output(line) {
-                Ok(Some(progress))
+                Ok(true)
             } else {
                 with_activity(alloc, progress, line)
             }
@@ -36,26 +36,26 @@ pub fn behind(
     }
 }
 
-fn goes_on(progress: Progress, next: Next, fits: bool) -> Option<Progress>
-    ensures { Shows (goes_on_shape (next_shape next) (progress_shape progress) fits) result }
+fn goes_on(progress: &mut Progress, next: Next, fits: bool) -> bool
+    ensures { let shape = goes_on_shape (next_shape next) (progress_shape progress.old) fits in
+        Shows shape progress.new result }
 {
-    if !fits {
-        return None;
+    if fits {
+        progress.next = next;
     }
-    let mut progress = progress;
-    progress.next = next;
-    Some(progress)
+    fits
 }
 
 fn with_activity(
     alloc: Global,
-    progress: Progress,
+    progress: &mut Progress,
     line: &[u8],
-) -> Result<Option<Progress>, AllocError>
-    ensures { IfOk result (Shows (with_found progress (activity_in_words (parts 32 line.now)))) }
+) -> Result<bool, AllocError>
+    ensures { let found = activity_in_words (parts 32 line.now) in
+        IfOk result (Shows (with_found progress.old found) progress.new) }
 {
     match activity_in(alloc, line)? {
-        None => Ok(None),
+        None => Ok(false),
         Some((name, count)) => with_read(alloc, progress, name, count),
     }
 }
@@ -63,20 +63,20 @@ fn with_activity(
 // With the activity line of this name and count, where it may stand there.
 fn with_read(
     alloc: Global,
-    progress: Progress,
+    progress: &mut Progress,
     name: ActivityName,
     count: u64,
-) -> Result<Option<Progress>, AllocError>
-    ensures { IfOk result (Shows (with_found progress (Some (name, count)))) }
+) -> Result<bool, AllocError>
+    ensures { IfOk result (Shows (with_found progress.old (Some (name, count))) progress.new) }
 {
     if !fits(alloc, &progress.next, &name)? {
-        return Ok(None);
+        return Ok(false);
     }
     if count > MOST_REDUCTIONS - progress.total {
-        return Ok(None);
+        return Ok(false);
     }
-    let progress = with_entry(alloc, progress, name, count)?;
-    Ok(Some(progress))
+    add_entry(alloc, progress, name, count)?;
+    Ok(true)
 }
 
 // Whether the line of this activity may be the next.
@@ -90,48 +90,40 @@ fn fits(alloc: Global, next: &Next, name: &ActivityName) -> Result<bool, AllocEr
     }
 }
 
-fn with_entry(
+fn add_entry(
     alloc: Global,
-    progress: Progress,
+    progress: &mut Progress,
     name: ActivityName,
     count: u64,
-) -> Result<Progress, AllocError>
-    requires { progress.total + count ≤ MOST_REDUCTIONS }
-    ensures { IfOk result
-        (λ q. progress_shape q ≡ with_entry_shape (progress_shape progress) name count) }
+) -> Result<(), AllocError>
+    requires { progress.old.total + count ≤ MOST_REDUCTIONS }
+    ensures { let shape = with_entry (progress_shape progress.old) name count in
+        OnOk result (progress_shape progress.new ≡ shape) }
 {
-    let Progress {
-        next: _,
-        lists,
-        mut counts,
-        total,
-    } = progress;
     let next = Next::Senders(name.copy(alloc)?);
-    counts.push((name, count))?;
-    Ok(Progress {
-        next,
-        lists,
-        counts,
-        total: total + count,
-    })
+    progress.counts.push((name, count))?;
+    progress.total += count;
+    progress.next = next;
+    Ok(())
 }
 
 fn with_senders(
     alloc: Global,
-    progress: Progress,
+    progress: &mut Progress,
     name: ActivityName,
     line: &[u8],
-) -> Result<Option<Progress>, AllocError>
+) -> Result<bool, AllocError>
     ensures { let found = senders_in_words (parts 32 line.now) in
-        IfOk result (Shows (with_senders_shape name (progress_shape progress) found)) }
+        let shape = with_senders_shape name (progress_shape progress.old) found in
+        IfOk result (Shows shape progress.new) }
 {
     match senders_in(alloc, line)? {
-        None => Ok(None),
+        None => Ok(false),
         Some(senders) => {
-            let mut progress = progress;
-            progress.lists.push((name.copy(alloc)?, senders))?;
-            progress.next = Next::Later(name);
-            Ok(Some(progress))
+            let next = Next::Later(name.copy(alloc)?);
+            progress.lists.push((name, senders))?;
+            progress.next = next;
+            Ok(true)
         }
     }
 }
