@@ -13,8 +13,8 @@ use Rattle.program_code.specs.declared.code.Kind.{Kind}
 use Rattle.program_code.specs.declared.code.Kind.TheVariants as kind
 use Rattle.program_code.specs.declared.code.Leaf.{Leaf}
 use Rattle.program_code.specs.declared.code.Node.{Node}
-use Rattle.program_code.specs.Pieces.{Piece, piece, object, Pieces, nothing, also, count, tree, below}
-use Rattle.program_code.specs.Fitting.{IsNode, names, LeafFits, leaf_name, Fits, AllFit, slots_from}
+use Rattle.program_code.specs.Pieces.{Piece, piece, Pieces, nothing, also, count, tree, below}
+use Rattle.program_code.specs.Fitting.{IsNode, names, LeafFits, leaf_name, Fits, AllFit}
 use Rattle.program_code.specs.Uses.{leaf_use, uses, uses_below}
 use Rattle.program_code.specs.Tables.{piece_at, piece_of, pieces_of, kind_head, kind_piece, node_piece, pieces}
 use Rattle.program_code.specs.Sound.{AllBelow, KindBelow, KindSound}

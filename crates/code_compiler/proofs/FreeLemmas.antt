@@ -1,6 +1,6 @@
 -- The names that each kind of term leaves free.
-use Rattle.std.proofs.Common.{◌≡◌, ℕ, ℤ, ◌+◌, ◌<◌, List, Option, [], ◌∷◌, ◌++◌, map, length, drop, get_or, refl, sym, ap, ◌∙◌}
-use Rattle.std.proofs.lemmas.List.{append-nil, at_drop_more}
+use Rattle.std.proofs.Common.{◌≡◌, ℕ, ℤ, List, Option, [], ◌∷◌, ◌++◌, map, refl, ap, ◌∙◌}
+use Rattle.std.proofs.lemmas.List.{append-nil}
 use Rattle.std.specs.Global.{Box, Vec}
 use Rattle.asp_model.specs.declared.word.Label.{Label}
 use Rattle.asp_model.specs.declared.term.Sign.{Sign}
@@ -9,7 +9,7 @@ use Rattle.asp_model.specs.declared.term.Term.{Term}
 use Rattle.asp_model.specs.declared.term.Method.{Method}
 use Rattle.asp_model.specs.declared.term.Term.TheVariants.{Make, Loc, Hole, Var, Number, Get, Put, Call, Clone, Active, Serve, Let, Steps, If, Repeat, Operate, Print, Echo, Group, Scatter, Size, Member, WaitAll}
 use Rattle.asp_model.specs.Names.{Text}
-use Rattle.asp_model.specs.Term.{Tree, Trees, MethodHead, node, none, more, trees}
+use Rattle.asp_model.specs.Term.{trees}
 use Rattle.asp_model.specs.Shapes.{tree_of}
 use Rattle.program_code.specs.Fitting.{head_names}
 use Rattle.code_compiler.specs.Free.{with_free, free_in, free_below}

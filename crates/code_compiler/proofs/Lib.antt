@@ -3,6 +3,8 @@ pub mod FreeLemmas
 pub mod ClosedLemmas
 pub mod ClosedLaws
 pub mod SizeLemmas
+pub mod NodeLemmas
+pub mod PartLemmas
 pub mod ScopeLemmas
 pub mod AddLemmas
 pub mod MethodLemmas

@@ -1,5 +1,5 @@
 -- What compiling methods adds, and what an object adds.
-use Rattle.std.proofs.Common.{◌≡◌, ℕ, zero, suc, ◌+◌, ◌≤◌, List, [], ◌∷◌, ◌++◌, length, map, refl, sym, ap, subst, ◌∙◌, arith, append_assoc, length-append}
+use Rattle.std.proofs.Common.{◌≡◌, ℕ, suc, ◌+◌, List, [], ◌∷◌, ◌++◌, length, map, refl, sym, ap, subst, ◌∙◌, arith, append_assoc}
 use Rattle.std.proofs.lemmas.List.{append-nil}
 use Rattle.std.specs.Global.{Box, Vec}
 use Rattle.std.specs.List.{flat_map}
@@ -13,13 +13,13 @@ use Rattle.program_code.specs.declared.code.Class.{Class}
 use Rattle.program_code.specs.declared.code.Kind.TheVariants as kind
 use Rattle.program_code.specs.declared.code.MethodCode.{MethodCode}
 use Rattle.program_code.specs.declared.code.Node.{Node}
-use Rattle.program_code.specs.Pieces.{Piece, object, Pieces, nothing, also, Bodies, no_method, method, count, heads_of, captured_trees, tree, below, bodies}
-use Rattle.program_code.specs.Fitting.{Fits, AllFit, BodiesFit, CapturesFit, captured_names, head_names, body_scope, body_height, slots_from}
+use Rattle.program_code.specs.Pieces.{Piece, Pieces, nothing, also, Bodies, count, heads_of, captured_trees, tree, below, bodies}
+use Rattle.program_code.specs.Fitting.{Fits, BodiesFit, captured_names, head_names, body_scope, body_height, slots_from}
 use Rattle.program_code.specs.Uses.{use_at, uses, uses_below, uses_in}
-use Rattle.program_code.specs.Tables.{text_of, labels_of, head_of, piece_of, pieces_of, bodies_of, node_piece, pieces}
-use Rattle.program_code.specs.Sound.{IsBelow, AllBelow, MethodsBelow, IsSoundMethod, MethodsSound, StartFrom, KindSound}
+use Rattle.program_code.specs.Tables.{labels_of, head_of, piece_of, pieces_of, bodies_of, node_piece, pieces}
+use Rattle.program_code.specs.Sound.{IsBelow, AllBelow, MethodsSound, StartFrom, KindSound}
 use Rattle.program_code.proofs.GrowthLemmas.{all_below_more, methods_below_more, methods_below_append, bodies_kept, methods_sound_kept}
-use Rattle.code_compiler.specs.Compiled.{Body, SameScope, Grows, variables, scope_of, StandFor, Adds, heads_of_code, captured_count, passed_uses, AddsMethods, IsMethod}
+use Rattle.code_compiler.specs.Compiled.{Body, variables, scope_of, StandFor, Adds, heads_of_code, captured_count, AddsMethods, IsMethod}
 use Rattle.code_compiler.proofs.ScopeLemmas.{captured_are, length-slots}
 use Rattle.code_compiler.proofs.AddLemmas.{then, trees_append, grows_not, grows_more, longer, same_self, same_then, OnePiece, one_piece, put_adds, put_grows, stays, count_stand}
 

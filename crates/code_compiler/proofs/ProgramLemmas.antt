@@ -1,21 +1,16 @@
 -- Tables of whole programs.
-use Rattle.std.proofs.Common.{◌≡◌, ℕ, zero, suc, ◌+◌, ◌-◌, ◌<◌, ◌≤◌, List, [], ◌∷◌, ◌++◌, Option, Some, None, length, map, refl, sym, ap, subst, ◌∙◌, arith, length-append}
-use Rattle.std.specs.Global.{Box, Vec}
-use Rattle.asp_model.specs.declared.word.Label.{Label}
+use Rattle.std.proofs.Common.{◌≡◌, ℕ, ◌+◌, ◌<◌, List, [], ◌∷◌, ◌++◌, length, refl, sym, ap, subst, ◌∙◌, arith}
 use Rattle.asp_model.specs.Names.{Text}
-use Rattle.asp_model.specs.Term.{Tree, Serve, Repeat, Environment}
+use Rattle.asp_model.specs.Term.{Tree, Environment}
 use Rattle.program_code.specs.declared.code.Child.{Child}
 use Rattle.program_code.specs.declared.code.Child.TheVariants as child
-use Rattle.program_code.specs.declared.code.Class.{Class}
-use Rattle.program_code.specs.declared.code.Kind.TheVariants as kind
 use Rattle.program_code.specs.declared.code.Leaf.{Leaf}
 use Rattle.program_code.specs.declared.code.Leaf.TheVariants as leaves
-use Rattle.program_code.specs.declared.code.MethodCode.{MethodCode}
 use Rattle.program_code.specs.declared.code.Node.{Node}
-use Rattle.program_code.specs.Pieces.{Piece, variable, piece, object, nothing, also, no_method, tree}
+use Rattle.program_code.specs.Pieces.{Piece, tree}
 use Rattle.program_code.specs.Fitting.{LeafFits, Fits}
-use Rattle.program_code.specs.Tables.{text_of, piece_at, piece_of, pieces_of, pieces, bodies_of, labels_of}
-use Rattle.program_code.specs.Sound.{AllBelow, MethodsSound, StartFrom, MethodsBelow, IsSound, root_of, serve_number, service_number, empty_number}
+use Rattle.program_code.specs.Tables.{piece_at, piece_of, pieces}
+use Rattle.program_code.specs.Sound.{IsSound, root_of}
 use Rattle.program_code.proofs.GrowthLemmas.{number_kept}
 use Rattle.code_compiler.specs.Compiled.{Body, variables, Grows, IsTable, IsPrelude, IsRoot, Adds, EndsTable}
 use Rattle.code_compiler.proofs.AddLemmas.{OnePiece, one_piece}

@@ -1,10 +1,10 @@
 -- Names and their slots.
-use Rattle.std.proofs.Common.{◌≡◌, ℕ, zero, suc, ◌+◌, ◌<◌, ◌≤◌, ◌||◌, Bool, true, false, T, List, [], ◌∷◌, ◌++◌, ◌⊎◌, Option, Some, None, length, map, take, reverse, get_or, refl, sym, ap, subst, ◌∙◌, arith, length-append, append_assoc, inl, inr, ⊎_elim}
-use Rattle.std.proofs.lemmas.List.{append-nil, reverse-append, take_all}
+use Rattle.std.proofs.Common.{◌≡◌, ℕ, zero, suc, ◌+◌, ◌<◌, ◌≤◌, ◌||◌, Bool, true, false, T, List, [], ◌∷◌, ◌++◌, Option, Some, None, length, take, reverse, get_or, refl, sym, ap, subst, ◌∙◌, arith, append_assoc, ⊎_elim}
+use Rattle.std.proofs.lemmas.List.{append-nil, reverse-append}
 use Rattle.std.specs.List.{flat_map}
 use Rattle.std.specs.Option.{option_map}
 use Rattle.asp_model.specs.Names.{Text, same_text}
-use Rattle.asp_model.specs.Term.{Environment, Var, Tree, leaf, has_text, location_of}
+use Rattle.asp_model.specs.Term.{Environment, Var, leaf, has_text, location_of}
 use Rattle.program_code.specs.declared.code.Capture.{Capture}
 use Rattle.program_code.specs.declared.code.Leaf.{Leaf}
 use Rattle.program_code.specs.declared.code.Leaf.TheVariants as leaves

@@ -1,10 +1,9 @@
 -- What compiling a term adds to a table.
-use Rattle.std.specs.Prelude.{◌≡◌, ℕ, suc, ◌+◌, ◌≤◌, true, List, [], ◌∷◌, ◌++◌, length, map}
+use Rattle.std.specs.Prelude.{◌≡◌, ℕ, suc, ◌+◌, ◌≤◌, Bool, true, false, List, [], ◌∷◌, ◌++◌, length, map}
 use Rattle.std.specs.List.{flat_map}
 use Rattle.asp_model.specs.Names.{Text}
-use Rattle.asp_model.specs.Term.{Head, MethodHead, Serve, Repeat, Make, Let, Var, Tree, Trees, none, leaf, trees, Environment, binders, has_text}
+use Rattle.asp_model.specs.Term.{MethodHead, Serve, Repeat, Var, Tree, none, leaf, trees, Environment, has_text}
 use Rattle.asp_model.specs.Readable.{HasArity}
-use Rattle.program_code.specs.declared.code.Capture.{Capture}
 use Rattle.program_code.specs.declared.code.Child.{Child}
 use Rattle.program_code.specs.declared.code.Child.TheVariants as child
 use Rattle.program_code.specs.declared.code.Kind.{Kind}
@@ -53,6 +52,12 @@ abbrev pub IsPlain : Kind → ℕ → Type 0
 IsPlain (kind.Make k) n = ⊥
 IsPlain (kind.Let x) n = ⊥
 IsPlain k n = HasArity (kind_head k) n
+
+-- a kind whose nodes bind no name, and make no object
+abbrev pub is_plain : Kind → Bool
+is_plain (kind.Make k) = false
+is_plain (kind.Let x) = false
+is_plain k = true
 
 -- the table as far as it was made
 pub record IsTable (ns : List Node) : Type 0 where

@@ -1,7 +1,7 @@
 -- The names that a term leaves free.
-use Rattle.std.specs.Prelude.{Bool, true, false, List, [], ◌∷◌, ◌++◌}
+use Rattle.std.specs.Prelude.{true, false, List, [], ◌∷◌, ◌++◌}
 use Rattle.asp_model.specs.Names.{Text}
-use Rattle.asp_model.specs.Term.{Head, Var, Tree, Trees, node, none, more, binders, has_text}
+use Rattle.asp_model.specs.Term.{Var, Tree, Trees, node, none, more, binders, has_text}
 
 -- these names, and another one where it is not among them
 abbrev pub with_name : Text → List Text → List Text

@@ -1,13 +1,25 @@
 -- The parts of terms as the code has them.
-use Rattle.std.specs.Prelude.{List, ◌∷◌, ◌++◌, map}
+use Rattle.std.specs.Prelude.{List, [], ◌∷◌, ◌++◌, map}
 use Rattle.asp_model.specs.declared.word.Label.{Label}
 use Rattle.asp_model.specs.declared.term.Term.{Term}
 use Rattle.asp_model.specs.declared.term.Method.{Method}
 use Rattle.asp_model.specs.Names.{Text}
-use Rattle.asp_model.specs.Term.{MethodHead, Make, Tree, Trees, node, trees}
+use Rattle.asp_model.specs.Term.{Head, MethodHead, Make, Tree, Trees, node, none, more, trees}
 use Rattle.asp_model.specs.Shapes.{tree_of}
 use Rattle.program_code.specs.Fitting.{head_names}
 use Rattle.code_compiler.specs.Closed.{AreClosed}
+
+-- what stands in a tree's node
+abbrev pub head_at : Tree → Head
+head_at (node h ts) = h
+
+abbrev pub list_of : Trees → List Tree
+list_of none = []
+list_of (more t ts) = t ∷ list_of ts
+
+-- the trees below its node
+abbrev pub parts_of : Tree → List Tree
+parts_of (node h ts) = list_of ts
 
 abbrev pub field_label : Label × Term → Text
 field_label f = f.0.text

@@ -3,14 +3,15 @@
 ghost use Rattle.std.specs.Prelude.{◌≡◌, ◌∷◌, ◌++◌, [], List, ℕ, length, map, reverse, IfOk, OnOk, true};
 ghost use Rattle.std.specs.Global.{Vec};
 ghost use Rattle.std.specs.Option.{option_map};
-ghost use Rattle.asp_model.specs.Term.{Var, has_text, leaf, node, none};
+ghost use Rattle.asp_model.specs.Shapes.{tree_of};
+ghost use Rattle.asp_model.specs.Term.{Var, has_text, leaf};
 ghost use Rattle.program_code.specs.Tables.{kind_head, text_of};
 ghost use Rattle.program_code.specs.Uses.{leaf_use};
 ghost use Rattle.program_code.specs.declared.code.Child.TheVariants as child;
 ghost use Rattle.program_code.specs.declared.code.Node.{Node as NodeShape};
 ghost use Rattle.code_compiler.specs.Added.{AddsTerm, names_of};
-ghost use Rattle.code_compiler.specs.Compiled.{Adds, Body as BodyShape, EndsTable, IsPlain};
-ghost use Rattle.code_compiler.specs.Parts.{field_label};
+ghost use Rattle.code_compiler.specs.Compiled.{EndsTable, is_plain};
+ghost use Rattle.code_compiler.specs.Parts.{field_label, head_at};
 
 use crate::scope::{Scope, leaf_of};
 use asp_model::{Label, Term, Word};
@@ -36,21 +37,6 @@ pub fn put(
     })?;
     children.push(Child::Node(number))?;
     Ok(())
-}
-
-/// Puts a node without terms below it.
-pub fn put_leaf(
-    alloc: Global,
-    nodes: &mut Vec<Node>,
-    children: &mut Vec<Child>,
-    kind: Kind,
-) -> Result<(), AllocError>
-    requires plain { IsPlain kind 0 }
-    ensures adds { let t = node (kind_head kind) none in (b : BodyShape) → OnOk result
-        (Adds b b nodes.old.items nodes.new.items children.old.items children.new.items (t ∷ [])) }
-    ensures ends { OnOk result (EndsTable (length nodes.new.items) children.new.items) }
-{
-    put(nodes, children, kind, Vec::new(alloc))
 }
 
 /// Puts a variable behind the children, and notes the slot of a captured one.
@@ -85,7 +71,37 @@ pub fn push_use(uses: &mut Vec<usize>, leaf: &Leaf) -> Result<(), AllocError>
     }
 }
 
-pub fn copy_labels(alloc: Global, labels: &[Label]) -> Result<Vec<Label>, AllocError>
+/// What the node of a term does, where it binds no name and makes no object. Another one, for which
+/// this is never called, is answered as want of memory.
+#[tactic(auto, using(crate::proofs::TermTrees::trees_are))]
+pub fn kind_of(alloc: Global, term: &Term) -> Result<Kind, AllocError>
+    ensures head { IfOk result (λ k. kind_head k ≡ head_at (tree_of term.now)) }
+    ensures plain { IfOk result (λ k. is_plain k ≡ true) }
+{
+    match term {
+        Term::Number(n, _) => Ok(Kind::Number(*n)),
+        Term::Get(_, label, _) => Ok(Kind::Get(label.copy(alloc)?)),
+        Term::Put(_, label, _, _) => Ok(Kind::Put(label.copy(alloc)?)),
+        Term::Call(_, label, _, _) => Ok(Kind::Call(label.copy(alloc)?)),
+        Term::Clone(_, _) => Ok(Kind::Clone),
+        Term::Active(_, service, _) => Ok(Kind::Active(copy_service(alloc, service)?)),
+        Term::Serve(labels, _) => Ok(Kind::Serve(copy_labels(alloc, labels)?)),
+        Term::Steps(_, _) => Ok(Kind::Steps),
+        Term::If(_, _, _, _) => Ok(Kind::If),
+        Term::Repeat(_, _) => Ok(Kind::Repeat),
+        Term::Operate(sign, _, _, _) => Ok(Kind::Operate(*sign)),
+        Term::Print(_, _) => Ok(Kind::Print),
+        Term::Echo(text, _) => Ok(Kind::Echo(text.copy(alloc)?)),
+        Term::Group(_, _) => Ok(Kind::Group),
+        Term::Scatter(_, label, _, _) => Ok(Kind::Scatter(label.copy(alloc)?)),
+        Term::Size(_, _) => Ok(Kind::Size),
+        Term::Member(_, _, _) => Ok(Kind::Member),
+        Term::WaitAll(_, _) => Ok(Kind::WaitAll),
+        _ => Err(AllocError),
+    }
+}
+
+fn copy_labels(alloc: Global, labels: &[Label]) -> Result<Vec<Label>, AllocError>
     ensures labels { IfOk result (λ r. map text_of r.items ≡ map text_of labels.now) }
 {
     let mut copies = Vec::new(alloc);
@@ -95,7 +111,7 @@ pub fn copy_labels(alloc: Global, labels: &[Label]) -> Result<Vec<Label>, AllocE
     Ok(copies)
 }
 
-pub fn copy_service(alloc: Global, service: &Option<Label>) -> Result<Option<Label>, AllocError>
+fn copy_service(alloc: Global, service: &Option<Label>) -> Result<Option<Label>, AllocError>
     ensures label { IfOk result (λ r. option_map text_of r ≡ option_map text_of service.now) }
 {
     match service {

@@ -4,15 +4,15 @@ ghost use Rattle.std.specs.Prelude.{◌≡◌, ◌∷◌, ◌++◌, [], List, �
 ghost use Rattle.std.specs.Global.{Vec};
 ghost use Rattle.asp_model.specs.Shapes.{tree_of};
 ghost use Rattle.asp_model.specs.Term.{Let, Make, Tree, node, trees, two};
-ghost use Rattle.program_code.specs.Tables.{kind_head, text_of};
+ghost use Rattle.program_code.specs.Tables.{text_of};
 ghost use Rattle.program_code.specs.declared.code.Node.{Node as NodeShape};
 ghost use Rattle.code_compiler.specs.Added.{AddsChild, AddsCode, AddsRow, AddsTerm, AddsTerms, names_of};
 ghost use Rattle.code_compiler.specs.Closed.{AreClosed, IsClosed};
-ghost use Rattle.code_compiler.specs.Compiled.{EndsTable, IsPlain};
-ghost use Rattle.code_compiler.specs.Parts.{AreClosedMethods, body_tree, bound_in, field_tree, fields_below, head_in, terms_below};
+ghost use Rattle.code_compiler.specs.Compiled.{EndsTable};
+ghost use Rattle.code_compiler.specs.Parts.{AreClosedMethods, body_tree, bound_in, field_tree, fields_below, head_in, parts_of, terms_below};
 
 use crate::methods::{Ended, captured_names_of, end_method, next_start, only_child};
-use crate::nodes::{copy_labels, copy_service, field_labels, put, put_leaf, put_variable};
+use crate::nodes::{field_labels, kind_of, put, put_variable};
 use crate::scope::{Scope, bound_with, head_slots};
 use asp_model::{Label, Method, Term, Word};
 use program_code::{Child, Class, Kind, MethodCode, Node};
@@ -37,7 +37,6 @@ pub fn compile_term(
         Term::Loc(_, _) => unreachable!(),
         Term::Hole(_) => unreachable!(),
         Term::Var(name, _) => put_variable(alloc, scope, uses, children, name),
-        Term::Number(n, _) => put_leaf(alloc, nodes, children, Kind::Number(*n)),
         Term::Make {
             fields,
             methods,
@@ -48,92 +47,80 @@ pub fn compile_term(
             compile_fields(alloc, nodes, scope, uses, &mut below, fields)?;
             put_object(alloc, nodes, scope, uses, children, labels, below, methods)
         }
-        Term::Get(a, label, _) => {
-            let kind = Kind::Get(label.copy(alloc)?);
-            put_one(alloc, nodes, scope, uses, children, kind, a)
-        }
-        Term::Put(a, label, b, _) => {
-            let kind = Kind::Put(label.copy(alloc)?);
-            let below = first(alloc, nodes, scope, uses, a)?;
-            put_last(alloc, nodes, scope, uses, children, kind, below, b)
-        }
-        Term::Call(a, label, terms, _) => {
-            let kind = Kind::Call(label.copy(alloc)?);
-            let below = first(alloc, nodes, scope, uses, a)?;
-            put_all(alloc, nodes, scope, uses, children, kind, below, terms)
-        }
-        Term::Clone(a, _) => put_one(alloc, nodes, scope, uses, children, Kind::Clone, a),
-        Term::Active(a, label, _) => {
-            let kind = Kind::Active(copy_service(alloc, label)?);
-            put_one(alloc, nodes, scope, uses, children, kind, a)
-        }
-        Term::Serve(labels, _) => {
-            let kind = Kind::Serve(copy_labels(alloc, labels)?);
-            put_leaf(alloc, nodes, children, kind)
-        }
         Term::Let(name, a, b, _) => {
             let below = first(alloc, nodes, scope, uses, a)?;
             put_let(alloc, nodes, scope, uses, children, name, below, b)
         }
-        Term::Steps(terms, _) => {
-            put_all(
-                alloc,
-                nodes,
-                scope,
-                uses,
-                children,
-                Kind::Steps,
-                Vec::new(alloc),
-                terms,
-            )
+        _ => put_node(alloc, nodes, scope, uses, children, term),
+    }
+}
+
+/// Compiles a term whose node binds no name, and makes no object.
+#[cycle(compiling)]
+fn put_node(
+    alloc: Global,
+    nodes: &mut Vec<Node>,
+    scope: &Scope,
+    uses: &mut Vec<usize>,
+    children: &mut Vec<Child>,
+    term: &Term,
+) -> Result<(), AllocError>
+    requires closed { IsClosed (names_of scope.now) (tree_of term.now) }
+    ensures adds { let t = tree_of term.now in OnOk result
+        (AddsTerm scope.now uses.old uses.new nodes.old nodes.new children.old children.new t) }
+    ensures ends { OnOk result (EndsTable (length nodes.new.items) children.new.items) }
+{
+    let mut below = Vec::new(alloc);
+    compile_below(alloc, nodes, scope, uses, &mut below, term)?;
+    let kind = kind_of(alloc, term)?;
+    put(nodes, children, kind, below)?;
+    Ok(())
+}
+
+/// Compiles the terms below such a node, in text order. Another node, which never comes here, is
+/// answered as want of memory.
+#[cycle(compiling)]
+fn compile_below(
+    alloc: Global,
+    nodes: &mut Vec<Node>,
+    scope: &Scope,
+    uses: &mut Vec<usize>,
+    children: &mut Vec<Child>,
+    term: &Term,
+) -> Result<(), AllocError>
+    requires closed { IsClosed (names_of scope.now) (tree_of term.now) }
+    ensures adds { let ts = parts_of (tree_of term.now) in OnOk result
+        (AddsTerms scope.now uses.old uses.new nodes.old nodes.new children.old children.new ts) }
+{
+    match term {
+        Term::Number(_, _) | Term::Serve(_, _) | Term::Echo(_, _) => Ok(()),
+        Term::Get(a, _, _)
+        | Term::Clone(a, _)
+        | Term::Active(a, _, _)
+        | Term::Repeat(a, _)
+        | Term::Print(a, _)
+        | Term::Size(a, _)
+        | Term::WaitAll(a, _) => compile_term(alloc, nodes, scope, uses, children, a),
+        Term::Put(a, _, b, _)
+        | Term::Operate(_, a, b, _)
+        | Term::Scatter(a, _, b, _)
+        | Term::Member(a, b, _) => {
+            compile_term(alloc, nodes, scope, uses, children, a)?;
+            compile_term(alloc, nodes, scope, uses, children, b)
         }
         Term::If(a, b, c, _) => {
-            let mut below = first(alloc, nodes, scope, uses, a)?;
-            compile_term(alloc, nodes, scope, uses, &mut below, b)?;
-            put_last(alloc, nodes, scope, uses, children, Kind::If, below, c)
+            compile_term(alloc, nodes, scope, uses, children, a)?;
+            compile_term(alloc, nodes, scope, uses, children, b)?;
+            compile_term(alloc, nodes, scope, uses, children, c)
         }
-        Term::Repeat(a, _) => put_one(alloc, nodes, scope, uses, children, Kind::Repeat, a),
-        Term::Operate(sign, a, b, _) => {
-            let below = first(alloc, nodes, scope, uses, a)?;
-            put_last(
-                alloc,
-                nodes,
-                scope,
-                uses,
-                children,
-                Kind::Operate(*sign),
-                below,
-                b,
-            )
+        Term::Call(a, _, terms, _) => {
+            compile_term(alloc, nodes, scope, uses, children, a)?;
+            compile_all(alloc, nodes, scope, uses, children, terms)
         }
-        Term::Print(a, _) => put_one(alloc, nodes, scope, uses, children, Kind::Print, a),
-        Term::Echo(text, _) => {
-            let kind = Kind::Echo(text.copy(alloc)?);
-            put_leaf(alloc, nodes, children, kind)
+        Term::Steps(terms, _) | Term::Group(terms, _) => {
+            compile_all(alloc, nodes, scope, uses, children, terms)
         }
-        Term::Group(terms, _) => {
-            put_all(
-                alloc,
-                nodes,
-                scope,
-                uses,
-                children,
-                Kind::Group,
-                Vec::new(alloc),
-                terms,
-            )
-        }
-        Term::Scatter(a, label, b, _) => {
-            let kind = Kind::Scatter(label.copy(alloc)?);
-            let below = first(alloc, nodes, scope, uses, a)?;
-            put_last(alloc, nodes, scope, uses, children, kind, below, b)
-        }
-        Term::Size(a, _) => put_one(alloc, nodes, scope, uses, children, Kind::Size, a),
-        Term::Member(a, b, _) => {
-            let below = first(alloc, nodes, scope, uses, a)?;
-            put_last(alloc, nodes, scope, uses, children, Kind::Member, below, b)
-        }
-        Term::WaitAll(a, _) => put_one(alloc, nodes, scope, uses, children, Kind::WaitAll, a),
+        _ => Err(AllocError),
     }
 }
 
@@ -153,80 +140,6 @@ fn first(
     let mut row = Vec::new(alloc);
     compile_term(alloc, nodes, scope, uses, &mut row, term)?;
     Ok(row)
-}
-
-#[cycle(compiling)]
-fn put_one(
-    alloc: Global,
-    nodes: &mut Vec<Node>,
-    scope: &Scope,
-    uses: &mut Vec<usize>,
-    children: &mut Vec<Child>,
-    kind: Kind,
-    a: &Term,
-) -> Result<(), AllocError>
-    requires plain { IsPlain kind 1 }
-    requires closed { IsClosed (names_of scope.now) (tree_of a.now) }
-    ensures adds { let t = node (kind_head kind) (trees (tree_of a.now ∷ [])) in OnOk result
-        (AddsTerm scope.now uses.old uses.new nodes.old nodes.new children.old children.new t) }
-    ensures ends { OnOk result (EndsTable (length nodes.new.items) children.new.items) }
-{
-    let mut below = Vec::new(alloc);
-    compile_term(alloc, nodes, scope, uses, &mut below, a)?;
-    put(nodes, children, kind, below)?;
-    Ok(())
-}
-
-/// Compiles the last term below a node, behind the children of the others, and puts the node.
-#[cycle(compiling)]
-fn put_last(
-    alloc: Global,
-    nodes: &mut Vec<Node>,
-    scope: &Scope,
-    uses: &mut Vec<usize>,
-    children: &mut Vec<Child>,
-    kind: Kind,
-    below: Vec<Child>,
-    last: &Term,
-) -> Result<(), AllocError>
-    requires closed { IsClosed (names_of scope.now) (tree_of last.now) }
-    ensures adds { (us : Vec ℕ) (ns : Vec NodeShape) (ts : List Tree)
-        → AddsRow scope.now us uses.old ns nodes.old below ts
-        → IsPlain kind (length (ts ++ tree_of last.now ∷ []))
-        → let t = node (kind_head kind) (trees (ts ++ tree_of last.now ∷ [])) in OnOk result
-        (AddsTerm scope.now us uses.new ns nodes.new children.old children.new t) }
-    ensures ends { OnOk result (EndsTable (length nodes.new.items) children.new.items) }
-{
-    let mut below = below;
-    compile_term(alloc, nodes, scope, uses, &mut below, last)?;
-    put(nodes, children, kind, below)?;
-    Ok(())
-}
-
-/// The same of several terms.
-#[cycle(compiling)]
-fn put_all(
-    alloc: Global,
-    nodes: &mut Vec<Node>,
-    scope: &Scope,
-    uses: &mut Vec<usize>,
-    children: &mut Vec<Child>,
-    kind: Kind,
-    below: Vec<Child>,
-    terms: &[Term],
-) -> Result<(), AllocError>
-    requires closed { AreClosed (names_of scope.now) [] (terms_below terms.now) }
-    ensures adds { (us : Vec ℕ) (ns : Vec NodeShape) (ts : List Tree)
-        → AddsRow scope.now us uses.old ns nodes.old below ts
-        → IsPlain kind (length (ts ++ map tree_of terms.now))
-        → let t = node (kind_head kind) (trees (ts ++ map tree_of terms.now)) in OnOk result
-        (AddsTerm scope.now us uses.new ns nodes.new children.old children.new t) }
-    ensures ends { OnOk result (EndsTable (length nodes.new.items) children.new.items) }
-{
-    let mut below = below;
-    compile_all(alloc, nodes, scope, uses, &mut below, terms)?;
-    put(nodes, children, kind, below)?;
-    Ok(())
 }
 
 #[cycle(compiling)]

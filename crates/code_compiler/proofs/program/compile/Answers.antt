@@ -1,12 +1,8 @@
-use Rattle.std.proofs.Common.{◌≡◌, [], List, sym, ap, ◌∙◌}
+use Rattle.std.proofs.Common.{[], sym, ap, ◌∙◌}
 use Rattle.asp_model.specs.declared.term.Program.{Program}
-use Rattle.asp_model.specs.Term.{Tree, locations}
+use Rattle.asp_model.specs.Term.{locations}
 use Rattle.asp_model.specs.Shapes.{tree_of, marked_of}
 use Rattle.asp_check.proofs.PlaceLemmas.{readable_has_no_places}
-use Rattle.program_code.specs.declared.code.Node.{Node}
-use Rattle.program_code.specs.Pieces.{tree}
-use Rattle.program_code.specs.Sound.{root_of}
-use Rattle.program_code.specs.Tables.{piece_at, pieces}
 use Rattle.sound_programs.proofs.WholeLaws.{programs_are_proper}
 use Rattle.code_compiler.proofs.ClosedLemmas.{closed_proper}
 use Rattle.code_compiler.proofs.ProgramLemmas.{sound_program}

@@ -1,6 +1,6 @@
 use Rattle.std.proofs.Common.{◌≡◌, ◌+◌, ℕ, suc, None, take, sym, ap, subst, ◌∙◌, arith}
 use Rattle.std.proofs.lemmas.List.{take_all}
-use Rattle.asp_model.specs.Names.{Text, same_text}
+use Rattle.asp_model.specs.Names.{same_text}
 use Rattle.program_code.specs.Classes.{number_of}
 use Rattle.program_code.proofs.LookupLemmas.{number_here, number_later}
 use Rattle.code_compiler.proofs.ScopeLemmas.{numbered}

@@ -1,4 +1,4 @@
-use Rattle.std.proofs.Common.{rules, ◌≡◌, ◌∷◌, ◌++◌, ◌+◌, [], ℕ, suc, List, length, take, map, Bor, refl, sym, ap, subst, ◌∙◌, ◌<◌, get_or}
+use Rattle.std.proofs.Common.{rules, ◌≡◌, ◌∷◌, ◌++◌, ◌+◌, [], ℕ, suc, List, length, take, Bor, refl, sym, ap, subst, ◌∙◌, ◌<◌, get_or}
 use Rattle.std.proofs.lemmas.List.{take_more}
 use Rattle.asp_model.specs.Names.{Text}
 use Rattle.asp_model.specs.Term.{Environment}

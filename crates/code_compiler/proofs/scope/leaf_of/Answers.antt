@@ -1,6 +1,4 @@
-use Rattle.std.proofs.Common.{◌≡◌, None, sym, ap, ◌∙◌}
-use Rattle.asp_model.specs.Names.{Text}
-use Rattle.asp_model.specs.Term.{Environment, has_text, location_of}
+use Rattle.std.proofs.Common.{sym}
 use Rattle.code_compiler.specs.Added.{environment}
 use Rattle.code_compiler.proofs.ScopeLemmas.{captured_here, kept_fits, number_text}
 use Rattle.code_compiler.proofs.scope.leaf_of.Goals as goal

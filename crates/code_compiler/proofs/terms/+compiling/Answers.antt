@@ -1,12 +1,10 @@
-use Rattle.std.proofs.Common.{rules, ◌≡◌, ◌∷◌, ◌++◌, ◌+◌, ◌-◌, ◌<◌, ◌≤◌, [], ℕ, ℤ, suc, List, length, map, take, get_or, refl, sym, ap, subst, ◌∙◌, arith, Bor, Result, OnOk, IfOk, w64, to_z, of_z}
-use Rattle.std.specs.Global.{Vec, Box}
+use Rattle.std.proofs.Common.{rules, ◌≡◌, ◌∷◌, ◌++◌, ◌+◌, [], ℕ, List, length, map, take, refl, sym, ap, subst, ◌∙◌, arith, Bor, OnOk}
 use Rattle.asp_model.specs.declared.term.Term.{Term}
 use Rattle.asp_model.specs.declared.term.Method.{Method}
 use Rattle.asp_model.specs.declared.word.Label.{Label}
 use Rattle.asp_model.specs.Names.{Text}
 use Rattle.asp_model.specs.Term.{Tree, MethodHead, Environment, node, more, none, trees}
 use Rattle.asp_model.specs.Term as term
-use Rattle.asp_model.specs.Readable.{HasArity}
 use Rattle.asp_model.specs.Shapes.{tree_of}
 use Rattle.program_code.specs.declared.code.Child.{Child}
 use Rattle.program_code.specs.declared.code.Class.{Class}
@@ -14,66 +12,120 @@ use Rattle.program_code.specs.declared.code.Kind.TheVariants as kind
 use Rattle.program_code.specs.declared.code.MethodCode.{MethodCode}
 use Rattle.program_code.specs.declared.code.Node.{Node}
 use Rattle.program_code.specs.Fitting.{names, slots_from}
-use Rattle.program_code.specs.Tables.{text_of}
+use Rattle.program_code.specs.Tables.{kind_head, text_of}
 use Rattle.code_compiler.specs.Added.{body_of, names_of, environment}
-use Rattle.code_compiler.specs.Closed.{IsClosed, AreClosed}
+use Rattle.code_compiler.specs.Closed.{IsClosed}
 use Rattle.code_compiler.specs.Free.{free_in}
-use Rattle.code_compiler.specs.Compiled.{Body, Adds, AddsMethods, AreAmong, IsMethod, SameScope, IsPlain, names_in, captured_count}
-use Rattle.code_compiler.specs.Parts.{field_label, field_tree, head_in, body_tree, bound_in, terms_below, fields_below, bodies_below}
-use Rattle.code_compiler.proofs.TermTrees.{make_is, call_is, number_is, steps_is, group_is, if_is}
+use Rattle.code_compiler.specs.Compiled.{Body, Adds, AddsMethods, AreAmong, IsMethod, SameScope, captured_count}
+use Rattle.code_compiler.specs.Parts.{field_label, field_tree, head_in, body_tree, bound_in, parts_of}
+use Rattle.code_compiler.proofs.NodeLemmas.{whole, plain_node, then_ok}
+use Rattle.code_compiler.proofs.PartLemmas.{row_parts, row_size, row_closed, two_parts, call_parts}
+use Rattle.code_compiler.proofs.TermTrees.{make_is, if_is}
 use Rattle.code_compiler.proofs.ClosedLemmas.{body_closed, captured_among}
-use Rattle.code_compiler.proofs.ClosedLaws.{steps_closed, group_closed, call_closed, fields_closed, methods_closed, field_at, method_at}
-use Rattle.code_compiler.proofs.SizeLemmas.{steps_size, group_size, call_size, fields_size, methods_size, term_size_at, method_size_at, field_size_at}
+use Rattle.code_compiler.proofs.ClosedLaws.{call_closed, fields_closed, methods_closed, field_at, method_at}
+use Rattle.code_compiler.proofs.SizeLemmas.{call_size, fields_size, methods_size, term_size_at, method_size_at, field_size_at}
 use Rattle.code_compiler.proofs.ScopeLemmas.{names_slots}
-use Rattle.code_compiler.proofs.AddLemmas.{count_trees, adds_none, adds_more, node_added, let_added, ends_put, map_step, map_length, same_self, closed_at, row_of, if_ok}
+use Rattle.code_compiler.proofs.AddLemmas.{adds_more, node_added, let_added, ends_put, map_step, map_length, same_self, closed_at, row_of, if_ok}
 use Rattle.code_compiler.proofs.MethodLemmas.{methods_more, count_append, method_added, object_added, one_child_long}
 use Rattle.code_compiler.proofs.terms.+compiling.Goals as goal
 
-pub put_one-returns-clause-adds : goal.put_one-returns-clause-adds
-put_one-returns-clause-adds t c =
+pub compile_below-compile_all-requires : goal.compile_below-compile_all-requires
+compile_below-compile_all-requires t c = (omega (arith, c.decreases, call_size c.args.term.now c.deref-in-Call-2.result.now c.in-Call.a c.in-Call.field-1 c.in-Call.terms c.in-Call.field-3 c.deref-in-Call-2.ensures.value c.in-Call.is), call_closed (names_of c.args.scope.now) c.args.term.now c.deref-in-Call-2.result.now c.in-Call.a c.in-Call.field-1 c.in-Call.terms c.in-Call.field-3 c.deref-in-Call-2.ensures.value c.in-Call.is c.requires.closed)
+
+pub compile_below-compile_all-requires-in-Steps : goal.compile_below-compile_all-requires-in-Steps
+compile_below-compile_all-requires-in-Steps t c = (omega (arith, c.decreases, row_size c.args.term.now c.deref-in-Steps.result.now c.in-Steps.terms c.deref-in-Steps.ensures.value c.in-Steps.is), row_closed (names_of c.args.scope.now) c.args.term.now c.deref-in-Steps.result.now c.in-Steps.terms c.deref-in-Steps.ensures.value c.in-Steps.is c.requires.closed)
+
+pub compile_below-returns-in-Steps : goal.compile_below-returns-in-Steps
+compile_below-returns-in-Steps t c =
+    let a : Body = body_of c.args.scope.now c.args.uses.now.items in
+    let b : Body = body_of c.args.scope.now c.compile_all-in-Steps.new.uses.items in
+    let parts : map tree_of c.deref-in-Steps.result.now ≡ parts_of (tree_of c.args.term.now) = row_parts c.args.term.now c.deref-in-Steps.result.now c.in-Steps.terms c.deref-in-Steps.ensures.value c.in-Steps.is in
+    record {
+      adds = subst (λ (ts : List Tree). OnOk c.compile_all-in-Steps.result (Adds a b c.args.nodes.now.items c.compile_all-in-Steps.new.nodes.items c.args.children.now.items c.compile_all-in-Steps.new.children.items ts)) parts c.compile_all-in-Steps.ensures.adds;
+    }
+
+pub compile_below-returns-in_ok-compile_term-in-Put : goal.compile_below-returns-in_ok-compile_term-in-Put
+compile_below-returns-in_ok-compile_term-in-Put t c =
+    let a : Body = body_of c.args.scope.now c.args.uses.now.items in
+    let b : Body = body_of c.args.scope.now c.compile_term-in-Put.new.uses.items in
+    let d : Body = body_of c.args.scope.now c.compile_term-in-Put-2.new.uses.items in
+    let ns : List Node = c.args.nodes.now.items in
+    let ms : List Node = c.compile_term-in-Put.new.nodes.items in
+    let ls : List Node = c.compile_term-in-Put-2.new.nodes.items in
+    let cs : List Child = c.args.children.now.items in
+    let ds : List Child = c.compile_term-in-Put.new.children.items in
+    let es : List Child = c.compile_term-in-Put-2.new.children.items in
+    let x : Tree = tree_of c.deref-in-Put.result.now in
+    let y : Tree = tree_of c.deref-in-Put-2.result.now in
+    let parts : x ∷ y ∷ [] ≡ parts_of (tree_of c.args.term.now) =
+    (λ i. tree_of (c.deref-in-Put.ensures i) ∷ tree_of (c.deref-in-Put-2.ensures i) ∷ []) ∙ two_parts c.args.term.now c.in-Put.a c.in-Put.b c.in-Put.is in
+    record {
+      adds = then_ok c.compile_term-in-Put-2.result (Adds b d ms ls ds es (y ∷ [])) (Adds a d ns ls cs es (parts_of (tree_of c.args.term.now))) c.compile_term-in-Put-2.ensures.adds
+          (λ last. subst (Adds a d ns ls cs es) parts (adds_more a b d ns ms ls cs ds es (x ∷ []) (y ∷ []) c.in_ok-compile_term-in-Put.ensures.adds last));
+    }
+
+pub compile_below-returns-in_ok-compile_term-in-If-2 : goal.compile_below-returns-in_ok-compile_term-in-If-2
+compile_below-returns-in_ok-compile_term-in-If-2 t c =
     let a : Body = body_of c.args.scope.now c.args.uses.now.items in
     let b : Body = body_of c.args.scope.now c.compile_term.new.uses.items in
+    let d : Body = body_of c.args.scope.now c.compile_term-in-If.new.uses.items in
+    let e : Body = body_of c.args.scope.now c.compile_term-in-If-2.new.uses.items in
     let ns : List Node = c.args.nodes.now.items in
     let ms : List Node = c.compile_term.new.nodes.items in
-    let row = c.compile_term.new.children in
-    node_added a b ns ms c.put.new.nodes.items c.args.children.now.items c.put.new.children.items c.args.kind row (tree_of c.args.a.now ∷ [])
-    (row_of a b ns ms c.new-below.result.items row.items (tree_of c.args.a.now ∷ []) c.new-below.ensures.items c.in_ok-compile_term.ensures.adds) c.requires.plain c.in_ok-put.ensures.node c.in_ok-put.ensures.child
+    let ls : List Node = c.compile_term-in-If.new.nodes.items in
+    let ks : List Node = c.compile_term-in-If-2.new.nodes.items in
+    let cs : List Child = c.args.children.now.items in
+    let ds : List Child = c.compile_term.new.children.items in
+    let es : List Child = c.compile_term-in-If.new.children.items in
+    let fs : List Child = c.compile_term-in-If-2.new.children.items in
+    let x : Tree = tree_of c.deref.result.now in
+    let y : Tree = tree_of c.deref-in-If.result.now in
+    let z : Tree = tree_of c.deref-in-If-2.result.now in
+    let parts : x ∷ y ∷ z ∷ [] ≡ parts_of (tree_of c.args.term.now) =
+    (λ i. tree_of (c.deref.ensures i) ∷ tree_of (c.deref-in-If.ensures i) ∷ tree_of (c.deref-in-If-2.ensures i) ∷ []) ∙ sym (ap parts_of (ap tree_of c.in-If.is ∙ if_is c.in-If.a c.in-If.b c.in-If.c c.in-If.field-3)) in
+    let two : Adds a d ns ls cs es (x ∷ y ∷ []) = adds_more a b d ns ms ls cs ds es (x ∷ []) (y ∷ []) c.in_ok-compile_term-in-If.ensures.adds c.in_ok-compile_term-in-If-2.ensures.adds in
+    record {
+      adds = then_ok c.compile_term-in-If-2.result (Adds d e ls ks es fs (z ∷ [])) (Adds a e ns ks cs fs (parts_of (tree_of c.args.term.now))) c.compile_term-in-If-2.ensures.adds
+          (λ last. subst (Adds a e ns ks cs fs) parts (adds_more a d e ns ls ks cs es fs (x ∷ y ∷ []) (z ∷ []) two last));
+    }
 
-pub put_one-returns-clause-ends : goal.put_one-returns-clause-ends
-put_one-returns-clause-ends t c =
-    ends_put c.compile_term.new.nodes.items c.put.new.nodes.items (record { kind = c.args.kind; children = c.compile_term.new.children }) c.args.children.now.items c.put.new.children.items c.in_ok-put.ensures.node c.in_ok-put.ensures.child
-
-pub put_last-returns-clause-adds : goal.put_last-returns-clause-adds
-put_last-returns-clause-adds t c = λ vs ns ts row plain.
-    let a : Body = body_of c.args.scope.now vs.items in
-    let b : Body = body_of c.args.scope.now c.args.uses.now.items in
-    let d : Body = body_of c.args.scope.now c.compile_term.new.uses.items in
-    let ms : List Node = c.args.nodes.now.items in
-    let ls : List Node = c.compile_term.new.nodes.items in
-    let below = c.compile_term.new.children in
-    let us : List Tree = tree_of c.args.last.now ∷ [] in
-    node_added a d ns.items ls c.put.new.nodes.items c.args.children.now.items c.put.new.children.items c.args.kind below (ts ++ us)
-    (adds_more a b d ns.items ms ls [] c.args.below.items below.items ts us row c.in_ok-compile_term.ensures.adds) plain c.in_ok-put.ensures.node c.in_ok-put.ensures.child
-
-pub put_last-returns-clause-ends : goal.put_last-returns-clause-ends
-put_last-returns-clause-ends t c =
-    ends_put c.compile_term.new.nodes.items c.put.new.nodes.items (record { kind = c.args.kind; children = c.compile_term.new.children }) c.args.children.now.items c.put.new.children.items c.in_ok-put.ensures.node c.in_ok-put.ensures.child
-
-pub put_all-returns-clause-adds : goal.put_all-returns-clause-adds
-put_all-returns-clause-adds t c = λ vs ns ts row plain.
-    let a : Body = body_of c.args.scope.now vs.items in
-    let b : Body = body_of c.args.scope.now c.args.uses.now.items in
+pub compile_below-returns-in_ok-compile_term-in-Call : goal.compile_below-returns-in_ok-compile_term-in-Call
+compile_below-returns-in_ok-compile_term-in-Call t c =
+    let a : Body = body_of c.args.scope.now c.args.uses.now.items in
+    let b : Body = body_of c.args.scope.now c.compile_term-in-Call.new.uses.items in
     let d : Body = body_of c.args.scope.now c.compile_all.new.uses.items in
-    let ms : List Node = c.args.nodes.now.items in
+    let ns : List Node = c.args.nodes.now.items in
+    let ms : List Node = c.compile_term-in-Call.new.nodes.items in
     let ls : List Node = c.compile_all.new.nodes.items in
-    let below = c.compile_all.new.children in
-    let us : List Tree = map tree_of c.args.terms.now in
-    node_added a d ns.items ls c.put.new.nodes.items c.args.children.now.items c.put.new.children.items c.args.kind below (ts ++ us)
-    (adds_more a b d ns.items ms ls [] c.args.below.items below.items ts us row c.in_ok-compile_all.ensures.adds) plain c.in_ok-put.ensures.node c.in_ok-put.ensures.child
+    let cs : List Child = c.args.children.now.items in
+    let ds : List Child = c.compile_term-in-Call.new.children.items in
+    let es : List Child = c.compile_all.new.children.items in
+    let x : Tree = tree_of c.deref-in-Call.result.now in
+    let ys : List Tree = map tree_of c.deref-in-Call-2.result.now in
+    let parts : x ∷ ys ≡ parts_of (tree_of c.args.term.now) =
+    (λ i. tree_of (c.deref-in-Call.ensures i) ∷ map tree_of (c.deref-in-Call-2.ensures.value i)) ∙ call_parts c.args.term.now c.in-Call.a c.in-Call.field-1 c.in-Call.terms c.in-Call.field-3 c.in-Call.is in
+    record {
+      adds = then_ok c.compile_all.result (Adds b d ms ls ds es ys) (Adds a d ns ls cs es (parts_of (tree_of c.args.term.now))) c.compile_all.ensures.adds
+          (λ last. subst (Adds a d ns ls cs es) parts (adds_more a b d ns ms ls cs ds es (x ∷ []) ys c.in_ok-compile_term-in-Call.ensures.adds last));
+    }
 
-pub put_all-returns-clause-ends : goal.put_all-returns-clause-ends
-put_all-returns-clause-ends t c =
-    ends_put c.compile_all.new.nodes.items c.put.new.nodes.items (record { kind = c.args.kind; children = c.compile_all.new.children }) c.args.children.now.items c.put.new.children.items c.in_ok-put.ensures.node c.in_ok-put.ensures.child
+pub put_node-returns-clause-adds : goal.put_node-returns-clause-adds
+put_node-returns-clause-adds t c =
+    let a : Body = body_of c.args.scope.now c.args.uses.now.items in
+    let b : Body = body_of c.args.scope.now c.compile_below.new.uses.items in
+    let ns : List Node = c.args.nodes.now.items in
+    let ms : List Node = c.compile_below.new.nodes.items in
+    let row = c.compile_below.new.children in
+    let k = c.in_ok-kind.kind in
+    let u : Tree = tree_of c.args.term.now in
+    subst (λ (x : Tree). Adds a b ns c.put.new.nodes.items c.args.children.now.items c.put.new.children.items (x ∷ [])) (whole u (kind_head k) c.in_ok-kind.ensures.head)
+    (node_added a b ns ms c.put.new.nodes.items c.args.children.now.items c.put.new.children.items k row (parts_of u)
+    (row_of a b ns ms c.new-below.result.items row.items (parts_of u) c.new-below.ensures.items c.in_ok-compile_below.ensures.adds)
+    (plain_node (names_of c.args.scope.now) u k c.in_ok-kind.ensures.plain c.in_ok-kind.ensures.head c.requires.closed) c.in_ok-put.ensures.node c.in_ok-put.ensures.child)
+
+pub put_node-returns-clause-ends : goal.put_node-returns-clause-ends
+put_node-returns-clause-ends t c =
+    ends_put c.compile_below.new.nodes.items c.put.new.nodes.items (record { kind = c.in_ok-kind.kind; children = c.compile_below.new.children }) c.args.children.now.items c.put.new.children.items c.in_ok-put.ensures.node c.in_ok-put.ensures.child
 
 pub put_let-returns-clause-adds : goal.put_let-returns-clause-adds
 put_let-returns-clause-adds t c = λ vs ns x row.
@@ -249,83 +301,6 @@ compile_term-compile_fields-requires t c = (omega (arith, c.decreases, fields_si
 
 pub compile_term-put_object-requires : goal.compile_term-put_object-requires
 compile_term-put_object-requires t c = (omega (arith, c.decreases, methods_size c.args.term.now c.deref-in-Make-2.result.now c.in-Make.fields c.in-Make.methods c.in-Make.mark c.deref-in-Make-2.ensures.value c.in-Make.is), methods_closed (names_of c.args.scope.now) c.args.term.now c.deref-in-Make-2.result.now c.in-Make.fields c.in-Make.methods c.in-Make.mark c.deref-in-Make-2.ensures.value c.in-Make.is c.requires.closed)
-
-pub compile_term-put_all-requires-in-Group : goal.compile_term-put_all-requires-in-Group
-compile_term-put_all-requires-in-Group t c = (omega (arith, c.decreases, group_size c.args.term.now c.deref-in-Group.result.now c.in-Group.terms c.in-Group.field-1 c.deref-in-Group.ensures.value c.in-Group.is), group_closed (names_of c.args.scope.now) c.args.term.now c.deref-in-Group.result.now c.in-Group.terms c.in-Group.field-1 c.deref-in-Group.ensures.value c.in-Group.is c.requires.closed)
-
-pub compile_term-put_all-requires-in-Steps : goal.compile_term-put_all-requires-in-Steps
-compile_term-put_all-requires-in-Steps t c = (omega (arith, c.decreases, steps_size c.args.term.now c.deref-in-Steps.result.now c.in-Steps.terms c.in-Steps.field-1 c.deref-in-Steps.ensures.value c.in-Steps.is), (steps_closed (names_of c.args.scope.now) c.args.term.now c.deref-in-Steps.result.now c.in-Steps.terms c.in-Steps.field-1 c.deref-in-Steps.ensures.value c.in-Steps.is c.requires.closed).1)
-
-pub compile_term-put_all-requires : goal.compile_term-put_all-requires
-compile_term-put_all-requires t c = (omega (arith, c.decreases, call_size c.args.term.now c.deref-in-Call-2.result.now c.in-Call.a c.in-Call.label c.in-Call.terms c.in-Call.field-3 c.deref-in-Call-2.ensures.value c.in-Call.is), call_closed (names_of c.args.scope.now) c.args.term.now c.deref-in-Call-2.result.now c.in-Call.a c.in-Call.label c.in-Call.terms c.in-Call.field-3 c.deref-in-Call-2.ensures.value c.in-Call.is c.requires.closed)
-
-pub compile_term-returns-in-Number-clause-adds : goal.compile_term-returns-in-Number-clause-adds
-compile_term-returns-in-Number-clause-adds t c =
-    let a : Body = body_of c.args.scope.now c.args.uses.now.items in
-    let ns : List Node = c.args.nodes.now.items in
-    let cs : List Child = c.args.children.now.items in
-    let z : ℤ = c.in-Number.n in
-    let whole : to_z w64 (of_z w64 z) ≡ z = search rules in
-    let is : tree_of c.args.term.now ≡ node (term.Number z) none = ap tree_of c.in-Number.is ∙ number_is z c.in-Number.field-1 in
-    subst (λ (u : Tree). OnOk c.put_leaf.result (Adds a a ns c.put_leaf.new.nodes.items cs c.put_leaf.new.children.items (u ∷ []))) (ap (λ (y : ℤ). node (term.Number y) none) whole ∙ sym is) (c.put_leaf.ensures.adds a)
-
-pub compile_term-returns-in-Group-clause-adds : goal.compile_term-returns-in-Group-clause-adds
-compile_term-returns-in-Group-clause-adds t c =
-    let a : Body = body_of c.args.scope.now c.args.uses.now.items in
-    let ns : List Node = c.args.nodes.now.items in
-    let cs : List Child = c.args.children.now.items in
-    let xs : List Term = c.deref-in-Group.result.now in
-    let call = c.put_all-in-Group in
-    let is : node term.Group (terms_below xs) ≡ tree_of c.args.term.now = ap (λ (l : List Term). node term.Group (terms_below l)) c.deref-in-Group.ensures.value ∙ sym (ap tree_of c.in-Group.is ∙ group_is c.in-Group.terms c.in-Group.field-1) in
-    let row : Adds a a ns ns [] c.new-in-Group.result.items [] = subst (λ (l : List Child). Adds a a ns ns [] l []) (sym c.new-in-Group.ensures.items) (adds_none a ns []) in
-    subst (λ (u : Tree). OnOk c.put_all-in-Group.result (Adds a (body_of c.args.scope.now c.put_all-in-Group.new.uses.items) ns c.put_all-in-Group.new.nodes.items cs c.put_all-in-Group.new.children.items (u ∷ []))) is
-    (c.put_all-in-Group.ensures.adds c.args.uses.now c.args.nodes.now [] row tt)
-
-pub compile_term-returns-in-Steps-clause-adds : goal.compile_term-returns-in-Steps-clause-adds
-compile_term-returns-in-Steps-clause-adds t c =
-    let a : Body = body_of c.args.scope.now c.args.uses.now.items in
-    let ns : List Node = c.args.nodes.now.items in
-    let cs : List Child = c.args.children.now.items in
-    let xs : List Term = c.deref-in-Steps.result.now in
-    let call = c.put_all-in-Steps in
-    let is : node term.Steps (terms_below xs) ≡ tree_of c.args.term.now = ap (λ (l : List Term). node term.Steps (terms_below l)) c.deref-in-Steps.ensures.value ∙ sym (ap tree_of c.in-Steps.is ∙ steps_is c.in-Steps.terms c.in-Steps.field-1) in
-    let sound = steps_closed (names_of c.args.scope.now) c.args.term.now c.deref-in-Steps.result.now c.in-Steps.terms c.in-Steps.field-1 c.deref-in-Steps.ensures.value c.in-Steps.is c.requires.closed in
-    let arity : HasArity term.Steps (length (map tree_of xs)) = subst (HasArity term.Steps) (count_trees (map tree_of xs)) sound.0 in
-    let row : Adds a a ns ns [] c.new.result.items [] = subst (λ (l : List Child). Adds a a ns ns [] l []) (sym c.new.ensures.items) (adds_none a ns []) in
-    subst (λ (u : Tree). OnOk c.put_all-in-Steps.result (Adds a (body_of c.args.scope.now c.put_all-in-Steps.new.uses.items) ns c.put_all-in-Steps.new.nodes.items cs c.put_all-in-Steps.new.children.items (u ∷ []))) is
-    (c.put_all-in-Steps.ensures.adds c.args.uses.now c.args.nodes.now [] row arity)
-
-pub compile_term-returns-in_ok-below-in-Call-clause-adds : goal.compile_term-returns-in_ok-below-in-Call-clause-adds
-compile_term-returns-in_ok-below-in-Call-clause-adds t c =
-    let a : Body = body_of c.args.scope.now c.args.uses.now.items in
-    let ns : List Node = c.args.nodes.now.items in
-    let cs : List Child = c.args.children.now.items in
-    let xs : List Term = c.deref-in-Call-2.result.now in
-    let x : Tree = tree_of c.deref-in-Call.result.now in
-    let same_receiver : x ≡ tree_of c.in-Call.a.value = ap tree_of c.deref-in-Call.ensures in
-    let label : c.in_ok-copy-in-Call.field-0.text ≡ c.in-Call.label.text = c.in_ok-copy-in-Call.ensures.label in
-    let is : node (term.Call c.in_ok-copy-in-Call.field-0.text) (more x (terms_below xs)) ≡ tree_of c.args.term.now =
-    (λ i. node (term.Call (label i)) (more (same_receiver i) (terms_below (c.deref-in-Call-2.ensures.value i)))) ∙ sym (ap tree_of c.in-Call.is ∙ call_is c.in-Call.a c.in-Call.label c.in-Call.terms c.in-Call.field-3) in
-    let some : 1 ≤ length (x ∷ map tree_of xs) = omega arith in
-    subst (λ (u : Tree). OnOk c.put_all.result (Adds a (body_of c.args.scope.now c.put_all.new.uses.items) ns c.put_all.new.nodes.items cs c.put_all.new.children.items (u ∷ []))) is
-    (c.put_all.ensures.adds c.args.uses.now c.args.nodes.now (x ∷ []) c.in_ok-below-in-Call.ensures.adds some)
-
-pub compile_term-returns-in_ok-compile_term-in-If-clause-adds : goal.compile_term-returns-in_ok-compile_term-in-If-clause-adds
-compile_term-returns-in_ok-compile_term-in-If-clause-adds t c =
-    let a : Body = body_of c.args.scope.now c.args.uses.now.items in
-    let ns : List Node = c.args.nodes.now.items in
-    let cs : List Child = c.args.children.now.items in
-    let b : Body = body_of c.args.scope.now c.first-in-If.new.uses.items in
-    let d : Body = body_of c.args.scope.now c.compile_term.new.uses.items in
-    let x : Tree = tree_of c.deref-in-If.result.now in
-    let y : Tree = tree_of c.deref-in-If-2.result.now in
-    let z : Tree = tree_of c.deref-in-If-3.result.now in
-    let is : node term.If (more x (more y (more z none))) ≡ tree_of c.args.term.now =
-    (λ i. node term.If (more (tree_of (c.deref-in-If.ensures i)) (more (tree_of (c.deref-in-If-2.ensures i)) (more (tree_of (c.deref-in-If-3.ensures i)) none)))) ∙ sym (ap tree_of c.in-If.is ∙ if_is c.in-If.a c.in-If.b c.in-If.c c.in-If.field-3) in
-    let row : Adds a d ns c.compile_term.new.nodes.items [] c.compile_term.new.children.items (x ∷ y ∷ []) =
-    adds_more a b d ns c.first-in-If.new.nodes.items c.compile_term.new.nodes.items [] c.in_ok-below-in-If.below.items c.compile_term.new.children.items (x ∷ []) (y ∷ []) c.in_ok-below-in-If.ensures.adds c.in_ok-compile_term-in-If.ensures.adds in
-    subst (λ (u : Tree). OnOk c.put_last-in-If.result (Adds a (body_of c.args.scope.now c.put_last-in-If.new.uses.items) ns c.put_last-in-If.new.nodes.items cs c.put_last-in-If.new.children.items (u ∷ []))) is
-    (c.put_last-in-If.ensures.adds c.args.uses.now c.args.nodes.now (x ∷ y ∷ []) row refl)
 
 pub compile_term-returns-in_ok-compile_fields-in-Make-clause-adds : goal.compile_term-returns-in_ok-compile_fields-in-Make-clause-adds
 compile_term-returns-in_ok-compile_fields-in-Make-clause-adds t c =

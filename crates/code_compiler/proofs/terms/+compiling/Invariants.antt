@@ -1,4 +1,4 @@
-use Rattle.std.proofs.Common.{◌≡◌, ℕ, ◌+◌, map, take}
+use Rattle.std.proofs.Common.{◌≡◌, ◌+◌, map, take}
 use Rattle.asp_model.specs.Shapes.{tree_of}
 use Rattle.code_compiler.specs.Added.{AddsCode, AddsTerms}
 use Rattle.code_compiler.specs.Compiled.{captured_count}

@@ -1,0 +1,55 @@
+-- The trees below the node of a term, as the code has them.
+use Rattle.std.proofs.Common.{◌≡◌, ◌<◌, List, [], ◌∷◌, ◌⊎◌, inl, inr, map, sym, ap, ◌∙◌}
+use denote.Param.Weighed.{most}
+use Rattle.std.specs.Global.{Box, Vec}
+use Rattle.asp_model.specs.declared.word.Label.{Label}
+use Rattle.asp_model.specs.declared.term.Sign.{Sign}
+use Rattle.asp_model.specs.declared.term.Mark.{Mark}
+use Rattle.asp_model.specs.declared.term.Term.{Term}
+use Rattle.asp_model.specs.declared.term.Term.TheVariants.{Put, Call, Steps, Operate, Group, Scatter, Member}
+use Rattle.asp_model.specs.Names.{Text}
+use Rattle.asp_model.specs.Term.{Tree}
+use Rattle.asp_model.specs.Shapes.{tree_of}
+use Rattle.asp_model.proofs.term.Term.TheLaws.{the_size}
+use Rattle.code_compiler.specs.Closed.{IsClosed, AreClosed}
+use Rattle.code_compiler.specs.Parts.{parts_of, terms_below}
+use Rattle.code_compiler.proofs.ClosedLaws.{steps_closed, group_closed}
+use Rattle.code_compiler.proofs.NodeLemmas.{parts_trees}
+use Rattle.code_compiler.proofs.SizeLemmas.{steps_size, group_size}
+use Rattle.code_compiler.proofs.TermTrees.{put_is, call_is, steps_is, operate_is, group_is, scatter_is, member_is}
+
+abbrev parts : Term → List Tree
+parts t = parts_of (tree_of t)
+
+-- Nodes over a row of terms
+
+abbrev pub IsRow : Term → Vec Term → Type 0
+IsRow t ts = ((m : Mark) × t ≡ Steps ts m) ⊎ ((m : Mark) × t ≡ Group ts m)
+
+pub row_parts : (t : Term) (xs : List Term) (ts : Vec Term) → xs ≡ ts.items → IsRow t ts → map tree_of xs ≡ parts t
+row_parts t xs ts e (inl p) = ap (map tree_of) e ∙ sym (ap parts p.1 ∙ ap parts_of (steps_is ts p.0) ∙ parts_trees (map tree_of ts.items))
+row_parts t xs ts e (inr p) = ap (map tree_of) e ∙ sym (ap parts p.1 ∙ ap parts_of (group_is ts p.0) ∙ parts_trees (map tree_of ts.items))
+
+pub row_size : (t : Term) (xs : List Term) (ts : Vec Term) → xs ≡ ts.items → IsRow t ts → most the_size xs < the_size t
+row_size t xs ts e (inl p) = steps_size t xs ts p.0 e p.1
+row_size t xs ts e (inr p) = group_size t xs ts p.0 e p.1
+
+pub row_closed : (ns : List Text) (t : Term) (xs : List Term) (ts : Vec Term) → xs ≡ ts.items → IsRow t ts → IsClosed ns (tree_of t) → AreClosed ns [] (terms_below xs)
+row_closed ns t xs ts e (inl p) c = (steps_closed ns t xs ts p.0 e p.1 c).1
+row_closed ns t xs ts e (inr p) c = group_closed ns t xs ts p.0 e p.1 c
+
+-- Nodes over two terms
+
+abbrev pub IsTwo : Term → Box Term → Box Term → Type 0
+IsTwo t a b = ((l : Label) × (m : Mark) × t ≡ Put a l b m) ⊎ (((s : Sign) × (m : Mark) × t ≡ Operate s a b m) ⊎ (((l : Label) × (m : Mark) × t ≡ Scatter a l b m) ⊎ ((m : Mark) × t ≡ Member a b m)))
+
+pub two_parts : (t : Term) (a b : Box Term) → IsTwo t a b → tree_of a.value ∷ tree_of b.value ∷ [] ≡ parts t
+two_parts t a b (inl p) = sym (ap parts p.2 ∙ ap parts_of (put_is a p.0 b p.1))
+two_parts t a b (inr (inl p)) = sym (ap parts p.2 ∙ ap parts_of (operate_is p.0 a b p.1))
+two_parts t a b (inr (inr (inl p))) = sym (ap parts p.2 ∙ ap parts_of (scatter_is a p.0 b p.1))
+two_parts t a b (inr (inr (inr p))) = sym (ap parts p.1 ∙ ap parts_of (member_is a b p.0))
+
+-- Calls
+
+pub call_parts : (t : Term) (a : Box Term) (l : Label) (ts : Vec Term) (m : Mark) → t ≡ Call a l ts m → tree_of a.value ∷ map tree_of ts.items ≡ parts t
+call_parts t a l ts m e = sym (ap parts e ∙ ap parts_of (call_is a l ts m) ∙ ap (λ (us : List Tree). tree_of a.value ∷ us) (parts_trees (map tree_of ts.items)))
