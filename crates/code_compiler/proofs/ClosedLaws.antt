@@ -12,8 +12,9 @@ use Rattle.asp_model.specs.Term.{Tree, Trees, MethodHead, node, none, more, tree
 use Rattle.asp_model.specs.Readable.{HasArity}
 use Rattle.asp_model.specs.Shapes.{tree_of}
 use Rattle.program_code.specs.Fitting.{head_names}
+use Rattle.name_slots.specs.Slots.{bound_in, head_in}
 use Rattle.code_compiler.specs.Closed.{IsClosed, AreClosed}
-use Rattle.code_compiler.specs.Parts.{field_label, field_tree, head_in, body_tree, bound_in, terms_below, fields_below, bodies_below, AreClosedMethods}
+use Rattle.code_compiler.specs.Parts.{field_label, field_tree, body_tree, terms_below, fields_below, bodies_below, AreClosedMethods}
 use Rattle.code_compiler.proofs.TermTrees.{make_is, call_is, steps_is, group_is}
 
 -- lists of terms

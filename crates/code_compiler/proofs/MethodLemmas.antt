@@ -19,8 +19,9 @@ use Rattle.program_code.specs.Uses.{use_at, uses, uses_below, uses_in}
 use Rattle.program_code.specs.Tables.{labels_of, head_of, piece_of, pieces_of, bodies_of, node_piece, pieces}
 use Rattle.program_code.specs.Sound.{IsBelow, AllBelow, MethodsSound, StartFrom, KindSound}
 use Rattle.program_code.proofs.GrowthLemmas.{all_below_more, methods_below_more, methods_below_append, bodies_kept, methods_sound_kept}
+use Rattle.name_slots.proofs.SlotLemmas.{length-slots}
 use Rattle.code_compiler.specs.Compiled.{Body, variables, scope_of, StandFor, Adds, heads_of_code, captured_count, AddsMethods, IsMethod}
-use Rattle.code_compiler.proofs.ScopeLemmas.{captured_are, length-slots}
+use Rattle.code_compiler.proofs.ScopeLemmas.{captured_are}
 use Rattle.code_compiler.proofs.AddLemmas.{then, trees_append, grows_not, grows_more, longer, same_self, same_then, OnePiece, one_piece, put_adds, put_grows, stays, count_stand}
 
 -- Methods one after the other

@@ -16,7 +16,8 @@ use Rattle.asp_model.specs.Term.{Tree, Trees, MethodHead, node, none, more, tree
 use Rattle.asp_model.specs.Marked.{Marked, all_marked, plain, plain_below}
 use Rattle.asp_model.specs.Shapes.{MarkedMethod, term_step, method_step, marked_of, method_of, tree_of, sign_shape, field_of, make_shape, mark_shape}
 use Rattle.program_code.specs.Tables.{text_of}
-use Rattle.code_compiler.specs.Parts.{field_label, field_tree, head_in, body_tree, terms_below}
+use Rattle.name_slots.specs.Slots.{head_in}
+use Rattle.code_compiler.specs.Parts.{field_label, field_tree, body_tree, terms_below}
 
 plain_terms : (ts : List Term) → plain_below (all_marked (map marked_of ts)) ≡ terms_below ts
 plain_terms [] = refl

@@ -1,26 +1,19 @@
 -- What compiling adds, as the code has it.
 use Rattle.std.specs.Prelude.{ℕ, List, [], ◌∷◌, map}
-use Rattle.std.specs.Borrow.{Bor}
 use Rattle.std.specs.Global.{Vec}
 use Rattle.asp_model.specs.declared.term.Method.{Method}
-use Rattle.asp_model.specs.Names.{Text}
-use Rattle.asp_model.specs.Term.{Tree, Environment}
+use Rattle.asp_model.specs.Term.{Tree}
 use Rattle.program_code.specs.declared.code.Child.{Child}
 use Rattle.program_code.specs.declared.code.MethodCode.{MethodCode}
 use Rattle.program_code.specs.declared.code.Node.{Node}
-use Rattle.code_compiler.specs.declared.scope.Scope.{Scope}
-use Rattle.code_compiler.specs.Compiled.{Body, names_in, Adds, AddsMethods}
-use Rattle.code_compiler.specs.Parts.{body_tree, head_in}
-
-abbrev pub environment : List (Bor Text × ℕ) → Environment
-environment bs = map (λ b. (b.0.now, b.1)) bs
+use Rattle.name_slots.specs.Slots.{environment, head_in}
+use Rattle.name_slots.specs.declared.scope.Scope.{Scope}
+use Rattle.code_compiler.specs.Compiled.{Body, Adds, AddsMethods}
+use Rattle.code_compiler.specs.Parts.{body_tree}
 
 -- a body that has used these slots so far
 abbrev pub body_of : Scope → List ℕ → Body
 body_of s us = record { captured = s.captured.now; bound = environment s.bound.now; uses = us }
-
-abbrev pub names_of : Scope → List Text
-names_of s = names_in (body_of s [])
 
 abbrev pub AddsTerms : Scope → Vec ℕ → Vec ℕ → Vec Node → Vec Node → Vec Child → Vec Child → List Tree → Type 0
 AddsTerms s us vs ns ms cs ds ts = Adds (body_of s us.items) (body_of s vs.items) ns.items ms.items cs.items ds.items ts

@@ -4,10 +4,10 @@ use Rattle.asp_model.specs.declared.word.Label.{Label}
 use Rattle.asp_model.specs.declared.term.Term.{Term}
 use Rattle.asp_model.specs.declared.term.Method.{Method}
 use Rattle.asp_model.specs.Names.{Text}
-use Rattle.asp_model.specs.Term.{Head, MethodHead, Make, Tree, Trees, node, none, more, trees}
+use Rattle.asp_model.specs.Term.{Head, Make, Tree, Trees, node, none, more, trees}
 use Rattle.asp_model.specs.Shapes.{tree_of}
-use Rattle.program_code.specs.Fitting.{head_names}
 use Rattle.code_compiler.specs.Closed.{AreClosed}
+use Rattle.name_slots.specs.Slots.{head_in, bound_in}
 
 -- what stands in a tree's node
 abbrev pub head_at : Tree → Head
@@ -27,15 +27,8 @@ field_label f = f.0.text
 abbrev pub field_tree : Label × Term → Tree
 field_tree f = tree_of f.1
 
-abbrev pub head_in : Method → MethodHead
-head_in m = record { label = m.label.text; slf = m.slf; parameters = m.parameters.items }
-
 abbrev pub body_tree : Method → Tree
 body_tree m = tree_of m.body
-
--- the names that a method binds in its body
-abbrev pub bound_in : Method → List Text
-bound_in m = head_names (head_in m)
 
 abbrev pub terms_below : List Term → Trees
 terms_below ts = trees (map tree_of ts)

@@ -3,8 +3,9 @@
 ghost use Rattle.std.specs.Prelude.{◌≡◌, ◌∷◌, ◌++◌, [], map, OnOk};
 ghost use Rattle.asp_model.specs.Term.{has_text};
 ghost use Rattle.asp_model.specs.Shapes.{tree_of};
+ghost use Rattle.name_slots.specs.Slots.{bound_in};
 ghost use Rattle.code_compiler.specs.Free.{free_below, free_in, with_free};
-ghost use Rattle.code_compiler.specs.Parts.{bodies_below, body_tree, bound_in, fields_below, terms_below};
+ghost use Rattle.code_compiler.specs.Parts.{bodies_below, body_tree, fields_below, terms_below};
 
 use asp_model::{Label, Method, Term, Word};
 use std::alloc::{AllocError, Global};

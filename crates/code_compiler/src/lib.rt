@@ -5,7 +5,6 @@ mod free;
 mod methods;
 mod nodes;
 mod program;
-mod scope;
 mod terms;
 
 pub use program::compile;

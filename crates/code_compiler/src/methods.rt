@@ -4,15 +4,16 @@ ghost use Rattle.std.specs.Prelude.{◌≡◌, ◌+◌, ◌∷◌, ◌++◌, [],
 ghost use Rattle.std.specs.List.{flat_map};
 ghost use Rattle.program_code.specs.Fitting.{CapturesFit, captured_names};
 ghost use Rattle.program_code.specs.Uses.{use_at};
-ghost use Rattle.code_compiler.specs.Added.{body_of, environment, names_of};
+ghost use Rattle.name_slots.specs.Slots.{bound_in, environment, head_in, names_of};
+ghost use Rattle.code_compiler.specs.Added.{body_of};
 ghost use Rattle.code_compiler.specs.Compiled.{AreAmong, IsMethod};
 ghost use Rattle.code_compiler.specs.Free.{free_in};
-ghost use Rattle.code_compiler.specs.Parts.{body_tree, bound_in, head_in};
+ghost use Rattle.code_compiler.specs.Parts.{body_tree};
 
 use crate::free::{note_term, push_head, push_words};
 use crate::nodes::push_use;
-use crate::scope::{Scope, leaf_of};
 use asp_model::{Method, Word};
+use name_slots::{Scope, leaf_of};
 use program_code::{Capture, Child, MethodCode};
 use std::alloc::{AllocError, Global};
 

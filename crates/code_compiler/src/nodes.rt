@@ -9,12 +9,13 @@ ghost use Rattle.program_code.specs.Tables.{kind_head, text_of};
 ghost use Rattle.program_code.specs.Uses.{leaf_use};
 ghost use Rattle.program_code.specs.declared.code.Child.TheVariants as child;
 ghost use Rattle.program_code.specs.declared.code.Node.{Node as NodeShape};
-ghost use Rattle.code_compiler.specs.Added.{AddsTerm, names_of};
+ghost use Rattle.name_slots.specs.Slots.{names_of};
+ghost use Rattle.code_compiler.specs.Added.{AddsTerm};
 ghost use Rattle.code_compiler.specs.Compiled.{EndsTable, is_plain};
 ghost use Rattle.code_compiler.specs.Parts.{field_label, head_at};
 
-use crate::scope::{Scope, leaf_of};
 use asp_model::{Label, Term, Word};
+use name_slots::{Scope, leaf_of};
 use program_code::{Child, Kind, Leaf, Node};
 use std::alloc::{AllocError, Global};
 

@@ -9,10 +9,10 @@ ghost use Rattle.program_code.specs.Tables.{piece_at, pieces};
 ghost use Rattle.code_compiler.specs.Closed.{IsClosed};
 ghost use Rattle.code_compiler.specs.Compiled.{Grows, IsPrelude, IsRoot};
 
-use crate::scope::Scope;
 use crate::terms::compile_term;
 use asp_check::Checked;
 use asp_model::Term;
+use name_slots::Scope;
 use program_code::{Child, Class, Code, Kind, Node, SERVE_NUMBER};
 use std::alloc::{AllocError, Global};
 

@@ -6,15 +6,16 @@ ghost use Rattle.asp_model.specs.Shapes.{tree_of};
 ghost use Rattle.asp_model.specs.Term.{Let, Make, Tree, node, trees, two};
 ghost use Rattle.program_code.specs.Tables.{text_of};
 ghost use Rattle.program_code.specs.declared.code.Node.{Node as NodeShape};
-ghost use Rattle.code_compiler.specs.Added.{AddsChild, AddsCode, AddsRow, AddsTerm, AddsTerms, names_of};
+ghost use Rattle.name_slots.specs.Slots.{bound_in, head_in, names_of};
+ghost use Rattle.code_compiler.specs.Added.{AddsChild, AddsCode, AddsRow, AddsTerm, AddsTerms};
 ghost use Rattle.code_compiler.specs.Closed.{AreClosed, IsClosed};
 ghost use Rattle.code_compiler.specs.Compiled.{EndsTable};
-ghost use Rattle.code_compiler.specs.Parts.{AreClosedMethods, body_tree, bound_in, field_tree, fields_below, head_in, parts_of, terms_below};
+ghost use Rattle.code_compiler.specs.Parts.{AreClosedMethods, body_tree, field_tree, fields_below, parts_of, terms_below};
 
 use crate::methods::{Ended, captured_names_of, end_method, next_start, only_child};
 use crate::nodes::{field_labels, kind_of, put, put_variable};
-use crate::scope::{Scope, bound_with, head_slots};
 use asp_model::{Label, Method, Term, Word};
+use name_slots::{Scope, bound_with, head_slots};
 use program_code::{Child, Class, Kind, MethodCode, Node};
 use std::alloc::{AllocError, Global};
 

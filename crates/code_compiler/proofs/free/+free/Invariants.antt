@@ -1,6 +1,7 @@
 use Rattle.std.proofs.Common.{◌≡◌, [], drop, map}
+use Rattle.name_slots.specs.Slots.{bound_in}
 use Rattle.code_compiler.specs.Free.{free_below}
-use Rattle.code_compiler.specs.Parts.{bodies_below, bound_in, fields_below, terms_below}
+use Rattle.code_compiler.specs.Parts.{bodies_below, fields_below, terms_below}
 use Rattle.code_compiler.proofs.free.+free.Given as goal
 
 abbrev pub invariant-note_all-loop-term : goal.invariant-note_all-loop-term

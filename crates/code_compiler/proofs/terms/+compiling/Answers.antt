@@ -13,18 +13,19 @@ use Rattle.program_code.specs.declared.code.MethodCode.{MethodCode}
 use Rattle.program_code.specs.declared.code.Node.{Node}
 use Rattle.program_code.specs.Fitting.{names, slots_from}
 use Rattle.program_code.specs.Tables.{kind_head, text_of}
-use Rattle.code_compiler.specs.Added.{body_of, names_of, environment}
+use Rattle.name_slots.specs.Slots.{bound_in, environment, head_in, names_of}
+use Rattle.name_slots.proofs.SlotLemmas.{names_slots}
+use Rattle.code_compiler.specs.Added.{body_of}
 use Rattle.code_compiler.specs.Closed.{IsClosed}
 use Rattle.code_compiler.specs.Free.{free_in}
 use Rattle.code_compiler.specs.Compiled.{Body, Adds, AddsMethods, AreAmong, IsMethod, SameScope, captured_count}
-use Rattle.code_compiler.specs.Parts.{field_label, field_tree, head_in, body_tree, bound_in, parts_of}
+use Rattle.code_compiler.specs.Parts.{field_label, field_tree, body_tree, parts_of}
 use Rattle.code_compiler.proofs.NodeLemmas.{whole, plain_node, then_ok}
 use Rattle.code_compiler.proofs.PartLemmas.{row_parts, row_size, row_closed, two_parts, call_parts}
 use Rattle.code_compiler.proofs.TermTrees.{make_is, if_is}
 use Rattle.code_compiler.proofs.ClosedLemmas.{body_closed, captured_among}
 use Rattle.code_compiler.proofs.ClosedLaws.{call_closed, fields_closed, methods_closed, field_at, method_at}
 use Rattle.code_compiler.proofs.SizeLemmas.{call_size, fields_size, methods_size, term_size_at, method_size_at, field_size_at}
-use Rattle.code_compiler.proofs.ScopeLemmas.{names_slots}
 use Rattle.code_compiler.proofs.AddLemmas.{adds_more, node_added, let_added, ends_put, map_step, map_length, same_self, closed_at, row_of, if_ok}
 use Rattle.code_compiler.proofs.MethodLemmas.{methods_more, count_append, method_added, object_added, one_child_long}
 use Rattle.code_compiler.proofs.terms.+compiling.Goals as goal

@@ -3,9 +3,9 @@ use Rattle.std.proofs.lemmas.List.{take_more}
 use Rattle.asp_model.specs.Names.{Text}
 use Rattle.asp_model.specs.Term.{Environment}
 use Rattle.program_code.specs.Fitting.{slots_from}
-use Rattle.code_compiler.specs.Added.{environment}
-use Rattle.code_compiler.proofs.ScopeLemmas.{slots_snoc, length-slots}
-use Rattle.code_compiler.proofs.scope.head_slots.Goals as goal
+use Rattle.name_slots.specs.Slots.{environment}
+use Rattle.name_slots.proofs.SlotLemmas.{slots_snoc, length-slots}
+use Rattle.name_slots.proofs.scope.head_slots.Goals as goal
 
 environment_snoc : (bs : List (Bor Text × ℕ)) (b : Bor Text × ℕ) → environment (bs ++ b ∷ []) ≡ environment bs ++ (b.0.now, b.1) ∷ []
 environment_snoc [] b = refl

@@ -3,8 +3,8 @@ use Rattle.std.proofs.lemmas.List.{take_all}
 use Rattle.asp_model.specs.Names.{same_text}
 use Rattle.program_code.specs.Classes.{number_of}
 use Rattle.program_code.proofs.LookupLemmas.{number_here, number_later}
-use Rattle.code_compiler.proofs.ScopeLemmas.{numbered}
-use Rattle.code_compiler.proofs.scope.captured_slot.Goals as goal
+use Rattle.name_slots.proofs.SlotLemmas.{numbered}
+use Rattle.name_slots.proofs.scope.captured_slot.Goals as goal
 
 pub returns-then-eq : goal.returns-then-eq
 returns-then-eq c = record {

@@ -1,7 +1,7 @@
 use Rattle.std.proofs.Common.{sym}
-use Rattle.code_compiler.specs.Added.{environment}
-use Rattle.code_compiler.proofs.ScopeLemmas.{captured_here, kept_fits, number_text}
-use Rattle.code_compiler.proofs.scope.leaf_of.Goals as goal
+use Rattle.name_slots.specs.Slots.{environment}
+use Rattle.name_slots.proofs.SlotLemmas.{captured_here, kept_fits, number_text}
+use Rattle.name_slots.proofs.scope.leaf_of.Goals as goal
 
 pub captured_slot-requires : goal.captured_slot-requires
 captured_slot-requires c = record { among = captured_here c.args.name.now (environment c.args.scope.now.bound.now) c.args.scope.now.captured.now (sym c.in-None.ensures.slot) c.requires.bound }

@@ -4,8 +4,7 @@ ghost use Rattle.std.specs.Prelude.{◌≡◌, ◌+◌, ◌∷◌, IfOk, length,
 ghost use Rattle.asp_model.specs.Term.{has_text, location_of};
 ghost use Rattle.program_code.specs.Classes.{number_of};
 ghost use Rattle.program_code.specs.Fitting.{LeafFits, leaf_name, slots_from};
-ghost use Rattle.code_compiler.specs.Added.{environment, names_of};
-ghost use Rattle.code_compiler.specs.Parts.{bound_in};
+ghost use Rattle.name_slots.specs.Slots.{bound_in, environment, names_of};
 
 use asp_model::{Method, Word};
 use program_code::Leaf;
