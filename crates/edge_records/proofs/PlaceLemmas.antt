@@ -1,7 +1,7 @@
 -- Edges by their names: the places of those that are kept, and those that are not.
-use Rattle.std.proofs.Common.{◌≡◌, ◌≢◌, ℕ, zero, suc, ◌+◌, ◌<◌, Bool, true, false, cond, eqb, List, [], ◌∷◌, Option, Some, None, length, map, nat_lt, refl, sym, ap, ◌∙◌, arith}
+use Rattle.std.proofs.Common.{◌≡◌, ℕ, ◌+◌, ◌<◌, Bool, true, false, cond, eqb, List, [], ◌∷◌, Option, Some, None, length, map, nat_lt, refl, sym, ap, ◌∙◌}
 use Rattle.std.specs.Prelude.{◌||◌, ◌&&◌, not, position, slice_get}
-use Rattle.std.specs.List.{AllByRecursion, IsDistinct, list_any, position_or_len}
+use Rattle.std.specs.List.{AllByRecursion, list_any, position_or_len}
 use Rattle.std.specs.Option.{option_map}
 use Rattle.std.proofs.lemmas.List.{length-map}
 use Rattle.std.proofs.lemmas.Option.{slice_get-get_or, slice_get-map}
@@ -15,10 +15,10 @@ use Rattle.edge_records.specs.declared.numbered.Edge.{Edge}
 use Rattle.edge_records.specs.declared.numbered.Future.{Future}
 use Rattle.edge_records.specs.declared.records.Records.{Records}
 use Rattle.edge_records.specs.Names.{AreNames, IsKnownEdge, IsNew, edge_of, future_of, name_of}
-use Rattle.edge_records.specs.Numbered.{AreEdges, IsKnownHome, IsPassed, edge_at, home_entry, is_edge, no_edge}
+use Rattle.edge_records.specs.Numbered.{IsKnownHome, edge_at, home_entry, is_edge, no_edge}
 use Rattle.edge_records.specs.Records.{AreRecords, names_of, shape_of}
 use Rattle.edge_records.proofs.NameLemmas.{clash}
-use Rattle.edge_records.proofs.NumberLemmas.{all_so, any_none, is_edge_same, same_edges, same_names, truth}
+use Rattle.edge_records.proofs.NumberLemmas.{all_so, any_none, same_edges, same_names, truth}
 use Rattle.edge_records.proofs.RecordLemmas.{edges_known}
 
 both_true : (a b : Bool) → (a && b) ≡ true → (a ≡ true) × (b ≡ true)

@@ -1,6 +1,8 @@
 -- Activities by numbers, and what futures and edges by numbers stand for.
 use Rattle.std.specs.Prelude.{◌≡◌, ℕ, ◌<◌, ◌≤◌, ◌^◌, List, [], length, slice_index_or, Option, Some, None}
 use Rattle.asp_model.specs.Names.{Name, FutureShape}
+use Rattle.asp_model.specs.History.{DeliveryShape}
+use Rattle.asp_model.specs.History as history
 use Rattle.journals.specs.Edges.{EdgeShape}
 use Rattle.edge_records.specs.declared.names.Names.{Names}
 use Rattle.edge_records.specs.declared.numbered.Future.{Future}
@@ -26,6 +28,10 @@ edge_between f from to = record { future = f; from = from; to = to }
 -- its names, as they are lent
 abbrev pub edge_named : EdgeNames → EdgeShape
 edge_named e = record { future = record { by = e.by.now; index = e.index }; from = e.from.now; to = e.to.now }
+
+-- the delivery along an edge
+abbrev pub delivery_along : EdgeShape → DeliveryShape
+delivery_along e = history.Edge e.future e.from e.to
 
 -- the numbers are those of activities that were met
 

@@ -1,5 +1,9 @@
 //! An edge as its names are lent.
 
+ghost use Rattle.std.specs.Prelude.{◌≡◌, IfOk};
+ghost use Rattle.asp_model.specs.Shapes.{delivery_shape, future_shape};
+ghost use Rattle.edge_records.specs.Names.{delivery_along, edge_named};
+
 use asp_model::{ActivityName, Delivery, FutureName};
 use std::alloc::{AllocError, Global};
 
@@ -14,8 +18,11 @@ pub struct EdgeNames<'a> {
 }
 
 impl EdgeNames<'_> {
-    /// The delivery along the edge.
-    pub fn delivery(self, alloc: Global) -> Result<Delivery, AllocError> {
+    /// The delivery along the edge. `AllocError` is the only error.
+    pub fn delivery(self, alloc: Global) -> Result<Delivery, AllocError>
+        ensures delivery { IfOk result
+            (λ d. delivery_shape d ≡ delivery_along (edge_named self.entry)) }
+    {
         Ok(Delivery::Edge {
             future: self.future(alloc)?,
             from: self.from.copy(alloc)?,
@@ -23,8 +30,10 @@ impl EdgeNames<'_> {
         })
     }
 
-    /// The name of the future.
-    pub fn future(self, alloc: Global) -> Result<FutureName, AllocError> {
+    /// The name of the future. `AllocError` is the only error.
+    pub fn future(self, alloc: Global) -> Result<FutureName, AllocError>
+        ensures future { IfOk result (λ f. future_shape f ≡ (edge_named self.entry).future) }
+    {
         Ok(FutureName {
             by: self.by.copy(alloc)?,
             index: self.index,
