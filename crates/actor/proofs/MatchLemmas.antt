@@ -212,6 +212,11 @@ no_match (x ∷ es) labels served rs e p = absurd (omega (arith, e))
 pub match_told : (es : Entries) (wanted labels : List Text) (served : List ℕ) (rs : List RequestShape) (o : Option ℕ) → HaveSame wanted labels → map numbered es ≡ pending_of served 0 rs → o ≡ number_of (oldest wanted (map numbered es)) → o ≡ number_of (oldest_match labels served 0 rs)
 match_told es wanted labels served rs o same p e = e ∙ ap number_of (same_match wanted labels same (map numbered es) ∙ match_is es labels served rs p)
 
+-- no label asks for none
+pub none_asked : (es : List Numbered) → None ≡ number_of (oldest [] es)
+none_asked [] = refl
+none_asked (e ∷ es) = none_asked es
+
 pub is_none : (o : Option Numbered) → None ≡ number_of o → o ≡ None
 is_none None e = refl
 is_none (Some x) e = no_some e

@@ -10,6 +10,7 @@ ghost use Rattle.laws.specs.Waking.{labels_wanted};
 ghost use Rattle.coded_cells.specs.Cells.{coded};
 ghost use Rattle.coded_cells.specs.Shapes.{cell_shape};
 ghost use Rattle.program_code.specs.Classes.{seen_class};
+ghost use Rattle.request_queue.specs.Pending.{oldest, waiting};
 ghost use Rattle.serve_rules.specs.Labels.{HaveSame, label_text};
 ghost use Rattle.actor.specs.Actors.{IsClosedFor, Stands};
 ghost use Rattle.actor.specs.Asking.{asked_for, class_in};
@@ -20,12 +21,14 @@ use activity_step::Standing;
 use asp_model::Label;
 use coded_cells::Cell;
 use program_code::{Class, Code};
+use request_queue::Queue;
 use serve_rules::LabelSet;
 use std::alloc::{AllocError, Global};
 
 impl Actor {
-    /// The number of the oldest pending request that a `serve` with these labels asks for.
-    pub fn match_of(&self, alloc: Global, labels: &[Label]) -> Result<Option<u64>, AllocError>
+    /// The number of the oldest pending request that a `serve` with these labels asks for. It takes no
+    /// memory.
+    pub fn match_of(&self, _alloc: Global, labels: &[Label]) -> Result<Option<u64>, AllocError>
         requires closed { IsClosedFor self.now }
         ensures oldest { (a : model.Activity) (rs : List RequestShape) → Stands self.now a rs →
             let wanted = labels_served (map label_text labels.now) (cell_in a.store a.active) in
@@ -34,8 +37,8 @@ impl Actor {
         if self.queue.len() == 0 {
             return Ok(None);
         }
-        let wanted = self.served_by(alloc, labels)?;
-        Ok(self.queue.first_of(&wanted))
+        let active = self.activity.store().cell(self.activity.active());
+        Ok(oldest_for(&self.queue, self.activity.code(), active, labels))
     }
 
     /// The labels that the activity asks for where it stands, once it has settled: those of a
@@ -73,6 +76,30 @@ impl Actor {
     {
         let active = self.activity.store().cell(self.activity.active());
         label_set(alloc, self.activity.code(), active, labels)
+    }
+}
+
+/// The number of the oldest request that a `serve` asks for.
+fn oldest_for(queue: &Queue, code: &Code, active: &Cell, labels: &[Label]) -> Option<u64>
+    ensures oldest { let active = cell_shape code.now active.now in
+        let wanted = labels_served (map label_text labels.now) active in
+        result ≡ option_map (λ x. x.0) (oldest wanted (waiting queue.now)) }
+{
+    if labels.is_empty() {
+        oldest_method(queue, code, active)
+    } else {
+        queue.first_labelled(labels)
+    }
+}
+
+/// The number of the oldest request for a method of an object.
+fn oldest_method(queue: &Queue, code: &Code, active: &Cell) -> Option<u64>
+    ensures oldest { let wanted = method_labels (cell_shape code.now active.now) in
+        result ≡ option_map (λ x. x.0) (oldest wanted (waiting queue.now)) }
+{
+    match class_of(code, active) {
+        Some(class) => queue.first_method(class),
+        None => None,
     }
 }
 
