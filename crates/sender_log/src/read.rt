@@ -56,12 +56,7 @@ fn read_lines(alloc: Global, lines: &[&[u8]]) -> Result<(Lists, Counts), LogErro
 }
 
 // Reads the line of this number.
-fn advance(
-    alloc: Global,
-    progress: &mut Progress,
-    line: &[u8],
-    number: u64,
-) -> Result<(), LogError>
+fn advance(alloc: Global, progress: &mut Progress, line: &[u8], number: u64) -> Result<(), LogError>
     ensures ok { let now = progress_shape progress.new in
         OnOk result (behind_line progress.old line.now ≡ Some now) }
     ensures bad_line { IfErr result (IsRefusedAt number (behind_line progress.old line.now)) }

@@ -11,11 +11,7 @@ use asp_model::{ActivityName, MOST_REDUCTIONS};
 use std::alloc::{AllocError, Global};
 
 /// Reads one more line, and returns whether it can stand there.
-pub fn behind(
-    alloc: Global,
-    progress: &mut Progress,
-    line: &[u8],
-) -> Result<bool, AllocError>
+pub fn behind(alloc: Global, progress: &mut Progress, line: &[u8]) -> Result<bool, AllocError>
     ensures behind { IfOk result (Shows (behind_line progress.old line.now) progress.new) }
 {
     match &progress.next {
@@ -46,11 +42,7 @@ fn goes_on(progress: &mut Progress, next: Next, fits: bool) -> bool
     fits
 }
 
-fn with_activity(
-    alloc: Global,
-    progress: &mut Progress,
-    line: &[u8],
-) -> Result<bool, AllocError>
+fn with_activity(alloc: Global, progress: &mut Progress, line: &[u8]) -> Result<bool, AllocError>
     ensures { let found = activity_in_words (parts 32 line.now) in
         IfOk result (Shows (with_found progress.old found) progress.new) }
 {
