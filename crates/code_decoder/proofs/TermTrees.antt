@@ -125,3 +125,14 @@ pub ruleset trees_are = (make_is, loc_is, hole_is, var_is, number_is, get_is, pu
 -- a method of a store
 pub stored_is : (m : Method) → stored_method m ≡ record { head = method_head m; body = body_tree m }
 stored_is m = λ i. record { head = (method_is m i).head; body = plain (method_is m i).body }
+
+-- those over so many terms
+pub ruleset leaves_are = (number_is, serve_is, echo_is)
+
+pub ruleset ones_are = (get_is, clone_is, active_is, repeat_is, print_is, size_is, waitall_is)
+
+pub ruleset twos_are = (put_is, let_is, operate_is, scatter_is, member_is)
+
+pub ruleset others_are = (call_is, if_is)
+
+pub ruleset rows_are = (steps_is, group_is)

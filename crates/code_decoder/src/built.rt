@@ -2,7 +2,7 @@
 //! program has, is answered as want of memory.
 
 ghost use Rattle.std.specs.Prelude.{◌≡◌, IfOk, [], map};
-ghost use Rattle.asp_model.specs.Term.{If, Make, more, node, none, trees};
+ghost use Rattle.asp_model.specs.Term.{Make, more, node, none, trees};
 ghost use Rattle.asp_model.specs.Shapes.{tree_of};
 ghost use Rattle.program_code.specs.Tables.{kind_head, text_of};
 ghost use Rattle.code_decoder.specs.Decoded.{body_tree, field_label, field_tree, method_head, trees_then};
@@ -14,7 +14,7 @@ use program_code::Kind;
 use std::alloc::{AllocError, Global};
 
 /// A node over these terms.
-#[tactic(auto, using(crate::proofs::TermTrees::trees_are))]
+#[tactic(auto, using(crate::proofs::TermTrees::rows_are))]
 pub fn built(alloc: Global, kind: &Kind, terms: Vec<Term>) -> Result<Term, AllocError>
     ensures term { IfOk result
         (λ r. tree_of r ≡ node (kind_head kind.now) (trees (map tree_of terms.items))) }
@@ -27,10 +27,8 @@ pub fn built(alloc: Global, kind: &Kind, terms: Vec<Term>) -> Result<Term, Alloc
             over_none(alloc, kind)
         }
         Kind::Put(_) | Kind::Let(_) | Kind::Operate(_) | Kind::Scatter(_) | Kind::Member => {
-            match both(terms) {
-                Some((first, second)) => over_two(alloc, kind, first, second),
-                None => Err(AllocError),
-            }
+            let (first, second) = both(alloc, terms)?;
+            over_two(alloc, kind, first, second)
         }
         Kind::Call(_) | Kind::If => match first_of(terms) {
             Some((first, others)) => over_first(alloc, kind, first, others),
@@ -45,7 +43,7 @@ pub fn built(alloc: Global, kind: &Kind, terms: Vec<Term>) -> Result<Term, Alloc
     }
 }
 
-#[tactic(auto, using(crate::proofs::TermTrees::trees_are))]
+#[tactic(auto, using(crate::proofs::TermTrees::leaves_are))]
 fn over_none(alloc: Global, kind: &Kind) -> Result<Term, AllocError>
     ensures term { IfOk result (λ r. tree_of r ≡ node (kind_head kind.now) none) }
 {
@@ -63,7 +61,7 @@ fn over_none(alloc: Global, kind: &Kind) -> Result<Term, AllocError>
     }
 }
 
-#[tactic(auto, using(crate::proofs::TermTrees::trees_are))]
+#[tactic(auto, using(crate::proofs::TermTrees::ones_are))]
 fn over_one(alloc: Global, kind: &Kind, term: Term) -> Result<Term, AllocError>
     ensures term { IfOk result
         (λ r. tree_of r ≡ node (kind_head kind.now) (more (tree_of term) none)) }
@@ -87,13 +85,16 @@ fn over_one(alloc: Global, kind: &Kind, term: Term) -> Result<Term, AllocError>
     }
 }
 
-#[tactic(auto, using(crate::proofs::TermTrees::trees_are))]
-fn over_two(alloc: Global, kind: &Kind, first: Term, second: Term) -> Result<Term, AllocError>
-    ensures term { IfOk result
-        (λ r. tree_of r ≡ node (kind_head kind.now) (more (tree_of first) (more (tree_of second) none))) }
+#[tactic(auto, using(crate::proofs::TermTrees::twos_are))]
+fn over_two(
+    alloc: Global,
+    kind: &Kind,
+    first: Box<Term>,
+    second: Box<Term>,
+) -> Result<Term, AllocError>
+    ensures term { let below = more (tree_of first.value) (more (tree_of second.value) none) in
+        IfOk result (λ r. tree_of r ≡ node (kind_head kind.now) below) }
 {
-    let first = Box::new(alloc, first)?;
-    let second = Box::new(alloc, second)?;
     match kind {
         Kind::Put(label) => {
             let label = label.copy(alloc)?;
@@ -113,7 +114,7 @@ fn over_two(alloc: Global, kind: &Kind, first: Term, second: Term) -> Result<Ter
     }
 }
 
-#[tactic(auto, using(crate::proofs::TermTrees::trees_are))]
+#[tactic(auto, using(crate::proofs::TermTrees::others_are))]
 fn over_first(
     alloc: Global,
     kind: &Kind,
@@ -123,29 +124,18 @@ fn over_first(
     ensures term { IfOk result (λ r. tree_of r
         ≡ node (kind_head kind.now) (more (tree_of first) (trees (map tree_of others.items)))) }
 {
+    let first = Box::new(alloc, first)?;
     match kind {
         Kind::Call(label) => {
-            let first = Box::new(alloc, first)?;
             let label = label.copy(alloc)?;
             Ok(Term::Call(first, label, others, Mark::blank(alloc)))
         }
-        Kind::If => match both(others) {
-            Some((second, third)) => over_three(alloc, first, second, third),
-            None => Err(AllocError),
-        },
+        Kind::If => {
+            let (second, third) = both(alloc, others)?;
+            Ok(Term::If(first, second, third, Mark::blank(alloc)))
+        }
         _ => Err(AllocError),
     }
-}
-
-#[tactic(auto, using(crate::proofs::TermTrees::trees_are))]
-fn over_three(alloc: Global, first: Term, second: Term, third: Term) -> Result<Term, AllocError>
-    ensures term { IfOk result (λ r. tree_of r ≡ node If (more (tree_of first)
-        (more (tree_of second) (more (tree_of third) none)))) }
-{
-    let first = Box::new(alloc, first)?;
-    let second = Box::new(alloc, second)?;
-    let third = Box::new(alloc, third)?;
-    Ok(Term::If(first, second, third, Mark::blank(alloc)))
 }
 
 /// An object with these labels over the terms of its fields, and these methods.
@@ -179,8 +169,9 @@ fn labelled(
     terms.reverse();
     let mut fields = Vec::new(alloc);
     for label in labels {
+        let label = label.copy(alloc)?;
         match terms.pop() {
-            Some(term) => fields.push((label.copy(alloc)?, term))?,
+            Some(term) => fields.push((label, term))?,
             None => return Err(AllocError),
         }
     }

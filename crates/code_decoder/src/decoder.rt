@@ -145,10 +145,10 @@ pub fn method_over<'a>(
     ensures body { let ps = pieces code.now in
         IfOk result (λ r. body_tree r ≡ shown_child (map seen_tree captured.now) ps method.now.body) }
 {
-    let body = child_term(alloc, code, captured, &method.body)?;
     let label = method.label.copy(alloc)?;
     let slf = method.slf.copy(alloc)?;
     let parameters = copy_words(alloc, &method.parameters)?;
+    let body = child_term(alloc, code, captured, &method.body)?;
     Ok(Method {
         label,
         slf,

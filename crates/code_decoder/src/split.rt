@@ -1,8 +1,9 @@
 //! Lists of terms by their length.
 
-ghost use Rattle.std.specs.Prelude.{◌≡◌, ◌∷◌, [], IfSome};
+ghost use Rattle.std.specs.Prelude.{◌≡◌, ◌∷◌, [], IfOk, IfSome};
 
 use asp_model::Term;
+use std::alloc::{AllocError, Global};
 
 /// The one term of these.
 pub fn only(mut terms: Vec<Term>) -> Option<Term>
@@ -14,15 +15,21 @@ pub fn only(mut terms: Vec<Term>) -> Option<Term>
     terms.pop()
 }
 
-/// The two terms of these.
-pub fn both(mut terms: Vec<Term>) -> Option<(Term, Term)>
-    ensures { IfSome result (λ t. terms.items ≡ t.0 ∷ t.1 ∷ []) }
+/// The two terms of these, each on its own. Where they are not two, it answers want of memory.
+pub fn both(alloc: Global, mut terms: Vec<Term>) -> Result<(Box<Term>, Box<Term>), AllocError>
+    ensures { IfOk result (λ t. terms.items ≡ t.0.value ∷ t.1.value ∷ []) }
 {
-    let second = terms.pop();
-    let first = only(terms);
-    match (first, second) {
-        (Some(first), Some(second)) => Some((first, second)),
-        _ => None,
+    let second = boxed(alloc, terms.pop())?;
+    let first = boxed(alloc, only(terms))?;
+    Ok((first, second))
+}
+
+fn boxed(alloc: Global, term: Option<Term>) -> Result<Box<Term>, AllocError>
+    ensures { IfOk result (λ b. term ≡ Some b.value) }
+{
+    match term {
+        Some(term) => Ok(Box::new(alloc, term)?),
+        None => Err(AllocError),
     }
 }
 
