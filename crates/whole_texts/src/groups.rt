@@ -6,13 +6,18 @@ use std::alloc::{AllocError, Global};
 
 fn printed(alloc: Global, text: &str) -> Result<String, SyntaxError> {
     let program = read_program(alloc, text.as_bytes())?;
-    Ok(print_program(alloc, &program)?)
+    let text = print_program(alloc, &program);
+    drop(program);
+    Ok(text?)
 }
 
 // The first fault of a text.
 fn fault_in(alloc: Global, text: &str) -> Result<Option<SyntaxFault>, AllocError> {
     match read_program(alloc, text.as_bytes()) {
-        Ok(_) => Ok(None),
+        Ok(program) => {
+            drop(program);
+            Ok(None)
+        }
         Err(SyntaxError::Fault(fault)) => Ok(Some(fault)),
         Err(SyntaxError::Memory) => Err(AllocError),
     }
