@@ -47,19 +47,19 @@ pub fn many_futures(alloc: Global, size: u32) -> Result<usize, AllocError> {
     Ok(before.saturating_sub(held(alloc, &store, size)?))
 }
 
-fn repeated(alloc: Global, size: u32) -> Result<Store, AllocError> {
-    let mut store = Store::new(alloc);
+fn repeat(alloc: Global, store: &mut Store, size: u32) -> Result<(), AllocError> {
     for _ in 0..size {
         store.add(Cell::Future(Box::new(alloc, future(alloc, 0)?)?))?;
     }
-    Ok(store)
+    Ok(())
 }
 
 /// One future at so many places, which is asked for before each of them is replaced. It tells how many
 /// places were lent in all.
 pub fn one_future(alloc: Global, size: u32) -> Result<usize, AllocError> {
-    let mut store = repeated(alloc, size)?;
     let name = future(alloc, 0)?;
+    let mut store = Store::new(alloc);
+    repeat(alloc, &mut store, size)?;
     let mut places: usize = 0;
     for number in 0..size {
         places = places.saturating_add(store.holders_of(&name).len());

@@ -14,7 +14,9 @@ pub fn print_file(rt: &HostRuntime, name: &str) -> Result<()> {
     let Ok(program) = read_program(rt.alloc(), &bytes) else {
         bail!("{name} holds no program");
     };
-    let text = print_program(rt.alloc(), &program)?;
+    let text = print_program(rt.alloc(), &program);
+    drop(program);
+    let text = text?;
     println!(rt; "{text}")?;
     Ok(())
 }
