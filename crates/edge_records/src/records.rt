@@ -47,6 +47,7 @@ ghost use Rattle.edge_records.specs.Names.{
   IsKnownEdge,
   IsKnownFuture,
   IsNumberOf,
+  Keeps,
   edge_between,
   edge_of,
   future_of,
@@ -275,6 +276,7 @@ impl Records {
         requires records { AreRecords self.old }
         requires new { home_of (future_shape future.now) (shape_of self.old).homes ≡ None }
         ensures records { AreRecords self.new }
+        ensures keeps { Keeps (names_of self.old) (names_of self.new) }
         ensures edges { self.new.edges.keys ≡ self.old.edges.keys }
         ensures begun { let event = Begins (future_shape future.now) home.now in
             OnOk result (shape_of self.new ≡ after_event event (shape_of self.old)) }
@@ -294,6 +296,7 @@ impl Records {
     ) -> Result<(Future, u32), AllocError>
         requires records { AreRecords self.old }
         ensures records { AreRecords self.new }
+        ensures keeps { Keeps (names_of self.old) (names_of self.new) }
         ensures edges { self.new.edges.keys ≡ self.old.edges.keys }
         ensures shape { shape_of self.new ≡ shape_of self.old }
         ensures answers { answers_of self.new ≡ answers_of self.old }
@@ -302,6 +305,19 @@ impl Records {
         ensures home { IfOk result (λ x. IsNumberOf (names_of self.new) home.now x.1) }
     {
         self.names.enter_home(future, home)
+    }
+
+    /// An activity by its number.
+    pub fn enter_activity(&mut self, activity: &ActivityName) -> Result<u32, AllocError>
+        requires records { AreRecords self.old }
+        ensures records { AreRecords self.new }
+        ensures keeps { Keeps (names_of self.old) (names_of self.new) }
+        ensures edges { self.new.edges.keys ≡ self.old.edges.keys }
+        ensures shape { shape_of self.new ≡ shape_of self.old }
+        ensures answers { answers_of self.new ≡ answers_of self.old }
+        ensures number { IfOk result (IsNumberOf (names_of self.new) activity.now) }
+    {
+        self.names.enter(activity)
     }
 
     /// An edge by numbers.
@@ -313,6 +329,7 @@ impl Records {
     ) -> Result<Edge, AllocError>
         requires records { AreRecords self.old }
         ensures records { AreRecords self.new }
+        ensures keeps { Keeps (names_of self.old) (names_of self.new) }
         ensures edges { self.new.edges.keys ≡ self.old.edges.keys }
         ensures shape { shape_of self.new ≡ shape_of self.old }
         ensures answers { answers_of self.new ≡ answers_of self.old }
@@ -330,6 +347,7 @@ impl Records {
     ) -> Result<Receipt, AllocError>
         requires records { AreRecords self.old }
         ensures records { AreRecords self.new }
+        ensures keeps { Keeps (names_of self.old) (names_of self.new) }
         ensures edges { self.new.edges.keys ≡ self.old.edges.keys }
         ensures shape { shape_of self.new ≡ shape_of self.old }
         ensures answers { answers_of self.new ≡ answers_of self.old }

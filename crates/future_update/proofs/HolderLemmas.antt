@@ -22,8 +22,10 @@ use Rattle.marked_places.specs.declared.marks.Marks.{Marks}
 use Rattle.future_update.specs.declared.holders.Holders.TheInside.{Inside}
 use Rattle.edge_records.specs.Changes.{once_filled, once_received}
 use Rattle.future_update.specs.Kept.{AreHolders}
-use Rattle.marked_places.specs.Marks.{IsTree, MarkedIf, MarkedSo, is_marked, room}
-use Rattle.edge_records.specs.Names.{IsKnown, IsKnownFuture, IsKnownEdge, edge_of, future_of, name_of}
+use Rattle.marked_places.specs.declared.lanes.Lanes.{Lanes}
+use Rattle.marked_places.specs.Lanes.{AreLanes, ClosedSo, KeepsLanes, lane_count}
+use Rattle.marked_places.specs.Marks.{MarkedIf, MarkedSo, is_marked}
+use Rattle.edge_records.specs.Names.{IsKnown, IsKnownFuture, IsKnownEdge, Keeps, edge_of, future_of, name_of}
 use Rattle.edge_records.specs.Numbered.{IsPassed, edge_at, no_edge, is_edge}
 use Rattle.future_update.specs.Passings.{ArePassings, passing_cmp, passing_of}
 use Rattle.edge_records.specs.Records.{AreRecords, answers_of, names_of, owes, shape_of}
@@ -32,6 +34,11 @@ use Rattle.edge_records.proofs.NumberLemmas.{all_at, is_edge_same, is_future_sam
 use Rattle.edge_records.proofs.RecordLemmas.{delivered_more, edge_itself, passed_more, edges_known, ticks_below}
 use Rattle.edge_records.proofs.PlaceLemmas.{edge_stands}
 use Rattle.future_update.proofs.SettlingLemmas.{owed_within}
+use Rattle.future_update.proofs.LanedLemmas.{keeps_lanes, member_known, moved, number_among, number_named, same_activities, turned_laned, turned_out}
+use Rattle.future_update.specs.Holders.{HoldersView, IsTurned, is_out}
+use Rattle.std.specs.Global.{Vec}
+use Rattle.std.proofs.lemmas.Option.{slice_get_read}
+use Rattle.future_update.specs.Kept.{AreLaned, IsMember, activity_entry, view_of}
 use Rattle.future_update.proofs.OwedLemmas.{delivers_other, delivers_own, passes_same, with_delivered_edge, with_passed, begins_same, fills_left, fills_more, receives_left, receives_more, with_receipt}
 
 -- What is owed, by the holders and the answers
@@ -46,12 +53,11 @@ pub owes_same : (r s : Records) → shape_of s ≡ shape_of r → answers_of s �
 owes_same r s shape same p = owes_by s (shape_of r) (answers_of r) shape same p
 
 -- records that say the same
-pub kept : (s : Inside) (r : Records) → AreHolders s → AreRecords r → r.edges.keys ≡ s.records.edges.keys → shape_of r ≡ shape_of s.records → answers_of r ≡ answers_of s.records → AreHolders (record s { records = r })
-kept s r h records edges shape answers = record {
+pub kept : (s : Inside) (r : Records) → AreHolders s → AreRecords r → r.edges.keys ≡ s.records.edges.keys → shape_of r ≡ shape_of s.records → answers_of r ≡ answers_of s.records → Keeps (names_of s.records) (names_of r) → AreHolders (record s { records = r })
+kept s r h records edges shape answers names = record {
   records = records;
   passings = subst (ArePassings s.passings) (sym edges) h.passings;
-  tree = h.tree;
-  room = subst (λ (es : List Edge). length es ≤ room s.owed) (sym edges) h.room;
+  laned = moved (names_of s.records) (names_of r) s.records.edges.keys r.edges.keys s.activities.items s.owed s.owed h.laned names edges (keeps_lanes s.owed h.laned.lanes);
   owed = λ p. h.owed p ∙ sym (owes_same s.records r shape answers p);
 }
 
@@ -60,12 +66,11 @@ pub begun_same : (r s : Records) (f : FutureShape) (n : Name) {E : Type 0} (resu
 begun_same r s f n (Ok v) begun unfilled err answers p = owes_by s (after_event (Begins f n) (shape_of r)) (answers_of r) begun answers p ∙ begins_same (shape_of r) f n unfilled (slice_get (shape_of r).edges p) (slice_get (answers_of r) p)
 begun_same r s f n (Err e) begun unfilled err answers p = owes_same r s err answers p
 
-pub begun_holders : (s : Inside) (r : Records) → AreHolders s → AreRecords r → r.edges.keys ≡ s.records.edges.keys → ((p : ℕ) → owes r p ≡ owes s.records p) → AreHolders (record s { records = r })
-begun_holders s r h records edges same = record {
+pub begun_holders : (s : Inside) (r : Records) → AreHolders s → AreRecords r → r.edges.keys ≡ s.records.edges.keys → ((p : ℕ) → owes r p ≡ owes s.records p) → Keeps (names_of s.records) (names_of r) → AreHolders (record s { records = r })
+begun_holders s r h records edges same names = record {
   records = records;
   passings = subst (ArePassings s.passings) (sym edges) h.passings;
-  tree = h.tree;
-  room = subst (λ (es : List Edge). length es ≤ room s.owed) (sym edges) h.room;
+  laned = moved (names_of s.records) (names_of r) s.records.edges.keys r.edges.keys s.activities.items s.owed s.owed h.laned names edges (keeps_lanes s.owed h.laned.lanes);
   owed = λ p. h.owed p ∙ sym (same p);
 }
 
@@ -158,12 +163,11 @@ delivered_places r h = by r.delivered.order.items (ticks_below r.delivered (leng
 
 -- An edge is delivered
 
-pub delivered_holders : (s : Inside) (r : Records) (owed : Marks) (p : ℕ) → AreHolders s → p < length s.records.edges.keys → AreRecords r → r.edges.keys ≡ s.records.edges.keys → shape_of r ≡ after_event (Delivers (edge_of (names_of s.records) (edge_at s.records.edges.keys p))) (shape_of s.records) → has_edge (edge_of (names_of s.records) (edge_at s.records.edges.keys p)) (shape_of s.records).delivered ≡ false → answers_of r ≡ answers_of s.records → IsTree owed → room owed ≡ room s.owed → MarkedSo p false s.owed owed → AreHolders (record s { records = r; owed = owed })
-delivered_holders s r owed p h lt records edges shape open_edge answers tree size marked = record {
+pub delivered_holders : (s : Inside) (r : Records) (owed : Lanes) (p : ℕ) → AreHolders s → p < length s.records.edges.keys → AreRecords r → r.edges.keys ≡ s.records.edges.keys → shape_of r ≡ after_event (Delivers (edge_of (names_of s.records) (edge_at s.records.edges.keys p))) (shape_of s.records) → has_edge (edge_of (names_of s.records) (edge_at s.records.edges.keys p)) (shape_of s.records).delivered ≡ false → answers_of r ≡ answers_of s.records → Keeps (names_of s.records) (names_of r) → KeepsLanes s.owed owed → MarkedSo p false s.owed.marks owed.marks → AreHolders (record s { records = r; owed = owed })
+delivered_holders s r owed p h lt records edges shape open_edge answers names still marked = record {
   records = records;
   passings = subst (ArePassings s.passings) (sym edges) h.passings;
-  tree = tree;
-  room = subst (λ n. length r.edges.keys ≤ n) (sym size) (subst (λ (es : List Edge). length es ≤ room s.owed) (sym edges) h.room);
+  laned = moved (names_of s.records) (names_of r) s.records.edges.keys r.edges.keys s.activities.items s.owed owed h.laned names edges still;
   owed = λ q. marked q ∙ by q (eqb_tells q p);
 }
   where
@@ -203,12 +207,12 @@ delivered_holders s r owed p h lt records edges shape open_edge answers tree siz
     own None = refl
     own (Some a) = delivers_own (shape_of s.records) x a (same_edges ns h.records.names (edge_at s.records.edges.keys p) (edge_at s.records.edges.keys p) (known p lt) (known p lt) ∙ edge_itself (edge_at s.records.edges.keys p))
 
-    by : (q : ℕ) → ((eqb q p ≡ true) × (q ≡ p)) ⊎ ((eqb q p ≡ false) × (q ≢ p)) → elim (q == p) [ true ↦ false | false ↦ is_marked s.owed q ] ≡ owes r q
+    by : (q : ℕ) → ((eqb q p ≡ true) × (q ≡ p)) ⊎ ((eqb q p ≡ false) × (q ≢ p)) → elim (q == p) [ true ↦ false | false ↦ is_marked s.owed.marks q ] ≡ owes r q
     by q (inl e) =
-        ap (λ b. elim b [ true ↦ false | false ↦ is_marked s.owed q ]) e.0
+        ap (λ b. elim b [ true ↦ false | false ↦ is_marked s.owed.marks q ]) e.0
         ∙ sym (then_owes q ∙ ap (λ n. owed_by (with_delivered_edge x (shape_of s.records)) (answers_of s.records) n) e.1 ∙ ap (λ o. owed_at (with_delivered_edge x (shape_of s.records)) o (slice_get (answers_of s.records) p)) (edge_stands s.records p lt) ∙ own (slice_get (answers_of s.records) p))
     by q (inr e) =
-        ap (λ b. elim b [ true ↦ false | false ↦ is_marked s.owed q ]) e.0
+        ap (λ b. elim b [ true ↦ false | false ↦ is_marked s.owed.marks q ]) e.0
         ∙ h.owed q ∙ sym (then_owes q ∙ other q e.1 (slice_get (shape_of s.records).edges q) refl)
 
 -- An edge is entered
@@ -261,15 +265,68 @@ entered r s x a old new h passed fresh shape answers owed marked p = marked p �
 
 -- All that is owed was marked
 
-pub settled : (s : Inside) (r : Records) (owed : Marks) → AreHolders s → AreRecords r → r.edges.keys ≡ s.records.edges.keys → IsTree owed → room owed ≡ room s.owed → ((p : ℕ) → is_marked owed p ≡ owes r p) → AreHolders (record s { records = r; owed = owed })
-settled s r owed h records edges tree size marked = record {
+pub settled : (s : Inside) (r : Records) (owed : Lanes) → AreHolders s → AreRecords r → r.edges.keys ≡ s.records.edges.keys → Keeps (names_of s.records) (names_of r) → KeepsLanes s.owed owed → ((p : ℕ) → is_marked owed.marks p ≡ owes r p) → AreHolders (record s { records = r; owed = owed })
+settled s r owed h records edges names same marked = record {
   records = records;
   passings = subst (ArePassings s.passings) (sym edges) h.passings;
-  tree = tree;
-  room = subst (λ n. length r.edges.keys ≤ n) (sym size) (subst (λ (es : List Edge). length es ≤ room s.owed) (sym edges) h.room);
+  laned = moved (names_of s.records) (names_of r) s.records.edges.keys r.edges.keys s.activities.items s.owed owed h.laned names edges same;
   owed = marked;
 }
 
 pub no_home : (o : Option Name) → IsSome o → o ≡ None → ⊥
 no_home None some e = clash some refl
 no_home (Some n) some e = clash refl (ap is_some e)
+
+-- what is seen is the same
+
+pub view_same : (s t : Inside) → shape_of t.records ≡ shape_of s.records → answers_of t.records ≡ answers_of s.records → map (activity_entry (names_of t.records) t.owed) t.activities.items ≡ map (activity_entry (names_of s.records) s.owed) s.activities.items → view_of t ≡ view_of s
+view_same s t shape answers activities = λ i. record { holders = shape i; answers = answers i; activities = activities i }
+
+pub if_failed : {T E : Type 0} (r : Result T E) (P : Type 0) → P → OnErr r P
+if_failed (Ok x) P p = tt
+if_failed (Err e) P p = p
+
+-- what an error leaves
+pub view_kept : (s t : Inside) (v : HoldersView) → view_of s ≡ v → shape_of t.records ≡ shape_of s.records → answers_of t.records ≡ answers_of s.records → map (activity_entry (names_of t.records) t.owed) t.activities.items ≡ map (activity_entry (names_of s.records) s.owed) s.activities.items → {T E : Type 0} (r : Result T E) → OnErr r (view_of t ≡ v)
+view_kept s t v e shape answers activities r = if_failed r (view_of t ≡ v) (view_same s t shape answers activities ∙ e)
+
+pub view_told : (s t : Inside) (v : HoldersView) → view_of s ≡ v → {T E : Type 0} (r : Result T E) → OnErr r (shape_of t.records ≡ shape_of s.records) → answers_of t.records ≡ answers_of s.records → map (activity_entry (names_of t.records) t.owed) t.activities.items ≡ map (activity_entry (names_of s.records) s.owed) s.activities.items → OnErr r (view_of t ≡ v)
+view_told s t v e (Ok x) shape answers activities = tt
+view_told s t v e (Err x) shape answers activities = view_same s t shape answers activities ∙ e
+
+-- other activities, over the same edges
+pub rebuilt : (s : Inside) (r : Records) (owed : Lanes) (activities : Vec ℕ) → AreHolders s → AreRecords r → r.edges.keys ≡ s.records.edges.keys → shape_of r ≡ shape_of s.records → answers_of r ≡ answers_of s.records → owed.marks ≡ s.owed.marks → AreLaned (names_of r) r.edges.keys activities.items owed → AreHolders (record s { records = r; owed = owed; activities = activities })
+rebuilt s r owed activities h records edges shape answers marks laned = record {
+  records = records;
+  passings = subst (ArePassings s.passings) (sym edges) h.passings;
+  owed = λ p. ap (λ (m : Marks). is_marked m p) marks ∙ h.owed p ∙ sym (owes_same s.records r shape answers p);
+  laned = laned;
+}
+
+-- seen from outside, one activity is out, or in
+pub turned_view : (s : Inside) (u : Lanes) (v : HoldersView) (number lane : ℕ) (out : Bool) → AreHolders s → view_of s ≡ v → slice_get s.activities.items number ≡ Some lane → ClosedSo lane out s.owed u → IsTurned number out v.activities (map (activity_entry (names_of s.records) u) s.activities.items)
+turned_view s u v number lane out h e found closed =
+    subst (λ (w : HoldersView). IsTurned number out w.activities (map (activity_entry ns u) ks)) e (record {
+      names = same_activities ns s.owed u ks;
+      told = λ n.
+          turned_out ns s.owed u lane out ks h.records.names h.laned.members known.0 closed (number_among ks number lane found) n
+          ∙ ap (λ b. elim b [ true ↦ out | false ↦ is_out n (map (activity_entry ns s.owed) ks) ]) (sym (number_named ns s.owed n ks number lane found));
+    })
+  where
+    ns : List Name
+    ns = names_of s.records
+
+    ks : List ℕ
+    ks = s.activities.items
+
+    known : IsMember ns s.owed lane
+    known = member_known (IsMember ns s.owed) ks number lane found h.laned.members
+
+pub turned_holders : (s : Inside) (u : Lanes) (number lane : ℕ) (out : Bool) → AreHolders s → slice_get s.activities.items number ≡ Some lane → AreLanes u → u.marks ≡ s.owed.marks → u.spots ≡ s.owed.spots → lane_count u ≡ lane_count s.owed → ClosedSo lane out s.owed u → AreHolders (record s { owed = u })
+turned_holders s u number lane out h found lanes marks spots same closed =
+    rebuilt s s.records u s.activities h h.records refl refl refl marks (turned_laned (names_of s.records) s.records.edges.keys s.activities.items s.owed u lane out h.laned lanes spots same closed (number_among s.activities.items number lane found))
+
+pub number_found : (s : Inside) (v : HoldersView) (number lane : ℕ) → view_of s ≡ v → number < length v.activities → lane ≡ get_or s.activities.items number lane → slice_get s.activities.items number ≡ Some lane
+number_found s v number lane e lt read =
+    let within : number < length s.activities.items = subst (λ n. number < n) (length-map s.activities.items (activity_entry (names_of s.records) s.owed)) (subst (λ (w : HoldersView). number < length w.activities) (sym e) lt) in
+    slice_get_read s.activities.items (length s.activities.items) number lane refl within read

@@ -1,14 +1,15 @@
 -- What contracts see of the holders of futures.
-use Rattle.std.specs.Prelude.{◌≡◌, ℕ, Bool, true, false, List, [], ◌∷◌, ◌++◌, Option, Some, None, position, slice_get}
-use Rattle.std.specs.List.{AllByRecursion, IsDistinct}
-use Rattle.asp_model.specs.Names.{same_name}
+use Rattle.std.specs.Prelude.{◌≡◌, ℕ, map, Bool, true, false, List, [], ◌∷◌, ◌++◌, ◌&&◌, not, Option, Some, None, position, slice_get}
+use Rattle.std.specs.List.{AllByRecursion, IsDistinct, list_any}
+use Rattle.asp_model.specs.Names.{Name, same_name}
 use Rattle.asp_model.specs.History.{ChoiceShape, DeliveryShape, Edge, Need}
 use Rattle.journals.specs.Edges.{EdgeShape, HoldersShape, Delivers, after_event, has_edge, is_no_edge, owed_at, same_edge}
 
--- the definitions' holders, with the answer for each edge
+-- the definitions' holders, with the answer for each edge, and the activities that were met, each with whether it is out
 pub record HoldersView : Type 0 where
   pub holders : HoldersShape
   pub answers : List ChoiceShape
+  pub activities : List (Name × Bool)
 
 -- the edge of a place
 abbrev pub edge_in : HoldersView → ℕ → Option EdgeShape
@@ -39,3 +40,32 @@ is_delivered h (Some x) = has_edge x h.delivered
 abbrev pub with_delivery : HoldersShape → Option EdgeShape → HoldersShape
 with_delivery h None = h
 with_delivery h (Some x) = after_event (Delivers x) h
+
+-- Activities
+
+abbrev pub is_met : Name → List (Name × Bool) → Bool
+is_met n = list_any (λ x. same_name n x.0)
+
+abbrev pub is_out : Name → List (Name × Bool) → Bool
+is_out n = list_any (λ x. same_name n x.0 && x.1)
+
+abbrev pub is_named : Name → Option (Name × Bool) → Bool
+is_named n None = false
+is_named n (Some x) = same_name n x.0
+
+-- an activity has this number
+abbrev pub is_number : Name → ℕ → List (Name × Bool) → Bool
+is_number n number activities = is_named n (slice_get activities number)
+
+-- one of them is out so, and the others stay
+pub record IsTurned (number : ℕ) (out : Bool) (old new : List (Name × Bool)) : Type 0 where
+  pub names : map (λ x. x.0) new ≡ map (λ x. x.0) old
+  pub told : (n : Name) → is_out n new ≡ elim (is_number n number old) [ true ↦ out | false ↦ is_out n old ]
+
+-- the edge of a place is owed to an activity that is in
+abbrev pub is_receiver_out : HoldersView → Option EdgeShape → Bool
+is_receiver_out v None = false
+is_receiver_out v (Some x) = is_out x.to v.activities
+
+abbrev pub owed_to_one_in : HoldersView → ℕ → Bool
+owed_to_one_in v p = owed_in v p && not (is_receiver_out v (edge_in v p))

@@ -1,10 +1,18 @@
 //! One more edge: all room first, then the edge with its answer.
 
-ghost use Rattle.std.specs.Prelude.{◌≡◌, ◌+◌, ◌<◌, ◌≤◌, ◌++◌, ◌∷◌, [], ℕ, OnOk, false, length, true};
+ghost use Rattle.std.specs.Prelude.{◌≡◌, ◌+◌, ◌<◌, ◌≤◌, ◌++◌, ◌∷◌, [], ℕ, OnErr, OnOk, false, length, true};
 ghost use Rattle.std.specs.BTreeSet.{contains};
 ghost use Rattle.asp_model.specs.Shapes.{choice_shape};
 ghost use Rattle.journals.specs.Edges.{Passes, after_event, has_edge};
-ghost use Rattle.marked_places.specs.Marks.{IsTree, SameMarks, is_marked, room as room_of};
+ghost use Rattle.marked_places.specs.Lanes.{
+  AreLanes,
+  IsGrown,
+  KeepsLanes,
+  SameClosed,
+  count,
+  lane_count,
+};
+ghost use Rattle.marked_places.specs.Marks.{SameMarks, is_marked};
 ghost use Rattle.edge_records.specs.Names.{edge_of};
 ghost use Rattle.edge_records.specs.declared.numbered.Passing.{Passing};
 ghost use Rattle.edge_records.specs.Numbered.{IsPassed};
@@ -21,7 +29,7 @@ ghost use Rattle.edge_records.specs.Records.{
 use crate::settling::settle_at;
 use asp_model::Choice;
 use edge_records::{Edge, Passing, Records};
-use marked_places::Marks;
+use marked_places::Lanes;
 use std::alloc::AllocError;
 use std::collections::BTreeSet;
 
@@ -30,13 +38,12 @@ use std::collections::BTreeSet;
 pub fn make_room(
     records: &mut Records,
     passings: &mut BTreeSet<Passing>,
-    owed: &mut Marks,
+    owed: &mut Lanes,
     edge: Edge,
 ) -> Result<(), AllocError>
     requires records { AreRecords records.old }
     requires passings { ArePassings passings.old records.old.edges.keys }
-    requires tree { IsTree owed.old }
-    requires room { length records.old.edges.keys ≤ room_of owed.old }
+    requires lanes { AreLanes owed.old }
     ensures records { AreRecords records.new }
     ensures names { names_of records.new ≡ names_of records.old }
     ensures edges { records.new.edges.keys ≡ records.old.edges.keys }
@@ -46,15 +53,18 @@ pub fn make_room(
     ensures passings { ArePassings passings.new records.old.edges.keys }
     ensures passing { let place = length records.old.edges.keys in
         OnOk result (contains passing_cmp passings.new (passing_of edge place) ≡ true) }
-    ensures tree { IsTree owed.new }
-    ensures marks { SameMarks owed.old owed.new }
-    ensures kept { room_of owed.old ≤ room_of owed.new }
-    ensures room { OnOk result (length records.old.edges.keys < room_of owed.new) }
+    ensures lanes { AreLanes owed.new }
+    ensures marks { SameMarks owed.old.marks owed.new.marks }
+    ensures closed { SameClosed owed.old owed.new }
+    ensures more { lane_count owed.old ≤ lane_count owed.new }
+    ensures place { OnOk result (IsGrown edge.to owed.old owed.new) }
+    ensures err { OnErr result (owed.new.spots.items ≡ owed.old.spots.items) }
 {
     let place = records.edges.len();
     records.reserve()?;
-    owed.make_room(place)?;
-    note(passings, edge, place as u32)
+    note(passings, edge, place as u32)?;
+    owed.make_lane(edge.to)?;
+    owed.add(edge.to)
 }
 
 fn note(passings: &mut BTreeSet<Passing>, edge: Edge, place: u32) -> Result<(), AllocError>
@@ -73,23 +83,23 @@ fn note(passings: &mut BTreeSet<Passing>, edge: Edge, place: u32) -> Result<(), 
 }
 
 /// Enters an edge with its answer.
-pub fn enter(records: &mut Records, owed: &mut Marks, edge: Edge, answer: Choice)
+pub fn enter(records: &mut Records, owed: &mut Lanes, edge: Edge, answer: Choice)
     requires records { AreRecords records.old }
     requires has_room { HasRoom records.old }
     requires passed { IsPassed (names_of records.old) edge }
     requires new { let x = edge_of (names_of records.old) edge in
         has_edge x (shape_of records.old).edges ≡ false }
-    requires tree { IsTree owed.old }
-    requires room { length records.old.edges.keys < room_of owed.old }
-    requires owed { (p : ℕ) → is_marked owed.old p ≡ owes records.old p }
+    requires lanes { AreLanes owed.old }
+    requires room { length records.old.edges.keys < count owed.old }
+    requires owed { (p : ℕ) → is_marked owed.old.marks p ≡ owes records.old p }
     ensures records { AreRecords records.new }
+    ensures names { names_of records.new ≡ names_of records.old }
     ensures edges { records.new.edges.keys ≡ records.old.edges.keys ++ edge ∷ [] }
     ensures shape { let event = Passes (edge_of (names_of records.old) edge) in
         shape_of records.new ≡ after_event event (shape_of records.old) }
     ensures answers { answers_of records.new ≡ answers_of records.old ++ choice_shape answer ∷ [] }
-    ensures tree { IsTree owed.new }
-    ensures room { room_of owed.new ≡ room_of owed.old }
-    ensures owed { (p : ℕ) → is_marked owed.new p ≡ owes records.new p }
+    ensures lanes { KeepsLanes owed.old owed.new }
+    ensures owed { (p : ℕ) → is_marked owed.new.marks p ≡ owes records.new p }
 {
     let place = records.edges.len();
     records.enter(edge, answer);

@@ -5,7 +5,10 @@ ghost use Rattle.std.specs.Prelude.{
   ◌+◌,
   ◌<◌,
   ◌≤◌,
+  ◌++◌,
+  ◌∷◌,
   [],
+  IfOk,
   IsSome,
   None,
   OnErr,
@@ -24,9 +27,12 @@ ghost use Rattle.marked_places.specs.Firsts.{IsFirstFrom};
 ghost use Rattle.future_update.specs.Holders.{
   AreEdges,
   answered,
+  IsTurned,
   edge_in,
   is_delivered,
+  is_met,
   owed_in,
+  owed_to_one_in,
   place_in,
   with_delivery,
 };
@@ -36,7 +42,7 @@ use crate::entering::{enter, make_room};
 use crate::settling::{settle_filled, settle_received};
 use asp_model::{ActivityName, Delivery, FutureName};
 use edge_records::{EdgeNames, Passing, Records};
-use marked_places::Marks;
+use marked_places::Lanes;
 use std::alloc::{AllocError, Global};
 use std::collections::BTreeSet;
 use std::marker::Model;
@@ -48,7 +54,10 @@ use update_policy::UpdatePolicy;
 pub struct Holders {
     records: Records,
     passings: BTreeSet<Passing>,
-    owed: Marks,
+    /// Each edge in the lane of its receiver, which is closed while that is out.
+    owed: Lanes,
+    /// Those that were met, by their lanes.
+    activities: Vec<u32>,
 }
 
 impl Model for Holders {
@@ -68,11 +77,13 @@ impl Holders {
     pub fn new(alloc: Global) -> Holders
         ensures none { result.holders ≡ no_holders }
         ensures answers { result.answers ≡ [] }
+        ensures activities { result.activities ≡ [] }
     {
         Holders {
             records: Records::new(alloc),
             passings: BTreeSet::new(alloc),
-            owed: Marks::new(alloc),
+            owed: Lanes::new(alloc),
+            activities: Vec::new(alloc),
         }
     }
 
@@ -90,6 +101,7 @@ impl Holders {
         ensures begun { let event = Begins (future_shape future.now) home.now in
             OnOk result (self.new.holders ≡ after_event event self.old.holders) }
         ensures answers { self.new.answers ≡ self.old.answers }
+        ensures activities { self.new.activities ≡ self.old.activities }
         ensures err { OnErr result (self.new ≡ self.old) }
     {
         self.records.sent(future, home)
@@ -110,6 +122,7 @@ impl Holders {
             let answer = P.answer policy.old edge.future edge.from edge.to in
             let answers = answered edge self.old.holders.edges answer self.old.answers in
             OnOk result (self.new.answers ≡ answers) }
+        ensures activities { self.new.activities ≡ self.old.activities }
         ensures asked { P.asked policy.new ≤ P.asked policy.old + 1 }
         ensures nobody { let edge = edge_between (future_shape future.now) from.now to.now in
             is_no_edge edge self.old.holders.edges ≡ true → policy.new ≡ policy.old }
@@ -143,6 +156,7 @@ impl Holders {
         ensures filled { let f = future_shape future.now in
             self.new.holders ≡ once_filled f self.old.holders }
         ensures answers { self.new.answers ≡ self.old.answers }
+        ensures activities { self.new.activities ≡ self.old.activities }
     {
         match self.records.names.find_future(future) {
             Some(future) => {
@@ -159,6 +173,7 @@ impl Holders {
         ensures received { let f = future_shape future.now in
             OnOk result (self.new.holders ≡ once_received f by.now self.old.holders) }
         ensures answers { self.new.answers ≡ self.old.answers }
+        ensures activities { self.new.activities ≡ self.old.activities }
         ensures err { OnErr result (self.new ≡ self.old) }
     {
         let receipt = self.records.enter_receipt(future, by)?;
@@ -195,6 +210,53 @@ impl Holders {
         self.owed.next(start)
     }
 
+    /// The first place whose edge is owed to an activity that is in.
+    pub fn next_owed_in(&self) -> Option<usize>
+        ensures first { IsFirstFrom (owed_to_one_in self.now) 0 result }
+    {
+        self.owed.first_open()
+    }
+
+    /// An activity that was not met is in from now on. The answer is its number, from 0 in order.
+    pub fn met(&mut self, activity: &ActivityName) -> Result<u32, AllocError>
+        requires new { is_met activity.now self.old.activities ≡ false }
+        ensures met { OnOk result
+            (self.new.activities ≡ self.old.activities ++ (activity.now, false) ∷ []) }
+        ensures number { IfOk result (λ number. number ≡ length self.old.activities) }
+        ensures holders { self.new.holders ≡ self.old.holders }
+        ensures answers { self.new.answers ≡ self.old.answers }
+        ensures err { OnErr result (self.new ≡ self.old) }
+    {
+        let number = self.activities.len();
+        if number >= u32::MAX as usize {
+            return Err(AllocError);
+        }
+        let lane = self.records.enter_activity(activity)?;
+        self.owed.make_lane(lane)?;
+        self.activities.push(lane)?;
+        Ok(number as u32)
+    }
+
+    /// The activity of a number is out from now on. It takes no memory.
+    pub fn lent(&mut self, number: u32)
+        requires met { number < length self.old.activities }
+        ensures turned { IsTurned number true self.old.activities self.new.activities }
+        ensures holders { self.new.holders ≡ self.old.holders }
+        ensures answers { self.new.answers ≡ self.old.answers }
+    {
+        self.owed.close(self.activities[number as usize], true);
+    }
+
+    /// The activity of a number is in from now on. It takes no memory.
+    pub fn returned(&mut self, number: u32)
+        requires met { number < length self.old.activities }
+        ensures turned { IsTurned number false self.old.activities self.new.activities }
+        ensures holders { self.new.holders ≡ self.old.holders }
+        ensures answers { self.new.answers ≡ self.old.answers }
+    {
+        self.owed.close(self.activities[number as usize], false);
+    }
+
     /// Says that the value was delivered along the edge of a place. It takes no memory.
     pub fn delivered(&mut self, place: usize)
         requires within { place < length self.old.holders.edges }
@@ -202,6 +264,7 @@ impl Holders {
         ensures delivered { let edge = edge_in self.old place in
             self.new.holders ≡ with_delivery self.old.holders edge }
         ensures answers { self.new.answers ≡ self.old.answers }
+        ensures activities { self.new.activities ≡ self.old.activities }
     {
         self.records.deliver(place);
         self.owed.set(place, false);

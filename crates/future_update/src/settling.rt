@@ -2,32 +2,32 @@
 
 ghost use Rattle.std.specs.Prelude.{◌≡◌, ◌≤◌, ℕ, length};
 ghost use Rattle.std.specs.BTreeMap.Range.{IsLeBy};
-ghost use Rattle.marked_places.specs.Marks.{IsTree, MarkedIf, is_marked, room as room_of};
+ghost use Rattle.marked_places.specs.Lanes.{AreLanes, KeepsLanes, count};
+ghost use Rattle.marked_places.specs.Marks.{MarkedIf, is_marked};
 ghost use Rattle.future_update.specs.Passings.{ArePassings, IsLeft, IsLeftOf, IsSound, passing_cmp};
 ghost use Rattle.edge_records.specs.Records.{AreRecords, owes};
 
 use edge_records::{Future, Passing, Receipt, Records};
-use marked_places::Marks;
+use marked_places::Lanes;
 use std::collections::BTreeSet;
 
 /// Marks what is owed between two passings, where all else that is owed is marked.
 pub fn settle(
     records: &Records,
     passings: &BTreeSet<Passing>,
-    owed: &mut Marks,
+    owed: &mut Lanes,
     low: Passing,
     high: Passing,
 )
     requires records { AreRecords records.now }
     requires passings { ArePassings passings.now records.now.edges.keys }
-    requires tree { IsTree owed.old }
-    requires room { length records.now.edges.keys ≤ room_of owed.old }
+    requires lanes { AreLanes owed.old }
+    requires room { length records.now.edges.keys ≤ count owed.old }
     requires forward { IsLeBy passing_cmp low high }
-    requires sound { IsSound records.now owed.old }
-    requires left { IsLeft records.now owed.old low high }
-    ensures tree { IsTree owed.new }
-    ensures room { room_of owed.new ≡ room_of owed.old }
-    ensures marked { (p : ℕ) → is_marked owed.new p ≡ owes records.now p }
+    requires sound { IsSound records.now owed.old.marks }
+    requires left { IsLeft records.now owed.old.marks low high }
+    ensures lanes { KeepsLanes owed.old owed.new }
+    ensures marked { (p : ℕ) → is_marked owed.new.marks p ≡ owes records.now p }
 {
     for passing in passings.range(low..=high) {
         settle_at(records, owed, passing.place as usize);
@@ -35,13 +35,12 @@ pub fn settle(
 }
 
 /// Marks a place if its edge is owed.
-pub fn settle_at(records: &Records, owed: &mut Marks, place: usize)
+pub fn settle_at(records: &Records, owed: &mut Lanes, place: usize)
     requires records { AreRecords records.now }
-    requires tree { IsTree owed.old }
-    requires room { length records.now.edges.keys ≤ room_of owed.old }
-    ensures tree { IsTree owed.new }
-    ensures room { room_of owed.new ≡ room_of owed.old }
-    ensures marked { MarkedIf (owes records.now place) place owed.old owed.new }
+    requires lanes { AreLanes owed.old }
+    requires room { length records.now.edges.keys ≤ count owed.old }
+    ensures lanes { KeepsLanes owed.old owed.new }
+    ensures marked { MarkedIf (owes records.now place) place owed.old.marks owed.new.marks }
 {
     if records.owes(place) {
         owed.set(place, true);
@@ -52,18 +51,17 @@ pub fn settle_at(records: &Records, owed: &mut Marks, place: usize)
 pub fn settle_filled(
     records: &Records,
     passings: &BTreeSet<Passing>,
-    owed: &mut Marks,
+    owed: &mut Lanes,
     future: Future,
 )
     requires records { AreRecords records.now }
     requires passings { ArePassings passings.now records.now.edges.keys }
-    requires tree { IsTree owed.old }
-    requires room { length records.now.edges.keys ≤ room_of owed.old }
-    requires sound { IsSound records.now owed.old }
-    requires left { IsLeftOf records.now owed.old (λ e. e.future ≡ future) }
-    ensures tree { IsTree owed.new }
-    ensures room { room_of owed.new ≡ room_of owed.old }
-    ensures marked { (p : ℕ) → is_marked owed.new p ≡ owes records.now p }
+    requires lanes { AreLanes owed.old }
+    requires room { length records.now.edges.keys ≤ count owed.old }
+    requires sound { IsSound records.now owed.old.marks }
+    requires left { IsLeftOf records.now owed.old.marks (λ e. e.future ≡ future) }
+    ensures lanes { KeepsLanes owed.old owed.new }
+    ensures marked { (p : ℕ) → is_marked owed.new.marks p ≡ owes records.now p }
 {
     let low = Passing {
         by: future.by,
@@ -84,19 +82,18 @@ pub fn settle_filled(
 pub fn settle_received(
     records: &Records,
     passings: &BTreeSet<Passing>,
-    owed: &mut Marks,
+    owed: &mut Lanes,
     receipt: Receipt,
 )
     requires records { AreRecords records.now }
     requires passings { ArePassings passings.now records.now.edges.keys }
-    requires tree { IsTree owed.old }
-    requires room { length records.now.edges.keys ≤ room_of owed.old }
-    requires sound { IsSound records.now owed.old }
-    requires left { IsLeftOf records.now owed.old
+    requires lanes { AreLanes owed.old }
+    requires room { length records.now.edges.keys ≤ count owed.old }
+    requires sound { IsSound records.now owed.old.marks }
+    requires left { IsLeftOf records.now owed.old.marks
         (λ e. (e.future ≡ receipt.future) × (e.from ≡ receipt.by)) }
-    ensures tree { IsTree owed.new }
-    ensures room { room_of owed.new ≡ room_of owed.old }
-    ensures marked { (p : ℕ) → is_marked owed.new p ≡ owes records.now p }
+    ensures lanes { KeepsLanes owed.old owed.new }
+    ensures marked { (p : ℕ) → is_marked owed.new.marks p ≡ owes records.now p }
 {
     let low = Passing {
         by: receipt.future.by,

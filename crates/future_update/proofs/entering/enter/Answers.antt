@@ -9,5 +9,5 @@ pub returns-clause-owed : goal.returns-clause-owed
 returns-clause-owed c =
     let r = c.args.records.now in
     let s = c.enter.new.self in
-    let marked = subst (λ n. MarkedIf (owes s n) n c.args.owed.now c.settle_at.new.owed) c.len-place.ensures.len c.settle_at.ensures.marked in
-    entered r s c.args.edge (choice_shape c.args.answer) c.args.owed.now c.settle_at.new.owed c.requires.records c.requires.passed c.requires.new c.enter.ensures.shape c.enter.ensures.answers c.requires.owed marked
+    let marked = subst (λ n. MarkedIf (owes s n) n c.args.owed.now.marks c.settle_at.new.owed.marks) c.len-place.ensures.len c.settle_at.ensures.marked in
+    entered r s c.args.edge (choice_shape c.args.answer) c.args.owed.now.marks c.settle_at.new.owed.marks c.requires.records c.requires.passed c.requires.new c.enter.ensures.shape c.enter.ensures.answers c.requires.owed marked

@@ -1,8 +1,10 @@
-use Rattle.std.proofs.Common.{◌≡◌, ◌∙◌, ◌∷◌, [], List, refl, subst}
+use Rattle.std.proofs.Common.{◌≡◌, ◌∙◌, ◌∷◌, [], List, ap, arith, length, subst}
+use Rattle.marked_places.specs.Lanes.{count}
 use Rattle.std.specs.BTreeSet.{keys_between}
 use Rattle.std.specs.declared.ops.Bound.TheVariants.{Included}
 use Rattle.edge_records.specs.declared.numbered.Passing.{Passing}
 use Rattle.future_update.specs.Passings.{AreAhead, passing_cmp}
+use Rattle.future_update.proofs.LanedLemmas.{keeps_lanes, lanes_on}
 use Rattle.future_update.proofs.SettlingLemmas.{ahead_begins, ahead_goes, all_marked, sound_goes}
 use Rattle.future_update.proofs.settling.settle.Goals as goal
 
@@ -13,16 +15,15 @@ loop-passing-preserved c =
     record {
       next = tt;
       finite = tt;
-      tree = c.settle_at.ensures.tree;
-      size = c.settle_at.ensures.room ∙ i.size;
-      sound = sound_goes c.args.records.now c.loop-passing.owed c.settle_at.new.owed c.in-Some.passing.now i.sound c.settle_at.ensures.marked;
-      ahead = ahead_goes c.args.records.now c.loop-passing.owed c.settle_at.new.owed c.in-Some.passing.now c.next.new.self (subst (λ (xs : List Passing). AreAhead c.args.records.now c.loop-passing.owed xs) steps i.ahead) c.settle_at.ensures.marked;
+      lanes = lanes_on c.args.owed.now c.loop-passing.owed c.settle_at.new.owed i.lanes c.settle_at.ensures.lanes;
+      sound = sound_goes c.args.records.now c.loop-passing.owed.marks c.settle_at.new.owed.marks c.in-Some.passing.now i.sound c.settle_at.ensures.marked;
+      ahead = ahead_goes c.args.records.now c.loop-passing.owed.marks c.settle_at.new.owed.marks c.in-Some.passing.now c.next.new.self (subst (λ (xs : List Passing). AreAhead c.args.records.now c.loop-passing.owed.marks xs) steps i.ahead) c.settle_at.ensures.marked;
     }
 
 pub returns-clause-marked : goal.returns-clause-marked
 returns-clause-marked c =
     let steps : c.loop-passing.passing-iterator ≡ [] = c.in-None.ensures.steps.0 in
-    all_marked c.args.records.now c.loop-passing.owed c.loop-passing.invariant.sound (subst (λ (xs : List Passing). AreAhead c.args.records.now c.loop-passing.owed xs) steps c.loop-passing.invariant.ahead)
+    all_marked c.args.records.now c.loop-passing.owed.marks c.loop-passing.invariant.sound (subst (λ (xs : List Passing). AreAhead c.args.records.now c.loop-passing.owed.marks xs) steps c.loop-passing.invariant.ahead)
 
 pub loop-passing-init : goal.loop-passing-init
 loop-passing-init c =
@@ -32,8 +33,18 @@ loop-passing-init c =
     record {
       next = tt;
       finite = tt;
-      tree = c.requires.tree;
-      size = refl;
+      lanes = keeps_lanes c.args.owed.now c.requires.lanes;
       sound = c.requires.sound;
-      ahead = ahead_begins c.args.records.now c.args.owed.now c.args.low c.args.high c.args.passings.now c.into_iter-passing-iterator.result c.requires.left c.requires.passings (given ∙ between ∙ bounds);
+      ahead = ahead_begins c.args.records.now c.args.owed.now.marks c.args.low c.args.high c.args.passings.now c.into_iter-passing-iterator.result c.requires.left c.requires.passings (given ∙ between ∙ bounds);
     }
+
+pub settle_at-requires-clause-lanes : goal.settle_at-requires-clause-lanes
+settle_at-requires-clause-lanes c = c.loop-passing.invariant.lanes.lanes
+
+pub settle_at-requires-clause-room : goal.settle_at-requires-clause-room
+settle_at-requires-clause-room c =
+    let same : count c.loop-passing.owed ≡ count c.args.owed.now = ap (λ s. length s) c.loop-passing.invariant.lanes.spots in
+    omega (arith, same, c.requires.room)
+
+pub returns-clause-lanes : goal.returns-clause-lanes
+returns-clause-lanes c = c.loop-passing.invariant.lanes

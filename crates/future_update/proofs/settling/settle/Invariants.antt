@@ -1,5 +1,4 @@
-use Rattle.std.proofs.Common.{◌≡◌}
-use Rattle.marked_places.specs.Marks.{IsTree, room}
+use Rattle.marked_places.specs.Lanes.{KeepsLanes}
 use Rattle.future_update.specs.Passings.{AreAhead, IsSound}
 use Rattle.future_update.proofs.settling.settle.Given as goal
 
@@ -7,8 +6,7 @@ abbrev pub invariant-loop-passing : goal.invariant-loop-passing
 invariant-loop-passing l = record {
   next : (goal.iterator-loop-passing).can_next l.passing-iterator;
   finite : (goal.iterator-loop-passing).is_finite l.passing-iterator;
-  tree : IsTree l.owed;
-  size : room l.owed ≡ room l.fn.owed;
-  sound : IsSound l.records l.owed;
-  ahead : AreAhead l.records l.owed l.passing-iterator;
+  lanes : KeepsLanes l.fn.owed l.owed;
+  sound : IsSound l.records l.owed.marks;
+  ahead : AreAhead l.records l.owed.marks l.passing-iterator;
 }

@@ -5,6 +5,7 @@ use Rattle.journals.specs.Edges.{home_of}
 use Rattle.future_update.specs.Holders.{HoldersView}
 use Rattle.edge_records.specs.Names.{future_of}
 use Rattle.edge_records.specs.Records.{names_of, shape_of}
+use Rattle.future_update.proofs.LanedLemmas.{keeps_same}
 use Rattle.future_update.proofs.HolderLemmas.{fill_left, fill_sound, filled_before, first_filled, kept, no_home, settled}
 use Rattle.edge_records.proofs.PlaceLemmas.{home_nowhere}
 use Rattle.future_update.proofs.holders.Holders.filled.Goals as goal
@@ -24,13 +25,13 @@ settle_filled-requires-clause-left c =
     λ p e u. fill_left s.records c.fill.new.self c.self.invariant.records c.in-Some.future c.in-Some.ensures.found.0 c.fill.ensures.edges shape c.fill.ensures.answers p e (sym (c.self.invariant.owed p) ∙ u)
 
 pub invariant_of-self : goal.invariant_of-self
-invariant_of-self c = settled c.self.inside c.fill.new.self c.settle_filled.new.owed c.self.invariant c.fill.ensures.records c.fill.ensures.edges c.settle_filled.ensures.tree c.settle_filled.ensures.room c.settle_filled.ensures.marked
+invariant_of-self c = settled c.self.inside c.fill.new.self c.settle_filled.new.owed c.self.invariant c.fill.ensures.records c.fill.ensures.edges (keeps_same (names_of c.self.inside.records) (names_of c.fill.new.self) c.fill.ensures.names) c.settle_filled.ensures.lanes c.settle_filled.ensures.marked
 
 pub invariant_of-self-else-fill : goal.invariant_of-self-else-fill
 invariant_of-self-else-fill c =
     let s = c.self.inside in
     let f = future_of (names_of s.records) c.in-Some.future in
-    kept s c.fill.new.self c.self.invariant c.fill.ensures.records c.fill.ensures.edges (c.fill.ensures.shape ∙ filled_before f (shape_of s.records) (sym c.if-fill.false ∙ c.fill.ensures.first)) c.fill.ensures.answers
+    kept s c.fill.new.self c.self.invariant c.fill.ensures.records c.fill.ensures.edges (c.fill.ensures.shape ∙ filled_before f (shape_of s.records) (sym c.if-fill.false ∙ c.fill.ensures.first)) c.fill.ensures.answers (keeps_same (names_of s.records) (names_of c.fill.new.self) c.fill.ensures.names)
 
 pub returns-in-None-clause-filled : goal.returns-in-None-clause-filled
 returns-in-None-clause-filled c =

@@ -1,10 +1,13 @@
-use Rattle.std.proofs.Common.{◌<◌, ◌≤◌, ℕ, List, [], length, sym, ◌∙◌, ap, subst, arith}
+use Rattle.std.proofs.Common.{◌<◌, ℕ, List, [], length, sym, ◌∙◌, ap, subst, arith}
 use Rattle.std.specs.Prelude.{slice_get}
 use Rattle.std.proofs.lemmas.Option.{slice_get_past}
 use Rattle.asp_model.specs.History.{ChoiceShape}
 use Rattle.journals.specs.Edges.{EdgeShape, no_holders, owed_at}
 use Rattle.edge_records.specs.declared.numbered.Edge.{Edge}
-use Rattle.marked_places.specs.Marks.{room}
+use Rattle.std.specs.List.{AllByRecursion}
+use Rattle.edge_records.specs.Records.{names_of}
+use Rattle.edge_records.proofs.NameLemmas.{clash}
+use Rattle.future_update.specs.Kept.{IsMember}
 use Rattle.future_update.specs.Passings.{ArePassings}
 use Rattle.future_update.proofs.HolderLemmas.{owes_by}
 use Rattle.future_update.proofs.holders.Holders.new.Goals as goal
@@ -19,7 +22,12 @@ invariant_of-result c =
     record {
       records = c.new.ensures.records;
       passings = subst (ArePassings c.new-2.result) (sym c.new.ensures.edges) (λ p lt. none_before p lt);
-      tree = c.new-3.ensures.tree;
-      room = subst (λ (es : List Edge). length es ≤ room c.new-3.result) (sym c.new.ensures.edges) (omega arith);
       owed = λ p. c.new-3.ensures.none p ∙ sym (owes_by c.new.result no_holders unanswered c.new.ensures.shape c.new.ensures.answers p ∙ ap (λ x. owed_at no_holders x (slice_get unanswered p)) (slice_get_past nothing p (omega arith)));
+      laned = record {
+        lanes = c.new-3.ensures.lanes;
+        size = c.new-3.ensures.count ∙ sym (ap (λ (es : List Edge). length es) c.new.ensures.edges);
+        lane = λ p lt. none_before p (subst (λ (es : List Edge). p < length es) c.new.ensures.edges lt);
+        members = subst (AllByRecursion (IsMember (names_of c.new.result) c.new-3.result)) (sym c.new-4.ensures.items) tt;
+        closed = λ k e. clash e (c.new-3.ensures.open k);
+      };
     }
