@@ -1,0 +1,92 @@
+-- A lease that comes back: which commit it is.
+use Rattle.std.proofs.Common.{◌≡◌, ◌-◌, ◌≤◌, ◌++◌, ◌∷◌, [], suc, false, List, Option, Some, None, map, refl, sym, ap, ◌∙◌}
+use Rattle.asp_model.specs.Configuration.{Configuration, requests_of}
+use Rattle.asp_model.specs.History.{HistoryShape, Committed}
+use Rattle.asp_model.specs.Intent.{Acts, Effect}
+use Rattle.asp_model.specs.Step.{intent_in, with_effect}
+use Rattle.journals.specs.Journals.{RunShape, grant_of, run_of}
+use Rattle.journal_laws.proofs.JournalLemmas.{journals_reach}
+use Rattle.laws.specs.Reached.{IsAt, IsReached}
+use Rattle.laws.specs.Sound.{IsSound}
+use Rattle.laws.proofs.NameLemmas.{no_some}
+use Rattle.laws.proofs.WholeLemmas.{reached_are_sound}
+use Rattle.lease_laws.specs.Leases.{IsOutSince}
+use Rattle.lease_laws.specs.Numbered.{AreNumbered}
+use Rattle.lease_laws.proofs.BurstLemmas.{leases_are_one}
+use Rattle.lease_laws.proofs.GrowingLemmas.{entries_go_on}
+use Rattle.lease_laws.proofs.LeaseLemmas.{leases_stay}
+use Rattle.lease_laws.proofs.NumberLemmas.{journals_are_numbered}
+use Rattle.core_laws.specs.Commits.{HasRun, made_by, returned, with_activity}
+use Rattle.core_laws.proofs.CommitLemmas.{acts_are_commits, runs_are_commits}
+use Rattle.program_code.specs.declared.code.Node.{Node}
+use Rattle.request_queue.specs.declared.request.Request.{Request}
+use Rattle.request_queue.specs.Requests.{request_shape}
+use Rattle.activity_seats.specs.Seats.{In, Out, SeatShape, seat_at}
+use Rattle.actor.specs.declared.actor.Actor.{Actor}
+use Rattle.core_state.specs.declared.lease.Lease.{Lease}
+use Rattle.core_state.specs.declared.state.CoreState.{CoreState}
+use Rattle.core_state.specs.Leases.{IsLease}
+use Rattle.core_state.specs.Cores.{IsAway, IsCore, IsSeated}
+
+module _ (h : HistoryShape) (code : List Node) (x : CoreState) (s : RunShape) (core : IsCore h code x s) where
+  pub reached : IsReached h.program s.configuration
+  reached = journals_reach h.program h.budget h.entries s core.run
+
+  pub sound : IsSound s.configuration
+  sound = reached_are_sound h.program s.configuration reached
+
+  pub numbered : AreNumbered s
+  numbered = journals_are_numbered h.program h.budget h.entries s core.run
+
+  module _ (l : Lease) (lease : IsLease h code l) where
+    pub out : IsOutSince lease.run s l.number lease.name
+    out = leases_stay h.program h.budget h.entries l.number l.burst lease.name lease.run s lease.lent lease.named core.run
+
+    -- the activity is as it was lent
+    pub there : IsAt s.configuration lease.name lease.activity
+    there = out.there ∙ lease.there
+
+    pub grants : grant_of l.number s.out ≡ Some l.grant
+    grants = out.out ∙ ap Some (sym lease.grant)
+
+    box_by : (o : Option (SeatShape Actor Request)) → seat_at x.seats l.number ≡ o → IsSeated h code s l.number lease.name o
+        → (came : List Request) × (seat_at x.seats l.number ≡ Some (Out came)) × IsAway h code s l.number lease.name came
+    box_by (Some (In a)) is seated = absurd (no_some (sym seated.free ∙ grants))
+    box_by (Some (Out came)) is seated = (came, is, seated)
+    box_by None is seated = absurd seated
+
+    -- what came since lies in its box
+    pub box : (came : List Request) × (seat_at x.seats l.number ≡ Some (Out came)) × IsAway h code s l.number lease.name came
+    box = box_by (seat_at x.seats l.number) refl (core.populated.seats l.number lease.name out.named)
+
+    pub requests : requests_of s.configuration lease.name ≡ requests_of lease.run.configuration lease.name ++ map request_shape box.0
+    requests =
+        let same = leases_are_one h.program h.budget h.entries l.number box.2.burst l.burst box.2.run lease.run box.2.lent lease.lent in
+        box.2.requests ∙ ap (λ (t : RunShape). requests_of t.configuration lease.name ++ map request_shape box.0) same.2
+
+    module _ (fresh : l.spent ≡ false) where
+      pub has_run : HasRun s l.number l.grant lease.name l.taken (lease.done fresh).end
+      has_run = record {
+        sound = sound;
+        named = out.named;
+        out = grants;
+        activity = lease.activity;
+        there = there;
+        run = (lease.done fresh).run;
+      }
+
+      abbrev pub ended : Configuration
+      ended = with_activity lease.name (lease.done fresh).end s.configuration
+
+      -- its contractions alone
+      pub run_returns : run_of h.program h.budget (h.entries ++ Committed l.number l.taken ∷ []) ≡ Some (returned s l.number (l.grant - l.taken) ended [])
+      run_returns =
+          entries_go_on h.program h.budget h.entries (Committed l.number l.taken) s core.run
+          ∙ runs_are_commits s l.number l.grant lease.name l.taken (lease.done fresh).end has_run lease.within
+
+      -- and one reduction more
+      pub act_returns : (e : Effect) → suc l.taken ≤ l.grant → intent_in ended lease.name ≡ Acts e
+          → run_of h.program h.budget (h.entries ++ Committed l.number (suc l.taken) ∷ []) ≡ Some (returned s l.number (l.grant - suc l.taken) (with_effect lease.name e ended) (made_by e.made))
+      act_returns e within intends =
+          entries_go_on h.program h.budget h.entries (Committed l.number (suc l.taken)) s core.run
+          ∙ acts_are_commits s l.number l.grant lease.name l.taken (lease.done fresh).end e has_run within intends

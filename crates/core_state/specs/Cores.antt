@@ -1,0 +1,85 @@
+-- What a core keeps: the run of its journal.
+use Rattle.std.specs.Prelude.{◌≡◌, ◌≤◌, ◌<◌, ◌^◌, ℕ, suc, List, [], ◌∷◌, ◌++◌, Option, Some, None, map}
+use Rattle.std.specs.List.{AllByRecursion}
+use Rattle.std.specs.Arc.{arc_value}
+use Rattle.asp_model.specs.Configuration as model
+use Rattle.asp_model.specs.Configuration.{requests_of}
+use Rattle.asp_model.specs.History.{EntryShape, HistoryShape}
+use Rattle.asp_model.specs.Names.{Name}
+use Rattle.asp_model.specs.Step.{name_at}
+use Rattle.asp_model.specs.Term.{locations}
+use Rattle.journals.specs.Journals.{RunShape, grant_of, run_of}
+use Rattle.laws.specs.Reached.{IsAt}
+use Rattle.lease_laws.specs.Leases.{IsLentAt, bursts_in}
+use Rattle.program_code.specs.declared.code.Node.{Node}
+use Rattle.future_table.specs.Values.{AreOfCode, values_of}
+use Rattle.request_queue.specs.declared.request.Request.{Request}
+use Rattle.request_queue.specs.Requests.{request_shape}
+use Rattle.activity_ranks.specs.Ranks.{IsRanked}
+use Rattle.activity_seats.specs.Seats.{AreSeats, In, Out, SeatShape, names_in, seat_at, seats_in}
+use Rattle.core_journal.specs.Journal.{entries_in, room}
+use Rattle.actor.specs.declared.actor.Actor.{Actor}
+use Rattle.actor.specs.Actors.{Stands, code_of}
+use Rattle.rank_laws.specs.Runs.{rank_of_number}
+use Rattle.core_state.specs.declared.state.CoreState.{CoreState}
+
+abbrev pub with_entry : HistoryShape → EntryShape → HistoryShape
+with_entry h x = record h { entries = h.entries ++ x ∷ [] }
+
+-- an activity that is in: the actor stands for it
+pub record IsHere (code : List Node) (s : RunShape) (k : ℕ) (n : Name) (x : Actor) : Type 0 where
+  pub free : grant_of k s.out ≡ None
+  pub activity : model.Activity
+  pub there : IsAt s.configuration n activity
+  pub stands : Stands x activity (requests_of s.configuration n)
+  pub coded : code_of x ≡ code
+
+-- one that is out: it was lent in some run of the journal, and what it received since lies in its box
+pub record IsAway (h : HistoryShape) (code : List Node) (s : RunShape) (k : ℕ) (n : Name) (came : List Request) : Type 0 where
+  pub burst : ℕ
+  pub run : RunShape
+  pub lent : IsLentAt h.program h.budget h.entries k burst run
+  pub named : name_at run.names k ≡ Some n
+  pub requests : requests_of s.configuration n ≡ requests_of run.configuration n ++ map request_shape came
+  pub coded : AllByRecursion (λ r. arc_value r.arguments.code ≡ code) came
+
+abbrev pub IsSeated : HistoryShape → List Node → RunShape → ℕ → Name → Option (SeatShape Actor Request) → Type 0
+IsSeated h code s k n (Some (In x)) = IsHere code s k n x
+IsSeated h code s k n (Some (Out came)) = IsAway h code s k n came
+IsSeated h code s k n None = ⊥
+
+-- how many are in
+abbrev pub count_in : {X R : Type 0} → List (SeatShape X R) → ℕ
+count_in [] = 0
+count_in (In x ∷ seats) = suc (count_in seats)
+count_in (Out came ∷ seats) = count_in seats
+
+-- its activities and futures are those of the run, whose names have their numbers, and all runs this code
+pub record IsPopulated (h : HistoryShape) (code : List Node) (x : CoreState) (s : RunShape) : Type 0 where
+  pub kept : AreSeats x.seats
+  pub names : names_in x.seats ≡ s.names
+  pub seats : (k : ℕ) (n : Name) → name_at s.names k ≡ Some n → IsSeated h code s k n (seat_at x.seats k)
+  -- who is out has a name
+  pub named_out : (k : ℕ) → name_at s.names k ≡ None → grant_of k s.out ≡ None
+  pub futures : values_of x.futures ≡ s.configuration.futures
+  pub values : AreOfCode code x.futures
+
+-- each activity that is in has its rank
+abbrev pub AreRanked : CoreState → RunShape → Type 0
+AreRanked x s = (k : ℕ) → IsRanked x.ranks k (rank_of_number s k)
+
+-- the state stands for the run of this history
+pub record IsCore (h : HistoryShape) (code : List Node) (x : CoreState) (s : RunShape) : Type 0 where
+  pub bare : locations h.program ≡ []
+  pub small : h.budget < 2 ^ 64
+  pub run : run_of h.program h.budget h.entries ≡ Some s
+  pub entries : entries_in x.journal ≡ h.entries
+  pub populated : IsPopulated h code x s
+  pub ranks : AreRanked x s
+  pub left : x.left ≡ s.left
+  pub bursts : x.bursts ≡ bursts_in h.entries
+  -- whoever is in can be lent without memory
+  pub room : count_in (seats_in x.seats) ≤ room x.journal
+
+abbrev pub IsSomeCore : CoreState → Type 0
+IsSomeCore x = (h : HistoryShape) × (code : List Node) × (s : RunShape) × IsCore h code x s

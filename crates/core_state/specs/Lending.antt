@@ -1,0 +1,30 @@
+-- What a lend gives and leaves, and who is next.
+use Rattle.std.specs.Prelude.{◌≡◌, ◌≤◌, ℕ, true, false, List, Option, Some, None}
+use Rattle.asp_model.specs.History.{HistoryShape, Lent}
+use Rattle.journals.specs.Journals.{RunShape}
+use Rattle.lease_laws.specs.Entries.{with_lease}
+use Rattle.lease_laws.specs.Leases.{bursts_in}
+use Rattle.program_code.specs.declared.code.Node.{Node}
+use Rattle.rank_laws.specs.Runs.{is_ready}
+use Rattle.core_state.specs.declared.lease.Lease.{Lease}
+use Rattle.core_state.specs.declared.state.CoreState.{CoreState}
+use Rattle.core_state.specs.Leases.{IsLease}
+use Rattle.core_state.specs.Cores.{IsCore, with_entry}
+
+-- a lease of the newest entry, which has taken nothing
+pub record IsNewLease (h : HistoryShape) (code : List Node) (k : ℕ) (x : Lease) : Type 0 where
+  pub lease : IsLease h code x
+  pub number : x.number ≡ k
+  pub burst : x.burst ≡ bursts_in h.entries
+  pub taken : x.taken ≡ 0
+  pub fresh : x.spent ≡ false
+
+-- who is ready is lent, with one entry more; nothing changes where it is not
+abbrev pub IsLentBy : HistoryShape → List Node → RunShape → ℕ → (old : CoreState) → Option Lease → (new : CoreState) → Type 0
+IsLentBy h code s k old None new = (is_ready s k ≡ false) × (new ≡ old)
+IsLentBy h code s k old (Some x) new = (is_ready s k ≡ true) × IsCore (with_entry h (Lent k)) code new (with_lease s k) × IsNewLease (with_entry h (Lent k)) code k x
+
+-- the least number of those who are ready, or nobody is
+abbrev pub IsNextReady : RunShape → Option ℕ → Type 0
+IsNextReady s None = (k : ℕ) → is_ready s k ≡ false
+IsNextReady s (Some k) = (is_ready s k ≡ true) × ((j : ℕ) → is_ready s j ≡ true → k ≤ j)

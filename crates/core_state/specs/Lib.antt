@@ -1,0 +1,5 @@
+-- in reading order
+pub mod Leases
+pub mod Cores
+pub mod Lending
+pub mod Commits

@@ -1,0 +1,58 @@
+//! Who is lent, and who is next.
+
+ghost use Rattle.std.specs.Prelude.{List};
+ghost use Rattle.asp_model.specs.History.{HistoryShape};
+ghost use Rattle.journals.specs.Journals.{RunShape};
+ghost use Rattle.program_code.specs.declared.code.Node.{Node as NodeShape};
+ghost use Rattle.activity_seats.specs.Seats.{IsKnown};
+ghost use Rattle.core_state.specs.Cores.{IsCore, IsSomeCore};
+ghost use Rattle.core_state.specs.Lending.{IsLentBy, IsNextReady};
+
+use crate::lease::Lease;
+use crate::state::CoreState;
+use asp_model::{Entry, MOST_GRANTED};
+
+impl CoreState {
+    /// The least number of those who are ready: who are in, can step, and lack nothing, while some
+    /// budget is left.
+    pub fn next_ready(&self) -> Option<u32>
+        ensures next { (h : HistoryShape) (code : List NodeShape) (s : RunShape) →
+            IsCore h code self.now s → IsNextReady s result }
+    {
+        if self.left == 0 {
+            return None;
+        }
+        self.ranks.first_going()
+    }
+
+    /// Lends an activity that is ready, with a grant of what is left of the budget up to the most.
+    /// It takes no memory.
+    pub fn lend(&mut self, number: u32) -> Option<Lease>
+        requires core { IsSomeCore self.old }
+        requires known { IsKnown number self.old.seats }
+        ensures lent { (h : HistoryShape) (code : List NodeShape) (s : RunShape) →
+            IsCore h code self.old s → IsLentBy h code s number self.old result self.new }
+    {
+        if self.left == 0 || !self.ranks.goes(number) {
+            return None;
+        }
+        let Some(actor) = self.seats.take(number) else {
+            return None;
+        };
+        self.journal.note(Entry::Lent(number));
+        self.ranks.leave(number);
+        let grant = MOST_GRANTED.min(self.left);
+        self.left -= grant;
+        let _entries = self.journal.len();
+        self.bursts += 1;
+        Some(Lease {
+            alloc: self.alloc,
+            number,
+            burst: self.bursts,
+            grant,
+            taken: 0,
+            spent: false,
+            actor,
+        })
+    }
+}

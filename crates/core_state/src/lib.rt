@@ -1,0 +1,10 @@
+//! The state of a core: its activities by numbers, each here or lent, where they stand, the futures
+//! that are filled, and the journal whose run it is.
+#![tactic(auto)]
+
+mod lease;
+mod lend;
+mod state;
+
+pub use lease::Lease;
+pub use state::CoreState;
