@@ -8,3 +8,4 @@ pub mod ServiceLemmas
 pub mod OutlookLemmas
 pub mod HeldLemmas
 pub mod StanceLemmas
+pub mod PassingLemmas

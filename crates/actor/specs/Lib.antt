@@ -5,3 +5,4 @@ pub mod Outlook
 pub mod Asking
 pub mod Running
 pub mod Stances
+pub mod Passing

@@ -14,5 +14,5 @@ mod stance;
 
 pub use act::Given;
 pub use actor::Actor;
-pub use outlook::Outlook;
+pub use outlook::{Looked, Outlook};
 pub use stance::Stance;

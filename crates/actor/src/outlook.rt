@@ -22,6 +22,7 @@ ghost use Rattle.operand_reads.specs.Values.{AreClosedValues};
 ghost use Rattle.serve_rules.specs.Labels.{label_text};
 ghost use Rattle.actor.specs.Actors.{IsClosedFor, Stands, code_of};
 ghost use Rattle.actor.specs.Outlook.{IsOutlook};
+ghost use Rattle.actor.specs.Passing.{HasPassed, IsPassedFor};
 
 use crate::actor::Actor;
 use crate::asked::served_labels;
@@ -29,7 +30,7 @@ use activity_rows::Redex;
 use activity_step::Standing;
 use asp_model::{ActivityName, Fault, FutureName, Label};
 use future_table::FutureTable;
-use operand_reads::{Prospect, prospect_of};
+use operand_reads::{Prospect, prospect_from};
 use std::alloc::{AllocError, Global};
 
 /// What an activity does next.
@@ -47,6 +48,13 @@ pub enum Outlook<'a> {
     Serving,
     /// Its term is a place, and no service is suspended.
     Done,
+}
+
+/// What an activity does next, and how many members of a group that it waits for have values.
+#[derive(Clone, Copy)]
+pub struct Looked<'a> {
+    pub outlook: Outlook<'a>,
+    pub passed: usize,
 }
 
 impl Actor {
@@ -72,9 +80,32 @@ impl Actor {
             Stands self.now a rs →
             IfOk result (IsOutlook (intent (chase (values_of futures.now)) rs n a)) }
     {
+        Ok(self.outlook_from(alloc, futures, 0)?.outlook)
+    }
+
+    /// What the activity does next, once it has settled, where the first so many members of a group
+    /// that it waits for are known to have values: these are not looked at.
+    pub fn outlook_from<'a>(
+        &'a self,
+        alloc: Global,
+        futures: &'a FutureTable,
+        from: usize,
+    ) -> Result<Looked<'a>, AllocError>
+        requires closed { IsClosedFor self.now }
+        requires values { AreClosedValues (values_of futures.now) }
+        requires passed { IsPassedFor (chase (values_of futures.now)) self.now from }
+        ensures outlook { (a : model.Activity) (rs : List RequestShape) (n : Name) →
+            Stands self.now a rs → let intended = intent (chase (values_of futures.now)) rs n a in
+            IfOk result (λ x. IsOutlook intended x.outlook) }
+        ensures passed { (a : model.Activity) (rs : List RequestShape) → Stands self.now a rs →
+            IfOk result (λ x. HasPassed (chase (values_of futures.now)) a x.passed) }
+    {
         match self.activity.standing()? {
-            Standing::Place(_) => Ok(self.at_place()),
-            Standing::Redex(redex) => self.at_redex(alloc, futures, redex),
+            Standing::Place(_place) => Ok(Looked {
+                outlook: self.at_place(),
+                passed: 0,
+            }),
+            Standing::Redex(redex) => self.at_redex(alloc, futures, redex, from),
         }
     }
 
@@ -94,21 +125,46 @@ impl Actor {
         alloc: Global,
         futures: &'a FutureTable,
         redex: Redex<'a>,
-    ) -> Result<Outlook<'a>, AllocError>
+        from: usize,
+    ) -> Result<Looked<'a>, AllocError>
         requires closed { IsClosedFor self.now }
         requires values { AreClosedValues (values_of futures.now) }
         requires stands { (a : model.Activity) → StandsFor self.now.activity a → IsAt a redex }
+        requires passed { IsPassedFor (chase (values_of futures.now)) self.now from }
         ensures outlook { (a : model.Activity) (rs : List RequestShape) (n : Name) →
-            Stands self.now a rs →
-            IfOk result (IsOutlook (intent (chase (values_of futures.now)) rs n a)) }
+            Stands self.now a rs → let intended = intent (chase (values_of futures.now)) rs n a in
+            IfOk result (λ x. IsOutlook intended x.outlook) }
+        ensures passed { (a : model.Activity) (rs : List RequestShape) → Stands self.now a rs →
+            IfOk result (λ x. HasPassed (chase (values_of futures.now)) a x.passed) }
     {
-        match prospect_of(self.activity.code(), self.activity.store(), futures, redex) {
-            Prospect::Goes => Ok(Outlook::Steps),
-            Prospect::GoesTo(name) => Ok(Outlook::Sends(name)),
-            Prospect::Stops(fault) => Ok(Outlook::Faulted(fault)),
-            Prospect::Asks => self.at_serve(alloc, served_labels(redex)),
-            Prospect::Awaits(future) => Ok(Outlook::Awaits(future)),
-            Prospect::Still => Ok(Outlook::Done),
+        let code = self.activity.code();
+        let reading = prospect_from(code, self.activity.store(), futures, redex, from);
+        let passed = reading.passed;
+        match reading.prospect {
+            Prospect::Goes => Ok(Looked {
+                outlook: Outlook::Steps,
+                passed,
+            }),
+            Prospect::GoesTo(name) => Ok(Looked {
+                outlook: Outlook::Sends(name),
+                passed,
+            }),
+            Prospect::Stops(fault) => Ok(Looked {
+                outlook: Outlook::Faulted(fault),
+                passed,
+            }),
+            Prospect::Asks => {
+                let outlook = self.at_serve(alloc, served_labels(redex))?;
+                Ok(Looked { outlook, passed })
+            }
+            Prospect::Awaits(future) => Ok(Looked {
+                outlook: Outlook::Awaits(future),
+                passed,
+            }),
+            Prospect::Still => Ok(Looked {
+                outlook: Outlook::Done,
+                passed,
+            }),
         }
     }
 

@@ -137,8 +137,8 @@ impl Actor {
         match first_held(self.activity.store(), strict_of(redex)) {
             Some(held) => Ok(held_stance(futures, held)),
             None => {
-                let outlook = self.at_redex(alloc, futures, redex)?;
-                Ok(free_stance(outlook, asks_others(redex)))
+                let looked = self.at_redex(alloc, futures, redex, 0)?;
+                Ok(free_stance(looked.outlook, asks_others(redex)))
             }
         }
     }

@@ -6,3 +6,4 @@ pub mod SightLemmas
 pub mod MemberLemmas
 pub mod ProspectLemmas
 pub mod FetchLemmas
+pub mod PassedLemmas

@@ -4,3 +4,4 @@ pub mod Strict
 pub mod Prospects
 pub mod Faces
 pub mod Sights
+pub mod Passed

@@ -13,4 +13,4 @@ mod telling;
 pub use fetching::fetch_all;
 pub use prospect::Prospect;
 pub use strict::{Strict, strict_of};
-pub use telling::prospect_of;
+pub use telling::{Reading, prospect_from, prospect_of};

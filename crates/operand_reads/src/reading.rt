@@ -6,6 +6,7 @@ ghost use Rattle.asp_model.specs.Chase.{chase};
 ghost use Rattle.asp_model.specs.Shapes.{future_shape};
 ghost use Rattle.coded_cells.specs.Shapes.{parcel_shape, store_of};
 ghost use Rattle.future_table.specs.Values.{values_of};
+ghost use Rattle.operand_reads.specs.Passed.{ArePassed};
 ghost use Rattle.operand_reads.specs.Sights.{IsRead, operand_sight, seen_shape, sight, value_sight};
 ghost use Rattle.operand_reads.specs.declared.strict.Strict.TheVariants as strict;
 
@@ -81,24 +82,60 @@ fn read_operand<'a>(
     through(futures, read(code, store, place))
 }
 
-/// The strict operands, or the first future among them that has no value.
+/// The strict operands, and how many members of a group have values.
+#[derive(Clone, Copy)]
+pub struct Sighting<'a> {
+    pub operands: Operands<'a>,
+    pub passed: usize,
+}
+
+/// The strict operands, or the first future among them that has no value. The first so many members
+/// of a group that is waited for are known to have values.
 pub fn operands_of<'a>(
     code: &'a Code,
     store: &'a Store,
     futures: &'a FutureTable,
     strict: Strict,
-) -> Operands<'a>
+    from: usize,
+) -> Sighting<'a>
+    requires passed { let s = store_of code.now store.now.cells in
+        ArePassed (chase (values_of futures.now)) s strict from }
     ensures read { let s = store_of code.now store.now.cells in
-        IsRead (chase (values_of futures.now)) s strict result }
+        IsRead (chase (values_of futures.now)) s strict result.operands }
+    ensures passed { let s = store_of code.now store.now.cells in
+        ArePassed (chase (values_of futures.now)) s strict result.passed }
 {
     match strict {
-        Strict::Members(place) => group_operand(code, store, futures, place),
-        Strict::Nothing => Operands::Read(Seen::Number(0), Seen::Number(0)),
-        Strict::One(place) => match read_operand(code, store, futures, place) {
-            Operand::Awaits(future) => Operands::Awaits(future),
-            Operand::Reads(seen) => Operands::Read(seen, Seen::Number(0)),
-        },
-        Strict::Two(first, second) => two_operands(code, store, futures, first, second),
+        Strict::Members(place) => group_operand(code, store, futures, place, from),
+        Strict::Nothing => alone(Operands::Read(Seen::Number(0), Seen::Number(0))),
+        Strict::One(place) => alone(one_operand(code, store, futures, place)),
+        Strict::Two(first, second) => alone(two_operands(code, store, futures, first, second)),
+    }
+}
+
+/// Operands without members.
+fn alone(operands: Operands) -> Sighting
+    ensures operands { result.operands ≡ operands.entry }
+    ensures passed { result.passed ≡ 0 }
+{
+    Sighting {
+        operands,
+        passed: 0,
+    }
+}
+
+fn one_operand<'a>(
+    code: &'a Code,
+    store: &'a Store,
+    futures: &'a FutureTable,
+    place: Place,
+) -> Operands<'a>
+    ensures read { let s = store_of code.now store.now.cells in
+        IsRead (chase (values_of futures.now)) s (strict.One place) result }
+{
+    match read_operand(code, store, futures, place) {
+        Operand::Awaits(future) => Operands::Awaits(future),
+        Operand::Reads(seen) => Operands::Read(seen, Seen::Number(0)),
     }
 }
 
@@ -127,15 +164,29 @@ fn group_operand<'a>(
     store: &'a Store,
     futures: &'a FutureTable,
     place: Place,
-) -> Operands<'a>
+    from: usize,
+) -> Sighting<'a>
+    requires passed { let s = store_of code.now store.now.cells in
+        ArePassed (chase (values_of futures.now)) s (strict.Members place) from }
     ensures read { let s = store_of code.now store.now.cells in
-        IsRead (chase (values_of futures.now)) s (strict.Members place) result }
+        IsRead (chase (values_of futures.now)) s (strict.Members place) result.operands }
+    ensures passed { let s = store_of code.now store.now.cells in
+        ArePassed (chase (values_of futures.now)) s (strict.Members place) result.passed }
 {
     match read_operand(code, store, futures, place) {
-        Operand::Awaits(future) => Operands::Awaits(future),
-        Operand::Reads(seen) => match missed_member(code, store, futures, place) {
-            Some(future) => Operands::Awaits(future),
-            None => Operands::Read(seen, Seen::Number(0)),
-        },
+        Operand::Awaits(future) => alone(Operands::Awaits(future)),
+        Operand::Reads(seen) => {
+            let missed = missed_member(code, store, futures, place, from);
+            match missed.future {
+                Some(future) => Sighting {
+                    operands: Operands::Awaits(future),
+                    passed: missed.passed,
+                },
+                None => Sighting {
+                    operands: Operands::Read(seen, Seen::Number(0)),
+                    passed: missed.passed,
+                },
+            }
+        }
     }
 }

@@ -1,11 +1,11 @@
-use Rattle.std.proofs.Common.{◌≡◌, drop}
+use Rattle.std.proofs.Common.{◌≡◌, None, take}
 use Rattle.asp_model.specs.Chase.{chase}
 use Rattle.coded_cells.specs.Shapes.{parcel_shape}
 use Rattle.future_table.specs.Values.{values_of}
 use Rattle.operand_reads.specs.Sights.{first_missed}
 use Rattle.operand_reads.proofs.members.missed_in.Given as goal
 
-abbrev pub invariant-loop-place : goal.invariant-loop-place
-invariant-loop-place l =
+abbrev pub invariant-loop-at : goal.invariant-loop-at
+invariant-loop-at l =
     let chases = chase (values_of l.futures) in let s = (parcel_shape l.parcel).cells in
-    first_missed chases s l.place-items ≡ first_missed chases s (drop l.place-index l.place-items)
+    first_missed chases s (take l.at l.places) ≡ None
