@@ -28,7 +28,8 @@ use Rattle.schedules.specs.Schedules.{IsNextIn, RestsIn}
 use Rattle.replay_one.specs.declared.bounds.Next.TheVariants as next
 use Rattle.replay_one.specs.declared.population.Population.{Population}
 use Rattle.replay_one.specs.Bounds.{IsNextAt}
-use Rattle.replay_one.specs.Population.{IsPopulation, StandsAt, found_in}
+use Rattle.actor.specs.Passing.{HasPassed, IsPassedFor}
+use Rattle.replay_one.specs.Population.{HasPassedIn, IsPopulation, StandsAt, found_in}
 use Rattle.replay_one.specs.Round.{CanStep, Leaves, SendsTo}
 use Rattle.replay_one.proofs.PopulationLemmas.{found_stands, stands_none}
 
@@ -203,3 +204,28 @@ next_nobody (Some lists) c to m k e h i = no_some (sym h ∙ ap (name_at (sender
 pub next_anyone : (lists : Option ListsShape) (c : Configuration) (to m : Name) (k : ℕ) → IsNextAt lists to k next.Anyone → IsNextIn lists c to m → ⊥
 next_anyone None c to m k h i = i
 next_anyone (Some lists) c to m k h i = h
+
+-- Members that are passed
+
+-- an actor of the population stands for one that has passed so many
+pub passed_for : (p : Population) (c : Configuration) (n : Name) (x : Actor) (k : ℕ) → IsPopulation p c → found_in p n ≡ Some x → HasPassedIn c n k → IsPassedFor (chase (values_of p.futures)) x k
+passed_for p c n x k h is has =
+    let s = found_stands p c n x h is in
+    record { activity = s.0; received = requests_of c n; stands = s.2; passed = subst (λ (vs : Values). HasPassed (chase vs) s.0 k) (sym h.futures) (has s.0 s.1) }
+
+-- and what is seen of the actor holds of its activity
+pub seen_passed : (p : Population) (c : Configuration) (n : Name) (x : Actor) (k : ℕ) → IsPopulation p c → found_in p n ≡ Some x → ((a : model.Activity) (rs : List RequestShape) → Stands x a rs → HasPassed (chase (values_of p.futures)) a k) → HasPassedIn c n k
+seen_passed p c n x k h is seen = λ a at.
+    let s = found_stands p c n x h is in
+    let same : s.0 ≡ a = some_is (sym s.1 ∙ at) in
+    subst (λ (b : model.Activity). HasPassed (chase c.futures) b k) same (subst (λ (vs : Values). HasPassed (chase vs) s.0 k) h.futures (seen s.0 (requests_of c n) s.2))
+
+-- who awaits a future is there
+pub awaits_there : (c : Configuration) (n : Name) (f : FutureShape) → status_of c n ≡ Awaits f → (a : model.Activity) × IsAt c n a
+awaits_there c n f e = by (find name_cmp n c.activities) refl
+  where
+    by : (o : Option model.Activity) → find name_cmp n c.activities ≡ o → (a : model.Activity) × IsAt c n a
+    by (Some a) is = (a, is)
+    by None is =
+        let done : Done ≡ Awaits f = sym (ap (λ (q : Option model.Activity). status_of_intent (elim q [ None ↦ Rests Done | Some a ↦ intent (chase c.futures) (requests_of c n) n a ])) is) ∙ e in
+        absurd cc

@@ -1,5 +1,5 @@
 -- What the run of one thread leaves, told of its outcome.
-use Rattle.std.proofs.Common.{◌≡◌, ◌≤◌, [], ℕ, Bool, true, false, cond, sym, ap, subst, ◌∙◌, ⊎_elim}
+use Rattle.std.proofs.Common.{◌≡◌, ◌≤◌, [], ℕ, Bool, true, false, cond, sym, ap, subst, ◌∙◌, ⊎_elim, None}
 use Rattle.std.specs.List.{list_any}
 use Rattle.asp_model.specs.Term.{Tree, locations}
 use Rattle.asp_model.specs.Configuration.{Configuration, start}
@@ -7,7 +7,8 @@ use Rattle.asp_model.specs.Status.{End, Blocked, Budget, IsStuck, is_awaiting, s
 use Rattle.asp_model.specs.Replay.{CountsShape, Fits, counts_of, plain_run, replay, total}
 use Rattle.asp_model.specs.Outcome.{OutcomeShape, counts_in, lists_in, outcome_of}
 use Rattle.asp_model.specs.Step.{ListsShape}
-use Rattle.asp_model.specs.Names.{main_name}
+use Rattle.asp_model.specs.Names.{Name, main_name}
+use Rattle.laws.proofs.NameLemmas.{no_some}
 use Rattle.laws.proofs.ReachedLemmas.{start_is_reached}
 use Rattle.laws.proofs.ReplayLemmas.{plain_runs_replay}
 use Rattle.laws.proofs.SpendLemmas.{plain_runs_spend}
@@ -16,19 +17,20 @@ use Rattle.replay_one.specs.declared.bounds.Bounds.{Bounds}
 use Rattle.replay_one.specs.declared.round.Machine.{Machine}
 use Rattle.replay_one.specs.Bounds.{count_within, lists_within}
 use Rattle.replay_one.specs.Correct.{IsReplayed, IsSpent}
-use Rattle.replay_one.specs.Population.{IsPopulation}
+use Rattle.replay_one.specs.Population.{IsPopulation, passed_in}
 use Rattle.replay_one.specs.Schedule.{noted_in, ready_in, watches_in}
 use Rattle.replay_one.specs.Round.{IsRunAt}
 use Rattle.replay_one.proofs.ReportLemmas.{counts_shown, lists_shown}
 
 -- the machine at the start
-pub begins_run : (b : Bounds) (m : Machine) (program copied : Tree) → copied ≡ program → locations program ≡ [] → IsPopulation m.population (start copied) → ready_in m.schedule main_name ≡ true → IsRunAt b m program (start program)
-begins_run b m program copied same bare population ready = record {
+pub begins_run : (b : Bounds) (m : Machine) (program copied : Tree) → copied ≡ program → locations program ≡ [] → IsPopulation m.population (start copied) → ready_in m.schedule main_name ≡ true → ((n : Name) → passed_in m.population n ≡ None) → IsRunAt b m program (start program)
+begins_run b m program copied same bare population ready none = record {
   bare = bare;
   reached = start_is_reached program;
   population = subst (λ t. IsPopulation m.population (start t)) same population;
   scheduled = main_is_ready program (lists_within b) (count_within b) (ready_in m.schedule) (noted_in m.schedule) ready;
   watched = main_is_watched program (count_within b) (watches_in m.schedule) (ready_in m.schedule) ready;
+  passed = λ n k is. no_some (sym (none n) ∙ is);
 }
 
 module _ (n : ℕ) (program : Tree) (o : OutcomeShape) (e : o ≡ outcome_of (plain_run n program)) where

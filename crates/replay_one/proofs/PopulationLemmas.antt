@@ -1,5 +1,5 @@
 -- What the changes of a population leave of it.
-use Rattle.std.proofs.Common.{◌≡◌, ◌≢◌, ◌∷◌, ◌++◌, [], List, Option, Some, None, Ok, Err, Result, IfOk, OnOk, map, refl, sym, ap, subst, ◌∙◌, ⊎_elim}
+use Rattle.std.proofs.Common.{◌≡◌, ◌≢◌, ◌∷◌, ◌++◌, [], List, Option, Some, None, Ok, Err, Result, IfOk, OnOk, map, refl, sym, ap, subst, ◌∙◌, ⊎_elim, inl, inr, ℕ}
 use Rattle.std.specs.FinMap.{find, put}
 use Rattle.std.specs.Map.{lookup}
 use Rattle.std.specs.BTreeMap as trees
@@ -27,7 +27,8 @@ use Rattle.operand_reads.specs.Values.{AreClosedValues}
 use Rattle.actor.specs.declared.actor.Actor.{Actor}
 use Rattle.actor.specs.Actors.{IsClosedFor, Stands, code_of}
 use Rattle.replay_one.specs.declared.population.Population.{Population}
-use Rattle.replay_one.specs.Population.{AreActorsOf, IsPopulation, IsReachedPopulation, StandsAt, found_in, with_activity, with_request, with_value}
+use Rattle.replay_one.proofs.ScheduleLemmas.{apart_at}
+use Rattle.replay_one.specs.Population.{AreActorsOf, IsPassing, IsPopulation, IsReachedPopulation, StandsAt, found_in, with_activity, with_request, with_value}
 
 -- What stands at a name
 
@@ -187,3 +188,15 @@ any_way (Err e) P h = tt
 pub if_ok_with : {T E : Type 0} (r : Result T E) (P Q X : Type 0) → (P → Q → X) → OnOk r P → OnOk r Q → OnOk r X
 if_ok_with (Ok t) P Q X f h k = f h k
 if_ok_with (Err e) P Q X f h k = tt
+
+-- Members that are passed
+
+-- what is noted was noted before, or is this
+pub passing : (old : Population) (t : BTreeMap Name ℕ) (n : Name) (k : ℕ) → trees.Updates name_cmp old.passed t n (Some k) → IsPassing old n k (record old { passed = t })
+passing old t n k u = record {
+  same = refl;
+  noted = λ m j is. ⊎_elim
+      (λ here. inr (here, some_is (sym is ∙ ap (λ (q : Name). lookup (is_at (name_cmp q)) t.entries) here ∙ u.1)))
+      (λ apart. inl (sym (u.2 m (apart_at n m apart)) ∙ is))
+      (name_case m n);
+}

@@ -1,19 +1,27 @@
 -- Rounds and runs of the machine.
-use Rattle.std.proofs.Common.{◌≡◌, ◌≢◌, ◌≤◌, ◌+◌, ℕ, zero, suc, true, false, List, Option, Some, None, refl, sym, ap, subst, ◌∙◌, inl, inr, ⊎_elim, arith}
+use Rattle.std.proofs.Common.{◌≡◌, ◌≢◌, ◌≤◌, ◌<◌, ◌+◌, ℕ, zero, suc, true, false, List, Option, Some, None, is_some, refl, sym, ap, subst, ◌∙◌, inl, inr, ⊎_elim, arith}
 use Rattle.std.proofs.lemmas.Bool.{false_from_ne_true}
 use Rattle.std.specs.FinMap.{find}
-use Rattle.asp_model.specs.Names.{Name, FutureShape, Text, future_cmp}
+use Rattle.std.specs.BTreeMap.{BTreeMap, is_at}
+use Rattle.std.specs.Map.{lookup}
+use Rattle.asp_model.specs.Names.{Name, FutureShape, Text, future_cmp, name_cmp}
 use Rattle.asp_model.specs.Term.{Tree, has_text}
 use Rattle.asp_model.specs.Configuration.{Activity, Configuration, RequestShape}
 use Rattle.asp_model.specs.Intent.{Acts, Effect, Intent, Rests, StatusShape, Awaits, Serving}
-use Rattle.asp_model.specs.Step.{ListsShape, put_some, with_effect}
+use Rattle.asp_model.specs.Chase.{chase}
+use Rattle.asp_model.specs.Step.{ListsShape, intent_in, put_some, with_effect}
 use Rattle.asp_model.specs.Status.{is_awaiting, is_running, status_of, status_of_intent}
 use Rattle.asp_model.specs.Replay.{least_step, steps_from}
-use Rattle.laws.specs.Reached.{IsAt, Steps}
+use Rattle.laws.specs.Reached.{IsAt, IsReached, Steps}
 use Rattle.laws.specs.Waking.{labels_wanted}
-use Rattle.laws.proofs.MapLemmas.{find_same}
-use Rattle.laws.proofs.NameLemmas.{future_total, future_same, name_case, no_some, none_true, some_is, true_false}
-use Rattle.laws.proofs.ReachedLemmas.{moves_go_on}
+use Rattle.laws.proofs.CommuteLemmas.{values_kept}
+use Rattle.laws.proofs.FactLemmas.{acts_facts}
+use Rattle.laws.proofs.KeptLemmas.{fresh}
+use Rattle.laws.proofs.MapLemmas.{find_other, find_same}
+use Rattle.laws.proofs.NameLemmas.{future_total, future_same, name_case, name_same, name_total, no_some, none_true, some_is, true_false}
+use Rattle.laws.proofs.OrderLemmas.{own_kept}
+use Rattle.laws.proofs.ReachedLemmas.{moves_go_on, reached_sound}
+use Rattle.laws.proofs.SoundLemmas.{Took}
 use Rattle.schedules.specs.Schedules.{IsFilledBy, IsScheduled, RestsIn}
 use Rattle.schedules.proofs.LeastLemmas.{least_steps, notes_leave, resters_leave}
 use Rattle.schedules.specs.Watches.{IsWatched, IsWatchedAt, Watches}
@@ -24,7 +32,11 @@ use Rattle.replay_one.specs.declared.population.Population.{Population}
 use Rattle.replay_one.specs.declared.schedule.Schedule.{Schedule}
 use Rattle.replay_one.specs.declared.round.Machine.{Machine}
 use Rattle.replay_one.specs.Bounds.{count_within, lists_within}
-use Rattle.replay_one.specs.Population.{IsPopulation, IsReachedPopulation, IsRunIn, with_activity}
+use Rattle.operand_reads.proofs.PassedLemmas.{passed_still}
+use Rattle.operand_reads.specs.declared.strict.Strict.TheVariants as strict
+use Rattle.actor.specs.Passing.{HasPassed}
+use Rattle.actor.proofs.PassingLemmas.{first_passed}
+use Rattle.replay_one.specs.Population.{ArePassed, HasPassedIn, IsForgotten, IsPassing, IsPopulation, IsReachedPopulation, IsRunIn, or_zero, passed_in, with_activity}
 use Rattle.replay_one.specs.Schedule.{IsMoreReady, IsNoted, IsTaken, IsWatching, asks_in, noted_in, ready_in, sends_in, watches_in}
 use Rattle.replay_one.specs.Round.{CanStep, IsHandedOn, IsRunAt, IsRunBut, LeadsTo, Leaves, SendsTo, next_by}
 use Rattle.replay_one.proofs.LocalLemmas.{local_runs_go_on}
@@ -45,9 +57,61 @@ but_reached b m n program c h = reached_population b (record { population = m.po
 acts_is : (e g : Effect) → Acts e ≡ Acts g → e ≡ g
 acts_is e g h = ap (λ (p : Intent). elim p [ Acts f ↦ f | Rests s ↦ e ]) h
 
+-- Members that are passed
+
+pub kept_passed : (p q : Population) (c : Configuration) → q.passed ≡ p.passed → ArePassed p c → ArePassed q c
+kept_passed p q c same h = λ n k is. h n k (ap (λ (es : BTreeMap Name ℕ). lookup (is_at (name_cmp n)) es.entries) (sym same) ∙ is)
+
+-- it is not the one of whom nothing is noted
+other_than : (p : Population) (n m : Name) (k : ℕ) → passed_in p n ≡ None → passed_in p m ≡ Some k → m ≢ n
+other_than p n m k alone is same = no_some (sym alone ∙ ap (passed_in p) (sym same) ∙ is)
+
+-- an activity that is not noted goes on alone
+ran_passed : (c : Configuration) (n : Name) (p q : Population) (b : Activity) → q.passed ≡ p.passed → passed_in p n ≡ None → ArePassed p c → ArePassed q (with_activity n b c)
+ran_passed c n p q b same alone h = kept_passed p q (with_activity n b c) same (λ m k is.
+    let x = h m k is in
+    (x.0, find_other name_cmp name_total name_same m n b c.activities (other_than p n m k alone is) ∙ x.1, x.2))
+
+-- or takes a step
+stepped_passed : (program : Tree) (c : Configuration) (n : Name) (p q : Population) (e : Effect) → IsReached program c → intent_in c n ≡ Acts e → q.passed ≡ p.passed → passed_in p n ≡ None → ArePassed p c → ArePassed q (with_effect n e c)
+stepped_passed program c n p q e reached intends same alone h =
+    let facts = acts_facts c n e intends in
+    let t : Took c n e = record { sound = reached_sound program c reached; there = facts.0; facts = facts.1 } in
+    kept_passed p q (with_effect n e c) same (λ m k is.
+    let x = h m k is in (
+      x.0,
+      own_kept c m n e (other_than p n m k alone is) (fresh c n e t) (ap is_some x.1) ∙ x.1,
+      (λ cs i at. passed_still (chase c.futures) (chase (with_effect n e c).futures) (values_kept c n e t) x.0.store (strict.Members i) k (x.2 cs i at)),
+    ))
+
+-- what is noted of one is forgotten
+pub forgotten_run : (b : Bounds) (program : Tree) (c : Configuration) (m : Machine) (n : Name) (q : Population) → IsRunAt b m program c → IsForgotten m.population n q → IsRunAt b (record { population = q; schedule = m.schedule }) program c
+forgotten_run b program c m n q h f = record {
+  bare = h.bare;
+  reached = h.reached;
+  population = subst (λ (p : Population). IsPopulation p c) (sym f.same) (record { activities = h.population.activities; futures = h.population.futures; code = h.population.code; actors = h.population.actors; values = h.population.values });
+  scheduled = h.scheduled;
+  watched = h.watched;
+  passed = λ m' k is. h.passed m' k (f.noted m' k is).1;
+}
+
+-- what one has passed is noted
+pub passing_run : (b : Bounds) (program : Tree) (c : Configuration) (m : Machine) (n : Name) (a : Activity) (k : ℕ) (q : Population) → IsRunAt b m program c → IsPassing m.population n k q → IsAt c n a → HasPassed (chase c.futures) a k → IsRunAt b (record { population = q; schedule = m.schedule }) program c
+passing_run b program c m n a k q h f at has = record {
+  bare = h.bare;
+  reached = h.reached;
+  population = subst (λ (p : Population). IsPopulation p c) (sym f.same) (record { activities = h.population.activities; futures = h.population.futures; code = h.population.code; actors = h.population.actors; values = h.population.values });
+  scheduled = h.scheduled;
+  watched = h.watched;
+  passed = λ m' j is. ⊎_elim
+      (λ was. h.passed m' j was)
+      (λ here. (a, ap (λ (k : Name). find name_cmp k c.activities) here.0 ∙ at, subst (HasPassed (chase c.futures) a) (sym here.1) has))
+      (f.noted m' j is);
+}
+
 -- the population is another that stands for the same
-pub settled_run : (b : Bounds) (program : Tree) (c : Configuration) (m : Machine) (q : Population) → IsRunAt b m program c → IsPopulation q c → IsRunAt b (record { population = q; schedule = m.schedule }) program c
-settled_run b program c m q h population = record { bare = h.bare; reached = h.reached; population = population; scheduled = h.scheduled; watched = h.watched }
+pub settled_run : (b : Bounds) (program : Tree) (c : Configuration) (m : Machine) (q : Population) → IsRunAt b m program c → IsPopulation q c → q.passed ≡ m.population.passed → IsRunAt b (record { population = q; schedule = m.schedule }) program c
+settled_run b program c m q h population same = record { bare = h.bare; reached = h.reached; population = population; scheduled = h.scheduled; watched = h.watched; passed = kept_passed m.population q c same h.passed }
 
 module _ (b : Bounds) (program : Tree) (c : Configuration) (n : Name) (p : Population) (old : Schedule) where
   -- who leaves is noted by what it waits for, and the others stay noted
@@ -75,6 +139,7 @@ module _ (b : Bounds) (program : Tree) (c : Configuration) (n : Name) (p : Popul
       serving = λ a l is below st has. absurd (l'.serves a is below st);
       sending = λ a e x is below intends sent. absurd (l'.sends a x.0 is below (e, intends, x.1, sent));
     });
+    passed = h.passed;
   }
 
   pub awaits_round : (f : FutureShape) (mid new : Schedule) → IsRunAt b (record { population = p; schedule = old }) program c → IsTaken old n mid → IsNoted mid f n new → RestsIn (lists_within b) (count_within b) c n → status_of c n ≡ Awaits f → IsRunAt b (record { population = p; schedule = new }) program c
@@ -91,6 +156,7 @@ module _ (b : Bounds) (program : Tree) (c : Configuration) (n : Name) (p : Popul
           serving = λ a l is below st has. none_true (ap is_awaiting (sym st ∙ s));
           sending = λ a e x is below intends sent. none_true (ap is_running (sym s ∙ ap status_of_intent intends));
         });
+    passed = h.passed;
   }
     where
       ready_by : (m : Name) → ready_in new m ≡ ready_in mid m
@@ -109,6 +175,7 @@ module _ (b : Bounds) (program : Tree) (c : Configuration) (n : Name) (p : Popul
         (λ g a at below w. none_true (sym not ∙ ap is_awaiting w.0));
     watched = watched_but new (watches_in old) h.watched (λ m d. ready_by m ∙ t.others m d)
         (λ m l d a. k.asks m l d ∙ ap (λ (w : Watches). w.asks m l) t.watches ∙ a) (λ m j d a. k.sends m j d ∙ ap (λ (w : Watches). w.sends m j) t.watches ∙ a) own;
+    passed = h.passed;
   }
     where
       ready_by : (m : Name) → ready_in new m ≡ ready_in mid m
@@ -133,9 +200,9 @@ module _ (b : Bounds) (program : Tree) (c : Configuration) (n : Name) (p : Popul
   })
 
   -- a step is taken
-  pub steps_round : (q : Population) (mid given new : Schedule) (x : CanStep (lists_within b) (count_within b) c n) → IsRunAt b (record { population = p; schedule = old }) program c → IsTaken old n mid → IsPopulation q (with_effect n x.effect c) → IsHandedOn (lists_within b) c n x.effect mid given → IsMoreReady given None new → ready_in new n ≡ true
+  pub steps_round : (q : Population) (mid given new : Schedule) (x : CanStep (lists_within b) (count_within b) c n) → IsRunAt b (record { population = p; schedule = old }) program c → IsTaken old n mid → IsPopulation q (with_effect n x.effect c) → IsHandedOn (lists_within b) c n x.effect mid given → IsMoreReady given None new → ready_in new n ≡ true → q.passed ≡ p.passed → passed_in p n ≡ None
       → (d : Configuration) × (next_by b c ≡ Some d) × IsRunAt b (record { population = q; schedule = new }) program d
-  steps_round q mid given new x h t population handed more woken =
+  steps_round q mid given new x h t population handed more woken same alone =
       let lists = lists_within b in
       let count = count_within b in
       let e = x.effect in
@@ -169,6 +236,7 @@ module _ (b : Bounds) (program : Tree) (c : Configuration) (n : Name) (p : Popul
                 serving = λ a l is below st has. more.asks m l not (handed.asks m l (unwoken m not) (was.serving a l is below st has));
                 sending = λ a g z is below intends sent. more.sends m z.0 not (handed.sends m z.0 (unwoken m not) (was.sending a g z is below intends sent));
               };
+          passed = stepped_passed program c n p q e h.reached x.intends same alone h.passed;
         },
       )
 
@@ -205,17 +273,18 @@ woken_run b program c n q old mid new h t more woken =
             serving = λ a l is below st has. more.asks m l not (ap (λ (w : Watches). w.asks m l) t.watches ∙ before.serving a l is below st has);
             sending = λ a g z is below intends sent. more.sends m z.0 not (ap (λ (w : Watches). w.sends m z.0) t.watches ∙ before.sending a g z is below intends sent);
           };
+      passed = h.passed;
     }
 
 -- reductions that need no other are steps of the run
-pub ran : (b : Bounds) (program : Tree) (c : Configuration) (n : Name) (m : Machine) (q : Population) (mid : Schedule) (most k : ℕ) → IsRunAt b m program c → IsTaken m.schedule n mid → IsRunIn q c n most (count_within b n) k
+pub ran : (b : Bounds) (program : Tree) (c : Configuration) (n : Name) (m : Machine) (q : Population) (mid : Schedule) (most k : ℕ) → IsRunAt b m program c → IsTaken m.schedule n mid → IsRunIn q c n most (count_within b n) k → q.passed ≡ m.population.passed → passed_in m.population n ≡ None
     → (d : Configuration) × LeadsTo b k c d × IsRunAt b (record { population = q; schedule = m.schedule }) program d × (k ≤ most)
-ran b program c n m q mid most k h t (inl r) =
+ran b program c n m q mid most k h t (inl r) same alone =
     let g = local_runs_go_on program (lists_within b) (count_within b) (ready_in m.schedule) (noted_in m.schedule) (watches_in m.schedule) c n k r.activity r.end h.reached h.scheduled h.watched t.ready t.least r.there r.run r.below in
-    (with_activity n r.end c, g.steps, record { bare = h.bare; reached = g.reached; population = r.population; scheduled = g.scheduled; watched = g.watched }, r.within)
-ran b program c n m q mid most k h t (inr e) =
+    (with_activity n r.end c, g.steps, record { bare = h.bare; reached = g.reached; population = r.population; scheduled = g.scheduled; watched = g.watched; passed = ran_passed c n m.population q r.end same alone h.passed }, r.within)
+ran b program c n m q mid most k h t (inr e) same alone =
     let none : k ≡ 0 = e.0 in
-    (c, (λ j. let same : k + j ≡ j = omega (arith, none) in ap (λ i. steps_from i (lists_within b) (count_within b) c) same), settled_run b program c m q h e.1, omega (arith, none))
+    (c, (λ j. let all : k + j ≡ j = omega (arith, none) in ap (λ i. steps_from i (lists_within b) (count_within b) c) all), settled_run b program c m q h e.1 same, omega (arith, none))
 
 pub leads_nowhere : (b : Bounds) (c d : Configuration) (k : ℕ) → LeadsTo b k c d → k ≡ 0 → d ≡ c
 leads_nowhere b c d k h none =
@@ -227,3 +296,25 @@ pub leads_on : (b : Bounds) (c d e : Configuration) (k : ℕ) → LeadsTo b k c 
 leads_on b c d e k h next j =
     let same : k + 1 + j ≡ k + suc j = omega arith in
     ap (λ i. steps_from i (lists_within b) (count_within b) c) same ∙ h (suc j) ∙ goes_on j (lists_within b) (count_within b) d e next
+
+-- Members that one has passed
+
+pub still_none : (p q : Population) (n : Name) → q.passed ≡ p.passed → passed_in p n ≡ None → passed_in q n ≡ None
+still_none p q n same none = ap (λ (es : BTreeMap Name ℕ). lookup (is_at (name_cmp n)) es.entries) same ∙ none
+
+known_by : (p : Population) (c : Configuration) (n : Name) (o : Option ℕ) → ArePassed p c → passed_in p n ≡ o → HasPassedIn c n (or_zero o)
+known_by p c n None h is = λ a at. first_passed (chase c.futures) a
+known_by p c n (Some k) h is = λ a at.
+    let x = h n k is in
+    subst (λ (b : Activity). HasPassed (chase c.futures) b k) (some_is (sym x.1 ∙ at)) x.2
+
+taken_by : (c d : Configuration) (n : Name) (known k : ℕ) → HasPassedIn c n known → (k ≡ 0 → d ≡ c) → (passed : ℕ) → (k ≡ 0 → passed ≡ known) → (0 < k → passed ≡ 0) → HasPassedIn d n passed
+taken_by c d n known zero has same passed first later = subst (λ (e : Configuration). HasPassedIn e n passed) (sym (same refl)) (subst (HasPassedIn c n) (sym (first refl)) has)
+taken_by c d n known (suc k) has same passed first later =
+    let none : passed ≡ 0 = later (omega arith) in
+    subst (HasPassedIn d n) (sym none) (λ a at. first_passed (chase d.futures) a)
+
+-- what is known of one after so many reductions
+pub known_after : (b : Bounds) (p : Population) (c d : Configuration) (n : Name) (known k passed : ℕ) → ArePassed p c → known ≡ or_zero (passed_in p n) → LeadsTo b k c d → (k ≡ 0 → passed ≡ known) → (0 < k → passed ≡ 0) → HasPassedIn d n passed
+known_after b p c d n known k passed h told leads first later =
+    taken_by c d n known k (subst (HasPassedIn c n) (sym told) (known_by p c n (passed_in p n) h refl)) (leads_nowhere b c d k leads) passed first later

@@ -110,7 +110,7 @@ noted_more old mid new f n o names was out put is same = record {
 
 -- Who is woken
 
-apart_at : (n m : Name) → m ≢ n → is_at (name_cmp n) m ≡ false
+pub apart_at : (n m : Name) → m ≢ n → is_at (name_cmp n) m ≡ false
 apart_at n m d = tied n m d
 
 same_at : (n m : Name) → name_cmp n m ≡ Equal → n ≡ m

@@ -1,11 +1,12 @@
 -- The configuration that a population of activities stands for.
-use Rattle.std.specs.Prelude.{◌≡◌, ◌⊎◌, ◌≤◌, ◌-◌, ℕ, List, [], Option, Some, None}
+use Rattle.std.specs.Prelude.{◌≡◌, ◌≢◌, ◌⊎◌, ◌≤◌, ◌-◌, ℕ, List, [], Option, Some, None}
 use Rattle.std.specs.FinMap.{find, put}
 use Rattle.std.specs.Map.{lookup}
 use Rattle.std.specs.BTreeMap.{is_at}
 use Rattle.asp_model.specs.Names.{Name, FutureShape, name_cmp, future_cmp}
 use Rattle.asp_model.specs.Term.{Tree, locations}
 use Rattle.asp_model.specs.Parcel.{ParcelShape}
+use Rattle.asp_model.specs.Chase.{chase}
 use Rattle.asp_model.specs.Configuration as model
 use Rattle.asp_model.specs.Configuration.{Configuration, RequestShape, requests_of}
 use Rattle.asp_model.specs.Intent.{Effect, Acts}
@@ -21,6 +22,7 @@ use Rattle.actor.specs.declared.actor.Actor.{Actor}
 use Rattle.actor.specs.declared.act.Given.{Given}
 use Rattle.actor.specs.Actors.{Stands, code_of}
 use Rattle.actor.specs.Effects.{IsGiven, IsGivenOf}
+use Rattle.actor.specs.Passing.{HasPassed}
 use Rattle.replay_one.specs.declared.population.Population.{Population}
 
 -- the term that the last node of a table stands for
@@ -56,6 +58,37 @@ pub record IsReachedPopulation (p : Population) (program : Tree) (c : Configurat
 
 abbrev pub IsReachedBySome : Population → Type 0
 IsReachedBySome p = (program : Tree) × (c : Configuration) × IsReachedPopulation p program c
+
+-- Members that are passed
+
+-- how many members of a group one who waits for them has passed, where that is noted
+abbrev pub passed_in : Population → Name → Option ℕ
+passed_in p n = lookup (is_at (name_cmp n)) p.passed.entries
+
+-- who is noted is there, and has passed so many
+abbrev pub ArePassed : Population → Configuration → Type 0
+ArePassed p c = (n : Name) (k : ℕ) → passed_in p n ≡ Some k → (a : model.Activity) × IsAt c n a × HasPassed (chase c.futures) a k
+
+-- an activity has passed so many
+abbrev pub HasPassedIn : Configuration → Name → ℕ → Type 0
+HasPassedIn c n k = (a : model.Activity) → IsAt c n a → HasPassed (chase c.futures) a k
+
+abbrev pub HasPassedBySome : Population → Name → ℕ → Type 0
+HasPassedBySome p n k = (c : Configuration) × IsPopulation p c × HasPassedIn c n k
+
+-- what is noted was noted before, or is this; and nothing else changes
+pub record IsPassing (old : Population) (n : Name) (k : ℕ) (new : Population) : Type 0 where
+  pub same : new ≡ record old { passed = new.passed }
+  pub noted : (m : Name) (j : ℕ) → passed_in new m ≡ Some j → (passed_in old m ≡ Some j) ⊎ ((m ≡ n) × (j ≡ k))
+
+-- nothing is noted of one, and else what was
+pub record IsForgotten (old : Population) (n : Name) (new : Population) : Type 0 where
+  pub same : new ≡ record old { passed = new.passed }
+  pub noted : (m : Name) (j : ℕ) → passed_in new m ≡ Some j → (m ≢ n) × (passed_in old m ≡ Some j)
+
+abbrev pub or_zero : Option ℕ → ℕ
+or_zero None = 0
+or_zero (Some k) = k
 
 -- Changes of a configuration
 

@@ -20,7 +20,7 @@ use Rattle.replay_one.specs.declared.round.Round.{Round}
 use Rattle.replay_one.specs.declared.round.Round.TheVariants as round
 use Rattle.replay_one.specs.declared.round.Machine.{Machine}
 use Rattle.replay_one.specs.Bounds.{count_within, lists_within}
-use Rattle.replay_one.specs.Population.{IsPopulation}
+use Rattle.replay_one.specs.Population.{ArePassed, IsPopulation, passed_in}
 use Rattle.replay_one.specs.Schedule.{IsTaken, asks_in, noted_in, ready_in, sends_in, watches_in}
 
 -- an activity is below its count, and this is its step
@@ -70,6 +70,7 @@ pub record IsRunAt (b : Bounds) (m : Machine) (program : Tree) (c : Configuratio
   pub population : IsPopulation m.population c
   pub scheduled : IsScheduled (lists_within b) (count_within b) c (ready_in m.schedule) (noted_in m.schedule)
   pub watched : IsWatched (watches_in m.schedule) (count_within b) c (ready_in m.schedule)
+  pub passed : ArePassed m.population c
 
 abbrev pub IsRunSomewhere : Bounds → Machine → Type 0
 IsRunSomewhere b m = (program : Tree) × (c : Configuration) × IsRunAt b m program c
@@ -79,6 +80,8 @@ pub record IsRunBut (b : Bounds) (m : Machine) (n : Name) (program : Tree) (c : 
   pub before : Schedule
   pub run : IsRunAt b (record { population = m.population; schedule = before }) program c
   pub taken : IsTaken before n m.schedule
+  -- of the members that it passed nothing is noted
+  pub forgotten : passed_in m.population n ≡ None
 
 abbrev pub IsRunButSomewhere : Bounds → Machine → Name → Type 0
 IsRunButSomewhere b m n = (program : Tree) × (c : Configuration) × IsRunBut b m n program c

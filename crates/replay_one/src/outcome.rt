@@ -162,6 +162,7 @@ pub fn run_end_of(alloc: Global, population: Population) -> Result<RunEnd, Alloc
     let Population {
         activities,
         futures,
+        passed: _,
     } = population;
     let (activities, states) = ends_of(alloc, count, activities, &futures)?;
     let outcome = Outcome {

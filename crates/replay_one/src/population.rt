@@ -4,7 +4,7 @@ ghost use Rattle.std.specs.Prelude.{◌≡◌, [], IfOk, None, OnOk, Some, lengt
 ghost use Rattle.std.specs.Arc.{arc_value};
 ghost use Rattle.std.specs.FinMap.{find};
 ghost use Rattle.std.specs.BTreeMap.{Updates};
-ghost use Rattle.asp_model.specs.Names.{future_cmp, name_cmp};
+ghost use Rattle.asp_model.specs.Names.{Name, future_cmp, name_cmp};
 ghost use Rattle.asp_model.specs.Configuration as model;
 ghost use Rattle.asp_model.specs.Configuration.{Configuration, requests_of, start as start_of};
 ghost use Rattle.asp_model.specs.Intent.{Acts, Effect};
@@ -22,8 +22,12 @@ ghost use Rattle.replay_one.specs.Population.{
   AreActorsOf,
   IsGivenIn,
   IsPopulation,
+  IsForgotten,
+  IsPassing,
   IsReachedBySome,
   IsRunIn,
+  or_zero,
+  passed_in,
   term_of,
   with_activity,
   with_request,
@@ -41,11 +45,13 @@ use std::alloc::{AllocError, Global};
 use std::collections::BTreeMap;
 use std::sync::Arc;
 
-/// The activities by their names, and the filled futures.
+/// The activities by their names, and the filled futures. Of who waits for the members of a group:
+/// how many of them are known to have values.
 #[derive(Drop)]
 pub struct Population {
     pub activities: BTreeMap<ActivityName, Actor>,
     pub futures: FutureTable,
+    pub passed: BTreeMap<ActivityName, usize>,
 }
 
 /// Sets what stands at a name, whatever stood there.
@@ -65,10 +71,12 @@ impl Population {
     pub fn start(alloc: Global, code: Arc<Code>) -> Result<Population, AllocError>
         ensures population { let first = start_of (term_of (arc_value code)) in
             IfOk result (λ p. IsPopulation p first) }
+        ensures passed { (n : Name) → IfOk result (λ p. passed_in p n ≡ None) }
     {
         let mut population = Population {
             activities: BTreeMap::new(alloc),
             futures: FutureTable::new(alloc),
+            passed: BTreeMap::new(alloc),
         };
         let main = Actor::main(alloc, code)?;
         let name = ActivityName::main(alloc)?;
@@ -87,6 +95,7 @@ impl Population {
     ) -> Result<u64, AllocError>
         ensures runs { (c : Configuration) → IsPopulation self.old c →
             IfOk result (IsRunIn self.new c name.now most count) }
+        ensures passed { self.new.passed ≡ self.old.passed }
     {
         match self.activities.get_mut(name) {
             Some(actor) => {
@@ -104,6 +113,7 @@ impl Population {
             intent_in c name.now ≡ Acts e →
             let then = with_activity name.now e.own c in
             IfOk result (λ g. IsGiven e g × IsGivenIn self.new then g) }
+        ensures passed { self.new.passed ≡ self.old.passed }
     {
         match self.activities.get_mut(name) {
             Some(actor) => actor.act(alloc, name, &self.futures),
@@ -116,6 +126,7 @@ impl Population {
         ensures made { (c : Configuration) (a : model.Activity) → (p : IsPopulation self.old c) →
             requests_of c name ≡ [] → Stands actor a [] → code_of actor ≡ p.code →
             OnOk result (IsPopulation self.new (with_activity name a c)) }
+        ensures passed { self.new.passed ≡ self.old.passed }
     {
         put(&mut self.activities, name, actor)
     }
@@ -130,6 +141,7 @@ impl Population {
         requires code { AreActorsOf (arc_value request.arguments.code) self.old }
         ensures received { (c : Configuration) → IsPopulation self.old c → IsThere c to.now →
             OnOk result (IsPopulation self.new (with_request to.now (request_shape request) c)) }
+        ensures passed { self.new.passed ≡ self.old.passed }
     {
         match self.activities.get_mut(to) {
             Some(actor) => actor.receive(alloc, request),
@@ -147,6 +159,25 @@ impl Population {
             Some(actor) => actor.wanted(alloc),
             None => LabelSet::of_labels(alloc, &[]),
         }
+    }
+
+    /// One who waits for the members of a group has passed so many.
+    pub fn pass(&mut self, name: ActivityName, passed: usize) -> Result<(), AllocError>
+        ensures passing { OnOk result (IsPassing self.old name passed self.new) }
+    {
+        if passed > 0 {
+            self.passed.insert(name, passed)?;
+        }
+        Ok(())
+    }
+
+    /// How many it had passed, as far as that was noted. Nothing is noted of it then.
+    pub fn take_passed(&mut self, name: &ActivityName) -> usize
+        ensures told { result ≡ or_zero (passed_in self.old name.now) }
+        ensures none { passed_in self.new name.now ≡ None }
+        ensures forgotten { IsForgotten self.old name.now self.new }
+    {
+        self.passed.remove(name).unwrap_or(0)
     }
 
     /// How many requests an activity received.
@@ -168,6 +199,7 @@ impl Population {
         ensures filled { (c : Configuration) → (p : IsPopulation self.old c) →
             arc_value value.code ≡ p.code → OnOk result
             (IsPopulation self.new (with_value (future_shape future) (parcel_shape value) c)) }
+        ensures passed { self.new.passed ≡ self.old.passed }
     {
         self.futures.fill(future, value)
     }

@@ -11,11 +11,14 @@ ghost use Rattle.laws.specs.Reached.{IsThere};
 ghost use Rattle.schedules.specs.Schedules.{IsNextIn};
 ghost use Rattle.replay_one.specs.Bounds.{IsAscending, IsNextAt, count_within, lists_within};
 ghost use Rattle.replay_one.specs.Population.{
+  HasPassedBySome,
+  HasPassedIn,
   IsGiving,
   IsGivingSome,
   IsPopulation,
   IsReachedBySome,
   IsReachedPopulation,
+  passed_in,
   term_of,
 };
 ghost use Rattle.replay_one.specs.Schedule.{IsMoreReady, ready_in, sends_in};
@@ -53,6 +56,13 @@ pub enum Look<'a> {
     /// It is not next in the list of the activity that it sends to.
     Holds(&'a ActivityName),
     Steps,
+}
+
+/// What an activity does, and how many members of a group that it waits for have values.
+#[derive(Clone, Copy)]
+pub struct View<'a> {
+    pub look: Look<'a>,
+    pub passed: usize,
 }
 
 /// What came of a round.
@@ -109,34 +119,76 @@ fn look_at<'a>(
     population: &'a Population,
     bounds: &Bounds,
     name: &ActivityName,
-) -> Result<Look<'a>, AllocError>
+    passed: usize,
+) -> Result<View<'a>, AllocError>
     requires ascending { IsAscending bounds.now }
     requires reached { IsReachedBySome population.now }
+    requires passed { HasPassedBySome population.now name.now passed }
     ensures look { (program : Tree) (c : Configuration) →
         IsReachedPopulation population.now program c → IfOk result
-        (IsLook (lists_within bounds.now) (count_within bounds.now) c name.now) }
+        (λ v. IsLook (lists_within bounds.now) (count_within bounds.now) c name.now v.look) }
+    ensures passed { (c : Configuration) → IsPopulation population.now c →
+        IfOk result (λ v. HasPassedIn c name.now v.passed) }
 {
     let Some(actor) = population.activities.get(name) else {
-        return Ok(Look::Leaves);
+        return Ok(unseen(Look::Leaves));
     };
     if actor.count() >= bounds.count(name) {
-        return Ok(Look::Leaves);
+        return Ok(unseen(Look::Leaves));
     }
-    let outlook = actor.outlook(alloc, &population.futures)?;
-    match outlook {
-        Outlook::Steps => Ok(Look::Steps),
+    let seen = actor.outlook_from(alloc, &population.futures, passed)?;
+    let passed = seen.passed;
+    match seen.outlook {
+        Outlook::Steps => Ok(View {
+            look: Look::Steps,
+            passed,
+        }),
         Outlook::Sends(to) => {
             if may_come(population, bounds, to, name) {
-                Ok(Look::Steps)
+                Ok(View {
+                    look: Look::Steps,
+                    passed,
+                })
             } else {
-                Ok(Look::Holds(to))
+                Ok(View {
+                    look: Look::Holds(to),
+                    passed,
+                })
             }
         }
-        Outlook::Awaits(future) => Ok(Look::Awaits(future)),
-        Outlook::Faulted(_) => Ok(Look::Leaves),
-        Outlook::Serving => Ok(Look::Serves),
-        Outlook::Done => Ok(Look::Leaves),
+        Outlook::Awaits(future) => Ok(View {
+            look: Look::Awaits(future),
+            passed,
+        }),
+        Outlook::Faulted(_) => Ok(View {
+            look: Look::Leaves,
+            passed,
+        }),
+        Outlook::Serving => Ok(View {
+            look: Look::Serves,
+            passed,
+        }),
+        Outlook::Done => Ok(View {
+            look: Look::Leaves,
+            passed,
+        }),
     }
+}
+
+/// No member is known to have a value.
+fn unseen(look: Look) -> View
+    ensures look { result.look ≡ look.entry }
+    ensures passed { result.passed ≡ 0 }
+{
+    View { look, passed: 0 }
+}
+
+/// How many members one has passed after so many reductions, that had passed so many.
+fn passed_after(taken: u64, known: usize) -> usize
+    ensures first { taken ≡ 0 → result ≡ known }
+    ensures later { 0 < taken → result ≡ 0 }
+{
+    if taken == 0 { known } else { 0 }
 }
 
 /// Who is next in the list of an activity is ready, if it is held that sends there.
@@ -165,6 +217,7 @@ impl Machine {
         ensures population { let first = start_of (term_of (arc_value code)) in
             IfOk result (λ m. IsPopulation m.population first) }
         ensures ready { IfOk result (λ m. ready_in m.schedule main_name ≡ true) }
+        ensures passed { (n : Name) → IfOk result (λ m. passed_in m.population n ≡ None) }
     {
         Ok(Machine {
             population: Population::start(alloc, code)?,
@@ -189,6 +242,7 @@ impl Machine {
             IsGiving self.old.population name.now given program c e →
             let lists = lists_within bounds.now in
             OnOk result (IsHandedOn lists c name.now e self.old.schedule self.new.schedule) }
+        ensures passed { self.new.population.passed ≡ self.old.population.passed }
     {
         match given {
             Given::Nothing => Ok(()),
@@ -215,19 +269,24 @@ impl Machine {
         alloc: Global,
         bounds: &Bounds,
         name: ActivityName,
+        passed: usize,
     ) -> Result<bool, AllocError>
         requires ascending { IsAscending bounds.now }
         requires running { IsRunButSomewhere bounds.now self.old name }
+        requires passed { HasPassedBySome self.old.population name passed }
         ensures tried { (program : Tree) (c : Configuration) →
             IsRunBut bounds.now self.old name program c →
             IfOk result (λ b. IsTried bounds.now program c b self.new) }
         ensures kept { IfOk result (λ b. IsKept self.old b self.new) }
     {
-        let look = look_at(alloc, &self.population, bounds, &name)?;
-        match look {
+        let view = look_at(alloc, &self.population, bounds, &name, passed)?;
+        let passed = view.passed;
+        match view.look {
             Look::Leaves => Ok(false),
             Look::Awaits(future) => {
                 let future = future.copy(alloc)?;
+                let waiter = name.copy(alloc)?;
+                self.population.pass(waiter, passed)?;
                 self.schedule.note(alloc, future, name)?;
                 Ok(false)
             }
@@ -264,13 +323,15 @@ impl Machine {
         let Some(name) = self.schedule.take_least() else {
             return Ok(Round::Ends);
         };
+        let known = self.population.take_passed(&name);
         let count = bounds.count(&name);
         let taken = self.population.run(alloc, &name, most, count)?;
         if taken == most {
             self.schedule.wake(name)?;
             return Ok(Round::Steps(taken));
         }
-        if self.try_step(alloc, bounds, name)? {
+        let passed = passed_after(taken, known);
+        if self.try_step(alloc, bounds, name, passed)? {
             return Ok(Round::Steps(taken + 1));
         }
         if taken > 0 {

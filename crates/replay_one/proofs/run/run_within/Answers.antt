@@ -14,14 +14,14 @@ pub run-requires-clause-running : goal.run-requires-clause-running
 run-requires-clause-running c =
     let t : Tree = tree_of c.args.program.now.program.root in
     let same : term_of (arc_value c.in_ok-code.code) ≡ t = ap term_of c.in_ok-code.ensures.ok ∙ c.in_ok-compile.ensures.program in
-    (t, start t, begins_run c.args.bounds.now c.in_ok-machine.machine t (term_of (arc_value c.in_ok-code.code)) same c.in_ok-compile.ensures.bare c.in_ok-machine.ensures.population c.in_ok-machine.ensures.ready)
+    (t, start t, begins_run c.args.bounds.now c.in_ok-machine.machine t (term_of (arc_value c.in_ok-code.code)) same c.in_ok-compile.ensures.bare c.in_ok-machine.ensures.population c.in_ok-machine.ensures.ready c.in_ok-machine.ensures.passed)
 
 pub run_end_of-requires : goal.run_end_of-requires
 run_end_of-requires c =
     let t : Tree = tree_of c.args.program.now.program.root in
     let b : Bounds = c.args.bounds.now in
     let same : term_of (arc_value c.in_ok-code.code) ≡ t = ap term_of c.in_ok-code.ensures.ok ∙ c.in_ok-compile.ensures.program in
-    let begun = begins_run b c.in_ok-machine.machine t (term_of (arc_value c.in_ok-code.code)) same c.in_ok-compile.ensures.bare c.in_ok-machine.ensures.population c.in_ok-machine.ensures.ready in
+    let begun = begins_run b c.in_ok-machine.machine t (term_of (arc_value c.in_ok-code.code)) same c.in_ok-compile.ensures.bare c.in_ok-machine.ensures.population c.in_ok-machine.ensures.ready c.in_ok-machine.ensures.passed in
     record { reached = (t, steps_from c.args.total (lists_within b) (count_within b) (start t), c.in_ok-run.ensures.runs t (start t) begun) }
 
 pub returns : goal.returns
@@ -29,7 +29,7 @@ returns c =
     let t : Tree = tree_of c.args.program.now.program.root in
     let b : Bounds = c.args.bounds.now in
     let same : term_of (arc_value c.in_ok-code.code) ≡ t = ap term_of c.in_ok-code.ensures.ok ∙ c.in_ok-compile.ensures.program in
-    let begun = begins_run b c.in_ok-machine.machine t (term_of (arc_value c.in_ok-code.code)) same c.in_ok-compile.ensures.bare c.in_ok-machine.ensures.population c.in_ok-machine.ensures.ready in
+    let begun = begins_run b c.in_ok-machine.machine t (term_of (arc_value c.in_ok-code.code)) same c.in_ok-compile.ensures.bare c.in_ok-machine.ensures.population c.in_ok-machine.ensures.ready c.in_ok-machine.ensures.passed in
     let ran = c.in_ok-run.ensures.runs t (start t) begun in
     let last = steps_from c.args.total (lists_within b) (count_within b) (start t) in
     record { end = c.run_end_of.ensures.end t last ran; outcome = c.run_end_of.ensures.outcome t last ran }

@@ -39,7 +39,8 @@ returns-in-Some c =
           let d = subst (λ q. IsDoneBy q (requests_of k n) new g) t.2 done in
           let q = changed p (record p { activities = c.get_mut.follows.lender new }) k n new e.own h updates refl d.0 (c.act.ensures.code ∙ code) in
           (d.1, record { population = q.0; coded = subst (λ j. IsGivenOf j g) (code ∙ sym q.1) given })) (c.act.ensures.acts t.0 (requests_of k n) t.1) c.act.ensures.given;
+      passed = refl;
     }
 
 pub returns-in-None : goal.returns-in-None
-returns-in-None c = record { acts = λ k e h intends. nobody_acts c.args.self.now k c.args.name.now e h (sym c.in-None.ensures.value) intends }
+returns-in-None c = record { acts = λ k e h intends. nobody_acts c.args.self.now k c.args.name.now e h (sym c.in-None.ensures.value) intends; passed = refl }

@@ -9,4 +9,4 @@ pub returns : goal.returns
 returns c =
     let p : Population = c.args.self.now in
     let q : Population = record p { futures = c.fill.new.self } in
-    record { filled = λ k h code. if_ok_with c.fill.result _ _ _ (λ values coded. value_filled p q k (future_shape c.args.future) (parcel_shape c.args.value) h refl values (coded h.code code h.values)) c.fill.ensures.values c.fill.ensures.code }
+    record { filled = λ k h code. if_ok_with c.fill.result _ _ _ (λ values coded. value_filled p q k (future_shape c.args.future) (parcel_shape c.args.value) h refl values (coded h.code code h.values)) c.fill.ensures.values c.fill.ensures.code; passed = refl }

@@ -31,4 +31,5 @@ returns-in-Some c =
             below = omega (arith, fits);
             population = (changed p q k n new r.end h updates refl r.stands (c.run.ensures.code ∙ h.actors n x is)).0;
           })) (c.run.ensures.runs s.0 (requests_of k n) s.2);
+      passed = refl;
     }

@@ -19,7 +19,8 @@ returns-in-Some c =
       received = λ k h there.
           let s = found_stands p k to x h is in
           on_ok c.receive.result _ _ (λ stands. received p (record p { activities = c.get_mut.follows.lender new }) k to new (request_shape c.args.request) s.0 h updates refl s.1 stands (c.receive.ensures.code ∙ h.actors to x is)) (c.receive.ensures.stands s.0 (requests_of k to) s.2);
+      passed = refl;
     }
 
 pub returns-in-None : goal.returns-in-None
-returns-in-None c = record { received = λ k h there. nobody_there c.args.self.now k c.args.to.now h (sym c.in-None.ensures.value) there }
+returns-in-None c = record { received = λ k h there. nobody_there c.args.self.now k c.args.to.now h (sym c.in-None.ensures.value) there; passed = refl }

@@ -1,4 +1,4 @@
-use Rattle.std.proofs.Common.{◌≡◌, ◌∙◌, true, None, Ok, Err, Result, OnOk, sym, ap, subst}
+use Rattle.std.proofs.Common.{◌≡◌, ◌∙◌, true, None, Ok, Err, Result, OnOk, refl, sym, ap, subst}
 use Rattle.asp_model.specs.Names.{Name}
 use Rattle.asp_model.specs.Configuration.{Configuration}
 use Rattle.request_queue.specs.Requests.{request_shape}
@@ -25,6 +25,7 @@ returns-in-Nothing c =
     record {
       population = λ program k e h. nothing_population p n program k e (subst (λ g. IsGiving p n g program k e) c.in-Nothing.is h);
       handed_on = λ program k e h. nothing_handed p n program k e (lists_within c.args.bounds.now) c.args.self.now.schedule (subst (λ g. IsGiving p n g program k e) c.in-Nothing.is h);
+      passed = refl;
     }
 
 pub returns-in_ok-wake-in-Made : goal.returns-in_ok-wake-in-Made
@@ -41,6 +42,7 @@ returns-in_ok-wake-in-Made c =
           let b = made_given p n program k e m x g in
           on_ok c.insert.result _ _ (made_population p n program k e q m x g) (c.insert.ensures.made (with_activity n e.own k) b.0 g.here.population (made_alone p n program k e m x g) b.2 g.here.coded);
       handed_on = λ program k e h. any_way c.insert.result _ (made_handed p n program k e (lists_within c.args.bounds.now) c.args.self.now.schedule c.wake.new.self m x (subst (λ g. IsGiving p n g program k e) c.in-Made.is h) c.in_ok-wake-in-Made.ensures.more woken);
+      passed = c.insert.ensures.passed;
     }
 
 pub returns-in_ok-send-in-Sent : goal.returns-in_ok-send-in-Sent
@@ -68,6 +70,7 @@ returns-in_ok-send-in-Sent c =
           handed_by c.wake_next.result (IsMoreReady u None t) (λ m. IsNextIn lists (with_effect n e k) to m × (sends_in u m to ≡ true)) (λ m. ready_in t m ≡ true) _
           (λ more woken. sent_handed p n program k e lists s u t to r g c.in_ok-wake_server-in-Sent.ensures.more c.in_ok-wake_server-in-Sent.ensures.ready more (λ m i a. woken m (i, a)))
           c.wake_next.ensures.more (λ m x. next m x.0 x.1);
+      passed = c.in_ok-send-in-Sent.ensures.passed;
     }
 
 pub send-requires : goal.send-requires
@@ -100,4 +103,5 @@ returns-in_ok-wake_noted-in-Filled c =
           let g : IsGiving p n (given.Filled f v) program k e = subst (λ g. IsGiving p n g program k e) c.in-Filled.is h in
           on_ok c.fill.result _ _ (subst (IsPopulation q) (filled_is p n program k e f v g)) (c.fill.ensures.filled (with_activity n e.own k) g.here.population g.here.coded);
       handed_on = λ program k e h. any_way c.fill.result _ (filled_handed p n program k e (lists_within c.args.bounds.now) c.args.self.now.schedule c.wake_noted.new.self f v (subst (λ g. IsGiving p n g program k e) c.in-Filled.is h) c.in_ok-wake_noted-in-Filled.ensures.more c.in_ok-wake_noted-in-Filled.ensures.ready);
+      passed = c.fill.ensures.passed;
     }

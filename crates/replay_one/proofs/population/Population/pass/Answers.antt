@@ -1,0 +1,5 @@
+use Rattle.replay_one.proofs.PopulationLemmas.{passing}
+use Rattle.replay_one.proofs.population.Population.pass.Goals as goal
+
+pub returns-in_ok-insert : goal.returns-in_ok-insert
+returns-in_ok-insert c = record { passing = passing c.args.self.now c.insert.new.self c.args.name c.args.passed c.in_ok-insert.ensures.updates }
