@@ -78,3 +78,7 @@ number_case {C} j k same apart = by (j == k) refl
 pub some_more : (n : ℕ) → n ≢ 0 → 0 < n
 some_more zero h = absurd (h refl)
 some_more (suc n) h = omega arith
+
+pub no_items : {A : Type 0} (xs : List A) → length xs ≡ 0 → xs ≡ []
+no_items [] h = refl
+no_items (x ∷ xs) h = absurd (omega (arith, h))

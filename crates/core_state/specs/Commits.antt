@@ -14,6 +14,13 @@ use Rattle.activity_seats.specs.Seats.{AreSeats, Out, names_in, seat_at, seats_i
 use Rattle.core_journal.specs.Journal.{entries_in, room}
 use Rattle.actor.specs.declared.actor.Actor.{Actor}
 use Rattle.actor.specs.Actors.{Stands, code_of}
+use Rattle.asp_model.specs.Chase.{Values}
+use Rattle.activity_ranks.specs.Ranks.{RankShape, Goes, HasNeed}
+use Rattle.rank_laws.specs.Ranked.{rank_resting}
+use Rattle.actor.specs.Stances as stances
+use Rattle.actor.specs.Stances.{StanceShape}
+use Rattle.core_state.specs.declared.lease.Lease.{Lease}
+use Rattle.core_state.specs.Leases.{IsLease}
 use Rattle.core_state.specs.declared.state.CoreState.{CoreState}
 use Rattle.core_state.specs.Cores.{AreRanked, IsCore, IsSeated, with_entry}
 
@@ -46,6 +53,16 @@ pub record IsReturning (h : HistoryShape) (code : List Node) (x : CoreState) (s 
 
 abbrev pub IsSomeReturning : CoreState → ℕ → ℕ → ℕ → Actor → Type 0
 IsSomeReturning x k grant taken a = (h : HistoryShape) × (code : List Node) × (s : RunShape) × (n : Name) × IsReturning h code x s k n grant taken a
+
+-- somebody has a lease of this core
+abbrev pub IsSomeLease : CoreState → Lease → Type 0
+IsSomeLease x l = (h : HistoryShape) × (code : List Node) × (s : RunShape) × IsCore h code x s × IsLease h code l
+
+-- the rank of an activity that stands so
+abbrev pub rank_stance : Values → StanceShape → RankShape
+rank_stance values (stances.Needs f place) = HasNeed
+rank_stance values (stances.Goes communicates) = Goes
+rank_stance values (stances.Rests status) = rank_resting values status
 
 -- its contractions alone were committed
 abbrev pub IsRunCommitted : (h : HistoryShape) (code : List Node) (s : RunShape) (k : ℕ) (n : Name) (grant taken : ℕ) (end : Activity) → CoreState → Type 0
