@@ -5,11 +5,14 @@ use Rattle.asp_model.specs.History.{HistoryShape}
 use Rattle.asp_model.specs.Step.{name_at}
 use Rattle.lease_laws.specs.Leases.{IsLentAt}
 use Rattle.program_code.specs.declared.code.Node.{Node}
+use Rattle.activity_step.specs.declared.turn.Turn.{Turn}
+use Rattle.activity_step.specs.declared.turn.Turn.TheVariants as turn
+use Rattle.activity_step.specs.Activities.{IsUsed}
 use Rattle.activity_step.specs.Local.{LocalRun}
 use Rattle.actor.specs.Actors.{Stands, code_of}
 use Rattle.actor.specs.Running.{IsRunBy}
 use Rattle.core_state.specs.declared.lease.Lease.{Lease}
-use Rattle.core_state.specs.Leases.{IsLease}
+use Rattle.core_state.specs.Leases.{HasStopped, IsLease}
 
 -- contractions behind others
 run_then : (n m : ℕ) (a b c : Activity) → LocalRun n a b → LocalRun m b c → LocalRun (n + m) a c
@@ -20,28 +23,44 @@ run_then (suc n) m a b c first then =
     let same : suc (n + m) ≡ suc n + m = omega arith in
     subst (λ k. LocalRun k a c) same (first.0, first.1, run_then n m first.0 b c first.2 then)
 
+-- the grant is used still
+used_on : (n t m g : ℕ) (r : Turn) → IsUsed m (g - t) r → t ≤ g → n ≡ t + m → IsUsed n g r
+used_on n t m g turn.Reduces used within sum = omega (arith, used, within, sum)
+used_on n t m g (turn.Rests p) used within sum = tt
+used_on n t m g (turn.Faults f) used within sum = tt
+used_on n t m g (turn.Needs p) used within sum = tt
+used_on n t m g (turn.Creates p) used within sum = tt
+used_on n t m g turn.Sends used within sum = tt
+used_on n t m g turn.Serves used within sum = tt
+
 module _ (h : HistoryShape) (code : List Node) (x y : Lease) (l : IsLease h code x) (fresh : x.spent ≡ false) (m : ℕ) where
   pub runs_on : y.number ≡ x.number → y.burst ≡ x.burst → y.grant ≡ x.grant → y.taken ≡ min (x.taken + m) (2 ^ 64 - 1)
       → ((a : Activity) (rs : List RequestShape) → Stands x.actor a rs → IsRunBy y.actor a rs (x.grant - x.taken) m) → code_of y.actor ≡ code_of x.actor
-      → IsLease h code y
-  runs_on number burst grant taken runs coded =
+      → y.spent ≡ false → HasStopped h code y
+  runs_on number burst grant taken runs coded still =
       let done = l.done fresh in
       let r = runs done.end (requests_of l.run.configuration l.name) done.stands in
       let few : x.grant ≤ 64 = omega (arith, l.grant) in
       let sum : y.taken ≡ x.taken + m = omega (arith, taken, r.within, l.within, few) in
       record {
-        run = l.run;
-        lent = subst (λ k. IsLentAt h.program h.budget h.entries k y.burst l.run) (sym number) (subst (λ b. IsLentAt h.program h.budget h.entries x.number b l.run) (sym burst) l.lent);
-        name = l.name;
-        named = ap (name_at l.run.names) number ∙ l.named;
-        activity = l.activity;
-        there = l.there;
-        grant = grant ∙ l.grant;
-        within = omega (arith, sum, r.within, l.within, grant);
-        done = λ spent. record {
-          end = r.end;
-          run = subst (λ k. LocalRun k l.activity r.end) (sym sum) (run_then x.taken m l.activity done.end r.end done.run r.run);
-          stands = r.stands;
-          coded = coded ∙ done.coded;
+        lease = record {
+          run = l.run;
+          lent = subst (λ k. IsLentAt h.program h.budget h.entries k y.burst l.run) (sym number) (subst (λ b. IsLentAt h.program h.budget h.entries x.number b l.run) (sym burst) l.lent);
+          name = l.name;
+          named = ap (name_at l.run.names) number ∙ l.named;
+          activity = l.activity;
+          there = l.there;
+          grant = grant ∙ l.grant;
+          within = omega (arith, sum, r.within, l.within, grant);
+          done = λ spent. record {
+            end = r.end;
+            run = subst (λ k. LocalRun k l.activity r.end) (sym sum) (run_then x.taken m l.activity done.end r.end done.run r.run);
+            stands = r.stands;
+            coded = coded ∙ done.coded;
+          };
         };
+        fresh = still;
+        turn = r.turn;
+        stop = r.stop;
+        used = subst (λ g. IsUsed y.taken g r.turn) (sym grant) (used_on y.taken x.taken m x.grant r.turn r.used l.within sum);
       }

@@ -5,3 +5,4 @@ pub mod PopulateLemmas
 pub mod ReturnLemmas
 pub mod ReturnRankLemmas
 pub mod ComeBackLemmas
+pub mod BeginLemmas

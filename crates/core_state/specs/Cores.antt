@@ -7,11 +7,14 @@ use Rattle.asp_model.specs.Configuration.{requests_of}
 use Rattle.asp_model.specs.History.{EntryShape, HistoryShape}
 use Rattle.asp_model.specs.Names.{Name}
 use Rattle.asp_model.specs.Step.{name_at}
-use Rattle.asp_model.specs.Term.{locations}
+use Rattle.asp_model.specs.Term.{Tree, locations}
 use Rattle.journals.specs.Journals.{RunShape, grant_of, run_of}
 use Rattle.laws.specs.Reached.{IsAt}
 use Rattle.lease_laws.specs.Leases.{IsLentAt, bursts_in}
 use Rattle.program_code.specs.declared.code.Node.{Node}
+use Rattle.program_code.specs.Pieces.{tree}
+use Rattle.program_code.specs.Sound.{root_of}
+use Rattle.program_code.specs.Tables.{piece_at, pieces}
 use Rattle.future_table.specs.Values.{AreOfCode, values_of}
 use Rattle.request_queue.specs.declared.request.Request.{Request}
 use Rattle.request_queue.specs.Requests.{request_shape}
@@ -22,6 +25,14 @@ use Rattle.actor.specs.declared.actor.Actor.{Actor}
 use Rattle.actor.specs.Actors.{Stands, code_of}
 use Rattle.rank_laws.specs.Runs.{rank_of_number}
 use Rattle.core_state.specs.declared.state.CoreState.{CoreState}
+
+-- the program that a table of code stands for
+abbrev pub program_of : List Node → Tree
+program_of k = tree [] (piece_at (pieces k) (root_of k))
+
+-- a program and a budget, and nothing since
+abbrev pub history_begun : Tree → ℕ → HistoryShape
+history_begun program budget = record { program = program; budget = budget; entries = [] }
 
 abbrev pub with_entry : HistoryShape → EntryShape → HistoryShape
 with_entry h x = record h { entries = h.entries ++ x ∷ [] }

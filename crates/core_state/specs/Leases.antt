@@ -9,6 +9,8 @@ use Rattle.journals.specs.Journals.{RunShape, granted}
 use Rattle.laws.specs.Reached.{IsAt}
 use Rattle.lease_laws.specs.Leases.{IsLentAt}
 use Rattle.program_code.specs.declared.code.Node.{Node}
+use Rattle.activity_step.specs.declared.turn.Turn.{Turn}
+use Rattle.activity_step.specs.Activities.{IsStopAt, IsUsed}
 use Rattle.activity_step.specs.Local.{LocalRun}
 use Rattle.actor.specs.Actors.{Stands, code_of}
 use Rattle.core_state.specs.declared.lease.Lease.{Lease}
@@ -32,3 +34,11 @@ pub record IsLease (h : HistoryShape) (code : List Node) (x : Lease) : Type 0 wh
   pub grant : x.grant ≡ granted run
   pub within : x.taken ≤ x.grant
   pub done : x.spent ≡ false → HasDone code x activity (requests_of run.configuration name)
+
+-- its grant is used, or it has come to where its activity stops
+pub record HasStopped (h : HistoryShape) (code : List Node) (x : Lease) : Type 0 where
+  pub lease : IsLease h code x
+  pub fresh : x.spent ≡ false
+  pub turn : Turn
+  pub stop : IsStopAt (lease.done fresh).end turn
+  pub used : IsUsed x.taken x.grant turn

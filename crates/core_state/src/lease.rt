@@ -3,7 +3,7 @@
 ghost use Rattle.std.specs.Prelude.{◌≡◌, ◌⊎◌, Err, List, OnErr, OnOk, alloc_error, true};
 ghost use Rattle.asp_model.specs.History.{HistoryShape};
 ghost use Rattle.program_code.specs.declared.code.Node.{Node as NodeShape};
-ghost use Rattle.core_state.specs.Leases.{IsLease};
+ghost use Rattle.core_state.specs.Leases.{HasStopped, IsLease};
 
 use actor::Actor;
 use std::alloc::{AllocError, Global};
@@ -40,6 +40,8 @@ impl Lease {
     pub fn run(&mut self) -> Result<(), AllocError>
         ensures lease { (h : HistoryShape) (code : List NodeShape) → IsLease h code self.old →
             IsLease h code self.new }
+        ensures stops { (h : HistoryShape) (code : List NodeShape) → IsLease h code self.old →
+            OnOk result (HasStopped h code self.new) }
         ensures number { self.new.number ≡ self.old.number }
         ensures burst { self.new.burst ≡ self.old.burst }
         ensures spent { self.old.spent ≡ true → result ≡ Err alloc_error }

@@ -2,6 +2,7 @@
 //! that are filled, and the journal whose run it is.
 #![tactic(auto)]
 
+mod begin;
 mod come_back;
 mod lease;
 mod lend;
