@@ -4,7 +4,7 @@ use Rattle.std.proofs.lemmas.List.{append-nil}
 use Rattle.std.specs.FinMap.{find}
 use Rattle.asp_model.specs.Names.{Name, FutureShape, name_cmp}
 use Rattle.asp_model.specs.Term.{Head, Get, Put, Call, Clone, Active, If, Operate, Print, Scatter, Size, Member, WaitAll, locations_below, own_locations}
-use Rattle.asp_model.specs.Parcel.{ParcelShape}
+use Rattle.asp_model.specs.Parcel.{ParcelShape, unpack_at}
 use Rattle.asp_model.specs.Split.{Redex, Split, Splits, Stands, split}
 use Rattle.asp_model.specs.Store as stores
 use Rattle.asp_model.specs.Store.{CellShape, Store, cell, moved_cell, reached}
@@ -15,26 +15,28 @@ use Rattle.asp_model.specs.Intent as intents
 use Rattle.asp_model.specs.Intent.{Acts, Awaits, Done, Faulted, Intent, Running, Serving, StatusShape, intent}
 use Rattle.asp_model.specs.Step.{intent_in}
 use Rattle.asp_model.specs.Status.{status_of, status_of_intent}
-use Rattle.journals.specs.Deliveries.{holders_from, unpack_each}
+use Rattle.journals.specs.Deliveries.{holders_from, unpack_each, with_store}
 use Rattle.journals.specs.Owed.{need_at, need_in, need_of, needed_at}
 use Rattle.laws.specs.Closed.{AreBelow, CellsBelow, IsClosedStore, SplitBelow}
-use Rattle.laws.specs.Reached.{Edges, IsAt}
+use Rattle.laws.specs.Reached.{Edges, IsAt, Needs}
 use Rattle.laws.proofs.ClosedLaws.{in_store, splits_are_below}
 use Rattle.laws.proofs.CommuteLemmas.{intended_is}
-use Rattle.laws.proofs.DeliveryLemmas.{edge_done}
+use Rattle.laws.proofs.DeliveryLemmas.{edge_done, need_done}
 use Rattle.laws.proofs.EachLemmas.{each_first, each_second}
 use Rattle.laws.proofs.MapLemmas as Maps
 use Rattle.laws.proofs.NameLemmas.{name_same, name_total, no_some, none_true, some_is}
 use Rattle.laws.proofs.WakeLemmas.{none_rests_running}
+use Rattle.paths.specs.Agree.{Agrees}
 use Rattle.paths.specs.Places.{In_store, entered_by, name_by, read_by, told, value_by}
-use Rattle.path_laws.proofs.FirstLemmas.{Unchanged, edge_unchanged}
+use Rattle.path_laws.specs.Whole.{IsWhole}
+use Rattle.path_laws.proofs.FirstLemmas.{Unchanged, edge_unchanged, need_unchanged}
 use Rattle.path_laws.proofs.FitLemmas.{whole_fit}
 use Rattle.path_laws.proofs.FollowLemmas.{deliveries_agree, statuses_agree}
 use Rattle.path_laws.proofs.StatusLemmas.{ValuesClosed, side_closed}
 use Rattle.path_laws.proofs.WholeLemmas.{moves_keep_whole}
 use Rattle.activity_ranks.specs.Ranks.{Goes, HasNeed, RankShape, Rests}
 use Rattle.rank_laws.specs.Ranked.{rank_by, rank_in, rank_of, rank_resting, rank_unless}
-use Rattle.verdict_laws.specs.Receivers.{DeliveriesKeepRank}
+use Rattle.verdict_laws.specs.Receivers.{DeliveriesKeepRank, NeedsKeepRank}
 
 -- Operands are in the store
 
@@ -234,19 +236,39 @@ not_needy : (o : Option (FutureShape × ℕ)) (rank : RankShape) → rank_unless
 not_needy None rank h = refl
 not_needy (Some x) rank h = absurd (h refl)
 
+-- whatever store shows what the receiver's showed
+module _ (c d : Configuration) (to : Name) (whole : IsWhole c) (then_whole : IsWhole d) (agrees : Agrees d c) (a : Activity) (at : IsAt c to a) (t : Store) (is : d ≡ with_store c to a t) (x : Unchanged c.futures a.store t) (not : rank_in c to ≢ HasNeed) where
+  abbrev b : Activity
+  b = record a { store = t }
+
+  there : IsAt d to b
+  there = ap (λ z. find name_cmp to z.activities) is ∙ Maps.find_same name_cmp name_total name_same to b c.activities
+
+  before : need_of (chase c.futures) a ≡ None
+  before = not_needy (need_of (chase c.futures) a) (rank_with c.futures (status_of c to)) (λ e. not (ranked c to a at ∙ e))
+
+  after : need_of (chase c.futures) b ≡ None
+  after =
+      let closed = whole.closed.activities to a at in
+      needless c.futures whole.closed.values a.store t closed.store x (split a.term) (splits_are_below a closed) before
+
+  keeps_rank : rank_in d to ≡ rank_in c to
+  keeps_rank =
+      let futures : d.futures ≡ c.futures = ap (λ z. z.futures) is in
+      let status : status_of d to ≡ status_of c to = statuses_agree d c then_whole whole agrees to in
+      ranked d to b there
+      ∙ (λ i. rank_unless (need_of (chase (futures i)) b) (rank_with (futures i) (status i)))
+      ∙ ap (λ o. rank_unless o (rank_with c.futures (status_of c to))) (after ∙ sym before)
+      ∙ sym (ranked c to a at)
+
 pub deliveries_keep_rank : DeliveriesKeepRank
 deliveries_keep_rank c d f to whole made not =
     let x = edge_done c f to d made in
-    let a = x.receiver in
-    let t : Store = unpack_each a.store (holders_from 0 f a.store) x.value in
-    let b : Activity = record a { store = t } in
-    let at : IsAt d to b = ap (λ z. find name_cmp to z.activities) x.result ∙ Maps.find_same name_cmp name_total name_same to b c.activities in
-    let closed = whole.closed.activities to a x.at in
-    let before : need_of (chase c.futures) a ≡ None = not_needy (need_of (chase c.futures) a) (rank_with c.futures (status_of c to)) (λ e. not (ranked c to a x.at ∙ e)) in
-    let after : need_of (chase c.futures) b ≡ None = needless c.futures whole.closed.values a.store t closed.store (edge_unchanged c d f to (whole_fit c whole) x) (split a.term) (splits_are_below a closed) before in
-    let futures : d.futures ≡ c.futures = ap (λ z. z.futures) x.result in
-    let status : status_of d to ≡ status_of c to = statuses_agree d c (moves_keep_whole (Edges f to) c d whole made) whole ((deliveries_agree c d f to whole).0 made) to in
-    ranked d to b at
-    ∙ (λ i. rank_unless (need_of (chase (futures i)) b) (rank_with (futures i) (status i)))
-    ∙ ap (λ o. rank_unless o (rank_with c.futures (status_of c to))) (after ∙ sym before)
-    ∙ sym (ranked c to a x.at)
+    keeps_rank c d to whole (moves_keep_whole (Edges f to) c d whole made) ((deliveries_agree c d f to whole).0 made) x.receiver x.at
+    (unpack_each x.receiver.store (holders_from 0 f x.receiver.store) x.value) x.result (edge_unchanged c d f to (whole_fit c whole) x) not
+
+pub needs_keep_rank : NeedsKeepRank
+needs_keep_rank c d f to place whole made not =
+    let x = need_done c f to place d made in
+    keeps_rank c d to whole (moves_keep_whole (Needs f to place) c d whole made) ((deliveries_agree c d f to whole).1 place made) x.receiver x.at
+    (unpack_at x.receiver.store place x.value) x.result (need_unchanged c d f to place (whole_fit c whole) x) not

@@ -1,8 +1,8 @@
--- What a delivery along an edge makes of its receiver's rank.
-use Rattle.std.specs.Prelude.{◌≡◌, ◌≢◌}
+-- What a delivery makes of its receiver's rank.
+use Rattle.std.specs.Prelude.{◌≡◌, ◌≢◌, ℕ}
 use Rattle.asp_model.specs.Names.{Name, FutureShape}
 use Rattle.asp_model.specs.Configuration.{Configuration}
-use Rattle.laws.specs.Reached.{Edges, Makes}
+use Rattle.laws.specs.Reached.{Edges, Makes, Needs}
 use Rattle.path_laws.specs.Whole.{IsWhole}
 use Rattle.activity_ranks.specs.Ranks.{HasNeed}
 use Rattle.rank_laws.specs.Ranked.{rank_in}
@@ -11,3 +11,8 @@ use Rattle.rank_laws.specs.Ranked.{rank_in}
 abbrev pub DeliveriesKeepRank : Type 0
 DeliveriesKeepRank = (c d : Configuration) (f : FutureShape) (to : Name) → IsWhole c → Makes (Edges f to) c d
     → rank_in c to ≢ HasNeed → rank_in d to ≡ rank_in c to
+
+-- and so at a place where the value is needed
+abbrev pub NeedsKeepRank : Type 0
+NeedsKeepRank = (c d : Configuration) (f : FutureShape) (to : Name) (place : ℕ) → IsWhole c
+    → Makes (Needs f to place) c d → rank_in c to ≢ HasNeed → rank_in d to ≡ rank_in c to

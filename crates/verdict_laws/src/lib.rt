@@ -11,5 +11,5 @@ mod verdicts;
 pub use outcomes::{journals_end, verdicts_spend};
 pub use owed::{edges_are_first, edges_are_next, needs_are_first};
 pub use readings::acts_unpack_nothing;
-pub use receivers::deliveries_keep_rank;
+pub use receivers::{deliveries_keep_rank, needs_keep_rank};
 pub use verdicts::{verdicts_are_held, verdicts_are_told};
