@@ -12,10 +12,10 @@ mod seen;
 mod sights;
 mod state;
 mod texts;
-mod view;
+mod views;
 
 pub use labels::{PathLabel, Root};
 pub use lines::state_lines;
 pub use reading::{Found, read_path};
 pub use state::State;
-pub use view::state_at;
+pub use views::{state_at, view};

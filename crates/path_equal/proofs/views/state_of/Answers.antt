@@ -4,7 +4,7 @@ use Rattle.asp_model.specs.Intent.{StatusShape}
 use Rattle.coded_cells.specs.Shapes.{store_of}
 use Rattle.program_code.specs.declared.code.Node.{Node}
 use Rattle.paths.specs.Snapshots.{result_in}
-use Rattle.path_equal.proofs.view.state_of.Goals as goal
+use Rattle.path_equal.proofs.views.state_of.Goals as goal
 
 pub returns : goal.returns
 returns c = record {

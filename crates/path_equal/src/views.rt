@@ -1,14 +1,23 @@
 //! The states of activities at the end of a run.
 
-ghost use Rattle.std.specs.Prelude.{◌≡◌, slice_get};
+ghost use Rattle.std.specs.Prelude.{◌≡◌, IfNone, IfSome, slice_get, true};
 ghost use Rattle.std.specs.Arc.{arc_value};
 ghost use Rattle.asp_model.specs.Shapes.{status_shape};
 ghost use Rattle.paths.specs.Outcomes.{EndShape, WholeOutcome};
 ghost use Rattle.run_ends.specs.Ends.{IsEndOf, IsSnapshotOf};
-ghost use Rattle.path_equal.specs.Views.{IsSeen, IsSeenAs};
+ghost use Rattle.path_equal.specs.Views.{
+  AreAscending,
+  IsNamed,
+  IsNamedAt,
+  IsNowhere,
+  IsSeen,
+  IsSeenAs,
+  NamesAscend,
+  NoneNamed,
+};
 
 use crate::state::State;
-use asp_model::Status;
+use asp_model::{ActivityName, ActivityReport, Status};
 use run_ends::{EndState, RunEnd};
 
 // What is read of an activity that ended with this status.
@@ -40,4 +49,28 @@ pub fn state_at(end: &RunEnd, number: usize) -> Option<State<'_>>
     }
     let activity = &end.outcome.activities[number];
     Some(state_of(end, &end.states[number], &activity.status))
+}
+
+// The number of the activity of a name, where the names ascend.
+fn number_of(activities: &[ActivityReport], name: &ActivityName) -> Option<usize>
+    ensures found { IfSome result (IsNamedAt activities.now name.now) }
+    ensures none { NamesAscend activities.now → IfNone result (IsNowhere activities.now name.now) }
+{
+    match activities.binary_search_by(|activity| activity.name.cmp(name)) {
+        Ok(number) => Some(number),
+        Err(_) => None,
+    }
+}
+
+/// What is read of the activity of a name; none exactly where there is none, since the names of a
+/// run's activities ascend.
+pub fn view<'a>(end: &'a RunEnd, name: &ActivityName) -> Option<State<'a>>
+    // for what the end of the run stands for
+    ensures found { (o : WholeOutcome) → IsEndOf end.now o →
+        IfSome result (IsNamed o name.now) }
+    ensures none { (o : WholeOutcome) → IsEndOf end.now o → AreAscending o →
+        IfNone result (NoneNamed o name.now) }
+{
+    let number = number_of(&end.outcome.activities, name)?;
+    state_at(end, number)
 }

@@ -7,7 +7,7 @@ use Rattle.paths.specs.Outcomes.{EndShape}
 use Rattle.run_ends.specs.declared.ends.EndState.{EndState}
 use Rattle.path_equal.specs.Views.{IsSeen}
 use Rattle.path_equal.proofs.ViewLemmas.{end_at, none_reported, none_seen}
-use Rattle.path_equal.proofs.view.state_at.Goals as goal
+use Rattle.path_equal.proofs.views.state_at.Goals as goal
 
 pub returns-then-number-len : goal.returns-then-number-len
 returns-then-number-len c = record {
