@@ -74,6 +74,7 @@ fn call(
     Ok(Term::Call(receiver, label.copy(alloc)?, arguments, Mark::blank(alloc)))
 }
 
+#[tactic(auto, using(crate::proofs::GroupLemmas::loc_is))]
 fn places(alloc: Global, places: &[Place]) -> Result<Vec<Term>, AllocError>
     ensures { IfOk result (λ ts. trees (map tree_of ts.items) ≡ locs_then places.now none) }
 {
