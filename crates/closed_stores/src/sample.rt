@@ -90,22 +90,26 @@ fn empty(alloc: Global) -> Result<Node, AllocError>
 fn body(alloc: Global) -> Result<Node, AllocError>
     ensures { IfOk result IsBody }
 {
-    let first = Child::Leaf(Leaf::Kept(1));
-    let second = Child::Leaf(Leaf::Kept(0));
+    let mut children = Vec::new(alloc);
+    children.push(Child::Leaf(Leaf::Kept(1)))?;
+    children.push(Child::Leaf(Leaf::Kept(0)))?;
     Ok(Node {
         kind: Kind::Steps,
-        children: vec![in alloc; first, second]?,
+        children,
     })
 }
 
 fn inner_method(alloc: Global) -> Result<MethodCode, AllocError>
     ensures { IfOk result IsInnerMethod }
 {
+    let mut captured = Vec::new(alloc);
+    captured.push(capture(alloc, "s", 0)?)?;
+    captured.push(capture(alloc, "a", 1)?)?;
     Ok(MethodCode {
         label: label(alloc, "n")?,
         slf: word(alloc, "t")?,
         parameters: Vec::new(alloc),
-        captured: vec![in alloc; capture(alloc, "s", 0)?, capture(alloc, "a", 1)?]?,
+        captured,
         uses: vec![in alloc; 1, 0]?,
         start: 0,
         body: Child::Node(3),
