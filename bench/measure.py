@@ -1,7 +1,7 @@
 #!/usr/bin/env python3
 """Measures the built programs at two sizes each: time, peak memory, and the ratio of the times.
 
-    bench/measure.py [PART ..]     with no PART all of them: reading runs replays reports printing stores turns
+    bench/measure.py [PART ..]     with no PART all of them: reading runs replays reports printing stores edges turns
 
 Nothing here is a test: figures depend on the machine, and only their ratios within one run mean
 something. The seconds are those of the processor, so that other work on the machine matters less;
@@ -19,10 +19,12 @@ from typing import NamedTuple
 ROOT = os.path.dirname(os.path.dirname(os.path.abspath(__file__)))
 PROGRAM = os.path.join(ROOT, "crates", "asp", "out", "asp")
 TIMING = os.path.join(ROOT, "crates", "timing", "out", "timing")
+EDGE_TIMING = os.path.join(ROOT, "crates", "edge_timing", "out", "edge_timing")
 TURN_TIMING = os.path.join(ROOT, "crates", "turn_timing", "out", "turn_timing")
 BUILD = """measure: build the programs first, at the top of the repository:
     rt ci, or (cd crates/asp && rt run -- data/one.asp)
     (cd crates/timing && rt run -- pack grid 10)
+    (cd crates/edge_timing && rt run -- turns 10)
     (cd crates/turn_timing && rt run -- call 2 100 1 1)"""
 MEBIBYTE = 1 << 20
 MOST = ["--budget", "10000000"]
@@ -267,6 +269,16 @@ def show_stores(_folder):
     show_cells()
 
 
+def show_edges(_folder):
+    """Edges that are entered, filled and delivered: one future to many, many to one, and to one that goes out."""
+    small, large = 100_000, 200_000
+    for shape in ("wide", "many", "turns"):
+        words = [[shape, str(size)] for size in (small, large)]
+        show(f"edges {shape}", *words, turns=3, most=2.5, program=EDGE_TIMING)
+        first, second = (once(EDGE_TIMING, of_size) for of_size in words)
+        print(f"{shape}: {(second.peak - first.peak) * 1024 / (large - small):.0f} bytes an edge", flush=True)
+
+
 def turns_of(threads, count, inside=0, outside=0, runs=5):
     """Runs of so many turns of each thread, by kind. The kinds alternate, so that all see the same machine."""
     words = [str(word) for word in (threads, count, inside, outside)]
@@ -310,6 +322,7 @@ PARTS = {
     "reports": show_reports,
     "printing": show_printing,
     "stores": show_stores,
+    "edges": show_edges,
     "turns": show_turns,
 }
 
@@ -318,7 +331,7 @@ def main():
     wanted = sys.argv[1:] or list(PARTS)
     if not set(wanted) <= set(PARTS):
         sys.exit(f"measure: the parts are {' '.join(PARTS)}")
-    if not all(os.access(program, os.X_OK) for program in (PROGRAM, TIMING, TURN_TIMING)):
+    if not all(os.access(program, os.X_OK) for program in (PROGRAM, TIMING, EDGE_TIMING, TURN_TIMING)):
         sys.exit(BUILD)
     with tempfile.TemporaryDirectory() as path:
         for name in wanted:
