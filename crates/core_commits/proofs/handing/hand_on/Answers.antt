@@ -1,0 +1,51 @@
+use Rattle.std.proofs.Common.{◌∙◌, None, Some, ap, refl, subst}
+use Rattle.std.specs.FinMap.{find}
+use Rattle.asp_model.specs.Names.{future_cmp}
+use Rattle.asp_model.specs.Shapes.{future_shape}
+use Rattle.coded_cells.specs.Shapes.{parcel_shape}
+use Rattle.request_queue.specs.Requests.{request_shape}
+use Rattle.actor.specs.declared.act.Given.TheVariants as given
+use Rattle.core_state.specs.declared.state.CoreState.{CoreState}
+use Rattle.core_state.specs.Cores.{IsPopulated}
+use Rattle.core_state.proofs.PopulateLemmas.{member_comes}
+use Rattle.core_commits.specs.Handing.{IsToHand}
+use Rattle.core_commits.proofs.HandLemmas.{handed_is, made_is, named, new_name, nobody_made}
+use Rattle.core_commits.proofs.handing.hand_on.Goals as goal
+
+pub add-requires-clause-new : goal.add-requires-clause-new
+add-requires-clause-new c = λ k found.
+    let r = c.requires.given in
+    let x = c.args.state.now in
+    let to = subst (λ g. IsToHand r.0 r.1 x r.2 r.3 g) c.in-Made.is r.4 in
+    new_name r.0 r.1 x r.2 r.3 (given.Made c.in-Made.name c.in-Made.actor) c.in-Made.name c.in-Made.actor to to.given.1 k c.in-Made.name (named r.0 r.1 x r.2 to.populated k c.in-Made.name found) refl
+
+pub fill-requires-clause-absent : goal.fill-requires-clause-absent
+fill-requires-clause-absent c =
+    let r = c.requires.given in
+    let to = subst (λ g. IsToHand r.0 r.1 c.args.state.now r.2 r.3 g) c.in-Filled.is r.4 in
+    ap (find future_cmp (future_shape c.in-Filled.future)) to.populated.futures ∙ (to.filled (future_shape c.in-Filled.future, parcel_shape c.in-Filled.value) to.given.2).0
+
+pub fill-requires-clause-one_root : goal.fill-requires-clause-one_root
+fill-requires-clause-one_root c =
+    let r = c.requires.given in
+    let to = subst (λ g. IsToHand r.0 r.1 c.args.state.now r.2 r.3 g) c.in-Filled.is r.4 in
+    (to.filled (future_shape c.in-Filled.future, parcel_shape c.in-Filled.value) to.given.2).1
+
+pub returns-in_ok-number-in-Made-clause-populated : goal.returns-in_ok-number-in-Made-clause-populated
+returns-in_ok-number-in-Made-clause-populated c = λ h code u e r.
+    let x = c.args.state.now in
+    let n = c.in-Made.name in
+    let a = c.in-Made.actor in
+    let y : CoreState = record { alloc = x.alloc; seats = c.add.new.self; ranks = x.ranks; futures = x.futures; journal = x.journal; left = x.left; bursts = x.bursts } in
+    let to = subst (λ g. IsToHand h code x u e g) c.in-Made.is r in
+    let b = made_is e.made n a to.given.1 in
+    subst (IsPopulated h code y) (handed_is u e None (Some (n, b.0)) None to.given.0 b.1 to.given.2)
+    (member_comes h code x y u n a b.0 to.populated (new_name h code x u e (given.Made n a) n a to to.given.1) (to.made (n, b.0) b.1).1
+    c.in_ok-number-in-Made.ensures.seats c.in_ok-number-in-Made.ensures.names c.in_ok-number-in-Made.ensures.kept refl b.2 to.coded)
+
+pub returns-in_ok-hand_over-in-Sent-clause-populated : goal.returns-in_ok-hand_over-in-Sent-clause-populated
+returns-in_ok-hand_over-in-Sent-clause-populated c = λ h code u e r.
+    let to = subst (λ g. IsToHand h code c.args.state.now u e g) c.in-Sent.is r in
+    let sent = Some (c.in-Sent.to, request_shape c.in-Sent.request) in
+    subst (IsPopulated h code c.hand_over.new.state) (nobody_made u sent None ∙ handed_is u e sent None None to.given.0 to.given.1 to.given.2)
+    (c.in_ok-hand_over-in-Sent.ensures.populated h code u (record { populated = to.populated; numbered = to.numbered; coded = to.coded }))

@@ -1,0 +1,74 @@
+//! What a reduction gives to others, handed on.
+
+ghost use Rattle.std.specs.Prelude.{◌≡◌, IfOk, List, OnOk, Some};
+ghost use Rattle.std.specs.Arc.{arc_value};
+ghost use Rattle.asp_model.specs.History.{HistoryShape};
+ghost use Rattle.asp_model.specs.Intent.{Effect};
+ghost use Rattle.asp_model.specs.Step.{name_at};
+ghost use Rattle.journals.specs.Journals.{RunShape};
+ghost use Rattle.program_code.specs.declared.code.Node.{Node as NodeShape};
+ghost use Rattle.lease_laws.specs.Numbered.{AreNumbered};
+ghost use Rattle.request_queue.specs.Requests.{request_shape};
+ghost use Rattle.activity_seats.specs.Seats.{AreSeats};
+ghost use Rattle.core_state.specs.Cores.{IsPopulated};
+ghost use Rattle.core_commits.specs.Handing.{
+  IsReceiving,
+  IsSomeReceiving,
+  IsSomeToHand,
+  IsToHand,
+  handed,
+  with_received,
+};
+
+use actor::Given;
+use asp_model::ActivityName;
+use core_state::CoreState;
+use request_queue::Request;
+use std::alloc::AllocError;
+
+/// A request comes to whom it is sent: to the activity, or into its box. Its number is answered.
+fn hand_over(state: &mut CoreState, to: &ActivityName, request: Request) -> Result<u32, AllocError>
+    requires receiving { IsSomeReceiving state.old request }
+    ensures populated { (h : HistoryShape) (code : List NodeShape) (u : RunShape) →
+        IsReceiving h code state.old u request →
+        OnOk result (IsPopulated h code state.new (with_received u to.now (request_shape request))) }
+    ensures journal { state.new.journal ≡ state.old.journal }
+    ensures ranks { state.new.ranks ≡ state.old.ranks }
+{
+    let Some(number) = state.seats.number_of(to) else {
+        return Err(AllocError);
+    };
+    match state.seats.take(number) {
+        Some(mut actor) => {
+            actor.receive(state.alloc, request)?;
+            let _came = state.seats.put(number, actor);
+            Ok(number)
+        }
+        None => {
+            state.seats.post(number, request)?;
+            Ok(number)
+        }
+    }
+}
+
+/// Hands on what a reduction gives, and answers the number of whom it made or reached.
+pub fn hand_on(state: &mut CoreState, given: Given) -> Result<Option<u32>, AllocError>
+    requires given { IsSomeToHand state.old given }
+    ensures populated { (h : HistoryShape) (code : List NodeShape) (u : RunShape) (e : Effect) →
+        IsToHand h code state.old u e given → OnOk result (IsPopulated h code state.new (handed u e)) }
+    ensures journal { state.new.journal ≡ state.old.journal }
+    ensures ranks { state.new.ranks ≡ state.old.ranks }
+{
+    match given {
+        Given::Nothing => Ok(None),
+        Given::Made(name, actor) => {
+            let number = state.seats.add(name, actor)?;
+            Ok(Some(number))
+        }
+        Given::Sent(to, request) => Ok(Some(hand_over(state, &to, request)?)),
+        Given::Filled(future, value) => {
+            state.futures.fill(future, value)?;
+            Ok(None)
+        }
+    }
+}
