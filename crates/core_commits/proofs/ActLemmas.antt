@@ -1,5 +1,5 @@
 -- An activity comes in with what it intended done; what that gives may be handed on.
-use Rattle.std.proofs.Common.{◌≡◌, ◌≢◌, ◌-◌, ◌++◌, ◌∷◌, [], ℕ, suc, true, List, Option, Some, None, is_some, length, slice_get, refl, sym, ap, subst, ◌∙◌, ⊎_elim}
+use Rattle.std.proofs.Common.{◌≡◌, ◌-◌, ◌++◌, ◌∷◌, [], ℕ, List, Option, Some, None, is_some, length, sym, ap, ◌∙◌, ⊎_elim}
 use Rattle.std.specs.FinMap.{find, put}
 use Rattle.asp_model.specs.Chase.{chase}
 use Rattle.asp_model.specs.Configuration.{Activity, Configuration, RequestShape, requests_of}
@@ -7,11 +7,10 @@ use Rattle.asp_model.specs.History.{HistoryShape, Committed}
 use Rattle.asp_model.specs.Intent.{Acts, Done, Effect, Rests, intent}
 use Rattle.asp_model.specs.Names.{Name, FutureShape, name_cmp, future_cmp}
 use Rattle.asp_model.specs.Parcel.{ParcelShape}
-use Rattle.asp_model.specs.Step.{intent_in, name_at, put_some, with_effect}
-use Rattle.journals.specs.Journals.{RunShape, out_but, run_of}
+use Rattle.asp_model.specs.Step.{intent_in, put_some, with_effect}
+use Rattle.journals.specs.Journals.{RunShape, out_but}
 use Rattle.journal_laws.proofs.JournalLemmas.{journals_reach}
 use Rattle.laws.specs.Reached.{IsReached, IsThere, Steps}
-use Rattle.laws.specs.Sound.{IsSound}
 use Rattle.laws.specs.Steps.{IsNewTo}
 use Rattle.laws.proofs.ClosedLaws.{reached_are_closed}
 use Rattle.laws.proofs.FrameLemmas.{effects_are_new}

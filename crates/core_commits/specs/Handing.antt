@@ -1,19 +1,21 @@
 -- What a reduction gives to others, handed on.
-use Rattle.std.specs.Prelude.{◌≡◌, List, [], ◌++◌, Some, None, length}
+use Rattle.std.specs.Prelude.{◌≡◌, ℕ, List, [], ◌++◌, Some, None, length}
 use Rattle.std.specs.FinMap.{find}
-use Rattle.asp_model.specs.Configuration.{Activity, RequestShape, requests_of}
+use Rattle.asp_model.specs.Configuration.{Activity, Configuration, RequestShape, requests_of}
 use Rattle.asp_model.specs.History.{HistoryShape}
 use Rattle.asp_model.specs.Intent.{Effect}
 use Rattle.asp_model.specs.Names.{Name, FutureShape, name_cmp, future_cmp}
 use Rattle.asp_model.specs.Parcel.{ParcelShape}
 use Rattle.asp_model.specs.Step.{put_some, with_sent}
-use Rattle.journals.specs.Journals.{RunShape}
+use Rattle.journals.specs.Journals.{RunShape, out_but}
 use Rattle.laws.specs.Reached.{IsThere}
 use Rattle.lease_laws.specs.Numbered.{AreNumbered}
 use Rattle.core_laws.specs.Commits.{made_by}
 use Rattle.std.specs.Arc.{arc_value}
 use Rattle.request_queue.specs.declared.request.Request.{Request}
 use Rattle.program_code.specs.declared.code.Node.{Node}
+use Rattle.actor.specs.declared.actor.Actor.{Actor}
+use Rattle.core_state.specs.Commits.{IsReturning}
 use Rattle.actor.specs.declared.act.Given.{Given}
 use Rattle.actor.specs.Effects.{IsGiven, IsGivenOf}
 use Rattle.core_state.specs.declared.state.CoreState.{CoreState}
@@ -54,3 +56,11 @@ pub record IsReceiving (h : HistoryShape) (code : List Node) (x : CoreState) (u 
 
 abbrev pub IsSomeReceiving : CoreState → Request → Type 0
 IsSomeReceiving x r = (h : HistoryShape) × (code : List Node) × (u : RunShape) × IsReceiving h code x u r
+
+-- the run with one activity in again, in this configuration
+abbrev pub came_in : RunShape → ℕ → ℕ → Configuration → RunShape
+came_in s k left c = record { configuration = c; names = s.names; left = left; out = out_but k s.out }
+
+-- somebody's lease comes back
+abbrev pub IsComing : CoreState → ℕ → Actor → Type 0
+IsComing x k a = (h : HistoryShape) × (code : List Node) × (s : RunShape) × (n : Name) × (grant : ℕ) × (taken : ℕ) × IsReturning h code x s k n grant taken a
