@@ -6,7 +6,9 @@ use std::alloc::Global;
 
 fn printed(alloc: Global, text: &str) -> Result<String, SyntaxError> {
     let program = read_program(alloc, text.as_bytes())?;
-    Ok(print_program(alloc, &program)?)
+    let text = print_program(alloc, &program);
+    drop(program);
+    Ok(text?)
 }
 
 #[test]

@@ -48,11 +48,31 @@ fn is_same(alloc: Global, one: &RunEnd, other: &RunEnd) -> Result<bool, AllocErr
     Ok(render(alloc, one, depth)? == render(alloc, other, depth)?)
 }
 
+fn is_repeated(
+    rt: &impl Abort,
+    alloc: Global,
+    program: &Checked,
+    end: &RunEnd,
+) -> Result<bool, ReplayStop> {
+    let repeated = again(rt, alloc, program, end)?;
+    let same = is_same(alloc, end, &repeated);
+    drop(repeated);
+    Ok(same?)
+}
+
 fn repeats(rt: &impl Abort, alloc: Global, program: &Checked, budget: u64) -> Result<(), Fail> {
     let end = run_plain(alloc, program, budget)?;
-    let repeated = again(rt, alloc, program, &end)?;
-    assert!(rt; is_same(alloc, &end, &repeated)?, "within {budget}");
+    let same = is_repeated(rt, alloc, program, &end);
+    drop(end);
+    assert!(rt; same?, "within {budget}");
     Ok(())
+}
+
+fn all_repeat(rt: &impl Abort, alloc: Global, program: &Checked) -> Result<(), Fail> {
+    for budget in 1..31 {
+        repeats(rt, alloc, program, budget)?;
+    }
+    repeats(rt, alloc, program, 1000)
 }
 
 #[test]
@@ -76,10 +96,9 @@ fn a_run_is_the_replay_of_its_own_lists_and_counts(rt: HostRuntime) -> Result<()
     let alloc = rt.alloc();
     for text in texts {
         let program = checked(alloc, text.as_bytes())?;
-        for budget in 1..31 {
-            repeats(&rt, alloc, &program, budget)?;
-        }
-        repeats(&rt, alloc, &program, 1000)?;
+        let repeated = all_repeat(&rt, alloc, &program);
+        drop(program);
+        repeated?;
     }
     Ok(())
 }
@@ -93,18 +112,15 @@ fn lists_without_main_diverge_at_main(rt: HostRuntime) -> Result<(), Fail> {
     let counts = Counts {
         entries: Vec::new(alloc),
     };
-    match replayed(
-        &rt,
-        alloc,
-        &checked(alloc, RACE.as_bytes())?,
-        &lists,
-        &counts,
-    ) {
-        Err(ReplayStop::Diverged { activity }) => {
+    let program = checked(alloc, RACE.as_bytes())?;
+    let stop = replayed(&rt, alloc, &program, &lists, &counts).err();
+    drop(program);
+    match stop {
+        Some(ReplayStop::Diverged { activity }) => {
             assert_eq!(rt; activity.path(), [0].as_slice());
             Ok(())
         }
-        Err(ReplayStop::Memory) => Err(Fail::new("no memory")),
-        Ok(_) => Err(Fail::new("it fits")),
+        Some(ReplayStop::Memory) => Err(Fail::new("no memory")),
+        None => Err(Fail::new("it fits")),
     }
 }
