@@ -65,7 +65,7 @@ fn rank_at(alloc: Global, stance: Stance, futures: &FutureTable) -> Result<Rank,
 }
 
 /// Where an activity stands, once it has settled.
-pub(crate) fn rank_of(
+pub fn rank_of(
     alloc: Global,
     actor: &Actor,
     futures: &FutureTable,
