@@ -47,7 +47,7 @@ use Rattle.core_state.proofs.ReturnLemmas.{box, has_run, requests}
 use Rattle.core_state.proofs.ReturnRankLemmas.{own_rank, run_ranks}
 
 -- no more are in than there are
-count_few : {X R : Type 0} (seats : List (SeatShape X R)) → count_in seats ≤ length seats
+pub count_few : {X R : Type 0} (seats : List (SeatShape X R)) → count_in seats ≤ length seats
 count_few [] = omega arith
 count_few (In x ∷ seats) = omega (arith, count_few seats)
 count_few (Out came ∷ seats) = omega (arith, count_few seats)

@@ -153,7 +153,7 @@ got_before [] x k y h = no_some h
 got_before (z ∷ xs) x zero y h = h
 got_before (z ∷ xs) x (suc k) y h = got_before xs x k y h
 
-past_none : (ns : List Name) → name_at ns (length ns) ≡ None
+pub past_none : (ns : List Name) → name_at ns (length ns) ≡ None
 past_none [] = refl
 past_none (n ∷ ns) = past_none ns
 

@@ -24,7 +24,7 @@ use Rattle.rank_laws.proofs.RankLemmas.{receivers_rank, steps_keep_ranks, writes
 use Rattle.core_state.proofs.ListLemmas.{numbers_apart}
 use Rattle.core_state.proofs.PopulateLemmas.{grant_gone}
 
-shifted_rests : (o : Option (FutureShape × ParcelShape)) (d : Configuration) → shifted_by o d Rests ≡ Rests
+pub shifted_rests : (o : Option (FutureShape × ParcelShape)) (d : Configuration) → shifted_by o d Rests ≡ Rests
 shifted_rests None d = refl
 shifted_rests (Some z) d = refl
 
