@@ -1,2 +1,5 @@
 pub mod HandLemmas
 pub mod ActLemmas
+pub mod StandLemmas
+pub mod OtherLemmas
+pub mod CommitLemmas

@@ -1,1 +1,4 @@
+-- in reading order
 pub mod Handing
+pub mod Changes
+pub mod Commits

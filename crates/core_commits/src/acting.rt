@@ -29,6 +29,8 @@ pub fn bring_in(state: &mut CoreState, number: u32, mut actor: Actor) -> Result<
         IfOk result (IsToHand now code state.new then e) }
     ensures journal { state.new.journal ≡ state.old.journal }
     ensures ranks { state.new.ranks ≡ state.old.ranks }
+    ensures left { state.new.left ≡ state.old.left }
+    ensures bursts { state.new.bursts ≡ state.old.bursts }
 {
     let name = state.seats.name(number).copy(state.alloc)?;
     let given = actor.act(state.alloc, &name, &state.futures)?;

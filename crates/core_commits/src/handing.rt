@@ -11,6 +11,7 @@ ghost use Rattle.lease_laws.specs.Numbered.{AreNumbered};
 ghost use Rattle.request_queue.specs.Requests.{request_shape};
 ghost use Rattle.activity_seats.specs.Seats.{AreSeats};
 ghost use Rattle.core_state.specs.Cores.{IsPopulated};
+ghost use Rattle.core_commits.specs.Changes.{IsChange};
 ghost use Rattle.core_commits.specs.Handing.{
   IsReceiving,
   IsSomeReceiving,
@@ -20,6 +21,7 @@ ghost use Rattle.core_commits.specs.Handing.{
   with_received,
 };
 
+use crate::change::Change;
 use actor::Given;
 use asp_model::ActivityName;
 use core_state::CoreState;
@@ -32,8 +34,12 @@ fn hand_over(state: &mut CoreState, to: &ActivityName, request: Request) -> Resu
     ensures populated { (h : HistoryShape) (code : List NodeShape) (u : RunShape) →
         IsReceiving h code state.old u request →
         OnOk result (IsPopulated h code state.new (with_received u to.now (request_shape request))) }
+    ensures number { (h : HistoryShape) (code : List NodeShape) (u : RunShape) →
+        IsReceiving h code state.old u request → IfOk result (λ k. name_at u.names k ≡ Some to.now) }
     ensures journal { state.new.journal ≡ state.old.journal }
     ensures ranks { state.new.ranks ≡ state.old.ranks }
+    ensures left { state.new.left ≡ state.old.left }
+    ensures bursts { state.new.bursts ≡ state.old.bursts }
 {
     let Some(number) = state.seats.number_of(to) else {
         return Err(AllocError);
@@ -51,24 +57,32 @@ fn hand_over(state: &mut CoreState, to: &ActivityName, request: Request) -> Resu
     }
 }
 
-/// Hands on what a reduction gives, and answers the number of whom it made or reached.
-pub fn hand_on(state: &mut CoreState, given: Given) -> Result<Option<u32>, AllocError>
+/// Hands on what a reduction gives, and answers what that changed for others.
+pub fn hand_on(state: &mut CoreState, given: Given) -> Result<Change, AllocError>
     requires given { IsSomeToHand state.old given }
     ensures populated { (h : HistoryShape) (code : List NodeShape) (u : RunShape) (e : Effect) →
         IsToHand h code state.old u e given → OnOk result (IsPopulated h code state.new (handed u e)) }
+    ensures change { (h : HistoryShape) (code : List NodeShape) (u : RunShape) (e : Effect) →
+        IsToHand h code state.old u e given → IfOk result (IsChange u.names e) }
     ensures journal { state.new.journal ≡ state.old.journal }
     ensures ranks { state.new.ranks ≡ state.old.ranks }
+    ensures left { state.new.left ≡ state.old.left }
+    ensures bursts { state.new.bursts ≡ state.old.bursts }
 {
     match given {
-        Given::Nothing => Ok(None),
+        Given::Nothing => Ok(Change::Nothing),
         Given::Made(name, actor) => {
             let number = state.seats.add(name, actor)?;
-            Ok(Some(number))
+            Ok(Change::Made(number))
         }
-        Given::Sent(to, request) => Ok(Some(hand_over(state, &to, request)?)),
+        Given::Sent(to, request) => {
+            let number = hand_over(state, &to, request)?;
+            Ok(Change::Received(number))
+        }
         Given::Filled(future, value) => {
+            let name = future.copy(state.alloc)?;
             state.futures.fill(future, value)?;
-            Ok(None)
+            Ok(Change::Filled(name))
         }
     }
 }

@@ -1,8 +1,11 @@
-//! Leases that come back with one reduction more.
+//! Leases that come back, and what the communications give at which they stand.
 #![tactic(auto)]
 
 mod acting;
+mod change;
+mod coming;
+mod commits;
 mod handing;
+mod ranking;
 
-pub use acting::bring_in;
-pub use handing::hand_on;
+pub use commits::commit;

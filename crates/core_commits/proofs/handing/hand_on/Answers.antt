@@ -1,4 +1,4 @@
-use Rattle.std.proofs.Common.{◌∙◌, None, Some, ap, refl, subst}
+use Rattle.std.proofs.Common.{◌≡◌, ◌∙◌, None, Some, ap, length, refl, subst, sym}
 use Rattle.std.specs.FinMap.{find}
 use Rattle.asp_model.specs.Names.{future_cmp}
 use Rattle.asp_model.specs.Shapes.{future_shape}
@@ -43,9 +43,28 @@ returns-in_ok-number-in-Made-clause-populated c = λ h code u e r.
     (member_comes h code x y u n a b.0 to.populated (new_name h code x u e (given.Made n a) n a to to.given.1) (to.made (n, b.0) b.1).1
     c.in_ok-number-in-Made.ensures.seats c.in_ok-number-in-Made.ensures.names c.in_ok-number-in-Made.ensures.kept refl b.2 to.coded)
 
-pub returns-in_ok-hand_over-in-Sent-clause-populated : goal.returns-in_ok-hand_over-in-Sent-clause-populated
-returns-in_ok-hand_over-in-Sent-clause-populated c = λ h code u e r.
+pub returns-in_ok-number-in-Made-clause-change : goal.returns-in_ok-number-in-Made-clause-change
+returns-in_ok-number-in-Made-clause-change c = λ h code u e r.
+    let to = subst (λ g. IsToHand h code c.args.state.now u e g) c.in-Made.is r in
+    let b = made_is e.made c.in-Made.name c.in-Made.actor to.given.1 in
+    let last : c.in_ok-number-in-Made.number ≡ length u.names = c.in_ok-number-in-Made.ensures.number ∙ sym (ap length (sym to.populated.names) ∙ to.populated.kept.same) in
+    (c.in-Made.name, b.0, b.1, last, to.given.0, to.given.2)
+
+pub returns-in_ok-number-in-Sent-clause-populated : goal.returns-in_ok-number-in-Sent-clause-populated
+returns-in_ok-number-in-Sent-clause-populated c = λ h code u e r.
     let to = subst (λ g. IsToHand h code c.args.state.now u e g) c.in-Sent.is r in
     let sent = Some (c.in-Sent.to, request_shape c.in-Sent.request) in
     subst (IsPopulated h code c.hand_over.new.state) (nobody_made u sent None ∙ handed_is u e sent None None to.given.0 to.given.1 to.given.2)
-    (c.in_ok-hand_over-in-Sent.ensures.populated h code u (record { populated = to.populated; numbered = to.numbered; coded = to.coded }))
+    (c.in_ok-number-in-Sent.ensures.populated h code u (record { populated = to.populated; numbered = to.numbered; coded = to.coded }))
+
+pub returns-in_ok-number-in-Sent-clause-change : goal.returns-in_ok-number-in-Sent-clause-change
+returns-in_ok-number-in-Sent-clause-change c = λ h code u e r.
+    let to = subst (λ g. IsToHand h code c.args.state.now u e g) c.in-Sent.is r in
+    let named = c.in_ok-number-in-Sent.ensures.number h code u (record { populated = to.populated; numbered = to.numbered; coded = to.coded }) in
+    (c.in-Sent.to, request_shape c.in-Sent.request, to.given.0, named, to.given.1, to.given.2)
+
+pub returns-in_ok-fill-in-Filled-clause-change : goal.returns-in_ok-fill-in-Filled-clause-change
+returns-in_ok-fill-in-Filled-clause-change c = λ h code u e r.
+    let to = subst (λ g. IsToHand h code c.args.state.now u e g) c.in-Filled.is r in
+    let value = parcel_shape c.in-Filled.value in
+    (value, to.given.2 ∙ ap (λ f. Some (future_shape f, value)) (sym c.in_ok-name-in-Filled.ensures.name), to.given.0, to.given.1)

@@ -40,3 +40,9 @@ returns-in_ok-post-in-None-clause-populated c = λ h code u r.
     (c.post.ensures.names ∙ c.take.ensures.names) c.post.ensures.kept refl c.in-Some.ensures.known
     (subst (λ o. Receives h code u k m c.args.request o (Some more)) (sym b.1) refl)
     r.coded
+
+pub returns-in_ok-receive-in-Some-take-clause-number : goal.returns-in_ok-receive-in-Some-take-clause-number
+returns-in_ok-receive-in-Some-take-clause-number c = λ h code u r. named h code c.args.state.now u r.populated c.in-Some.number c.args.to.now c.in-Some.ensures.found
+
+pub returns-in_ok-post-in-None-clause-number : goal.returns-in_ok-post-in-None-clause-number
+returns-in_ok-post-in-None-clause-number c = λ h code u r. named h code c.args.state.now u r.populated c.in-Some.number c.args.to.now c.in-Some.ensures.found

@@ -1,0 +1,66 @@
+-- What the commit of a lease leaves.
+use Rattle.std.specs.Prelude.{◌≡◌, ◌≤◌, ◌-◌, ℕ, zero, suc, Bool, true, false, List, Option, Some, None}
+use Rattle.asp_model.specs.Chase.{Chase, chase}
+use Rattle.asp_model.specs.Configuration.{Activity, RequestShape, requests_of}
+use Rattle.asp_model.specs.History.{Committed, HistoryShape}
+use Rattle.asp_model.specs.Intent.{Acts, Effect, Intent, Rests, intent}
+use Rattle.asp_model.specs.Names.{FutureShape, Name}
+use Rattle.asp_model.specs.Step.{intent_in, with_effect}
+use Rattle.journals.specs.Communications.{is_communication}
+use Rattle.journals.specs.Journals.{RunShape}
+use Rattle.journals.specs.Owed.{need_of}
+use Rattle.core_laws.specs.Commits.{HasRun, made_by, returned, with_activity}
+use Rattle.program_code.specs.declared.code.Node.{Node}
+use Rattle.actor.specs.declared.actor.Actor.{Actor}
+use Rattle.actor.specs.Stances as stances
+use Rattle.actor.specs.Stances.{StanceShape}
+use Rattle.core_state.specs.declared.state.CoreState.{CoreState}
+use Rattle.core_state.specs.Commits.{IsReturning, IsRunCommitted}
+use Rattle.core_state.specs.Cores.{IsCore, with_entry}
+
+abbrev pub communicates : StanceShape → Bool
+communicates (stances.Goes b) = b
+communicates x = false
+
+-- by whether it is a communication
+abbrev pub act_by : Bool → Intent → Option Effect
+act_by true (Acts e) = Some e
+act_by true (Rests status) = None
+act_by false p = None
+
+-- the communication at which an activity stands, where it may be done and nothing is owed to it before
+abbrev pub act_of : (FutureShape → Chase) → List RequestShape → Name → Activity → Option Effect
+act_of chases rs n a = elim (need_of chases a) [ Some x ↦ None | None ↦ act_by (is_communication chases a) (intent chases rs n a) ]
+
+-- where so much of a grant is left
+abbrev pub act_within : ℕ → Option Effect → Option Effect
+act_within zero o = None
+act_within (suc rest) o = o
+
+-- one comes in with these reductions, of which the last had an effect
+abbrev pub IsActCommitted : (h : HistoryShape) (code : List Node) (s : RunShape) (k : ℕ) (n : Name) (grant reductions : ℕ) (end : Activity) (e : Effect) → CoreState → Type 0
+IsActCommitted h code s k n grant reductions end e new =
+    IsCore (with_entry h (Committed k reductions)) code new (returned s k (grant - reductions) (with_effect n e (with_activity n end s.configuration)) (made_by e.made))
+
+abbrev pub IsCommittedBy : (h : HistoryShape) (code : List Node) (s : RunShape) (k : ℕ) (n : Name) (grant taken : ℕ) (end : Activity) → Option Effect → CoreState → Type 0
+IsCommittedBy h code s k n grant taken end None new = IsRunCommitted h code s k n grant taken end new
+IsCommittedBy h code s k n grant taken end (Some e) new = IsActCommitted h code s k n grant (suc taken) end e new
+
+-- An activity that is out comes in with the contractions that it took, and with the communication at which it
+-- stands then, exactly where that may be done and one of the grant is left. The rest of the grant goes back.
+pub record IsCommitted (h : HistoryShape) (code : List Node) (s : RunShape) (k : ℕ) (n : Name) (grant taken : ℕ) (new : CoreState) : Type 0 where
+  pub end : Activity
+  pub has_run : HasRun s k grant n taken end
+  pub within : taken ≤ grant
+  pub committed : IsCommittedBy h code s k n grant taken end (act_within (grant - taken) (act_of (chase s.configuration.futures) (requests_of s.configuration n) n end)) new
+
+-- an activity has come back and intends an effect, for which one of its grant is left
+pub record IsActing (h : HistoryShape) (code : List Node) (x : CoreState) (s : RunShape) (k : ℕ) (n : Name) (grant reductions : ℕ) (a : Actor) (e : Effect) : Type 0 where
+  pub taken : ℕ
+  pub more : reductions ≡ suc taken
+  pub within : suc taken ≤ grant
+  pub returning : IsReturning h code x s k n grant taken a
+  pub intends : intent_in (with_activity n returning.end s.configuration) n ≡ Acts e
+
+abbrev pub IsSomeActing : CoreState → ℕ → ℕ → ℕ → Actor → Type 0
+IsSomeActing x k grant reductions a = (h : HistoryShape) × (code : List Node) × (s : RunShape) × (n : Name) × (e : Effect) × IsActing h code x s k n grant reductions a e
