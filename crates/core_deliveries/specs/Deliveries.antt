@@ -1,0 +1,36 @@
+-- What a delivery makes of a core.
+use Rattle.std.specs.Prelude.{◌≡◌, ◌≤◌, ℕ, List, [], ◌∷◌, ◌++◌, Some, None, length}
+use Rattle.asp_model.specs.Chase.{chase}
+use Rattle.asp_model.specs.Configuration.{Activity}
+use Rattle.asp_model.specs.History.{Delivered, DeliveryShape, HistoryShape, Need}
+use Rattle.asp_model.specs.Names.{Name, FutureShape}
+use Rattle.asp_model.specs.Parcel.{ParcelShape, unpack_at}
+use Rattle.asp_model.specs.Step.{name_at}
+use Rattle.asp_model.specs.Store.{Store, cell}
+use Rattle.journals.specs.Deliveries.{value_needed}
+use Rattle.journals.specs.Journals.{RunShape, grant_of}
+use Rattle.laws.specs.Reached.{IsAt}
+use Rattle.lease_laws.specs.Entries.{IsIn, with_store_of}
+use Rattle.program_code.specs.declared.code.Node.{Node}
+use Rattle.core_state.specs.declared.state.CoreState.{CoreState}
+use Rattle.core_state.specs.Cores.{IsCore, with_entry}
+
+-- the activity of a number is in, and its place holds a future that leads to the value of this one
+pub record IsNeeded (s : RunShape) (k : ℕ) (place : ℕ) (f : FutureShape) : Type 0 where
+  pub name : Name
+  pub activity : Activity
+  pub here : IsIn s k name activity
+  pub value : ParcelShape
+  pub needed : value_needed (chase s.configuration.futures) f (cell activity.store place) ≡ Some value
+
+-- the value was delivered there, and nothing else
+abbrev pub IsNeedDelivered : (h : HistoryShape) (code : List Node) (s : RunShape) (k place : ℕ) (f : FutureShape)
+    → IsNeeded s k place f → CoreState → Type 0
+IsNeedDelivered h code s k place f x new =
+    IsCore (with_entry h (Delivered (Need f x.name place))) code new
+    (with_store_of s x.name x.activity (unpack_at x.activity.store place x.value))
+
+-- some history of this core has such a need
+abbrev pub IsSomeNeed : CoreState → ℕ → ℕ → FutureShape → Type 0
+IsSomeNeed x k place f = (h : HistoryShape) × (code : List Node) × (s : RunShape)
+    × IsCore h code x s × IsNeeded s k place f
