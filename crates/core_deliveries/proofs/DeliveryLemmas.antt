@@ -1,12 +1,11 @@
 -- A core to one of whose activities a value was delivered.
-use Rattle.std.proofs.Common.{◌≡◌, ◌≢◌, ◌+◌, ◌≤◌, ◌<◌, ◌++◌, ◌∷◌, [], ℕ, zero, suc, Bool, true, false, List, Option, Some, None, length, slice_get, slice_set, refl, sym, ap, subst, ◌∙◌, arith}
-use Rattle.std.specs.FinMap.{find, put}
-use Rattle.asp_model.specs.Configuration.{Activity, Configuration, requests_of}
+use Rattle.std.proofs.Common.{◌≡◌, ◌≢◌, ◌≤◌, ◌<◌, ◌++◌, ◌∷◌, [], ℕ, zero, suc, List, Option, Some, None, length, slice_get, slice_set, refl, sym, ap, subst, ◌∙◌, arith}
+use Rattle.asp_model.specs.Configuration.{Activity, requests_of}
 use Rattle.asp_model.specs.History.{Delivered, DeliveryShape, EntryShape, HistoryShape}
 use Rattle.asp_model.specs.Names.{Name, name_cmp}
 use Rattle.asp_model.specs.Step.{name_at}
 use Rattle.asp_model.specs.Store.{Store}
-use Rattle.journals.specs.Journals.{RunShape, entered, grant_of, run_of}
+use Rattle.journals.specs.Journals.{RunShape, entered, grant_of}
 use Rattle.laws.proofs.MapLemmas as Maps
 use Rattle.laws.proofs.NameLemmas.{name_same, name_total, some_is}
 use Rattle.lease_laws.specs.Entries.{IsIn, with_store_of}
@@ -18,7 +17,7 @@ use Rattle.lease_laws.proofs.NumberLemmas.{journals_are_numbered}
 use Rattle.program_code.specs.declared.code.Node.{Node}
 use Rattle.future_table.specs.Values.{AreOfCode, values_of}
 use Rattle.request_queue.specs.declared.request.Request.{Request}
-use Rattle.activity_ranks.specs.Ranks.{IsRanked, OthersStay, RankShape, Rests}
+use Rattle.activity_ranks.specs.Ranks.{IsRanked, OthersStay, RankShape}
 use Rattle.activity_seats.specs.Seats.{AreSeats, In, Out, SeatShape, names_in, seat_at, seats_in, with_seat}
 use Rattle.core_journal.specs.Journal.{entries_in, room}
 use Rattle.actor.specs.declared.actor.Actor.{Actor}
@@ -27,8 +26,8 @@ use Rattle.rank_laws.specs.Ranked.{rank_in}
 use Rattle.rank_laws.specs.Runs.{rank_named, rank_of_number, rank_unless_out}
 use Rattle.rank_laws.proofs.RankLemmas.{writes_keep_ranks}
 use Rattle.core_state.specs.declared.state.CoreState.{CoreState}
-use Rattle.core_state.specs.Cores.{IsCore, IsHere, IsPopulated, IsSeated, count_in, with_entry}
-use Rattle.core_state.proofs.ListLemmas.{got_other, got_set, got_within, number_case}
+use Rattle.core_state.specs.Cores.{IsCore, IsHere, IsSeated, count_in, with_entry}
+use Rattle.core_state.proofs.ListLemmas.{got_other, got_set, number_case}
 
 -- no more are in than there are
 count_few : {X R : Type 0} (seats : List (SeatShape X R)) → count_in seats ≤ length seats
@@ -36,7 +35,7 @@ count_few [] = omega arith
 count_few (In x ∷ seats) = omega (arith, count_few seats)
 count_few (Out came ∷ seats) = omega (arith, count_few seats)
 
-length_set : {A : Type 0} (xs : List A) (k : ℕ) (x : A) → length (slice_set xs k x) ≡ length xs
+pub length_set : {A : Type 0} (xs : List A) (k : ℕ) (x : A) → length (slice_set xs k x) ≡ length xs
 length_set [] k x = refl
 length_set (y ∷ ys) zero x = refl
 length_set (y ∷ ys) (suc k) x = ap suc (length_set ys k x)

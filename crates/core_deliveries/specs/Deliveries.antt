@@ -1,16 +1,15 @@
 -- What a delivery makes of a core.
-use Rattle.std.specs.Prelude.{◌≡◌, ◌≤◌, ℕ, List, [], ◌∷◌, ◌++◌, Some, None, length}
+use Rattle.std.specs.Prelude.{◌≡◌, ℕ, List, Some}
 use Rattle.asp_model.specs.Chase.{chase}
 use Rattle.asp_model.specs.Configuration.{Activity}
-use Rattle.asp_model.specs.History.{Delivered, DeliveryShape, HistoryShape, Need}
+use Rattle.asp_model.specs.History.{Delivered, HistoryShape, Need}
 use Rattle.asp_model.specs.Names.{Name, FutureShape}
 use Rattle.asp_model.specs.Parcel.{ParcelShape, unpack_at}
-use Rattle.asp_model.specs.Step.{name_at}
-use Rattle.asp_model.specs.Store.{Store, cell}
+use Rattle.asp_model.specs.Store.{cell}
 use Rattle.journals.specs.Deliveries.{value_needed}
-use Rattle.journals.specs.Journals.{RunShape, grant_of}
-use Rattle.laws.specs.Reached.{IsAt}
+use Rattle.journals.specs.Journals.{RunShape}
 use Rattle.lease_laws.specs.Entries.{IsIn, with_store_of}
+use Rattle.activity_ranks.specs.Ranks.{HasNeed, RankShape}
 use Rattle.program_code.specs.declared.code.Node.{Node}
 use Rattle.core_state.specs.declared.state.CoreState.{CoreState}
 use Rattle.core_state.specs.Cores.{IsCore, with_entry}
@@ -34,3 +33,8 @@ IsNeedDelivered h code s k place f x new =
 abbrev pub IsSomeNeed : CoreState → ℕ → ℕ → FutureShape → Type 0
 IsSomeNeed x k place f = (h : HistoryShape) × (code : List Node) × (s : RunShape)
     × IsCore h code x s × IsNeeded s k place f
+
+-- after a look where a value was owed; elsewhere the rank is as before
+abbrev pub looked_at : (was told : RankShape) → RankShape
+looked_at HasNeed told = told
+looked_at was told = was
