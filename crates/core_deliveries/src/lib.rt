@@ -2,6 +2,8 @@
 #![tactic(auto)]
 
 mod need;
+mod next;
 mod standing;
 
 pub use need::deliver_need;
+pub use next::{Needed, next_need};
