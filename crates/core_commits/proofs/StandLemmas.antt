@@ -1,5 +1,5 @@
 -- Where an activity of a number stands.
-use Rattle.std.proofs.Common.{◌≡◌, ◌<◌, [], ℕ, false, List, Option, Some, None, length, slice_get, sym, ap, subst, ◌∙◌, arith}
+use Rattle.std.proofs.Common.{◌≡◌, ◌<◌, ℕ, false, List, Option, Some, None, length, slice_get, sym, ap, subst, ◌∙◌, arith}
 use Rattle.asp_model.specs.Configuration.{Activity, RequestShape, requests_of}
 use Rattle.asp_model.specs.History.{HistoryShape}
 use Rattle.asp_model.specs.Names.{Name}

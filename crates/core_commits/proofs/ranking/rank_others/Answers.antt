@@ -1,9 +1,6 @@
-use Rattle.std.proofs.Common.{◌≡◌, ◌∙◌, subst, sym}
-use Rattle.asp_model.specs.Intent.{Effect}
+use Rattle.std.proofs.Common.{◌≡◌, subst, sym}
 use Rattle.activity_ranks.specs.Ranks.{IsRanked, rank_shape}
 use Rattle.rank_laws.specs.Runs.{rank_of_number}
-use Rattle.core_state.specs.declared.state.CoreState.{CoreState}
-use Rattle.core_commits.specs.declared.change.Change.TheVariants as change
 use Rattle.core_commits.specs.Changes.{IsChange, MayWake, acted}
 use Rattle.core_commits.proofs.OtherLemmas.{made_rests, made_stands, nothing_changed, one_filled, one_made, one_received, own_received, receiver_may_wake, receiver_stands}
 use Rattle.core_commits.proofs.ranking.rank_others.Goals as goal
