@@ -31,12 +31,7 @@ fn communicates(stance: Stance) -> bool
 
 /// Whether an activity that has come back does a communication yet: it stands at one that may be
 /// done, and one of its grant is left.
-fn may_act(
-    state: &CoreState,
-    grant: u64,
-    taken: u64,
-    actor: &Actor,
-) -> Result<bool, AllocError>
+fn may_act(state: &CoreState, grant: u64, taken: u64, actor: &Actor) -> Result<bool, AllocError>
     requires closed { IsClosedFor actor.now }
     requires values { AreClosedValues (values_of state.now.futures) }
     ensures act { (a : model.Activity) (rs : List RequestShape) (n : Name) →

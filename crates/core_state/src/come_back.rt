@@ -65,11 +65,7 @@ fn rank_at(alloc: Global, stance: Stance, futures: &FutureTable) -> Result<Rank,
 }
 
 /// Where an activity stands, once it has settled.
-pub fn rank_of(
-    alloc: Global,
-    actor: &Actor,
-    futures: &FutureTable,
-) -> Result<Rank, AllocError>
+pub fn rank_of(alloc: Global, actor: &Actor, futures: &FutureTable) -> Result<Rank, AllocError>
     requires closed { IsClosedFor actor.now }
     requires values { AreClosedValues (values_of futures.now) }
     ensures rank { (a : model.Activity) (rs : List RequestShape) (n : Name) →

@@ -37,8 +37,8 @@ rank_others-requires c =
     let given = to_hand x k m q a z c.bring_in.new.state c.in_ok-given.given (c.in_ok-given.ensures.given z.0 z.1 z.2 z.3 m z.5.taken z.4 (left x k m q a z) z.5.returning z.5.intends) in
     let y = c.hand_on.new.state in
     let changed =
-        to_rank x k m q a z y c.in_ok-change.change (c.hand_on.ensures.ranks ∙ c.bring_in.ensures.ranks)
-        (c.in_ok-change.ensures.populated h z.1 (came x k m q a z) z.4 given) (c.in_ok-change.ensures.change h z.1 (came x k m q a z) z.4 given) in
+    to_rank x k m q a z y c.in_ok-change.change (c.hand_on.ensures.ranks ∙ c.bring_in.ensures.ranks)
+    (c.in_ok-change.ensures.populated h z.1 (came x k m q a z) z.4 given) (c.in_ok-change.ensures.change h z.1 (came x k m q a z) z.4 given) in
     record { changed = (h, z.1, z.2, z.3, z.5.returning.end, z.4, left x k m q a z, changed) }
 
 pub look-requires : goal.look-requires
@@ -53,8 +53,8 @@ look-requires c =
     let given = to_hand x k m q a z c.bring_in.new.state c.in_ok-given.given (c.in_ok-given.ensures.given z.0 z.1 z.2 z.3 m z.5.taken z.4 (left x k m q a z) z.5.returning z.5.intends) in
     let y = c.hand_on.new.state in
     let changed =
-        to_rank x k m q a z y c.in_ok-change.change (c.hand_on.ensures.ranks ∙ c.bring_in.ensures.ranks)
-        (c.in_ok-change.ensures.populated h z.1 (came x k m q a z) z.4 given) (c.in_ok-change.ensures.change h z.1 (came x k m q a z) z.4 given) in
+    to_rank x k m q a z y c.in_ok-change.change (c.hand_on.ensures.ranks ∙ c.bring_in.ensures.ranks)
+    (c.in_ok-change.ensures.populated h z.1 (came x k m q a z) z.4 given) (c.in_ok-change.ensures.change h z.1 (came x k m q a z) z.4 given) in
     let w = c.rank_others.new.state in
     record { standing = (h, z.1, t x k m q a z, to_look x k m q a z w (populated_too h z.1 y w (t x k m q a z) c.rank_others.ensures.seats c.rank_others.ensures.futures changed.populated)) }
 
@@ -70,8 +70,8 @@ rank-requires c =
     let given = to_hand x k m q a z c.bring_in.new.state c.in_ok-given.given (c.in_ok-given.ensures.given z.0 z.1 z.2 z.3 m z.5.taken z.4 (left x k m q a z) z.5.returning z.5.intends) in
     let y = c.hand_on.new.state in
     let changed =
-        to_rank x k m q a z y c.in_ok-change.change (c.hand_on.ensures.ranks ∙ c.bring_in.ensures.ranks)
-        (c.in_ok-change.ensures.populated h z.1 (came x k m q a z) z.4 given) (c.in_ok-change.ensures.change h z.1 (came x k m q a z) z.4 given) in
+    to_rank x k m q a z y c.in_ok-change.change (c.hand_on.ensures.ranks ∙ c.bring_in.ensures.ranks)
+    (c.in_ok-change.ensures.populated h z.1 (came x k m q a z) z.4 given) (c.in_ok-change.ensures.change h z.1 (came x k m q a z) z.4 given) in
     record { rests = (c.in_ok-rank_others.ensures.ranks h z.1 z.2 z.3 z.5.returning.end z.4 (left x k m q a z) changed).0 }
 
 pub note-requires : goal.note-requires
@@ -92,8 +92,8 @@ returns-clause-committed c = λ h code s n e r.
     let u = t x k m q a z in
     let given = to_hand x k m q a z c.bring_in.new.state c.in_ok-given.given (c.in_ok-given.ensures.given h code s n m r.taken e (left x k m q a z) r.returning r.intends) in
     let changed =
-        to_rank x k m q a z c.hand_on.new.state c.in_ok-change.change (c.hand_on.ensures.ranks ∙ c.bring_in.ensures.ranks)
-        (c.in_ok-change.ensures.populated g code (came x k m q a z) e given) (c.in_ok-change.ensures.change g code (came x k m q a z) e given) in
+    to_rank x k m q a z c.hand_on.new.state c.in_ok-change.change (c.hand_on.ensures.ranks ∙ c.bring_in.ensures.ranks)
+    (c.in_ok-change.ensures.populated g code (came x k m q a z) e given) (c.in_ok-change.ensures.change g code (came x k m q a z) e given) in
     let others = c.in_ok-rank_others.ensures.ranks g code s n r.returning.end e (left x k m q a z) changed in
     let w = c.rank_others.new.state in
     let there : IsPopulated g code w u = populated_too g code c.hand_on.new.state w u c.rank_others.ensures.seats c.rank_others.ensures.futures changed.populated in
@@ -103,8 +103,8 @@ returns-clause-committed c = λ h code s n e r.
     let same_left : w.left ≡ x.left = c.rank_others.ensures.left ∙ c.hand_on.ensures.left ∙ c.bring_in.ensures.left in
     acts_back x k m q a z y (populated_too g code w y u refl refl there)
     (λ j. number_case j k
-        (λ same. subst (λ i. IsRanked c.rank.new.self i (rank_of_number u i)) (sym same) (subst (IsRanked c.rank.new.self k) told c.in_ok-rank-2.ensures.here))
-        (λ apart. c.in_ok-rank-2.ensures.others j (rank_of_number u j) apart (others.1 j apart)))
+    (λ same. subst (λ i. IsRanked c.rank.new.self i (rank_of_number u i)) (sym same) (subst (IsRanked c.rank.new.self k) told c.in_ok-rank-2.ensures.here))
+    (λ apart. c.in_ok-rank-2.ensures.others j (rank_of_number u j) apart (others.1 j apart)))
     (c.note.ensures.entries ∙ ap (λ j. entries_in j ++ Committed k q ∷ []) journal)
     (subst (λ j. room j ≤ room c.note.new.self + 1) journal c.note.ensures.room)
     (λ small. omega (arith, small, same_left, c.saturating_add-state.ensures, c.saturating_sub.ensures))
