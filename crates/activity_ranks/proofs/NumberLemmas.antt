@@ -9,7 +9,7 @@ use Rattle.std.specs.Ordering.{is_eq, nat_cmp, ordering_reverse}
 use Rattle.std.specs.declared.cmp.Ordering.{Ordering}
 use Rattle.std.specs.declared.cmp.Ordering.TheVariants.{Less, Equal, Greater}
 use Rattle.asp_model.specs.Order.{equal_order}
-use Rattle.activity_ranks.specs.Numbers.{Gains, Turns, has_number}
+use Rattle.activity_ranks.specs.Numbers.{Gains, Switches, has_number}
 
 is_eq_round : (r : Ordering) → is_eq (ordering_reverse r) ≡ is_eq r
 is_eq_round Less = refl
@@ -33,11 +33,11 @@ pub numbers_apart : (k n : ℕ) → k ≢ n → is_at (nat_cmp k) n ≡ false
 numbers_apart k n d = elim (number_case k n) [ inl e ↦ absurd (d (sym e)) | inr e ↦ e ]
 
 -- the one of a number is in a set that it was added to, or that it was taken out of, and the others stay
-pub turned_here : (b : Bool) (n : ℕ) (old new : List ℕ) → Turns b n old new → has_number n new ≡ b
-turned_here b n old new h = h n ∙ ap (λ e. cond e b (has_number n old)) (number_itself n)
+pub switched_here : (b : Bool) (n : ℕ) (old new : List ℕ) → Switches b n old new → has_number n new ≡ b
+switched_here b n old new h = h n ∙ ap (λ e. cond e b (has_number n old)) (number_itself n)
 
-pub turned_elsewhere : (b : Bool) (n k : ℕ) (old new : List ℕ) → Turns b n old new → k ≢ n → has_number k new ≡ has_number k old
-turned_elsewhere b n k old new h d = elim (number_case n k) [
+pub switched_elsewhere : (b : Bool) (n k : ℕ) (old new : List ℕ) → Switches b n old new → k ≢ n → has_number k new ≡ has_number k old
+switched_elsewhere b n k old new h d = elim (number_case n k) [
   | inl e ↦ absurd (d e)
   | inr e ↦ h k ∙ ap (λ e. cond e b (has_number k old)) e
 ]

@@ -13,11 +13,11 @@ IsFirst ns None = (k : ℕ) → has_number k ns ≡ false
 IsFirst ns (Some n) = (has_number n ns ≡ true) × ((k : ℕ) → has_number k ns ≡ true → n ≤ k)
 
 -- this number is there, or not, and the others stay
-abbrev pub Turns : Bool → ℕ → (old new : List ℕ) → Type 0
-Turns b n old new = (k : ℕ) → has_number k new ≡ cond (is_at (nat_cmp n) k) b (has_number k old)
+abbrev pub Switches : Bool → ℕ → (old new : List ℕ) → Type 0
+Switches b n old new = (k : ℕ) → has_number k new ≡ cond (is_at (nat_cmp n) k) b (has_number k old)
 
 abbrev pub Gains : ℕ → (old new : List ℕ) → Type 0
-Gains = Turns true
+Gains = Switches true
 
 abbrev pub Loses : ℕ → (old new : List ℕ) → Type 0
-Loses = Turns false
+Loses = Switches false

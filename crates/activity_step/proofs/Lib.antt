@@ -1,4 +1,4 @@
-pub mod TurnLemmas
+pub mod AdvanceLemmas
 pub mod TermLemmas
 pub mod ObjectLemmas
 pub mod CallLemmas

@@ -20,10 +20,10 @@ use Rattle.asp_model.specs.Configuration as model
 use Rattle.asp_model.specs.Configuration.{ServiceShape}
 use Rattle.activity_step.specs.declared.activity.Activity.{Activity}
 use Rattle.activity_step.specs.declared.state.State.{State}
-use Rattle.activity_step.specs.declared.turn.Turn.{Turn}
-use Rattle.activity_step.specs.declared.turn.Turn.TheVariants as turn
+use Rattle.activity_step.specs.declared.advance.Advance.{Advance}
+use Rattle.activity_step.specs.declared.advance.Advance.TheVariants as advance
 use Rattle.activity_step.specs.Local.{IsLocalStep, LocalRun}
-use Rattle.activity_step.specs.Turns.{Stands, Reduced, Told, IsTurn}
+use Rattle.activity_step.specs.Advances.{Stands, Reduced, Told, IsAdvance}
 use Rattle.activity_step.specs.Activities.{StandsFor, IsToldAt, IsStepped, IsStopped, IsAfter, IsUsed, IsRun, reduces, with_new_cell}
 
 -- one contraction more
@@ -38,13 +38,13 @@ stepped x y n a h e r = record {
   stands = record { state = r.after; present = h.present; active = h.active; count = e ∙ ap suc h.count };
 }
 
-told_at : (x : Activity) (y : State) (a : model.Activity) (r : Turn) → StandsFor x a → Told (arc_value x.code) y a.term (reverse a.services) a.store a.lines r → IsToldAt a r
+told_at : (x : Activity) (y : State) (a : model.Activity) (r : Advance) → StandsFor x a → Told (arc_value x.code) y a.term (reverse a.services) a.store a.lines r → IsToldAt a r
 told_at x y a r h t = record { contexts = t.contexts; redex = t.redex; splits = t.splits; is = t.is }
 
 kept : (x : Activity) (y : State) (a : model.Activity) → StandsFor x a → Stands (arc_value x.code) y a.term (reverse a.services) a.store a.lines → StandsFor (record x { state = y }) a
 kept x y a h s = record { state = s; present = h.present; active = h.active; count = h.count }
 
-could_step : (a : model.Activity) → IsToldAt a turn.Reduces → (b : model.Activity) × IsLocalStep a b
+could_step : (a : model.Activity) → IsToldAt a advance.Reduces → (b : model.Activity) × IsLocalStep a b
 could_step a t =
     let u = t.is.0 in
     let s = t.is.1 in
@@ -53,94 +53,94 @@ could_step a t =
       record { contexts = t.contexts; redex = t.redex; becomes = u; store = s; added = added; splits = t.splits; is = t.is.3; after = refl },
     )
 
--- what a turn tells of an activity, where it took no contraction
-pub stops : (x : Activity) (y : State) (a : model.Activity) (go : Bool) (r : Turn) → StandsFor x a → IsTurn (arc_value x.code) y a.term (reverse a.services) a.store a.lines go r → (go ≡ true → reduces r ≡ true → ⊥) → IsStopped (record x { state = y }) a r
-stops x y a true turn.Reduces h t n = absurd (n refl refl)
-stops x y a false turn.Reduces h t n = record { stands = kept x y a h t.kept; stop = could_step a (told_at x y a turn.Reduces h t) }
-stops x y a go (turn.Rests p) h t n = record { stands = kept x y a h t.kept; stop = t.splits }
-stops x y a go (turn.Faults f) h t n = record { stands = kept x y a h t.kept; stop = told_at x y a (turn.Faults f) h t }
-stops x y a go (turn.Needs p) h t n = record { stands = kept x y a h t.kept; stop = told_at x y a (turn.Needs p) h t }
-stops x y a go (turn.Creates p) h t n = record { stands = kept x y a h t.kept; stop = told_at x y a (turn.Creates p) h t }
-stops x y a go turn.Sends h t n = record { stands = kept x y a h t.kept; stop = told_at x y a turn.Sends h t }
-stops x y a go turn.Serves h t n = record { stands = kept x y a h t.kept; stop = told_at x y a turn.Serves h t }
+-- what a advance tells of an activity, where it took no contraction
+pub stops : (x : Activity) (y : State) (a : model.Activity) (go : Bool) (r : Advance) → StandsFor x a → IsAdvance (arc_value x.code) y a.term (reverse a.services) a.store a.lines go r → (go ≡ true → reduces r ≡ true → ⊥) → IsStopped (record x { state = y }) a r
+stops x y a true advance.Reduces h t n = absurd (n refl refl)
+stops x y a false advance.Reduces h t n = record { stands = kept x y a h t.kept; stop = could_step a (told_at x y a advance.Reduces h t) }
+stops x y a go (advance.Rests p) h t n = record { stands = kept x y a h t.kept; stop = t.splits }
+stops x y a go (advance.Faults f) h t n = record { stands = kept x y a h t.kept; stop = told_at x y a (advance.Faults f) h t }
+stops x y a go (advance.Needs p) h t n = record { stands = kept x y a h t.kept; stop = told_at x y a (advance.Needs p) h t }
+stops x y a go (advance.Creates p) h t n = record { stands = kept x y a h t.kept; stop = told_at x y a (advance.Creates p) h t }
+stops x y a go advance.Sends h t n = record { stands = kept x y a h t.kept; stop = told_at x y a advance.Sends h t }
+stops x y a go advance.Serves h t n = record { stands = kept x y a h t.kept; stop = told_at x y a advance.Serves h t }
 
-pub after_stop : (x : Activity) (a : model.Activity) (go : Bool) (r : Turn) → (go ≡ true → reduces r ≡ true → ⊥) → IsStopped x a r → IsAfter x a go r
-after_stop x a true turn.Reduces n s = absurd (n refl refl)
-after_stop x a false turn.Reduces n s = s
-after_stop x a true (turn.Rests p) n s = s
-after_stop x a true (turn.Faults f) n s = s
-after_stop x a true (turn.Needs p) n s = s
-after_stop x a true (turn.Creates p) n s = s
-after_stop x a true turn.Sends n s = s
-after_stop x a true turn.Serves n s = s
-after_stop x a false (turn.Rests p) n s = s
-after_stop x a false (turn.Faults f) n s = s
-after_stop x a false (turn.Needs p) n s = s
-after_stop x a false (turn.Creates p) n s = s
-after_stop x a false turn.Sends n s = s
-after_stop x a false turn.Serves n s = s
+pub after_stop : (x : Activity) (a : model.Activity) (go : Bool) (r : Advance) → (go ≡ true → reduces r ≡ true → ⊥) → IsStopped x a r → IsAfter x a go r
+after_stop x a true advance.Reduces n s = absurd (n refl refl)
+after_stop x a false advance.Reduces n s = s
+after_stop x a true (advance.Rests p) n s = s
+after_stop x a true (advance.Faults f) n s = s
+after_stop x a true (advance.Needs p) n s = s
+after_stop x a true (advance.Creates p) n s = s
+after_stop x a true advance.Sends n s = s
+after_stop x a true advance.Serves n s = s
+after_stop x a false (advance.Rests p) n s = s
+after_stop x a false (advance.Faults f) n s = s
+after_stop x a false (advance.Needs p) n s = s
+after_stop x a false (advance.Creates p) n s = s
+after_stop x a false advance.Sends n s = s
+after_stop x a false advance.Serves n s = s
 
-pub after_step : (x : Activity) (a : model.Activity) (go : Bool) (r : Turn) → go ≡ true → reduces r ≡ true → IsStepped x a → IsAfter x a go r
-after_step x a true turn.Reduces g e s = s
-after_step x a true (turn.Rests p) g e s = absurd (false≢true e)
-after_step x a true (turn.Faults f) g e s = absurd (false≢true e)
-after_step x a true (turn.Needs p) g e s = absurd (false≢true e)
-after_step x a true (turn.Creates p) g e s = absurd (false≢true e)
-after_step x a true turn.Sends g e s = absurd (false≢true e)
-after_step x a true turn.Serves g e s = absurd (false≢true e)
+pub after_step : (x : Activity) (a : model.Activity) (go : Bool) (r : Advance) → go ≡ true → reduces r ≡ true → IsStepped x a → IsAfter x a go r
+after_step x a true advance.Reduces g e s = s
+after_step x a true (advance.Rests p) g e s = absurd (false≢true e)
+after_step x a true (advance.Faults f) g e s = absurd (false≢true e)
+after_step x a true (advance.Needs p) g e s = absurd (false≢true e)
+after_step x a true (advance.Creates p) g e s = absurd (false≢true e)
+after_step x a true advance.Sends g e s = absurd (false≢true e)
+after_step x a true advance.Serves g e s = absurd (false≢true e)
 after_step x a false r g e s = absurd (false≢true g)
 
--- the turn that took a contraction
-pub reduced_turn : (k : List Rattle.program_code.specs.declared.code.Node.Node) (y : State) (a : model.Activity) (go : Bool) (r : Turn) → IsTurn k y a.term (reverse a.services) a.store a.lines go r → go ≡ true → reduces r ≡ true → Reduced k y a.term (reverse a.services) a.store a.lines
-reduced_turn k y a true turn.Reduces t g e = t
-reduced_turn k y a true (turn.Rests p) t g e = absurd (false≢true e)
-reduced_turn k y a true (turn.Faults f) t g e = absurd (false≢true e)
-reduced_turn k y a true (turn.Needs p) t g e = absurd (false≢true e)
-reduced_turn k y a true (turn.Creates p) t g e = absurd (false≢true e)
-reduced_turn k y a true turn.Sends t g e = absurd (false≢true e)
-reduced_turn k y a true turn.Serves t g e = absurd (false≢true e)
-reduced_turn k y a false r t g e = absurd (false≢true g)
+-- the advance that took a contraction
+pub reduced_advance : (k : List Rattle.program_code.specs.declared.code.Node.Node) (y : State) (a : model.Activity) (go : Bool) (r : Advance) → IsAdvance k y a.term (reverse a.services) a.store a.lines go r → go ≡ true → reduces r ≡ true → Reduced k y a.term (reverse a.services) a.store a.lines
+reduced_advance k y a true advance.Reduces t g e = t
+reduced_advance k y a true (advance.Rests p) t g e = absurd (false≢true e)
+reduced_advance k y a true (advance.Faults f) t g e = absurd (false≢true e)
+reduced_advance k y a true (advance.Needs p) t g e = absurd (false≢true e)
+reduced_advance k y a true (advance.Creates p) t g e = absurd (false≢true e)
+reduced_advance k y a true advance.Sends t g e = absurd (false≢true e)
+reduced_advance k y a true advance.Serves t g e = absurd (false≢true e)
+reduced_advance k y a false r t g e = absurd (false≢true g)
 
 -- what a step tells
-pub step_taken : (x : Activity) (a : model.Activity) (r : Turn) → IsAfter x a true r → reduces r ≡ true → IsStepped x a
-step_taken x a turn.Reduces h e = h
-step_taken x a (turn.Rests p) h e = absurd (false≢true e)
-step_taken x a (turn.Faults f) h e = absurd (false≢true e)
-step_taken x a (turn.Needs p) h e = absurd (false≢true e)
-step_taken x a (turn.Creates p) h e = absurd (false≢true e)
-step_taken x a turn.Sends h e = absurd (false≢true e)
-step_taken x a turn.Serves h e = absurd (false≢true e)
+pub step_taken : (x : Activity) (a : model.Activity) (r : Advance) → IsAfter x a true r → reduces r ≡ true → IsStepped x a
+step_taken x a advance.Reduces h e = h
+step_taken x a (advance.Rests p) h e = absurd (false≢true e)
+step_taken x a (advance.Faults f) h e = absurd (false≢true e)
+step_taken x a (advance.Needs p) h e = absurd (false≢true e)
+step_taken x a (advance.Creates p) h e = absurd (false≢true e)
+step_taken x a advance.Sends h e = absurd (false≢true e)
+step_taken x a advance.Serves h e = absurd (false≢true e)
 
 -- a run that stops before all contractions were taken
-pub stopped_run : (x : Activity) (a b : model.Activity) (n most : ℕ) (r : Turn) → LocalRun n a b → n ≤ most → IsAfter x b true r → reduces r ≡ false → IsRun x a most r
-stopped_run x a b n most turn.Reduces run le h e = absurd (false≢true (sym e))
-stopped_run x a b n most (turn.Rests p) run le h e = record { count = n; end = b; run = run; within = le; stands = h.stands; stop = h.stop; used = tt }
-stopped_run x a b n most (turn.Faults f) run le h e = record { count = n; end = b; run = run; within = le; stands = h.stands; stop = h.stop; used = tt }
-stopped_run x a b n most (turn.Needs p) run le h e = record { count = n; end = b; run = run; within = le; stands = h.stands; stop = h.stop; used = tt }
-stopped_run x a b n most (turn.Creates p) run le h e = record { count = n; end = b; run = run; within = le; stands = h.stands; stop = h.stop; used = tt }
-stopped_run x a b n most turn.Sends run le h e = record { count = n; end = b; run = run; within = le; stands = h.stands; stop = h.stop; used = tt }
-stopped_run x a b n most turn.Serves run le h e = record { count = n; end = b; run = run; within = le; stands = h.stands; stop = h.stop; used = tt }
+pub stopped_run : (x : Activity) (a b : model.Activity) (n most : ℕ) (r : Advance) → LocalRun n a b → n ≤ most → IsAfter x b true r → reduces r ≡ false → IsRun x a most r
+stopped_run x a b n most advance.Reduces run le h e = absurd (false≢true (sym e))
+stopped_run x a b n most (advance.Rests p) run le h e = record { count = n; end = b; run = run; within = le; stands = h.stands; stop = h.stop; used = tt }
+stopped_run x a b n most (advance.Faults f) run le h e = record { count = n; end = b; run = run; within = le; stands = h.stands; stop = h.stop; used = tt }
+stopped_run x a b n most (advance.Needs p) run le h e = record { count = n; end = b; run = run; within = le; stands = h.stands; stop = h.stop; used = tt }
+stopped_run x a b n most (advance.Creates p) run le h e = record { count = n; end = b; run = run; within = le; stands = h.stands; stop = h.stop; used = tt }
+stopped_run x a b n most advance.Sends run le h e = record { count = n; end = b; run = run; within = le; stands = h.stands; stop = h.stop; used = tt }
+stopped_run x a b n most advance.Serves run le h e = record { count = n; end = b; run = run; within = le; stands = h.stands; stop = h.stop; used = tt }
 
-all_used : (n : ℕ) (r : Turn) → IsUsed n n r
-all_used n turn.Reduces = refl
-all_used n (turn.Rests p) = tt
-all_used n (turn.Faults f) = tt
-all_used n (turn.Needs p) = tt
-all_used n (turn.Creates p) = tt
-all_used n turn.Sends = tt
-all_used n turn.Serves = tt
+all_used : (n : ℕ) (r : Advance) → IsUsed n n r
+all_used n advance.Reduces = refl
+all_used n (advance.Rests p) = tt
+all_used n (advance.Faults f) = tt
+all_used n (advance.Needs p) = tt
+all_used n (advance.Creates p) = tt
+all_used n advance.Sends = tt
+all_used n advance.Serves = tt
 
-stop_of : (x : Activity) (b : model.Activity) (r : Turn) → IsAfter x b false r → IsStopped x b r
-stop_of x b turn.Reduces h = h
-stop_of x b (turn.Rests p) h = h
-stop_of x b (turn.Faults f) h = h
-stop_of x b (turn.Needs p) h = h
-stop_of x b (turn.Creates p) h = h
-stop_of x b turn.Sends h = h
-stop_of x b turn.Serves h = h
+stop_of : (x : Activity) (b : model.Activity) (r : Advance) → IsAfter x b false r → IsStopped x b r
+stop_of x b advance.Reduces h = h
+stop_of x b (advance.Rests p) h = h
+stop_of x b (advance.Faults f) h = h
+stop_of x b (advance.Needs p) h = h
+stop_of x b (advance.Creates p) h = h
+stop_of x b advance.Sends h = h
+stop_of x b advance.Serves h = h
 
 -- a run whose contractions were all taken
-pub full_run : (x : Activity) (a b : model.Activity) (most : ℕ) (r : Turn) → LocalRun most a b → IsAfter x b false r → IsRun x a most r
+pub full_run : (x : Activity) (a b : model.Activity) (most : ℕ) (r : Advance) → LocalRun most a b → IsAfter x b false r → IsRun x a most r
 full_run x a b most r run h =
     let s : IsStopped x b r = stop_of x b r h in
     record { count = most; end = b; run = run; within = omega arith; stands = s.stands; stop = s.stop; used = all_used most r }

@@ -23,7 +23,7 @@ use Rattle.machine_frames.proofs.ServiceLemmas.{Resumed, resumes, suspends}
 use Rattle.activity_step.specs.declared.activity.Activity.{Activity}
 use Rattle.activity_step.specs.Activities.{StandsFor}
 use Rattle.activity_step.specs.Standings.{going_on, serving}
-use Rattle.activity_step.specs.Turns.{Stands}
+use Rattle.activity_step.specs.Advances.{Stands}
 use Rattle.activity_step.proofs.NewestLemmas.{but_newest_is, newest_is}
 
 -- the term in its contexts waits, and the call stands alone

@@ -10,10 +10,10 @@ use Rattle.asp_model.specs.Split.{Context, Redex, Splits, plug}
 use Rattle.asp_model.specs.Contraction.{contract}
 use Rattle.asp_model.specs.Configuration as model
 use Rattle.activity_step.specs.declared.activity.Activity.{Activity}
-use Rattle.activity_step.specs.declared.turn.Turn.{Turn}
-use Rattle.activity_step.specs.declared.turn.Turn.TheVariants as turn
+use Rattle.activity_step.specs.declared.advance.Advance.{Advance}
+use Rattle.activity_step.specs.declared.advance.Advance.TheVariants as advance
 use Rattle.activity_step.specs.Local.{IsLocalStep, LocalRun}
-use Rattle.activity_step.specs.Turns.{Stands, IsTold}
+use Rattle.activity_step.specs.Advances.{Stands, IsTold}
 
 -- apart from what it sent, created and served
 pub record StandsFor (x : Activity) (a : model.Activity) : Type 0 where
@@ -23,16 +23,16 @@ pub record StandsFor (x : Activity) (a : model.Activity) : Type 0 where
   pub count : x.count ≡ a.reductions
 
 -- what the redex of an activity comes to is told so
-pub record IsToldAt (a : model.Activity) (r : Turn) : Type 0 where
+pub record IsToldAt (a : model.Activity) (r : Advance) : Type 0 where
   pub contexts : List Context
   pub redex : Redex
   pub splits : split.split a.term ≡ Splits contexts redex
   pub is : IsTold r (contract a.store redex)
 
 -- where it stops: a contraction that may not be taken is one that could be
-abbrev pub IsStopAt : model.Activity → Turn → Type 0
-IsStopAt a turn.Reduces = (b : model.Activity) × IsLocalStep a b
-IsStopAt a (turn.Rests p) = split.split a.term ≡ split.Stands p
+abbrev pub IsStopAt : model.Activity → Advance → Type 0
+IsStopAt a advance.Reduces = (b : model.Activity) × IsLocalStep a b
+IsStopAt a (advance.Rests p) = split.split a.term ≡ split.Stands p
 IsStopAt a r = IsToldAt a r
 
 -- one contraction was taken
@@ -42,21 +42,21 @@ pub record IsStepped (x : Activity) (a : model.Activity) : Type 0 where
   pub stands : StandsFor x next
 
 -- it stands as before, and where it stops is told
-pub record IsStopped (x : Activity) (a : model.Activity) (r : Turn) : Type 0 where
+pub record IsStopped (x : Activity) (a : model.Activity) (r : Advance) : Type 0 where
   pub stands : StandsFor x a
   pub stop : IsStopAt a r
 
-abbrev pub IsAfter : Activity → model.Activity → Bool → Turn → Type 0
-IsAfter x a true turn.Reduces = IsStepped x a
+abbrev pub IsAfter : Activity → model.Activity → Bool → Advance → Type 0
+IsAfter x a true advance.Reduces = IsStepped x a
 IsAfter x a go r = IsStopped x a r
 
 -- all contractions that may be taken were taken, where one more could be
-abbrev pub IsUsed : ℕ → ℕ → Turn → Type 0
-IsUsed n most turn.Reduces = n ≡ most
+abbrev pub IsUsed : ℕ → ℕ → Advance → Type 0
+IsUsed n most advance.Reduces = n ≡ most
 IsUsed n most r = Unit {0}
 
 -- it took the contractions before its stop, at most so many
-pub record IsRun (x : Activity) (a : model.Activity) (most : ℕ) (r : Turn) : Type 0 where
+pub record IsRun (x : Activity) (a : model.Activity) (most : ℕ) (r : Advance) : Type 0 where
   pub count : ℕ
   pub end : model.Activity
   pub run : LocalRun count a end
@@ -71,8 +71,8 @@ pub record IsRunning (x : Activity) (a : model.Activity) (count : ℕ) : Type 0 
   pub run : LocalRun count a here
   pub stands : StandsFor x here
 
-abbrev pub reduces : Turn → Bool
-reduces turn.Reduces = true
+abbrev pub reduces : Advance → Bool
+reduces advance.Reduces = true
 reduces r = false
 
 -- its redex in these contexts became a new cell

@@ -1,5 +1,5 @@
 -- in reading order
-pub mod Turns
+pub mod Advances
 pub mod Called
 pub mod Local
 pub mod Activities

@@ -6,10 +6,10 @@ ghost use Rattle.asp_model.specs.Shapes.{future_shape};
 ghost use Rattle.asp_model.specs.Configuration.{Activity as ActivityShape};
 ghost use Rattle.activity_step.specs.Activities.{IsAfter, IsRun, StandsFor, reduces};
 ghost use Rattle.activity_step.specs.Standings.{code_of};
-ghost use Rattle.activity_step.specs.Turns.{Stands};
+ghost use Rattle.activity_step.specs.Advances.{Stands};
 
+use crate::advance::Advance;
 use crate::state::State;
-use crate::turn::Turn;
 use asp_model::{FutureName, Line};
 use coded_cells::Place;
 use object_store::Store;
@@ -115,27 +115,27 @@ impl Activity {
 
     /// One contraction, where it may be taken, or what the redex comes to.
     #[inline(always)]
-    fn take(&mut self, alloc: Global, go: bool) -> Result<Turn, AllocError>
+    fn take(&mut self, alloc: Global, go: bool) -> Result<Advance, AllocError>
         ensures after { (a : ActivityShape) → StandsFor self.old a →
             IfOk result (IsAfter self.new a go) }
         ensures code { code_of self.new ≡ code_of self.old }
     {
-        let turn = self.state.turn(alloc, &self.code, go)?;
+        let advance = self.state.advance(alloc, &self.code, go)?;
         if !go {
-            return Ok(turn);
+            return Ok(advance);
         }
-        if !is_reduction(turn) {
-            return Ok(turn);
+        if !is_reduction(advance) {
+            return Ok(advance);
         }
         let count = self.count.checked_add(1).ok_or(AllocError)?;
         self.count = count;
-        Ok(turn)
+        Ok(advance)
     }
 
     /// One contraction, where it may be taken, or what the redex comes to. After `AllocError` it is
     /// spent.
     #[inline(never)]
-    pub fn step(&mut self, alloc: Global, go: bool) -> Result<Turn, AllocError>
+    pub fn step(&mut self, alloc: Global, go: bool) -> Result<Advance, AllocError>
         ensures after { (a : ActivityShape) → StandsFor self.old a →
             IfOk result (IsAfter self.new a go) }
         ensures spent { self.old.spent ≡ true → result ≡ Err alloc_error }
@@ -149,27 +149,27 @@ impl Activity {
 
     /// Takes the contractions before its stop, at most so many.
     #[inline(always)]
-    fn run(&mut self, alloc: Global, most: u64) -> Result<Turn, AllocError>
+    fn run(&mut self, alloc: Global, most: u64) -> Result<Advance, AllocError>
         ensures run { (a : ActivityShape) → StandsFor self.old a →
             IfOk result (IsRun self.new a most) }
         ensures code { code_of self.new ≡ code_of self.old }
     {
         let mut left = most;
         while left > 0 {
-            let turn = self.take(alloc, true)?;
-            if !is_reduction(turn) {
-                return Ok(turn);
+            let advance = self.take(alloc, true)?;
+            if !is_reduction(advance) {
+                return Ok(advance);
             }
             left -= 1;
         }
-        let turn = self.take(alloc, false)?;
-        Ok(turn)
+        let advance = self.take(alloc, false)?;
+        Ok(advance)
     }
 
     /// Takes the contractions before its stop, at most so many. `Reduces` where all of them were taken
     /// and one more could be. After `AllocError` it is spent.
     #[inline(never)]
-    pub fn local(&mut self, alloc: Global, most: u64) -> Result<Turn, AllocError>
+    pub fn local(&mut self, alloc: Global, most: u64) -> Result<Advance, AllocError>
         ensures run { (a : ActivityShape) → StandsFor self.old a →
             IfOk result (IsRun self.new a most) }
         ensures spent { self.old.spent ≡ true → result ≡ Err alloc_error }
@@ -182,11 +182,11 @@ impl Activity {
     }
 }
 
-fn is_reduction(turn: Turn) -> bool
-    ensures reduces { result ≡ reduces turn }
+fn is_reduction(advance: Advance) -> bool
+    ensures reduces { result ≡ reduces advance }
 {
-    match turn {
-        Turn::Reduces => true,
+    match advance {
+        Advance::Reduces => true,
         _ => false,
     }
 }

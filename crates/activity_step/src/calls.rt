@@ -15,10 +15,10 @@ ghost use Rattle.machine_frames.specs.Spreads.{IsAtCall};
 ghost use Rattle.machine_frames.specs.Stacks.{last};
 ghost use Rattle.machine_frames.specs.Standing.{view_of};
 ghost use Rattle.activity_step.specs.Called.{IsCalled};
-ghost use Rattle.activity_step.specs.Turns.{IsTurn, Stands};
+ghost use Rattle.activity_step.specs.Advances.{IsAdvance, Stands};
 
+use crate::advance::Advance;
 use crate::state::State;
-use crate::turn::Turn;
 use activity_rows::{Callee, Creation, active_row, callee_of, look};
 use asp_model::Label;
 use coded_cells::Place;
@@ -77,7 +77,7 @@ fn asked_of<'a>(
 impl State {
     /// `i.m(k ..)`, where the node with this number has the label.
     #[inline(always)]
-    pub fn call_turn(
+    pub fn call_advance(
         &mut self,
         alloc: Global,
         code: &Code,
@@ -85,11 +85,11 @@ impl State {
         number: usize,
         count: usize,
         go: bool,
-    ) -> Result<Turn, AllocError>
-        ensures turn { (t : Tree) (vs : List ServiceShape) (s : StoreShape) (ls : List LineShape) →
+    ) -> Result<Advance, AllocError>
+        ensures advance { (t : Tree) (vs : List ServiceShape) (s : StoreShape) (ls : List LineShape) →
             Stands code.now self.old t vs s ls →
             IsAtCall code.now (view_of self.old.machine) number count label.now.text t vs →
-            IfOk result (IsTurn code.now self.new t vs s ls go) }
+            IfOk result (IsAdvance code.now self.new t vs s ls go) }
     {
         let operands = self.machine.last_operands(count);
         let callee = call_of(code, &self.store, label, operands)?;
@@ -98,32 +98,32 @@ impl State {
                 if go {
                     self.machine.enter_body(count, captured, &method.body)?;
                 }
-                Ok(Turn::Reduces)
+                Ok(Advance::Reduces)
             }
             Callee::Members(members) => {
                 if go {
                     self.machine
                         .spread(Spread::Same, number, count, members, &[])?;
                 }
-                Ok(Turn::Reduces)
+                Ok(Advance::Reduces)
             }
-            Callee::Activity(_) => Ok(Turn::Sends),
-            Callee::Other(decision) => self.decided_turn(alloc, decision, count, go),
+            Callee::Activity(_) => Ok(Advance::Sends),
+            Callee::Other(decision) => self.decided_advance(alloc, decision, count, go),
         }
     }
 
     /// The call that a service begins with.
     #[inline(never)]
-    pub fn asked_turn(
+    pub fn asked_advance(
         &mut self,
         alloc: Global,
         code: &Code,
         count: usize,
         go: bool,
-    ) -> Result<Turn, AllocError>
-        ensures turn { (t : Tree) (vs : List ServiceShape) (s : StoreShape) (ls : List LineShape) →
+    ) -> Result<Advance, AllocError>
+        ensures advance { (t : Tree) (vs : List ServiceShape) (s : StoreShape) (ls : List LineShape) →
             Stands code.now self.old t vs s ls → self.old.machine.focus ≡ focus.Asked count →
-            IfOk result (IsTurn code.now self.new t vs s ls go) }
+            IfOk result (IsAdvance code.now self.new t vs s ls go) }
     {
         let callee = asked_of(code, &self.machine, &self.store, count)?;
         match callee {
@@ -131,29 +131,34 @@ impl State {
                 if go {
                     self.machine.enter_body(count, captured, &method.body)?;
                 }
-                Ok(Turn::Reduces)
+                Ok(Advance::Reduces)
             }
             Callee::Members(_) => Err(AllocError),
-            Callee::Activity(_) => Ok(Turn::Sends),
-            Callee::Other(decision) => self.decided_turn(alloc, decision, count, go),
+            Callee::Activity(_) => Ok(Advance::Sends),
+            Callee::Other(decision) => self.decided_advance(alloc, decision, count, go),
         }
     }
 
     /// `active(i)`, or `active(i, m)`.
     #[inline(never)]
-    pub fn active_turn(&mut self, alloc: Global, count: usize, go: bool) -> Result<Turn, AllocError>
-        ensures turn { (k : List NodeShape) (service : Option Text) (t : Tree)
+    pub fn active_advance(
+        &mut self,
+        alloc: Global,
+        count: usize,
+        go: bool,
+    ) -> Result<Advance, AllocError>
+        ensures advance { (k : List NodeShape) (service : Option Text) (t : Tree)
             (vs : List ServiceShape) (s : StoreShape) (ls : List LineShape) →
             Stands k self.old t vs s ls →
             IsAtRedex k (view_of self.old.machine) t vs count
             (value_redex (ActiveHead service) (last count self.old.machine.operands.items)) →
-            IfOk result (IsTurn k self.new t vs s ls go) }
+            IfOk result (IsAdvance k self.new t vs s ls go) }
     {
         let operands = self.machine.last_operands(count);
         let creation = active_row(&self.store, operands)?;
         match creation {
-            Creation::Creates(place) => Ok(Turn::Creates(place)),
-            Creation::Other(decision) => self.decided_turn(alloc, decision, count, go),
+            Creation::Creates(place) => Ok(Advance::Creates(place)),
+            Creation::Other(decision) => self.decided_advance(alloc, decision, count, go),
         }
     }
 }

@@ -11,11 +11,11 @@ ghost use Rattle.program_code.specs.declared.code.Node.{Node as NodeShape};
 ghost use Rattle.machine_frames.specs.declared.frames.Focus.TheVariants as focus;
 ghost use Rattle.machine_frames.specs.Rows.{AtNode};
 ghost use Rattle.machine_frames.specs.Standing.{view_of};
-ghost use Rattle.activity_step.specs.Turns.{IsTurn, Stands};
+ghost use Rattle.activity_step.specs.Advances.{IsAdvance, Stands};
 
+use crate::advance::Advance;
 use crate::reducing::node_in;
 use crate::state::State;
-use crate::turn::Turn;
 use activity_rows::{Scattering, scatter_row};
 use machine_frames::{Spread, call_label};
 use program_code::Code;
@@ -24,17 +24,17 @@ use std::alloc::{AllocError, Global};
 impl State {
     /// `scatter(i, m, k)`.
     #[inline(never)]
-    pub fn scatter_turn(
+    pub fn scatter_advance(
         &mut self,
         alloc: Global,
         number: usize,
         count: usize,
         go: bool,
-    ) -> Result<Turn, AllocError>
-        ensures turn { (k : List NodeShape) (from : ℕ) (n : NodeShape) (l : LabelShape) (t : Tree)
+    ) -> Result<Advance, AllocError>
+        ensures advance { (k : List NodeShape) (from : ℕ) (n : NodeShape) (l : LabelShape) (t : Tree)
             (vs : List ServiceShape) (s : StoreShape) (ls : List LineShape) →
             Stands k self.old t vs s ls → AtNode k (view_of self.old.machine) number from count n →
-            n.kind ≡ kind.Scatter l → IfOk result (IsTurn k self.new t vs s ls go) }
+            n.kind ≡ kind.Scatter l → IfOk result (IsAdvance k self.new t vs s ls go) }
     {
         let operands = self.machine.last_operands(count);
         let scattering = scatter_row(&self.store, operands)?;
@@ -44,26 +44,26 @@ impl State {
                     self.machine
                         .spread(Spread::Own, number, count, members, others)?;
                 }
-                Ok(Turn::Reduces)
+                Ok(Advance::Reduces)
             }
-            Scattering::Other(decision) => self.decided_turn(alloc, decision, count, go),
+            Scattering::Other(decision) => self.decided_advance(alloc, decision, count, go),
         }
     }
 
     /// The call of a member.
     #[inline(never)]
-    pub fn called_turn(
+    pub fn called_advance(
         &mut self,
         alloc: Global,
         code: &Code,
         number: usize,
         count: usize,
         go: bool,
-    ) -> Result<Turn, AllocError>
-        ensures turn { (t : Tree) (vs : List ServiceShape) (s : StoreShape) (ls : List LineShape) →
+    ) -> Result<Advance, AllocError>
+        ensures advance { (t : Tree) (vs : List ServiceShape) (s : StoreShape) (ls : List LineShape) →
             Stands code.now self.old t vs s ls →
             self.old.machine.focus ≡ focus.Called number count →
-            IfOk result (IsTurn code.now self.new t vs s ls go) }
+            IfOk result (IsAdvance code.now self.new t vs s ls go) }
     {
         let Some(node) = node_in(code, number) else {
             return Err(AllocError);
@@ -71,6 +71,6 @@ impl State {
         let Some(label) = call_label(node) else {
             return Err(AllocError);
         };
-        self.call_turn(alloc, code, label, number, count, go)
+        self.call_advance(alloc, code, label, number, count, go)
     }
 }

@@ -2,6 +2,7 @@
 #![tactic(auto)]
 
 mod activity;
+mod advance;
 mod calls;
 mod communications;
 mod groups;
@@ -14,10 +15,9 @@ mod standing;
 mod starting;
 mod state;
 mod terms;
-mod turn;
 mod values;
 
 pub use activity::Activity;
+pub use advance::Advance;
 pub use standing::Standing;
 pub use state::State;
-pub use turn::Turn;

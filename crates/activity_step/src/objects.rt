@@ -13,10 +13,10 @@ ghost use Rattle.activity_rows.specs.Decisions.{value_redex};
 ghost use Rattle.machine_frames.specs.Rows.{AtNode, IsAtRedex};
 ghost use Rattle.machine_frames.specs.Stacks.{last};
 ghost use Rattle.machine_frames.specs.Standing.{view_of};
-ghost use Rattle.activity_step.specs.Turns.{IsTurn, Stands};
+ghost use Rattle.activity_step.specs.Advances.{IsAdvance, Stands};
 
+use crate::advance::Advance;
 use crate::state::State;
-use crate::turn::Turn;
 use asp_model::{Line, Word};
 use coded_cells::{Cell, Object, Place};
 use machine_frames::Machine;
@@ -75,22 +75,22 @@ fn object_places(
 impl State {
     /// An object of the class of a node.
     #[inline(never)]
-    pub fn make_turn(
+    pub fn make_advance(
         &mut self,
         alloc: Global,
         class: &Class,
         number: usize,
         count: usize,
         go: bool,
-    ) -> Result<Turn, AllocError>
-        ensures turn { (k : List NodeShape) (from : ℕ) (n : NodeShape) (t : Tree)
+    ) -> Result<Advance, AllocError>
+        ensures advance { (k : List NodeShape) (from : ℕ) (n : NodeShape) (t : Tree)
             (vs : List ServiceShape) (s : StoreShape) (ls : List LineShape) →
             Stands k self.old t vs s ls → AtNode k (view_of self.old.machine) number from count n →
             class_at k number ≡ class_of n.kind → class_of n.kind ≡ Some class.now →
-            IfOk result (IsTurn k self.new t vs s ls go) }
+            IfOk result (IsAdvance k self.new t vs s ls go) }
     {
         if !go {
-            return Ok(Turn::Reduces);
+            return Ok(Advance::Reduces);
         }
         let places = object_places(alloc, &self.machine, class, count)?;
         let object = Object {
@@ -99,53 +99,53 @@ impl State {
         };
         let place = self.store.add(Cell::Object(Box::new(alloc, object)?))?;
         self.machine.become_place(count, place);
-        Ok(Turn::Reduces)
+        Ok(Advance::Reduces)
     }
 
     /// A group of the last operands, where more of them may be the redex's own.
     #[inline(never)]
-    pub fn group_turn(
+    pub fn group_advance(
         &mut self,
         alloc: Global,
         size: usize,
         count: usize,
         go: bool,
-    ) -> Result<Turn, AllocError>
-        ensures turn { (k : List NodeShape) (t : Tree) (vs : List ServiceShape) (s : StoreShape)
+    ) -> Result<Advance, AllocError>
+        ensures advance { (k : List NodeShape) (t : Tree) (vs : List ServiceShape) (s : StoreShape)
             (ls : List LineShape) →
             Stands k self.old t vs s ls →
             IsAtRedex k (view_of self.old.machine) t vs count
             (value_redex GroupHead (last size self.old.machine.operands.items)) →
-            IfOk result (IsTurn k self.new t vs s ls go) }
+            IfOk result (IsAdvance k self.new t vs s ls go) }
     {
         if !go {
-            return Ok(Turn::Reduces);
+            return Ok(Advance::Reduces);
         }
         let operands = self.machine.last_operands(size);
         let mut members = Vec::with_capacity(alloc, operands.len())?;
         members.extend_from_slice(operands)?;
         let place = self.store.add(Cell::Group(Box::new(alloc, members)?))?;
         self.machine.become_place(count, place);
-        Ok(Turn::Reduces)
+        Ok(Advance::Reduces)
     }
 
     /// `echo("t")`.
     #[inline(never)]
-    pub fn echo_turn(
+    pub fn echo_advance(
         &mut self,
         alloc: Global,
         text: &Word,
         count: usize,
         go: bool,
-    ) -> Result<Turn, AllocError>
-        ensures turn { (k : List NodeShape) (t : Tree) (vs : List ServiceShape) (s : StoreShape)
+    ) -> Result<Advance, AllocError>
+        ensures advance { (k : List NodeShape) (t : Tree) (vs : List ServiceShape) (s : StoreShape)
             (ls : List LineShape) →
             IsSound k → Stands k self.old t vs s ls →
             IsAtRedex k (view_of self.old.machine) t vs count (value_redex (EchoHead text.now) []) →
-            IfOk result (IsTurn k self.new t vs s ls go) }
+            IfOk result (IsAdvance k self.new t vs s ls go) }
     {
         if !go {
-            return Ok(Turn::Reduces);
+            return Ok(Advance::Reduces);
         }
         let line = Line::Text(text.copy(alloc)?);
         let object = Object {
@@ -155,6 +155,6 @@ impl State {
         let place = self.store.add(Cell::Object(Box::new(alloc, object)?))?;
         self.lines.push(line)?;
         self.machine.become_place(count, place);
-        Ok(Turn::Reduces)
+        Ok(Advance::Reduces)
     }
 }

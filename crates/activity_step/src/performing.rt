@@ -6,7 +6,7 @@ ghost use Rattle.asp_model.specs.Contraction.{NumberLine};
 ghost use Rattle.program_code.specs.declared.code.Node.{Node as NodeShape};
 ghost use Rattle.coded_cells.specs.Cells.{Group as group_of, Object as object_with, coded};
 ghost use Rattle.activity_rows.specs.declared.decision.Decision.TheVariants as decision;
-ghost use Rattle.activity_step.specs.Turns.{IsPerformed};
+ghost use Rattle.activity_step.specs.Advances.{IsPerformed};
 
 use activity_rows::{Decision, look};
 use asp_model::Line;

@@ -1,4 +1,4 @@
-//! One turn: on to the next redex, and what it comes to.
+//! One advance: on to the next redex, and what it comes to.
 
 ghost use Rattle.std.specs.Prelude.{◌≡◌, IfOk, IfSome, List, ℕ};
 ghost use Rattle.asp_model.specs.Configuration.{ServiceShape};
@@ -14,10 +14,10 @@ ghost use Rattle.machine_frames.specs.declared.frames.Focus.TheVariants as focus
 ghost use Rattle.machine_frames.specs.Rows.{IsAtRedex};
 ghost use Rattle.machine_frames.specs.Stacks.{last, piece_from};
 ghost use Rattle.machine_frames.specs.Standing.{view_of};
-ghost use Rattle.activity_step.specs.Turns.{IsTurn, Stands};
+ghost use Rattle.activity_step.specs.Advances.{IsAdvance, Stands};
 
+use crate::advance::Advance;
 use crate::state::State;
-use crate::turn::Turn;
 use activity_rows::Decision;
 use machine_frames::{Focus, node_at};
 use program_code::{Code, Kind, Node};
@@ -41,36 +41,36 @@ pub fn node_in<'a>(code: &'a Code, number: usize) -> Option<&'a Node>
 impl State {
     /// A redex whose terms are all places.
     #[inline(always)]
-    fn simple_turn(
+    fn simple_advance(
         &mut self,
         alloc: Global,
         code: &Code,
         kind: &Kind,
         count: usize,
         go: bool,
-    ) -> Result<Turn, AllocError>
-        ensures turn { (size : ℕ) (t : Tree) (vs : List ServiceShape) (s : StoreShape)
+    ) -> Result<Advance, AllocError>
+        ensures advance { (size : ℕ) (t : Tree) (vs : List ServiceShape) (s : StoreShape)
             (ls : List LineShape) →
             IsSound code.now → Stands code.now self.old t vs s ls →
             IsAtRedex code.now (view_of self.old.machine) t vs count
             (value_redex (kind_head kind.now) (last count self.old.machine.operands.items)) →
             count ≡ operand_count kind.now size →
-            IfOk result (IsTurn code.now self.new t vs s ls go) }
+            IfOk result (IsAdvance code.now self.new t vs s ls go) }
     {
         match kind {
-            Kind::Number(n) => self.decided_turn(alloc, Decision::Number(*n), count, go),
-            Kind::Echo(text) => self.echo_turn(alloc, text, count, go),
-            Kind::Group => self.group_turn(alloc, count, count, go),
-            Kind::Active(_) => self.active_turn(alloc, count, go),
-            Kind::Serve(_) => Ok(Turn::Serves),
-            Kind::Get(_) => self.value_turn(alloc, code, kind, count, go),
-            Kind::Put(_) => self.value_turn(alloc, code, kind, count, go),
-            Kind::Clone => self.value_turn(alloc, code, kind, count, go),
-            Kind::Operate(_) => self.value_turn(alloc, code, kind, count, go),
-            Kind::Print => self.value_turn(alloc, code, kind, count, go),
-            Kind::Size => self.value_turn(alloc, code, kind, count, go),
-            Kind::Member => self.value_turn(alloc, code, kind, count, go),
-            Kind::WaitAll => self.value_turn(alloc, code, kind, count, go),
+            Kind::Number(n) => self.decided_advance(alloc, Decision::Number(*n), count, go),
+            Kind::Echo(text) => self.echo_advance(alloc, text, count, go),
+            Kind::Group => self.group_advance(alloc, count, count, go),
+            Kind::Active(_) => self.active_advance(alloc, count, go),
+            Kind::Serve(_) => Ok(Advance::Serves),
+            Kind::Get(_) => self.value_advance(alloc, code, kind, count, go),
+            Kind::Put(_) => self.value_advance(alloc, code, kind, count, go),
+            Kind::Clone => self.value_advance(alloc, code, kind, count, go),
+            Kind::Operate(_) => self.value_advance(alloc, code, kind, count, go),
+            Kind::Print => self.value_advance(alloc, code, kind, count, go),
+            Kind::Size => self.value_advance(alloc, code, kind, count, go),
+            Kind::Member => self.value_advance(alloc, code, kind, count, go),
+            Kind::WaitAll => self.value_advance(alloc, code, kind, count, go),
             _ => Err(AllocError),
         }
     }
@@ -85,24 +85,24 @@ impl State {
         from: usize,
         count: usize,
         go: bool,
-    ) -> Result<Turn, AllocError>
-        ensures turn { (t : Tree) (vs : List ServiceShape) (s : StoreShape) (ls : List LineShape) →
+    ) -> Result<Advance, AllocError>
+        ensures advance { (t : Tree) (vs : List ServiceShape) (s : StoreShape) (ls : List LineShape) →
             Stands code.now self.old t vs s ls →
             self.old.machine.focus ≡ focus.Node number from count →
             count ≡ in_place (piece_from code.now number from) →
-            IfOk result (IsTurn code.now self.new t vs s ls go) }
+            IfOk result (IsAdvance code.now self.new t vs s ls go) }
     {
         let Some(node) = node_in(code, number) else {
             return Err(AllocError);
         };
         match &node.kind {
-            Kind::Make(class) => self.make_turn(alloc, class, number, count, go),
-            Kind::Call(label) => self.call_turn(alloc, code, label, number, count, go),
-            Kind::Scatter(_) => self.scatter_turn(alloc, number, count, go),
-            Kind::Let(_) => self.let_turn(node, count, go),
-            Kind::Steps => self.steps_turn(node, number, from, count, go),
-            Kind::If => self.if_turn(alloc, code, node, count, go),
-            Kind::Repeat => self.repeat_turn(number, from, count, go),
+            Kind::Make(class) => self.make_advance(alloc, class, number, count, go),
+            Kind::Call(label) => self.call_advance(alloc, code, label, number, count, go),
+            Kind::Scatter(_) => self.scatter_advance(alloc, number, count, go),
+            Kind::Let(_) => self.let_advance(node, count, go),
+            Kind::Steps => self.steps_advance(node, number, from, count, go),
+            Kind::If => self.if_advance(alloc, code, node, count, go),
+            Kind::Repeat => self.repeat_advance(number, from, count, go),
             Kind::Number(_)
             | Kind::Get(_)
             | Kind::Put(_)
@@ -115,29 +115,29 @@ impl State {
             | Kind::Group
             | Kind::Size
             | Kind::Member
-            | Kind::WaitAll => self.simple_turn(alloc, code, &node.kind, count, go),
+            | Kind::WaitAll => self.simple_advance(alloc, code, &node.kind, count, go),
         }
     }
 
     /// Goes on to the next redex, and takes its contraction where it may, or tells what it comes to.
     #[inline(always)]
-    pub fn turn(&mut self, alloc: Global, code: &Code, go: bool) -> Result<Turn, AllocError>
-        ensures turn { (t : Tree) (vs : List ServiceShape) (s : StoreShape) (ls : List LineShape) →
+    pub fn advance(&mut self, alloc: Global, code: &Code, go: bool) -> Result<Advance, AllocError>
+        ensures advance { (t : Tree) (vs : List ServiceShape) (s : StoreShape) (ls : List LineShape) →
             Stands code.now self.old t vs s ls →
-            IfOk result (IsTurn code.now self.new t vs s ls go) }
+            IfOk result (IsAdvance code.now self.new t vs s ls go) }
     {
         self.machine.settle(code.nodes())?;
         match self.machine.focus {
             Focus::Node { number, from, done } => self.reduce(alloc, code, number, from, done, go),
-            Focus::Place(place) => Ok(Turn::Rests(place)),
-            Focus::Asked(count) => self.asked_turn(alloc, code, count, go),
+            Focus::Place(place) => Ok(Advance::Rests(place)),
+            Focus::Asked(count) => self.asked_advance(alloc, code, count, go),
             Focus::Calls {
                 spread: _spread,
                 number: _number,
                 members,
                 done,
-            } => self.group_turn(alloc, members, done, go),
-            Focus::Called { number, count } => self.called_turn(alloc, code, number, count, go),
+            } => self.group_advance(alloc, members, done, go),
+            Focus::Called { number, count } => self.called_advance(alloc, code, number, count, go),
         }
     }
 }

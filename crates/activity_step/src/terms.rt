@@ -12,10 +12,10 @@ ghost use Rattle.coded_cells.specs.Shapes.{store_of};
 ghost use Rattle.machine_frames.specs.Rows.{AtNode, chosen};
 ghost use Rattle.machine_frames.specs.Stacks.{last};
 ghost use Rattle.machine_frames.specs.Standing.{view_of};
-ghost use Rattle.activity_step.specs.Turns.{IsTurn, Stands};
+ghost use Rattle.activity_step.specs.Advances.{IsAdvance, Stands};
 
+use crate::advance::Advance;
 use crate::state::State;
-use crate::turn::Turn;
 use activity_rows::{Test, one, test_row};
 use coded_cells::Place;
 use machine_frames::child_at;
@@ -34,13 +34,18 @@ impl State {
 
     /// `let x = i in a`.
     #[inline(never)]
-    pub fn let_turn(&mut self, node: &Node, count: usize, go: bool) -> Result<Turn, AllocError>
-        ensures turn { (k : List NodeShape) (number from : ℕ) (x : Text) (t : Tree)
+    pub fn let_advance(
+        &mut self,
+        node: &Node,
+        count: usize,
+        go: bool,
+    ) -> Result<Advance, AllocError>
+        ensures advance { (k : List NodeShape) (number from : ℕ) (x : Text) (t : Tree)
             (vs : List ServiceShape) (s : StoreShape) (ls : List LineShape) →
             Stands k self.old t vs s ls →
             AtNode k (view_of self.old.machine) number from count node.now →
             node.now.kind ≡ kind.Let x →
-            IfOk result (IsTurn k self.new t vs s ls go) }
+            IfOk result (IsAdvance k self.new t vs s ls go) }
     {
         let Some(place) = self.last_operand(count) else {
             return Err(AllocError);
@@ -51,7 +56,7 @@ impl State {
         if go {
             self.machine.bind(count, place, body)?;
         }
-        Ok(Turn::Reduces)
+        Ok(Advance::Reduces)
     }
 
     /// A sequence that goes on with its last term.
@@ -62,15 +67,15 @@ impl State {
         from: usize,
         count: usize,
         go: bool,
-    ) -> Result<Turn, AllocError>
-        ensures turn { (k : List NodeShape) (number place : ℕ) (t : Tree)
+    ) -> Result<Advance, AllocError>
+        ensures advance { (k : List NodeShape) (number place : ℕ) (t : Tree)
             (vs : List ServiceShape) (s : StoreShape) (ls : List LineShape) →
             Stands k self.old t vs s ls →
             AtNode k (view_of self.old.machine) number from count node.now →
             node.now.kind ≡ kind.Steps →
             last count self.old.machine.operands.items ≡ place ∷ [] →
             from + 2 ≡ length node.now.children.items →
-            IfOk result (IsTurn k self.new t vs s ls go) }
+            IfOk result (IsAdvance k self.new t vs s ls go) }
     {
         let next = from.checked_add(1).ok_or(AllocError)?;
         let Some(child) = child_at(node, next) else {
@@ -79,7 +84,7 @@ impl State {
         if go {
             self.machine.become_child(count, child)?;
         }
-        Ok(Turn::Reduces)
+        Ok(Advance::Reduces)
     }
 
     /// A sequence that goes on with several terms.
@@ -91,39 +96,39 @@ impl State {
         from: usize,
         count: usize,
         go: bool,
-    ) -> Result<Turn, AllocError>
-        ensures turn { (k : List NodeShape) (place : ℕ) (t : Tree) (vs : List ServiceShape)
+    ) -> Result<Advance, AllocError>
+        ensures advance { (k : List NodeShape) (place : ℕ) (t : Tree) (vs : List ServiceShape)
             (s : StoreShape) (ls : List LineShape) →
             Stands k self.old t vs s ls →
             AtNode k (view_of self.old.machine) number from count node.now →
             node.now.kind ≡ kind.Steps →
             last count self.old.machine.operands.items ≡ place ∷ [] →
             (from + 2 ≡ length node.now.children.items → ⊥) →
-            IfOk result (IsTurn k self.new t vs s ls go) }
+            IfOk result (IsAdvance k self.new t vs s ls go) }
     {
         let next = from.checked_add(1).ok_or(AllocError)?;
         if go {
             self.machine.become_node(count, number, next);
         }
-        Ok(Turn::Reduces)
+        Ok(Advance::Reduces)
     }
 
     /// `i; rest`, where so many terms of the sequence are gone.
     #[inline(always)]
-    pub fn steps_turn(
+    pub fn steps_advance(
         &mut self,
         node: &Node,
         number: usize,
         from: usize,
         count: usize,
         go: bool,
-    ) -> Result<Turn, AllocError>
-        ensures turn { (k : List NodeShape) (t : Tree) (vs : List ServiceShape) (s : StoreShape)
+    ) -> Result<Advance, AllocError>
+        ensures advance { (k : List NodeShape) (t : Tree) (vs : List ServiceShape) (s : StoreShape)
             (ls : List LineShape) →
             Stands k self.old t vs s ls →
             AtNode k (view_of self.old.machine) number from count node.now →
             node.now.kind ≡ kind.Steps →
-            IfOk result (IsTurn k self.new t vs s ls go) }
+            IfOk result (IsAdvance k self.new t vs s ls go) }
     {
         let Some(_place) = self.last_operand(count) else {
             return Err(AllocError);
@@ -138,24 +143,24 @@ impl State {
 
     /// `repeat(a)`, or the sequence that it became, whose first term is done.
     #[inline(always)]
-    pub fn repeat_turn(
+    pub fn repeat_advance(
         &mut self,
         number: usize,
         from: usize,
         count: usize,
         go: bool,
-    ) -> Result<Turn, AllocError>
-        ensures turn { (k : List NodeShape) (n : NodeShape) (t : Tree) (vs : List ServiceShape)
+    ) -> Result<Advance, AllocError>
+        ensures advance { (k : List NodeShape) (n : NodeShape) (t : Tree) (vs : List ServiceShape)
             (s : StoreShape) (ls : List LineShape) →
             Stands k self.old t vs s ls →
             AtNode k (view_of self.old.machine) number from count n → n.kind ≡ kind.Repeat →
-            IfOk result (IsTurn k self.new t vs s ls go) }
+            IfOk result (IsAdvance k self.new t vs s ls go) }
     {
         if from == 0 {
             if go {
                 self.machine.become_node(count, number, 1);
             }
-            return Ok(Turn::Reduces);
+            return Ok(Advance::Reduces);
         }
         let Some(_place) = self.last_operand(count) else {
             return Err(AllocError);
@@ -163,30 +168,30 @@ impl State {
         if go {
             self.machine.become_node(count, number, 0);
         }
-        Ok(Turn::Reduces)
+        Ok(Advance::Reduces)
     }
 
     /// `if (i) {a} else {b}`.
     #[inline(always)]
-    pub fn if_turn(
+    pub fn if_advance(
         &mut self,
         alloc: Global,
         code: &Code,
         node: &Node,
         count: usize,
         go: bool,
-    ) -> Result<Turn, AllocError>
-        ensures turn { (number from : ℕ) (t : Tree) (vs : List ServiceShape) (s : StoreShape)
+    ) -> Result<Advance, AllocError>
+        ensures advance { (number from : ℕ) (t : Tree) (vs : List ServiceShape) (s : StoreShape)
             (ls : List LineShape) →
             Stands code.now self.old t vs s ls →
             AtNode code.now (view_of self.old.machine) number from count node.now →
             node.now.kind ≡ kind.If →
-            IfOk result (IsTurn code.now self.new t vs s ls go) }
+            IfOk result (IsAdvance code.now self.new t vs s ls go) }
     {
         let operands = self.machine.last_operands(count);
         match test_row(&self.store, operands)? {
             Test::Number(_, number) => self.choose(node, number, count, go),
-            Test::Other(decision) => self.decided_turn(alloc, decision, count, go),
+            Test::Other(decision) => self.decided_advance(alloc, decision, count, go),
         }
     }
 
@@ -198,14 +203,14 @@ impl State {
         number: i64,
         count: usize,
         go: bool,
-    ) -> Result<Turn, AllocError>
-        ensures turn { (k : List NodeShape) (at from place : ℕ) (t : Tree)
+    ) -> Result<Advance, AllocError>
+        ensures advance { (k : List NodeShape) (at from place : ℕ) (t : Tree)
             (vs : List ServiceShape) (s : StoreShape) (ls : List LineShape) →
             Stands k self.old t vs s ls →
             AtNode k (view_of self.old.machine) at from count node.now → node.now.kind ≡ kind.If →
             last count self.old.machine.operands.items ≡ place ∷ [] →
             cell_in (store_of k self.old.store.cells) place ≡ NumberCell number →
-            IfOk result (IsTurn k self.new t vs s ls go) }
+            IfOk result (IsAdvance k self.new t vs s ls go) }
     {
         let Some(child) = child_at(node, branch_of(number)) else {
             return Err(AllocError);
@@ -213,7 +218,7 @@ impl State {
         if go {
             self.machine.become_child(count, child)?;
         }
-        Ok(Turn::Reduces)
+        Ok(Advance::Reduces)
     }
 }
 

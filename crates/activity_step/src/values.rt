@@ -13,11 +13,11 @@ ghost use Rattle.activity_rows.specs.Decisions.{decided, value_redex};
 ghost use Rattle.machine_frames.specs.Rows.{IsAtRedex};
 ghost use Rattle.machine_frames.specs.Stacks.{last};
 ghost use Rattle.machine_frames.specs.Standing.{view_of};
-ghost use Rattle.activity_step.specs.Turns.{IsTurn, Stands};
+ghost use Rattle.activity_step.specs.Advances.{IsAdvance, Stands};
 
+use crate::advance::{Advance, stop_of};
 use crate::performing::perform;
 use crate::state::State;
-use crate::turn::{Turn, stop_of};
 use activity_rows::{Decision, decide};
 use program_code::{Code, Kind};
 use std::alloc::{AllocError, Global};
@@ -25,48 +25,48 @@ use std::alloc::{AllocError, Global};
 impl State {
     /// Does what the redex of the last operands comes to, or tells it.
     #[inline(always)]
-    pub fn decided_turn(
+    pub fn decided_advance(
         &mut self,
         alloc: Global,
         decision: Decision,
         count: usize,
         go: bool,
-    ) -> Result<Turn, AllocError>
-        ensures turn { (k : List NodeShape) (t : Tree) (vs : List ServiceShape) (s : StoreShape)
+    ) -> Result<Advance, AllocError>
+        ensures advance { (k : List NodeShape) (t : Tree) (vs : List ServiceShape) (s : StoreShape)
             (ls : List LineShape) (r : Redex) →
             Stands k self.old t vs s ls → IsAtRedex k (view_of self.old.machine) t vs count r →
             contract (store_of k self.old.store.cells) r ≡ decided k self.old.store.cells decision →
-            IfOk result (IsTurn k self.new t vs s ls go) }
+            IfOk result (IsAdvance k self.new t vs s ls go) }
     {
-        if let Some(turn) = stop_of(decision) {
-            return Ok(turn);
+        if let Some(advance) = stop_of(decision) {
+            return Ok(advance);
         }
         if !go {
-            return Ok(Turn::Reduces);
+            return Ok(Advance::Reduces);
         }
         let place = perform(alloc, &mut self.store, &mut self.lines, decision)?;
         self.machine.become_place(count, place);
-        Ok(Turn::Reduces)
+        Ok(Advance::Reduces)
     }
 
     /// A row with strict operands, which are the last operands.
     #[inline(always)]
-    pub fn value_turn(
+    pub fn value_advance(
         &mut self,
         alloc: Global,
         code: &Code,
         kind: &Kind,
         count: usize,
         go: bool,
-    ) -> Result<Turn, AllocError>
-        ensures turn { (t : Tree) (vs : List ServiceShape) (s : StoreShape) (ls : List LineShape) →
+    ) -> Result<Advance, AllocError>
+        ensures advance { (t : Tree) (vs : List ServiceShape) (s : StoreShape) (ls : List LineShape) →
             Stands code.now self.old t vs s ls →
             IsAtRedex code.now (view_of self.old.machine) t vs count
             (value_redex (kind_head kind.now) (last count self.old.machine.operands.items)) →
-            IfOk result (IsTurn code.now self.new t vs s ls go) }
+            IfOk result (IsAdvance code.now self.new t vs s ls go) }
     {
         let operands = self.machine.last_operands(count);
         let decision = decide(code, &self.store, kind, operands)?;
-        self.decided_turn(alloc, decision, count, go)
+        self.decided_advance(alloc, decision, count, go)
     }
 }

@@ -13,8 +13,8 @@ use Rattle.asp_model.specs.Configuration.{RequestShape}
 use Rattle.asp_model.specs.Intent.{Intent, Rests, Awaits, Ready, Reads, Lacks, operands_ready, redex_ready, intent, contracts, ends_service, newest}
 use Rattle.laws.proofs.ContractionLemmas.{serves_by_head}
 use Rattle.activity_step.specs.declared.activity.Activity.{Activity}
-use Rattle.activity_step.specs.declared.turn.Turn.{Turn}
-use Rattle.activity_step.specs.declared.turn.Turn.TheVariants as turn
+use Rattle.activity_step.specs.declared.advance.Advance.{Advance}
+use Rattle.activity_step.specs.declared.advance.Advance.TheVariants as advance
 use Rattle.activity_step.specs.Activities.{IsAfter, StandsFor}
 use Rattle.activity_step.specs.Standings as step
 use Rattle.activity_step.specs.Standings.{IsAt}
@@ -80,7 +80,7 @@ intent_over chases rs n a z h s reads =
 pub intent_lacks : (chases : FutureShape → Chase) (rs : List RequestShape) (n : Name) (a : model.Activity) (z : Strict) (h : HasOperands a z) (f : FutureShape) → strict_ready chases a.store z ≡ Lacks f → intent chases rs n a ≡ Rests (Awaits f)
 intent_lacks chases rs n a z h f lacks = intent_redex chases rs n a h.contexts h.redex (Lacks f) h.splits (h.ready chases ∙ lacks)
 
--- After a turn
+-- After a advance
 
 pub same_contexts : (cs ds : List Context) (r q : Redex) → Splits cs r ≡ Splits ds q → cs ≡ ds
 same_contexts cs ds r q e = ap (λ (x : Split). elim x [ Splits ks p ↦ ks | terms.Stands p ↦ cs ]) e
@@ -92,14 +92,14 @@ no_place : (cs : List Context) (r : Redex) (p : ℕ) → Splits cs r ≡ terms.S
 no_place cs r p e = absurd cc
 
 -- where it asks something of others it stands as before
-pub stays : (y : Activity) (a : model.Activity) (v : Turn) → IsAfter y a true v → communicates v ≡ true → StandsFor y a
-stays y a turn.Reduces h is = absurd cc
-stays y a (turn.Faults f) h is = h.stands
-stays y a (turn.Needs p) h is = h.stands
-stays y a (turn.Creates p) h is = h.stands
-stays y a turn.Sends h is = h.stands
-stays y a turn.Serves h is = h.stands
-stays y a (turn.Rests p) h is = h.stands
+pub stays : (y : Activity) (a : model.Activity) (v : Advance) → IsAfter y a true v → communicates v ≡ true → StandsFor y a
+stays y a advance.Reduces h is = absurd cc
+stays y a (advance.Faults f) h is = h.stands
+stays y a (advance.Needs p) h is = h.stands
+stays y a (advance.Creates p) h is = h.stands
+stays y a advance.Sends h is = h.stands
+stays y a advance.Serves h is = h.stands
+stays y a (advance.Rests p) h is = h.stands
 
 -- it stands as before, and asks this of others
 pub record Asking (y : Activity) (a : model.Activity) (r : Redex) : Type 0 where
@@ -107,20 +107,20 @@ pub record Asking (y : Activity) (a : model.Activity) (r : Redex) : Type 0 where
   pub communication : Communication
   pub is : contract a.store r ≡ Communicates communication
 
-pub asking : (y : Activity) (a : model.Activity) (cs : List Context) (r : Redex) (v : Turn) → split a.term ≡ Splits cs r → IsAfter y a true v → communicates v ≡ true → Asking y a r
-asking y a cs r turn.Reduces e h is = absurd cc
-asking y a cs r (turn.Faults f) e h is = absurd cc
-asking y a cs r (turn.Needs p) e h is = absurd cc
-asking y a cs r (turn.Creates p) e h is =
+pub asking : (y : Activity) (a : model.Activity) (cs : List Context) (r : Redex) (v : Advance) → split a.term ≡ Splits cs r → IsAfter y a true v → communicates v ≡ true → Asking y a r
+asking y a cs r advance.Reduces e h is = absurd cc
+asking y a cs r (advance.Faults f) e h is = absurd cc
+asking y a cs r (advance.Needs p) e h is = absurd cc
+asking y a cs r (advance.Creates p) e h is =
     let same : h.stop.redex ≡ r = same_redex h.stop.contexts cs h.stop.redex r (sym h.stop.splits ∙ e) in
     record { stands = h.stands; communication = Creates p h.stop.is.0; is = ap (contract a.store) (sym same) ∙ h.stop.is.1 }
-asking y a cs r turn.Sends e h is =
+asking y a cs r advance.Sends e h is =
     let same : h.stop.redex ≡ r = same_redex h.stop.contexts cs h.stop.redex r (sym h.stop.splits ∙ e) in
     record { stands = h.stands; communication = Sends h.stop.is.0 h.stop.is.1 h.stop.is.2; is = ap (contract a.store) (sym same) ∙ h.stop.is.3 }
-asking y a cs r turn.Serves e h is =
+asking y a cs r advance.Serves e h is =
     let same : h.stop.redex ≡ r = same_redex h.stop.contexts cs h.stop.redex r (sym h.stop.splits ∙ e) in
     record { stands = h.stands; communication = Serves h.stop.is.0; is = ap (contract a.store) (sym same) ∙ h.stop.is.1 }
-asking y a cs r (turn.Rests p) e h is = absurd cc
+asking y a cs r (advance.Rests p) e h is = absurd cc
 
 module _ (x : Actor) (y : Activity) (a : model.Activity) (rs : List RequestShape) (n : Name) (cs : List Context) (r : Redex) (h : Stands x a rs) (code : step.code_of y ≡ code_of x) (e : split a.term ≡ Splits cs r) where
   abbrev Done : Contraction → Type 0
@@ -135,16 +135,16 @@ module _ (x : Actor) (y : Activity) (a : model.Activity) (rs : List RequestShape
       let now : StandsFor y b = subst (StandsFor y) same for in
       subst Done (sym (ap (contract a.store) (same_redex cs ds r q both) ∙ is)) (stands_with x y a b rs h now code refl refl refl, (refl, refl, refl))
 
-  -- what is left where the turn asked nothing of others
-  pub turned : (v : Turn) → IsAfter y a true v → communicates v ≡ false → Done (contract a.store r)
-  turned turn.Reduces k is = became k.next k.step.contexts k.step.redex k.step.becomes k.step.store k.step.added k.stands k.step.splits k.step.is k.step.after
-  turned (turn.Faults f) k is =
+  -- what is left where the advance asked nothing of others
+  pub turned : (v : Advance) → IsAfter y a true v → communicates v ≡ false → Done (contract a.store r)
+  turned advance.Reduces k is = became k.next k.step.contexts k.step.redex k.step.becomes k.step.store k.step.added k.stands k.step.splits k.step.is k.step.after
+  turned (advance.Faults f) k is =
       let same : k.stop.redex ≡ r = same_redex k.stop.contexts cs k.stop.redex r (sym k.stop.splits ∙ e) in
       subst Done (sym k.stop.is ∙ ap (contract a.store) same) tt
-  turned (turn.Needs p) k is =
+  turned (advance.Needs p) k is =
       let same : k.stop.redex ≡ r = same_redex k.stop.contexts cs k.stop.redex r (sym k.stop.splits ∙ e) in
       subst Done (sym k.stop.is ∙ ap (contract a.store) same) tt
-  turned (turn.Creates p) k is = absurd cc
-  turned turn.Sends k is = absurd cc
-  turned turn.Serves k is = absurd cc
-  turned (turn.Rests p) k is = absurd (no_place cs r p (sym e ∙ k.stop))
+  turned (advance.Creates p) k is = absurd cc
+  turned advance.Sends k is = absurd cc
+  turned advance.Serves k is = absurd cc
+  turned (advance.Rests p) k is = absurd (no_place cs r p (sym e ∙ k.stop))

@@ -16,8 +16,8 @@ use Rattle.laws.specs.Closed.{AreBelow}
 use Rattle.coded_cells.specs.Cells as coded
 use Rattle.coded_cells.specs.Cells.{CodedCell, CodedStore, cell_at}
 use Rattle.serve_rules.specs.Labels.{label_text}
-use Rattle.activity_step.specs.declared.turn.Turn.{Turn}
-use Rattle.activity_step.specs.declared.turn.Turn.TheVariants as turn
+use Rattle.activity_step.specs.declared.advance.Advance.{Advance}
+use Rattle.activity_step.specs.declared.advance.Advance.TheVariants as advance
 use Rattle.actor.specs.declared.asked.Asked.{Asked}
 use Rattle.actor.specs.declared.asked.Asked.TheVariants as asked
 
@@ -61,11 +61,11 @@ IsWithin n (Some (Creates i service)) = i < n
 IsWithin n (Some (Sends m l ks)) = AreBelow n ks
 IsWithin n o = Unit {0}
 
--- a turn stops at what asks something of others
-abbrev pub communicates : Turn → Bool
-communicates (turn.Creates p) = true
-communicates turn.Sends = true
-communicates turn.Serves = true
+-- an advance stops at what asks something of others
+abbrev pub communicates : Advance → Bool
+communicates (advance.Creates p) = true
+communicates advance.Sends = true
+communicates advance.Serves = true
 communicates r = false
 
 -- the class of an object; another cell has none

@@ -16,7 +16,7 @@ ghost use Rattle.actor.specs.Asking.{communicates};
 ghost use Rattle.actor.specs.Effects.{IsDoneBy, IsGivenOf};
 
 use crate::actor::Actor;
-use activity_step::{Standing, Turn};
+use activity_step::{Advance, Standing};
 use asp_model::{ActivityName, FutureName};
 use coded_cells::{Parcel, Place};
 use future_table::FutureTable;
@@ -139,8 +139,8 @@ impl Actor {
         ensures code { code_of self.new ≡ code_of self.old }
         ensures given { IfOk result (IsGivenOf (code_of self.old)) }
     {
-        let turn = self.activity.step(alloc, true)?;
-        if is_communication(turn) {
+        let advance = self.activity.step(alloc, true)?;
+        if is_communication(advance) {
             self.communicate(alloc, name)
         } else {
             Ok(Given::Nothing)
@@ -148,8 +148,11 @@ impl Actor {
     }
 }
 
-fn is_communication(turn: Turn) -> bool
-    ensures { result ≡ communicates turn }
+fn is_communication(advance: Advance) -> bool
+    ensures { result ≡ communicates advance }
 {
-    matches!(turn, Turn::Creates(_) | Turn::Sends | Turn::Serves)
+    matches!(
+        advance,
+        Advance::Creates(_) | Advance::Sends | Advance::Serves
+    )
 }

@@ -1,4 +1,4 @@
 -- in reading order
 pub mod First
 pub mod Only
-pub mod Turning
+pub mod Feeding

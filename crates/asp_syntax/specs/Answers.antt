@@ -47,10 +47,10 @@ GoesOn (Err (errors.Fault f)) s v x w l = (judgement x (is_deep w l) l ≡ Some 
 GoesOn (Err errors.Memory) s v x w l = Unit {0}
 
 -- what any lexeme leaves
-abbrev pub Turns : Result (Option (Box Term Global)) SyntaxError → State → Walk → StateShape → WalkShape → Lexeme → Type 0
-Turns (Ok t) s v x w l = (verdict x w l ≡ None) × (step true x l ≡ Some (left t s)) × (walk_shape v ≡ walked w l.token)
-Turns (Err (errors.Fault f)) s v x w l = (verdict x w l ≡ Some f.kind) × (f.at ≡ l.at)
-Turns (Err errors.Memory) s v x w l = Unit {0}
+abbrev pub Feeds : Result (Option (Box Term Global)) SyntaxError → State → Walk → StateShape → WalkShape → Lexeme → Type 0
+Feeds (Ok t) s v x w l = (verdict x w l ≡ None) × (step true x l ≡ Some (left t s)) × (walk_shape v ≡ walked w l.token)
+Feeds (Err (errors.Fault f)) s v x w l = (verdict x w l ≡ Some f.kind) × (f.at ≡ l.at)
+Feeds (Err errors.Memory) s v x w l = Unit {0}
 
 -- what was read
 abbrev pub Reads : Result Term SyntaxError → Result Marked SyntaxFault → Type 0

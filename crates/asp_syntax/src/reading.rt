@@ -15,7 +15,7 @@ ghost use Rattle.syntax_states.specs.Shapes.{state_shape};
 ghost use Rattle.asp_syntax.specs.Faults.{FirstFault};
 ghost use Rattle.asp_syntax.specs.Correct.{IsProgramText, IfFault, IsOkWith};
 ghost use Rattle.asp_syntax.specs.Read.{bad, read_all, fault_at};
-ghost use Rattle.asp_syntax.specs.Answers.{Judges, UnlessDeep, GoesOn, Turns, Reads};
+ghost use Rattle.asp_syntax.specs.Answers.{Judges, UnlessDeep, GoesOn, Feeds, Reads};
 
 use crate::error::{SyntaxError, SyntaxFault, SyntaxKind};
 use asp_model::{MOST_LEVEL, Program, Term};
@@ -48,7 +48,7 @@ fn read(alloc: Global, bytes: &[u8]) -> Result<Term, SyntaxError>
 }
 
 // Reads a text from its first token on.
-#[tactic(auto, using(crate::proofs::Turning::state_few))]
+#[tactic(auto, using(crate::proofs::Feeding::state_few))]
 fn read_from(
     alloc: Global,
     bytes: &[u8],
@@ -63,7 +63,7 @@ fn read_from(
     loop {
         let here = scan(alloc, bytes, after)?;
         let behind = here.after;
-        if let Some(term) = turn(alloc, state, walk, here)? {
+        if let Some(term) = feed(alloc, state, walk, here)? {
             return Ok(Box::into_inner(term));
         }
         after = behind;
@@ -71,8 +71,8 @@ fn read_from(
 }
 
 // The state and the walk one token on, or the term that the end leaves.
-#[tactic(auto, using(crate::proofs::Turning::bad_turns, crate::proofs::Turning::token_turns))]
-fn turn(
+#[tactic(auto, using(crate::proofs::Feeding::bad_feeds, crate::proofs::Feeding::token_feeds))]
+fn feed(
     alloc: Global,
     state: &mut State,
     walk: &mut Walk,
@@ -82,7 +82,7 @@ fn turn(
     requires few { parentheses_in (state_shape state.now) ≤ MOST_LEVEL }
     requires ordered { IsOrdered (walk_shape walk.now) }
     ensures value { let before = walk_shape walk.old in
-        Turns result state.new walk.new (state_shape state.old) before (lexeme_of here) }
+        Feeds result state.new walk.new (state_shape state.old) before (lexeme_of here) }
     ensures low { OnOk result (walk.new.level ≤ MOST_LEVEL) }
 {
     match unread(&here.token) {
@@ -122,7 +122,7 @@ fn go_on(
     }
 }
 
-#[tactic(auto, using(crate::proofs::Turning::judgements))]
+#[tactic(auto, using(crate::proofs::Feeding::judgements))]
 fn judge(
     alloc: Global,
     state: &mut State,

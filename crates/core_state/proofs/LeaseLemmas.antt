@@ -5,8 +5,8 @@ use Rattle.asp_model.specs.History.{HistoryShape}
 use Rattle.asp_model.specs.Step.{name_at}
 use Rattle.lease_laws.specs.Leases.{IsLentAt}
 use Rattle.program_code.specs.declared.code.Node.{Node}
-use Rattle.activity_step.specs.declared.turn.Turn.{Turn}
-use Rattle.activity_step.specs.declared.turn.Turn.TheVariants as turn
+use Rattle.activity_step.specs.declared.advance.Advance.{Advance}
+use Rattle.activity_step.specs.declared.advance.Advance.TheVariants as advance
 use Rattle.activity_step.specs.Activities.{IsUsed}
 use Rattle.activity_step.specs.Local.{LocalRun}
 use Rattle.actor.specs.Actors.{Stands, code_of}
@@ -24,14 +24,14 @@ run_then (suc n) m a b c first then =
     subst (λ k. LocalRun k a c) same (first.0, first.1, run_then n m first.0 b c first.2 then)
 
 -- the grant is used still
-used_on : (n t m g : ℕ) (r : Turn) → IsUsed m (g - t) r → t ≤ g → n ≡ t + m → IsUsed n g r
-used_on n t m g turn.Reduces used within sum = omega (arith, used, within, sum)
-used_on n t m g (turn.Rests p) used within sum = tt
-used_on n t m g (turn.Faults f) used within sum = tt
-used_on n t m g (turn.Needs p) used within sum = tt
-used_on n t m g (turn.Creates p) used within sum = tt
-used_on n t m g turn.Sends used within sum = tt
-used_on n t m g turn.Serves used within sum = tt
+used_on : (n t m g : ℕ) (r : Advance) → IsUsed m (g - t) r → t ≤ g → n ≡ t + m → IsUsed n g r
+used_on n t m g advance.Reduces used within sum = omega (arith, used, within, sum)
+used_on n t m g (advance.Rests p) used within sum = tt
+used_on n t m g (advance.Faults f) used within sum = tt
+used_on n t m g (advance.Needs p) used within sum = tt
+used_on n t m g (advance.Creates p) used within sum = tt
+used_on n t m g advance.Sends used within sum = tt
+used_on n t m g advance.Serves used within sum = tt
 
 module _ (h : HistoryShape) (code : List Node) (x y : Lease) (l : IsLease h code x) (fresh : x.spent ≡ false) (m : ℕ) where
   pub runs_on : y.number ≡ x.number → y.burst ≡ x.burst → y.grant ≡ x.grant → y.taken ≡ min (x.taken + m) (2 ^ 64 - 1)
@@ -60,7 +60,7 @@ module _ (h : HistoryShape) (code : List Node) (x y : Lease) (l : IsLease h code
           };
         };
         fresh = still;
-        turn = r.turn;
+        advance = r.advance;
         stop = r.stop;
-        used = subst (λ g. IsUsed y.taken g r.turn) (sym grant) (used_on y.taken x.taken m x.grant r.turn r.used l.within sum);
+        used = subst (λ g. IsUsed y.taken g r.advance) (sym grant) (used_on y.taken x.taken m x.grant r.advance r.used l.within sum);
       }

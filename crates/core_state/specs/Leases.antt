@@ -9,7 +9,7 @@ use Rattle.journals.specs.Journals.{RunShape, granted}
 use Rattle.laws.specs.Reached.{IsAt}
 use Rattle.lease_laws.specs.Leases.{IsLentAt}
 use Rattle.program_code.specs.declared.code.Node.{Node}
-use Rattle.activity_step.specs.declared.turn.Turn.{Turn}
+use Rattle.activity_step.specs.declared.advance.Advance.{Advance}
 use Rattle.activity_step.specs.Activities.{IsStopAt, IsUsed}
 use Rattle.activity_step.specs.Local.{LocalRun}
 use Rattle.actor.specs.Actors.{Stands, code_of}
@@ -39,6 +39,6 @@ pub record IsLease (h : HistoryShape) (code : List Node) (x : Lease) : Type 0 wh
 pub record HasStopped (h : HistoryShape) (code : List Node) (x : Lease) : Type 0 where
   pub lease : IsLease h code x
   pub fresh : x.spent ≡ false
-  pub turn : Turn
-  pub stop : IsStopAt (lease.done fresh).end turn
-  pub used : IsUsed x.taken x.grant turn
+  pub advance : Advance
+  pub stop : IsStopAt (lease.done fresh).end advance
+  pub used : IsUsed x.taken x.grant advance

@@ -93,9 +93,9 @@ same_place l h i k li lk e = elim (eqb_tells i k) [
   ]
 ]
 
--- the test of a place is that of its turn
-pub turn_told : (l : Lane) → IsLane l → (i k : ℕ) → i < size_of l → k < size_of l → (place_at l i == place_at l k) ≡ (i == k)
-turn_told l h i k li lk = by (eqb_tells i k) (eqb_tells (place_at l i) (place_at l k))
+-- the test of a place is that of its ordinal
+pub ordinal_told : (l : Lane) → IsLane l → (i k : ℕ) → i < size_of l → k < size_of l → (place_at l i == place_at l k) ≡ (i == k)
+ordinal_told l h i k li lk = by (eqb_tells i k) (eqb_tells (place_at l i) (place_at l k))
   where
     by : ((eqb i k ≡ true) × (i ≡ k)) ⊎ ((eqb i k ≡ false) × (i ≢ k)) → ((eqb (place_at l i) (place_at l k) ≡ true) × (place_at l i ≡ place_at l k)) ⊎ ((eqb (place_at l i) (place_at l k) ≡ false) × (place_at l i ≢ place_at l k)) → (place_at l i == place_at l k) ≡ (i == k)
     by (inl a) (inl b) = b.0 ∙ sym a.0
@@ -103,10 +103,10 @@ turn_told l h i k li lk = by (eqb_tells i k) (eqb_tells (place_at l i) (place_at
     by (inr a) (inl b) = absurd (a.1 (same_place l h i k li lk b.1))
     by (inr a) (inr b) = b.0 ∙ sym a.0
 
--- what the fronts say of a turn after one change
+-- what the fronts say of an ordinal after one change
 shown_of : (l : Lane) → IsLane l → (o : Option ℕ) (mark : Bool) (old new : Marks) → IsFront l o → ShownSo l o mark old new → (i : ℕ) → i < size_of l → is_marked new (place_at l i) ≡ elim (is_front l i) [ true ↦ mark | false ↦ is_marked old (place_at l i) ]
 shown_of l h None mark old new none same i lt = same (place_at l i) ∙ sym (ap (λ b. elim b [ true ↦ mark | false ↦ is_marked old (place_at l i) ]) (none i))
-shown_of l h (Some k) mark old new front so i lt = so (place_at l i) ∙ ap (λ b. elim b [ true ↦ mark | false ↦ is_marked old (place_at l i) ]) (turn_told l h i k lt front.0 ∙ sym (front.1 i))
+shown_of l h (Some k) mark old new front so i lt = so (place_at l i) ∙ ap (λ b. elim b [ true ↦ mark | false ↦ is_marked old (place_at l i) ]) (ordinal_told l h i k lt front.0 ∙ sym (front.1 i))
 
 pub shown_again : (l : Lane) (closed : Bool) (marks : Marks) (before after : Option ℕ) (old between new : Marks) → IsLane l → IsLane (record l { closed = closed; marks = marks }) → AreShown l old → IsFront l before → ShownSo l before false old between → IsFront (record l { closed = closed; marks = marks }) after → ShownSo (record l { closed = closed; marks = marks }) after true between new → AreShown (record l { closed = closed; marks = marks }) new
 shown_again l closed marks before after old between new h k shown front hidden next so i lt =
@@ -125,14 +125,14 @@ shown_again l closed marks before after old between new h k shown front hidden n
 pub closed_lane : (l : Lane) (closed : Bool) → IsLane l → IsLane (record l { closed = closed })
 closed_lane l closed h = record { tree = h.tree; room = h.room; inside = h.inside; rising = h.rising }
 
-pub marked_lane : (l : Lane) (marks : Marks) (turn : ℕ) (mark : Bool) → IsLane l → turn < size_of l → IsTree marks → room marks ≡ room l.marks → MarkedSo turn mark l.marks marks → IsLane (record l { marks = marks })
-marked_lane l marks turn mark h within tree same so = record {
+pub marked_lane : (l : Lane) (marks : Marks) (ordinal : ℕ) (mark : Bool) → IsLane l → ordinal < size_of l → IsTree marks → room marks ≡ room l.marks → MarkedSo ordinal mark l.marks marks → IsLane (record l { marks = marks })
+marked_lane l marks ordinal mark h within tree same so = record {
   tree = tree;
   room = omega (arith, h.room, same);
-  inside = λ i e. by i (eqb_tells i turn) (sym (so i) ∙ e);
+  inside = λ i e. by i (eqb_tells i ordinal) (sym (so i) ∙ e);
   rising = h.rising;
 }
   where
-    by : (i : ℕ) → ((eqb i turn ≡ true) × (i ≡ turn)) ⊎ ((eqb i turn ≡ false) × (i ≢ turn)) → elim (i == turn) [ true ↦ mark | false ↦ is_marked l.marks i ] ≡ true → i < size_of l
+    by : (i : ℕ) → ((eqb i ordinal ≡ true) × (i ≡ ordinal)) ⊎ ((eqb i ordinal ≡ false) × (i ≢ ordinal)) → elim (i == ordinal) [ true ↦ mark | false ↦ is_marked l.marks i ] ≡ true → i < size_of l
     by i (inl a) e = omega (arith, within, a.1)
     by i (inr a) e = h.inside i (sym (ap (λ b. elim b [ true ↦ mark | false ↦ is_marked l.marks i ]) a.0) ∙ e)

@@ -15,7 +15,7 @@ use Rattle.marked_places.specs.declared.marks.Marks.{Marks}
 use Rattle.marked_places.specs.Firsts.{IsFirstFrom}
 use Rattle.marked_places.specs.Lanes.{AreLanes, AreShown, FitIn, IsGrown, IsLane, IsLaneOf, KeepsOthers, Stands, count, is_closed, is_closed_in, is_first, is_front, is_open, lane_at, lane_count, lane_of, place_at, size_of, spot, spot_at}
 use Rattle.marked_places.specs.Marks.{IsTree, MarkedSo, SameMarks, is_marked, room as room_of}
-use Rattle.marked_places.proofs.LaneLemmas.{both_true, clash, first_up_to, turn_told}
+use Rattle.marked_places.proofs.LaneLemmas.{both_true, clash, first_up_to, ordinal_told}
 
 -- An element of a list after a write
 
@@ -42,10 +42,10 @@ pub stands_so : (o : Option Lane) (l : Lane) (i p : ℕ) → o ≡ Some l → St
 stands_so o l i p e s = subst (λ x. Stands x i p) e s
 
 -- what is open at a place, by its lane
-pub at_lane : (t : Lanes) → AreLanes t → (p : ℕ) → p < count t → (l : Lane) × ((lane_at t (lane_of t p) ≡ Some l) × ((spot_at t p).turn < size_of l) × (place_at l (spot_at t p).turn ≡ p))
+pub at_lane : (t : Lanes) → AreLanes t → (p : ℕ) → p < count t → (l : Lane) × ((lane_at t (lane_of t p) ≡ Some l) × ((spot_at t p).ordinal < size_of l) × (place_at l (spot_at t p).ordinal ≡ p))
 at_lane t h p lt = by (lane_at t (lane_of t p)) refl (h.spots p lt)
   where
-    by : (o : Option Lane) → lane_at t (lane_of t p) ≡ o → Stands o (spot_at t p).turn p → (l : Lane) × ((lane_at t (lane_of t p) ≡ Some l) × ((spot_at t p).turn < size_of l) × (place_at l (spot_at t p).turn ≡ p))
+    by : (o : Option Lane) → lane_at t (lane_of t p) ≡ o → Stands o (spot_at t p).ordinal p → (l : Lane) × ((lane_at t (lane_of t p) ≡ Some l) × ((spot_at t p).ordinal < size_of l) × (place_at l (spot_at t p).ordinal ≡ p))
     by None e s = absurd s
     by (Some l) e s = (l, (e, s.0, s.1))
 
@@ -54,7 +54,7 @@ fronts_open t h p e =
     let x = at_lane t h p (h.fronts_within p e) in
     let l : Lane = x.0 in
     let k : ℕ = lane_of t p in
-    let i : ℕ = (spot_at t p).turn in
+    let i : ℕ = (spot_at t p).ordinal in
     let g : IsLaneOf t k l = h.lanes k l x.1.0 in
     let front : is_front l i ≡ true = sym (g.shown i x.1.1) ∙ ap (is_marked t.fronts) x.1.2 ∙ e in
     let parts = both_true (not l.closed) (is_first (is_marked l.marks) i) front in
@@ -69,7 +69,7 @@ front_before t h p e =
     let x = at_lane t h p (h.within p parts.0) in
     let l : Lane = x.0 in
     let k : ℕ = lane_of t p in
-    let i : ℕ = (spot_at t p).turn in
+    let i : ℕ = (spot_at t p).ordinal in
     let g : IsLaneOf t k l = h.lanes k l x.1.0 in
     let marked : is_marked l.marks i ≡ true = g.told i x.1.1 ∙ ap (is_marked t.marks) x.1.2 ∙ parts.0 in
     let open_lane : not l.closed ≡ true = sym (ap (λ o. not (is_closed_in o)) x.1.0) ∙ parts.1 in
@@ -173,15 +173,15 @@ changed t new k l m h x = record {
     stand_in : (o : Option Lane) (i p : ℕ) → o ≡ Some l → Stands o i p → Stands (Some m) i p
     stand_in o i p e s = let r = stands_so o l i p e s in (omega (arith, r.0, same_size), same_place i ∙ r.1)
 
-    stand : (p : ℕ) → p < count t → Stands (lane_at new (lane_of new p)) (spot_at new p).turn p
+    stand : (p : ℕ) → p < count t → Stands (lane_at new (lane_of new p)) (spot_at new p).ordinal p
     stand p lt =
-        subst (λ (s : Spot). Stands (lane_at new s.lane) s.turn p) (sym (same_spot p))
-        (subst (λ xs. Stands (slice_get xs (lane_of t p)) (spot_at t p).turn p) (sym x.lanes)
+        subst (λ (s : Spot). Stands (lane_at new s.lane) s.ordinal p) (sym (same_spot p))
+        (subst (λ xs. Stands (slice_get xs (lane_of t p)) (spot_at t p).ordinal p) (sym x.lanes)
         (elim (eqb_tells (lane_of t p) k) [
           | inl a ↦ let e : lane_at t (lane_of t p) ≡ Some l = ap (lane_at t) a.1 ∙ x.here in
               let s : slice_get (set t.lanes.items k m) (lane_of t p) ≡ Some m = ap (slice_get (set t.lanes.items k m)) a.1 ∙ set_here t.lanes.items k m (within_get t.lanes.items k l x.here) in
-              subst (λ o. Stands o (spot_at t p).turn p) (sym s) (stand_in (lane_at t (lane_of t p)) (spot_at t p).turn p e (h.spots p lt))
-          | inr a ↦ subst (λ o. Stands o (spot_at t p).turn p) (sym (set_other t.lanes.items k (lane_of t p) m a.1)) (h.spots p lt)
+              subst (λ o. Stands o (spot_at t p).ordinal p) (sym s) (stand_in (lane_at t (lane_of t p)) (spot_at t p).ordinal p e (h.spots p lt))
+          | inr a ↦ subst (λ o. Stands o (spot_at t p).ordinal p) (sym (set_other t.lanes.items k (lane_of t p) m a.1)) (h.spots p lt)
         ]))
 
     front_within : (p : ℕ) → is_marked new.fronts p ≡ true → ((leb (count t) p ≡ true) × (count t ≤ p)) ⊎ ((leb (count t) p ≡ false) × (p < count t)) → p < count new
@@ -203,28 +203,28 @@ closed_same t k l m here c j = closed_so t k m m.closed (within_get t.lanes.item
 ]
 
 -- where a place that is read stands
-pub spot_told : (t : Lanes) → AreLanes t → (p : ℕ) (s : Spot) (l : Lane) → p < count t → s ≡ spot_at t p → l ≡ get_or t.lanes.items s.lane l → (lane_at t s.lane ≡ Some l) × (s.turn < size_of l) × (place_at l s.turn ≡ p)
+pub spot_told : (t : Lanes) → AreLanes t → (p : ℕ) (s : Spot) (l : Lane) → p < count t → s ≡ spot_at t p → l ≡ get_or t.lanes.items s.lane l → (lane_at t s.lane ≡ Some l) × (s.ordinal < size_of l) × (place_at l s.ordinal ≡ p)
 spot_told t h p s l lt e read =
     let x = at_lane t h p lt in
     let found : lane_at t s.lane ≡ Some x.0 = ap (λ (y : Spot). lane_at t y.lane) e ∙ x.1.0 in
     let here : lane_at t s.lane ≡ Some l = slice_get_read t.lanes.items (lane_count t) s.lane l refl (within_get t.lanes.items s.lane x.0 found) read in
     let same : Some x.0 ≡ Some l = sym found ∙ here in
     let lane : x.0 ≡ l = cc in
-    let turn : s.turn ≡ (spot_at t p).turn = ap (λ (y : Spot). y.turn) e in
-    (here, subst (λ i. i < size_of l) (sym turn) (subst (λ n. (spot_at t p).turn < size_of n) lane x.1.1), ap (place_at l) turn ∙ sym (ap (λ n. place_at n (spot_at t p).turn) lane) ∙ x.1.2)
+    let ordinal : s.ordinal ≡ (spot_at t p).ordinal = ap (λ (y : Spot). y.ordinal) e in
+    (here, subst (λ i. i < size_of l) (sym ordinal) (subst (λ n. (spot_at t p).ordinal < size_of n) lane x.1.1), ap (place_at l) ordinal ∙ sym (ap (λ n. place_at n (spot_at t p).ordinal) lane) ∙ x.1.2)
 
 pub fit_in : (t : Lanes) → AreLanes t → (k : ℕ) (l : Lane) → lane_at t k ≡ Some l → FitIn l (room_of t.fronts)
 fit_in t h k l e i lt = let r = (h.lanes k l e).within i lt in omega (arith, r, h.front_room)
 
--- a mark of a place is one of its turn
-pub told_so : (t : Lanes) → AreLanes t → (k : ℕ) (l : Lane) → lane_at t k ≡ Some l → (turn p : ℕ) (mark : Bool) (marks new : Marks) → turn < size_of l → place_at l turn ≡ p → MarkedSo turn mark l.marks marks → MarkedSo p mark t.marks new → (i : ℕ) → i < size_of l → is_marked marks i ≡ is_marked new (place_at l i)
-told_so t h k l e turn p mark marks new within here so made i lt =
+-- a mark of a place is one of its ordinal
+pub told_so : (t : Lanes) → AreLanes t → (k : ℕ) (l : Lane) → lane_at t k ≡ Some l → (ordinal p : ℕ) (mark : Bool) (marks new : Marks) → ordinal < size_of l → place_at l ordinal ≡ p → MarkedSo ordinal mark l.marks marks → MarkedSo p mark t.marks new → (i : ℕ) → i < size_of l → is_marked marks i ≡ is_marked new (place_at l i)
+told_so t h k l e ordinal p mark marks new within here so made i lt =
     so i
     ∙ (λ j. elim (same j) [ true ↦ mark | false ↦ (h.lanes k l e).told i lt j ])
     ∙ sym (made (place_at l i))
   where
-    same : (i == turn) ≡ (place_at l i == p)
-    same = sym (turn_told l (h.lanes k l e).lane i turn lt within) ∙ ap (λ q. place_at l i == q) here
+    same : (i == ordinal) ≡ (place_at l i == p)
+    same = sym (ordinal_told l (h.lanes k l e).lane i ordinal lt within) ∙ ap (λ q. place_at l i == q) here
 
 pub others_so : (t : Lanes) (p k : ℕ) (mark : Bool) (new : Marks) → lane_of t p ≡ k → MarkedSo p mark t.marks new → (q : ℕ) → lane_of t q ≢ k → is_marked new q ≡ is_marked t.marks q
 others_so t p k mark new e made q ne = made q ∙ elim (eqb_tells q p) [
@@ -280,10 +280,10 @@ more_lanes t v y h lane none items = record {
       shown = λ i lt. absurd (omega (arith, lt, none));
     })
 
-    stands : (p : ℕ) (l : Lane) → lane_at t (lane_of t p) ≡ Some l → Stands (Some l) (spot_at t p).turn p → Stands (slice_get v.items (lane_of t p)) (spot_at t p).turn p
+    stands : (p : ℕ) (l : Lane) → lane_at t (lane_of t p) ≡ Some l → Stands (Some l) (spot_at t p).ordinal p → Stands (slice_get v.items (lane_of t p)) (spot_at t p).ordinal p
     stands p l e s =
         let found : slice_get v.items (lane_of t p) ≡ Some l = ap (λ xs. slice_get xs (lane_of t p)) items ∙ get_append t.lanes.items (y ∷ []) (lane_of t p) l e in
-        subst (λ o. Stands o (spot_at t p).turn p) (sym found) s
+        subst (λ o. Stands o (spot_at t p).ordinal p) (sym found) s
 
 -- One more place
 
@@ -295,7 +295,7 @@ pub record IsGrowth (t new : Lanes) (k : ℕ) (l m : Lane) : Type 0 where
   pub lane : IsLane m
   pub places : m.places.items ≡ l.places.items ++ count t ∷ []
   pub closed : m.closed ≡ l.closed
-  pub turns : SameMarks l.marks m.marks
+  pub ordinals : SameMarks l.marks m.marks
   pub marks : IsTree new.marks
   pub same : SameMarks t.marks new.marks
   pub room : count t < room_of new.marks
@@ -354,7 +354,7 @@ grown t new k l m h x = record {
     old = h.lanes k l x.here
 
     same_front : (i : ℕ) → is_front m i ≡ is_front l i
-    same_front i = λ j. not (x.closed j) && is_first (λ q. x.turns q j) i
+    same_front i = λ j. not (x.closed j) && is_first (λ q. x.ordinals q j) i
 
     no_front : is_front l (size_of l) ≡ false
     no_front = both_not (not l.closed) (is_marked l.marks (size_of l)) _ (not_marked (is_marked l.marks) (size_of l) (size_of l) old.lane.inside (omega arith))
@@ -370,9 +370,9 @@ grown t new k l m h x = record {
     told : (i : ℕ) → i < size_of m → ((leb (size_of l) i ≡ true) × (size_of l ≤ i)) ⊎ ((leb (size_of l) i ≡ false) × (i < size_of l)) → is_marked m.marks i ≡ is_marked new.marks (place_at m i)
     told i lt (inl a) =
         let e : i ≡ size_of l = omega (arith, lt, long, a.1) in
-        x.turns i ∙ not_marked (is_marked l.marks) (size_of l) i old.lane.inside a.1
+        x.ordinals i ∙ not_marked (is_marked l.marks) (size_of l) i old.lane.inside a.1
         ∙ sym (not_marked (is_marked t.marks) (count t) (count t) h.within (omega arith)) ∙ sym (x.same (count t)) ∙ ap (is_marked new.marks) (sym (ap (place_at m) e ∙ new_place))
-    told i lt (inr a) = x.turns i ∙ old.told i a.1 ∙ sym (x.same (place_at l i)) ∙ ap (is_marked new.marks) (sym (old_place i a.1))
+    told i lt (inr a) = x.ordinals i ∙ old.told i a.1 ∙ sym (x.same (place_at l i)) ∙ ap (is_marked new.marks) (sym (old_place i a.1))
 
     shown : (i : ℕ) → i < size_of m → ((leb (size_of l) i ≡ true) × (size_of l ≤ i)) ⊎ ((leb (size_of l) i ≡ false) × (i < size_of l)) → is_marked new.fronts (place_at m i) ≡ is_front m i
     shown i lt (inl a) =
@@ -408,26 +408,26 @@ grown t new k l m h x = record {
     set_lane : slice_get (set t.lanes.items k m) k ≡ Some m
     set_lane = set_here t.lanes.items k m (within_get t.lanes.items k l x.here)
 
-    stand_old : (p : ℕ) → p < count t → ((eqb (lane_of t p) k ≡ true) × (lane_of t p ≡ k)) ⊎ ((eqb (lane_of t p) k ≡ false) × (lane_of t p ≢ k)) → Stands (slice_get new.lanes.items (lane_of t p)) (spot_at t p).turn p
+    stand_old : (p : ℕ) → p < count t → ((eqb (lane_of t p) k ≡ true) × (lane_of t p ≡ k)) ⊎ ((eqb (lane_of t p) k ≡ false) × (lane_of t p ≢ k)) → Stands (slice_get new.lanes.items (lane_of t p)) (spot_at t p).ordinal p
     stand_old p lt (inl a) =
         let found : slice_get new.lanes.items (lane_of t p) ≡ Some m = ap (slice_get new.lanes.items) a.1 ∙ put_lane k ∙ set_lane in
-        let s = stands_so (lane_at t (lane_of t p)) l (spot_at t p).turn p (ap (lane_at t) a.1 ∙ x.here) (h.spots p lt) in
-        subst (λ o. Stands o (spot_at t p).turn p) (sym found) (omega (arith, s.0, long), old_place (spot_at t p).turn s.0 ∙ s.1)
-    stand_old p lt (inr a) = subst (λ o. Stands o (spot_at t p).turn p) (sym (put_lane (lane_of t p) ∙ set_other t.lanes.items k (lane_of t p) m a.1)) (h.spots p lt)
+        let s = stands_so (lane_at t (lane_of t p)) l (spot_at t p).ordinal p (ap (lane_at t) a.1 ∙ x.here) (h.spots p lt) in
+        subst (λ o. Stands o (spot_at t p).ordinal p) (sym found) (omega (arith, s.0, long), old_place (spot_at t p).ordinal s.0 ∙ s.1)
+    stand_old p lt (inr a) = subst (λ o. Stands o (spot_at t p).ordinal p) (sym (put_lane (lane_of t p) ∙ set_other t.lanes.items k (lane_of t p) m a.1)) (h.spots p lt)
 
-    stand : (p : ℕ) → p < count new → ((leb (count t) p ≡ true) × (count t ≤ p)) ⊎ ((leb (count t) p ≡ false) × (p < count t)) → Stands (lane_at new (lane_of new p)) (spot_at new p).turn p
+    stand : (p : ℕ) → p < count new → ((leb (count t) p ≡ true) × (count t ≤ p)) ⊎ ((leb (count t) p ≡ false) × (p < count t)) → Stands (lane_at new (lane_of new p)) (spot_at new p).ordinal p
     stand p lt (inl a) =
         let e : p ≡ count t = omega (arith, lt, size, a.1) in
         let s : spot_at new p ≡ spot k (size_of l) = ap (spot_at new) e ∙ new_spot in
-        subst (λ (y : Spot). Stands (lane_at new y.lane) y.turn p) (sym s)
+        subst (λ (y : Spot). Stands (lane_at new y.lane) y.ordinal p) (sym s)
         (subst (λ o. Stands o (size_of l) p) (sym (put_lane k ∙ set_lane)) (omega (arith, long), new_place ∙ sym e))
-    stand p lt (inr a) = subst (λ (y : Spot). Stands (lane_at new y.lane) y.turn p) (sym (old_spot p a.1)) (stand_old p a.1 (eqb_tells (lane_of t p) k))
+    stand p lt (inr a) = subst (λ (y : Spot). Stands (lane_at new y.lane) y.ordinal p) (sym (old_spot p a.1)) (stand_old p a.1 (eqb_tells (lane_of t p) k))
 
-pub placed : (t new : Lanes) (k turn : ℕ) → new.spots.items ≡ t.spots.items ++ spot k turn ∷ [] → IsGrown k t new
-placed t new k turn e = record {
-  more = ap (λ s. length s) e ∙ length-append t.spots.items (spot k turn ∷ []);
-  here = ap (λ s. (slice_index_or s (count t) (spot 0 0)).lane) e ∙ ap (λ (y : Spot). y.lane) (read_last t.spots.items (spot k turn) (spot 0 0));
-  others = λ p lt. ap (λ s. (slice_index_or s p (spot 0 0)).lane) e ∙ ap (λ (y : Spot). y.lane) (read_left t.spots.items (spot k turn) (spot 0 0) p lt);
+pub placed : (t new : Lanes) (k ordinal : ℕ) → new.spots.items ≡ t.spots.items ++ spot k ordinal ∷ [] → IsGrown k t new
+placed t new k ordinal e = record {
+  more = ap (λ s. length s) e ∙ length-append t.spots.items (spot k ordinal ∷ []);
+  here = ap (λ s. (slice_index_or s (count t) (spot 0 0)).lane) e ∙ ap (λ (y : Spot). y.lane) (read_last t.spots.items (spot k ordinal) (spot 0 0));
+  others = λ p lt. ap (λ s. (slice_index_or s p (spot 0 0)).lane) e ∙ ap (λ (y : Spot). y.lane) (read_left t.spots.items (spot k ordinal) (spot 0 0) p lt);
 }
 
 pub on_err : {T E : Type 0} (r : Result T E) (P : Type 0) → P → OnErr r P
@@ -436,8 +436,8 @@ on_err (Err e) P p = p
 
 -- the same lane over the same fronts
 pub shown_still : (l m : Lane) (old new : Marks) → m.places.items ≡ l.places.items → m.closed ≡ l.closed → SameMarks l.marks m.marks → SameMarks old new → AreShown l old → AreShown m new
-shown_still l m old new places closed turns same shown i lt =
-    ap (is_marked new) place ∙ same (place_at l i) ∙ shown i (omega (arith, lt, size)) ∙ sym (λ j. not (closed j) && is_first (λ q. turns q j) i)
+shown_still l m old new places closed ordinals same shown i lt =
+    ap (is_marked new) place ∙ same (place_at l i) ∙ shown i (omega (arith, lt, size)) ∙ sym (λ j. not (closed j) && is_first (λ q. ordinals q j) i)
   where
     size : size_of m ≡ size_of l
     size = ap (λ s. length s) places

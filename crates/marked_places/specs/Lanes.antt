@@ -17,7 +17,7 @@ is_first test n = test n && none_before test n
 
 -- A lane
 
--- the place of a turn
+-- the place of an ordinal
 abbrev pub place_at : Lane → ℕ → ℕ
 place_at l i = slice_index l.places.items i
 
@@ -30,11 +30,11 @@ pub record IsLane (l : Lane) : Type 0 where
   pub inside : (i : ℕ) → is_marked l.marks i ≡ true → i < size_of l
   pub rising : (i j : ℕ) → i < j → j < size_of l → place_at l i < place_at l j
 
--- the lane is open, and the place of this turn is its first marked one
+-- the lane is open, and the place of this ordinal is its first marked one
 abbrev pub is_front : Lane → ℕ → Bool
 is_front l i = not l.closed && is_first (is_marked l.marks) i
 
--- the turn of the front, if there is one
+-- the ordinal of the front, if there is one
 abbrev pub IsFront : Lane → Option ℕ → Type 0
 IsFront l None = (i : ℕ) → is_front l i ≡ false
 IsFront l (Some k) = (k < size_of l) × ((i : ℕ) → is_front l i ≡ (i == k))
@@ -51,7 +51,7 @@ FitIn l n = (i : ℕ) → i < size_of l → place_at l i < n
 abbrev pub AreShown : Lane → Marks → Type 0
 AreShown l fronts = (i : ℕ) → i < size_of l → is_marked fronts (place_at l i) ≡ is_front l i
 
--- the place of a turn is marked so, and the others stay
+-- the place of an ordinal is marked so, and the others stay
 abbrev pub ShownSo : Lane → Option ℕ → Bool → (old new : Marks) → Type 0
 ShownSo l None mark old new = SameMarks old new
 ShownSo l (Some k) mark old new = MarkedSo (place_at l k) mark old new
@@ -69,7 +69,7 @@ abbrev pub lane_count : Lanes → ℕ
 lane_count t = length t.lanes.items
 
 abbrev pub spot : ℕ → ℕ → Spot
-spot k i = record { lane = k; turn = i }
+spot k i = record { lane = k; ordinal = i }
 
 -- where a place stands
 abbrev pub spot_at : Lanes → ℕ → Spot
@@ -88,8 +88,8 @@ is_closed_in (Some l) = l.closed
 abbrev pub is_closed : Lanes → ℕ → Bool
 is_closed t k = is_closed_in (lane_at t k)
 
--- a place has this turn
-abbrev pub Stands : Option Lane → (turn place : ℕ) → Type 0
+-- a place has this ordinal
+abbrev pub Stands : Option Lane → (ordinal place : ℕ) → Type 0
 Stands None i p = ⊥
 Stands (Some l) i p = (i < size_of l) × (place_at l i ≡ p)
 
@@ -106,7 +106,7 @@ pub record AreLanes (t : Lanes) : Type 0 where
   pub room : count t ≤ room_of t.marks
   pub front_room : count t ≤ room_of t.fronts
   pub lanes : (k : ℕ) (l : Lane) → lane_at t k ≡ Some l → IsLaneOf t k l
-  pub spots : (p : ℕ) → p < count t → Stands (lane_at t (lane_of t p)) (spot_at t p).turn p
+  pub spots : (p : ℕ) → p < count t → Stands (lane_at t (lane_of t p)) (spot_at t p).ordinal p
   pub within : (p : ℕ) → is_marked t.marks p ≡ true → p < count t
   pub fronts_within : (p : ℕ) → is_marked t.fronts p ≡ true → p < count t
 

@@ -28,12 +28,12 @@ ghost use Rattle.marked_places.specs.Marks.{IsTree, MarkedSo, SameMarks, room as
 use crate::marks::Marks;
 use std::alloc::{AllocError, Global};
 
-/// A place has a turn in its lane, from 0 on.
+/// A place has an ordinal in its lane, from 0 on.
 #[derive(Drop)]
 pub struct Lane {
     pub closed: bool,
     pub places: Vec<u32>,
-    /// By turns.
+    /// By ordinals.
     pub marks: Marks,
 }
 
@@ -51,7 +51,7 @@ impl Lane {
         }
     }
 
-    /// One more place, which is not marked. The answer is its turn.
+    /// One more place, which is not marked. The answer is its ordinal.
     pub fn add(&mut self, place: u32) -> Result<u32, AllocError>
         requires lane { IsLane self.old }
         requires last { (i : ℕ) → i < size_of self.old → place_at self.old i < place }
@@ -60,36 +60,36 @@ impl Lane {
         ensures marks { SameMarks self.old.marks self.new.marks }
         ensures places { OnOk result
             (self.new.places.items ≡ self.old.places.items ++ place ∷ []) }
-        ensures turn { IfOk result (λ turn. turn ≡ size_of self.old) }
+        ensures ordinal { IfOk result (λ ordinal. ordinal ≡ size_of self.old) }
         ensures err { OnErr result (self.new.places.items ≡ self.old.places.items) }
     {
-        let turn = self.places.len();
-        if turn >= u32::MAX as usize {
+        let ordinal = self.places.len();
+        if ordinal >= u32::MAX as usize {
             return Err(AllocError);
         }
-        self.marks.make_room(turn)?;
+        self.marks.make_room(ordinal)?;
         self.places.push(place)?;
-        Ok(turn as u32)
+        Ok(ordinal as u32)
     }
 
-    /// Marks the place of a turn, or takes its mark away.
-    pub fn mark(&mut self, turn: usize, mark: bool, fronts: &mut Marks)
+    /// Marks the place of an ordinal, or takes its mark away.
+    pub fn mark(&mut self, ordinal: usize, mark: bool, fronts: &mut Marks)
         requires lane { IsLane self.old }
-        requires within { turn < size_of self.old }
+        requires within { ordinal < size_of self.old }
         requires tree { IsTree fronts.old }
         requires room { FitIn self.old (room_of fronts.old) }
         requires shown { AreShown self.old fronts.old }
         ensures lane { IsLane self.new }
         ensures places { self.new.places ≡ self.old.places }
         ensures closed { self.new.closed ≡ self.old.closed }
-        ensures marked { MarkedSo turn mark self.old.marks self.new.marks }
+        ensures marked { MarkedSo ordinal mark self.old.marks self.new.marks }
         ensures tree { IsTree fronts.new }
         ensures kept { room_of fronts.new ≡ room_of fronts.old }
         ensures shown { AreShown self.new fronts.new }
         ensures others { KeepsOthers self.old fronts.old fronts.new }
     {
         let before = self.front();
-        self.marks.set(turn, mark);
+        self.marks.set(ordinal, mark);
         let after = self.front();
         self.show(before, false, fronts);
         self.show(after, true, fronts);
@@ -117,7 +117,7 @@ impl Lane {
         self.show(after, true, fronts);
     }
 
-    // The turn of the first marked place, where the lane is open.
+    // The ordinal of the first marked place, where the lane is open.
     fn front(&self) -> Option<usize>
         requires lane { IsLane self.now }
         ensures front { IsFront self.now result }
@@ -128,17 +128,17 @@ impl Lane {
         self.marks.next(0)
     }
 
-    // Marks the place of a turn among the fronts, or takes its mark away.
-    fn show(&self, turn: Option<usize>, mark: bool, fronts: &mut Marks)
+    // Marks the place of an ordinal among the fronts, or takes its mark away.
+    fn show(&self, ordinal: Option<usize>, mark: bool, fronts: &mut Marks)
         requires tree { IsTree fronts.old }
-        requires within { IsWithin self.now turn }
+        requires within { IsWithin self.now ordinal }
         requires room { FitIn self.now (room_of fronts.old) }
         ensures tree { IsTree fronts.new }
         ensures kept { room_of fronts.new ≡ room_of fronts.old }
-        ensures shown { ShownSo self.now turn mark fronts.old fronts.new }
+        ensures shown { ShownSo self.now ordinal mark fronts.old fronts.new }
     {
-        if let Some(turn) = turn {
-            fronts.set(self.places[turn] as usize, mark);
+        if let Some(ordinal) = ordinal {
+            fronts.set(self.places[ordinal] as usize, mark);
         }
     }
 }

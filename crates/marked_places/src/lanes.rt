@@ -35,7 +35,7 @@ use std::alloc::{AllocError, Global};
 #[derive(Clone, Copy, Drop)]
 pub struct Spot {
     pub lane: u32,
-    pub turn: u32,
+    pub ordinal: u32,
 }
 
 /// Places from 0 on. The first marked place in an open lane is found without a look at those in
@@ -102,8 +102,8 @@ impl Lanes {
         self.marks.make_room(place)?;
         self.fronts.make_room(place)?;
         self.spots.reserve(1)?;
-        let turn = self.lanes[lane as usize].add(place as u32)?;
-        let _ = self.spots.push(Spot { lane, turn });
+        let ordinal = self.lanes[lane as usize].add(place as u32)?;
+        let _ = self.spots.push(Spot { lane, ordinal });
         Ok(())
     }
 
@@ -119,7 +119,7 @@ impl Lanes {
     {
         self.marks.set(place, mark);
         let spot = self.spots[place];
-        self.lanes[spot.lane as usize].mark(spot.turn as usize, mark, &mut self.fronts);
+        self.lanes[spot.lane as usize].mark(spot.ordinal as usize, mark, &mut self.fronts);
     }
 
     /// Closes a lane, or opens it.

@@ -9,7 +9,7 @@ use Rattle.coded_cells.specs.Cells.{CodedCell, CodedStore, cell_at, coded}
 use Rattle.coded_cells.specs.Shapes.{cell_of, store_of}
 use Rattle.coded_cells.proofs.CodedLemmas.{cell-store_of, length-store_of, store_of-append}
 use Rattle.activity_rows.specs.declared.decision.Decision.TheVariants as decision
-use Rattle.activity_step.specs.Turns.{IsPerformed}
+use Rattle.activity_step.specs.Advances.{IsPerformed}
 use Rattle.activity_step.proofs.performing.add_copy.Goals as goal
 
 copied : (k : List Node) (old new : CodedStore) (lines : List Line) (at : ℕ) (c : CodedCell) (r : Result ℕ AllocError) → c ≡ cell_at old at → IfOk r (λ p. p ≡ length old) → OnOk r (new ≡ old ++ c ∷ []) → IfOk r (IsPerformed k old new lines lines (decision.Copies at))

@@ -13,7 +13,7 @@ use Rattle.open_terms.specs.Shapes.{open_shape, stack}
 use Rattle.syntax_states.specs.Shapes.{state_shape, mode_shape}
 use Rattle.asp_syntax.specs.Read.{read as read_list}
 use Rattle.asp_syntax.proofs.First.{comes_on}
-use Rattle.asp_syntax.proofs.Turning.{left_none, read_on}
+use Rattle.asp_syntax.proofs.Feeding.{left_none, read_on}
 use Rattle.asp_syntax.proofs.reading.read_from.Goals as goal
 
 pub loop-here-preserved : goal.loop-here-preserved
@@ -21,7 +21,7 @@ loop-here-preserved c =
     let here = c.in_ok-here.here in
     let x : StateShape = state_shape c.loop-here.state in
     let w : WalkShape = walk_shape c.loop-here.walk in
-    let n = c.turn.new.state in
+    let n = c.feed.new.state in
     let y : StateShape = state_shape n in
     let v = c.in_ok-term.ensures.value in
     let stepped : step true x (lexeme_of here) ≡ Some y = v.1 ∙ ap (λ (s : StateShape). Some s) (left_none c.in_ok-term.field-0 n c.in_default.not-Some) in
@@ -41,7 +41,7 @@ loop-here-smaller c =
     let here = c.in_ok-here.here in
     let x : StateShape = state_shape c.loop-here.state in
     let w : WalkShape = walk_shape c.loop-here.walk in
-    let n = c.turn.new.state in
+    let n = c.feed.new.state in
     let v = c.in_ok-term.ensures.value in
     let stepped : step true x (lexeme_of here) ≡ Some (state_shape n) = v.1 ∙ ap (λ (s : StateShape). Some s) (left_none c.in_ok-term.field-0 n c.in_default.not-Some) in
     let on : goes_on here.token ≡ true = comes_on x w (lexeme_of here) (mode_shape n.mode) (open_shape n.inner) (stack n.outer.items) v.0 stepped in

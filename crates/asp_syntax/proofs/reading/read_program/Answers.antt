@@ -1,4 +1,4 @@
-use Rattle.asp_syntax.proofs.Turning.{ok_program, ok_only, err_first, err_only}
+use Rattle.asp_syntax.proofs.Feeding.{ok_program, ok_only, err_first, err_only}
 use Rattle.asp_syntax.proofs.reading.read_program.Goals as goal
 
 pub returns-in-Ok-clause-program : goal.returns-in-Ok-clause-program

@@ -5,14 +5,14 @@ use Rattle.code_laws.specs.Nodes.{nth}
 use Rattle.coded_cells.specs.Shapes.{store_of}
 use Rattle.machine_frames.specs.Rows.{child_view}
 use Rattle.machine_frames.specs.Standing.{View, view_of}
-use Rattle.activity_step.proofs.TurnLemmas.{could_contract, contracted}
+use Rattle.activity_step.proofs.AdvanceLemmas.{could_contract, contracted}
 use Rattle.machine_frames.specs.Rows.{chosen}
 use Rattle.activity_step.proofs.TermLemmas.{choice_contracts}
 use Rattle.activity_step.proofs.state.State.choose.Goals as goal
 
 pub returns-in_ok-become_child : goal.returns-in_ok-become_child
 returns-in_ok-become_child c = record {
-  turn = λ k at0 from place t vs s ls h at is operands_are cell_is.
+  advance = λ k at0 from place t vs s ls h at is operands_are cell_is.
       let a = c.args.self.now in
       let v : View = view_of a.machine in
       let q = store_of k a.store.cells in
@@ -27,7 +27,7 @@ returns-in_ok-become_child c = record {
 
 pub returns-else-go : goal.returns-else-go
 returns-else-go c = record {
-  turn = λ k at0 from place t vs s ls h at is operands_are cell_is.
+  advance = λ k at0 from place t vs s ls h at is operands_are cell_is.
       let a = c.args.self.now in
       let v : View = view_of a.machine in
       let q = store_of k a.store.cells in

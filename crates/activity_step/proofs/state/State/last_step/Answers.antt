@@ -5,13 +5,13 @@ use Rattle.code_laws.specs.Nodes.{nth}
 use Rattle.coded_cells.specs.Shapes.{store_of}
 use Rattle.machine_frames.specs.Rows.{child_view}
 use Rattle.machine_frames.specs.Standing.{View, view_of}
-use Rattle.activity_step.proofs.TurnLemmas.{could_contract, contracted}
+use Rattle.activity_step.proofs.AdvanceLemmas.{could_contract, contracted}
 use Rattle.activity_step.proofs.TermLemmas.{last_contracts}
 use Rattle.activity_step.proofs.state.State.last_step.Goals as goal
 
 pub returns-in_ok-become_child : goal.returns-in_ok-become_child
 returns-in_ok-become_child c = record {
-  turn = λ k number place t vs s ls h at is operands_are size.
+  advance = λ k number place t vs s ls h at is operands_are size.
       let a = c.args.self.now in
       let v : View = view_of a.machine in
       let q = store_of k a.store.cells in
@@ -26,7 +26,7 @@ returns-in_ok-become_child c = record {
 
 pub returns-else-go : goal.returns-else-go
 returns-else-go c = record {
-  turn = λ k number place t vs s ls h at is operands_are size.
+  advance = λ k number place t vs s ls h at is operands_are size.
       let a = c.args.self.now in
       let v : View = view_of a.machine in
       let q = store_of k a.store.cells in

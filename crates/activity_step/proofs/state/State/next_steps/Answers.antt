@@ -2,13 +2,13 @@ use Rattle.std.proofs.Common.{rules, ◌≡◌, ◌+◌, ℕ, true, false, refl,
 use Rattle.coded_cells.specs.Shapes.{store_of}
 use Rattle.machine_frames.specs.Rows.{node_view}
 use Rattle.machine_frames.specs.Standing.{View, view_of}
-use Rattle.activity_step.proofs.TurnLemmas.{could_contract, contracted}
+use Rattle.activity_step.proofs.AdvanceLemmas.{could_contract, contracted}
 use Rattle.activity_step.proofs.TermLemmas.{next_contracts}
 use Rattle.activity_step.proofs.state.State.next_steps.Goals as goal
 
 pub returns-then-go : goal.returns-then-go
 returns-then-go c = record {
-  turn = λ k place t vs s ls h at is operands_are differs.
+  advance = λ k place t vs s ls h at is operands_are differs.
       let a = c.args.self.now in
       let v : View = view_of a.machine in
       let q = store_of k a.store.cells in
@@ -21,7 +21,7 @@ returns-then-go c = record {
 
 pub returns-else-go : goal.returns-else-go
 returns-else-go c = record {
-  turn = λ k place t vs s ls h at is operands_are differs.
+  advance = λ k place t vs s ls h at is operands_are differs.
       let a = c.args.self.now in
       let v : View = view_of a.machine in
       let q = store_of k a.store.cells in

@@ -34,7 +34,7 @@ returns-clause-runs c = λ a rs h.
     let all : r.count ≡ c.saturating_sub.result = omega (arith, before, after, kept.count, c.saturating_sub.ensures) in
     record {
       end = r.end;
-      turn = c.in_ok-local.field-0;
+      advance = c.in_ok-local.field-0;
       run = subst (λ (n : ℕ). LocalRun n a r.end) all r.run;
       within = subst (λ (n : ℕ). n ≤ c.args.most) all r.within;
       stands = stands_with x c.local.new.self a r.end rs h r.stands c.in_ok-local.ensures.code kept.sends kept.creations kept.served;

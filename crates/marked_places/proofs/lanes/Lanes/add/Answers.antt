@@ -20,12 +20,12 @@ add-requires-clause-last c =
     let g = c.requires.lanes.lanes c.args.lane l (slice_get_read t.lanes.items (lane_count t) c.args.lane l refl c.requires.lane c.index_mut.ensures.value) in
     λ i lt. let r = g.within i lt in omega (arith, r, c.len-place.ensures)
 
-pub returns-in_err-turn-clause-lanes : goal.returns-in_err-turn-clause-lanes
-returns-in_err-turn-clause-lanes c =
+pub returns-in_err-ordinal-clause-lanes : goal.returns-in_err-ordinal-clause-lanes
+returns-in_err-ordinal-clause-lanes c =
     let t = c.args.self.now in
     let h = c.requires.lanes in
     let l = c.index_mut.result.now in
-    let w = c.in_err-turn.ensures in
+    let w = c.in_err-ordinal.ensures in
     let here = slice_get_read t.lanes.items (lane_count t) c.args.lane l refl c.requires.lane c.index_mut.ensures.value in
     changed t _ c.args.lane l c.add.new.self h (record {
       here = here;
@@ -44,35 +44,35 @@ returns-in_err-turn-clause-lanes c =
       hidden = λ p no. c.make_room-2.ensures.same p;
     })
 
-pub returns-in_err-turn-clause-closed : goal.returns-in_err-turn-clause-closed
-returns-in_err-turn-clause-closed c =
+pub returns-in_err-ordinal-clause-closed : goal.returns-in_err-ordinal-clause-closed
+returns-in_err-ordinal-clause-closed c =
     let t = c.args.self.now in
     let l = c.index_mut.result.now in
-    closed_same t c.args.lane l c.add.new.self (slice_get_read t.lanes.items (lane_count t) c.args.lane l refl c.requires.lane c.index_mut.ensures.value) c.in_err-turn.ensures.closed
+    closed_same t c.args.lane l c.add.new.self (slice_get_read t.lanes.items (lane_count t) c.args.lane l refl c.requires.lane c.index_mut.ensures.value) c.in_err-ordinal.ensures.closed
 
-pub returns-in_err-turn-clause-err : goal.returns-in_err-turn-clause-err
-returns-in_err-turn-clause-err c = on_err c.from_residual-in_err-turn.result _ c.in_ok-reserve.ensures.items
+pub returns-in_err-ordinal-clause-err : goal.returns-in_err-ordinal-clause-err
+returns-in_err-ordinal-clause-err c = on_err c.from_residual-in_err-ordinal.result _ c.in_ok-reserve.ensures.items
 
-pushed : (c : goal.After-push) → c.push.new.self.items ≡ c.args.self.now.spots.items ++ spot c.args.lane c.in_ok-turn.turn ∷ []
+pushed : (c : goal.After-push) → c.push.new.self.items ≡ c.args.self.now.spots.items ++ spot c.args.lane c.in_ok-ordinal.ordinal ∷ []
 pushed c =
-    let added : c.push.new.self.items ≡ c.reserve.new.self.items ++ spot c.args.lane c.in_ok-turn.turn ∷ [] = search rules in
-    added ∙ ap (λ xs. xs ++ spot c.args.lane c.in_ok-turn.turn ∷ []) c.in_ok-reserve.ensures.items
+    let added : c.push.new.self.items ≡ c.reserve.new.self.items ++ spot c.args.lane c.in_ok-ordinal.ordinal ∷ [] = search rules in
+    added ∙ ap (λ xs. xs ++ spot c.args.lane c.in_ok-ordinal.ordinal ∷ []) c.in_ok-reserve.ensures.items
 
 pub returns-clause-lanes : goal.returns-clause-lanes
 returns-clause-lanes c =
     let t = c.args.self.now in
     let l = c.index_mut.result.now in
-    let w = c.in_ok-turn.ensures in
+    let w = c.in_ok-ordinal.ensures in
     let room = c.in_ok-make_room.ensures.room in
     let front_room = c.in_ok-make_room-2.ensures.room in
     grown t _ c.args.lane l c.add.new.self c.requires.lanes (record {
       here = slice_get_read t.lanes.items (lane_count t) c.args.lane l refl c.requires.lane c.index_mut.ensures.value;
       lanes = refl;
-      spots = pushed c ∙ ap (λ i. t.spots.items ++ spot c.args.lane i ∷ []) w.turn;
+      spots = pushed c ∙ ap (λ i. t.spots.items ++ spot c.args.lane i ∷ []) w.ordinal;
       lane = w.lane;
       places = w.places ∙ ap (λ p. l.places.items ++ p ∷ []) (c.len-place.ensures ∙ t.spots.ok.0);
       closed = w.closed;
-      turns = w.marks;
+      ordinals = w.marks;
       marks = c.make_room.ensures.tree;
       same = c.make_room.ensures.same;
       room = omega (arith, room, c.len-place.ensures, t.spots.ok.0);
@@ -85,4 +85,4 @@ pub returns-clause-closed : goal.returns-clause-closed
 returns-clause-closed c =
     let t = c.args.self.now in
     let l = c.index_mut.result.now in
-    closed_same t c.args.lane l c.add.new.self (slice_get_read t.lanes.items (lane_count t) c.args.lane l refl c.requires.lane c.index_mut.ensures.value) c.in_ok-turn.ensures.closed
+    closed_same t c.args.lane l c.add.new.self (slice_get_read t.lanes.items (lane_count t) c.args.lane l refl c.requires.lane c.index_mut.ensures.value) c.in_ok-ordinal.ensures.closed

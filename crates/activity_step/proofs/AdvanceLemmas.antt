@@ -1,0 +1,78 @@
+-- Advances from what a redex comes to.
+use Rattle.std.proofs.Common.{◌≡◌, ℕ, Bool, true, false, List, [], ◌++◌, map, refl, sym, ap, subst, ◌∙◌}
+use Rattle.std.proofs.lemmas.List.{append-nil}
+use Rattle.asp_model.specs.Term.{Tree, loc}
+use Rattle.asp_model.specs.Split.{Redex, plug}
+use Rattle.asp_model.specs.Store.{Store}
+use Rattle.asp_model.specs.Configuration.{ServiceShape}
+use Rattle.asp_model.specs.Contraction.{LineShape, Becomes, contract}
+use Rattle.asp_model.specs.Shapes.{line_shape}
+use Rattle.program_code.specs.declared.code.Node.{Node}
+use Rattle.coded_cells.specs.Shapes.{store_of}
+use Rattle.machine_frames.specs.Rows.{place_view, IsAtRedex, Contracts}
+use Rattle.machine_frames.specs.Standing.{View, Standing, view_of}
+use Rattle.activity_step.specs.declared.state.State.{State}
+use Rattle.activity_step.specs.declared.advance.Advance.{Advance}
+use Rattle.activity_step.specs.declared.advance.Advance.TheVariants as advance
+use Rattle.activity_step.specs.Advances.{Stands, Reduced, IsTold, IsStopped, Told, IsReduction, IsAdvance}
+
+-- what is no contraction is told
+pub stopped : (k : List Node) (x : State) (t : Tree) (vs : List ServiceShape) (s : Store) (ls : List LineShape) (go : Bool) (n : ℕ) (r : Redex) (a : Advance) → Stands k x t vs s ls → IsAtRedex k (view_of x.machine) t vs n r
+    → IsStopped a (contract (store_of k x.store.cells) r) → IsAdvance k x t vs s ls go a
+stopped k x t vs s ls go n r advance.Reduces h at is = absurd is
+stopped k x t vs s ls go n r (advance.Rests p) h at is = absurd is
+stopped k x t vs s ls go n r (advance.Faults f) h at is = record { contexts = at.contexts; redex = r; splits = at.splits; is = subst (λ (q : Store). IsTold (advance.Faults f) (contract q r)) h.store is; kept = h }
+stopped k x t vs s ls go n r (advance.Needs p) h at is = record { contexts = at.contexts; redex = r; splits = at.splits; is = subst (λ (q : Store). IsTold (advance.Needs p) (contract q r)) h.store is; kept = h }
+stopped k x t vs s ls go n r (advance.Creates p) h at is = record { contexts = at.contexts; redex = r; splits = at.splits; is = subst (λ (q : Store). IsTold (advance.Creates p) (contract q r)) h.store is; kept = h }
+stopped k x t vs s ls go n r advance.Sends h at is = record { contexts = at.contexts; redex = r; splits = at.splits; is = subst (λ (q : Store). IsTold advance.Sends (contract q r)) h.store is; kept = h }
+stopped k x t vs s ls go n r advance.Serves h at is = record { contexts = at.contexts; redex = r; splits = at.splits; is = subst (λ (q : Store). IsTold advance.Serves (contract q r)) h.store is; kept = h }
+
+-- a contraction is told where none may be taken
+pub could : (k : List Node) (x : State) (t : Tree) (vs : List ServiceShape) (s : Store) (ls : List LineShape) (go : Bool) (n : ℕ) (r : Redex) → Stands k x t vs s ls → IsAtRedex k (view_of x.machine) t vs n r → go ≡ false
+    → IsTold advance.Reduces (contract (store_of k x.store.cells) r) → IsReduction k x t vs s ls go
+could k x t vs s ls go n r h at closed is =
+    let told : Told k x t vs s ls advance.Reduces = record { contexts = at.contexts; redex = r; splits = at.splits; is = subst (λ (q : Store). IsTold advance.Reduces (contract q r)) h.store is; kept = h } in
+    subst (IsReduction k x t vs s ls) (sym closed) told
+
+-- the redex became a place
+pub placed : (k : List Node) (x y : State) (t : Tree) (vs : List ServiceShape) (s : Store) (ls : List LineShape) (go : Bool) (n : ℕ) (r : Redex) (p : ℕ) (added : List LineShape) → Stands k x t vs s ls → IsAtRedex k (view_of x.machine) t vs n r → go ≡ true
+    → contract (store_of k x.store.cells) r ≡ Becomes (loc p) (store_of k y.store.cells) added → view_of y.machine ≡ place_view n p (view_of x.machine) → map line_shape y.lines.items ≡ map line_shape x.lines.items ++ added
+    → IsReduction k y t vs s ls go
+placed k x y t vs s ls go n r p added h at opened is view lines =
+    let reduced : Reduced k y t vs s ls = record {
+      contexts = at.contexts;
+      redex = r;
+      becomes = loc p;
+      store = store_of k y.store.cells;
+      added = added;
+      splits = at.splits;
+      is = ap (λ (q : Store). contract q r) (sym h.store) ∙ is;
+      after = record { machine = subst (λ (v : View). Standing k v (plug at.contexts (loc p)) vs) (sym view) (at.place p); store = refl; lines = lines ∙ ap (λ (l : List LineShape). l ++ added) h.lines };
+    } in
+    subst (IsReduction k y t vs s ls) (sym opened) reduced
+
+-- a contraction of the term alone is told, or was taken
+pub could_contract : (k : List Node) (x : State) (t : Tree) (vs : List ServiceShape) (s : Store) (ls : List LineShape) (go : Bool) (v : View) → Stands k x t vs s ls → go ≡ false
+    → Contracts k t vs (store_of k x.store.cells) (store_of k x.store.cells) [] v → IsReduction k x t vs s ls go
+could_contract k x t vs s ls go v h closed c =
+    let told : Told k x t vs s ls advance.Reduces = record { contexts = c.contexts; redex = c.redex; splits = c.splits; is = subst (λ (q : Store). IsTold advance.Reduces (contract q c.redex)) h.store (c.becomes, store_of k x.store.cells, [], c.is); kept = h } in
+    subst (IsReduction k x t vs s ls) (sym closed) told
+
+pub contracted : (k : List Node) (x y : State) (t : Tree) (vs : List ServiceShape) (s : Store) (ls : List LineShape) (go : Bool) (v : View) → Stands k x t vs s ls → go ≡ true
+    → Contracts k t vs (store_of k x.store.cells) (store_of k x.store.cells) [] v → view_of y.machine ≡ v → y.store ≡ x.store → y.lines ≡ x.lines → IsReduction k y t vs s ls go
+contracted k x y t vs s ls go v h opened c view store lines =
+    let reduced : Reduced k y t vs s ls = record {
+      contexts = c.contexts;
+      redex = c.redex;
+      becomes = c.becomes;
+      store = store_of k x.store.cells;
+      added = [];
+      splits = c.splits;
+      is = ap (λ (q : Store). contract q c.redex) (sym h.store) ∙ c.is;
+      after = record {
+        machine = subst (λ (w : View). Standing k w (plug c.contexts c.becomes) vs) (sym view) c.after;
+        store = ap (λ q. store_of k q.cells) store;
+        lines = ap (λ l. map line_shape l.items) lines ∙ h.lines ∙ sym (append-nil ls);
+      };
+    } in
+    subst (IsReduction k y t vs s ls) (sym opened) reduced

@@ -1,0 +1,17 @@
+use Rattle.std.proofs.Common.{◌≡◌, ℕ, List, subst}
+use Rattle.asp_model.specs.Contraction.{contract}
+use Rattle.program_code.specs.Tables.{kind_head}
+use Rattle.coded_cells.specs.Shapes.{store_of}
+use Rattle.activity_rows.specs.Decisions.{decided, value_redex}
+use Rattle.machine_frames.specs.Stacks.{last}
+use Rattle.activity_step.proofs.state.State.value_advance.Goals as goal
+
+pub returns : goal.returns
+returns c = record {
+  advance = λ t vs s ls h at.
+      let k = c.args.code.now in
+      let q = c.args.self.now.store.cells in
+      let ops : List ℕ = last c.args.count c.args.self.now.machine.operands.items in
+      c.decided_advance.ensures.advance k t vs s ls (value_redex (kind_head c.args.kind.now) ops) h at
+      (subst (λ (l : List ℕ). contract (store_of k q) (value_redex (kind_head c.args.kind.now) l) ≡ decided k q c.in_ok-decision.decision) c.last_operands-operands.ensures.operands c.in_ok-decision.ensures.decided);
+}
