@@ -9,3 +9,4 @@ pub mod OutlookLemmas
 pub mod HeldLemmas
 pub mod StanceLemmas
 pub mod PassingLemmas
+pub mod FillingLemmas

@@ -39,6 +39,10 @@ pub record Stands (x : Actor) (a : model.Activity) (rs : List RequestShape) : Ty
   pub creations : x.creations ≡ a.creations
   pub queue : IsQueue x a.served rs
 
+-- it stands for some activity
+abbrev pub IsSomebody : Actor → Type 0
+IsSomebody x = (a : model.Activity) × (rs : List RequestShape) × Stands x a rs
+
 -- it stands for a closed activity that received closed requests
 pub record IsClosedFor (x : Actor) : Type 0 where
   pub activity : model.Activity

@@ -1,17 +1,32 @@
 //! Values of futures that come.
 
-ghost use Rattle.std.specs.Prelude.{◌≡◌, ◌<◌, List, OnOk, length};
+ghost use Rattle.std.specs.Prelude.{◌≡◌, ◌<◌, IfOk, List, OnOk, length};
 ghost use Rattle.std.specs.Arc.{arc_value};
 ghost use Rattle.asp_model.specs.Configuration as model;
 ghost use Rattle.asp_model.specs.Configuration.{RequestShape};
 ghost use Rattle.asp_model.specs.Parcel.{unpack_at};
+ghost use Rattle.asp_model.specs.Shapes.{future_shape};
 ghost use Rattle.coded_cells.specs.Shapes.{parcel_shape};
-ghost use Rattle.laws.specs.Closed.{IsClosedValue};
-ghost use Rattle.actor.specs.Actors.{Stands, code_of};
+ghost use Rattle.journals.specs.Deliveries.{holders_from, unpack_each};
+ghost use Rattle.laws.specs.Closed.{AreBelow, IsClosedValue};
+ghost use Rattle.actor.specs.Actors.{IsSomebody, Stands, code_of};
 
 use crate::actor::Actor;
+use asp_model::FutureName;
 use coded_cells::{Parcel, Place};
 use std::alloc::{AllocError, Global};
+use std::collections::BTreeSet;
+
+/// These places, ascending.
+fn listed(alloc: Global, places: &BTreeSet<Place>) -> Result<Vec<Place>, AllocError>
+    ensures places { IfOk result (λ v. v.items ≡ places.now.keys) }
+{
+    let mut all = Vec::new(alloc);
+    for place in places {
+        all.push(*place)?;
+    }
+    Ok(all)
+}
 
 impl Actor {
     /// Puts the value of a future at a place. It takes no reduction.
@@ -25,5 +40,47 @@ impl Actor {
         ensures code { code_of self.new ≡ code_of self.old }
     {
         self.activity.fill(alloc, place, value)
+    }
+
+    fn fill_all(
+        &mut self,
+        alloc: Global,
+        places: &[Place],
+        value: &Parcel,
+    ) -> Result<(), AllocError>
+        requires value { IsClosedValue (parcel_shape value.now) }
+        requires within { AreBelow (length self.old.activity.state.store.cells) places.now }
+        requires somebody { IsSomebody self.old }
+        requires code { arc_value value.now.code ≡ code_of self.old }
+        ensures stands { (a : model.Activity) (rs : List RequestShape) → Stands self.old a rs →
+            let filled = unpack_each a.store places.now (parcel_shape value.now) in
+            OnOk result (Stands self.new (record a { store = filled }) rs) }
+        ensures code { code_of self.new ≡ code_of self.old }
+    {
+        for place in places {
+            self.fill(alloc, *place, value)?;
+        }
+        Ok(())
+    }
+
+    /// Puts a copy of its own of the value of a future at each place that holds it. It takes no
+    /// reduction.
+    pub fn fill_each(
+        &mut self,
+        alloc: Global,
+        future: &FutureName,
+        value: &Parcel,
+    ) -> Result<(), AllocError>
+        requires value { IsClosedValue (parcel_shape value.now) }
+        requires somebody { IsSomebody self.old }
+        requires code { arc_value value.now.code ≡ code_of self.old }
+        ensures stands { (a : model.Activity) (rs : List RequestShape) → Stands self.old a rs →
+            let places = holders_from 0 (future_shape future.now) a.store in
+            let filled = unpack_each a.store places (parcel_shape value.now) in
+            OnOk result (Stands self.new (record a { store = filled }) rs) }
+        ensures code { code_of self.new ≡ code_of self.old }
+    {
+        let places = listed(alloc, self.activity.store().holders_of(future))?;
+        self.fill_all(alloc, &places, value)
     }
 }
