@@ -2,10 +2,12 @@
 #![tactic(auto)]
 
 mod kinds;
+mod plan;
 mod policy;
 mod strategy;
 
 pub use kinds::{BudgetedPolicy, ForwardPolicy, LazyPolicy, MessagePolicy};
+pub use plan::Plan;
 pub use policy::{PolicyBox, UpdatePolicy};
 pub use strategy::{Policies, Strategy};
 
