@@ -9,7 +9,7 @@ ghost use Rattle.asp_model.specs.Intent.{start_term};
 ghost use Rattle.asp_model.specs.Parcel.{unpack as unpack_in};
 ghost use Rattle.asp_model.specs.Shapes.{activity_shape as report_shape, status_shape};
 ghost use Rattle.asp_model.specs.Store.{Object as ObjectCell};
-ghost use Rattle.coded_cells.specs.Shapes.{parcel_shape};
+ghost use Rattle.coded_cells.specs.Shapes.{parcel_shape, store_of};
 ghost use Rattle.laws.specs.Closed.{IsClosedParcel};
 ghost use Rattle.program_code.specs.Pieces.{tree};
 ghost use Rattle.program_code.specs.Sound.{root_of};
@@ -23,6 +23,7 @@ ghost use Rattle.actor.specs.Actors.{Stands, code_of};
 use activity_step::{Activity, State};
 use asp_model::{ActivityName, ActivityReport, Label, Status};
 use coded_cells::Parcel;
+use object_store::Store;
 use program_code::Code;
 use request_queue::{Queue, Request};
 use run_ends::EndState;
@@ -111,6 +112,14 @@ impl Actor {
         ensures code { arc_value result.now ≡ code_of self.now }
     {
         self.activity.code()
+    }
+
+    /// Its store.
+    pub fn store(&self) -> &Store
+        ensures store { (a : model.Activity) (rs : List RequestShape) → Stands self.now a rs →
+            store_of (code_of self.now) result.now.cells ≡ a.store }
+    {
+        self.activity.store()
     }
 
     /// What a run's end tells of it, and its state.
