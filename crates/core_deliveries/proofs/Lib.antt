@@ -1,3 +1,6 @@
 pub mod DeliveryLemmas
-pub mod NeedLemmas
+pub mod ReceivingLemmas
 pub mod NextLemmas
+pub mod NeedLemmas
+pub mod EdgeLemmas
+pub mod DueLemmas

@@ -2,12 +2,13 @@
 use Rattle.std.specs.Prelude.{◌≡◌, ℕ, List, Some}
 use Rattle.asp_model.specs.Chase.{chase}
 use Rattle.asp_model.specs.Configuration.{Activity}
-use Rattle.asp_model.specs.History.{Delivered, HistoryShape, Need}
+use Rattle.asp_model.specs.History.{Delivered, Edge, HistoryShape, Need}
 use Rattle.asp_model.specs.Names.{Name, FutureShape}
 use Rattle.asp_model.specs.Parcel.{ParcelShape, unpack_at}
 use Rattle.asp_model.specs.Store.{cell}
-use Rattle.journals.specs.Deliveries.{value_needed}
+use Rattle.journals.specs.Deliveries.{holders_from, unpack_each, value_needed}
 use Rattle.journals.specs.Journals.{RunShape}
+use Rattle.laws.specs.Reached.{HasValue, IsThere}
 use Rattle.lease_laws.specs.Entries.{IsIn, with_store_of}
 use Rattle.activity_ranks.specs.Ranks.{HasNeed, RankShape}
 use Rattle.program_code.specs.declared.code.Node.{Node}
@@ -33,6 +34,27 @@ IsNeedDelivered h code s k place f x new =
 abbrev pub IsSomeNeed : CoreState → ℕ → ℕ → FutureShape → Type 0
 IsSomeNeed x k place f = (h : HistoryShape) × (code : List Node) × (s : RunShape)
     × IsCore h code x s × IsNeeded s k place f
+
+-- the activity of a number is in, somebody has the name of who passed it the future, and that has a value
+pub record IsPassed (s : RunShape) (k : ℕ) (f : FutureShape) (from : Name) : Type 0 where
+  pub name : Name
+  pub activity : Activity
+  pub here : IsIn s k name activity
+  pub sender : IsThere s.configuration from
+  pub value : ParcelShape
+  pub filled : HasValue s.configuration f value
+
+-- a copy of its own of the value was delivered at each place that held the future, and nothing else
+abbrev pub IsEdgeDelivered : (h : HistoryShape) (code : List Node) (s : RunShape) (k : ℕ) (f : FutureShape) (from : Name)
+    → IsPassed s k f from → CoreState → Type 0
+IsEdgeDelivered h code s k f from x new =
+    IsCore (with_entry h (Delivered (Edge f from x.name))) code new
+    (with_store_of s x.name x.activity (unpack_each x.activity.store (holders_from 0 f x.activity.store) x.value))
+
+-- some history of this core allows it
+abbrev pub IsSomePassed : CoreState → ℕ → FutureShape → Name → Type 0
+IsSomePassed x k f from = (h : HistoryShape) × (code : List Node) × (s : RunShape)
+    × IsCore h code x s × IsPassed s k f from
 
 -- after a look where a value was owed; elsewhere the rank is as before
 abbrev pub looked_at : (was told : RankShape) → RankShape

@@ -1,3 +1,4 @@
 -- in reading order
 pub mod Deliveries
 pub mod Next
+pub mod Due

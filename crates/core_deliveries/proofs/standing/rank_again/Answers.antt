@@ -2,7 +2,7 @@ use Rattle.std.proofs.Common.{◌≡◌, ◌∙◌, sym, subst}
 use Rattle.activity_ranks.specs.Ranks.{HasNeed, IsRanked}
 use Rattle.rank_laws.specs.Ranked.{rank_of}
 use Rattle.future_table.specs.Values.{values_of}
-use Rattle.core_deliveries.proofs.NeedLemmas.{is_needy, not_looked}
+use Rattle.core_deliveries.proofs.ReceivingLemmas.{is_needy, not_looked}
 use Rattle.core_deliveries.specs.Deliveries.{looked_at}
 use Rattle.core_deliveries.proofs.standing.rank_again.Goals as goal
 

@@ -1,0 +1,23 @@
+-- An edge that is owed to one that is in may be delivered.
+use Rattle.std.specs.Prelude.{◌≡◌, ℕ, true, List, Some, slice_get}
+use Rattle.asp_model.specs.History.{ChoiceShape}
+use Rattle.asp_model.specs.Names.{FutureShape}
+use Rattle.journals.specs.Edges.{EdgeShape, HoldersShape, has_filled}
+use Rattle.journals.specs.Journals.{RunShape}
+use Rattle.journal_laws.specs.EdgesKept.{IsKnownEdge}
+use Rattle.laws.specs.Linked.{Each}
+use Rattle.laws.specs.Reached.{IsFilled}
+use Rattle.lease_laws.specs.Numbered.{AreNumbered}
+use Rattle.verdict_laws.specs.Owed.{is_due}
+use Rattle.core_deliveries.specs.Deliveries.{IsPassed}
+
+-- the edges are between activities that are there, and what counts as filled has a value
+pub record AreOfRun (s : RunShape) (h : HoldersShape) : Type 0 where
+  pub numbered : AreNumbered s
+  pub edges : Each (IsKnownEdge s.configuration) h.edges
+  pub filled : (f : FutureShape) → has_filled f h.filled ≡ true → IsFilled s.configuration f
+
+abbrev pub DueEdgesArePassed : Type 0
+DueEdgesArePassed = (s : RunShape) (h : HoldersShape) (answers : List ChoiceShape) (place : ℕ) (x : EdgeShape)
+    → AreOfRun s h → slice_get h.edges place ≡ Some x → is_due s h answers place ≡ true
+    → (k : ℕ) × (passed : IsPassed s k x.future x.from) × (passed.name ≡ x.to)
