@@ -35,7 +35,7 @@ use Rattle.core_state.specs.Cores.{IsPopulated, with_entry}
 use Rattle.core_state.proofs.ComeBackLemmas.{count_few}
 use Rattle.core_commits.specs.declared.change.Change.{Change}
 use Rattle.core_commits.specs.Changes.{IsChange, IsChanged, IsStanding, acted}
-use Rattle.core_commits.specs.Commits.{IsActCommitted, IsActing, IsCommitted, IsCommittedBy, IsSomeActing, act_by, act_of, act_within, communicates}
+use Rattle.core_commits.specs.Commits.{IsActCommitted, IsActing, IsCommitted, IsCommittedBy, act_by, act_of, act_within, communicates}
 use Rattle.core_commits.specs.Handing.{IsToHand, came_in, handed}
 use Rattle.core_commits.proofs.ActLemmas.{numbered, reached}
 
@@ -89,6 +89,9 @@ none_of None h = refl
 none_of (Some e) h = none_true (sym h)
 
 -- With the reduction
+
+abbrev pub IsSomeActing : CoreState → ℕ → ℕ → ℕ → Actor → Type 0
+IsSomeActing x k grant reductions a = (h : HistoryShape) × (code : List Node) × (s : RunShape) × (n : Name) × (e : Effect) × IsActing h code x s k n grant reductions a e
 
 module _ (x : CoreState) (k grant reductions : ℕ) (a : Actor) (z : IsSomeActing x k grant reductions a) where
   abbrev h : HistoryShape

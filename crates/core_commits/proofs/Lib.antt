@@ -3,3 +3,4 @@ pub mod ActLemmas
 pub mod StandLemmas
 pub mod OtherLemmas
 pub mod CommitLemmas
+pub mod ArrivalLemmas

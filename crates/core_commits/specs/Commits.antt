@@ -1,5 +1,5 @@
 -- What the commit of a lease leaves.
-use Rattle.std.specs.Prelude.{◌≡◌, ◌≤◌, ◌-◌, ℕ, zero, suc, Bool, true, false, List, Option, Some, None}
+use Rattle.std.specs.Prelude.{◌≡◌, ◌≤◌, ◌+◌, ◌-◌, ℕ, zero, suc, Bool, true, false, List, Option, Some, None}
 use Rattle.asp_model.specs.Chase.{Chase, chase}
 use Rattle.asp_model.specs.Configuration.{Activity, RequestShape, requests_of}
 use Rattle.asp_model.specs.History.{Committed, HistoryShape}
@@ -11,12 +11,14 @@ use Rattle.journals.specs.Journals.{RunShape}
 use Rattle.journals.specs.Owed.{need_of}
 use Rattle.core_laws.specs.Commits.{HasRun, made_by, returned, with_activity}
 use Rattle.program_code.specs.declared.code.Node.{Node}
+use Rattle.actor.specs.declared.act.Given.{Given}
 use Rattle.actor.specs.declared.actor.Actor.{Actor}
 use Rattle.actor.specs.Stances as stances
 use Rattle.actor.specs.Stances.{StanceShape}
 use Rattle.core_state.specs.declared.state.CoreState.{CoreState}
 use Rattle.core_state.specs.Commits.{IsReturning, IsRunCommitted}
 use Rattle.core_state.specs.Cores.{IsCore, with_entry}
+use Rattle.core_commits.specs.Handing.{IsToHand, came_in}
 
 abbrev pub communicates : StanceShape → Bool
 communicates (stances.Goes b) = b
@@ -62,5 +64,16 @@ pub record IsActing (h : HistoryShape) (code : List Node) (x : CoreState) (s : R
   pub returning : IsReturning h code x s k n grant taken a
   pub intends : intent_in (with_activity n returning.end s.configuration) n ≡ Acts e
 
-abbrev pub IsSomeActing : CoreState → ℕ → ℕ → ℕ → Actor → Type 0
-IsSomeActing x k grant reductions a = (h : HistoryShape) × (code : List Node) × (s : RunShape) × (n : Name) × (e : Effect) × IsActing h code x s k n grant reductions a e
+-- it has come in so, with that effect, and nobody has what it gives
+pub record IsGiving (h : HistoryShape) (code : List Node) (x : CoreState) (s : RunShape) (k : ℕ) (n : Name) (grant reductions : ℕ) (e : Effect) (g : Given) : Type 0 where
+  pub before : CoreState
+  pub actor : Actor
+  pub acting : IsActing h code before s k n grant reductions actor e
+  pub hand : IsToHand (with_entry h (Committed k reductions)) code x (came_in s k (s.left + (grant - reductions)) (with_activity n e.own s.configuration)) e g
+  pub journal : x.journal ≡ before.journal
+  pub ranks : x.ranks ≡ before.ranks
+  pub left : x.left ≡ before.left
+  pub bursts : x.bursts ≡ before.bursts
+
+abbrev pub IsSomeGiving : CoreState → ℕ → ℕ → ℕ → Given → Type 0
+IsSomeGiving x k grant reductions g = (h : HistoryShape) × (code : List Node) × (s : RunShape) × (n : Name) × (e : Effect) × IsGiving h code x s k n grant reductions e g

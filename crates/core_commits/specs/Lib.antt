@@ -2,3 +2,4 @@
 pub mod Handing
 pub mod Changes
 pub mod Commits
+pub mod Arrivals

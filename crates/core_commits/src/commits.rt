@@ -1,6 +1,6 @@
-//! The commit of a lease.
+//! The commit of a lease, in two steps: who passes on what its communication gives stands between.
 
-ghost use Rattle.std.specs.Prelude.{◌≡◌, ◌-◌, IfOk, List, OnErr, OnOk, is_some};
+ghost use Rattle.std.specs.Prelude.{◌≡◌, ◌-◌, IfOk, List, OnErr, OnOk, is_some, ℕ};
 ghost use Rattle.asp_model.specs.Chase.{chase};
 ghost use Rattle.asp_model.specs.Configuration as model;
 ghost use Rattle.asp_model.specs.Configuration.{RequestShape};
@@ -16,8 +16,17 @@ ghost use Rattle.core_journal.specs.Journal.{entries_in};
 ghost use Rattle.core_state.specs.Commits.{IsSomeLease};
 ghost use Rattle.core_state.specs.Cores.{IsCore};
 ghost use Rattle.core_state.specs.Leases.{IsLease};
+ghost use Rattle.core_commits.specs.Arrivals.{
+  IsArrivalOf,
+  IsArrived,
+  IsSomeArrived,
+  grant_of,
+  number_of,
+};
 ghost use Rattle.core_commits.specs.Commits.{IsCommitted, act_of, act_within, communicates};
 
+use crate::acting::bring_in;
+use crate::arrival::Arrival;
 use crate::coming::come_in;
 use actor::{Actor, Stance};
 use core_state::{CoreState, Lease};
@@ -45,26 +54,60 @@ fn may_act(state: &CoreState, grant: u64, taken: u64, actor: &Actor) -> Result<b
     Ok(communicates(stance))
 }
 
-/// A lease comes back: its activity comes in with the contractions that it took. The communication
-/// at which it stands is done where it may be and one of the grant is left. What is left of the
-/// grant goes back.
-pub fn commit(state: &mut CoreState, lease: Lease) -> Result<(), AllocError>
+/// A lease comes back: its activity has received what came meanwhile. The communication at which it
+/// stands is done where it may be and one of the grant is left; nobody has what that gives yet.
+pub fn arrive(state: &mut CoreState, lease: Lease) -> Result<Arrival, AllocError>
     requires lease { IsSomeLease state.old lease }
-    ensures committed { (h : HistoryShape) (code : List NodeShape) (s : RunShape) →
+    ensures arrived { (h : HistoryShape) (code : List NodeShape) (s : RunShape) →
         IsCore h code state.old s → (l : IsLease h code lease) →
-        let done = IsCommitted h code s lease.number l.name lease.grant lease.taken in
-        OnOk result (done state.new) }
-    ensures entries { OnErr result
-        (entries_in state.new.journal ≡ entries_in state.old.journal) }
+        IfOk result (IsArrivalOf h code state.new s l.name lease) }
+    ensures entries { entries_in state.new.journal ≡ entries_in state.old.journal }
 {
     let number = lease.number;
     let grant = lease.grant;
     let taken = lease.taken;
     let actor = state.take_back(lease)?;
     let acts = may_act(state, grant, taken, &actor)?;
-    if acts {
-        come_in(state, number, grant, taken.saturating_add(1), actor)
-    } else {
-        state.come_back(number, grant, taken, actor)
+    if !acts {
+        return Ok(Arrival::Ran {
+            number,
+            grant,
+            taken,
+            actor,
+        });
+    }
+    let given = bring_in(state, number, actor)?;
+    Ok(Arrival::Acted {
+        number,
+        grant,
+        reductions: taken.saturating_add(1),
+        given,
+    })
+}
+
+/// Whose lease has come back is in, others have what its communication gave, and what is left of
+/// the grant goes back.
+pub fn settle(state: &mut CoreState, arrival: Arrival) -> Result<(), AllocError>
+    requires arrived { IsSomeArrived state.old arrival }
+    ensures committed { (h : HistoryShape) (code : List NodeShape) (s : RunShape) (n : Name)
+        (taken : ℕ) → IsArrived h code state.old s n taken arrival →
+        let done = IsCommitted h code s (number_of arrival) n (grant_of arrival) taken in
+        OnOk result (done state.new) }
+    ensures entries { OnErr result
+        (entries_in state.new.journal ≡ entries_in state.old.journal) }
+{
+    match arrival {
+        Arrival::Ran {
+            number,
+            grant,
+            taken,
+            actor,
+        } => state.come_back(number, grant, taken, actor),
+        Arrival::Acted {
+            number,
+            grant,
+            reductions,
+            given,
+        } => come_in(state, number, grant, reductions, given),
     }
 }

@@ -2,10 +2,12 @@
 #![tactic(auto)]
 
 mod acting;
+mod arrival;
 mod change;
 mod coming;
 mod commits;
 mod handing;
 mod ranking;
 
-pub use commits::commit;
+pub use arrival::Arrival;
+pub use commits::{arrive, settle};
