@@ -13,7 +13,7 @@ use Rattle.asp_model.proofs.HistoryLemmas.{begins_with_itself, begins_with_earli
 use Rattle.turn_hub.specs.declared.view.View.{View}
 use Rattle.turn_hub.specs.Numbers.{times, own}
 use Rattle.turn_hub.specs.Seats.{GoesOn, Releases}
-use Rattle.turn_hub.specs.Sharing.{NothingOut, HasOut, Tells, Covers, IsHome, IsAway, IsShared, settled, released}
+use Rattle.turn_hub.specs.Sharing.{NothingOut, HasOut, Tells, Covers, IsHome, IsAway, IsKept, IsShared, settled, released}
 use Rattle.turn_hub.proofs.NumberLemmas.{times_here, times_none, own_there, once_at_most}
 use Rattle.turn_hub.proofs.TotalLemmas.{total_at, total_two}
 use Rattle.turn_hub.proofs.ViewLemmas.{Shelf, Homes, shelf, view_set}
@@ -50,9 +50,9 @@ module _ {H : Type 0} (history : H → HistoryShape) (out : H → ℕ → Option
   carried_value [] = None
   carried_value (x ∷ xs) = x.1
 
-  module _ (seats : ℕ) where
+  module _ (keeps : H → H → Type 0) (first : H) (seats : ℕ) where
     abbrev Rule : Shelf H → Type 0
-    Rule = IsShared history out seats
+    Rule = IsShared history out keeps first seats
 
     once_most : (s : Shelf H) (r : Rule s) (id : ℕ) (v : View H) (n : ℕ) → get_elem? s.views id ≡ some v → times n v.numbers ≤ 1
     once_most s r id v n at =
@@ -69,10 +69,10 @@ module _ {H : Type 0} (history : H → HistoryShape) (out : H → ℕ → Option
         let here = own_there v.numbers live in omega arith
 
     gives_away : (s : Shelf H) (r : Rule s) (id : ℕ) (v : View H) (h : H) (st : Step (Option H)) → (away : IsAway history out r.value s) → id ≡ away.owner → 0 < length v.numbers
-        → BeginsWith (history h) (history r.value) → ((n : ℕ) → n ≢ own v.numbers → out h n ≡ out r.value n) → get_elem? s.views id ≡ some v
+        → BeginsWith (history h) (history r.value) → ((n : ℕ) → n ≢ own v.numbers → out h n ≡ out r.value n) → keeps first h → get_elem? s.views id ≡ some v
         → (w : View H) × (a : Act (Option H)) × Valid s.homes ((0, Some h) ∷ []) a × Rule (stepped s 0 0 id ((0, Some h) ∷ []) w a)
         × released history out st (v, (0, Some h) ∷ []) (slice_index s.words 0) (w, carried_after ((0, Some h) ∷ []) a)
-    gives_away s r id v h st away mine live later same at =
+    gives_away s r id v h st away mine live later same kept at =
         let w : View H = settled history out v h in
         let words : List ℕ = set s.words 0 0 in
         let homes : Homes H = set s.homes 0 (some (Some h)) in
@@ -93,7 +93,7 @@ module _ {H : Type 0} (history : H → HistoryShape) (out : H → ℕ → Option
           w,
           gives,
           tt,
-          view_set history out seats s r id v w words homes h at refl (inl home) giver (λ j u other found u_live.
+          view_set history out keeps first seats s r id v w words homes h at refl refl kept (inl home) giver (λ j u other found u_live.
               let before = r.covers j u found u_live in
               record {
                 later = begins_with_earlier (history h) (history r.value) u.seen later before.later;
@@ -103,22 +103,22 @@ module _ {H : Type 0} (history : H → HistoryShape) (out : H → ℕ → Option
           λ other is. ap (λ (x : H). (settled history out v x, let none_left : List (ℕ × Option H) = [] in none_left)) (same_Some h other (ap carried_value is)),
         )
 
-    gives_back : (slots id : ℕ) (v : View H) (h old : H) (st : Step (Option H)) → v.taken ≡ Some old → 0 < length v.numbers → GoesOn history out (own v.numbers) old h
+    gives_back : (slots id : ℕ) (v : View H) (h old : H) (st : Step (Option H)) → v.taken ≡ Some old → 0 < length v.numbers → GoesOn history out (own v.numbers) old h → IsKept keeps v.opened h
         → Allows Rule slots id (v, (0, Some h) ∷ []) 0 (λ _. 0) (released history out st (v, (0, Some h) ∷ []))
-    gives_back slots id v h old st took live goes s r len at fits = ⊎_elim
+    gives_back slots id v h old st took live goes kept s r len at fits = ⊎_elim
         (λ (home : IsHome history out r.value s). absurd (none-some old (sym (home.idle id v at) ∙ took)))
         (λ (away : IsAway history out r.value s).
         let owner = owner_is s r.value away id v old at took in
         let later : BeginsWith (history h) (history r.value) = subst (λ (x : H). BeginsWith (history h) (history x)) (sym owner.1) goes.0 in
-        gives_away s r id v h st away owner.0 live later (λ n other. goes.1 n other ∙ ap (λ (x : H). out x n) (sym owner.1)) at)
+        gives_away s r id v h st away owner.0 live later (λ n other. goes.1 n other ∙ ap (λ (x : H). out x n) (sym owner.1)) (subst (λ (o : Option H). IsKept keeps o h) (r.opened id v at live) kept) at)
         r.place
 
-    pub gives_to : (slots id : ℕ) (me : Me (Option H) (View H)) (v : View H) (h : H) → me ≡ (v, (0, Some h) ∷ []) → 0 < length v.numbers → Releases history out v h
+    pub gives_to : (slots id : ℕ) (me : Me (Option H) (View H)) (v : View H) (h : H) → me ≡ (v, (0, Some h) ∷ []) → 0 < length v.numbers → Releases history out v h → IsKept keeps v.opened h
         → Allows Rule slots id me 0 (λ _. 0) (released history out (step slots 0 0 0 none) me)
-    gives_to slots id me v h is live releases =
+    gives_to slots id me v h is live releases kept =
         subst (λ (m : Me (Option H) (View H)). Allows Rule slots id m 0 (λ _. 0) (released history out (step slots 0 0 0 none) m)) (sym is) (go v.taken refl releases)
       where
         go : (o : Option H) → v.taken ≡ o → MatchOption o ⊥ (λ old. GoesOn history out (own v.numbers) old h)
             → Allows Rule slots id (v, (0, Some h) ∷ []) 0 (λ _. 0) (released history out (step slots 0 0 0 none) (v, (0, Some h) ∷ []))
         go None took goes = absurd goes
-        go (Some old) took goes = gives_back slots id v h old (step slots 0 0 0 none) took live goes
+        go (Some old) took goes = gives_back slots id v h old (step slots 0 0 0 none) took live goes kept

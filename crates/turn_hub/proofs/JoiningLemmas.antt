@@ -1,5 +1,5 @@
 -- Joining two seats keeps the rule: one has the numbers of both and knows what both knew, and the other is spent.
-use Rattle.std.proofs.Common.{◌≡◌, ◌≢◌, ◌⊎◌, ℕ, ◌<◌, List, [], ◌∷◌, ◌++◌, length, set, refl, sym, ◌∙◌, subst, ⊎_elim, inl, inr, arith, Option, None}
+use Rattle.std.proofs.Common.{◌≡◌, ◌≢◌, ◌⊎◌, ℕ, ◌<◌, List, [], ◌∷◌, ◌++◌, length, set, refl, sym, ◌∙◌, subst, ⊎_elim, inl, inr, arith, Option, None, Some}
 use mathlib.Core.Option.{some}
 use lib.ListN.{get_elem?}
 use Rattle.atomic_table.specs.Table.{Joins}
@@ -46,9 +46,9 @@ after_join {H = H} s id other both P at_spent at_both before j u found = ⊎_eli
     (at_set s.views id j both u t.1))
     (at_set (set s.views id both) other j spent_view u found)
 
-pub joins : {H : Type 0} (history : H → HistoryShape) (out : H → ℕ → Option (ℕ × ℕ)) (seats id : ℕ) (v : View H) (other : ℕ) (w : View H) → v.taken ≡ None → w.taken ≡ None → w.out ≡ None
-    → 0 < length v.numbers → 0 < length w.numbers → Joins (IsShared history out seats) id v other w (joined_view v w) spent_view
-joins {H = H} history out seats id v other w v_idle w_idle w_in v_live w_live s r at ne at_other =
+pub joins : {H : Type 0} (history : H → HistoryShape) (out : H → ℕ → Option (ℕ × ℕ)) (keeps : H → H → Type 0) (first : H) (seats id : ℕ) (v : View H) (other : ℕ) (w : View H) → v.taken ≡ None → w.taken ≡ None → w.out ≡ None
+    → 0 < length v.numbers → 0 < length w.numbers → Joins (IsShared history out keeps first seats) id v other w (joined_view v w) spent_view
+joins {H = H} history out keeps first seats id v other w v_idle w_idle w_in v_live w_live s r at ne at_other =
     let both = joined_view v w in
     let one : List (View H) = set s.views id both in
     let views : List (View H) = set one other spent_view in
@@ -66,6 +66,8 @@ joins {H = H} history out seats id v other w v_idle w_idle w_in v_live w_live s 
     set_else one other away.owner spent_view (not_owner history out s h away other w w_idle w_before) ∙ (set_else s.views id away.owner both (not_owner history out s h away id v v_idle at) ∙ away.there) in record {
       value = h;
       place = place_kept history out s h views still there r.place;
+      kept = r.kept;
+      opened = after_join s id other both (λ j u. 0 < length u.numbers → u.opened ≡ Some first) (λ live. absurd (omega arith)) (λ live. r.opened id v at v_live) r.opened;
       covers = after_join s id other both (λ j u. 0 < length u.numbers → Covers history out h u) (λ live. absurd (omega arith)) (λ live. both_covers) r.covers;
       once = λ n.
           let f : View H → ℕ = λ u. times n u.numbers in

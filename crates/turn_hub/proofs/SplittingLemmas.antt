@@ -1,5 +1,5 @@
 -- Splitting a seat keeps the rule: the new view is true of the value, and each number still stands once.
-use Rattle.std.proofs.Common.{◌≡◌, ◌≢◌, ◌⊎◌, ℕ, ◌+◌, ◌<◌, List, [], ◌∷◌, ◌++◌, length, set, refl, sym, ◌∙◌, subst, ⊎_elim, inl, inr, arith, Option, None}
+use Rattle.std.proofs.Common.{◌≡◌, ◌≢◌, ◌⊎◌, ℕ, ◌+◌, ◌<◌, List, [], ◌∷◌, ◌++◌, length, set, refl, sym, ◌∙◌, subst, ⊎_elim, inl, inr, arith, Option, None, Some}
 use mathlib.Core.Option.{some}
 use lib.ListN.{get_elem?}
 use Rattle.atomic_table.specs.Table.{Splits}
@@ -38,8 +38,8 @@ after_cut s id left right P at_left at_right before j u found = ⊎_elim
     (λ (is : right ≡ u). subst (P j) is (at_right j))
     (at_snoc (set s.views id left) right u j found)
 
-pub splits : {H : Type 0} (history : H → HistoryShape) (out : H → ℕ → Option (ℕ × ℕ)) (seats id : ℕ) (v : View H) → v.taken ≡ None → 1 < length v.numbers → Splits (IsShared history out seats) id v (kept_view v) (cut_view v)
-splits {H = H} history out seats id v idle two s r at =
+pub splits : {H : Type 0} (history : H → HistoryShape) (out : H → ℕ → Option (ℕ × ℕ)) (keeps : H → H → Type 0) (first : H) (seats id : ℕ) (v : View H) → v.taken ≡ None → 1 < length v.numbers → Splits (IsShared history out keeps first seats) id v (kept_view v) (cut_view v)
+splits {H = H} history out keeps first seats id v idle two s r at =
     let left = kept_view v in
     let right = cut_view v in
     let views : List (View H) = set s.views id left ++ right ∷ [] in
@@ -53,6 +53,8 @@ splits {H = H} history out seats id v idle two s r at =
     at_longer (set s.views id left) (right ∷ []) away.owner away.view (set_else s.views id away.owner left (not_owner history out s h away id v idle at) ∙ away.there) in record {
       value = h;
       place = place_kept history out s h views still there r.place;
+      kept = r.kept;
+      opened = after_cut s id left right (λ j u. 0 < length u.numbers → u.opened ≡ Some first) (λ live. r.opened id v at (omega arith)) (λ j live. r.opened id v at (omega arith)) r.opened;
       covers = after_cut s id left right (λ j u. 0 < length u.numbers → Covers history out h u) (λ live. left_covers) (λ j live. right_covers) r.covers;
       once = λ n.
           let f : View H → ℕ = λ u. times n u.numbers in

@@ -56,15 +56,20 @@ module _ {H : Type 0} (history : H → HistoryShape) (out : H → ℕ → Option
       }))
       place
 
-  module _ (seats : ℕ) where
+  module _ (keeps : H → H → Type 0) (first : H) (seats : ℕ) where
     -- the rule where one view changes and keeps its numbers
-    pub view_set : (s : Shelf H) (r : IsShared history out seats s) (id : ℕ) (v w : View H) (words : List ℕ) (homes : Homes H) (h : H) → get_elem? s.views id ≡ some v → w.numbers ≡ v.numbers
+    pub view_set : (s : Shelf H) (r : IsShared history out keeps first seats s) (id : ℕ) (v w : View H) (words : List ℕ) (homes : Homes H) (h : H) → get_elem? s.views id ≡ some v → w.numbers ≡ v.numbers → w.opened ≡ v.opened → keeps first h
         → IsHome history out h (shelf words homes (set s.views id w)) ⊎ IsAway history out h (shelf words homes (set s.views id w))
         → Covers history out h w → ((j : ℕ) (u : View H) → j ≢ id → get_elem? s.views j ≡ some u → 0 < length u.numbers → Covers history out h u)
-        → IsShared history out seats (shelf words homes (set s.views id w))
-    view_set s r id v w words homes h at same place mine others = record {
+        → IsShared history out keeps first seats (shelf words homes (set s.views id w))
+    view_set s r id v w words homes h at same source kept place mine others = record {
       value = h;
       place = place;
+      kept = kept;
+      opened = λ j u found live. ⊎_elim
+          (λ (t : (j ≡ id) × (w ≡ u)). ap (λ (x : View H). x.opened) (sym t.1) ∙ (source ∙ r.opened id v at (subst (λ (ns : List ℕ). 0 < length ns) same (subst (λ (x : View H). 0 < length x.numbers) (sym t.1) live))))
+          (λ (t : (j ≢ id) × (get_elem? s.views j ≡ some u)). r.opened j u t.1 live)
+          (at_set s.views id j w u found);
       covers = λ j u found live. ⊎_elim
           (λ (t : (j ≡ id) × (w ≡ u)). subst (Covers history out h) t.1 mine)
           (λ (t : (j ≢ id) × (get_elem? s.views j ≡ some u)). others j u t.0 t.1 live)

@@ -1,10 +1,11 @@
 -- What clauses read of a hub and of its seats.
-use Rattle.std.specs.Prelude.{◌≡◌, ◌≢◌, ℕ, ◌<◌, List, [], All, length, Option, None, MatchOption}
+use Rattle.std.specs.Prelude.{◌≡◌, ◌≢◌, ℕ, ◌<◌, List, [], All, length, Option, None, Some, MatchOption}
 use Rattle.atomic_table.specs.Seated.{TableId}
 use Rattle.atomic_table.specs.declared.shared.Seat.{Seat as Place}
 use Rattle.atomic_table.specs.Table.{Me}
 use Rattle.asp_model.specs.History.{HistoryShape, BeginsWith}
 use Rattle.turn_hub.specs.declared.view.View.{View}
+use Rattle.turn_hub.specs.declared.view.Opening.{Opening}
 use Rattle.turn_hub.specs.declared.seat.Seat.{Seat}
 use Rattle.turn_hub.specs.declared.hub.Hub.{Hub}
 use Rattle.turn_hub.specs.Numbers.{own}
@@ -19,13 +20,17 @@ module _ {H : Type 0} where
   abbrev pub opened_with : Hub H → H
   opened_with hub = hub.table.shared.key.first.value
 
-  -- the seat is of this table, one of so many
-  abbrev pub IsAt : TableId → ℕ → Seat H → Type 0
-  IsAt table seats seat = (seat.place.table_id ≡ table) × (seat.among ≡ seats)
+  -- the value that its hub was made with
+  abbrev pub opened_by : Seat H → Option H
+  opened_by seat = seat.place.me.0.opened
+
+  -- the seat is of this table, which was opened so
+  abbrev pub IsAt : TableId → Opening H → Seat H → Type 0
+  IsAt table key seat = (seat.place.table_id ≡ table) × (seat.among ≡ key.seats) × (opened_by seat ≡ Some key.first.value)
 
   -- the seat is of this hub
   abbrev pub IsOf : Hub H → Seat H → Type 0
-  IsOf hub seat = IsAt hub.table.shared.table_id (seats_of hub) seat
+  IsOf hub seat = IsAt hub.table.shared.table_id hub.table.shared.key seat
 
   -- the history that the seat has seen
   abbrev pub seen_by : Seat H → HistoryShape
@@ -46,7 +51,7 @@ module _ {H : Type 0} where
   -- the seat keeps its hub, its number and its parts
   abbrev pub IsSame : Seat H → Seat H → Type 0
   IsSame before after =
-      (after.place.table_id ≡ before.place.table_id) × (after.among ≡ before.among)
+      (after.place.table_id ≡ before.place.table_id) × (after.among ≡ before.among) × (opened_by after ≡ opened_by before)
       × (after.number ≡ before.number) × (after.parts ≡ before.parts)
 
   -- the seat keeps what it has seen and what it has out

@@ -1,5 +1,5 @@
 -- The rule of a hub's table, and what each step tells.
-use Rattle.std.specs.Prelude.{◌≡◌, ◌≢◌, ◌⊎◌, ℕ, ◌-◌, ◌<◌, List, [], ◌∷◌, ◌++◌, length, Option, Some, None}
+use Rattle.std.specs.Prelude.{◌≡◌, ◌≢◌, ◌⊎◌, ℕ, ◌-◌, ◌<◌, List, [], ◌∷◌, ◌++◌, length, Option, Some, None, MatchOption}
 use mathlib.Core.Option.{some, none}
 use lib.ListN.{get_elem?}
 use Rattle.atomic_table.specs.Table.{State, Me, Step}
@@ -7,6 +7,10 @@ use Rattle.asp_model.specs.History.{HistoryShape, BeginsWith, no_history}
 use Rattle.turn_hub.specs.declared.view.View.{View}
 use Rattle.turn_hub.specs.declared.view.Opening.{Opening}
 use Rattle.turn_hub.specs.Numbers.{times, once_below, total, behind, own}
+
+-- the value keeps what it has to of the one that the hub was made with
+abbrev pub IsKept : {H : Type 0} → (H → H → Type 0) → Option H → H → Type 0
+IsKept keeps opened h = MatchOption opened ⊥ (λ first. keeps first h)
 
 module _ {H : Type 0} (history : H → HistoryShape) (out : H → ℕ → Option (ℕ × ℕ)) where
   -- none of these seats has anything out
@@ -49,25 +53,28 @@ module _ {H : Type 0} (history : H → HistoryShape) (out : H → ℕ → Option
     pub took : view.taken ≡ Some h
     pub idle : (j : ℕ) (v : View H) → get_elem? s.views j ≡ some v → j ≢ owner → v.taken ≡ None
 
-  -- the rule, for so many seats: there is one value, at home or away, of which all views are true, and each number stands once
-  pub record IsShared (seats : ℕ) (s : State (Option H) (View H)) : Type 0 where
+  -- the rule, for a hub made with this value for so many seats: there is one value, at home or away, which keeps what it has to of the
+  -- first one, and of which all views are true; each number stands once
+  pub record IsShared (keeps : H → H → Type 0) (first : H) (seats : ℕ) (s : State (Option H) (View H)) : Type 0 where
     pub value : H
     pub place : IsHome value s ⊎ IsAway value s
+    pub kept : keeps first value
     pub covers : (j : ℕ) (v : View H) → get_elem? s.views j ≡ some v → 0 < length v.numbers → Covers value v
+    pub opened : (j : ℕ) (v : View H) → get_elem? s.views j ≡ some v → 0 < length v.numbers → v.opened ≡ Some first
     pub once : (n : ℕ) → total (λ (v : View H). times n v.numbers) s.views ≡ once_below seats n
     pub parts : total (λ (v : View H). length v.numbers) s.views ≡ seats
 
   -- the view of the first seat, which has all numbers
   abbrev pub first_view : Opening H → View H
-  first_view key = record { numbers = 0 ∷ behind 0 (key.seats - 1); seen = history key.first.value; told = []; out = None; taken = None }
+  first_view key = record { numbers = 0 ∷ behind 0 (key.seats - 1); seen = history key.first.value; told = []; out = None; taken = None; opened = Some key.first.value }
 
   -- the turn is got, and with it the value, of which the view is true
-  abbrev pub Gets : Me (Option H) (View H) → Me (Option H) (View H) → Type 0
-  Gets m w = (h : H) × (w ≡ (record m.0 { taken = Some h }, (0, Some h) ∷ m.1)) × Covers h m.0
+  abbrev pub Gets : (H → H → Type 0) → Me (Option H) (View H) → Me (Option H) (View H) → Type 0
+  Gets keeps m w = (h : H) × (w ≡ (record m.0 { taken = Some h }, (0, Some h) ∷ m.1)) × Covers h m.0 × IsKept keeps m.0.opened h
 
   -- where the word was 0 the turn is got, and else nothing changes
-  abbrev pub tried : Step (Option H) → Me (Option H) (View H) → ℕ → Me (Option H) (View H) → Type 0
-  tried st m n w = (n ≡ 0 → Gets m w) × (n ≢ 0 → w ≡ m)
+  abbrev pub tried : (H → H → Type 0) → Step (Option H) → Me (Option H) (View H) → ℕ → Me (Option H) (View H) → Type 0
+  tried keeps st m n w = (n ≡ 0 → Gets keeps m w) × (n ≢ 0 → w ≡ m)
 
   -- the view after a value was given back
   abbrev pub settled : View H → H → View H
@@ -96,7 +103,7 @@ module _ {H : Type 0} where
 
   -- the view of the seat that is split off
   abbrev pub cut_view : View H → View H
-  cut_view v = record { numbers = cut_numbers v.numbers; seen = v.seen; told = []; out = None; taken = None }
+  cut_view v = record { numbers = cut_numbers v.numbers; seen = v.seen; told = []; out = None; taken = None; opened = v.opened }
 
   -- the view of a seat that took in another
   abbrev pub joined_view : View H → View H → View H
@@ -104,7 +111,7 @@ module _ {H : Type 0} where
 
   -- what is left of the other
   abbrev pub spent_view : View H
-  spent_view = record { numbers = []; seen = no_history; told = []; out = None; taken = None }
+  spent_view = record { numbers = []; seen = no_history; told = []; out = None; taken = None; opened = None }
 
 -- what a seat carries between its take and its give: the empty slot
 abbrev pub carried : {H : Type 0} → Option H → List (ℕ × Option H)

@@ -14,7 +14,7 @@ use crate::seat::{Place, Seat};
 pub(crate) fn gather<H: Lends>(top: &Top<H>, seats: Vec<Seat<H>>) -> Place<H>
     requires table { IsSized top.now.table_id }
     requires some { 0 < sum_by (λ s. s.parts) seats.items }
-    requires seats { All (λ s. IsAt top.now.table_id top.now.key.seats s × IsFree s) seats.items }
+    requires seats { All (λ s. IsAt top.now.table_id top.now.key s × IsFree s) seats.items }
     ensures same { (result.table_id ≡ top.now.table_id) × IsIdle result.me }
     ensures parts { length result.me.0.numbers ≡ sum_by (λ s. s.parts) seats.items }
     ensures knows { (h : H) → Knows H.history H.out h result.me.0 →
@@ -31,7 +31,7 @@ pub(crate) fn gather<H: Lends>(top: &Top<H>, seats: Vec<Seat<H>>) -> Place<H>
 
 // The first of the seats.
 fn opened<H: Lends>(top: &Top<H>, seat: Seat<H>) -> Place<H>
-    requires seat { IsAt top.now.table_id top.now.key.seats seat × IsFree seat }
+    requires seat { IsAt top.now.table_id top.now.key seat × IsFree seat }
     ensures same { (result.table_id ≡ top.now.table_id) × IsIdle result.me }
     ensures parts { length result.me.0.numbers ≡ seat.parts }
     ensures seen { result.me.0.seen ≡ seen_by seat }
@@ -45,7 +45,7 @@ fn opened<H: Lends>(top: &Top<H>, seat: Seat<H>) -> Place<H>
 fn take_in_all<H: Lends>(top: &Top<H>, place: &mut Place<H>, seats: Vec<Seat<H>>)
     requires table { (place.old.table_id ≡ top.now.table_id) × IsSized top.now.table_id }
     requires idle { IsIdle place.old.me }
-    requires seats { All (λ s. IsAt top.now.table_id top.now.key.seats s × IsFree s) seats.items }
+    requires seats { All (λ s. IsAt top.now.table_id top.now.key s × IsFree s) seats.items }
     ensures same { (place.new.table_id ≡ top.now.table_id) × IsIdle place.new.me }
     ensures parts { let before = length place.old.me.0.numbers in
         length place.new.me.0.numbers ≡ before + sum_by (λ s. s.parts) seats.items }
@@ -62,7 +62,7 @@ fn take_in_all<H: Lends>(top: &Top<H>, place: &mut Place<H>, seats: Vec<Seat<H>>
 fn take_in<H: Lends>(top: &Top<H>, place: &mut Place<H>, seat: Seat<H>)
     requires table { (place.old.table_id ≡ top.now.table_id) × IsSized top.now.table_id }
     requires idle { IsIdle place.old.me }
-    requires seat { IsAt top.now.table_id top.now.key.seats seat × IsFree seat }
+    requires seat { IsAt top.now.table_id top.now.key seat × IsFree seat }
     ensures same { (place.new.table_id ≡ place.old.table_id) × IsIdle place.new.me }
     ensures parts { let before = length place.old.me.0.numbers in
         length place.new.me.0.numbers ≡ before + seat.parts }
@@ -81,6 +81,7 @@ pub(crate) fn empty_slot<H: Lends>(table: Board<H>, place: Place<H>) -> H
     requires some { 0 < table.shared.key.seats }
     ensures knows { Knows H.history H.out result place.me.0 }
     ensures all_in { AllIn H.out result table.shared.key.seats }
+    ensures kept { H.keeps table.shared.key.first.value result }
 {
     let mut closed = table.close_with(place);
     let value = closed.take(0);

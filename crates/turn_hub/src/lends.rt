@@ -10,4 +10,7 @@ pub trait Lends: Drop {
 
     // The number and the burst of the lease that the seat with that number has, if it has one.
     ghost out: { Self → ℕ → Option (ℕ × ℕ) };
+
+    // What a value keeps of the one that the hub was made with, which stands first.
+    ghost keeps: { Self → Self → Type 0 };
 }

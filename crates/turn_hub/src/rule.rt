@@ -10,7 +10,7 @@ pub struct Sharing;
 impl<H: Lends> TableRule<Option<H>, View<H>, Opening<H>> for Sharing {
     ghost use Rattle.turn_hub.specs.Sharing.{IsShared, first_view};
 
-    ghost holds = { λ key s. IsShared H.history H.out key.seats s };
+    ghost holds = { λ key s. IsShared H.history H.out H.keeps key.first.value key.seats s };
 
     ghost first = { λ key. first_view H.history H.out key };
 }
@@ -24,7 +24,7 @@ pub(crate) struct Try;
 impl<H: Lends> Play<Option<H>, View<H>> for Try {
     ghost use Rattle.turn_hub.specs.Sharing.{tried};
 
-    ghost then = { tried H.history H.out };
+    ghost then = { tried H.history H.out H.keeps };
 }
 
 // The turn is given up, and the value with it.

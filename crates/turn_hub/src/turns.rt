@@ -2,7 +2,7 @@
 
 ghost use Rattle.std.specs.Prelude.{◌≡◌, ℕ, ◌<◌, [], ◌∷◌, length, Some, None, true, false};
 ghost use Rattle.turn_hub.specs.Numbers.{IsSized};
-ghost use Rattle.turn_hub.specs.Sharing.{Gets, settled};
+ghost use Rattle.turn_hub.specs.Sharing.{Gets, IsKept, settled};
 ghost use Rattle.turn_hub.specs.Seats.{Releases, IsSamePlace};
 
 use crate::lends::Lends;
@@ -33,7 +33,7 @@ pub(crate) fn get_turn<H: Lends, R: Wait>(rt: &R, top: &Top<H>, place: &mut Plac
     requires table { (place.old.table_id ≡ top.now.table_id) × IsSized top.now.table_id }
     requires live { 0 < length place.old.me.0.numbers }
     ensures same { IsSamePlace place.old place.new }
-    ensures gets { Gets H.history H.out place.old.me place.new.me }
+    ensures gets { Gets H.history H.out H.keeps place.old.me place.new.me }
 {
     if !try_turn(top, place) && !look_for_turn(top, place) {
         wait_for_turn(rt, top, place);
@@ -45,7 +45,7 @@ fn try_turn<H: Lends>(top: &Top<H>, place: &mut Place<H>) -> bool
     requires table { (place.old.table_id ≡ top.now.table_id) × IsSized top.now.table_id }
     requires live { 0 < length place.old.me.0.numbers }
     ensures same { IsSamePlace place.old place.new }
-    ensures gets { result ≡ true → Gets H.history H.out place.old.me place.new.me }
+    ensures gets { result ≡ true → Gets H.history H.out H.keeps place.old.me place.new.me }
     ensures kept { result ≡ false → place.new.me ≡ place.old.me }
 {
     top.compare_exchange::<Try>(place, TURN, FREE, TAKEN) == FREE
@@ -56,7 +56,7 @@ fn look_for_turn<H: Lends>(top: &Top<H>, place: &mut Place<H>) -> bool
     requires table { (place.old.table_id ≡ top.now.table_id) × IsSized top.now.table_id }
     requires live { 0 < length place.old.me.0.numbers }
     ensures same { IsSamePlace place.old place.new }
-    ensures gets { result ≡ true → Gets H.history H.out place.old.me place.new.me }
+    ensures gets { result ≡ true → Gets H.history H.out H.keeps place.old.me place.new.me }
     ensures kept { result ≡ false → place.new.me ≡ place.old.me }
 {
     for _look in 0..LOOKS {
@@ -74,7 +74,7 @@ fn wait_for_turn<H: Lends, R: Wait>(rt: &R, top: &Top<H>, place: &mut Place<H>)
     requires table { (place.old.table_id ≡ top.now.table_id) × IsSized top.now.table_id }
     requires live { 0 < length place.old.me.0.numbers }
     ensures same { IsSamePlace place.old place.new }
-    ensures gets { Gets H.history H.out place.old.me place.new.me }
+    ensures gets { Gets H.history H.out H.keeps place.old.me place.new.me }
 {
     for _ in rt.forever() {
         if top.swap::<Try>(place, TURN, AWAITED) == FREE {
@@ -104,6 +104,7 @@ pub(crate) fn give_up<H: Lends>(top: &Top<H>, place: &mut Place<H>, value: H)
     requires table { (place.old.table_id ≡ top.now.table_id) × IsSized top.now.table_id }
     requires empty { (place.old.me.1 ≡ (0, None) ∷ []) × (0 < length place.old.me.0.numbers) }
     requires later { Releases H.history H.out place.old.me.0 value }
+    requires kept { IsKept H.keeps place.old.me.0.opened value }
     ensures same { IsSamePlace place.old place.new }
     ensures settled { place.new.me ≡ (settled H.history H.out place.old.me.0 value, []) }
 {

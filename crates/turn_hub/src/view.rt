@@ -16,6 +16,8 @@ pub struct View<H> {
     pub out: Option<(u32, u64)>,
     /// The value as it was taken, while the seat has the turn.
     pub taken: Option<H>,
+    /// The value that the hub was made with.
+    pub opened: Option<H>,
 }
 
 /// What a hub was made with.

@@ -36,7 +36,9 @@ pub fn race<H: Lends + Send, W: Work<H>, R: Threads + Wait + Clock + Sync>(
 ) -> Result<H, AllocError>
     requires workers { (0 < workers) × (workers < MOST_SEATS) }
     requires all_in { AllIn H.out value (workers + 1) }
+    requires kept { H.keeps value value }
     ensures all_in { IfOk result (λ h. AllIn H.out h (workers + 1)) }
+    ensures kept { IfOk result (λ h. H.keeps value h) }
 {
     let (hub, mut first) = Hub::new(alloc, value, workers + 1)?;
     let mut seats = deal(alloc, &hub, &mut first, workers)?;

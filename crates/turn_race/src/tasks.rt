@@ -50,4 +50,6 @@ impl Lends for Tasks {
     ghost history = { λ _. no_history };
 
     ghost out = { λ _ _. None };
+
+    ghost keeps = { λ _ _. Unit {0} };
 }

@@ -43,4 +43,6 @@ impl Lends for Count {
     ghost history = { λ _. no_history };
 
     ghost out = { λ _ _. None };
+
+    ghost keeps = { λ _ _. Unit {0} };
 }

@@ -47,6 +47,7 @@ impl<H: Lends> Hub<H> {
     pub fn new(alloc: Global, value: H, seats: u32) -> Result<(Hub<H>, Seat<H>), AllocError>
         requires seats { (0 < seats) × (seats ≤ MOST_SEATS) }
         requires all_in { AllIn H.out value seats }
+        requires kept { H.keeps value value }
         ensures hub { IfOk result (λ r. (seats_of r.0 ≡ seats) × (opened_with r.0 ≡ value)) }
         ensures seat { IfOk result (λ r. IsNew r.0 r.1 0 seats) }
         ensures history { IfOk result (λ r. seen_by r.1 ≡ H.history value) }
@@ -107,6 +108,7 @@ impl<H: Lends> Hub<H> {
         requires all { sum_by (λ s. s.parts) seats.items ≡ seats_of self }
         ensures history { All (λ s. BeginsWith (H.history result) (seen_by s)) seats.items }
         ensures all_in { AllIn H.out result (seats_of self) }
+        ensures kept { H.keeps (opened_with self) result }
     {
         let Hub { table, calls: _ } = self;
         let place = gather(&table.shared, seats);

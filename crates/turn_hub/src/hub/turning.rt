@@ -2,7 +2,16 @@
 
 ghost use Rattle.std.specs.Prelude.{◌≡◌, None, Some};
 ghost use Rattle.asp_model.specs.History.{BeginsWith};
-ghost use Rattle.turn_hub.specs.Seats.{IsOf, IsSame, KeepsView, MayGive, out_with, seen_by, taken_by};
+ghost use Rattle.turn_hub.specs.Seats.{
+  IsOf,
+  IsSame,
+  KeepsView,
+  MayGive,
+  opened_with,
+  out_with,
+  seen_by,
+  taken_by,
+};
 
 use super::Hub;
 use crate::lends::Lends;
@@ -20,7 +29,8 @@ impl<H: Lends> Hub<H> {
         ensures taken { taken_by seat.new ≡ Some result }
         ensures history { BeginsWith (H.history result) (seen_by seat.old) }
         ensures out { H.out result seat.old.number ≡ out_with seat.old }
-        ensures kept { KeepsView seat.old seat.new }
+        ensures kept { H.keeps (opened_with self.now) result }
+        ensures view { KeepsView seat.old seat.new }
     {
         get_turn(rt, &self.table.shared, &mut seat.place);
         pick_up(&self.table.shared, &mut seat.place)
@@ -31,6 +41,7 @@ impl<H: Lends> Hub<H> {
     pub fn give(&self, seat: &mut Seat<H>, value: H, more: bool)
         requires hub { IsOf self.now seat.old }
         requires has_turn { MayGive H.history H.out seat.old value }
+        requires kept { H.keeps (opened_with self.now) value }
         ensures seat { IsSame seat.old seat.new }
         ensures no_turn { taken_by seat.new ≡ None }
         ensures history { seen_by seat.new ≡ H.history value }

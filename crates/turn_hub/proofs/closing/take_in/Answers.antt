@@ -19,7 +19,7 @@ join_seat-requires g c =
       c.requires.seat.0.0,
       seat.carries ∙ ap carried free.0,
       omega arith,
-      joins g.H.Lends.history g.H.Lends.out c.args.top.now.key.seats _ _ _ _ idle.1 free.0 free.1 idle.3 (omega arith),
+      joins g.H.Lends.history g.H.Lends.out g.H.Lends.keeps c.args.top.now.key.first.value c.args.top.now.key.seats _ _ _ _ idle.1 free.0 free.1 idle.3 (omega arith),
     )
 
 pub returns-clause-parts : goal.returns-clause-parts

@@ -18,7 +18,7 @@ loop-seat-preserved g c =
     let all = i.3 in (
       taken.same.0 ∙ i.0,
       taken.same.1,
-      (All-pop (λ (s : S). IsAt c.args.top.now.table_id c.args.top.now.key.seats s × IsFree s) _ _ _ c.pop.ensures.items i.2).0,
+      (All-pop (λ (s : S). IsAt c.args.top.now.table_id c.args.top.now.key s × IsFree s) _ _ _ c.pop.ensures.items i.2).0,
       omega arith,
       λ h known rest. let x = taken.knows h known in i.4 h x.0 (All-same (λ (s : S). BeginsWith (g.H.Lends.history h) (seen_by s)) _ _ items (All-push (λ (s : S). BeginsWith (g.H.Lends.history h) (seen_by s)) left c.in-Some.seat rest x.1)),
     )

@@ -6,7 +6,7 @@ use Rattle.turn_hub.proofs.closing.take_in_all.Given as goal
 abbrev pub invariant-loop-seat : goal.invariant-loop-seat
 invariant-loop-seat g l =
     (l.place.table_id ≡ l.top.table_id) × IsIdle l.place.me
-    × All (λ s. IsAt l.top.table_id l.top.key.seats s × IsFree s) l.rest.items
+    × All (λ s. IsAt l.top.table_id l.top.key s × IsFree s) l.rest.items
     × (length l.place.me.0.numbers + sum_by (λ s. s.parts) l.rest.items ≡ length l.fn.place.me.0.numbers + sum_by (λ s. s.parts) l.fn.seats.items)
     × ((h : g.row.H.Denot) → Knows g.H.Lends.history g.H.Lends.out h l.place.me.0 → AllKnown g.H.Lends.history h l.rest.items
     → Knows g.H.Lends.history g.H.Lends.out h l.fn.place.me.0 × AllKnown g.H.Lends.history h l.fn.seats.items)

@@ -9,6 +9,6 @@ swap-requires g c =
     let exchanged = c.exchange.ensures in (
       search rules,
       omega arith,
-      gives_to g.H.Lends.history g.H.Lends.out _ _ _ _ c.args.place.now.me.0 c.args.value
-          (exchanged.3 ∙ ap (λ cs. (c.args.place.now.me.0, (0, Some c.args.value) ∷ rest cs)) c.requires.empty.0) c.requires.empty.1 c.requires.later,
+      gives_to g.H.Lends.history g.H.Lends.out g.H.Lends.keeps _ _ _ _ _ c.args.place.now.me.0 c.args.value
+          (exchanged.3 ∙ ap (λ cs. (c.args.place.now.me.0, (0, Some c.args.value) ∷ rest cs)) c.requires.empty.0) c.requires.empty.1 c.requires.later c.requires.kept,
     )

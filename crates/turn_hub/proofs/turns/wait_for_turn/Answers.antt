@@ -8,5 +8,5 @@ pub swap-requires : goal.swap-requires
 swap-requires g c = let words = c.requires.table.1.0 in let i = c.loop.invariant in (
   i.0 ∙ c.requires.table.0,
   omega arith,
-  tries g.H.Lends.history g.H.Lends.out _ _ _ c.loop.place.me (λ _. 2) (subst (λ (m : Me _ (View g.row.H.Denot)). 0 < length m.0.numbers) (sym i.2) c.requires.live) (λ n. lit< tt),
+  tries g.H.Lends.history g.H.Lends.out g.H.Lends.keeps _ _ _ _ c.loop.place.me (λ _. 2) (subst (λ (m : Me _ (View g.row.H.Denot)). 0 < length m.0.numbers) (sym i.2) c.requires.live) (λ n. lit< tt),
 )

@@ -11,5 +11,5 @@ new-requires g c =
     let out = g.H.Lends.out in
     let key : Opening g.row.H.Denot = record { seats = c.args.seats; first = c.of.result } in
     let items : c.push.new.self.items ≡ Some c.of.result.value ∷ [] = search rules in
-    subst (λ (xs : List (Option g.row.H.Denot)). IsShared history out c.args.seats (opening (0 ∷ []) xs (first_view history out key))) (sym items)
-    (opens history out c.args.seats key refl c.requires.seats.0 (search rules))
+    subst (λ (xs : List (Option g.row.H.Denot)). IsShared history out g.H.Lends.keeps c.of.result.value c.args.seats (opening (0 ∷ []) xs (first_view history out key))) (sym items)
+    (opens history out g.H.Lends.keeps c.args.seats key refl c.requires.seats.0 (search rules) (search rules))

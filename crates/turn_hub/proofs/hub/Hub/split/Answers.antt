@@ -12,5 +12,5 @@ split_seat-place-requires g c =
     let words = c.args.self.now.sized.0 in (
       c.requires.hub.0,
       omega arith,
-      splits g.H.Lends.history g.H.Lends.out _ _ _ c.requires.no_turn (omega arith),
+      splits g.H.Lends.history g.H.Lends.out g.H.Lends.keeps _ _ _ _ c.requires.no_turn (omega arith),
     )
