@@ -1,0 +1,21 @@
+-- What a reduction gives, as events tell it.
+use Rattle.std.specs.Prelude.{◌≡◌}
+use Rattle.asp_model.specs.Names.{FutureShape}
+use Rattle.asp_model.specs.Intent.{Effect}
+use Rattle.asp_model.specs.Shapes.{future_shape}
+use Rattle.journals.specs.Edges.{HoldersShape}
+use Rattle.actor.specs.declared.act.Given.{Given}
+use Rattle.actor.specs.declared.act.Given.TheVariants as given
+use Rattle.actor.specs.Effects.{IsGiven}
+use Rattle.edge_laws.specs.Fresh.{IsFresh}
+use Rattle.core_edges.specs.declared.edges.Edges.{Edges}
+use Rattle.core_edges.specs.Strategies.{IsLearned, strategy_in}
+
+-- it is of an effect that sends and fills nothing that these holders know
+abbrev pub IsSomeFresh : HoldersShape → Given → Type 0
+IsSomeFresh h g = (e : Effect) × IsGiven e g × IsFresh h e
+
+-- the strategy of a new request's future is learned
+abbrev pub AreLearned : {P : Type 0} → Given → (old new : Edges P) → Type 0
+AreLearned (given.Sent n r) old new = IsLearned (future_shape r.future) r.label.text old new
+AreLearned g old new = (f : FutureShape) → strategy_in new f ≡ strategy_in old f

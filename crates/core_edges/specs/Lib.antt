@@ -1,0 +1,7 @@
+-- in reading order
+pub mod Strategies
+pub mod Answers
+pub mod Passing
+pub mod Given
+pub mod Deliveries
+pub mod Due

@@ -1,0 +1,169 @@
+//! Edges as reductions and deliveries tell them, each asked about once.
+
+ghost use Rattle.std.specs.Prelude.{
+  ◌≡◌,
+  ◌<◌,
+  ◌++◌,
+  ◌∷◌,
+  [],
+  IfOk,
+  OnErr,
+  OnOk,
+  false,
+  true,
+  length,
+};
+ghost use Rattle.asp_model.specs.Intent.{Effect};
+ghost use Rattle.asp_model.specs.Names.{FutureShape};
+ghost use Rattle.asp_model.specs.Shapes.{delivery_shape};
+ghost use Rattle.coded_cells.specs.Shapes.{parcel_shape};
+ghost use Rattle.journals.specs.Edges.{after_events, no_holders};
+ghost use Rattle.journals.specs.Passing.{effect_events};
+ghost use Rattle.actor.specs.Effects.{IsGiven};
+ghost use Rattle.future_update.specs.Holders.{IsTurned, is_met};
+ghost use Rattle.core_edges.specs.Answers.{AreAnswered};
+ghost use Rattle.core_edges.specs.Deliveries.{IsAfterDelivery};
+ghost use Rattle.core_edges.specs.Due.{IsDue};
+ghost use Rattle.core_edges.specs.Given.{AreLearned, IsSomeFresh};
+ghost use Rattle.core_edges.specs.Strategies.{KeepsEdges, KeepsOthers, strategy_in};
+
+use actor::Given;
+use asp_model::{ActivityName, Delivery, FutureName};
+use coded_cells::Parcel;
+use edge_records::EdgeNames;
+use future_update::Holders;
+use std::alloc::{AllocError, Global};
+use std::collections::BTreeMap;
+use update_policy::{Plan, Policies, PolicyBox, Strategy, UpdatePolicy};
+
+/// The edges of a core, and the policies that are asked about them. No call ties `AllocError` to
+/// what it asks for, and after it nothing is said of the edges.
+#[derive(Drop)]
+pub struct Edges<P = PolicyBox> {
+    pub(crate) holders: Holders,
+    pub(crate) plan: Plan,
+    /// Of those futures whose strategy is not that of all others.
+    pub(crate) strategies: BTreeMap<FutureName, Strategy>,
+    pub(crate) policies: Policies<P>,
+}
+
+impl<P: UpdatePolicy> Edges<P> {
+    /// No future and no edge.
+    pub fn new(alloc: Global, plan: Plan, policies: Policies<P>) -> Edges<P>
+        ensures holders { result.holders.holders ≡ no_holders }
+        ensures answers { result.holders.answers ≡ [] }
+        ensures activities { result.holders.activities ≡ [] }
+        ensures plan { result.plan ≡ plan }
+        ensures policies { result.policies ≡ policies }
+        ensures strategies { (f : FutureShape) → strategy_in result f ≡ plan.strategy }
+    {
+        Edges {
+            holders: Holders::new(alloc),
+            plan,
+            strategies: BTreeMap::new(alloc),
+            policies,
+        }
+    }
+
+    /// The edges, with those that were delivered, and the homes of futures.
+    pub fn holders(&self) -> &Holders
+        ensures holders { result.now ≡ self.now.holders }
+    {
+        &self.holders
+    }
+
+    /// An activity that was not met is in from now on. The answer is its number, from 0 in order.
+    pub fn met(&mut self, activity: &ActivityName) -> Result<u32, AllocError>
+        requires new { is_met activity.now self.old.holders.activities ≡ false }
+        ensures met { let old = self.old.holders.activities in
+            OnOk result (self.new.holders.activities ≡ old ++ (activity.now, false) ∷ []) }
+        ensures number { IfOk result (λ number. number ≡ length self.old.holders.activities) }
+        ensures edges { KeepsEdges self.old self.new }
+        ensures err { OnErr result (self.new.holders ≡ self.old.holders) }
+    {
+        self.holders.met(activity)
+    }
+
+    /// The activity of a number is out from now on. It takes no memory.
+    pub fn lent(&mut self, number: u32)
+        requires met { number < length self.old.holders.activities }
+        ensures turned { let old = self.old.holders.activities in
+            IsTurned number true old self.new.holders.activities }
+        ensures edges { KeepsEdges self.old self.new }
+    {
+        self.holders.lent(number)
+    }
+
+    /// The activity of a number is in from now on. It takes no memory.
+    pub fn returned(&mut self, number: u32)
+        requires met { number < length self.old.holders.activities }
+        ensures turned { let old = self.old.holders.activities in
+            IsTurned number false old self.new.holders.activities }
+        ensures edges { KeepsEdges self.old self.new }
+    {
+        self.holders.returned(number)
+    }
+
+    /// Enters what a reduction of an activity gives to others.
+    pub fn given(
+        &mut self,
+        alloc: Global,
+        by: &ActivityName,
+        given: &Given,
+    ) -> Result<(), AllocError>
+        requires fresh { IsSomeFresh self.old.holders.holders given.now }
+        ensures holders { (e : Effect) → IsGiven e given.now →
+            let old = self.old.holders.holders in
+            let events = effect_events by.now [] e in
+            OnOk result (self.new.holders.holders ≡ after_events events old) }
+        ensures answers { let strategies = strategy_in self.new in
+            OnOk result (AreAnswered P.answer P.asked strategies self.old self.new) }
+        ensures strategies { OnOk result (AreLearned given.now self.old self.new) }
+        ensures activities { let old = self.old.holders.activities in
+            OnOk result (self.new.holders.activities ≡ old) }
+        ensures plan { OnOk result (self.new.plan ≡ self.old.plan) }
+    {
+        match given {
+            Given::Nothing => Ok(()),
+            Given::Made(name, actor) => self.pass_store(actor.store(), by, name),
+            Given::Sent(home, request) => self.sent(alloc, by, home, request),
+            Given::Filled(future, _) => {
+                self.holders.filled(future);
+                Ok(())
+            }
+        }
+    }
+
+    /// Enters a delivery of the value of a future.
+    pub fn delivered(
+        &mut self,
+        alloc: Global,
+        delivery: &Delivery,
+        value: &Parcel,
+    ) -> Result<(), AllocError>
+        ensures holders { let d = delivery_shape delivery.now in
+            let old = self.old.holders.holders in
+            OnOk result (IsAfterDelivery d (parcel_shape value.now) old self.new.holders.holders) }
+        ensures answers { let strategies = strategy_in self.old in
+            OnOk result (AreAnswered P.answer P.asked strategies self.old self.new) }
+        ensures others { OnOk result (KeepsOthers self.old self.new) }
+    {
+        match delivery {
+            Delivery::Edge { future, to, .. } => {
+                self.note(delivery);
+                self.received(alloc, future, to, value)
+            }
+            Delivery::Need { future, to, .. } => self.received(alloc, future, to, value),
+        }
+    }
+
+    /// The edge that was entered first of those that are owed to an activity that is in.
+    pub fn next_due(&self) -> Option<EdgeNames<'_>>
+        ensures due { IsDue self.now.holders result }
+    {
+        match self.holders.next_owed_in() {
+            Some(place) => Some(self.holders.edge(place)),
+            None => None,
+        }
+    }
+}

@@ -1,0 +1,2 @@
+//! Laws of the holders that a lawful journal leaves.
+#![tactic(auto)]
