@@ -4,7 +4,7 @@ use Rattle.std.specs.List.{flat_map}
 use Rattle.asp_model.specs.Names.{Name, FutureShape}
 use Rattle.coded_cells.specs.Cells.{CodedCell, CodedStore, Future}
 use Rattle.asp_model.specs.Configuration.{RequestShape}
-use Rattle.journals.specs.Edges.{HoldersShape, after_events, with_edges}
+use Rattle.journals.specs.Edges.{HoldersShape, after_events, home_of, with_edges, with_held}
 use Rattle.journals.specs.Passing.{sent_events}
 use Rattle.core_edges.specs.declared.edges.Edges.{Edges}
 use Rattle.core_edges.specs.Answers.{Answering, AreAnswered, Counting}
@@ -27,6 +27,15 @@ with_passed fs from to h = record h { edges = with_edges fs from to h.edges }
 
 pub record ArePassed {P : Type 0} (answers : Answering P) (counts : Counting P) (fs : List FutureShape) (from to : Name) (old new : Edges P) : Type 0 where
   pub holders : new.holders.holders ≡ with_passed fs from to old.holders.holders
+  pub answered : AreAnswered answers counts (strategy_in old) old new
+  pub others : KeepsOthers old new
+
+-- and these, which the value of a future holds, from its home
+abbrev pub with_held_passed : FutureShape → List FutureShape → Name → HoldersShape → HoldersShape
+with_held_passed f held to h = record h { edges = with_held held (home_of f h.homes) to h.edges }
+
+pub record IsHeldPassed {P : Type 0} (answers : Answering P) (counts : Counting P) (f : FutureShape) (held : List FutureShape) (to : Name) (old new : Edges P) : Type 0 where
+  pub holders : new.holders.holders ≡ with_held_passed f held to old.holders.holders
   pub answered : AreAnswered answers counts (strategy_in old) old new
   pub others : KeepsOthers old new
 

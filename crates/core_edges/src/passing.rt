@@ -11,6 +11,7 @@ ghost use Rattle.core_edges.specs.Answers.{AreAnswered};
 ghost use Rattle.core_edges.specs.Deliveries.{IsNoted};
 ghost use Rattle.core_edges.specs.Passing.{
   ArePassed,
+  IsHeldPassed,
   IsSent,
   future_held,
   futures_held,
@@ -157,6 +158,27 @@ impl<P: UpdatePolicy> Edges<P> {
         }
     }
 
+    /// What a value holds goes from the home of its future to whoever receives it.
+    fn pass_held(
+        &mut self,
+        alloc: Global,
+        future: &FutureName,
+        by: &ActivityName,
+        value: &Parcel,
+    ) -> Result<(), AllocError>
+        ensures passed { let f = future_shape future.now in
+            let held = futures_held (all_coded value.now.cells.items) in
+            OnOk result (IsHeldPassed P.answer P.asked f held by.now self.old self.new) }
+    {
+        match self.holders.home(future) {
+            Some(home) => {
+                let home = home.copy(alloc)?;
+                self.pass_cells(&value.cells, &home, by)
+            }
+            None => Ok(()),
+        }
+    }
+
     /// An activity receives the value of a future. What that holds comes from the future's home.
     pub(crate) fn received(
         &mut self,
@@ -173,13 +195,7 @@ impl<P: UpdatePolicy> Edges<P> {
             OnOk result (AreAnswered P.answer P.asked strategies self.old self.new) }
         ensures others { OnOk result (KeepsOthers self.old self.new) }
     {
-        let home = match self.holders.home(future) {
-            Some(home) => Some(home.copy(alloc)?),
-            None => None,
-        };
-        if let Some(home) = home {
-            self.pass_cells(&value.cells, &home, by)?;
-        }
+        self.pass_held(alloc, future, by, value)?;
         self.holders.received(future, by)
     }
 }

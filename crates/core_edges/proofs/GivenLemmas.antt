@@ -1,0 +1,54 @@
+-- What a reduction gives, by its effect.
+use Rattle.std.proofs.Common.{◌≡◌, Bool, true, false, List, [], ◌∷◌, ◌++◌, Option, Some, None, refl, sym, ap, ◌∙◌, subst, append-nil}
+use Rattle.asp_model.specs.Names.{Name, FutureShape}
+use Rattle.asp_model.specs.Parcel.{ParcelShape}
+use Rattle.asp_model.specs.Configuration as model
+use Rattle.asp_model.specs.Configuration.{RequestShape}
+use Rattle.asp_model.specs.Intent.{Effect}
+use Rattle.asp_model.specs.Shapes.{future_shape}
+use Rattle.coded_cells.specs.Cells.{CodedStore}
+use Rattle.coded_cells.specs.Shapes.{parcel_shape, store_of}
+use Rattle.coded_cells.specs.declared.cells.Parcel.{Parcel}
+use Rattle.asp_model.specs.declared.name.FutureName.{FutureName}
+use Rattle.request_queue.specs.declared.request.Request.{Request}
+use Rattle.request_queue.specs.Requests.{request_shape}
+use Rattle.journals.specs.Edges.{Event, Fills, HoldersShape, after_event, after_events, has_filled, home_of}
+use Rattle.journals.specs.Passing.{effect_events, filled_events, made_events, passes_all, sent_events}
+use Rattle.edge_records.specs.Changes.{once_filled}
+use Rattle.actor.specs.declared.act.Given.TheVariants as given
+use Rattle.actor.specs.declared.actor.Actor.{Actor}
+use Rattle.actor.specs.Actors.{Stands, code_of}
+use Rattle.actor.specs.Effects.{IsGiven, IsMade}
+use Rattle.edge_laws.specs.Fresh.{IsFresh}
+use Rattle.laws.proofs.NameLemmas.{no_some}
+use Rattle.core_edges.specs.Given.{IsSomeFresh}
+use Rattle.core_edges.specs.Passing.{futures_held, with_passed}
+use Rattle.core_edges.proofs.PassingLemmas.{passes_are}
+
+module _ (by : Name) (e : Effect) where
+  -- by what is sent, made and filled
+  parts : (s : Option (Name × RequestShape)) (m : Option (Name × model.Activity)) (f : Option (FutureShape × ParcelShape)) → e.sent ≡ s → e.made ≡ m → e.filled ≡ f → effect_events by [] e ≡ sent_events by s ++ (made_events by m ++ filled_events f)
+  parts s m f p q r = λ i. sent_events by (p i) ++ (made_events by (q i) ++ filled_events (r i))
+
+  pub nothing_given : IsGiven e given.Nothing → (h : HoldersShape) → after_events (effect_events by [] e) h ≡ h
+  nothing_given g h = ap (λ es. after_events es h) (parts None None None g.0 g.1 g.2)
+
+  pub made_given : (n : Name) (x : Actor) (cells : CodedStore) → ((a : model.Activity) (rs : List RequestShape) → Stands x a rs → store_of (code_of x) cells ≡ a.store)
+      → IsGiven e (given.Made n x) → (h : HoldersShape) → after_events (effect_events by [] e) h ≡ with_passed (futures_held cells) by n h
+  made_given n x cells told g h = made e.made refl g.1
+    where
+      made : (o : Option (Name × model.Activity)) → e.made ≡ o → IsMade o n x → after_events (effect_events by [] e) h ≡ with_passed (futures_held cells) by n h
+      made None is m = absurd m
+      made (Some z) is m =
+          ap (λ es. after_events es h) (parts None (Some z) None g.0 is g.2 ∙ append-nil (passes_all by z.0 z.1.store))
+          ∙ (λ i. after_events (passes_all by (m.0 i) (sym (told z.1 [] m.1) i)) h)
+          ∙ passes_are (code_of x) cells by n h
+
+  pub sent_given : (n : Name) (r : Request) → IsGiven e (given.Sent n r) → (h : HoldersShape) → after_events (effect_events by [] e) h ≡ after_events (sent_events by (Some (n, request_shape r))) h
+  sent_given n r g h = ap (λ es. after_events es h) (parts (Some (n, request_shape r)) None None g.0 g.1 g.2 ∙ append-nil (sent_events by (Some (n, request_shape r))))
+
+  pub filled_given : (f : FutureName) (p : Parcel) → IsGiven e (given.Filled f p) → (h : HoldersShape) → after_events (effect_events by [] e) h ≡ after_event (Fills (future_shape f)) h
+  filled_given f p g h = ap (λ es. after_events es h) (parts None None (Some (future_shape f, parcel_shape p)) g.0 g.1 g.2)
+
+pub filled_once : (f : FutureShape) (h : HoldersShape) → has_filled f h.filled ≡ false → once_filled f h ≡ after_event (Fills f) h
+filled_once f h e = ap (λ b. elim b [ true ↦ h | false ↦ after_event (Fills f) h ]) e

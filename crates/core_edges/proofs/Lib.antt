@@ -1,0 +1,5 @@
+pub mod AnswerLemmas
+pub mod PassingLemmas
+pub mod StrategyLemmas
+pub mod NoteLemmas
+pub mod GivenLemmas

@@ -1,0 +1,60 @@
+use Rattle.std.proofs.Common.{◌≡◌, OnOk, Some, refl, sym, ap, ◌∙◌, subst}
+use Rattle.asp_model.specs.Shapes.{future_shape}
+use Rattle.coded_cells.specs.Shapes.{parcel_shape}
+use Rattle.request_queue.specs.Requests.{request_shape}
+use Rattle.actor.specs.declared.act.Given.{Given}
+use Rattle.actor.specs.Effects.{IsGiven}
+use Rattle.core_edges.specs.Answers.{AreAnswered}
+use Rattle.core_edges.specs.Given.{IsSomeFresh}
+use Rattle.core_edges.specs.Passing.{ArePassed}
+use Rattle.core_edges.specs.Strategies.{strategy_in}
+use Rattle.core_edges.proofs.AnswerLemmas.{none_answered, on_ok}
+use Rattle.core_edges.proofs.GivenLemmas.{filled_given, filled_once, made_given, nothing_given, sent_given}
+use Rattle.core_edges.proofs.PassingLemmas.{same_strategies}
+use Rattle.core_edges.proofs.edges.Edges.given.Goals as goal
+
+pub sent-requires : goal.sent-requires
+sent-requires g c =
+    let x = subst (IsSomeFresh c.args.self.now.holders.holders) c.in-Sent.is c.requires.fresh in
+    record { new = x.2.sent (c.in-Sent.home, request_shape c.in-Sent.request) x.1.0 }
+
+pub filled-requires : goal.filled-requires
+filled-requires g c =
+    let x = subst (IsSomeFresh c.args.self.now.holders.holders) c.in-Filled.is c.requires.fresh in
+    record { told = x.2.begun (future_shape c.in-Filled.future, parcel_shape c.in-Filled.field-1) x.1.2 }
+
+pub returns-in-Nothing-clause-answers : goal.returns-in-Nothing-clause-answers
+returns-in-Nothing-clause-answers g c = none_answered g.P.UpdatePolicy.answer g.P.UpdatePolicy.asked (strategy_in c.args.self.now) c.args.self.now c.args.self.now refl refl refl
+
+pub returns-in-Made-clause-holders : goal.returns-in-Made-clause-holders
+returns-in-Made-clause-holders g c e given =
+    let is = subst (IsGiven e) c.in-Made.is given in
+    let told = made_given c.args.by.now e c.in-Made.name c.in-Made.actor c.store.result.now.cells c.store.ensures.store is c.args.self.now.holders.holders in
+    on_ok c.pass_store.result (λ passed. passed.holders ∙ sym told) c.pass_store.ensures.passed
+
+pub returns-in-Made-clause-answers : goal.returns-in-Made-clause-answers
+returns-in-Made-clause-answers g c =
+    on_ok c.pass_store.result (λ passed. subst (λ s. AreAnswered g.P.UpdatePolicy.answer g.P.UpdatePolicy.asked s c.args.self.now c.pass_store.new.self) (sym (same_strategies g.P.UpdatePolicy.answer g.P.UpdatePolicy.asked c.args.self.now c.pass_store.new.self passed.others)) passed.answered) c.pass_store.ensures.passed
+
+pub returns-in-Sent-clause-holders : goal.returns-in-Sent-clause-holders
+returns-in-Sent-clause-holders g c e given =
+    let is = subst (IsGiven e) c.in-Sent.is given in
+    let told = sent_given c.args.by.now e c.in-Sent.home c.in-Sent.request is c.args.self.now.holders.holders in
+    on_ok c.sent.result (λ sent. sent.holders ∙ sym told) c.sent.ensures.sent
+
+pub returns-in-Filled-clause-holders : goal.returns-in-Filled-clause-holders
+returns-in-Filled-clause-holders g c e given =
+    let old = c.args.self.now.holders.holders in
+    let f = future_shape c.in-Filled.future in
+    let is = subst (IsGiven e) c.in-Filled.is given in
+    let x = subst (IsSomeFresh old) c.in-Filled.is c.requires.fresh in
+    let new = filled_once f old (x.2.filled (f, parcel_shape c.in-Filled.field-1) x.1.2) in
+    c.filled.ensures.filled ∙ new ∙ sym (filled_given c.args.by.now e c.in-Filled.future c.in-Filled.field-1 is old)
+
+pub returns-in-Filled-clause-answers : goal.returns-in-Filled-clause-answers
+returns-in-Filled-clause-answers g c =
+    let old = c.args.self.now in
+    let f = future_shape c.in-Filled.future in
+    let x = subst (IsSomeFresh old.holders.holders) c.in-Filled.is c.requires.fresh in
+    let new = filled_once f old.holders.holders (x.2.filled (f, parcel_shape c.in-Filled.field-1) x.1.2) in
+    none_answered g.P.UpdatePolicy.answer g.P.UpdatePolicy.asked (strategy_in (record old { holders = c.filled.new.self })) old (record old { holders = c.filled.new.self }) (ap (λ h. h.edges) (c.filled.ensures.filled ∙ new)) c.filled.ensures.answers refl

@@ -1,0 +1,24 @@
+use Rattle.std.proofs.Common.{◌≡◌, ◌∙◌, None, Some, refl, sym, ap, subst, rules}
+use Rattle.std.specs.BTreeMap as trees
+use Rattle.asp_model.specs.declared.name.FutureName.{FutureName}
+use Rattle.update_policy.specs.Plans.{or_strategy}
+use Rattle.core_edges.proofs.StrategyLemmas.{future_order, others_keep}
+use Rattle.core_edges.proofs.edges.Edges.learn.Goals as goal
+
+pub returns-then-eq-clause-learned : goal.returns-then-eq-clause-learned
+returns-then-eq-clause-learned g c =
+    let old = c.args.self.now in
+    let usual : c.strategy_of-strategy.result ≡ old.plan.strategy = search rules in
+    record {
+      here = ap (or_strategy old.plan.strategy) c.remove-other.ensures.updates.1 ∙ sym usual ∙ c.strategy_of-strategy.ensures.strategy;
+      others = others_keep old.plan.strategy old.strategies c.remove-other.new.self c.args.request.now.future None c.remove-other.ensures.updates;
+    }
+
+pub returns-clause-learned : goal.returns-clause-learned
+returns-clause-learned g c =
+    let old = c.args.self.now in
+    let told = subst (λ (f : FutureName). trees.UpdatesBy future_order (future_order f) old.strategies c.insert.new.self (Some c.strategy_of-strategy.result)) c.in_ok-future.ensures.name c.in_ok-insert.ensures.updates in
+    record {
+      here = ap (or_strategy old.plan.strategy) told.1 ∙ c.strategy_of-strategy.ensures.strategy;
+      others = others_keep old.plan.strategy old.strategies c.insert.new.self c.args.request.now.future (Some c.strategy_of-strategy.result) told;
+    }

@@ -1,0 +1,16 @@
+use Rattle.std.proofs.Common.{sym, subst, take, arith}
+use Rattle.coded_cells.specs.Cells.{coded}
+use Rattle.core_edges.specs.Passing.{ArePassed, future_held, futures_held}
+use Rattle.core_edges.proofs.PassingLemmas.{none_passed, passed_then, stored_more}
+use Rattle.core_edges.proofs.edges.Edges.pass_store.Goals as goal
+
+pub loop-place-init : goal.loop-place-init
+loop-place-init g c = none_passed g.P.UpdatePolicy.answer g.P.UpdatePolicy.asked c.args.from.now c.args.to.now c.args.self.now
+
+pub loop-place-preserved : goal.loop-place-preserved
+loop-place-preserved g c =
+    let cells = c.args.store.now.cells in
+    let p = c.loop-place.place in
+    let x = coded c.cell.result.now in
+    subst (λ fs. ArePassed g.P.UpdatePolicy.answer g.P.UpdatePolicy.asked fs c.args.from.now c.args.to.now c.args.self.now c.pass_cell.new.self) (sym (stored_more cells p x (omega arith) c.cell.ensures.cell))
+    (passed_then g.P.UpdatePolicy.answer g.P.UpdatePolicy.asked (futures_held (take p cells)) (future_held x) c.args.from.now c.args.to.now c.args.self.now c.loop-place.self c.pass_cell.new.self c.loop-place.invariant c.in_ok-pass_cell.ensures.passed)

@@ -1,0 +1,24 @@
+use Rattle.std.proofs.Common.{OnOk, List, refl, subst}
+use Rattle.std.specs.Arc.{arc_value}
+use Rattle.coded_cells.specs.Cells.{all_coded}
+use Rattle.coded_cells.specs.declared.cells.Cell.{Cell}
+use Rattle.request_queue.specs.Requests.{request_shape}
+use Rattle.core_edges.specs.Passing.{ArePassed, futures_held}
+use Rattle.core_edges.proofs.AnswerLemmas.{on_ok}
+use Rattle.core_edges.proofs.PassingLemmas.{passes_are, sent_is}
+use Rattle.core_edges.proofs.edges.Edges.sent.Goals as goal
+
+pub returns : goal.returns
+returns g c =
+    let r = c.args.request.now in
+    let by = c.args.by.now in
+    let home = c.args.home.now in
+    let cells = all_coded r.arguments.cells.items in
+    let first = c.learn.new.self in
+    let begun = record first { holders = c.sent.new.self } in
+    record {
+      sent = on_ok c.pass_cells.result (sent_is g.P.UpdatePolicy.answer g.P.UpdatePolicy.asked by home (request_shape r) (futures_held cells) (passes_are (arc_value r.arguments.code) cells by home)
+          c.args.self.now first begun c.pass.new.self c.pass_cells.new.self
+          c.in_ok-learn.ensures.learned c.in_ok-learn.ensures.rest c.in_ok-sent.ensures.begun c.sent.ensures.answers refl (record { activities = c.sent.ensures.activities; plan = refl; strategies = refl })
+          c.in_ok-pass.ensures.passed) (subst (λ (cs : List Cell). OnOk c.pass_cells.result (ArePassed g.P.UpdatePolicy.answer g.P.UpdatePolicy.asked (futures_held (all_coded cs)) by home c.pass.new.self c.pass_cells.new.self)) c.deref.ensures.value c.pass_cells.ensures.passed);
+    }
