@@ -11,6 +11,8 @@ pub enum Rank {
     HasNeed,
     /// It can go on when this future is filled, and not before.
     Waits(FutureName),
+    /// It awaits a future that leads round a cycle: nothing comes.
+    Circles,
     /// It is done, or faulted, or has nothing to serve.
     Rests,
 }

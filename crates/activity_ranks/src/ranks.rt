@@ -5,6 +5,7 @@ ghost use Rattle.asp_model.specs.Shapes.{future_shape};
 ghost use Rattle.activity_ranks.specs.Numbers.{IsFirst, has_number};
 ghost use Rattle.activity_ranks.specs.Ranks.{
   AreShifted,
+  IsAwaitTold,
   IsRanked,
   OthersStay,
   RankShape,
@@ -21,14 +22,15 @@ use asp_model::FutureName;
 use std::alloc::{AllocError, Global};
 use std::collections::BTreeSet;
 
-/// The numbers of those who may step, of those to whom a value is owed, and of those who wait. All
-/// others rest, or somebody works on them.
+/// The numbers of those who may step, of those to whom a value is owed, of those who wait, and of
+/// those who await round a cycle. All others rest, or somebody works on them.
 #[derive(Drop)]
 pub struct Ranks {
     alloc: Global,
     going: BTreeSet<u32>,
     needy: BTreeSet<u32>,
     waiting: Waiting,
+    circling: BTreeSet<u32>,
 }
 
 impl Ranks {
@@ -41,6 +43,7 @@ impl Ranks {
             going: BTreeSet::new(alloc),
             needy: BTreeSet::new(alloc),
             waiting: Waiting::new(alloc),
+            circling: BTreeSet::new(alloc),
         }
     }
 
@@ -72,6 +75,19 @@ impl Ranks {
         is_in(&self.needy, number)
     }
 
+    /// Whether somebody awaits a future, be it without a value or round a cycle.
+    pub fn someone_awaits(&self) -> bool
+        ensures told { IsAwaitTold self.now result }
+    {
+        match first_of(&self.circling) {
+            Some(_) => true,
+            None => match self.waiting.someone() {
+                Some(_) => true,
+                None => false,
+            },
+        }
+    }
+
     /// An activity may step no more, and nothing is owed to it. It takes no memory.
     pub fn leave(&mut self, number: u32)
         ensures here { (x : RankShape) → IsRanked self.old number x →
@@ -92,6 +108,7 @@ impl Ranks {
             Rank::Goes => add(&mut self.going, number),
             Rank::HasNeed => add(&mut self.needy, number),
             Rank::Waits(future) => self.wait(number, future),
+            Rank::Circles => add(&mut self.circling, number),
             Rank::Rests => Ok(()),
         }
     }
@@ -116,6 +133,7 @@ impl Ranks {
             Rank::Goes => add_all(&mut self.going, numbers),
             Rank::HasNeed => add_all(&mut self.needy, numbers),
             Rank::Waits(other) => self.waiting.join(other, numbers),
+            Rank::Circles => add_all(&mut self.circling, numbers),
             Rank::Rests => Ok(()),
         }
     }

@@ -4,7 +4,7 @@ ghost use Rattle.std.specs.Prelude.{◌≡◌, ◌≢◌, ◌||◌, ℕ, [], OnO
 ghost use Rattle.asp_model.specs.Names.{FutureShape};
 ghost use Rattle.asp_model.specs.Shapes.{future_shape};
 ghost use Rattle.activity_ranks.specs.Numbers.{has_number};
-ghost use Rattle.activity_ranks.specs.Waiting.{StayElsewhere, numbers_at};
+ghost use Rattle.activity_ranks.specs.Waiting.{IsWaiter, StayElsewhere, numbers_at};
 
 use crate::numbers::joined;
 use asp_model::FutureName;
@@ -40,6 +40,18 @@ impl Waiting {
         }
     }
 
+    /// One of those who wait.
+    pub fn someone(&self) -> Option<u32>
+        ensures waiter { IsWaiter self.now result }
+    {
+        for (_future, numbers) in &self.numbers {
+            if let Some(number) = numbers.first() {
+                return Some(*number);
+            }
+        }
+        None
+    }
+
     fn set(&mut self, future: FutureName, numbers: Vec<u32>) -> Result<(), AllocError>
         ensures here { OnOk result (numbers_at self.new (future_shape future) ≡ numbers.items) }
         ensures others { OnOk result (StayElsewhere (future_shape future) self.old self.new) }
@@ -55,6 +67,9 @@ impl Waiting {
             ≡ (has_number k numbers.items || has_number k (numbers_at self.old f))) }
         ensures others { OnOk result (StayElsewhere (future_shape future) self.old self.new) }
     {
+        if numbers.is_empty() {
+            return Ok(());
+        }
         let others = self.take(&future);
         let all = joined(numbers, others)?;
         self.set(future, all)

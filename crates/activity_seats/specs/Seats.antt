@@ -1,5 +1,5 @@
 -- Names and seats by numbers.
-use Rattle.std.specs.Prelude.{◌≡◌, ◌≢◌, ◌<◌, ◌^◌, ℕ, Bool, true, false, List, Option, Some, None, length, map, slice_get, slice_set}
+use Rattle.std.specs.Prelude.{◌≡◌, ◌≢◌, ◌<◌, ◌^◌, ◌+◌, ◌∷◌, [], ℕ, Bool, true, false, List, Option, Some, None, length, map, slice_get, slice_set}
 use Rattle.asp_model.specs.Names.{Name}
 use Rattle.activity_seats.specs.declared.seat.Seat.{Seat}
 use Rattle.activity_seats.specs.declared.seat.Seat.TheVariants as seat
@@ -19,6 +19,16 @@ module _ {X R : Type 0} where
   is_in (Some (In x)) = true
   is_in (Some (Out came)) = false
   is_in None = false
+
+  -- one that is with a worker counts
+  abbrev pub out_by : SeatShape X R → ℕ
+  out_by (In x) = 0
+  out_by (Out came) = 1
+
+  -- how many are with workers
+  abbrev pub count_out : List (SeatShape X R) → ℕ
+  count_out [] = 0
+  count_out (x ∷ seats) = out_by x + count_out seats
 
   -- whoever was here is taken; nobody is where nobody was
   abbrev pub IsTaken : Option (SeatShape X R) → Option X → Type 0
@@ -49,10 +59,11 @@ module _ {X R : Type 0} where
   abbrev pub with_seat : List (SeatShape X R) → ℕ → SeatShape X R → List (SeatShape X R)
   with_seat = slice_set
 
-  -- each has a name and a seat, and the numbers are 32 bits long
+  -- each has a name and a seat, the numbers are 32 bits long, and those that are out are counted
   pub record AreSeats (s : Seats X R) : Type 0 where
     pub same : length (names_in s) ≡ length (seats_in s)
     pub few : length (seats_in s) < 2 ^ 32
+    pub counted : s.away ≡ count_out (seats_in s)
 
 -- the number of a name, or nobody has it
 abbrev pub IsFound : List Name → Name → Option ℕ → Type 0

@@ -1,7 +1,7 @@
 //! The seats of all activities.
 
 ghost use Rattle.std.specs.Prelude.{◌≡◌, ◌++◌, ◌∷◌, [], IfOk, IfSome, List, None, OnOk, Some};
-ghost use Rattle.std.specs.Prelude.{false, length, slice_get};
+ghost use Rattle.std.specs.Prelude.{false, length, nat_lt, slice_get};
 ghost use Rattle.std.specs.Option.{option_map};
 ghost use Rattle.activity_seats.specs.Seats.{
   AreSeats,
@@ -11,6 +11,7 @@ ghost use Rattle.activity_seats.specs.Seats.{
   IsOut,
   IsTaken,
   Out,
+  count_out,
   is_in,
   names_in,
   seat_at,
@@ -31,6 +32,7 @@ pub struct Seats<X, R> {
     alloc: Global,
     names: IndexSet<ActivityName>,
     seats: Vec<Seat<X, R>>,
+    away: usize,
 }
 
 impl<X: Drop, R: Drop> Seats<X, R> {
@@ -44,6 +46,7 @@ impl<X: Drop, R: Drop> Seats<X, R> {
             alloc,
             names: IndexSet::new(alloc),
             seats: Vec::new(alloc),
+            away: 0,
         }
     }
 
@@ -115,15 +118,22 @@ impl<X: Drop, R: Drop> Seats<X, R> {
         }
     }
 
+    /// Whether some activity was taken.
+    pub fn is_any_out(&self) -> bool
+        requires kept { AreSeats self.now }
+        ensures out { result ≡ nat_lt 0 (count_out (seats_in self.now)) }
+    {
+        self.away > 0
+    }
+
     /// Another seat for an activity. What was there is answered.
     fn swap(&mut self, number: u32, seat: Seat<X, R>) -> Seat<X, R>
-        requires kept { AreSeats self.old }
         requires known { IsKnown number self.old }
         ensures was { seat_at self.old number ≡ Some (seat_shape result) }
         ensures names { names_in self.new ≡ names_in self.old }
         ensures seats { seats_in self.new
             ≡ with_seat (seats_in self.old) number (seat_shape seat) }
-        ensures kept { AreSeats self.new }
+        ensures away { self.new.away ≡ self.old.away }
     {
         mem::replace(&mut self.seats[number as usize], seat)
     }
@@ -140,7 +150,10 @@ impl<X: Drop, R: Drop> Seats<X, R> {
         ensures kept { AreSeats self.new }
     {
         match self.swap(number, Seat::Out(Vec::new(self.alloc))) {
-            Seat::In(here) => Some(here),
+            Seat::In(here) => {
+                self.away += 1;
+                Some(here)
+            }
             Seat::Out(came) => {
                 self.swap(number, Seat::Out(came));
                 None
@@ -160,7 +173,10 @@ impl<X: Drop, R: Drop> Seats<X, R> {
     {
         match self.swap(number, Seat::In(here)) {
             Seat::In(_) => Vec::new(self.alloc),
-            Seat::Out(came) => came,
+            Seat::Out(came) => {
+                self.away -= 1;
+                came
+            }
         }
     }
 

@@ -58,7 +58,7 @@ fn look_beyond(
     match futures.chase(future) {
         Chase::Value(_) => Ok(Rank::HasNeed),
         Chase::Unfilled(name) => Ok(Rank::Waits(name.copy(alloc)?)),
-        Chase::Cycle(_) => Ok(Rank::Rests),
+        Chase::Cycle(_) => Ok(Rank::Circles),
     }
 }
 

@@ -47,7 +47,7 @@ fn rank_awaiting(
         IfOk result (λ r. rank_shape r ≡ told) }
 {
     match futures.value(future) {
-        Some(_) => Ok(Rank::Rests),
+        Some(_) => Ok(Rank::Circles),
         None => Ok(Rank::Waits(future.copy(alloc)?)),
     }
 }

@@ -12,7 +12,7 @@ use Rattle.asp_model.specs.Chase.{Chase, Value, Unfilled, Cycle, Values, chase, 
 use Rattle.asp_model.specs.Configuration.{Activity, Configuration, RequestShape, requests_of}
 use Rattle.asp_model.specs.Intent as intents
 use Rattle.asp_model.specs.Intent.{Acts, Awaits, Done, Effect, Faulted, Intent, Running, Serving, intent}
-use Rattle.asp_model.specs.Status.{is_running, status_of_intent}
+use Rattle.asp_model.specs.Status.{is_awaiting, is_running, status_of_intent}
 use Rattle.asp_model.specs.Step.{intent_in, put_some, with_effect}
 use Rattle.journals.specs.Owed.{need_at, need_in, need_of, needed_at}
 use Rattle.laws.specs.Reached.{IsAt}
@@ -27,7 +27,7 @@ use Rattle.chase_laws.proofs.CycleLemmas.{chase_never}
 use Rattle.chase_laws.proofs.MeetLemmas.{cycle_never, named_cycle}
 use Rattle.laws.proofs.ChaseLemmas.{awaited}
 use Rattle.chase_laws.proofs.ChaseLemmas.{chase_by, is_end}
-use Rattle.activity_ranks.specs.Ranks.{RankShape, Goes, Waits, Rests, goes, has_need, shifted}
+use Rattle.activity_ranks.specs.Ranks.{RankShape, Circles, Goes, Waits, Rests, awaits, goes, has_need, shifted}
 use Rattle.rank_laws.specs.Ranked.{rank_at, rank_awaiting, rank_by, rank_in, rank_of, rank_unless}
 use Rattle.rank_laws.specs.Keeping.{RanksTell, ReceiversRank, StepsKeepRanks, WritesKeepRanks, shifted_by}
 use Rattle.rank_laws.proofs.OperandLemmas.{AwaitsNothing, future_at, future_of, intent_by, lacks_so, operand_by, operand_of, operands, quiet_by}
@@ -57,13 +57,13 @@ module _ (c : Configuration) (sorted : T (is_sorted future_cmp c.futures)) where
   F = chase c.futures
 
   awaits_unfilled : (g h : FutureShape) → F g ≡ Unfilled h → rank_awaiting c.futures h ≡ Waits h
-  awaits_unfilled g h e = ap (λ o. elim o [ None ↦ Waits h | Some p ↦ Rests ]) (unfilled_end c.futures g h e)
+  awaits_unfilled g h e = ap (λ o. elim o [ None ↦ Waits h | Some p ↦ Circles ]) (unfilled_end c.futures g h e)
 
-  awaits_filled : (h : FutureShape) (o : Option ParcelShape) → is_some o ≡ true → elim o [ None ↦ Waits h | Some p ↦ Rests ] ≡ Rests
+  awaits_filled : (h : FutureShape) (o : Option ParcelShape) → is_some o ≡ true → elim o [ None ↦ Waits h | Some p ↦ Circles ] ≡ Circles
   awaits_filled h None e = none_true e
   awaits_filled h (Some p) e = refl
 
-  awaits_cycle : (g h : FutureShape) → F g ≡ Cycle h → rank_awaiting c.futures h ≡ Rests
+  awaits_cycle : (g h : FutureShape) → F g ≡ Cycle h → rank_awaiting c.futures h ≡ Circles
   awaits_cycle g h e = awaits_filled h (find future_cmp h c.futures) (named_cycle c.futures sorted g h e).filled
 
   module _ (rs : List RequestShape) (m : Name) (a : Activity) where
@@ -241,13 +241,17 @@ writes_keep_ranks c n m b apart =
 
 -- What a rank tells
 
-going_by : (c : Configuration) (f : FutureShape) (o : Option ParcelShape) → goes (elim o [ None ↦ Waits f | Some p ↦ Rests ]) ≡ false
+going_by : (c : Configuration) (f : FutureShape) (o : Option ParcelShape) → goes (elim o [ None ↦ Waits f | Some p ↦ Circles ]) ≡ false
 going_by c f None = refl
 going_by c f (Some p) = refl
 
-needy_by : (c : Configuration) (f : FutureShape) (o : Option ParcelShape) → has_need (elim o [ None ↦ Waits f | Some p ↦ Rests ]) ≡ false
+needy_by : (c : Configuration) (f : FutureShape) (o : Option ParcelShape) → has_need (elim o [ None ↦ Waits f | Some p ↦ Circles ]) ≡ false
 needy_by c f None = refl
 needy_by c f (Some p) = refl
+
+awaiting_by : (c : Configuration) (f : FutureShape) (o : Option ParcelShape) → awaits (elim o [ None ↦ Waits f | Some p ↦ Circles ]) ≡ true
+awaiting_by c f None = refl
+awaiting_by c f (Some p) = refl
 
 and_true : (b : Bool) → (b && true) ≡ b
 and_true true = refl
@@ -273,6 +277,14 @@ needs_by c (intents.Rests Running) = refl
 needs_by c (intents.Rests (Awaits f)) = needy_by c f (find future_cmp f c.futures)
 needs_by c (intents.Rests (Faulted x)) = refl
 
+awaits_by : (c : Configuration) (p : Intent) → awaits (rank_by c.futures p) ≡ is_awaiting (status_of_intent p)
+awaits_by c (Acts e) = refl
+awaits_by c (intents.Rests Done) = refl
+awaits_by c (intents.Rests Serving) = refl
+awaits_by c (intents.Rests Running) = refl
+awaits_by c (intents.Rests (Awaits f)) = awaiting_by c f (find future_cmp f c.futures)
+awaits_by c (intents.Rests (Faulted x)) = refl
+
 tells_going : (c : Configuration) (p : Intent) (o : Option (FutureShape × ℕ)) → p ≢ intents.Rests Running → goes (by_need c p o) ≡ (is_running (status_of_intent p) && is_none o)
 tells_going c p (Some y) x = sym (and_false (is_running (status_of_intent p)))
 tells_going c p None x = goes_by c p x ∙ sym (and_true (is_running (status_of_intent p)))
@@ -281,8 +293,12 @@ tells_needy : (c : Configuration) (p : Intent) (o : Option (FutureShape × ℕ))
 tells_needy c p (Some x) = refl
 tells_needy c p None = needs_by c p
 
+tells_awaiting : (c : Configuration) (p : Intent) (o : Option (FutureShape × ℕ)) → awaits (by_need c p o) ≡ (is_awaiting (status_of_intent p) && is_none o)
+tells_awaiting c p (Some x) = sym (and_false (is_awaiting (status_of_intent p)))
+tells_awaiting c p None = awaits_by c p ∙ sym (and_true (is_awaiting (status_of_intent p)))
+
 pub ranks_tell : RanksTell
-ranks_tell c n = record { going = going_at (find name_cmp n c.activities) refl; needy = needy_at (find name_cmp n c.activities) }
+ranks_tell c n = record { going = going_at (find name_cmp n c.activities) refl; needy = needy_at (find name_cmp n c.activities); awaiting = awaiting_at (find name_cmp n c.activities) }
   where
     intended : (o : Option Activity) → find name_cmp n c.activities ≡ o → elim o [ None ↦ intents.Rests Done | Some a ↦ intent (chase c.futures) (requests_of c n) n a ] ≢ intents.Rests Running
     intended o is e = none_rests_running c n (ap (λ (o : Option Activity). elim o [ None ↦ intents.Rests Done | Some a ↦ intent (chase c.futures) (requests_of c n) n a ]) is ∙ e)
@@ -295,3 +311,8 @@ ranks_tell c n = record { going = going_at (find name_cmp n c.activities) refl; 
     needy_at : (o : Option Activity) → has_need (by_activity c n o) ≡ is_some (elim o [ None ↦ None | Some a ↦ need_of (chase c.futures) a ])
     needy_at None = refl
     needy_at (Some a) = tells_needy c (intent (chase c.futures) (requests_of c n) n a) (need_of (chase c.futures) a)
+
+    awaiting_at : (o : Option Activity)
+        → awaits (by_activity c n o) ≡ (is_awaiting (status_of_intent (elim o [ None ↦ intents.Rests Done | Some a ↦ intent (chase c.futures) (requests_of c n) n a ])) && is_none (elim o [ None ↦ None | Some a ↦ need_of (chase c.futures) a ]))
+    awaiting_at None = refl
+    awaiting_at (Some a) = tells_awaiting c (intent (chase c.futures) (requests_of c n) n a) (need_of (chase c.futures) a)

@@ -6,12 +6,12 @@ use Rattle.asp_model.specs.Parcel.{ParcelShape}
 use Rattle.asp_model.specs.Chase.{chase}
 use Rattle.asp_model.specs.Configuration.{Activity, Configuration, requests_of}
 use Rattle.asp_model.specs.Intent.{Acts, Effect}
-use Rattle.asp_model.specs.Status.{is_running, status_of}
+use Rattle.asp_model.specs.Status.{is_awaiting, is_running, status_of}
 use Rattle.asp_model.specs.Step.{intent_in, with_effect}
 use Rattle.journals.specs.Owed.{need_to}
 use Rattle.laws.specs.Reached.{IsAt}
 use Rattle.laws.specs.Sound.{IsSound}
-use Rattle.activity_ranks.specs.Ranks.{RankShape, Goes, Rests, goes, has_need, shifted}
+use Rattle.activity_ranks.specs.Ranks.{RankShape, Goes, Rests, awaits, goes, has_need, shifted}
 use Rattle.rank_laws.specs.Ranked.{rank_at, rank_in}
 
 -- what a step fills shifts who waited for it
@@ -38,10 +38,11 @@ abbrev pub WritesKeepRanks : Type 0
 WritesKeepRanks = (c : Configuration) (n m : Name) (b : Activity) → m ≢ n
     → rank_in (record c { activities = put name_cmp n b c.activities }) m ≡ rank_in c m
 
--- who may step is running, and nothing is owed to it; and a need is told
+-- who may step is running, and nothing is owed to it; a need is told, and who awaits without one
 pub record Tells (c : Configuration) (n : Name) : Type 0 where
   pub going : goes (rank_in c n) ≡ (is_running (status_of c n) && is_none (need_to c n))
   pub needy : has_need (rank_in c n) ≡ is_some (need_to c n)
+  pub awaiting : awaits (rank_in c n) ≡ (is_awaiting (status_of c n) && is_none (need_to c n))
 
 abbrev pub RanksTell : Type 0
 RanksTell = (c : Configuration) (n : Name) → Tells c n

@@ -7,11 +7,11 @@ use Rattle.asp_model.specs.Configuration.{Activity, Configuration, RequestShape,
 use Rattle.asp_model.specs.Intent as intents
 use Rattle.asp_model.specs.Intent.{Acts, Intent, StatusShape, intent}
 use Rattle.journals.specs.Owed.{need_of}
-use Rattle.activity_ranks.specs.Ranks.{RankShape, Goes, HasNeed, Rests, Waits}
+use Rattle.activity_ranks.specs.Ranks.{RankShape, Circles, Goes, HasNeed, Rests, Waits}
 
--- who awaits a future without a value waits for it; round a cycle nothing comes
+-- who awaits a future without a value waits for it
 abbrev pub rank_awaiting : Values → FutureShape → RankShape
-rank_awaiting values f = elim (find future_cmp f values) [ None ↦ Waits f | Some p ↦ Rests ]
+rank_awaiting values f = elim (find future_cmp f values) [ None ↦ Waits f | Some p ↦ Circles ]
 
 abbrev pub rank_resting : Values → StatusShape → RankShape
 rank_resting values (intents.Awaits f) = rank_awaiting values f
@@ -38,4 +38,4 @@ rank_in c n = elim (find name_cmp n c.activities) [ None ↦ Rests | Some a ↦ 
 abbrev pub rank_at : Chase → RankShape
 rank_at (Value f p) = HasNeed
 rank_at (Unfilled f) = Waits f
-rank_at (Cycle f) = Rests
+rank_at (Cycle f) = Circles

@@ -18,7 +18,7 @@ pub fn writes_keep_ranks()
     ensures { WritesKeepRanks }
 {}
 
-/// Who may step is running and lacks nothing, and a need is told.
+/// Who may step is running and lacks nothing, a need is told, and who awaits without one.
 pub fn ranks_tell()
     ensures { RanksTell }
 {}

@@ -23,7 +23,7 @@ returns-clause-here c =
     let new : Ranks = record old { waiting = c.join.new.self } in
     let f = future_shape c.args.future in
     elim c.join.result as (λ r. ((k : ℕ) → OnOk r (has_number k (numbers_at c.join.new.self f) ≡ (has_number k c.push.new.self.items || has_number k (numbers_at old.waiting f)))) → OnOk r (StayElsewhere f old.waiting c.join.new.self) → OnOk r (IsRanked new c.args.number (Waits f))) [
-      | Ok x ↦ λ here others. one_waits c.args.number f old new c.requires.rests refl refl (joined_in f (c.args.number ∷ []) old.waiting c.join.new.self (listed c here) others)
+      | Ok x ↦ λ here others. one_waits c.args.number f old new c.requires.rests refl refl refl (joined_in f (c.args.number ∷ []) old.waiting c.join.new.self (listed c here) others)
       | Err e ↦ λ here others. tt
     ] c.join.ensures.here c.join.ensures.others
 
@@ -33,6 +33,6 @@ returns-clause-others c =
     let new : Ranks = record old { waiting = c.join.new.self } in
     let f = future_shape c.args.future in
     elim c.join.result as (λ r. ((k : ℕ) → OnOk r (has_number k (numbers_at c.join.new.self f) ≡ (has_number k c.push.new.self.items || has_number k (numbers_at old.waiting f)))) → OnOk r (StayElsewhere f old.waiting c.join.new.self) → OnOk r (OthersStay c.args.number old new)) [
-      | Ok x ↦ λ here others. others_wait_on c.args.number f old new refl refl (joined_in f (c.args.number ∷ []) old.waiting c.join.new.self (listed c here) others)
+      | Ok x ↦ λ here others. others_wait_on c.args.number f old new refl refl refl (joined_in f (c.args.number ∷ []) old.waiting c.join.new.self (listed c here) others)
       | Err e ↦ λ here others. tt
     ] c.join.ensures.here c.join.ensures.others

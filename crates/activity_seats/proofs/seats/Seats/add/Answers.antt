@@ -1,4 +1,4 @@
-use Rattle.std.proofs.Common.{◌<◌, ◌-◌, ◌^◌, length, arith, rules}
+use Rattle.std.proofs.Common.{◌<◌, ◌-◌, ◌^◌, length, arith, refl, rules}
 use Rattle.activity_seats.specs.declared.seat.Seat.TheVariants as seat
 use Rattle.activity_seats.specs.declared.seats.Seats.{Seats}
 use Rattle.activity_seats.specs.Seats.{names_in}
@@ -16,6 +16,6 @@ returns-clause-kept g c =
       grind (arith, c.if-number.false, c.len-number.ensures, old.seats.ok.0),
       search rules,
     ) in
-    let new : Seats g.row.X.Denot g.row.R.Denot = record { alloc = old.alloc; names = c.insert.new.self; seats = c.push.new.self } in
-    kept_more old new c.args.name (seat.In c.args.here)
-    (added (names_in old) c.insert.new.self.keys c.args.name c.requires.new c.in_ok-insert.ensures.keys) c.in_ok-push.ensures.items few c.requires.kept
+    let new : Seats g.row.X.Denot g.row.R.Denot = record { alloc = old.alloc; names = c.insert.new.self; seats = c.push.new.self; away = old.away } in
+    kept_more old new c.args.name (seat.In c.args.here) refl
+    (added (names_in old) c.insert.new.self.keys c.args.name c.requires.new c.in_ok-insert.ensures.keys) c.in_ok-push.ensures.items refl few c.requires.kept

@@ -1,8 +1,6 @@
 use Rattle.std.proofs.Common.{◌<◌, ◌∙◌, Some, length, map, slice_set, refl, sym, ap, subst}
-use Rattle.std.specs.Vec.{with_item}
-use Rattle.activity_seats.specs.declared.seats.Seats.{Seats}
 use Rattle.activity_seats.specs.Seats.{seat_shape}
-use Rattle.activity_seats.proofs.SeatLemmas.{got_mapped, kept_set, length_map, map_set}
+use Rattle.activity_seats.proofs.SeatLemmas.{got_mapped, length_map, map_set}
 use Rattle.activity_seats.proofs.seats.Seats.swap.Goals as goal
 
 pub returns : goal.returns
@@ -10,10 +8,9 @@ returns g c =
     let old = c.args.self.now in
     let items = old.seats.items in
     let within : c.args.number < length items = subst (λ n. c.args.number < n) (length_map seat_shape items) c.requires.known in
-    let new : Seats g.row.X.Denot g.row.R.Denot = record { alloc = old.alloc; names = old.names; seats = with_item old.seats c.args.number c.replace.new.dest } in
     record {
       was = got_mapped seat_shape items c.args.number _ within ∙ ap (λ s. Some (seat_shape s)) (sym (c.replace.ensures.value ∙ c.index_mut.ensures.value));
       names = refl;
       seats = map_set seat_shape items c.args.number c.replace.new.dest ∙ ap (λ s. slice_set (map seat_shape items) c.args.number (seat_shape s)) c.replace.ensures.after;
-      kept = kept_set old new c.args.number c.replace.new.dest refl refl c.requires.kept;
+      away = refl;
     }
