@@ -9,10 +9,10 @@ use Rattle.journals.specs.Journals.{RunShape}
 use Rattle.program_code.specs.declared.code.Node.{Node}
 use Rattle.core_state.specs.declared.lease.Lease.{Lease}
 use Rattle.core_state.specs.declared.state.CoreState.{CoreState}
-use Rattle.core_state.specs.Commits.{IsReturning}
+use Rattle.core_state.specs.Commits.{IsReturning, IsRunCommitted}
 use Rattle.core_commits.specs.declared.arrival.Arrival.{Arrival}
 use Rattle.core_commits.specs.declared.arrival.Arrival.TheVariants.{Acted, Ran}
-use Rattle.core_commits.specs.Commits.{IsGiving, act_of, act_within}
+use Rattle.core_commits.specs.Commits.{IsActCommitted, IsGiving, act_of, act_within}
 
 abbrev pub number_of : Arrival → ℕ
 number_of (Ran k grant taken a) = k
@@ -45,3 +45,10 @@ IsArrivalOf h code x s n l a = IsArrived h code x s n l.taken a × (number_of a 
 
 abbrev pub IsSomeArrived : CoreState → Arrival → Type 0
 IsSomeArrived x a = (h : HistoryShape) × (code : List Node) × (s : RunShape) × (n : Name) × (taken : ℕ) × IsArrived h code x s n taken a
+
+-- what has arrived so is settled: it is a commit of its own end and effect
+abbrev pub IsSettled : (h : HistoryShape) (code : List Node) (x : CoreState) (s : RunShape) (n : Name) (taken : ℕ) (a : Arrival)
+    → IsArrived h code x s n taken a → CoreState → Type 0
+IsSettled h code x s n taken (Ran k grant reductions a) r new = IsRunCommitted h code s k n grant reductions r.0.end new
+IsSettled h code x s n taken (Acted k grant reductions g) r new =
+    IsActCommitted h code s k n grant reductions r.1.acting.returning.end r.0 new

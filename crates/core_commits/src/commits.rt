@@ -19,6 +19,7 @@ ghost use Rattle.core_state.specs.Leases.{IsLease};
 ghost use Rattle.core_commits.specs.Arrivals.{
   IsArrivalOf,
   IsArrived,
+  IsSettled,
   IsSomeArrived,
   grant_of,
   number_of,
@@ -93,6 +94,9 @@ pub fn settle(state: &mut CoreState, arrival: Arrival) -> Result<(), AllocError>
         (taken : ℕ) → IsArrived h code state.old s n taken arrival →
         let done = IsCommitted h code s (number_of arrival) n (grant_of arrival) taken in
         OnOk result (done state.new) }
+    ensures settled { (h : HistoryShape) (code : List NodeShape) (s : RunShape) (n : Name)
+        (taken : ℕ) → (r : IsArrived h code state.old s n taken arrival) →
+        OnOk result (IsSettled h code state.old s n taken arrival r state.new) }
     ensures entries { OnErr result
         (entries_in state.new.journal ≡ entries_in state.old.journal) }
 {

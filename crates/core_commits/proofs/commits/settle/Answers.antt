@@ -1,6 +1,6 @@
-use Rattle.std.proofs.Common.{subst, sym}
+use Rattle.std.proofs.Common.{OnOk, subst, sym}
 use Rattle.std.proofs.lemmas.Result.{on_ok_weaker}
-use Rattle.core_commits.specs.Arrivals.{IsArrived, grant_of, number_of}
+use Rattle.core_commits.specs.Arrivals.{IsSettled, IsArrived, grant_of, number_of}
 use Rattle.core_commits.specs.Commits.{IsCommitted}
 use Rattle.core_commits.proofs.ArrivalLemmas.{acted_committed, ran_committed}
 use Rattle.core_commits.proofs.commits.settle.Goals as goal
@@ -34,3 +34,15 @@ returns-in-Acted-clause-committed c = λ h code s n taken arrived.
     (λ done. subst (λ a. IsCommitted h code s (number_of a) n (grant_of a) taken c.come_in.new.state) (sym c.in-Acted.is)
     (acted_committed h code x s n taken c.in-Acted.number c.in-Acted.grant c.in-Acted.reductions c.in-Acted.given was c.come_in.new.state done))
     (c.come_in.ensures.committed h code s n was.0 was.1)
+
+pub returns-in-Ran-clause-settled : goal.returns-in-Ran-clause-settled
+returns-in-Ran-clause-settled c = λ h code s n taken arrived.
+    let x = c.args.state.now in
+    subst (λ a. (r : IsArrived h code x s n taken a) → OnOk c.come_back.result (IsSettled h code x s n taken a r c.come_back.new.self)) (sym c.in-Ran.is)
+    (λ r. c.come_back.ensures.committed h code s n r.0) arrived
+
+pub returns-in-Acted-clause-settled : goal.returns-in-Acted-clause-settled
+returns-in-Acted-clause-settled c = λ h code s n taken arrived.
+    let x = c.args.state.now in
+    subst (λ a. (r : IsArrived h code x s n taken a) → OnOk c.come_in.result (IsSettled h code x s n taken a r c.come_in.new.state)) (sym c.in-Acted.is)
+    (λ r. c.come_in.ensures.committed h code s n r.0 r.1) arrived
