@@ -1,7 +1,8 @@
 #!/usr/bin/env python3
 """Measures the built programs at two sizes each: time, peak memory, and the ratio of the times.
 
-    bench/measure.py [PART ..]     with no PART all of them: reading runs replays reports printing stores edges turns
+    bench/measure.py [PART ..]     with no PART all of them: reading runs replays cores reports printing stores
+                           edges turns
 
 Nothing here is a test: figures depend on the machine, and only their ratios within one run mean
 something. The seconds are those of the processor, so that other work on the machine matters less;
@@ -71,6 +72,24 @@ def crowd(n):
         "let m = [; many(s, k) = if (k == 0) { 0 } else { "
         "let b = active([; wait(t, v) = print(v + k)]) in b.wait(f); s.many(k - 1) }] in "
         f"m.many({n}); a.go()"
+    )
+
+
+def loop(n):
+    """So many turns of a loop of one activity: a call, a get and a put."""
+    return (
+        "let o = [sum = 0; add(s, k) = if (k == 0) { s.sum } else { s.sum := s.sum + k; s.add(k - 1) }] in "
+        f"print(o.add({n}))"
+    )
+
+
+def broadcast(rounds):
+    """A group of 100 activities that is called and waited for, in so many rounds."""
+    members = ", ".join(["active(w)"] * 100)
+    return (
+        f"let w = [; square(s, v) = v * v] in let g = group({members}) in "
+        "let m = [; rounds(s, k) = if (k == 0) { 0 } else { waitall(g.square(k)); s.rounds(k - 1) }] in "
+        f"m.rounds({rounds})"
     )
 
 
@@ -219,6 +238,27 @@ def show_replays(folder):
         last = replay.seconds
 
 
+def show_cores(folder):
+    """Each run beside the replay of its report, and under each strategy beside the lazy run."""
+    for name, text, most in (
+        ("a loop", loop(500_000), None),
+        ("20,000 pairs", make(20_000), 1.25),
+        ("a broadcast to 100", broadcast(100), 1.25),
+        ("5,000 that await one", crowd(5_000), None),
+    ):
+        program, report = folder.text(text), folder.new()
+        once(PROGRAM, [program, *MOST], report)
+        replay = best(PROGRAM, [program, "--replay", report], 3)
+        lazy = best(PROGRAM, [program, *MOST], 3)
+        bound = f" (at most {most} is wanted)" if most else ""
+        print(f"{name}: {lazy.seconds:.3f} s, {lazy.seconds / replay.seconds:.2f} times its replay{bound}; "
+              f"{lazy.reductions:,} reductions, peak {lazy.peak / 1024:,.0f} MiB", flush=True)
+        for strategy in ("forward", "message"):
+            run = best(PROGRAM, [program, *MOST, "--strategy", strategy], 3)
+            print(f"{name}, {strategy}: {run.seconds:.3f} s, {run.seconds / lazy.seconds:.2f} times lazy "
+                  f"(at most 2 is wanted); status {run.status}, peak {run.peak / 1024:,.0f} MiB", flush=True)
+
+
 def show_reports(folder):
     """Reports of 8 and of 16 MiB whose last line is bad, so that nothing is replayed: status 9."""
     program = folder.text("7")
@@ -319,6 +359,7 @@ PARTS = {
     "reading": show_reading,
     "runs": show_runs,
     "replays": show_replays,
+    "cores": show_cores,
     "reports": show_reports,
     "printing": show_printing,
     "stores": show_stores,
