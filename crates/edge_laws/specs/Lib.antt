@@ -1,1 +1,3 @@
+-- in reading order
 pub mod Fresh
+pub mod Runs
