@@ -3,3 +3,4 @@ pub mod PassingLemmas
 pub mod StrategyLemmas
 pub mod NoteLemmas
 pub mod GivenLemmas
+pub mod LabelLemmas

@@ -1,5 +1,6 @@
 -- in reading order
 pub mod Strategies
+pub mod Labels
 pub mod Answers
 pub mod Passing
 pub mod Given

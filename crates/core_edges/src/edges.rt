@@ -13,18 +13,22 @@ ghost use Rattle.std.specs.Prelude.{
   true,
   length,
 };
+ghost use Rattle.asp_model.specs.Configuration.{Configuration};
 ghost use Rattle.asp_model.specs.Intent.{Effect};
-ghost use Rattle.asp_model.specs.Names.{FutureShape};
+ghost use Rattle.asp_model.specs.Names.{FutureShape, Name};
 ghost use Rattle.asp_model.specs.Shapes.{delivery_shape};
+ghost use Rattle.asp_model.specs.Step.{with_effect};
 ghost use Rattle.coded_cells.specs.Shapes.{parcel_shape};
 ghost use Rattle.journals.specs.Edges.{after_events, no_holders};
 ghost use Rattle.journals.specs.Passing.{effect_events};
+ghost use Rattle.laws.specs.Steps.{IsNewTo};
 ghost use Rattle.actor.specs.Effects.{IsGiven};
 ghost use Rattle.future_update.specs.Holders.{IsTurned, is_met};
 ghost use Rattle.core_edges.specs.Answers.{AreAnswered};
 ghost use Rattle.core_edges.specs.Deliveries.{IsAfterDelivery};
 ghost use Rattle.core_edges.specs.Due.{IsDue};
 ghost use Rattle.core_edges.specs.Given.{AreLearned, IsSomeFresh};
+ghost use Rattle.core_edges.specs.Labels.{AreByLabels};
 ghost use Rattle.core_edges.specs.Strategies.{KeepsEdges, KeepsOthers, strategy_in};
 
 use actor::Given;
@@ -119,6 +123,9 @@ impl<P: UpdatePolicy> Edges<P> {
         ensures answers { let strategies = strategy_in self.new in
             OnOk result (AreAnswered P.answer P.asked strategies self.old self.new) }
         ensures strategies { OnOk result (AreLearned given.now self.old self.new) }
+        ensures labels { (c : Configuration) (n : Name) (e : Effect) → IsNewTo c e →
+            IsGiven e given.now → AreByLabels c self.old →
+            OnOk result (AreByLabels (with_effect n e c) self.new) }
         ensures activities { let old = self.old.holders.activities in
             OnOk result (self.new.holders.activities ≡ old) }
         ensures plan { OnOk result (self.new.plan ≡ self.old.plan) }

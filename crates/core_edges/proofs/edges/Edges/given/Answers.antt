@@ -10,6 +10,7 @@ use Rattle.core_edges.specs.Passing.{ArePassed}
 use Rattle.core_edges.specs.Strategies.{strategy_in}
 use Rattle.core_edges.proofs.AnswerLemmas.{none_answered, on_ok}
 use Rattle.core_edges.proofs.GivenLemmas.{filled_given, filled_once, made_given, nothing_given, sent_given}
+use Rattle.core_edges.proofs.LabelLemmas.{labels_learned, labels_stay}
 use Rattle.core_edges.proofs.PassingLemmas.{same_strategies}
 use Rattle.core_edges.proofs.edges.Edges.given.Goals as goal
 
@@ -58,3 +59,23 @@ returns-in-Filled-clause-answers g c =
     let x = subst (IsSomeFresh old.holders.holders) c.in-Filled.is c.requires.fresh in
     let new = filled_once f old.holders.holders (x.2.filled (f, parcel_shape c.in-Filled.field-1) x.1.2) in
     none_answered g.P.UpdatePolicy.answer g.P.UpdatePolicy.asked (strategy_in (record old { holders = c.filled.new.self })) old (record old { holders = c.filled.new.self }) (ap (λ h. h.edges) (c.filled.ensures.filled ∙ new)) c.filled.ensures.answers refl
+
+pub returns-in-Nothing-clause-labels : goal.returns-in-Nothing-clause-labels
+returns-in-Nothing-clause-labels g c d n e new given labels =
+    let is = subst (IsGiven e) c.in-Nothing.is given in
+    labels_stay d n e c.args.self.now c.args.self.now refl labels is.0 (λ f. refl)
+
+pub returns-in-Made-clause-labels : goal.returns-in-Made-clause-labels
+returns-in-Made-clause-labels g c d n e new given labels =
+    let is = subst (IsGiven e) c.in-Made.is given in
+    on_ok c.pass_store.result (λ passed. labels_stay d n e c.args.self.now c.pass_store.new.self passed.others.plan labels is.0 (λ f. ap (λ s. s f) (same_strategies g.P.UpdatePolicy.answer g.P.UpdatePolicy.asked c.args.self.now c.pass_store.new.self passed.others))) c.pass_store.ensures.passed
+
+pub returns-in-Sent-clause-labels : goal.returns-in-Sent-clause-labels
+returns-in-Sent-clause-labels g c d n e new given labels =
+    let is = subst (IsGiven e) c.in-Sent.is given in
+    on_ok c.sent.result (λ sent. labels_learned d n e c.args.self.now c.sent.new.self sent.plan labels (c.in-Sent.home, request_shape c.in-Sent.request) is.0 new sent.learned) c.sent.ensures.sent
+
+pub returns-in-Filled-clause-labels : goal.returns-in-Filled-clause-labels
+returns-in-Filled-clause-labels g c d n e new given labels =
+    let is = subst (IsGiven e) c.in-Filled.is given in
+    labels_stay d n e c.args.self.now (record c.args.self.now { holders = c.filled.new.self }) refl labels is.0 (λ f. refl)
