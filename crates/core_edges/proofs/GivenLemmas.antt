@@ -1,5 +1,5 @@
 -- What a reduction gives, by its effect.
-use Rattle.std.proofs.Common.{◌≡◌, Bool, true, false, List, [], ◌∷◌, ◌++◌, Option, Some, None, refl, sym, ap, ◌∙◌, subst, append-nil}
+use Rattle.std.proofs.Common.{◌≡◌, true, false, List, [], ◌++◌, Option, Some, None, refl, sym, ap, ◌∙◌, append-nil}
 use Rattle.asp_model.specs.Names.{Name, FutureShape}
 use Rattle.asp_model.specs.Parcel.{ParcelShape}
 use Rattle.asp_model.specs.Configuration as model
@@ -12,16 +12,13 @@ use Rattle.coded_cells.specs.declared.cells.Parcel.{Parcel}
 use Rattle.asp_model.specs.declared.name.FutureName.{FutureName}
 use Rattle.request_queue.specs.declared.request.Request.{Request}
 use Rattle.request_queue.specs.Requests.{request_shape}
-use Rattle.journals.specs.Edges.{Event, Fills, HoldersShape, after_event, after_events, has_filled, home_of}
+use Rattle.journals.specs.Edges.{Fills, HoldersShape, after_event, after_events, has_filled}
 use Rattle.journals.specs.Passing.{effect_events, filled_events, made_events, passes_all, sent_events}
 use Rattle.edge_records.specs.Changes.{once_filled}
 use Rattle.actor.specs.declared.act.Given.TheVariants as given
 use Rattle.actor.specs.declared.actor.Actor.{Actor}
 use Rattle.actor.specs.Actors.{Stands, code_of}
 use Rattle.actor.specs.Effects.{IsGiven, IsMade}
-use Rattle.edge_laws.specs.Fresh.{IsFresh}
-use Rattle.laws.proofs.NameLemmas.{no_some}
-use Rattle.core_edges.specs.Given.{IsSomeFresh}
 use Rattle.core_edges.specs.Passing.{futures_held, with_passed}
 use Rattle.core_edges.proofs.PassingLemmas.{passes_are}
 

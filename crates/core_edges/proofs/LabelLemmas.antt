@@ -1,13 +1,10 @@
 -- Strategies stay those of labels.
-use Rattle.std.proofs.Common.{◌≡◌, ◌≢◌, ℕ, Option, Some, None, refl, sym, ap, ◌∙◌, subst, ⊎_elim}
+use Rattle.std.proofs.Common.{◌≡◌, Some, None, sym, ap, ◌∙◌, subst, ⊎_elim}
 use Rattle.asp_model.specs.Names.{Name, FutureShape}
 use Rattle.asp_model.specs.Configuration.{Configuration, RequestShape}
 use Rattle.asp_model.specs.Intent.{Effect}
 use Rattle.asp_model.specs.Step.{with_effect}
-use Rattle.request_queue.specs.declared.request.Request.{Request}
-use Rattle.request_queue.specs.Requests.{request_shape}
 use Rattle.update_policy.specs.Plans.{plan_shape, strategy_by}
-use Rattle.laws.specs.Kept.{Stands}
 use Rattle.laws.specs.Steps.{IsNewTo}
 use Rattle.laws.proofs.NameLemmas.{no_some, some_is}
 use Rattle.laws.proofs.SoundLemmas.{came}

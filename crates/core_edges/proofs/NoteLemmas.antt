@@ -1,5 +1,5 @@
 -- The edge of a delivery, by its place.
-use Rattle.std.proofs.Common.{◌≡◌, ◌<◌, ◌+◌, ◌++◌, ℕ, Bool, true, false, List, [], ◌∷◌, Option, Some, None, length, get_or, refl, sym, ap, ◌∙◌, arith}
+use Rattle.std.proofs.Common.{◌≡◌, ◌<◌, ◌+◌, ◌++◌, ℕ, Bool, true, false, List, [], ◌∷◌, Some, None, length, get_or, refl, sym, ap, ◌∙◌, arith}
 use Rattle.std.specs.Prelude.{◌&&◌, ◌||◌, cond, not, slice_get}
 use Rattle.std.specs.List.{list_any, position, position_or_len}
 use Rattle.std.proofs.lemmas.Bool.{lt-ltb}
@@ -7,7 +7,7 @@ use Rattle.std.proofs.lemmas.List.Folds.{list_any_at}
 use Rattle.std.proofs.lemmas.List.Quantifiers.{position-Some}
 use Rattle.std.proofs.lemmas.Option.{slice_get-get_or}
 use Rattle.asp_model.specs.History.{DeliveryShape, Edge, Need}
-use Rattle.journals.specs.Edges.{Delivers, EdgeShape, HoldersShape, after_event, after_events, has_edge, same_edge, with_delivered}
+use Rattle.journals.specs.Edges.{Delivers, EdgeShape, HoldersShape, after_event, after_events, has_edge, same_edge}
 use Rattle.laws.proofs.NameLemmas.{no_some, none_true}
 use Rattle.edge_records.specs.Names.{edge_between}
 use Rattle.edge_records.proofs.PlaceLemmas.{same_edge_same}

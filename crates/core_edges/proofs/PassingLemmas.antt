@@ -2,11 +2,9 @@
 use Rattle.std.proofs.Common.{◌≡◌, ◌≤◌, ◌+◌, ℕ, Bool, true, false, List, [], ◌∷◌, ◌++◌, Option, Some, None, map, take, get_or, length, zero, suc, ◌<◌, refl, sym, ap, ◌∙◌, subst, arith, append-nil, append_assoc}
 use Rattle.std.proofs.Math.Seq.{take-suc}
 use Rattle.std.proofs.lemmas.List.{map-append}
-use Rattle.std.specs.List.{flat_map}
 use Rattle.asp_model.specs.Names.{Name, FutureShape}
 use Rattle.asp_model.specs.History.{ChoiceShape, DeliveryShape, Edge, Need}
 use Rattle.asp_model.specs.Configuration.{RequestShape}
-use Rattle.asp_model.specs.Store.{CellShape}
 use Rattle.program_code.specs.declared.code.Node.{Node}
 use Rattle.program_code.specs.declared.code.Class.{Class}
 use Rattle.program_code.specs.Classes.{class_at}
@@ -15,7 +13,7 @@ use Rattle.coded_cells.specs.Cells.{CodedCell, CodedStore, all_coded, cell_at}
 use Rattle.coded_cells.specs.declared.cells.Cell.{Cell}
 use Rattle.coded_cells.specs.Shapes.{cell_of, class_object, store_of}
 use Rattle.journals.specs.Edges.{Begins, EdgeShape, HoldersShape, Passes, Receives, after_event, after_events, home_of, is_no_edge, with_edge, with_edges, with_held}
-use Rattle.journals.specs.Passing.{future_in, futures_in, passes_all, sent_events}
+use Rattle.journals.specs.Passing.{future_in, futures_in, passes_all}
 use Rattle.edge_records.specs.Changes.{once_received}
 use Rattle.edge_records.specs.Names.{edge_between}
 use Rattle.update_policy.specs.declared.strategy.Strategy.{Strategy}
@@ -162,8 +160,8 @@ module _ {P : Type 0} (answers : Answering P) (counts : Counting P) where
         ∙ sym (events (after_event (Passes (edge_between r.future home by)) (after_event (Begins r.future home) old.holders.holders)));
     answered = subst (λ s. AreAnswered answers counts s old new) (sym same)
         (answered_then answers counts (strategy_in begun) old begun new
-            (none_answered answers counts (strategy_in begun) old begun (ap (λ h. h.edges) holders ∙ ap (λ v. v.holders.edges) kept.holders) (had ∙ ap (λ v. v.answers) kept.holders) (policies ∙ kept.policies))
-            (answered_then answers counts (strategy_in begun) begun back new there.answered (subst (λ s. AreAnswered answers counts s back new) (same_strategies begun back there.others) on.answered)));
+        (none_answered answers counts (strategy_in begun) old begun (ap (λ h. h.edges) holders ∙ ap (λ v. v.holders.edges) kept.holders) (had ∙ ap (λ v. v.answers) kept.holders) (policies ∙ kept.policies))
+        (answered_then answers counts (strategy_in begun) begun back new there.answered (subst (λ s. AreAnswered answers counts s back new) (same_strategies begun back there.others) on.answered)));
     learned = record {
       here = ap (λ s. s r.future) (same ∙ same_strategies first begun others) ∙ learned.here;
       others = λ g d. ap (λ s. s g) (same ∙ same_strategies first begun others) ∙ learned.others g d;

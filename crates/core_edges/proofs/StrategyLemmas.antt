@@ -1,5 +1,5 @@
 -- Strategies that are learned.
-use Rattle.std.proofs.Common.{◌≡◌, ◌≢◌, Bool, true, false, Option, Some, None, refl, sym, ap, ◌∙◌, ◌⊎◌, inl, inr, ⊎_elim}
+use Rattle.std.proofs.Common.{◌≡◌, ◌≢◌, true, false, Option, refl, ap, ◌⊎◌, inl, inr, ⊎_elim}
 use Rattle.std.specs.BTreeMap as trees
 use Rattle.std.specs.BTreeMap.{BTreeMap, is_at}
 use Rattle.std.specs.Map.{lookup}
@@ -7,7 +7,7 @@ use Rattle.std.specs.Ordering.{is_eq}
 use Rattle.std.specs.declared.cmp.Ordering.{Ordering}
 use Rattle.asp_model.specs.declared.name.FutureName.{FutureName}
 use Rattle.asp_model.specs.contracts.name.FutureNameOrd.TheImpl as ordering
-use Rattle.asp_model.specs.Names.{FutureShape, Text, same_future}
+use Rattle.asp_model.specs.Names.{FutureShape, same_future}
 use Rattle.asp_model.specs.Order.{same_future_same}
 use Rattle.asp_model.specs.Shapes.{future_shape}
 use Rattle.update_policy.specs.declared.strategy.Strategy.{Strategy}

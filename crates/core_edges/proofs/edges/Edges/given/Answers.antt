@@ -1,15 +1,13 @@
-use Rattle.std.proofs.Common.{◌≡◌, OnOk, Some, refl, sym, ap, ◌∙◌, subst}
+use Rattle.std.proofs.Common.{refl, sym, ap, ◌∙◌, subst}
 use Rattle.asp_model.specs.Shapes.{future_shape}
 use Rattle.coded_cells.specs.Shapes.{parcel_shape}
 use Rattle.request_queue.specs.Requests.{request_shape}
-use Rattle.actor.specs.declared.act.Given.{Given}
 use Rattle.actor.specs.Effects.{IsGiven}
 use Rattle.core_edges.specs.Answers.{AreAnswered}
 use Rattle.core_edges.specs.Given.{IsSomeFresh}
-use Rattle.core_edges.specs.Passing.{ArePassed}
 use Rattle.core_edges.specs.Strategies.{strategy_in}
 use Rattle.core_edges.proofs.AnswerLemmas.{none_answered, on_ok}
-use Rattle.core_edges.proofs.GivenLemmas.{filled_given, filled_once, made_given, nothing_given, sent_given}
+use Rattle.core_edges.proofs.GivenLemmas.{filled_given, filled_once, made_given, sent_given}
 use Rattle.core_edges.proofs.LabelLemmas.{labels_learned, labels_stay}
 use Rattle.core_edges.proofs.PassingLemmas.{same_strategies}
 use Rattle.core_edges.proofs.edges.Edges.given.Goals as goal

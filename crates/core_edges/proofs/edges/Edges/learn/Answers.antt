@@ -1,4 +1,4 @@
-use Rattle.std.proofs.Common.{◌≡◌, ◌∙◌, None, Some, refl, sym, ap, subst, rules}
+use Rattle.std.proofs.Common.{◌≡◌, ◌∙◌, None, Some, sym, ap, subst, rules}
 use Rattle.std.specs.BTreeMap as trees
 use Rattle.asp_model.specs.declared.name.FutureName.{FutureName}
 use Rattle.update_policy.specs.Plans.{or_strategy}

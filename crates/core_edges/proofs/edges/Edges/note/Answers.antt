@@ -1,4 +1,4 @@
-use Rattle.std.proofs.Common.{refl, sym, ap, ◌∙◌, rules}
+use Rattle.std.proofs.Common.{refl, sym, ◌∙◌, rules}
 use Rattle.asp_model.specs.Shapes.{delivery_shape}
 use Rattle.core_edges.proofs.NoteLemmas.{not_placed, noted_before, noted_now}
 use Rattle.core_edges.proofs.edges.Edges.note.Goals as goal

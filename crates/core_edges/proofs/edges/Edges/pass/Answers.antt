@@ -1,7 +1,6 @@
 use Rattle.std.proofs.Common.{refl, sym, ◌∙◌}
 use Rattle.asp_model.specs.Shapes.{future_shape}
 use Rattle.update_policy.specs.declared.strategy.Strategy.TheVariants.{Lazy, Forward, Message}
-use Rattle.core_edges.specs.Passing.{ArePassed}
 use Rattle.core_edges.proofs.AnswerLemmas.{both_ok}
 use Rattle.core_edges.proofs.PassingLemmas.{one_passed}
 use Rattle.core_edges.proofs.edges.Edges.pass.Goals as goal
