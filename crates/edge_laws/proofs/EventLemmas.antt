@@ -5,7 +5,7 @@ use Rattle.asp_model.specs.Parcel.{ParcelShape}
 use Rattle.asp_model.specs.Configuration.{RequestShape, Activity}
 use Rattle.asp_model.specs.Intent.{Effect}
 use Rattle.journals.specs.Edges.{Event, Begins, Passes, Fills, Receives, Delivers, HoldersShape, after_event, after_events}
-use Rattle.journals.specs.Passing.{effect_events, filled_events, futures_in, made_events, passes_all, receives, sent_events}
+use Rattle.journals.specs.Passing.{effect_events, filled_events, futures_in, made_events, receives, sent_events}
 
 abbrev pub begun_by : List Event → List (FutureShape × Name)
 begun_by [] = []

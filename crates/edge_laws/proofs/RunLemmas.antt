@@ -1,5 +1,5 @@
 -- Holders are those of a run, entry by entry.
-use Rattle.std.specs.Prelude.{◌≡◌, ◌≢◌, ℕ, zero, suc, ◌+◌, ◌-◌, ◌≤◌, ◌||◌, Bool, true, false, List, [], ◌∷◌, ◌++◌, Option, Some, None, IsSome, is_some, length, slice_get}
+use Rattle.std.specs.Prelude.{◌≡◌, ◌≢◌, ℕ, zero, suc, ◌-◌, ◌≤◌, ◌||◌, Bool, true, false, List, [], ◌∷◌, ◌++◌, Option, Some, None, IsSome, is_some, length, slice_get}
 use Rattle.std.proofs.Common.{refl, sym, ap, subst, ◌∙◌, arith, append-nil, ◌⊎◌, inl, inr, ⊎_elim}
 use Rattle.std.specs.FinMap.{find, put}
 use Rattle.std.proofs.lemmas.List.Folds.{list_any-append}
@@ -7,7 +7,7 @@ use Rattle.asp_model.specs.Names.{Name, FutureShape, name_cmp, future_cmp, same_
 use Rattle.asp_model.specs.Parcel.{ParcelShape}
 use Rattle.asp_model.specs.Configuration.{RequestShape, Configuration, or_none, requests_of}
 use Rattle.asp_model.specs.Intent.{Effect, Acts, Rests, filling}
-use Rattle.asp_model.specs.Step.{intent_in, put_some, step, with_effect, with_sent}
+use Rattle.asp_model.specs.Step.{put_some, step, with_effect, with_sent}
 use Rattle.asp_model.specs.History.{Edge, Need, EntryShape, Lent, Committed, Delivered}
 use Rattle.journals.specs.Journals.{RunShape, begun, reduced, all_entered}
 use Rattle.journals.specs.Edges.{Event, HoldersShape, no_holders, after_event, after_events, has_filled, home_of}
@@ -27,7 +27,6 @@ use Rattle.laws.proofs.NamesLaws.{answers_by}
 use Rattle.laws.proofs.DeliveryLemmas.{edge_done, need_done}
 use Rattle.laws.proofs.WholeLemmas.{start_is_sound, moves_keep_sound, sound_intents}
 use Rattle.journal_laws.proofs.JournalLemmas.{first_reduced, Done, entry_done, first_entered, entry_keeps}
-use Rattle.edge_laws.specs.Fresh.{IsFresh}
 use Rattle.edge_laws.specs.Runs.{AreHoldersOf, EffectsAreFresh, HoldersAreOfRuns, HoldersStay, HomesAreOfBegun, IsHome}
 use Rattle.edge_laws.proofs.EventLemmas.{begun_by, effect_begins, effect_fills, filled_after, filled_by, filled_one, homes_after, sent_home}
 
