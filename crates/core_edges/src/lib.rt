@@ -1,4 +1,4 @@
-//! The edges of a core: along which activities futures went, by what reductions and deliveries give.
+//! The edges of a core: along which activities futures went, as reductions and deliveries tell it.
 #![tactic(auto)]
 
 mod edges;

@@ -1,5 +1,5 @@
-//! Laws of the holders that a lawful journal leaves. Each law is the contract of a function that does
-//! nothing.
+//! Laws of the holders that a lawful journal leaves. Each law is the contract of a function that
+//! does nothing.
 #![tactic(auto)]
 
 mod runs;

@@ -7,7 +7,8 @@ ghost use Rattle.edge_laws.specs.Runs.{
   HomesAreOfBegun,
 };
 
-/// The home of a future is who received its request, and exactly those that have a value are filled.
+/// The home of a future is who received its request, and exactly those that have a value are
+/// filled.
 pub fn holders_are_of_runs()
     ensures { HoldersAreOfRuns }
 {}
