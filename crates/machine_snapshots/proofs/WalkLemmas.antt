@@ -22,19 +22,19 @@ use Rattle.machine_snapshots.specs.Shown.{hole_tree, ServiceTerms, service_terms
 -- Contexts
 
 -- the innermost frame, where it waits for a term
-record Opened (k : List Node) (f : Frame) (fs : List Frame) (env operands : List ℕ) (items : List Item) : Type 0 where
-  context : Context
-  others : List Item
-  are : items ≡ Waits context ∷ others
-  item : IsItem k (drop f.base (take f.height env)) (last f.done operands) f.form f.node f.from (Waits context)
-  below : IsStack k fs (take f.height env) (but_last f.done operands) others
+pub record Opened (k : List Node) (f : Frame) (fs : List Frame) (env operands : List ℕ) (items : List Item) : Type 0 where
+  pub context : Context
+  pub others : List Item
+  pub are : items ≡ Waits context ∷ others
+  pub item : IsItem k (drop f.base (take f.height env)) (last f.done operands) f.form f.node f.from (Waits context)
+  pub below : IsStack k fs (take f.height env) (but_last f.done operands) others
 
 no_service : (k : List Node) (ns operands : List ℕ) (x : Form) (number from : ℕ) (g : Option FutureShape) → IsOpen x → IsItem k ns operands x number from (Suspends g) → ⊥
 no_service k ns operands form.Terms number from g o h = h
 no_service k ns operands (form.Calls s) number from g o h = h
 no_service k ns operands form.Service number from g o h = o
 
-opened : (k : List Node) (f : Frame) (fs : List Frame) (env operands : List ℕ) (xs : List Item) → IsOpen f.form → IsStack k (f ∷ fs) env operands xs → Opened k f fs env operands xs
+pub opened : (k : List Node) (f : Frame) (fs : List Frame) (env operands : List ℕ) (xs : List Item) → IsOpen f.form → IsStack k (f ∷ fs) env operands xs → Opened k f fs env operands xs
 opened k f fs env operands [] o h = absurd h
 opened k f fs env operands (Suspends g ∷ xs) o h = absurd (no_service k (drop f.base (take f.height env)) (last f.done operands) f.form f.node f.from g o h.1)
 opened k f fs env operands (Waits c ∷ xs) o h = record { context = c; others = xs; are = refl; item = h.1; below = h.2 }
@@ -63,7 +63,7 @@ walked_on k items first terms frames others env operands f t w form_is are term 
     }
 
 -- a stack whose innermost frame waits for no term begins with a service
-alone_contexts : (k : List Node) (fs : List Frame) (env operands : List ℕ) (xs : List Item) → IsAlone fs → IsStack k fs env operands xs → contexts_of xs ≡ []
+pub alone_contexts : (k : List Node) (fs : List Frame) (env operands : List ℕ) (xs : List Item) → IsAlone fs → IsStack k fs env operands xs → contexts_of xs ≡ []
 alone_contexts k [] env operands [] a s = refl
 alone_contexts k [] env operands (x ∷ xs) a s = absurd s
 alone_contexts k (f ∷ fs) env operands [] a s = absurd s

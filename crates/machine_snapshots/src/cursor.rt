@@ -14,6 +14,7 @@ pub struct Cursor<'a> {
     pub operands: &'a [usize],
 }
 
+/// The first of these places.
 pub fn up_to(places: &[usize], count: usize) -> &[usize]
     ensures places { result.now ≡ take count places.now }
 {
@@ -24,6 +25,7 @@ pub fn up_to(places: &[usize], count: usize) -> &[usize]
     }
 }
 
+/// All of these places but the first.
 pub fn behind(places: &[usize], count: usize) -> &[usize]
     ensures places { result.now ≡ drop count places.now }
 {

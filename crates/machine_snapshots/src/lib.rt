@@ -8,4 +8,6 @@ mod frames;
 mod groups;
 mod shown;
 
+pub use cursor::{Cursor, all_but, behind, below, innermost, last_of, up_to, waiting};
+pub use focus::taken_by;
 pub use shown::{Shown, Suspended, show};

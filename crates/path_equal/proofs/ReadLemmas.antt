@@ -36,7 +36,7 @@ use Rattle.path_equal.specs.declared.labels.PathLabel as labels
 use Rattle.path_equal.specs.declared.state.State.{State}
 use Rattle.path_equal.specs.Reading.{FoundShape, found_of, root_in, root_shape, label_shape, labels_shape, nth_of, child_cell, captured_in}
 use Rattle.path_equal.specs.Reading as reading
-use Rattle.path_equal.specs.States.{AreLocationsOf, IsStateOf, side_in}
+use Rattle.path_equal.specs.States.{IsStateOf, side_in}
 use Rattle.path_equal.proofs.TextLemmas.{blank_field, blank_method}
 
 -- Items of lists
@@ -223,23 +223,23 @@ result_cell : (status : StatusShape) (t : Tree) (x : ℕ) (more : List ℕ) → 
 result_cell Done (node (Loc n) ts) x more = refl
 result_cell status t x more = refl
 
-root_cell : (s : State) (ks : List ℕ) (snapshot : SnapshotShape) (status : StatusShape) → IsStateOf s snapshot status → AreLocationsOf s ks snapshot → (r : Root) → nth_of (roots_in snapshot) (root_number status snapshot (root_shape r)) ≡ root_in s ks r
-root_cell s ks snapshot status is are root.Active = ap Some (sym is.active)
-root_cell s ks snapshot status is are root.Value = result_cell status snapshot.term snapshot.active _ ∙ sym is.result
-root_cell s ks snapshot status is are (root.TermAt n) = sym (ap (λ (xs : List ℕ). slice_get xs (suc n)) are)
+root_cell : (s : State) (snapshot : SnapshotShape) (status : StatusShape) → IsStateOf s snapshot status → (r : Root) → nth_of (roots_in snapshot) (root_number status snapshot (root_shape r)) ≡ root_in s snapshot r
+root_cell s snapshot status is root.Active = ap Some (sym is.active)
+root_cell s snapshot status is root.Value = result_cell status snapshot.term snapshot.active _ ∙ sym is.result
+root_cell s snapshot status is (root.TermAt n) = refl
 
 read_as : (a : Side) (roots : List ℕ) (path : List PathLabel) (o : Option ℕ) → read_from a roots path o ≡ found_at a (then_place (option_map In_store (nth_of roots o)) (leads_by a path))
 read_as a roots path None = refl
 read_as a roots path (Some k) = ap (λ (o : Option Place). found_at a (then_place o (leads_by a path))) (nth_map In_store roots k)
 
 -- what a path reads, from where its root stands
-pub read_is : (s : State) (ks : List ℕ) (snapshot : SnapshotShape) (status : StatusShape) → IsStateOf s snapshot status → AreLocationsOf s ks snapshot → (r : Root) (path : List PathLabel) (o : Option ℕ) → o ≡ root_in s ks r
+pub read_is : (s : State) (snapshot : SnapshotShape) (status : StatusShape) → IsStateOf s snapshot status → (r : Root) (path : List PathLabel) (o : Option ℕ) → o ≡ root_in s snapshot r
     → found_at (side_in s) (then_place (option_map In_store o) (leads_by (side_in s) path)) ≡ read_path (values_of s.futures.now) status snapshot (root_shape r) path
 unfolding side_in
-read_is s ks snapshot status is are r path o e =
+read_is s snapshot status is r path o e =
     let a = side_in s in
     let number = root_number status snapshot (root_shape r) in
-    ap (λ (x : Option ℕ). found_at a (then_place (option_map In_store x) (leads_by a path))) (e ∙ sym (root_cell s ks snapshot status is are r))
+    ap (λ (x : Option ℕ). found_at a (then_place (option_map In_store x) (leads_by a path))) (e ∙ sym (root_cell s snapshot status is r))
     ∙ sym (read_as a (roots_in snapshot) path number)
     ∙ (λ i. read_from (side_of (values_of s.futures.now) (is.store i)) (roots_in snapshot) path number)
 

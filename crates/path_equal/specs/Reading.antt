@@ -1,13 +1,17 @@
 -- What a path reads.
-use Rattle.std.specs.Prelude.{◌≡◌, ℕ, ℤ, true, false, List, [], ◌∷◌, Option, Some, None, length, map, take, drop, slice_get}
+use Rattle.std.specs.Prelude.{◌≡◌, ℕ, ℤ, true, false, List, [], ◌∷◌, ◌++◌, Option, Some, None, length, map, take, drop, slice_get}
+use Rattle.std.specs.List.{flat_map}
 use Rattle.asp_model.specs.Names.{Name, FutureShape, Text, same_text}
 use Rattle.asp_model.specs.Shapes.{future_shape}
 use Rattle.asp_model.specs.Store.{CellShape, reached}
 use Rattle.asp_model.specs.Store as store
+use Rattle.asp_model.specs.Term.{locations}
 use Rattle.program_code.specs.declared.code.MethodCode.{MethodCode}
 use Rattle.deep_copy.specs.Reached.{used_places}
 use Rattle.paths.specs.Places.{Place, Side}
 use Rattle.paths.specs.PathLabels.{PathLabel, To_field, To_member, To_captured, number_by}
+use Rattle.paths.specs.Agree.{places_in}
+use Rattle.paths.specs.Snapshots.{SnapshotShape}
 use Rattle.paths.specs.Snapshots as roots
 use Rattle.path_equal.specs.declared.labels.Root.{Root}
 use Rattle.path_equal.specs.declared.labels.Root.TheVariants as root
@@ -54,11 +58,15 @@ root_shape root.Active = roots.Active_object
 root_shape root.Value = roots.Result
 root_shape (root.TermAt n) = roots.Term_at n
 
--- the cell of a root, where these are the locations of the term and the services
-abbrev pub root_in : State → List ℕ → Root → Option ℕ
-root_in s locations root.Active = Some s.active
-root_in s locations root.Value = s.result
-root_in s locations (root.TermAt n) = slice_get locations n
+-- the locations of the term, then of the services
+abbrev pub term_places : SnapshotShape → List ℕ
+term_places s = locations s.term ++ flat_map places_in s.services
+
+-- the cell of a root
+abbrev pub root_in : State → SnapshotShape → Root → Option ℕ
+root_in s snapshot root.Active = Some s.active
+root_in s snapshot root.Value = s.result
+root_in s snapshot (root.TermAt n) = slice_get (term_places snapshot) n
 
 abbrev pub label_shape : labels.PathLabel → PathLabel
 label_shape (label.Field l) = To_field l.text

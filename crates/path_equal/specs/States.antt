@@ -1,10 +1,11 @@
 -- What a state stands for: what stays of an activity, with its status.
-use Rattle.std.specs.Prelude.{◌≡◌, ℕ, List, ◌∷◌}
+use Rattle.std.specs.Prelude.{◌≡◌, reverse}
 use Rattle.asp_model.specs.Intent.{StatusShape}
 use Rattle.coded_cells.specs.Shapes.{store_of}
 use Rattle.future_table.specs.Values.{values_of}
+use Rattle.machine_frames.specs.Standing.{Standing, view_of}
 use Rattle.paths.specs.Places.{Side, side_of}
-use Rattle.paths.specs.Snapshots.{SnapshotShape, roots_in, result_in}
+use Rattle.paths.specs.Snapshots.{SnapshotShape, result_in}
 use Rattle.path_equal.specs.declared.state.State.{State}
 
 -- its store under its code, and its futures
@@ -17,6 +18,6 @@ pub record IsStateOf (s : State) (snapshot : SnapshotShape) (status : StatusShap
   pub active : s.active ≡ snapshot.active
   pub result : s.result ≡ result_in status snapshot.term
 
--- these are the locations of its term and services, in order
-abbrev pub AreLocationsOf : State → List ℕ → SnapshotShape → Type 0
-AreLocationsOf s locations snapshot = s.active ∷ locations ≡ roots_in snapshot
+-- its machine stands for the snapshot's term and services, the newest last
+abbrev pub IsTermOf : State → SnapshotShape → Type 0
+IsTermOf s snapshot = Standing s.code.now (view_of s.machine.now) snapshot.term (reverse snapshot.services)

@@ -8,11 +8,12 @@ use Rattle.asp_model.specs.Shapes.{activity_shape}
 use Rattle.future_table.specs.Values.{values_of}
 use Rattle.paths.specs.Outcomes.{EndShape, WholeOutcome, reported}
 use Rattle.path_equal.specs.declared.state.State.{State}
-use Rattle.path_equal.specs.States.{IsStateOf}
+use Rattle.path_equal.specs.States.{IsStateOf, IsTermOf}
 
 -- what is read of it, over the outcome's futures
 pub record IsSeenAs (o : WholeOutcome) (e : EndShape) (s : State) : Type 0 where
   pub state : IsStateOf s e.snapshot e.report.status
+  pub term : IsTermOf s e.snapshot
   pub futures : values_of s.futures.now ≡ o.futures
 
 -- there is none, or its state is read

@@ -14,7 +14,7 @@ ghost use Rattle.path_equal.specs.Reading.{
   root_shape,
 };
 ghost use Rattle.path_equal.specs.Sights.{seen_shape};
-ghost use Rattle.path_equal.specs.States.{AreLocationsOf, IsStateOf, side_in};
+ghost use Rattle.path_equal.specs.States.{IsStateOf, IsTermOf, side_in};
 ghost use Rattle.path_equal.specs.Texts.{shown_by};
 
 use crate::children::child;
@@ -25,6 +25,7 @@ use crate::state::State;
 use asp_model::{ActivityName, FutureName};
 use coded_cells::Place;
 use future_table::FutureTable;
+use term_places::nth_place;
 
 /// What is found at the end of a path.
 #[derive(Clone, Copy, Debug)]
@@ -41,33 +42,28 @@ pub enum Found<'a> {
 }
 
 /// What a path finds from a root, with each filled future on the way read as unpacked at its place.
-/// `locations` are those of the term and of the suspended services, in order.
-pub fn read_path<'a>(
-    state: &State<'a>,
-    locations: &[Place],
-    root: Root,
-    path: &[PathLabel],
-) -> Found<'a>
+pub fn read_path<'a>(state: &State<'a>, root: Root, path: &[PathLabel]) -> Found<'a>
     // for what the state stands for
     ensures found { (s : SnapshotShape) (status : StatusShape) → IsStateOf state.now s status →
-        AreLocationsOf state.now locations.now s →
+        IsTermOf state.now s →
         let values = values_of state.now.futures.now in
         let labels = labels_shape path.now in
         found_shape result ≡ found_of (path_read values status s (root_shape root) labels) }
 {
-    match root_place(state, locations, root) {
+    match root_place(state, root) {
         Some(place) => read_from(state, place, path),
         None => Found::Nothing,
     }
 }
 
-fn root_place(state: &State, locations: &[Place], root: Root) -> Option<Place>
-    ensures place { result ≡ root_in state.now locations.now root }
+fn root_place(state: &State, root: Root) -> Option<Place>
+    ensures place { (s : SnapshotShape) → IsTermOf state.now s →
+        result ≡ root_in state.now s root }
 {
     match root {
         Root::Active => Some(state.active),
         Root::Value => state.result,
-        Root::TermAt(number) => locations.get(number).copied(),
+        Root::TermAt(number) => nth_place(state.code, state.machine, number),
     }
 }
 

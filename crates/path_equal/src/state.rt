@@ -2,6 +2,7 @@
 
 use coded_cells::Place;
 use future_table::FutureTable;
+use machine_frames::Machine;
 use object_store::Store;
 use program_code::Code;
 
@@ -9,6 +10,8 @@ use program_code::Code;
 #[derive(Clone, Copy)]
 pub struct State<'a> {
     pub code: &'a Code,
+    /// Its term and its suspended services.
+    pub machine: &'a Machine,
     pub store: &'a Store,
     pub futures: &'a FutureTable,
     /// Its active object.

@@ -28,6 +28,7 @@ fn state_of<'a>(end: &'a RunEnd, state: &'a EndState, status: &Status) -> State<
 {
     State {
         code: &end.code,
+        machine: &state.machine,
         store: &state.store,
         futures: &end.futures,
         active: state.active,

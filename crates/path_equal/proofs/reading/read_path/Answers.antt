@@ -5,10 +5,10 @@ use Rattle.path_equal.proofs.reading.read_path.Goals as goal
 
 pub returns-in-Some : goal.returns-in-Some
 returns-in-Some c = record {
-  found = λ s status is are. c.read_from.ensures.found ∙ ap found_of (read_is c.args.state.now c.args.locations.now s status is are c.args.root (labels_shape c.args.path.now) (Some c.in-Some.place) c.in-Some.ensures.place);
+  found = λ s status is term. c.read_from.ensures.found ∙ ap found_of (read_is c.args.state.now s status is c.args.root (labels_shape c.args.path.now) (Some c.in-Some.place) (c.in-Some.ensures.place s term));
 }
 
 pub returns-in-None : goal.returns-in-None
 returns-in-None c = record {
-  found = λ s status is are. ap found_of (read_is c.args.state.now c.args.locations.now s status is are c.args.root (labels_shape c.args.path.now) None c.in-None.ensures.place);
+  found = λ s status is term. ap found_of (read_is c.args.state.now s status is c.args.root (labels_shape c.args.path.now) None (c.in-None.ensures.place s term));
 }

@@ -1,7 +1,8 @@
-use Rattle.std.proofs.Common.{◌≡◌, List, ap, ◌∙◌}
+use Rattle.std.proofs.Common.{◌≡◌, List, ap, reverse, subst, sym, ◌∙◌}
 use Rattle.std.specs.Arc.{arc_value}
 use Rattle.asp_model.specs.Intent.{StatusShape}
 use Rattle.coded_cells.specs.Shapes.{store_of}
+use Rattle.machine_frames.specs.Standing.{Standing, view_of}
 use Rattle.program_code.specs.declared.code.Node.{Node}
 use Rattle.paths.specs.Snapshots.{result_in}
 use Rattle.path_equal.proofs.views.state_of.Goals as goal
@@ -16,6 +17,7 @@ returns c = record {
           active = s.active;
           result = c.result.ensures.result (arc_value c.args.end.now.code) e.snapshot s ∙ ap (λ (x : StatusShape). result_in x e.snapshot.term) status;
         };
+        term = subst (λ (k : List Node). Standing k (view_of c.args.state.now.machine) e.snapshot.term (reverse e.snapshot.services)) (sym code) s.term;
         futures = h.futures;
       };
 }

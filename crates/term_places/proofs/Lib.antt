@@ -1,0 +1,5 @@
+pub mod SearchLemmas
+pub mod HeldLemmas
+pub mod ContextLemmas
+pub mod CallLemmas
+pub mod StackLemmas

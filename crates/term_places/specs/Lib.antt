@@ -1,0 +1,4 @@
+-- in reading order
+pub mod Searches
+pub mod Held
+pub mod Contexts
