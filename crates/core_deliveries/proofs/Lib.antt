@@ -3,4 +3,5 @@ pub mod ReceivingLemmas
 pub mod NextLemmas
 pub mod NeedLemmas
 pub mod EdgeLemmas
+pub mod TargetLemmas
 pub mod DueLemmas

@@ -114,6 +114,10 @@ is_needed s k o =
     let v = at_split (chase s.configuration.futures) o.activity.store o.need (split o.activity.term) o.is in
     record { name = o.name; activity = o.activity; here = o.here; value = v.0; needed = v.1 }
 
+pub needed_name : (s : RunShape) (k : ℕ) (o : Owing s k) → (is_needed s k o).name ≡ o.name
+unfolding is_needed
+needed_name s k o = refl
+
 -- a stance tells the need
 told_by : (o : Option (FutureShape × ℕ)) (b : Bool) (p : Intent) → need_told (elim o [ Some x ↦ stances.Needs x.0 x.1 | None ↦ stance_by b p ]) ≡ o
 told_by (Some x) b p = refl

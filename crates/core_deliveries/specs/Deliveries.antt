@@ -1,13 +1,13 @@
 -- What a delivery makes of a core.
-use Rattle.std.specs.Prelude.{◌≡◌, ℕ, List, Some}
+use Rattle.std.specs.Prelude.{◌≡◌, ℕ, true, List, Some, is_some}
 use Rattle.asp_model.specs.Chase.{chase}
 use Rattle.asp_model.specs.Configuration.{Activity}
-use Rattle.asp_model.specs.History.{Delivered, Edge, HistoryShape, Need}
+use Rattle.asp_model.specs.History.{Delivered, DeliveryShape, Edge, HistoryShape, Need}
 use Rattle.asp_model.specs.Names.{Name, FutureShape}
 use Rattle.asp_model.specs.Parcel.{ParcelShape, unpack_at}
 use Rattle.asp_model.specs.Store.{cell}
 use Rattle.journals.specs.Deliveries.{holders_from, unpack_each, value_needed}
-use Rattle.journals.specs.Journals.{RunShape}
+use Rattle.journals.specs.Journals.{RunShape, delivered, entered}
 use Rattle.laws.specs.Reached.{HasValue, IsThere}
 use Rattle.lease_laws.specs.Entries.{IsIn, with_store_of}
 use Rattle.activity_ranks.specs.Ranks.{HasNeed, RankShape}
@@ -55,6 +55,16 @@ IsEdgeDelivered h code s k f from x new =
 abbrev pub IsSomePassed : CoreState → ℕ → FutureShape → Name → Type 0
 IsSomePassed x k f from = (h : HistoryShape) × (code : List Node) × (s : RunShape)
     × IsCore h code x s × IsPassed s k f from
+
+-- any delivery was entered: the same activities are there, and the same are out
+abbrev pub IsDelivered : HistoryShape → List Node → RunShape → DeliveryShape → CoreState → Type 0
+IsDelivered h code s d new = (t : RunShape) × (entered (Delivered d) s ≡ Some t) × (t.names ≡ s.names) × (t.out ≡ s.out)
+    × IsCore (with_entry h (Delivered d)) code new t
+
+-- some history of this core lets it be entered
+abbrev pub IsSomeDelivery : CoreState → DeliveryShape → Type 0
+IsSomeDelivery x d = (h : HistoryShape) × (code : List Node) × (s : RunShape)
+    × IsCore h code x s × (is_some (delivered d s) ≡ true)
 
 -- after a look where a value was owed; elsewhere the rank is as before
 abbrev pub looked_at : (was told : RankShape) → RankShape

@@ -1,4 +1,5 @@
 -- in reading order
 pub mod Deliveries
 pub mod Next
+pub mod Targets
 pub mod Due
