@@ -3,6 +3,7 @@
 use crate::shown::stores;
 use asp_check::{Checked, check};
 use asp_syntax::read_program;
+use end_drops::{drop_checked, drop_end};
 use replay_one::run_plain;
 use run_ends::RunEnd;
 use std::alloc::Global;
@@ -145,14 +146,14 @@ fn checked(alloc: Global, bytes: &[u8]) -> Result<Checked, Fail> {
 fn ran(alloc: Global, text: &str) -> Result<RunEnd, Fail> {
     let program = checked(alloc, text.as_bytes())?;
     let end = run_plain(alloc, &program, BUDGET);
-    drop(program);
+    drop_checked(program);
     Ok(end?)
 }
 
 fn left(alloc: Global, text: &str) -> Result<String, Fail> {
     let end = ran(alloc, text)?;
     let shown = stores(alloc, &end);
-    drop(end);
+    drop_end(end);
     Ok(shown?)
 }
 
