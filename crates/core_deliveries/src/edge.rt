@@ -14,8 +14,8 @@ use asp_model::{ActivityName, Delivery, Entry, FutureName};
 use core_state::CoreState;
 use std::alloc::{AllocError, Global};
 
-/// The value of a future goes to each place of an activity that is in where the future is held, since
-/// somebody passed it. Where nothing was owed to the activity, it stands as before.
+/// The value of a future goes to each place of an activity that is in where the future is held,
+/// since somebody passed it. Where nothing was owed to the activity, it stands as before.
 pub fn deliver_edge(
     state: &mut CoreState,
     number: u32,
