@@ -1,0 +1,15 @@
+use Rattle.std.proofs.Common.{◌∙◌, Some, sym, ap}
+use Rattle.core_ends.specs.Verdicts.{IsStill}
+use Rattle.core_ends.proofs.VerdictLemmas.{goes_told, still_told}
+use Rattle.core_ends.proofs.verdicts.verdict.Goals as goal
+
+pub returns-then-goes_on : goal.returns-then-goes_on
+returns-then-goes_on c = record { verdict = λ h code s core holders answers due. goes_told h code c.args.state.now s core holders answers (c.if-goes_on.ensures.goes_on h code s core) }
+
+pub returns : goal.returns
+returns c = record {
+  verdict = λ h code s core holders answers due.
+      let still : IsStill s = c.if-goes_on.ensures.goes_on h code s core in
+      still_told h code c.args.state.now s core holders answers still (due ∙ c.if-is_edge_due.false)
+      ∙ ap Some (sym (c.verdict_at_rest.ensures.verdict h code s core still));
+}

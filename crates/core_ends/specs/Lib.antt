@@ -1,0 +1,4 @@
+-- in reading order
+pub mod Verdicts
+pub mod Gathering
+pub mod Runs

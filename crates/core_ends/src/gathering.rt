@@ -1,0 +1,94 @@
+//! What a run leaves.
+
+ghost use Rattle.std.specs.Prelude.{◌≡◌, IfOk, List, OnOk, Some, length, slice_get};
+ghost use Rattle.asp_model.specs.History.{HistoryShape};
+ghost use Rattle.asp_model.specs.Names.{Name};
+ghost use Rattle.asp_model.specs.Outcome.{outcome_of};
+ghost use Rattle.asp_model.specs.Shapes.{outcome_shape};
+ghost use Rattle.journals.specs.Journals.{RunShape};
+ghost use Rattle.paths.specs.Outcomes.{whole_outcome_of};
+ghost use Rattle.program_code.specs.declared.code.Node.{Node as NodeShape};
+ghost use Rattle.run_ends.specs.Ends.{IsEndOf};
+ghost use Rattle.activity_seats.specs.Seats.{AreSeats, IsKnown, names_in, seat_at, seats_in};
+ghost use Rattle.core_state.specs.Cores.{IsCore};
+ghost use Rattle.core_ends.specs.Gathering.{AreApart, AreBefore, IsBrought, OthersStay};
+ghost use Rattle.core_ends.specs.Runs.{IsHome, IsSomeHome};
+
+use activity_seats::Seats;
+use actor::Actor;
+use asp_model::ActivityName;
+use core_state::CoreState;
+use replay_one::{Population, run_end_of};
+use request_queue::Request;
+use run_ends::RunEnd;
+use std::alloc::{AllocError, Global};
+use std::collections::BTreeMap;
+
+/// Takes the activity of a number, and puts it at its name.
+fn bring(
+    alloc: Global,
+    seats: &mut Seats<Actor, Request>,
+    number: u32,
+    activities: &mut BTreeMap<ActivityName, Actor>,
+) -> Result<(), AllocError>
+    requires kept { AreSeats seats.old }
+    requires known { IsKnown number seats.old }
+    ensures brought { (n : Name) → slice_get (names_in seats.old) number ≡ Some n →
+        OnOk result (IsBrought n (seat_at seats.old number) activities.old activities.new) }
+    ensures others { OthersStay number (seats_in seats.old) (seats_in seats.new) }
+    ensures names { names_in seats.new ≡ names_in seats.old }
+    ensures kept { AreSeats seats.new }
+{
+    let name = seats.name(number).copy(alloc)?;
+    if let Some(actor) = seats.take(number) {
+        activities.insert(name, actor)?;
+    }
+    Ok(())
+}
+
+/// All activities that are in, by their names.
+fn activities_of(
+    alloc: Global,
+    mut seats: Seats<Actor, Request>,
+) -> Result<BTreeMap<ActivityName, Actor>, AllocError>
+    requires kept { AreSeats seats }
+    requires apart { AreApart (names_in seats) }
+    ensures all { IfOk result (AreBefore (names_in seats) (seats_in seats) (length (seats_in seats))) }
+{
+    let mut activities = BTreeMap::new(alloc);
+    let count = seats.len() as u32;
+    for number in 0..count {
+        bring(alloc, &mut seats, number, &mut activities)?;
+    }
+    Ok(activities)
+}
+
+/// What a run leaves, once nobody is out: how each activity stands, its state, and the verdict.
+pub fn end(state: CoreState) -> Result<RunEnd, AllocError>
+    requires home { IsSomeHome state }
+    ensures end { (h : HistoryShape) (code : List NodeShape) (s : RunShape) →
+        IsHome h code state s → IfOk result (λ r. IsEndOf r (whole_outcome_of s.configuration)) }
+    ensures outcome { (h : HistoryShape) (code : List NodeShape) (s : RunShape) →
+        IsHome h code state s →
+        IfOk result (λ r. outcome_shape r.outcome ≡ outcome_of s.configuration) }
+{
+    let CoreState {
+        alloc,
+        seats,
+        ranks: _,
+        futures,
+        journal: _,
+        left: _,
+        bursts: _,
+    } = state;
+    let activities = activities_of(alloc, seats)?;
+    let passed = BTreeMap::new(alloc);
+    run_end_of(
+        alloc,
+        Population {
+            activities,
+            futures,
+            passed,
+        },
+    )
+}
