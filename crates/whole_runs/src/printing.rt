@@ -2,12 +2,13 @@
 
 use asp_print::print_program;
 use asp_syntax::{SyntaxError, read_program};
+use end_drops::drop_program;
 use std::alloc::Global;
 
 fn printed(alloc: Global, text: &str) -> Result<String, SyntaxError> {
     let program = read_program(alloc, text.as_bytes())?;
     let text = print_program(alloc, &program);
-    drop(program);
+    drop_program(program);
     Ok(text?)
 }
 

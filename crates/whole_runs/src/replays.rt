@@ -3,6 +3,7 @@
 use asp_check::{Checked, check};
 use asp_model::{Counts, Lists, MOST_DEPTH};
 use asp_syntax::read_program;
+use end_drops::{drop_checked, drop_end};
 use replay_one::{ReplayStop, are_replayable, counts_in, lists_in, replay, run_plain};
 use run_ends::RunEnd;
 use run_report::render;
@@ -56,14 +57,14 @@ fn is_repeated(
 ) -> Result<bool, ReplayStop> {
     let repeated = again(rt, alloc, program, end)?;
     let same = is_same(alloc, end, &repeated);
-    drop(repeated);
+    drop_end(repeated);
     Ok(same?)
 }
 
 fn repeats(rt: &impl Abort, alloc: Global, program: &Checked, budget: u64) -> Result<(), Fail> {
     let end = run_plain(alloc, program, budget)?;
     let same = is_repeated(rt, alloc, program, &end);
-    drop(end);
+    drop_end(end);
     assert!(rt; same?, "within {budget}");
     Ok(())
 }
@@ -97,10 +98,21 @@ fn a_run_is_the_replay_of_its_own_lists_and_counts(rt: HostRuntime) -> Result<()
     for text in texts {
         let program = checked(alloc, text.as_bytes())?;
         let repeated = all_repeat(&rt, alloc, &program);
-        drop(program);
+        drop_checked(program);
         repeated?;
     }
     Ok(())
+}
+
+// Why a replay stopped.
+fn stop_of(replay: Result<RunEnd, ReplayStop>) -> Option<ReplayStop> {
+    match replay {
+        Ok(end) => {
+            drop_end(end);
+            None
+        }
+        Err(stop) => Some(stop),
+    }
 }
 
 #[test]
@@ -113,8 +125,8 @@ fn lists_without_main_diverge_at_main(rt: HostRuntime) -> Result<(), Fail> {
         entries: Vec::new(alloc),
     };
     let program = checked(alloc, RACE.as_bytes())?;
-    let stop = replayed(&rt, alloc, &program, &lists, &counts).err();
-    drop(program);
+    let stop = stop_of(replayed(&rt, alloc, &program, &lists, &counts));
+    drop_checked(program);
     match stop {
         Some(ReplayStop::Diverged { activity }) => {
             assert_eq!(rt; activity.path(), [0].as_slice());

@@ -2,12 +2,13 @@
 
 use asp_print::print_program;
 use asp_syntax::{SyntaxError, SyntaxFault, SyntaxKind, read_program};
+use end_drops::drop_program;
 use std::alloc::{AllocError, Global};
 
 fn printed(alloc: Global, text: &str) -> Result<String, SyntaxError> {
     let program = read_program(alloc, text.as_bytes())?;
     let text = print_program(alloc, &program);
-    drop(program);
+    drop_program(program);
     Ok(text?)
 }
 
@@ -15,7 +16,7 @@ fn printed(alloc: Global, text: &str) -> Result<String, SyntaxError> {
 fn fault_in(alloc: Global, text: &str) -> Result<Option<SyntaxFault>, AllocError> {
     match read_program(alloc, text.as_bytes()) {
         Ok(program) => {
-            drop(program);
+            drop_program(program);
             Ok(None)
         }
         Err(SyntaxError::Fault(fault)) => Ok(Some(fault)),
