@@ -1,0 +1,51 @@
+-- A core with one entry more, and one that is spent.
+use Rattle.std.proofs.Common.{◌≡◌, ◌∙◌, ◌++◌, ◌∷◌, [], ℕ, true, false, List, refl, sym, ap, subst}
+use Rattle.std.proofs.lemmas.List.{append-nil}
+use Rattle.std.specs.Arc.{arc_value}
+use Rattle.asp_model.specs.History.{BeginsWith, EntryShape, HistoryShape}
+use Rattle.journals.specs.Journals.{RunShape}
+use Rattle.laws.proofs.NameLemmas.{none_true}
+use Rattle.core_state.specs.Cores.{program_of, with_entry}
+use Rattle.asp_core.specs.declared.cores.Core.{Core}
+use Rattle.asp_core.specs.Calls.{HasEntered, HasGoneOn}
+use Rattle.asp_core.specs.Cores.{IsKept, IsRun, code_of, entries_of, history_of}
+use Rattle.asp_core.specs.Runs.{Stand}
+use Rattle.asp_core.proofs.StandLemmas.{bounded}
+
+-- so begins what goes on by one entry, and what stays
+pub begins_before : (later earlier : HistoryShape) (e : EntryShape) → later ≡ with_entry earlier e → BeginsWith later earlier
+begins_before later earlier e is = (ap (λ h. h.program) is, ap (λ h. h.budget) is, (e ∷ [], ap (λ h. h.entries) is))
+
+pub begins_same : (later earlier : HistoryShape) → later ≡ earlier → BeginsWith later earlier
+begins_same later earlier is = (ap (λ h. h.program) is, ap (λ h. h.budget) is, ([], ap (λ h. h.entries) is ∙ sym (append-nil earlier.entries)))
+
+module _ {P : Type 0} where
+  pub spent_kept : (x : Core P) → x.spent ≡ true → IsKept x
+  spent_kept x spent = λ fresh. none_true (sym fresh ∙ spent)
+
+  pub run_kept : (x : Core P) (s : RunShape) → IsRun x s → IsKept x
+  run_kept x s run = λ fresh. (s, run)
+
+  pub same_history : (old new : Core P) → new.code ≡ old.code → new.budget ≡ old.budget → entries_of new ≡ entries_of old → history_of new ≡ history_of old
+  same_history old new code budget entries = λ i. record { program = program_of (arc_value (code i)); budget = budget i; entries = entries i }
+
+  module _ (old new : Core P) (e : EntryShape) (t : RunShape) (code : new.code ≡ old.code) (budget : new.budget ≡ old.budget) (fresh : new.spent ≡ false)
+      (st : Stand (with_entry (history_of old) e) (code_of old) t new.state new.edges.holders) where
+    pub entered : HasEntered old e new
+    entered = λ i. record { program = program_of (arc_value (code i)); budget = budget i; entries = st.core.entries i }
+
+    stands : Stand (history_of new) (code_of new) t new.state new.edges.holders
+    stands =
+        subst (λ h. Stand h (code_of new) t new.state new.edges.holders) (sym entered)
+        (subst (λ k. Stand (with_entry (history_of old) e) k t new.state new.edges.holders) (ap arc_value (sym code)) st)
+
+    pub runs : IsRun new t
+    runs = record { fresh = fresh; stand = stands }
+
+    pub has_gone_on : HasGoneOn old e new
+    has_gone_on = record {
+      entered = entered;
+      after = t;
+      run = runs;
+      bounded = bounded (history_of new) (code_of new) t new.state new.edges.holders stands;
+    }

@@ -1,0 +1,11 @@
+pub mod OutLemmas
+pub mod DueLemmas
+pub mod StandLemmas
+pub mod BringLemmas
+pub mod NewsLemmas
+pub mod AnswerLemmas
+pub mod CoreLemmas
+pub mod StartLemmas
+pub mod LendLemmas
+pub mod TellLemmas
+pub mod LeaseLemmas

@@ -1,0 +1,63 @@
+-- What a lease gives that has come back is new to the edges.
+use Rattle.std.proofs.Common.{◌≡◌, ◌∙◌, ◌++◌, ◌∷◌, [], ℕ, suc, Bool, false, List, Some, None, is_some, refl, sym, ap, subst}
+use Rattle.std.specs.FinMap.{find}
+use Rattle.asp_model.specs.Configuration.{Activity, Configuration}
+use Rattle.asp_model.specs.History.{HistoryShape}
+use Rattle.asp_model.specs.Intent.{Effect}
+use Rattle.asp_model.specs.Names.{Name, name_cmp}
+use Rattle.asp_model.specs.Step.{name_at}
+use Rattle.journals.specs.Edges.{HoldersShape}
+use Rattle.journals.specs.Journals.{RunShape}
+use Rattle.laws.proofs.NameLemmas.{none_true}
+use Rattle.laws.proofs.WholeLemmas.{reached_are_sound}
+use Rattle.lease_laws.specs.Numbered.{AreNumbered}
+use Rattle.program_code.specs.declared.code.Node.{Node}
+use Rattle.actor.specs.declared.act.Given.{Given}
+use Rattle.actor.specs.declared.act.Given.TheVariants as given
+use Rattle.actor.specs.declared.actor.Actor.{Actor}
+use Rattle.actor.specs.Effects.{IsGiven}
+use Rattle.future_update.specs.Holders.{HoldersView, is_met}
+use Rattle.core_laws.specs.Commits.{with_activity}
+use Rattle.core_laws.proofs.NewcomerLemmas.{absent_before}
+use Rattle.core_state.specs.declared.state.CoreState.{CoreState}
+use Rattle.core_commits.specs.declared.arrival.Arrival.{Arrival}
+use Rattle.core_commits.specs.declared.arrival.Arrival.TheVariants.{Acted, Ran}
+use Rattle.core_commits.specs.Arrivals.{IsArrived}
+use Rattle.core_commits.proofs.ActLemmas.{reached}
+use Rattle.core_commits.proofs.HandLemmas.{made_is}
+use Rattle.edge_laws.specs.Fresh.{IsFresh}
+use Rattle.edge_laws.proofs.RunLemmas.{effects_are_fresh, holders_are_of_runs, holders_stay}
+use Rattle.asp_core.specs.Bringing.{IsNewBy, IsUnmet}
+use Rattle.asp_core.specs.Runs.{Stand, holders_left}
+use Rattle.asp_core.proofs.OutLemmas.{names_met, unmet}
+use Rattle.asp_core.proofs.StandLemmas.{numbered}
+
+module _ (h : HistoryShape) (code : List Node) (s : RunShape) (x : CoreState) (v : HoldersView) (st : Stand h code s x v) where
+  -- nobody has the name of one who is not there
+  unmet_one : (m : Name) → find name_cmp m s.configuration.activities ≡ None → is_met m v.activities ≡ false
+  unmet_one m none =
+      unmet v.activities m
+      (λ j named. none_true (sym (ap is_some none) ∙ (numbered h code s x v st).there j m (ap (λ ns. name_at ns j) (sym st.edges.names) ∙ named)))
+
+  unmet_given : (g : Given) (e : Effect) (n : Name) (b : Activity) → IsGiven e g
+      → ((z : Name × Activity) → e.made ≡ Some z → find name_cmp z.0 (with_activity n b s.configuration).activities ≡ None)
+      → IsUnmet g v.activities
+  unmet_given given.Nothing e n b is new = tt
+  unmet_given (given.Made m a) e n b is new =
+      let made = made_is e.made m a is.1 in
+      unmet_one m (absent_before s.configuration n m b (new (m, made.0) made.1))
+  unmet_given (given.Sent m r) e n b is new = tt
+  unmet_given (given.Filled f p) e n b is new = tt
+
+  pub is_new_by : (z : CoreState) (n : Name) (taken : ℕ) (a : Arrival) → IsArrived h code z s n taken a → IsNewBy v a
+  is_new_by z n taken (Ran k grant reductions a) r = tt
+  is_new_by z n taken (Acted k grant reductions g) r =
+      let e = r.0 in
+      let acting = r.1.acting in
+      let c : Configuration = with_activity n acting.returning.end s.configuration in
+      let fresh : IsFresh v.holders e =
+      subst (λ q. IsFresh q e) (sym st.edges.holders)
+      (effects_are_fresh c (holders_left h) n e
+      (reached_are_sound h.program c (reached h code r.1.before s k n grant acting.taken r.1.actor acting.returning))
+      (holders_stay s.configuration c (holders_left h) refl refl (holders_are_of_runs h.program h.budget h.entries s st.core.run)) acting.intends) in
+      ((e, r.1.hand.given, fresh), unmet_given g e n e.own r.1.hand.given (λ q made. (r.1.hand.made q made).0))

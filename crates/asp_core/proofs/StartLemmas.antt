@@ -1,0 +1,40 @@
+-- A core that begins.
+use Rattle.std.proofs.Common.{◌≡◌, ◌∙◌, ◌∷◌, [], ℕ, Bool, false, List, length, refl, sym, ap, subst}
+use Rattle.std.specs.Arc.{arc_value}
+use Rattle.asp_model.specs.Names.{Name, main_name}
+use Rattle.asp_model.specs.Term.{Tree}
+use Rattle.journals.specs.Edges.{HoldersShape, no_holders}
+use Rattle.journals.specs.Journals.{RunShape, begun}
+use Rattle.program_code.specs.declared.code.Node.{Node}
+use Rattle.future_update.specs.Holders.{HoldersView, is_out}
+use Rattle.core_state.specs.declared.state.CoreState.{CoreState}
+use Rattle.core_state.specs.Cores.{IsCore, history_begun, program_of}
+use Rattle.asp_core.specs.declared.cores.Core.{Core}
+use Rattle.asp_core.specs.Cores.{IsRun, code_of, history_of}
+use Rattle.asp_core.specs.Runs.{Stand}
+use Rattle.asp_core.proofs.OutLemmas.{names_met, none_out}
+
+pub stand_begun : (program : Tree) (budget : ℕ) (code : List Node) (x : CoreState) (v : HoldersView) → IsCore (history_begun program budget) code x (begun program budget)
+    → v.holders ≡ no_holders → v.answers ≡ [] → v.activities ≡ (main_name, false) ∷ [] → Stand (history_begun program budget) code (begun program budget) x v
+stand_begun program budget code x v core holders answers met = record {
+  core = core;
+  edges = record {
+    holders = holders;
+    answers = ap length answers ∙ ap (λ (q : HoldersShape). length q.edges) (sym holders);
+    names = ap names_met met;
+    out = λ k n named. ap (is_out n) met ∙ none_out (main_name ∷ []) n;
+  };
+}
+
+module _ {P : Type 0} (x : Core P) (program : Tree) (same : program_of (code_of x) ≡ program) (fresh : x.spent ≡ false)
+    (st : Stand (history_begun (program_of (code_of x)) x.budget) (code_of x) (begun (program_of (code_of x)) x.budget) x.state x.edges.holders) where
+  pub history_so : history_of x ≡ history_begun (program_of (code_of x)) x.budget
+  history_so = λ i. record { program = program_of (code_of x); budget = x.budget; entries = st.core.entries i }
+
+  pub history_begins : history_of x ≡ history_begun program x.budget
+  history_begins = history_so ∙ ap (λ p. history_begun p x.budget) same
+
+  pub run_begins : IsRun x (begun program x.budget)
+  run_begins =
+      subst (λ p. IsRun x (begun p x.budget)) same
+      (record { fresh = fresh; stand = subst (λ h. Stand h (code_of x) (begun (program_of (code_of x)) x.budget) x.state x.edges.holders) (sym history_so) st })

@@ -1,0 +1,39 @@
+-- A core is the run of its journal.
+use Rattle.std.specs.Prelude.{◌≡◌, ℕ, List, true, false, length}
+use Rattle.std.specs.Arc.{arc_value}
+use Rattle.asp_model.specs.History.{EntryShape, HistoryShape}
+use Rattle.asp_model.specs.Names.{Name}
+use Rattle.journals.specs.Journals.{RunShape}
+use Rattle.program_code.specs.declared.code.Node.{Node}
+use Rattle.activity_seats.specs.Seats.{names_in, seats_in}
+use Rattle.core_journal.specs.Journal.{entries_in}
+use Rattle.core_state.specs.Cores.{program_of}
+use Rattle.core_edges.specs.declared.edges.Edges.{Edges}
+use Rattle.asp_core.specs.declared.cores.Core.{Core}
+use Rattle.asp_core.specs.Runs.{Stand}
+
+module _ {P : Type 0} where
+  abbrev pub code_of : Core P → List Node
+  code_of x = arc_value x.code
+
+  abbrev pub entries_of : Core P → List EntryShape
+  entries_of x = entries_in x.state.journal
+
+  -- its program, its budget, and its journal
+  abbrev pub history_of : Core P → HistoryShape
+  history_of x = record { program = program_of (code_of x); budget = x.budget; entries = entries_of x }
+
+  abbrev pub names_of : Core P → List Name
+  names_of x = names_in x.state.seats
+
+  abbrev pub activities_of : Core P → ℕ
+  activities_of x = length (seats_in x.state.seats)
+
+  -- it is not spent, and stands for this run of its history
+  pub record IsRun (x : Core P) (s : RunShape) : Type 0 where
+    pub fresh : x.spent ≡ false
+    pub stand : Stand (history_of x) (code_of x) s x.state x.edges.holders
+
+  -- so each core does that is not spent
+  abbrev pub IsKept : Core P → Type 0
+  IsKept x = x.spent ≡ false → (s : RunShape) × IsRun x s

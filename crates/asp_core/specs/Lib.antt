@@ -1,0 +1,5 @@
+-- in reading order
+pub mod Runs
+pub mod Cores
+pub mod Calls
+pub mod Bringing

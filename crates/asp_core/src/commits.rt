@@ -1,0 +1,131 @@
+//! A lease that comes back.
+
+ghost use Rattle.std.specs.Prelude.{◌≡◌, Err, List, OnErr, OnOk, alloc_error, true};
+ghost use Rattle.asp_model.specs.History.{BeginsWith, HistoryShape};
+ghost use Rattle.asp_model.specs.Intent.{Effect};
+ghost use Rattle.journals.specs.Journals.{RunShape};
+ghost use Rattle.program_code.specs.declared.code.Node.{Node as NodeShape};
+ghost use Rattle.actor.specs.Effects.{IsGiven};
+ghost use Rattle.core_journal.specs.Journal.{entries_in};
+ghost use Rattle.core_state.specs.Leases.{IsLease};
+ghost use Rattle.core_edges.specs.Answers.{AreAnswered};
+ghost use Rattle.core_edges.specs.Given.{IsSomeFresh};
+ghost use Rattle.core_edges.specs.Strategies.{strategy_in};
+ghost use Rattle.asp_core.specs.Bringing.{
+  AreTold,
+  AreToldBy,
+  IsBroughtBack,
+  IsNewBy,
+  IsUnmet,
+  StandForLease,
+};
+ghost use Rattle.asp_core.specs.Calls.{IsCommittedBy};
+ghost use Rattle.asp_core.specs.Cores.{IsKept, IsRun, code_of, history_of};
+ghost use Rattle.asp_core.specs.Runs.{Stand};
+
+use crate::cores::Core;
+use actor::Given;
+use asp_model::ActivityName;
+use core_commits::{Arrival, arrive, settle};
+use core_edges::Edges;
+use core_state::{CoreState, Lease};
+use std::alloc::{AllocError, Global};
+use update_policy::UpdatePolicy;
+
+/// The edges are told what a communication of an activity gives, and whom it makes.
+fn tell<P: UpdatePolicy>(
+    alloc: Global,
+    edges: &mut Edges<P>,
+    by: &ActivityName,
+    given: &Given,
+) -> Result<(), AllocError>
+    requires fresh { IsSomeFresh edges.old.holders.holders given.now }
+    requires unmet { IsUnmet given.now edges.old.holders.activities }
+    ensures told { (e : Effect) → IsGiven e given.now →
+        OnOk result (AreTold by.now e edges.old.holders edges.new.holders) }
+    ensures answers { let strategies = strategy_in edges.new in
+        OnOk result (AreAnswered P.answer P.asked strategies edges.old edges.new) }
+{
+    edges.given(alloc, by, given)?;
+    match given {
+        Given::Made(name, _) => {
+            edges.met(name)?;
+            Ok(())
+        }
+        Given::Nothing | Given::Sent(_, _) | Given::Filled(_, _) => Ok(()),
+    }
+}
+
+/// The edges are told of a lease that has come back.
+fn tell_arrival<P: UpdatePolicy>(
+    alloc: Global,
+    edges: &mut Edges<P>,
+    by: &ActivityName,
+    arrival: &Arrival,
+) -> Result<(), AllocError>
+    requires new { IsNewBy edges.old.holders arrival.now }
+    ensures told { OnOk result
+        (AreToldBy by.now arrival.now edges.old.holders edges.new.holders) }
+    ensures answers { let strategies = strategy_in edges.new in
+        OnOk result (AreAnswered P.answer P.asked strategies edges.old edges.new) }
+{
+    match arrival {
+        Arrival::Ran { .. } => Ok(()),
+        Arrival::Acted { given, .. } => tell(alloc, edges, by, given),
+    }
+}
+
+/// An activity comes back to a state, and edges are told what it gives.
+fn bring_back<P: UpdatePolicy>(
+    alloc: Global,
+    state: &mut CoreState,
+    edges: &mut Edges<P>,
+    lease: Lease,
+) -> Result<(), AllocError>
+    requires lease { StandForLease state.old edges.old.holders lease }
+    ensures back { (h : HistoryShape) (code : List NodeShape) (s : RunShape) →
+        Stand h code s state.old edges.old.holders → (l : IsLease h code lease) →
+        let back = IsBroughtBack h code s lease.number l.name lease.grant lease.taken in
+        OnOk result (back state.new edges.new.holders) }
+    ensures answers { let strategies = strategy_in edges.new in
+        OnOk result (AreAnswered P.answer P.asked strategies edges.old edges.new) }
+    ensures entries { OnErr result
+        (entries_in state.new.journal ≡ entries_in state.old.journal) }
+{
+    let number = lease.number;
+    let name = state.name(number).copy(alloc)?;
+    let arrival = arrive(state, lease)?;
+    tell_arrival(alloc, edges, &name, &arrival)?;
+    settle(state, arrival)?;
+    edges.returned(number);
+    Ok(())
+}
+
+impl<P: UpdatePolicy> Core<P> {
+    /// Takes a lease back: its activity is in with the contractions that it took, and with the
+    /// communication at which it stands, where that may be done and one of the grant is left. The
+    /// policies are asked about the edges that arise. What is left of the grant goes back.
+    pub fn commit(&mut self, lease: Lease) -> Result<(), AllocError>
+        requires kept { IsKept self.old }
+        requires lease { IsLease (history_of self.old) (code_of self.old) lease }
+        ensures committed { (s : RunShape) → IsRun self.old s →
+            (l : IsLease (history_of self.old) (code_of self.old) lease) →
+            OnOk result (IsCommittedBy self.old s lease l.name self.new) }
+        ensures answers { let strategies = strategy_in self.new.edges in
+            OnOk result (AreAnswered P.answer P.asked strategies self.old.edges self.new.edges) }
+        ensures spent { self.old.spent ≡ true → result ≡ Err alloc_error }
+        ensures gives_up { OnErr result (self.new.spent ≡ true) }
+        ensures err { OnErr result (history_of self.new ≡ history_of self.old) }
+        ensures kept { IsKept self.new }
+        ensures begins { BeginsWith (history_of self.new) (history_of self.old) }
+        ensures code { code_of self.new ≡ code_of self.old }
+    {
+        if self.spent {
+            return Err(AllocError);
+        }
+        self.spent = true;
+        bring_back(self.alloc, &mut self.state, &mut self.edges, lease)?;
+        self.spent = false;
+        Ok(())
+    }
+}

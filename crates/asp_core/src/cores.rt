@@ -1,0 +1,102 @@
+//! A core.
+
+use asp_check::Checked;
+use asp_model::{ActivityName, Entry};
+use code_compiler::compile;
+use core_edges::Edges;
+use core_state::CoreState;
+use program_code::Code;
+use std::alloc::{AllocError, Global};
+use std::sync::Arc;
+use update_policy::{Plan, Policies, PolicyBox, UpdatePolicy};
+
+/// Activities that are here or lent, the edges along which futures went, and the journal of all that
+/// was lent, committed and delivered. After `AllocError` it is spent.
+#[derive(Drop)]
+pub struct Core<P = PolicyBox> {
+    pub(crate) alloc: Global,
+    pub(crate) code: Arc<Code>,
+    pub(crate) budget: u64,
+    pub(crate) state: CoreState,
+    pub(crate) edges: Edges<P>,
+    pub(crate) spent: bool,
+}
+
+impl<P: UpdatePolicy + Drop> Core<P> {
+    ghost use Rattle.std.specs.Prelude.{◌≡◌, IfOk};
+    ghost use Rattle.asp_model.specs.Shapes.{tree_of};
+    ghost use Rattle.journals.specs.Journals.{begun};
+    ghost use Rattle.core_state.specs.Cores.{history_begun};
+    ghost use Rattle.asp_core.specs.Cores.{IsRun, history_of};
+
+    /// A core whose main activity is in, with the program as its term, and the whole budget.
+    pub fn new(
+        alloc: Global,
+        program: &Checked,
+        budget: u64,
+        plan: Plan,
+        policies: Policies<P>,
+    ) -> Result<Core<P>, AllocError>
+        ensures begun { let term = tree_of program.now.program.root in
+            IfOk result (λ x. IsRun x (begun term budget)) }
+        ensures history { let term = tree_of program.now.program.root in
+            IfOk result (λ x. history_of x ≡ history_begun term budget) }
+    {
+        let code = Arc::new(alloc, compile(alloc, program)?)?;
+        let state = CoreState::begin(alloc, code.clone()?, budget)?;
+        let mut edges = Edges::new(alloc, plan, policies);
+        edges.met(&ActivityName::main(alloc)?)?;
+        Ok(Core {
+            alloc,
+            code,
+            budget,
+            state,
+            edges,
+            spent: false,
+        })
+    }
+}
+
+impl<P> Core<P> {
+    ghost use Rattle.std.specs.Prelude.{◌≡◌, ◌<◌, Some, false, map, slice_get};
+    ghost use Rattle.asp_model.specs.Shapes.{entry_shape};
+    ghost use Rattle.asp_core.specs.Cores.{IsKept, activities_of, entries_of, names_of};
+
+    /// How many activities there are.
+    pub fn activities(&self) -> usize
+        ensures { result ≡ activities_of self.now }
+    {
+        self.state.activities()
+    }
+
+    /// The name of an activity.
+    pub fn name(&self, number: u32) -> &ActivityName
+        requires kept { IsKept self.now }
+        requires fresh { self.now.spent ≡ false }
+        requires known { number < activities_of self.now }
+        ensures name { slice_get (names_of self.now) number ≡ Some result.now }
+    {
+        self.state.name(number)
+    }
+
+    /// What was lent, committed and delivered, in order.
+    pub fn journal(&self) -> &[Entry]
+        ensures entries { map entry_shape result.now ≡ entries_of self.now }
+    {
+        self.state.entries()
+    }
+
+    /// Whether a call has answered `AllocError`. Each call that can answer it does so then.
+    pub fn is_spent(&self) -> bool
+        ensures spent { result ≡ self.now.spent }
+    {
+        self.spent
+    }
+
+    /// The edges along which futures went.
+    pub fn edges(&self) -> &Edges<P>
+        ensures edges { result.now ≡ self.now.edges }
+    {
+        &self.edges
+    }
+}
