@@ -9,3 +9,5 @@ pub mod StartLemmas
 pub mod LendLemmas
 pub mod TellLemmas
 pub mod LeaseLemmas
+pub mod DeliverLemmas
+pub mod EndLemmas

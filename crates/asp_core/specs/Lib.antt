@@ -3,3 +3,4 @@ pub mod Runs
 pub mod Cores
 pub mod Calls
 pub mod Bringing
+pub mod Delivering

@@ -5,6 +5,8 @@
 
 mod commits;
 mod cores;
+mod deliveries;
+mod ends;
 mod lends;
 
 pub use cores::Core;
