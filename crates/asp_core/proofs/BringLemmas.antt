@@ -1,13 +1,12 @@
 -- A lease that has come back, and is settled, once the edges were told of it.
-use Rattle.std.proofs.Common.{◌≡◌, ◌∙◌, ◌-◌, ◌++◌, ◌∷◌, [], ℕ, zero, suc, Bool, false, List, Option, Some, None, length, refl, sym, ap, subst, arith}
+use Rattle.std.proofs.Common.{◌≡◌, ◌∙◌, ◌-◌, [], ℕ, zero, suc, Bool, false, List, Option, Some, None, length, refl, sym, ap, subst, arith}
 use Rattle.std.proofs.lemmas.List.{append-nil}
-use Rattle.std.specs.FinMap.{find}
-use Rattle.asp_model.specs.Chase.{Chase, chase}
-use Rattle.asp_model.specs.Configuration.{Activity, Configuration, RequestShape, requests_of}
+use Rattle.asp_model.specs.Chase.{chase}
+use Rattle.asp_model.specs.Configuration.{Activity, Configuration, requests_of}
 use Rattle.asp_model.specs.History.{Committed, HistoryShape}
 use Rattle.asp_model.specs.Intent.{Effect, Intent, intent}
 use Rattle.asp_model.specs.Names.{FutureShape, Name, name_cmp}
-use Rattle.asp_model.specs.Step.{name_at, with_effect}
+use Rattle.asp_model.specs.Step.{with_effect}
 use Rattle.journals.specs.Communications.{is_communication}
 use Rattle.journals.specs.Edges.{after_events}
 use Rattle.journals.specs.Journals.{RunShape}
@@ -19,7 +18,7 @@ use Rattle.program_code.specs.declared.code.Node.{Node}
 use Rattle.actor.specs.declared.act.Given.{Given}
 use Rattle.actor.specs.declared.actor.Actor.{Actor}
 use Rattle.future_update.specs.Holders.{HoldersView, IsTurned}
-use Rattle.core_laws.specs.Commits.{HasRun, made_by, returned, with_activity}
+use Rattle.core_laws.specs.Commits.{made_by, returned, with_activity}
 use Rattle.core_laws.proofs.EventLemmas.{acts_are_events, runs_are_silent}
 use Rattle.core_state.specs.declared.state.CoreState.{CoreState}
 use Rattle.core_state.specs.Cores.{with_entry}
@@ -28,7 +27,7 @@ use Rattle.core_commits.specs.declared.arrival.Arrival.TheVariants.{Acted, Ran}
 use Rattle.core_commits.specs.Arrivals.{IsArrived, IsSettled, act_at, grant_of, number_of}
 use Rattle.core_commits.specs.Commits.{act_by, act_of, act_within}
 use Rattle.asp_core.specs.Bringing.{AreToldBy, IsBroughtBack}
-use Rattle.asp_core.specs.Runs.{Stand, as_met, counted}
+use Rattle.asp_core.specs.Runs.{Stand, counted}
 use Rattle.asp_core.proofs.StandLemmas.{comes_back}
 
 -- what acts so has no need

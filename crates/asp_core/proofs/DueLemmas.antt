@@ -1,7 +1,6 @@
 -- Which edge is due, as the edges tell it.
-use Rattle.std.proofs.Common.{◌≡◌, ◌≤◌, ◌<◌, ◌&&◌, ℕ, zero, suc, Bool, true, false, not, List, [], ◌∷◌, Option, Some, None, is_some, is_none, slice_get, refl, sym, ap, subst, ◌∙◌, arith}
+use Rattle.std.proofs.Common.{◌≡◌, ◌&&◌, ℕ, zero, suc, not, List, [], ◌∷◌, Option, Some, None, is_some, is_none, slice_get, refl, sym, ap, subst, ◌∙◌, arith}
 use Rattle.std.specs.Option.{option_map}
-use Rattle.asp_model.specs.History.{ChoiceShape}
 use Rattle.asp_model.specs.Names.{Name}
 use Rattle.journals.specs.Edges.{EdgeShape, owed_at}
 use Rattle.journals.specs.Journals.{RunShape, grant_of, is_in}
@@ -13,7 +12,7 @@ use Rattle.laws.specs.Reached.{IsThere}
 use Rattle.lease_laws.specs.Numbered.{AreNumbered}
 use Rattle.edge_records.specs.declared.edge.EdgeNames.{EdgeNames}
 use Rattle.edge_records.specs.Names.{delivery_along, edge_named}
-use Rattle.future_update.specs.Holders.{HoldersView, edge_in, is_out, is_receiver_out, owed_to_one_in}
+use Rattle.future_update.specs.Holders.{HoldersView, is_out, is_receiver_out, owed_to_one_in}
 use Rattle.core_edges.specs.Due.{IsDue}
 use Rattle.verdict_laws.specs.Owed.{is_due, is_in_to}
 use Rattle.verdict_laws.proofs.OwedLemmas.{edges_are_first, in_named}

@@ -1,5 +1,5 @@
 -- A lease of a core that has edges.
-use Rattle.std.proofs.Common.{◌≡◌, ◌∙◌, ◌<◌, ◌≤◌, ◌+◌, ◌++◌, ℕ, List, Some, length, refl, sym, ap, subst, slice_get, arith}
+use Rattle.std.proofs.Common.{◌≡◌, ◌∙◌, ◌<◌, ◌≤◌, ℕ, List, Some, length, sym, ap, slice_get, arith}
 use Rattle.std.proofs.lemmas.List.{length-append}
 use Rattle.asp_model.specs.History.{HistoryShape}
 use Rattle.asp_model.specs.Names.{Name}

@@ -1,5 +1,5 @@
 -- Who is lent.
-use Rattle.std.proofs.Common.{◌≡◌, ◌∙◌, ◌<◌, ℕ, true, false, List, Option, Some, None, IfSome, length, refl, sym, ap, subst, map}
+use Rattle.std.proofs.Common.{◌≡◌, ◌∙◌, ◌<◌, ℕ, true, List, Option, Some, None, IfSome, length, sym, ap, subst}
 use Rattle.std.proofs.lemmas.List.{length-map}
 use Rattle.asp_model.specs.History.{HistoryShape}
 use Rattle.asp_model.specs.Names.{Name}
@@ -14,7 +14,6 @@ use Rattle.core_state.specs.Lending.{IsNextReady}
 use Rattle.core_state.proofs.LendLemmas.{readies}
 use Rattle.core_state.proofs.ListLemmas.{within_name}
 use Rattle.asp_core.specs.Runs.{Stand}
-use Rattle.asp_core.proofs.OutLemmas.{names_met}
 
 module _ (h : HistoryShape) (code : List Node) (s : RunShape) (x : CoreState) (v : HoldersView) (st : Stand h code s x v) where
   -- numbers of the run are those of seats, and of the activities that were met

@@ -1,20 +1,17 @@
 -- What a lease gives that has come back is new to the edges.
-use Rattle.std.proofs.Common.{◌≡◌, ◌∙◌, ◌++◌, ◌∷◌, [], ℕ, suc, Bool, false, List, Some, None, is_some, refl, sym, ap, subst}
+use Rattle.std.proofs.Common.{◌≡◌, ◌∙◌, ℕ, false, List, Some, None, is_some, refl, sym, ap, subst}
 use Rattle.std.specs.FinMap.{find}
 use Rattle.asp_model.specs.Configuration.{Activity, Configuration}
 use Rattle.asp_model.specs.History.{HistoryShape}
 use Rattle.asp_model.specs.Intent.{Effect}
 use Rattle.asp_model.specs.Names.{Name, name_cmp}
 use Rattle.asp_model.specs.Step.{name_at}
-use Rattle.journals.specs.Edges.{HoldersShape}
 use Rattle.journals.specs.Journals.{RunShape}
 use Rattle.laws.proofs.NameLemmas.{none_true}
 use Rattle.laws.proofs.WholeLemmas.{reached_are_sound}
-use Rattle.lease_laws.specs.Numbered.{AreNumbered}
 use Rattle.program_code.specs.declared.code.Node.{Node}
 use Rattle.actor.specs.declared.act.Given.{Given}
 use Rattle.actor.specs.declared.act.Given.TheVariants as given
-use Rattle.actor.specs.declared.actor.Actor.{Actor}
 use Rattle.actor.specs.Effects.{IsGiven}
 use Rattle.future_update.specs.Holders.{HoldersView, is_met}
 use Rattle.core_laws.specs.Commits.{with_activity}
@@ -29,7 +26,7 @@ use Rattle.edge_laws.specs.Fresh.{IsFresh}
 use Rattle.edge_laws.proofs.RunLemmas.{effects_are_fresh, holders_are_of_runs, holders_stay}
 use Rattle.asp_core.specs.Bringing.{IsNewBy, IsUnmet}
 use Rattle.asp_core.specs.Runs.{Stand, holders_left}
-use Rattle.asp_core.proofs.OutLemmas.{names_met, unmet}
+use Rattle.asp_core.proofs.OutLemmas.{unmet}
 use Rattle.asp_core.proofs.StandLemmas.{numbered}
 
 module _ (h : HistoryShape) (code : List Node) (s : RunShape) (x : CoreState) (v : HoldersView) (st : Stand h code s x v) where

@@ -1,11 +1,10 @@
 -- Who is out, as the edges tell it.
-use Rattle.std.proofs.Common.{◌≡◌, ◌≢◌, ◌==◌, ◌&&◌, ◌||◌, ◌++◌, ◌∷◌, [], ℕ, zero, suc, Bool, true, false, not, List, Option, Some, None, is_some, is_none, length, map, slice_get, refl, sym, ap, subst, ◌∙◌, arith}
+use Rattle.std.proofs.Common.{◌≡◌, ◌≢◌, ◌==◌, ◌&&◌, ◌||◌, ◌++◌, ◌∷◌, [], ℕ, zero, suc, Bool, true, false, List, Option, Some, None, is_some, map, slice_get, refl, sym, ap, ◌∙◌, arith}
 use Rattle.std.proofs.lemmas.List.{map-append}
 use Rattle.asp_model.specs.Names.{Name, same_name}
 use Rattle.asp_model.specs.Step.{name_at}
-use Rattle.journals.specs.Journals.{RunShape, grant_of, is_in, number_of, out_but}
+use Rattle.journals.specs.Journals.{RunShape, grant_of, out_but}
 use Rattle.laws.proofs.NameLemmas.{name_itself, names_apart, names_tied, no_some, none_true, some_is}
-use Rattle.lease_laws.specs.Numbered.{AreNumbered}
 use Rattle.lease_laws.proofs.LeaseLemmas.{grant_but}
 use Rattle.lease_laws.proofs.NameListLemmas.{number_stays}
 use Rattle.core_state.proofs.PopulateLemmas.{grant_gone}

@@ -20,7 +20,7 @@ use Rattle.future_update.specs.Holders.{HoldersView, IsTurned, is_out}
 use Rattle.core_laws.specs.Commits.{returned}
 use Rattle.core_state.specs.declared.state.CoreState.{CoreState}
 use Rattle.core_state.specs.Cores.{IsCore, with_entry}
-use Rattle.asp_core.specs.Runs.{AreEdgesOf, AreToldOut, Stand, as_met}
+use Rattle.asp_core.specs.Runs.{AreToldOut, Stand, as_met}
 use Rattle.asp_core.proofs.OutLemmas.{back_told, lent_told, met_told, names_met, names_more}
 
 module _ (h : HistoryShape) (code : List Node) (s : RunShape) where

@@ -1,10 +1,9 @@
 -- A core that begins.
-use Rattle.std.proofs.Common.{◌≡◌, ◌∙◌, ◌∷◌, [], ℕ, Bool, false, List, length, refl, sym, ap, subst}
-use Rattle.std.specs.Arc.{arc_value}
-use Rattle.asp_model.specs.Names.{Name, main_name}
+use Rattle.std.proofs.Common.{◌≡◌, ◌∙◌, ◌∷◌, [], ℕ, false, List, length, sym, ap, subst}
+use Rattle.asp_model.specs.Names.{main_name}
 use Rattle.asp_model.specs.Term.{Tree}
 use Rattle.journals.specs.Edges.{HoldersShape, no_holders}
-use Rattle.journals.specs.Journals.{RunShape, begun}
+use Rattle.journals.specs.Journals.{begun}
 use Rattle.program_code.specs.declared.code.Node.{Node}
 use Rattle.future_update.specs.Holders.{HoldersView, is_out}
 use Rattle.core_state.specs.declared.state.CoreState.{CoreState}

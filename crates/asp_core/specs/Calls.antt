@@ -1,7 +1,7 @@
 -- What the calls of a core give and leave.
 use Rattle.std.specs.Prelude.{◌≡◌, ◌≤◌, ◌*◌, ◌-◌, ℕ, true, false, Option, Some, None, length, is_some}
 use Rattle.asp_model.specs.Configuration.{Activity}
-use Rattle.asp_model.specs.History.{Committed, Delivered, DeliveryShape, EntryShape, Lent}
+use Rattle.asp_model.specs.History.{Committed, DeliveryShape, EntryShape, Lent}
 use Rattle.asp_model.specs.Names.{Name}
 use Rattle.asp_model.specs.Status.{VerdictShape}
 use Rattle.journal_laws.specs.EdgesKept.{sends_in}

@@ -1,5 +1,5 @@
 -- A core is the run of its journal.
-use Rattle.std.specs.Prelude.{◌≡◌, ℕ, List, true, false, length}
+use Rattle.std.specs.Prelude.{◌≡◌, ℕ, List, false, length}
 use Rattle.std.specs.Arc.{arc_value}
 use Rattle.asp_model.specs.History.{EntryShape, HistoryShape}
 use Rattle.asp_model.specs.Names.{Name}
@@ -8,7 +8,6 @@ use Rattle.program_code.specs.declared.code.Node.{Node}
 use Rattle.activity_seats.specs.Seats.{names_in, seats_in}
 use Rattle.core_journal.specs.Journal.{entries_in}
 use Rattle.core_state.specs.Cores.{program_of}
-use Rattle.core_edges.specs.declared.edges.Edges.{Edges}
 use Rattle.asp_core.specs.declared.cores.Core.{Core}
 use Rattle.asp_core.specs.Runs.{Stand}
 

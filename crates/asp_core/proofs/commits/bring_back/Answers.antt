@@ -1,6 +1,6 @@
-use Rattle.std.proofs.Common.{◌≡◌, ◌∙◌, false, refl, sym, ap, subst}
+use Rattle.std.proofs.Common.{◌∙◌, false, sym, subst}
 use Rattle.future_update.specs.Holders.{IsTurned}
-use Rattle.core_commits.specs.Arrivals.{IsArrivalOf, grant_of, number_of}
+use Rattle.core_commits.specs.Arrivals.{grant_of}
 use Rattle.core_edges.specs.Strategies.{strategy_in}
 use Rattle.asp_core.specs.Bringing.{AreToldBy, IsBroughtBack}
 use Rattle.asp_core.proofs.AnswerLemmas.{answered_even, answered_then}

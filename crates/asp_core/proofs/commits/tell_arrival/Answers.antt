@@ -1,4 +1,4 @@
-use Rattle.std.proofs.Common.{◌≡◌, OnOk, refl, sym, subst}
+use Rattle.std.proofs.Common.{OnOk, refl, sym, subst}
 use Rattle.core_edges.specs.Strategies.{strategy_in}
 use Rattle.actor.specs.Effects.{IsGiven}
 use Rattle.core_edges.proofs.AnswerLemmas.{none_answered}

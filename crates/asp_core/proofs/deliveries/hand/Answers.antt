@@ -1,4 +1,4 @@
-use Rattle.std.proofs.Common.{◌≡◌, ◌∙◌, sym, ap, subst, is_some, true}
+use Rattle.std.proofs.Common.{◌≡◌, sym, subst, is_some, true}
 use Rattle.std.specs.FinMap.{find}
 use Rattle.asp_model.specs.Names.{future_cmp}
 use Rattle.asp_model.specs.Shapes.{delivery_shape}

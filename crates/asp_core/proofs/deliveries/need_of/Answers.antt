@@ -1,4 +1,4 @@
-use Rattle.std.proofs.Common.{◌≡◌, ◌∙◌, sym, ap}
+use Rattle.std.proofs.Common.{◌∙◌, sym, ap}
 use Rattle.asp_model.specs.History.{Need}
 use Rattle.asp_model.specs.Shapes.{future_shape}
 use Rattle.laws.proofs.NameLemmas.{some_is}

@@ -1,4 +1,4 @@
-use Rattle.std.proofs.Common.{◌≡◌, ap, refl, subst, sym}
+use Rattle.std.proofs.Common.{ap, refl, subst, sym}
 use Rattle.asp_model.specs.History.{Lent}
 use Rattle.lease_laws.specs.Entries.{with_lease}
 use Rattle.core_state.specs.Lending.{IsNewLease}

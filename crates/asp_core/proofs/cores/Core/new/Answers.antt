@@ -1,4 +1,4 @@
-use Rattle.std.proofs.Common.{◌≡◌, ◌∙◌, ◌++◌, ◌∷◌, [], false, ap, refl, subst, sym}
+use Rattle.std.proofs.Common.{◌≡◌, ◌∙◌, ◌++◌, ◌∷◌, [], false, ap, refl, subst}
 use Rattle.std.specs.Arc.{arc_value}
 use Rattle.asp_model.specs.Shapes.{tree_of}
 use Rattle.journals.specs.Journals.{begun}

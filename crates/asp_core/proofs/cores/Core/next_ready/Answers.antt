@@ -1,4 +1,3 @@
-use Rattle.std.proofs.Common.{◌≡◌, Option, Some, None}
 use Rattle.asp_core.specs.Cores.{code_of, history_of}
 use Rattle.asp_core.proofs.LendLemmas.{next_seat}
 use Rattle.asp_core.proofs.cores.Core.next_ready.Goals as goal

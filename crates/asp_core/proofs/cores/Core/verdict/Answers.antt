@@ -1,4 +1,4 @@
-use Rattle.std.proofs.Common.{◌≡◌, ◌∙◌, sym, refl}
+use Rattle.std.proofs.Common.{◌∙◌, sym}
 use Rattle.asp_core.specs.Cores.{code_of, history_of}
 use Rattle.asp_core.proofs.EndLemmas.{due_told}
 use Rattle.asp_core.proofs.cores.Core.verdict.Goals as goal
