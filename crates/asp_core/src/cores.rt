@@ -10,8 +10,8 @@ use std::alloc::{AllocError, Global};
 use std::sync::Arc;
 use update_policy::{Plan, Policies, PolicyBox, UpdatePolicy};
 
-/// Activities that are here or lent, the edges along which futures went, and the journal of all that
-/// was lent, committed and delivered. After `AllocError` it is spent.
+/// Activities that are here or lent, the edges along which futures went, and the journal of all
+/// that was lent, committed and delivered. After `AllocError` it is spent.
 #[derive(Drop)]
 pub struct Core<P = PolicyBox> {
     pub(crate) alloc: Global,

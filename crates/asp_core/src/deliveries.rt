@@ -182,11 +182,12 @@ impl<P: UpdatePolicy> Core<P> {
     }
 
     /// Delivers the value of a future to an activity that is in: along an edge, to each place that
-    /// holds the future; at a need, to that place. It need not have been owed. The policies are asked
-    /// about the edges that arise.
+    /// holds the future; at a need, to that place. It need not have been owed. The policies are
+    /// asked about the edges that arise.
     pub fn deliver(&mut self, delivery: &Delivery) -> Result<(), AllocError>
         requires kept { IsKept self.old }
-        requires may { (s : RunShape) → IsRun self.old s → MayDeliver s (delivery_shape delivery.now) }
+        requires may { (s : RunShape) → IsRun self.old s →
+            MayDeliver s (delivery_shape delivery.now) }
         ensures delivered { (s : RunShape) → IsRun self.old s →
             let entry = Delivered (delivery_shape delivery.now) in
             OnOk result (HasGoneOn self.old entry self.new) }

@@ -25,8 +25,8 @@ impl<P: UpdatePolicy> Core<P> {
         self.state.next_ready()
     }
 
-    /// Lends an activity that is in, can step and lacks nothing, with a grant of what is left of the
-    /// budget up to the most. It takes no memory.
+    /// Lends an activity that is in, can step and lacks nothing, with a grant of what is left of
+    /// the budget up to the most. It takes no memory.
     pub fn lend(&mut self, number: u32) -> Option<Lease>
         requires kept { IsKept self.old }
         requires known { number < activities_of self.old }
