@@ -1,7 +1,7 @@
 -- A core whose verdict is there.
 use Rattle.std.specs.Prelude.{◌≡◌, true, is_some}
 use Rattle.journals.specs.Journals.{RunShape}
-use Rattle.asp_core.specs.declared.core.Core.{Core}
+use Rattle.asp_core.specs.declared.cores.Core.{Core}
 use Rattle.asp_core.specs.Cores.{IsRun}
 use Rattle.asp_core.specs.Calls.{verdict_of}
 

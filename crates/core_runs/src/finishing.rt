@@ -70,7 +70,7 @@ pub fn finish<P: UpdatePolicy + Drop>(mut core: Core<P>) -> Result<Core<P>, Allo
     ensures begins { IfOk result (λ x. BeginsWith (history_of x) (history_of core)) }
     ensures code { IfOk result (λ x. code_of x ≡ code_of core) }
 {
-    for _ in 0..u64::MAX {
+    for _round in 0..u64::MAX {
         if !advance(&mut core)? {
             return judged(core);
         }
@@ -97,6 +97,7 @@ pub fn run<P: UpdatePolicy + Drop>(
     requires within { budget ≤ MOST_REDUCTIONS }
     ensures end { IfOk result (IsEndOfRun (tree_of program.now.program.root) budget) }
 {
-    let core = finish(Core::new(alloc, program, budget, plan, policies)?)?;
+    let begun = Core::new(alloc, program, budget, plan, policies)?;
+    let core = finish(begun)?;
     end_of_run(core)
 }
