@@ -8,6 +8,7 @@ use Rattle.clap.specs.Simple.{Shape, built}
 use Rattle.clap.specs.Takes.{level_passes, settle_passes, step_passes, takes, turn_passes, walk_passes, word_passes}
 use Rattle.clap.proofs.TakesLemmas.{leaf_takes}
 use Rattle.command_line.specs.Command.{command, is_taken, rows_given, texts_in, texts_of}
+use Rattle.command_line.specs.Settings.{usual}
 use Rattle.command_line.specs.Task.{Runs, task_in, task_of}
 use Rattle.command_line.specs.PlainWords.{PlainWordRuns}
 
@@ -57,10 +58,10 @@ rows : (word : Text) → IsPlainWord word → rows_given (word ∷ []) ≡ finis
 unfolding rows_given
 rows word plain = ap (λ (w : Walk). finished top.rules w.held) (walk_is word plain)
 
-asked : (word : Text) → task_in (texts_in (finished top.rules (file_walk word).held)) ≡ Some (Runs word 1000000 None)
+asked : (word : Text) → task_in (texts_in (finished top.rules (file_walk word).held)) ≡ Some (Runs word usual None)
 asked word = refl
 
-one_file : (word : Text) → IsPlainWord word → task_of (word ∷ []) ≡ Some (Runs word 1000000 None)
+one_file : (word : Text) → IsPlainWord word → task_of (word ∷ []) ≡ Some (Runs word usual None)
 unfolding is_taken task_of
 one_file word plain =
     ap (λ b. if b then task_in (texts_of (word ∷ [])) else None) (taken word plain)

@@ -30,7 +30,8 @@ bare_command = on_top (λ s. record s {
 abbrev pub command : App
 command = on_top (λ s. record s {
   rules = file_rule ∷ check_rule ∷ option_rule (codes "budget")
-      ∷ option_rule (codes "replay") ∷ option_rule (codes "make") ∷ option_rule (codes "state") ∷ [];
+      ∷ option_rule (codes "replay") ∷ option_rule (codes "make") ∷ option_rule (codes "state")
+      ∷ option_rule (codes "workers") ∷ option_rule (codes "strategy") ∷ option_rule (codes "update") ∷ [];
 }) bare_command
 
 -- the command takes the words
@@ -41,27 +42,43 @@ is_taken words = takes command words
 unfoldable pub rows_given : List Text → List Row
 rows_given words = matches_of command words
 
+-- of how a program is run
+pub record SettingTexts : Type 0 where
+  pub workers : Option Text
+  pub budget : Option Text
+  pub strategy : Option Text
+  pub update : Option Text
+
 pub record TextsShape : Type 0 where
   pub file : Option Text
   pub check : Bool
   pub replay : Option Text
   pub make : Option Text
-  pub budget : Option Text
   pub state : Option Text
+  pub settings : SettingTexts
 
 -- the value of a flag that was given is the word true
 abbrev pub says_true : Option Text → Bool
 says_true text = option_map_or (λ t. bytes_eq t (codes "true")) text false
 
 -- each text by its name
+
+abbrev pub given_in : List Row → SettingTexts
+given_in rows = record {
+  workers = first_of (codes "workers") rows;
+  budget = first_of (codes "budget") rows;
+  strategy = first_of (codes "strategy") rows;
+  update = first_of (codes "update") rows;
+}
+
 abbrev pub texts_in : List Row → TextsShape
 texts_in rows = record {
   file = first_of (codes "file") rows;
   check = says_true (first_of (codes "check") rows);
   replay = first_of (codes "replay") rows;
   make = first_of (codes "make") rows;
-  budget = first_of (codes "budget") rows;
   state = first_of (codes "state") rows;
+  settings = given_in rows;
 }
 
 abbrev pub texts_of : List Text → TextsShape

@@ -1,5 +1,7 @@
 -- in reading order
 pub mod Command
+pub mod Numbers
+pub mod Settings
 pub mod Task
 pub mod Lines
 pub mod PlainWords

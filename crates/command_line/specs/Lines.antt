@@ -1,6 +1,9 @@
 -- Worked command lines, without the program's name.
-use Rattle.std.specs.Prelude.{◌≡◌, List, [], ◌∷◌, Some, None, codes}
+use Rattle.std.specs.Prelude.{◌≡◌, ℕ, List, [], ◌∷◌, Some, None, codes, map}
 use Rattle.clap.specs.Walk.{Text}
+use Rattle.update_policy.specs.declared.strategy.Strategy.{Strategy}
+use Rattle.update_policy.specs.declared.strategy.Strategy.TheVariants.{Lazy, Forward, Message}
+use Rattle.command_line.specs.Settings.{SettingsShape, usual}
 use Rattle.command_line.specs.Task.{TaskShape, Runs, Checks, Replays, Makes, task_of}
 
 abbrev pub Asks : List Text → TaskShape → Type 0
@@ -12,25 +15,43 @@ IsRefused words = task_of words ≡ None
 abbrev pub one : Text
 one = codes "one.asp"
 
+-- the usual settings but for one
+
+abbrev pub with_budget : ℕ → SettingsShape
+with_budget n = record usual { budget = n }
+
+abbrev pub with_plan : Strategy → List (Text × Strategy) → SettingsShape
+with_plan s xs = record usual { plan = record { strategy = s; by_label = xs } }
+
 -- each combination that is accepted, and each way to give a value
 pub record AcceptedLines : Type 0 where
-  pub file : Asks (one ∷ []) (Runs one 1000000 None)
-  pub budget : Asks (one ∷ codes "--budget=5" ∷ []) (Runs one 5 None)
-  pub budget_before : Asks (codes "--budget" ∷ codes "10000000" ∷ one ∷ []) (Runs one 10000000 None)
-  pub leading_zeros : Asks (one ∷ codes "--budget=00000001" ∷ []) (Runs one 1 None)
+  pub file : Asks (one ∷ []) (Runs one usual None)
+  pub budget : Asks (one ∷ codes "--budget=5" ∷ []) (Runs one (with_budget 5) None)
+  pub budget_before : Asks (codes "--budget" ∷ codes "10000000" ∷ one ∷ []) (Runs one (with_budget 10000000) None)
+  pub leading_zeros : Asks (one ∷ codes "--budget=00000001" ∷ []) (Runs one (with_budget 1) None)
   pub check : Asks (codes "--check" ∷ one ∷ []) (Checks one)
   pub replay : Asks (one ∷ codes "--replay=one.report" ∷ []) (Replays one (codes "one.report") None)
   pub replay_hyphen : Asks (one ∷ codes "--replay" ∷ codes "-" ∷ []) (Replays one (codes "-") None)
   pub hyphen_behind : Asks (one ∷ codes "--replay=-r" ∷ []) (Replays one (codes "-r") None)
-  pub state : Asks (one ∷ codes "--state=0" ∷ []) (Runs one 1000000 (Some 0))
-  pub state_budget : Asks (codes "--state" ∷ codes "4" ∷ one ∷ codes "--budget=5" ∷ []) (Runs one 5 (Some 4))
-  pub state_zeros : Asks (one ∷ codes "--state=00000003" ∷ []) (Runs one 1000000 (Some 3))
+  pub state : Asks (one ∷ codes "--state=0" ∷ []) (Runs one usual (Some 0))
+  pub state_budget : Asks (codes "--state" ∷ codes "4" ∷ one ∷ codes "--budget=5" ∷ []) (Runs one (with_budget 5) (Some 4))
+  pub state_zeros : Asks (one ∷ codes "--state=00000003" ∷ []) (Runs one usual (Some 3))
   pub state_replay : Asks (one ∷ codes "--replay=one.report" ∷ codes "--state=2" ∷ []) (Replays one (codes "one.report") (Some 2))
-  pub make : Asks (codes "--make" ∷ codes "3" ∷ []) (Makes 3 1000000)
-  pub make_budget : Asks (codes "--make=2000" ∷ codes "--budget=7" ∷ []) (Makes 2000 7)
-  pub end_of_options : Asks (codes "--" ∷ codes "--check" ∷ []) (Runs (codes "--check") 1000000 None)
-  pub one_hyphen : Asks (codes "-" ∷ []) (Runs (codes "-") 1000000 None)
-  pub empty_word : Asks (codes "" ∷ []) (Runs (codes "") 1000000 None)
+  pub make : Asks (codes "--make" ∷ codes "3" ∷ []) (Makes 3 usual)
+  pub make_budget : Asks (codes "--make=2000" ∷ codes "--budget=7" ∷ []) (Makes 2000 (with_budget 7))
+  pub strategy : Asks (one ∷ codes "--strategy=message" ∷ []) (Runs one (with_plan Message []) None)
+  pub forward : Asks (one ∷ codes "--strategy" ∷ codes "forward" ∷ []) (Runs one (with_plan Forward []) None)
+  pub update : Asks (one ∷ codes "--update=go=message" ∷ [])
+      (Runs one (with_plan Lazy ((codes "go", Message) ∷ [])) None)
+  pub updates : Asks (one ∷ codes "--strategy=forward" ∷ codes "--update=go=message,_a1=lazy" ∷ [])
+      (Runs one (with_plan Forward ((codes "go", Message) ∷ (codes "_a1", Lazy) ∷ [])) None)
+  pub sixteen : Asks (one ∷ codes "--update=a=lazy,b=lazy,c=lazy,d=lazy,e=lazy,f=lazy,g=lazy,h=lazy,i=lazy,j=lazy,k=lazy,l=lazy,m=lazy,n=lazy,o=lazy,p=lazy" ∷ [])
+      (Runs one (with_plan Lazy (map (λ b. (b ∷ [], Lazy)) (codes "abcdefghijklmnop"))) None)
+  pub make_all : Asks (codes "--make=3" ∷ codes "--strategy=message" ∷ codes "--update=go=lazy" ∷ codes "--budget=7" ∷ [])
+      (Makes 3 (record (with_plan Message ((codes "go", Lazy) ∷ [])) { budget = 7 }))
+  pub end_of_options : Asks (codes "--" ∷ codes "--check" ∷ []) (Runs (codes "--check") usual None)
+  pub one_hyphen : Asks (codes "-" ∷ []) (Runs (codes "-") usual None)
+  pub empty_word : Asks (codes "" ∷ []) (Runs (codes "") usual None)
 
 -- combinations that are refused
 pub record RefusedCombinations : Type 0 where
@@ -45,6 +66,30 @@ pub record RefusedCombinations : Type 0 where
   pub state_alone : IsRefused (codes "--state=1" ∷ [])
   pub check_state : IsRefused (codes "--check" ∷ one ∷ codes "--state=1" ∷ [])
   pub make_state : IsRefused (codes "--make=3" ∷ codes "--state=1" ∷ [])
+  pub workers_alone : IsRefused (codes "--workers=4" ∷ [])
+  pub check_workers : IsRefused (codes "--check" ∷ one ∷ codes "--workers=4" ∷ [])
+  pub check_strategy : IsRefused (codes "--check" ∷ one ∷ codes "--strategy=lazy" ∷ [])
+  pub check_update : IsRefused (codes "--check" ∷ one ∷ codes "--update=go=lazy" ∷ [])
+  pub replay_workers : IsRefused (one ∷ codes "--replay=one.report" ∷ codes "--workers=4" ∷ [])
+  pub replay_strategy : IsRefused (one ∷ codes "--replay=one.report" ∷ codes "--strategy=lazy" ∷ [])
+  pub replay_update : IsRefused (one ∷ codes "--replay=one.report" ∷ codes "--update=go=lazy" ∷ [])
+
+-- strategies that are refused
+pub record RefusedStrategies : Type 0 where
+  pub unknown : IsRefused (one ∷ codes "--strategy=eager" ∷ [])
+  pub capital : IsRefused (one ∷ codes "--strategy=Lazy" ∷ [])
+  pub nothing : IsRefused (one ∷ codes "--strategy=" ∷ [])
+  pub no_pair : IsRefused (one ∷ codes "--update=" ∷ [])
+  pub no_strategy : IsRefused (one ∷ codes "--update=go" ∷ [])
+  pub no_label : IsRefused (one ∷ codes "--update==lazy" ∷ [])
+  pub comma_behind : IsRefused (one ∷ codes "--update=go=lazy," ∷ [])
+  pub unknown_behind : IsRefused (one ∷ codes "--update=go=eager" ∷ [])
+  pub reserved : IsRefused (one ∷ codes "--update=let=lazy" ∷ [])
+  pub digit : IsRefused (one ∷ codes "--update=1a=lazy" ∷ [])
+  pub hyphen : IsRefused (one ∷ codes "--update=a-b=lazy" ∷ [])
+  pub label_twice : IsRefused (one ∷ codes "--update=go=lazy,go=message" ∷ [])
+  pub seventeen : IsRefused (one ∷ codes "--update=a=lazy,b=lazy,c=lazy,d=lazy,e=lazy,f=lazy,g=lazy,h=lazy,i=lazy,j=lazy,k=lazy,l=lazy,m=lazy,n=lazy,o=lazy,p=lazy,q=lazy" ∷ [])
+  pub strategy_twice : IsRefused (one ∷ codes "--strategy=lazy" ∷ codes "--strategy=lazy" ∷ [])
 
 -- numbers that are refused
 pub record RefusedNumbers : Type 0 where
@@ -56,6 +101,10 @@ pub record RefusedNumbers : Type 0 where
   pub state_above : IsRefused (one ∷ codes "--state=5" ∷ [])
   pub no_state : IsRefused (one ∷ codes "--state=" ∷ [])
   pub state_word : IsRefused (one ∷ codes "--state=all" ∷ [])
+  pub no_workers : IsRefused (one ∷ codes "--workers=0" ∷ [])
+  pub workers_above : IsRefused (one ∷ codes "--workers=17" ∷ [])
+  -- until workers race
+  pub workers : IsRefused (one ∷ codes "--workers=4" ∷ [])
   pub no_pairs : IsRefused (codes "--make=0" ∷ [])
   pub pairs_above : IsRefused (codes "--make=2001" ∷ [])
 
@@ -70,7 +119,7 @@ pub record RefusedWords : Type 0 where
   pub no_value_at_end : IsRefused (codes "--replay" ∷ codes "--" ∷ one ∷ [])
   pub hyphen_behind : IsRefused (one ∷ codes "--replay" ∷ codes "-r" ∷ [])
   pub shortened : IsRefused (one ∷ codes "--budg=5" ∷ [])
-  pub unknown : IsRefused (one ∷ codes "--workers=4" ∷ [])
+  pub unknown : IsRefused (one ∷ codes "--worker=4" ∷ [])
   pub help : IsRefused (codes "--help" ∷ [])
   pub short_help : IsRefused (codes "-h" ∷ [])
   pub version : IsRefused (codes "--version" ∷ [])

@@ -2,14 +2,26 @@
 use Rattle.std.specs.Prelude.{Option, option_map}
 use Rattle.std.specs.Borrow.{Bor}
 use Rattle.clap.specs.Walk.{Text}
-use Rattle.command_line.specs.Command.{TextsShape}
+use Rattle.update_policy.specs.Plans.{plan_shape}
+use Rattle.command_line.specs.Command.{SettingTexts, TextsShape}
+use Rattle.command_line.specs.Settings.{SettingsShape}
 use Rattle.command_line.specs.Task.{TaskShape, Runs, Checks, Replays, Makes}
+use Rattle.command_line.specs.declared.command.Given.{Given}
 use Rattle.command_line.specs.declared.command.Texts.{Texts}
+use Rattle.command_line.specs.declared.settings.Settings.{Settings}
 use Rattle.command_line.specs.declared.task.Task.{Task}
 use Rattle.command_line.specs.declared.task.Task.TheVariants as task
 
 abbrev pub text_behind : Option (Bor Text) → Option Text
 text_behind = option_map (λ s. s.now)
+
+abbrev pub given_shape : Given → SettingTexts
+given_shape g = record {
+  workers = text_behind g.workers;
+  budget = text_behind g.budget;
+  strategy = text_behind g.strategy;
+  update = text_behind g.update;
+}
 
 abbrev pub texts_shape : Texts → TextsShape
 texts_shape t = record {
@@ -17,12 +29,15 @@ texts_shape t = record {
   check = t.check;
   replay = text_behind t.replay;
   make = text_behind t.make;
-  budget = text_behind t.budget;
   state = text_behind t.state;
+  settings = given_shape t.settings;
 }
 
+abbrev pub settings_shape : Settings → SettingsShape
+settings_shape s = record { workers = s.workers; budget = s.budget; plan = plan_shape s.plan }
+
 abbrev pub task_shape : Task → TaskShape
-task_shape (task.Run file budget depth) = Runs file.now budget depth
+task_shape (task.Run file settings depth) = Runs file.now (settings_shape settings) depth
 task_shape (task.Check file) = Checks file.now
 task_shape (task.Replay file report depth) = Replays file.now report.now depth
-task_shape (task.Make pairs budget) = Makes pairs budget
+task_shape (task.Make pairs settings) = Makes pairs (settings_shape settings)

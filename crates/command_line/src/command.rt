@@ -3,14 +3,23 @@
 
 ghost use Rattle.std.specs.Prelude.{◌≡◌, IfOk, IfErr, map, option_map, string_bytes, false, true};
 ghost use Rattle.clap.specs.Words.{app_of, first_of, found_of, rows_of, rule_of, with_rule};
-ghost use Rattle.command_line.specs.Command.{bare_command, check_rule, command as the_command, file_rule, is_taken, option_rule, rows_given, says_true, texts_in, texts_of};
-ghost use Rattle.command_line.specs.Shapes.{texts_shape};
+ghost use Rattle.command_line.specs.Command.{bare_command, check_rule, command as the_command, file_rule, given_in, is_taken, option_rule, rows_given, says_true, texts_in, texts_of};
+ghost use Rattle.command_line.specs.Shapes.{given_shape, texts_shape};
 ghost use Rattle.command_line.specs.declared.error.WordsError.TheVariants as errors;
 
 use crate::error::WordsError;
 use clap::error::ErrorKind;
 use clap::{Arg, ArgAction, ArgMatches, Command};
 use std::alloc::{AllocError, Global};
+
+/// The texts of how a program is run.
+#[derive(Drop)]
+pub struct Given<'a> {
+    pub workers: Option<&'a str>,
+    pub budget: Option<&'a str>,
+    pub strategy: Option<&'a str>,
+    pub update: Option<&'a str>,
+}
 
 /// The texts that the words give.
 #[derive(Drop)]
@@ -19,8 +28,8 @@ pub struct Texts<'a> {
     pub check: bool,
     pub replay: Option<&'a str>,
     pub make: Option<&'a str>,
-    pub budget: Option<&'a str>,
     pub state: Option<&'a str>,
+    pub settings: Given<'a>,
 }
 
 /// The texts in words that are the command's.
@@ -61,7 +70,10 @@ fn command<'a>(alloc: Global) -> Result<Command<'a>, AllocError>
     let command = with_option(alloc, command, "budget")?;
     let command = with_option(alloc, command, "replay")?;
     let command = with_option(alloc, command, "make")?;
-    with_option(alloc, command, "state")
+    let command = with_option(alloc, command, "state")?;
+    let command = with_option(alloc, command, "workers")?;
+    let command = with_option(alloc, command, "strategy")?;
+    with_option(alloc, command, "update")
 }
 
 // The program's name, FILE and `--check`.
@@ -105,8 +117,19 @@ fn texts_found<'a>(matches: &ArgMatches<'a>) -> Texts<'a>
         check: is_true(text_of(matches, "check")),
         replay: text_of(matches, "replay"),
         make: text_of(matches, "make"),
-        budget: text_of(matches, "budget"),
         state: text_of(matches, "state"),
+        settings: given_found(matches),
+    }
+}
+
+fn given_found<'a>(matches: &ArgMatches<'a>) -> Given<'a>
+    ensures { given_shape result ≡ given_in (rows_of (found_of matches.now)) }
+{
+    Given {
+        workers: text_of(matches, "workers"),
+        budget: text_of(matches, "budget"),
+        strategy: text_of(matches, "strategy"),
+        update: text_of(matches, "update"),
     }
 }
 

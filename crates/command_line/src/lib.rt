@@ -5,8 +5,11 @@ mod command;
 mod error;
 mod lines;
 mod number;
+mod settings;
 mod task;
+mod update;
 
 pub use error::WordsError;
 pub use lines::{accepted_lines, plain_word_runs, refused_lines};
+pub use settings::Settings;
 pub use task::{Task, read_words};

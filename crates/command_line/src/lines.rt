@@ -1,6 +1,12 @@
 //! Worked command lines. No function here computes anything: each stands for its clauses.
 
-ghost use Rattle.command_line.specs.Lines.{AcceptedLines, RefusedCombinations, RefusedNumbers, RefusedWords};
+ghost use Rattle.command_line.specs.Lines.{
+  AcceptedLines,
+  RefusedCombinations,
+  RefusedNumbers,
+  RefusedStrategies,
+  RefusedWords,
+};
 ghost use Rattle.command_line.specs.PlainWords.{PlainWordRuns};
 
 /// Lines that are accepted, and what they ask for.
@@ -11,6 +17,7 @@ pub fn accepted_lines()
 /// Lines that are refused.
 pub fn refused_lines()
     ensures combinations { RefusedCombinations }
+    ensures strategies { RefusedStrategies }
     ensures numbers { RefusedNumbers }
     ensures words { RefusedWords }
 {}

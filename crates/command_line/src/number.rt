@@ -4,7 +4,10 @@ ghost use Rattle.std.specs.Prelude.{◌≡◌, ◌≤◌, true, IfSome};
 ghost use Rattle.std.specs.Char.{is_ascii_digit};
 ghost use Rattle.std.specs.List.{list_all};
 ghost use Rattle.std.specs.Str.Parse.{digits_value};
-ghost use Rattle.command_line.specs.Task.{is_number as is_number_text, number_in as number_within};
+ghost use Rattle.command_line.specs.Numbers.{
+  is_number as is_number_text,
+  number_in as number_within,
+};
 
 /// The number that the text writes, where it is one from `least` to `most`.
 pub fn number_in(text: &str, least: u64, most: u64) -> Option<u64>

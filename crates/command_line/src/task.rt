@@ -2,10 +2,8 @@
 
 ghost use Rattle.std.specs.Prelude.{◌≡◌, IfOk, IfErr, Some, None, map, string_bytes};
 ghost use Rattle.command_line.specs.Task.{
-  IsBudget,
   IsDepth,
   IsWithin,
-  budget_of,
   depth_of,
   making,
   replaying,
@@ -13,16 +11,15 @@ ghost use Rattle.command_line.specs.Task.{
   task_in,
   task_of,
 };
-ghost use Rattle.command_line.specs.Shapes.{task_shape, text_behind, texts_shape};
+ghost use Rattle.command_line.specs.Shapes.{given_shape, task_shape, text_behind, texts_shape};
 ghost use Rattle.command_line.specs.declared.error.WordsError.TheVariants as errors;
 
-use crate::command::{Texts, read_texts};
+use crate::command::{Given, Texts, read_texts};
 use crate::error::WordsError;
 use crate::number::number_in;
-use asp_model::{MOST_DEPTH, MOST_PAIRS, MOST_REDUCTIONS};
+use crate::settings::{Settings, are_given, settings_in};
+use asp_model::{MOST_DEPTH, MOST_PAIRS};
 use std::alloc::Global;
-
-const DEFAULT_BUDGET: u64 = 1_000_000;
 
 /// What the words ask for.
 #[derive(Debug, Drop)]
@@ -31,8 +28,8 @@ pub enum Task<'a> {
     Run {
         /// The file's name.
         file: &'a str,
-        /// The most reductions that it may take.
-        budget: u64,
+        /// How it is run.
+        settings: Settings,
         /// How deep the report shows states, if it shows any.
         depth: Option<u32>,
     },
@@ -54,8 +51,8 @@ pub enum Task<'a> {
     Make {
         /// The number of pairs.
         pairs: u64,
-        /// The most reductions that it may take.
-        budget: u64,
+        /// How it is run.
+        settings: Settings,
     },
 }
 
@@ -68,43 +65,49 @@ pub fn read_words<'a>(alloc: Global, words: &'a [String]) -> Result<Task<'a>, Wo
     ensures within { IfOk result (λ t. IsWithin (task_shape t)) }
 {
     let texts = read_texts(alloc, words)?;
-    task_from(&texts)
+    task_from(alloc, &texts)
 }
 
 // The task, where the texts may stand together.
-fn task_from<'a>(texts: &Texts<'a>) -> Result<Task<'a>, WordsError>
+fn task_from<'a>(alloc: Global, texts: &Texts<'a>) -> Result<Task<'a>, WordsError>
     ensures ok { IfOk result (λ t. task_in (texts_shape texts.now) ≡ Some (task_shape t)) }
-    ensures usage { IfErr result (λ _. task_in (texts_shape texts.now) ≡ None) }
+    ensures usage { IfErr result (λ e. e ≡ errors.Usage → task_in (texts_shape texts.now) ≡ None) }
     ensures within { IfOk result (λ t. IsWithin (task_shape t)) }
 {
+    let given = are_given(&texts.settings);
     match (
         texts.file,
         texts.check,
         texts.replay,
         texts.make,
-        texts.budget,
         texts.state,
+        given,
     ) {
-        (Some(file), false, None, None, budget, state) => run(file, budget, state),
-        (Some(file), true, None, None, None, None) => Ok(Task::Check { file }),
-        (Some(file), false, Some(report), None, None, state) => replay(file, report, state),
-        (None, false, None, Some(pairs), budget, None) => make(pairs, budget),
+        (Some(file), false, None, None, state, _) => run(alloc, file, &texts.settings, state),
+        (Some(file), true, None, None, None, false) => Ok(Task::Check { file }),
+        (Some(file), false, Some(report), None, state, false) => replay(file, report, state),
+        (None, false, None, Some(pairs), None, _) => make(alloc, pairs, &texts.settings),
         _ => Err(WordsError::Usage),
     }
 }
 
-fn run<'a>(file: &'a str, budget: Option<&str>, state: Option<&str>) -> Result<Task<'a>, WordsError>
+fn run<'a>(
+    alloc: Global,
+    file: &'a str,
+    given: &Given<'_>,
+    state: Option<&str>,
+) -> Result<Task<'a>, WordsError>
     ensures ok { let depth = text_behind state.entry in IfOk result
-        (λ t. running file.entry.now (text_behind budget.entry) depth ≡ Some (task_shape t)) }
+        (λ t. running file.entry.now (given_shape given.now) depth ≡ Some (task_shape t)) }
     ensures usage { let depth = text_behind state.entry in IfErr result
-        (λ _. running file.entry.now (text_behind budget.entry) depth ≡ None) }
+        (λ e. e ≡ errors.Usage → running file.entry.now (given_shape given.now) depth ≡ None) }
     ensures within { IfOk result (λ t. IsWithin (task_shape t)) }
 {
-    let budget = budget_in(budget)?;
+    let settings = settings_in(alloc, given)?;
     let depth = depth_in(state)?;
     Ok(Task::Run {
         file,
-        budget,
+        settings,
         depth,
     })
 }
@@ -124,26 +127,16 @@ fn replay<'a>(file: &'a str, report: &'a str, state: Option<&str>) -> Result<Tas
     })
 }
 
-fn make<'a>(pairs: &str, budget: Option<&str>) -> Result<Task<'a>, WordsError>
+fn make<'a>(alloc: Global, pairs: &str, given: &Given<'_>) -> Result<Task<'a>, WordsError>
     ensures ok { IfOk result
-        (λ t. making pairs.now (text_behind budget.entry) ≡ Some (task_shape t)) }
-    ensures usage { IfErr result (λ _. making pairs.now (text_behind budget.entry) ≡ None) }
+        (λ t. making pairs.now (given_shape given.now) ≡ Some (task_shape t)) }
+    ensures usage { IfErr result
+        (λ e. e ≡ errors.Usage → making pairs.now (given_shape given.now) ≡ None) }
     ensures within { IfOk result (λ t. IsWithin (task_shape t)) }
 {
     let pairs = number_in(pairs, 1, MOST_PAIRS).ok_or(WordsError::Usage)?;
-    let budget = budget_in(budget)?;
-    Ok(Task::Make { pairs, budget })
-}
-
-fn budget_in(text: Option<&str>) -> Result<u64, WordsError>
-    ensures ok { IfOk result (λ n. budget_of (text_behind text.entry) ≡ Some n) }
-    ensures usage { IfErr result (λ _. budget_of (text_behind text.entry) ≡ None) }
-    ensures within { IfOk result IsBudget }
-{
-    match text {
-        Some(text) => number_in(text, 1, MOST_REDUCTIONS).ok_or(WordsError::Usage),
-        None => Ok(DEFAULT_BUDGET),
-    }
+    let settings = settings_in(alloc, given)?;
+    Ok(Task::Make { pairs, settings })
 }
 
 fn depth_in(text: Option<&str>) -> Result<Option<u32>, WordsError>

@@ -1,12 +1,13 @@
 use Rattle.std.proofs.Common.{refl}
 use Rattle.clap.proofs.OnLiterals.{clap_on_literals}
+use Rattle.asp_model.specs.Readable.{is_identifier}
 use Rattle.command_line.specs.Command.{is_taken, rows_given}
 use Rattle.command_line.specs.Lines.{AcceptedLines}
 use Rattle.command_line.specs.Task.{task_of}
 use Rattle.command_line.proofs.lines.accepted_lines.Goals as goal
 
 accepted : AcceptedLines
-unfolding clap_on_literals is_taken rows_given task_of
+unfolding clap_on_literals is_identifier is_taken rows_given task_of
 accepted = record {
   file = refl;
   budget = refl;
@@ -22,6 +23,12 @@ accepted = record {
   state_replay = refl;
   make = refl;
   make_budget = refl;
+  strategy = refl;
+  forward = refl;
+  update = refl;
+  updates = refl;
+  sixteen = refl;
+  make_all = refl;
   end_of_options = refl;
   one_hyphen = refl;
   empty_word = refl;

@@ -1,12 +1,13 @@
 use Rattle.std.proofs.Common.{refl}
 use Rattle.clap.proofs.OnLiterals.{clap_on_literals}
+use Rattle.asp_model.specs.Readable.{is_identifier}
 use Rattle.command_line.specs.Command.{is_taken, rows_given}
-use Rattle.command_line.specs.Lines.{RefusedCombinations, RefusedNumbers, RefusedWords}
+use Rattle.command_line.specs.Lines.{RefusedCombinations, RefusedNumbers, RefusedStrategies, RefusedWords}
 use Rattle.command_line.specs.Task.{task_of}
 use Rattle.command_line.proofs.lines.refused_lines.Goals as goal
 
 combinations : RefusedCombinations
-unfolding clap_on_literals is_taken rows_given task_of
+unfolding clap_on_literals is_identifier is_taken rows_given task_of
 combinations = record {
   nothing = refl;
   budget_alone = refl;
@@ -19,10 +20,36 @@ combinations = record {
   state_alone = refl;
   check_state = refl;
   make_state = refl;
+  workers_alone = refl;
+  check_workers = refl;
+  check_strategy = refl;
+  check_update = refl;
+  replay_workers = refl;
+  replay_strategy = refl;
+  replay_update = refl;
+}
+
+strategies : RefusedStrategies
+unfolding clap_on_literals is_identifier is_taken rows_given task_of
+strategies = record {
+  unknown = refl;
+  capital = refl;
+  nothing = refl;
+  no_pair = refl;
+  no_strategy = refl;
+  no_label = refl;
+  comma_behind = refl;
+  unknown_behind = refl;
+  reserved = refl;
+  digit = refl;
+  hyphen = refl;
+  label_twice = refl;
+  seventeen = refl;
+  strategy_twice = refl;
 }
 
 numbers : RefusedNumbers
-unfolding clap_on_literals is_taken rows_given task_of
+unfolding clap_on_literals is_identifier is_taken rows_given task_of
 numbers = record {
   no_budget = refl;
   budget_above = refl;
@@ -32,12 +59,15 @@ numbers = record {
   state_above = refl;
   no_state = refl;
   state_word = refl;
+  no_workers = refl;
+  workers_above = refl;
+  workers = refl;
   no_pairs = refl;
   pairs_above = refl;
 }
 
 words : RefusedWords
-unfolding clap_on_literals is_taken rows_given task_of
+unfolding clap_on_literals is_identifier is_taken rows_given task_of
 words = record {
   two_files = refl;
   twice = refl;
@@ -55,4 +85,4 @@ words = record {
 }
 
 pub returns : goal.returns
-returns c = record { combinations = combinations; numbers = numbers; words = words }
+returns c = record { combinations = combinations; strategies = strategies; numbers = numbers; words = words }
