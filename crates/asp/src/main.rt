@@ -3,15 +3,34 @@
 
 use asp_edge::{FileSource, StdSink};
 use asp_top::run_asp;
+use std::alloc::AllocError;
 use std::env;
 use std::io::ErrorKind;
 use std::process::ExitCode;
+use update_policy::{ForwardPolicy, LazyPolicy, MessagePolicy, Policies, PolicyBox};
 
-/// There was no memory for the words.
+/// There was no memory for the words or for the policies.
 const NO_MEMORY: u8 = 8;
 
 /// The system refused the words for another cause, such as bytes that are no UTF-8.
 const NO_WORDS: u8 = 12;
+
+// The status of the command.
+fn run(rt: &HostRuntime, words: &[String]) -> Result<u8, AllocError> {
+    let alloc = rt.alloc();
+    let lazy: PolicyBox = Box::new(alloc, LazyPolicy)?;
+    let forward: PolicyBox = Box::new(alloc, ForwardPolicy)?;
+    let message: PolicyBox = Box::new(alloc, MessagePolicy)?;
+    let policies = Policies {
+        lazy,
+        forward,
+        message,
+    };
+    let mut source = FileSource::new(rt);
+    let mut out = StdSink::out(rt);
+    let mut err = StdSink::err(rt);
+    Ok(run_asp(rt, words, &mut source, &mut out, &mut err, policies))
+}
 
 fn main(rt: HostRuntime) -> ExitCode {
     let args = match env::args(&rt) {
@@ -25,8 +44,5 @@ fn main(rt: HostRuntime) -> ExitCode {
             return ExitCode::from(NO_MEMORY);
         }
     }
-    let mut source = FileSource::new(&rt);
-    let mut out = StdSink::out(&rt);
-    let mut err = StdSink::err(&rt);
-    ExitCode::from(run_asp(&rt, &words, &mut source, &mut out, &mut err))
+    ExitCode::from(run(&rt, &words).unwrap_or(NO_MEMORY))
 }

@@ -3,6 +3,7 @@ use Rattle.std.proofs.Common.{List, ℕ, Option, subst}
 use Rattle.asp_model.specs.Term.{Tree}
 use Rattle.asp_model.specs.Marked.{plain}
 use Rattle.asp_model.specs.Step.{ListsShape}
+use Rattle.command_line.specs.Settings.{SettingsShape}
 use Rattle.command_line.specs.Task.{Runs}
 use Rattle.outcome_laws.specs.Outcomes.{IsEndReport}
 use Rattle.outcome_laws.proofs.ReportLaws.{end_reports_agree}
@@ -12,8 +13,8 @@ use Rattle.asp_top.specs.Ended.{IsEnded, EndedRunsPrintTheSame}
 use Rattle.asp_top.proofs.StatusLemmas.{stuck_at}
 
 -- the report of a run that has ended
-end_report : (o : Outside) (file : List ℕ) (budget : ℕ) (depth : Option ℕ) (report : List ℕ) (status : ℕ) (a : Answers o (Runs file budget depth) report status) → IsEnded status → IsEndReport depth (plain a.0.program) a.0.lists report
-end_report o file budget depth report status a h = record {
+end_report : (o : Outside) (file : List ℕ) (settings : SettingsShape) (depth : Option ℕ) (report : List ℕ) (status : ℕ) (a : Answers o (Runs file settings depth) report status) → IsEnded status → IsEndReport depth (plain a.0.program) a.0.lists report
+end_report o file settings depth report status a h = record {
   counts = a.0.counts;
   read = a.2;
   fits = a.0.fits;
@@ -22,7 +23,7 @@ end_report o file budget depth report status a h = record {
 }
 
 pub ended_runs_print_the_same : EndedRunsPrintTheSame
-ended_runs_print_the_same o p file name budget limit depth report other status code a b ended stopped same lists =
+ended_runs_print_the_same o p file name settings others depth report other status code a b ended stopped same lists =
     let first : IsEndReport depth (plain b.0.program) b.0.lists report =
-    subst (λ (t : Tree). IsEndReport depth t b.0.lists report) same (subst (λ (l : ListsShape). IsEndReport depth (plain a.0.program) l report) lists (end_report o file budget depth report status a ended)) in
-    end_reports_agree depth (plain b.0.program) b.0.lists report other first (end_report p name limit depth other code b stopped)
+    subst (λ (t : Tree). IsEndReport depth t b.0.lists report) same (subst (λ (l : ListsShape). IsEndReport depth (plain a.0.program) l report) lists (end_report o file settings depth report status a ended)) in
+    end_reports_agree depth (plain b.0.program) b.0.lists report other first (end_report p name others depth other code b stopped)

@@ -32,35 +32,35 @@ same_file : (o : Outside) (name : List ℕ) (most : ℕ) (bytes other : List ℕ
 same_file o name most bytes other e f = subst (λ (c : Option (List ℕ)). IsContent c other) e f.told
 
 same_text : (o : Outside) (task : TaskShape) (bytes other : List ℕ) → IsToldText o task bytes → IsText o task other → other ≡ bytes
-same_text o (Runs file budget depth) bytes other e f = same_file o file MOST_PROGRAM_BYTES bytes other e.0 f
+same_text o (Runs file settings depth) bytes other e f = same_file o file MOST_PROGRAM_BYTES bytes other e.0 f
 same_text o (Checks file) bytes other e f = same_file o file MOST_PROGRAM_BYTES bytes other e.0 f
 same_text o (Replays file name depth) bytes other e f = same_file o file MOST_PROGRAM_BYTES bytes other e.0 f
-same_text o (Makes pairs budget) bytes other e f = f ∙ sym e
+same_text o (Makes pairs settings) bytes other e f = f ∙ sym e
 
 -- A program that a call may answer
 
 -- no file of the program is too long
 program_fits : (o : Outside) (task : TaskShape) (bytes name : List ℕ) → IsToldText o task bytes → NamesProgram task name → IsLong MOST_PROGRAM_BYTES (o.content name) → ⊥
-program_fits o (Runs file budget depth) bytes name e n l = too_long (o.content name) bytes MOST_PROGRAM_BYTES (ap o.content (sym n) ∙ e.0) e.1 l
+program_fits o (Runs file settings depth) bytes name e n l = too_long (o.content name) bytes MOST_PROGRAM_BYTES (ap o.content (sym n) ∙ e.0) e.1 l
 program_fits o (Checks file) bytes name e n l = too_long (o.content name) bytes MOST_PROGRAM_BYTES (ap o.content (sym n) ∙ e.0) e.1 l
 program_fits o (Replays file report depth) bytes name e n l = too_long (o.content name) bytes MOST_PROGRAM_BYTES (ap o.content (sym n) ∙ e.0) e.1 l
-program_fits o (Makes pairs budget) bytes name e n l = n
+program_fits o (Makes pairs settings) bytes name e n l = n
 
 report_fits : (o : Outside) (task : TaskShape) (program : Marked) (name : List ℕ) → MayReplay o task program → NamesReport task name → IsLong MOST_REPORT_BYTES (o.content name) → ⊥
-report_fits o (Runs file budget depth) program name m n l = n
+report_fits o (Runs file settings depth) program name m n l = n
 report_fits o (Checks file) program name m n l = n
 report_fits o (Replays file report depth) program name m n l = too_long (o.content name) m.0 MOST_REPORT_BYTES (ap o.content (sym n) ∙ m.1.0) m.1.1 l
-report_fits o (Makes pairs budget) program name m n l = n
+report_fits o (Makes pairs settings) program name m n l = n
 
 -- the bytes of a told report are read as the lists and counts that fit
 report_reads : (o : Outside) (task : TaskShape) (program : Marked) (name bytes : List ℕ) (line : ℕ) → MayReplay o task program → NamesReport task name → IsFile o name MOST_REPORT_BYTES bytes → read_report bytes ≡ BadLine line → ⊥
-report_reads o (Runs file budget depth) program name bytes line m n f e = n
+report_reads o (Runs file settings depth) program name bytes line m n f e = n
 report_reads o (Checks file) program name bytes line m n f e = n
 report_reads o (Replays file report depth) program name bytes line m n f e =
     let same : bytes ≡ m.0 = same_file o name MOST_REPORT_BYTES m.0 bytes (ap o.content (sym n) ∙ m.1.0) f in
     let no : Reads m.2.lists m.2.counts ≡ BadLine line = sym m.2.reads ∙ ap read_report (sym same) ∙ e in
     absurd cc
-report_reads o (Makes pairs budget) program name bytes line m n f e = n
+report_reads o (Makes pairs settings) program name bytes line m n f e = n
 
 one_reading : (program : Marked) (lists others : ListsShape) (counts more : CountsShape) → Reads lists counts ≡ Reads others more → Fits (plain program) lists counts → Fits (plain program) others more
 one_reading program lists others counts more e fits =
@@ -69,13 +69,13 @@ one_reading program lists others counts more e fits =
     subst (λ (x : ListsShape). Fits (plain program) x more) l (subst (λ (x : CountsShape). Fits (plain program) lists x) c fits)
 
 report_replays : (o : Outside) (task : TaskShape) (program : Marked) (name : List ℕ) (lists : ListsShape) (counts : CountsShape) → MayReplay o task program → NamesReport task name → HasReport o name lists counts → (Fits (plain program) lists counts → ⊥) → ⊥
-report_replays o (Runs file budget depth) program name lists counts m n r unfit = n
+report_replays o (Runs file settings depth) program name lists counts m n r unfit = n
 report_replays o (Checks file) program name lists counts m n r unfit = n
 report_replays o (Replays file report depth) program name lists counts m n r unfit =
     let same : r.bytes ≡ m.0 = same_file o name MOST_REPORT_BYTES m.0 r.bytes (ap o.content (sym n) ∙ m.1.0) r.file in
     let e : Reads m.2.lists m.2.counts ≡ Reads lists counts = sym m.2.reads ∙ ap read_report (sym same) ∙ r.reads in
     unfit (one_reading program m.2.lists lists m.2.counts counts e m.2.fits)
-report_replays o (Makes pairs budget) program name lists counts m n r unfit = n
+report_replays o (Makes pairs settings) program name lists counts m n r unfit = n
 
 module _ (c : Call) (m : MayAnswer c) where
   reads_as : (other : List ℕ) → IsText c.outside m.task other → IsProgramText other m.program
@@ -128,10 +128,10 @@ refuses_words (Unwritten text other a took told e) none = inr (inl e)
 
 -- the program that was answered for
 given_in : (o : Outside) (task : TaskShape) (text : List ℕ) (status : ℕ) → Answers o task text status → (program : Marked) × HasProgram o task program
-given_in o (Runs file budget depth) text status a = (a.0.program, a.0.given)
+given_in o (Runs file settings depth) text status a = (a.0.program, a.0.given)
 given_in o (Checks file) text status a = (a.0, a.1)
 given_in o (Replays file name depth) text status a = (a.0.program, a.0.given)
-given_in o (Makes pairs budget) text status a = (a.0.program, a.0.given)
+given_in o (Makes pairs settings) text status a = (a.0.program, a.0.given)
 
 -- a file whose bytes are too long, or no checked program, is none
 not_given : (o : Outside) (file bytes other : List ℕ) (program : Marked) → o.content file ≡ Some bytes → (MOST_PROGRAM_BYTES < length bytes) ⊎ ((program : Marked) → IsProgramText bytes program → IsChecked program → ⊥)
@@ -146,10 +146,10 @@ not_given o file bytes other program told (inr none) f is =
 
 module _ (c : Call) (a : AsksUnfit c) where
   never_has : (task : TaskShape) → NamesProgram task a.name → (program : Marked) → HasProgram c.outside task program → ⊥
-  never_has (Runs file budget depth) n program h = not_given c.outside file a.bytes h.bytes program (ap c.outside.content n ∙ a.told) a.unfit h.text h.is
+  never_has (Runs file settings depth) n program h = not_given c.outside file a.bytes h.bytes program (ap c.outside.content n ∙ a.told) a.unfit h.text h.is
   never_has (Checks file) n program h = not_given c.outside file a.bytes h.bytes program (ap c.outside.content n ∙ a.told) a.unfit h.text h.is
   never_has (Replays file report depth) n program h = not_given c.outside file a.bytes h.bytes program (ap c.outside.content n ∙ a.told) a.unfit h.text h.is
-  never_has (Makes pairs budget) n program h = n
+  never_has (Makes pairs settings) n program h = n
 
   unfit_end : (r : Refusal) (status : ℕ) → HoldsFor c.outside a.task r → status ≡ status_of_refusal r → RefusesProgram c status ⊎ CouldNot c status
   unfit_end Usage status h e = absurd h

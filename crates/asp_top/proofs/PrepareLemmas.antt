@@ -20,6 +20,7 @@ use Rattle.replay_one.specs.declared.replays.ReplayStop.TheVariants as replays
 use Rattle.replay_one.specs.Correct.{IsStop}
 use Rattle.replay_one.proofs.DifferenceLemmas.{replayable_by}
 use Rattle.load_gen.specs.Generated.{generated}
+use Rattle.command_line.specs.Settings.{SettingsShape}
 use Rattle.command_line.specs.Task.{TaskShape, Replays, Makes, task_of}
 use Rattle.asp_top.specs.declared.stop.Stop.{Stop}
 use Rattle.asp_top.specs.Seen.{Outside, IsLong, bytes_of, outside_between}
@@ -35,16 +36,16 @@ task_refused words o task (Err s) asked h = OfTask task asked h
 
 -- the generated program
 
-pub made_stops : (o : Outside) (pairs budget : ℕ) (bytes : List ℕ) → bytes ≡ generated pairs → (r : Refusal) → RefusedAt bytes r → HoldsFor o (Makes pairs budget) r
-made_stops o pairs budget bytes e Usage h = absurd h
-made_stops o pairs budget bytes e (Unread name) h = absurd h
-made_stops o pairs budget bytes e LongProgram h = absurd h
-made_stops o pairs budget bytes e (NoProgram fault) h = (bytes, e, h)
-made_stops o pairs budget bytes e (Unchecked fault) h = (bytes, e, h)
-made_stops o pairs budget bytes e LongReport h = absurd h
-made_stops o pairs budget bytes e (NoReport line) h = absurd h
-made_stops o pairs budget bytes e (Diverges activity) h = absurd h
-made_stops o pairs budget bytes e NoMemory h = tt
+pub made_stops : (o : Outside) (pairs : ℕ) (settings : SettingsShape) (bytes : List ℕ) → bytes ≡ generated pairs → (r : Refusal) → RefusedAt bytes r → HoldsFor o (Makes pairs settings) r
+made_stops o pairs settings bytes e Usage h = absurd h
+made_stops o pairs settings bytes e (Unread name) h = absurd h
+made_stops o pairs settings bytes e LongProgram h = absurd h
+made_stops o pairs settings bytes e (NoProgram fault) h = (bytes, e, h)
+made_stops o pairs settings bytes e (Unchecked fault) h = (bytes, e, h)
+made_stops o pairs settings bytes e LongReport h = absurd h
+made_stops o pairs settings bytes e (NoReport line) h = absurd h
+made_stops o pairs settings bytes e (Diverges activity) h = absurd h
+made_stops o pairs settings bytes e NoMemory h = tt
 
 -- reports
 

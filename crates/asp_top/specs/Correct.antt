@@ -41,15 +41,15 @@ IsWithin budget counts c = (total counts ≤ budget) × (verdict_of c ≡ Budget
 
 abbrev pub Answers : Outside → TaskShape → List ℕ → ℕ → Type 0
 -- `asp FILE`: the report, at the depth asked for, of the replay under the lists and counts that it reads as
-Answers o (Runs file budget depth) report status = (r : ReplayOf o (Runs file budget depth))
+Answers o (Runs file settings depth) report status = (r : ReplayOf o (Runs file settings depth))
     × Tells (report_at depth) (end_of r) report status × (read_report report ≡ Reads r.lists r.counts)
-    × IsWithin budget r.counts (end_of r)
+    × IsWithin settings.budget r.counts (end_of r)
 -- `asp FILE --replay REPORT`: the report of the replay under those that the file REPORT reads as
 Answers o (Replays file name depth) report status = (r : ReplayOf o (Replays file name depth))
     × Tells (report_at depth) (end_of r) report status × HasReport o name r.lists r.counts
 -- `asp --make N`: the summary of a replay of the generated program
-Answers o (Makes pairs budget) summary status = (r : ReplayOf o (Makes pairs budget))
-    × Tells (λ c. summary_of pairs (outcome_of c)) (end_of r) summary status × IsWithin budget r.counts (end_of r)
+Answers o (Makes pairs settings) summary status = (r : ReplayOf o (Makes pairs settings))
+    × Tells (λ c. summary_of pairs (outcome_of c)) (end_of r) summary status × IsWithin settings.budget r.counts (end_of r)
 -- `asp FILE --check`: the file is a checked program
 Answers o (Checks file) text status = (program : Marked)
     × HasProgram o (Checks file) program × (text ≡ with_feed (codes "checked")) × (status ≡ 0)

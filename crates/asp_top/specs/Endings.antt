@@ -32,10 +32,10 @@ pub record IsUncheckedText (bytes : List ℕ) (fault : CheckFault) : Type 0 wher
 
 -- the task names a file for its program
 abbrev pub NamesProgram : TaskShape → List ℕ → Type 0
-NamesProgram (Runs file budget depth) name = file ≡ name
+NamesProgram (Runs file settings depth) name = file ≡ name
 NamesProgram (Checks file) name = file ≡ name
 NamesProgram (Replays file report depth) name = file ≡ name
-NamesProgram (Makes pairs budget) name = ⊥
+NamesProgram (Makes pairs settings) name = ⊥
 
 -- the task names a report
 abbrev pub NamesReport : TaskShape → List ℕ → Type 0

@@ -22,10 +22,10 @@ IsTold o name most bytes = (o.content name ≡ Some bytes) × (length bytes ≤ 
 
 -- the text of the program is told, and short enough
 abbrev pub IsToldText : Outside → TaskShape → List ℕ → Type 0
-IsToldText o (Runs file budget depth) bytes = IsTold o file MOST_PROGRAM_BYTES bytes
+IsToldText o (Runs file settings depth) bytes = IsTold o file MOST_PROGRAM_BYTES bytes
 IsToldText o (Checks file) bytes = IsTold o file MOST_PROGRAM_BYTES bytes
 IsToldText o (Replays file name depth) bytes = IsTold o file MOST_PROGRAM_BYTES bytes
-IsToldText o (Makes pairs budget) bytes = bytes ≡ generated pairs
+IsToldText o (Makes pairs settings) bytes = bytes ≡ generated pairs
 
 -- a report in these bytes reads as lists and counts that fit the program
 pub record IsReportOf (program : Marked) (bytes : List ℕ) : Type 0 where

@@ -19,10 +19,10 @@ pub record IsFile (o : Outside) (name : List ℕ) (most : ℕ) (bytes : List ℕ
 
 -- the text of the program: the bytes of its file, or the generated text
 abbrev pub IsText : Outside → TaskShape → List ℕ → Type 0
-IsText o (Runs file budget depth) bytes = IsFile o file MOST_PROGRAM_BYTES bytes
+IsText o (Runs file settings depth) bytes = IsFile o file MOST_PROGRAM_BYTES bytes
 IsText o (Checks file) bytes = IsFile o file MOST_PROGRAM_BYTES bytes
 IsText o (Replays file report depth) bytes = IsFile o file MOST_PROGRAM_BYTES bytes
-IsText o (Makes pairs budget) bytes = bytes ≡ generated pairs
+IsText o (Makes pairs settings) bytes = bytes ≡ generated pairs
 
 -- the bytes are this program and no other, and it is checked
 pub record IsProgramOf (bytes : List ℕ) (program : Marked) : Type 0 where

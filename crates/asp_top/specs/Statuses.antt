@@ -39,24 +39,24 @@ OfAnswers = (o : Outside) (task : TaskShape) (text : List ℕ) (status : ℕ)
 
 -- what status 0 or 1 says of an answer
 abbrev pub HasEnded : OfAnswers
-HasEnded o (Runs file budget depth) text status a = IsEnd (end_of a.0)
+HasEnded o (Runs file settings depth) text status a = IsEnd (end_of a.0)
 HasEnded o (Checks file) text status a = status ≡ 0
 HasEnded o (Replays file name depth) text status a = IsEnd (end_of a.0)
-HasEnded o (Makes pairs budget) text status a = IsEnd (end_of a.0)
+HasEnded o (Makes pairs settings) text status a = IsEnd (end_of a.0)
 
 -- what status 4 says of it
 abbrev pub HasBlocked : OfAnswers
-HasBlocked o (Runs file budget depth) text status a = IsBlocked (end_of a.0)
+HasBlocked o (Runs file settings depth) text status a = IsBlocked (end_of a.0)
 HasBlocked o (Checks file) text status a = ⊥
 HasBlocked o (Replays file name depth) text status a = IsBlocked (end_of a.0)
-HasBlocked o (Makes pairs budget) text status a = IsBlocked (end_of a.0)
+HasBlocked o (Makes pairs settings) text status a = IsBlocked (end_of a.0)
 
 -- what status 5 says of it: a run has spent its budget
 abbrev pub HasSpent : OfAnswers
-HasSpent o (Runs file budget depth) text status a = GoesOn (end_of a.0) × (total a.0.counts ≡ budget)
+HasSpent o (Runs file settings depth) text status a = GoesOn (end_of a.0) × (total a.0.counts ≡ settings.budget)
 HasSpent o (Checks file) text status a = ⊥
 HasSpent o (Replays file name depth) text status a = GoesOn (end_of a.0)
-HasSpent o (Makes pairs budget) text status a = GoesOn (end_of a.0) × (total a.0.counts ≡ budget)
+HasSpent o (Makes pairs settings) text status a = GoesOn (end_of a.0) × (total a.0.counts ≡ settings.budget)
 
 -- a text was written of which this holds
 pub record Says (P : OfAnswers) (c : Call) (status : ℕ) : Type 0 where

@@ -9,7 +9,8 @@ ghost use Rattle.report_laws.specs.Depths.{report_to};
 ghost use Rattle.run_ends.specs.Ends.{IsEndOf};
 ghost use Rattle.run_report.specs.Summary.{summary_of};
 ghost use Rattle.command_line.specs.Task.{Runs, Checks, Replays, Makes, IsWithin};
-ghost use Rattle.command_line.specs.Shapes.{task_shape};
+ghost use Rattle.command_line.specs.Settings.{IsSettings};
+ghost use Rattle.command_line.specs.Shapes.{settings_shape, task_shape};
 ghost use Rattle.asp_top.specs.Seen.{Outside, outside};
 ghost use Rattle.asp_top.specs.Stops.{StopsTask, StopsWords};
 ghost use Rattle.asp_top.specs.Ready.{IsReady, IsReadyFor, text_in};
@@ -18,13 +19,15 @@ use crate::programs::{checked_in, program_of};
 use crate::reports::lists_of;
 use crate::stop::Stop;
 use asp_edge::Source;
-use asp_model::{MOST_PAIRS, MOST_REDUCTIONS, Outcome, Word, exit_number};
-use command_line::{Task, read_words};
+use asp_model::{MOST_PAIRS, Outcome, Word, exit_number};
+use command_line::{Settings, Task, read_words};
+use core_runs::run;
 use load_gen::make;
-use replay_one::{replay, run_plain};
+use replay_one::replay;
 use run_ends::RunEnd;
 use run_report::{render, summarize};
 use std::alloc::{AllocError, Global};
+use update_policy::Policies;
 
 /// A text that is ready to be written, piece by piece, and the status that goes with it.
 #[derive(Drop)]
@@ -85,18 +88,19 @@ fn checked_text(alloc: Global) -> Result<Prepared, AllocError>
 fn prepare_run<'a, S: Source>(
     alloc: Global,
     file: &'a str,
-    budget: u64,
+    settings: Settings,
     depth: Option<u32>,
     source: &mut S,
+    policies: Policies,
 ) -> Result<Prepared, Stop<'a>>
-    requires within { budget ≤ MOST_REDUCTIONS }
-    ensures answer { let task = Runs file.entry.now budget depth in
+    requires within { IsSettings (settings_shape settings) }
+    ensures answer { let task = Runs file.entry.now (settings_shape settings) depth in
         IfOk result (IsReady (outside S.told source) task) }
-    ensures stop { let task = Runs file.entry.now budget depth in
+    ensures stop { let task = Runs file.entry.now (settings_shape settings) depth in
         IfErr result (StopsTask (outside S.told source) task) }
 {
     let checked = program_of(alloc, file, source)?;
-    let end = run_plain(alloc, &checked, budget);
+    let end = run(alloc, &checked, settings.budget, settings.plan, policies);
     drop(checked);
     let end = end?;
     Ok(report_for(alloc, &end, depth)?)
@@ -141,16 +145,23 @@ fn prepare_replay<'a, S: Source>(
     }
 }
 
-fn prepare_made<'a>(alloc: Global, pairs: u64, budget: u64) -> Result<Prepared, Stop<'a>>
+fn prepare_made<'a>(
+    alloc: Global,
+    pairs: u64,
+    settings: Settings,
+    policies: Policies,
+) -> Result<Prepared, Stop<'a>>
     requires least { 1 ≤ pairs }
     requires most { pairs ≤ MOST_PAIRS }
-    requires within { budget ≤ MOST_REDUCTIONS }
-    ensures answer { (o : Outside) → IfOk result (IsReady o (Makes pairs budget)) }
-    ensures stop { (o : Outside) → IfErr result (StopsTask o (Makes pairs budget)) }
+    requires within { IsSettings (settings_shape settings) }
+    ensures answer { let task = Makes pairs (settings_shape settings) in
+        (o : Outside) → IfOk result (IsReady o task) }
+    ensures stop { let task = Makes pairs (settings_shape settings) in
+        (o : Outside) → IfErr result (StopsTask o task) }
 {
     let text = make(alloc, pairs)?;
     let program = checked_in(alloc, text.as_bytes())?;
-    let end = run_plain(alloc, &program, budget);
+    let end = run(alloc, &program, settings.budget, settings.plan, policies);
     drop(program);
     let end = end?;
     Ok(summary_for(alloc, pairs, &end.outcome)?)
@@ -160,6 +171,7 @@ fn prepare_task<'a, S: Source>(
     alloc: Global,
     task: Task<'a>,
     source: &mut S,
+    policies: Policies,
 ) -> Result<Prepared, Stop<'a>>
     requires within { IsWithin (task_shape task) }
     ensures answer { IfOk result (IsReady (outside S.told source) (task_shape task.entry)) }
@@ -168,16 +180,16 @@ fn prepare_task<'a, S: Source>(
     match task {
         Task::Run {
             file,
-            budget,
+            settings,
             depth,
-        } => prepare_run(alloc, file, budget, depth, source),
+        } => prepare_run(alloc, file, settings, depth, source, policies),
         Task::Check { file } => prepare_check(alloc, file, source),
         Task::Replay {
             file,
             report,
             depth,
         } => prepare_replay(alloc, file, report, depth, source),
-        Task::Make { pairs, budget } => prepare_made(alloc, pairs, budget),
+        Task::Make { pairs, settings } => prepare_made(alloc, pairs, settings, policies),
     }
 }
 
@@ -188,10 +200,11 @@ pub fn prepare<'a, S: Source>(
     alloc: Global,
     words: &'a [String],
     source: &mut S,
+    policies: Policies,
 ) -> Result<Prepared, Stop<'a>>
     ensures answer { IfOk result (IsReadyFor words.entry.now (outside S.told source)) }
     ensures stop { IfErr result (StopsWords words.entry.now (outside S.told source)) }
 {
     let task = read_words(alloc, words)?;
-    prepare_task(alloc, task, source)
+    prepare_task(alloc, task, source, policies)
 }

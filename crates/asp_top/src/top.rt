@@ -12,6 +12,7 @@ use crate::prepare::prepare;
 use crate::writing::{refuse, write_prepared};
 use asp_edge::{Sink, Source};
 use std::alloc::Global;
+use update_policy::Policies;
 
 // The call, of which the public one says what follows.
 fn run_words<S: Source, O: Sink, E: Sink>(
@@ -20,10 +21,11 @@ fn run_words<S: Source, O: Sink, E: Sink>(
     source: &mut S,
     out: &mut O,
     err: &mut E,
+    policies: Policies,
 ) -> u8
     ensures { Ends (saw S.told O.told E.told words.now source out err) result }
 {
-    match prepare(alloc, words, source) {
+    match prepare(alloc, words, source, policies) {
         Ok(prepared) => write_prepared(&prepared, out, err),
         Err(stop) => refuse(alloc, &stop, err),
     }
@@ -32,7 +34,10 @@ fn run_words<S: Source, O: Sink, E: Sink>(
 /// Runs the command that the words give, and writes its text, one write for each line. `asp FILE`
 /// runs the program in a file and writes its report, `asp FILE --replay REPORT` replays a report of
 /// it, `asp FILE --check` reads and checks it, and `asp --make N` runs the generated program of N
-/// pairs and writes a summary. With `--state D` a report shows the states of its activities. The words come first, then the program's file, the reading, the
+/// pairs and writes a summary. With `--state D` a report shows the states of its activities. A run
+/// asks the policy of each future's strategy, which `--strategy` and `--update` name, how the
+/// future's value is to come to the activities that it was passed to; the policies are dropped when
+/// the call ends, if not before. The words come first, then the program's file, the reading, the
 /// check, the report's file, the run or the replay, and the writing; the first refusal in this order
 /// ends the call. All lines are made before the first is written.
 pub fn run_asp<R: AllocGlobal, S: Source, O: Sink, E: Sink>(
@@ -41,6 +46,7 @@ pub fn run_asp<R: AllocGlobal, S: Source, O: Sink, E: Sink>(
     source: &mut S,
     out: &mut O,
     err: &mut E,
+    policies: Policies,
 ) -> u8
     // How the call ends, in full: the status, and what `out` and `err` took.
     ensures ends { Ends (saw S.told O.told E.told words.now source out err) result }
@@ -70,5 +76,5 @@ pub fn run_asp<R: AllocGlobal, S: Source, O: Sink, E: Sink>(
     ensures no_replay { RefusesReports (saw S.told O.told E.told words.now source out err) result }
     ensures complete { Completes (saw S.told O.told E.told words.now source out err) result }
 {
-    run_words(rt.alloc(), words, source, out, err)
+    run_words(rt.alloc(), words, source, out, err, policies)
 }

@@ -1,18 +1,15 @@
 //! Reads and writes that fail.
 
+use crate::commands::{owned, sink, source, status_of};
 use asp_edge::{MemorySink, MemorySource};
-use asp_model::Word;
-use asp_top::run_asp;
 use std::alloc::{AllocError, Global};
 use std::process::Abort;
 use std::test::Fail;
+use update_policy::{ForwardPolicy, LazyPolicy, MessagePolicy, Policies, PolicyBox};
 
 const PROGRAM: &str = "print(1 + 2)";
 
 const REPORT: &str = "asp report 1\nverdict end\nactivity 0 4 done\nsenders\n> 3\n";
-
-/// The bytes for which a sink has room.
-const ROOM: usize = 65_536;
 
 /// A command, where `a.asp` is the program and `r` its report. Which reads and writes fail, by number
 /// from 1, and how many bytes a failing write keeps; the status, and what is written.
@@ -118,28 +115,7 @@ static CASES: [Case; 12] = [
     },
 ];
 
-fn source(alloc: Global, reads: &[u64]) -> Result<MemorySource, AllocError> {
-    let mut files = Vec::new(alloc);
-    for (name, text) in [("a.asp", PROGRAM), ("r", REPORT)] {
-        let name = Word::new(String::from_str(alloc, name)?);
-        files.push((name, text.as_bytes().to_vec(alloc)?))?;
-    }
-    Ok(MemorySource::new(alloc, files, reads.to_vec(alloc)?))
-}
-
-fn owned(alloc: Global, words: &[&str]) -> Result<Vec<String>, AllocError> {
-    let mut owned = Vec::new(alloc);
-    for word in words {
-        owned.push(String::from_str(alloc, word)?)?;
-    }
-    Ok(owned)
-}
-
-fn sink(alloc: Global, fails: &[u64], keep: usize) -> Result<MemorySink, AllocError> {
-    MemorySink::new(alloc, fails.to_vec(alloc)?, keep, ROOM)
-}
-
-// The one call of the command.
+// Its status and what it writes.
 fn answers<R: Abort + AllocGlobal>(
     rt: &R,
     case: &Case,
@@ -147,8 +123,9 @@ fn answers<R: Abort + AllocGlobal>(
     source: &mut MemorySource,
     out: &mut MemorySink,
     err: &mut MemorySink,
+    policies: Policies,
 ) {
-    let status = run_asp(rt, words, source, out, err);
+    let status = status_of(rt, words, source, out, err, policies);
     assert_eq!(rt; status, case.status);
     assert_eq!(rt; out.bytes(), case.out.as_bytes());
     assert_eq!(rt; err.bytes(), case.err.as_bytes());
@@ -156,10 +133,19 @@ fn answers<R: Abort + AllocGlobal>(
 
 fn tries<R: Abort + AllocGlobal>(rt: &R, alloc: Global, case: &Case) -> Result<(), AllocError> {
     let words = owned(alloc, case.words)?;
-    let mut source = source(alloc, case.reads)?;
+    let files = [("a.asp", PROGRAM), ("r", REPORT)];
+    let mut source = source(alloc, &files, case.reads)?;
     let mut out = sink(alloc, case.outs, case.keep)?;
     let mut err = sink(alloc, case.errs, case.keep)?;
-    answers(rt, case, &words, &mut source, &mut out, &mut err);
+    let lazy: PolicyBox = Box::new(alloc, LazyPolicy)?;
+    let forward: PolicyBox = Box::new(alloc, ForwardPolicy)?;
+    let message: PolicyBox = Box::new(alloc, MessagePolicy)?;
+    let policies = Policies {
+        lazy,
+        forward,
+        message,
+    };
+    answers(rt, case, &words, &mut source, &mut out, &mut err, policies);
     Ok(())
 }
 

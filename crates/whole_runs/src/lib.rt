@@ -1,9 +1,13 @@
-//! Whole runs of which no command shows what is tested: reads and writes that fail, printed
-//! programs, and replays under lists that no report has.
+//! Whole runs of which no command shows what is tested: reads and writes that fail, policies that
+//! count how often they are asked, printed programs, and replays under lists that no report has.
 #![tactic(auto)]
 
 #[cfg(test)]
+mod commands;
+#[cfg(test)]
 mod faults_of_the_outside;
+#[cfg(test)]
+mod policies_asked;
 #[cfg(test)]
 mod printing;
 #[cfg(test)]

@@ -1,4 +1,4 @@
-use Rattle.asp_model.specs.Shapes.{outcome_shape}
+use Rattle.command_line.specs.Shapes.{settings_shape}
 use Rattle.asp_top.specs.Seen.{outside_between}
 use Rattle.asp_top.specs.Ready.{text_in}
 use Rattle.asp_top.proofs.OutcomeLemmas.{run_is}
@@ -7,8 +7,7 @@ use Rattle.asp_top.proofs.prepare.prepare_run.Goals as goal
 pub returns-clause-answer : goal.returns-clause-answer
 returns-clause-answer g c =
     let o = outside_between g.S.Source.told c.args.source.now c.program_of.new.source in
-    let ran = c.in_ok-end.ensures in
+    let ran = c.in_ok-end.ensures.end in
     let told = c.in_ok-report_for.ensures in
     let p = c.in_ok-report_for.field-0 in
-    run_is o c.args.file.now c.args.budget c.args.depth c.in_ok-checked.checked (outcome_shape c.in_ok-end.end.outcome) (text_in p) p.status c.in_ok-checked.ensures.program
-    (record { few = c.requires.within; run = ran.outcome; within = ran.within; spent = ran.spent }) (told.text _ ran.end) told.status
+    run_is c.in_ok-checked.checked (settings_shape c.args.settings) c.in_ok-end.end ran o c.args.file.now c.args.depth (text_in p) p.status c.in_ok-checked.ensures.program c.requires.within (told.text _ ran.end) told.status
