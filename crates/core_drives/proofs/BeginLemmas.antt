@@ -1,0 +1,27 @@
+-- A core with no lease that is out, and what steps make of it.
+use Rattle.std.proofs.Common.{◌≡◌, [], ℕ, List, None, sym, subst}
+use Rattle.std.specs.BTreeMap.{is_at}
+use Rattle.std.specs.Map.{lookup}
+use Rattle.std.specs.Ordering.{nat_cmp}
+use Rattle.asp_model.specs.Term.{Tree}
+use Rattle.journals.specs.Journals.{begun}
+use Rattle.core_state.specs.Cores.{history_begun}
+use Rattle.asp_core.specs.Cores.{IsRun, code_of, history_of}
+use Rattle.core_drives.specs.declared.drivers.Driver.{Driver}
+use Rattle.core_drives.specs.Driven.{IsDriven}
+use Rattle.core_drives.specs.Driving.{IsDriving, IsHeldAt}
+use Rattle.core_drives.specs.Steps.{Lead, StepShape}
+use Rattle.core_drives.proofs.EndLemmas.{driven_so, lead_program}
+
+module _ {P : Type 0} (program : Tree) (budget : ℕ) where
+  pub driving_begun : (x : Driver P) → IsRun x.core (begun program budget) → x.leases.entries ≡ [] → IsDriving x
+  driving_begun x is none = record {
+    run = begun program budget;
+    is = is;
+    held = λ j. subst (λ es. IsHeldAt (history_of x.core) (code_of x.core) j None (lookup (is_at (nat_cmp j)) es)) (sym none) tt;
+  }
+
+  pub driven_by : (steps : List StepShape) (x y : Driver P) → history_of x.core ≡ history_begun program budget → Lead steps (history_of x.core) (history_of y.core) → IsDriving y → IsDriven program budget steps y.core
+  driven_by steps x y begins leads d =
+      let from = subst (λ h. Lead steps h (history_of y.core)) begins leads in
+      driven_so program budget steps y.core d.run from d.is (lead_program steps (history_begun program budget) (history_of y.core) from)

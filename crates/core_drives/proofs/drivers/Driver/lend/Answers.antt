@@ -1,0 +1,50 @@
+use Rattle.std.proofs.Common.{◌≡◌, sym, subst, arith}
+use Rattle.lease_laws.specs.Entries.{with_lease}
+use Rattle.asp_core.specs.Cores.{history_of}
+use Rattle.core_drives.specs.Driving.{IsDriving}
+use Rattle.core_drives.specs.Steps.{IsStepped, Lends}
+use Rattle.core_drives.proofs.DriveLemmas.{beyond, lend_entered, lend_left, lent_held}
+use Rattle.core_drives.proofs.drivers.Driver.lend.Goals as goal
+
+pub lend-requires-clause-kept : goal.lend-requires-clause-kept
+lend-requires-clause-kept g c = λ fresh. (c.requires.driving.run, c.requires.driving.is)
+
+pub returns-then-number-activities-clause-stepped : goal.returns-then-number-activities-clause-stepped
+returns-then-number-activities-clause-stepped g c =
+    let x = c.args.self.now in
+    let d = c.requires.driving in
+    lend_left x.core d.run c.args.number d.is (beyond x.core d.run c.args.number d.is (λ within. omega arith))
+
+pub returns-in_default-clause-driving : goal.returns-in_default-clause-driving
+returns-in_default-clause-driving g c =
+    let x = c.args.self.now in
+    let d = c.requires.driving in
+    let lent = c.in_default.ensures.lent d.run d.is in
+    subst (λ q. IsDriving (record x { core = q })) (sym lent.1) d
+
+pub returns-in_default-clause-stepped : goal.returns-in_default-clause-stepped
+returns-in_default-clause-stepped g c =
+    let x = c.args.self.now in
+    let d = c.requires.driving in
+    let lent = c.in_default.ensures.lent d.run d.is in
+    subst (λ q. IsStepped (Lends c.args.number) (history_of x.core) (history_of q)) (sym lent.1) (lend_left x.core d.run c.args.number d.is lent.0)
+
+pub returns-in_ok-insert-clause-driving : goal.returns-in_ok-insert-clause-driving
+returns-in_ok-insert-clause-driving g c =
+    let x = c.args.self.now in
+    let y = c.lend.new.self in
+    let d = c.requires.driving in
+    let k = c.args.number in
+    let lent = c.in-Some.ensures.lent d.run d.is in
+    record {
+      run = with_lease d.run k;
+      is = lent.2;
+      held = lent_held x.core y d.run d.is c.lend.ensures.code x.leases c.insert.new.self d.held k c.in-Some.lease lent c.in_ok-insert.ensures.updates.0;
+    }
+
+pub returns-in_ok-insert-clause-stepped : goal.returns-in_ok-insert-clause-stepped
+returns-in_ok-insert-clause-stepped g c =
+    let x = c.args.self.now in
+    let d = c.requires.driving in
+    let lent = c.in-Some.ensures.lent d.run d.is in
+    lend_entered x.core c.lend.new.self d.run c.args.number d.is lent.0 lent.1

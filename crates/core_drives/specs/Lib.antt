@@ -1,0 +1,4 @@
+-- in reading order
+pub mod Steps
+pub mod Driving
+pub mod Driven
