@@ -1,19 +1,18 @@
 -- Numbers of futures, when one more is met.
 use Rattle.std.proofs.Common.{◌≡◌, ◌+◌, ◌<◌, ℕ, zero, suc, Bool, true, false, cond, List, [], ◌∷◌, ◌++◌, Option, Some, None, length, map, get_or, refl, sym, ap, subst, ◌∙◌, T, arith}
 use Rattle.std.proofs.lemmas.List.{length-map}
-use Rattle.std.specs.Map.{lookup}
-use Rattle.std.specs.BTreeMap.{is_at}
-use Rattle.std.specs.declared.cmp.Ordering.{Ordering}
+use Rattle.std.specs.Prelude.{◌||◌}
+use Rattle.std.specs.List.{list_any, position_from}
 use Rattle.asp_model.specs.declared.name.FutureName.{FutureName}
-use Rattle.asp_model.specs.contracts.name.FutureNameOrd.TheImpl as ordering
+use Rattle.asp_model.specs.contracts.name.FutureNamePartialEq.TheImpl as equality
+use Rattle.asp_model.specs.FutureOrder.{eq_shape}
 use Rattle.asp_model.specs.Names.{FutureShape, same_future}
 use Rattle.asp_model.specs.Shapes.{future_shape}
 use Rattle.chase_laws.proofs.FutureLemmas.{future_itself, futures_tied}
 use Rattle.future_table.specs.Numbers.{named, number_from, number_of}
-use Rattle.future_table.specs.Numbering.{AreNumbers}
 
-abbrev pub name_order : FutureName → FutureName → Ordering
-name_order = ordering.ghosts.cmp
+abbrev pub same_one : FutureName → FutureName → Bool
+same_one = equality.ghosts.eq
 
 -- Numbers
 
@@ -91,35 +90,28 @@ named_map [] i f lt e = absurd (omega (arith, lt))
 named_map (g ∷ gs) zero f lt e = ap future_shape e
 named_map (g ∷ gs) (suc i) f lt e = named_map gs i f (omega (arith, lt)) e
 
--- The map
+-- The set of names
 
-same_flip : (f g : FutureShape) → same_future f g ≡ same_future g f
-same_flip f g = by (same_future f g) refl (same_future g f) refl
+-- the set finds what the list has
+pub number_position : (k : ℕ) (f : FutureName) (fs : List FutureName) → number_from k (future_shape f) (map future_shape fs) ≡ position_from (same_one f) k fs
+number_position k f [] = refl
+number_position k f (g ∷ gs) =
+    here_cond (same_future (future_shape f) (future_shape g)) (number_from (suc k) (future_shape f) (map future_shape gs))
+    ∙ (λ i. cond (sym (eq_shape f g) i) (Some k) ((ap (λ n. number_from n (future_shape f) (map future_shape gs)) one_more ∙ number_position (k + 1) f gs) i))
   where
-    apart : (x y : FutureShape) → same_future x y ≡ true → same_future y x ≡ false → ⊥
-    apart x y a b = subst T (sym (ap (λ z. same_future z x) (sym (futures_tied x y a)) ∙ future_itself x) ∙ b) tt
+    one_more : suc k ≡ k + 1
+    one_more = omega arith
 
-    by : (a : Bool) → same_future f g ≡ a → (b : Bool) → same_future g f ≡ b → a ≡ b
-    by true d true e = refl
-    by true d false e = absurd (apart f g d e)
-    by false d true e = absurd (apart g f e d)
-    by false d false e = refl
+    here_cond : (b : Bool) (o : Option ℕ) → here_or b k o ≡ cond b (Some k) o
+    here_cond true o = refl
+    here_cond false o = refl
 
--- the map finds what the list has, with one more future
-pub numbers_more : (before after : List (FutureName × ℕ)) (fs : List FutureName) (g : FutureName) → AreNumbers before fs → number_of (future_shape g) (map future_shape fs) ≡ None
-    → ((f : FutureName) → lookup (is_at (name_order f)) after ≡ cond (same_future (future_shape g) (future_shape f)) (Some (length fs)) (lookup (is_at (name_order f)) before)) → AreNumbers after (fs ++ g ∷ [])
-numbers_more before after fs g are none updates f =
-    let shapes = map future_shape fs in
-    let gs = future_shape g in
-    let fs' = future_shape f in
-    updates f ∙ ap (λ b. cond b (Some (length fs)) (lookup (is_at (name_order f)) before)) (same_flip gs fs')
-    ∙ (λ i. cond (same_future fs' gs) (Some (sizes i)) (are f i))
-    ∙ sym (number_more 0 fs' gs shapes none)
-    ∙ ap (number_of fs') (sym (map_more fs))
+-- a future without a number is not in the set
+pub absent_none : (k : ℕ) (f : FutureName) (fs : List FutureName) → number_from k (future_shape f) (map future_shape fs) ≡ None → list_any (same_one f) fs ≡ false
+absent_none k f [] none = refl
+absent_none k f (g ∷ gs) none = by (same_future (future_shape f) (future_shape g)) refl none (absent_none (suc k) f gs)
   where
-    sizes : length fs ≡ 0 + length (map future_shape fs)
-    sizes = omega (arith, length-map fs future_shape)
-
-    map_more : (xs : List FutureName) → map future_shape (xs ++ g ∷ []) ≡ map future_shape xs ++ future_shape g ∷ []
-    map_more [] = refl
-    map_more (x ∷ xs) = ap (λ ys. future_shape x ∷ ys) (map_more xs)
+    by : (b : Bool) → same_future (future_shape f) (future_shape g) ≡ b → here_or b k (number_from (suc k) (future_shape f) (map future_shape gs)) ≡ None
+        → (number_from (suc k) (future_shape f) (map future_shape gs) ≡ None → list_any (same_one f) gs ≡ false) → (same_one f g || list_any (same_one f) gs) ≡ false
+    by true d e next = absurd cc
+    by false d e next = λ i. (eq_shape f g ∙ d) i || next e i

@@ -1,6 +1,5 @@
 pub mod Values
 pub mod Numbers
-pub mod Numbering
 pub mod Links
 pub mod Components
 pub mod Walks

@@ -5,28 +5,24 @@ ghost use Rattle.asp_model.specs.Shapes.{future_shape};
 ghost use Rattle.future_table.specs.Numbers.{named, number_of};
 
 use asp_model::FutureName;
+use indexmap::IndexSet;
 use std::alloc::{AllocError, Global};
-use std::collections::BTreeMap;
 use std::marker::Model;
 
 /// Futures under numbers, seen as the list of their names.
 #[derive(Drop)]
 pub struct Numbers {
     alloc: Global,
-    numbers: BTreeMap<FutureName, usize>,
-    names: Vec<FutureName>,
+    names: IndexSet<FutureName>,
 }
 
 impl Model for Numbers {
     ghost use Rattle.std.specs.Prelude.{List};
     ghost use Rattle.asp_model.specs.declared.name.FutureName.{FutureName};
-    ghost use Rattle.future_table.specs.Numbering.{AreNumbers};
 
     ghost Value = { List FutureName };
 
-    ghost view = { λ n. n.names.items };
-
-    ghost invariant = { λ n. AreNumbers n.numbers.entries n.names.items };
+    ghost view = { λ n. n.names.keys };
 }
 
 impl Numbers {
@@ -36,8 +32,7 @@ impl Numbers {
     {
         Numbers {
             alloc,
-            numbers: BTreeMap::new(alloc),
-            names: Vec::new(alloc),
+            names: IndexSet::new(alloc),
         }
     }
 
@@ -46,14 +41,14 @@ impl Numbers {
         requires within { number < length self.now }
         ensures name { future_shape result.now ≡ named (map future_shape self.now) number }
     {
-        &self.names[number]
+        &self.names.as_slice()[number]
     }
 
     /// The number of a future, if it was met.
     pub fn of(&self, name: &FutureName) -> Option<usize>
         ensures number { result ≡ number_of (future_shape name.now) (map future_shape self.now) }
     {
-        self.numbers.get(name).copied()
+        self.names.get_index_of(name)
     }
 
     /// Gives a future the next number.
@@ -62,11 +57,8 @@ impl Numbers {
         ensures added { OnOk result (self.new ≡ self.old ++ name.now ∷ []) }
         ensures err { OnErr result (self.new ≡ self.old) }
     {
-        let key = name.copy(self.alloc)?;
         let name = name.copy(self.alloc)?;
-        self.names.reserve(1)?;
-        self.numbers.insert(key, self.names.len())?;
-        self.names.push(name)?;
+        self.names.insert(name)?;
         Ok(())
     }
 }
