@@ -1,3 +1,4 @@
+pub mod BoxLemmas
 pub mod NoteLemmas
 pub mod OldestLemmas
 pub mod PendingLemmas

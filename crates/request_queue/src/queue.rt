@@ -18,7 +18,7 @@ ghost use Rattle.std.specs.Prelude.{
 };
 ghost use Rattle.std.specs.BTreeMap.{is_at};
 ghost use Rattle.std.specs.List.Sorted.{IsStrictlySortedBy};
-ghost use Rattle.std.specs.Map.{keys_of};
+ghost use Rattle.std.specs.Map.{keys_of, lookup, remove_entry};
 ghost use Rattle.std.specs.Option.{option_map};
 ghost use Rattle.std.specs.Ordering.{nat_cmp};
 ghost use Rattle.serve_rules.specs.Labels.{class_labels, label_text};
@@ -37,8 +37,10 @@ use std::marker::Model;
 /// many requests have arrived.
 #[derive(Drop)]
 pub struct Queue {
+    alloc: Global,
     arrived: u64,
-    pending: BTreeMap<u64, Request>,
+    /// In boxes, so that a node of the map is small.
+    pending: BTreeMap<u64, Box<Request>>,
     notes: Notes,
 }
 
@@ -61,6 +63,7 @@ impl Queue {
         ensures arrived { result.arrived ≡ 0 }
     {
         Queue {
+            alloc,
             arrived: 0,
             pending: BTreeMap::new(alloc),
             notes: Notes::new(alloc),
@@ -84,6 +87,7 @@ impl Queue {
         if self.arrived == u64::MAX {
             return Err(AllocError);
         }
+        let request = Box::new(self.alloc, request)?;
         self.notes.note(&request.label, self.arrived)?;
         match self.pending.insert(self.arrived, request) {
             Ok(_) => {
@@ -130,16 +134,17 @@ impl Queue {
     {
         let request = take_out(&mut self.pending, number).unwrap();
         self.notes.forget(&request.label, number);
-        request
+        Box::into_inner(request)
     }
 }
 
 // Takes out the request of a number. A map that is empty keeps no memory.
-fn take_out(pending: &mut BTreeMap<u64, Request>, number: u64) -> Option<Request>
-    ensures value { result ≡ request_at number pending.old.entries }
-    ensures updates { (k : ℕ) → request_at k pending.new.entries
-        ≡ cond (is_at (nat_cmp number) k) None (request_at k pending.old.entries) }
-    ensures entries { pending.new.entries ≡ but number pending.old.entries }
+fn take_out(pending: &mut BTreeMap<u64, Box<Request>>, number: u64) -> Option<Box<Request>>
+    ensures value { result ≡ lookup (is_at (nat_cmp number)) pending.old.entries }
+    ensures updates { (k : ℕ) → lookup (is_at (nat_cmp k)) pending.new.entries
+        ≡ cond (is_at (nat_cmp number) k) None (lookup (is_at (nat_cmp k)) pending.old.entries) }
+    ensures entries { let old = pending.old.entries in
+        pending.new.entries ≡ remove_entry (is_at (nat_cmp number)) old }
     ensures ordered { IsStrictlySortedBy nat_cmp (keys_of pending.new.entries) }
 {
     let request = pending.remove(&number);

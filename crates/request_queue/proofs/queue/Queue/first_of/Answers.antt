@@ -1,11 +1,12 @@
 use Rattle.std.proofs.Common.{◌∙◌, ap}
 use Rattle.std.specs.Option.{option_map}
 use Rattle.request_queue.specs.Pending.{QueueView, oldest, waiting}
+use Rattle.request_queue.specs.Kept.{unboxed}
 use Rattle.request_queue.proofs.QueueLemmas.{oldest_is}
 use Rattle.request_queue.proofs.queue.Queue.first_of.Goals as goal
 
 pub returns : goal.returns
 returns c = record {
-  oldest = oldest_is c.args.labels.now c.self.inside.notes c.self.inside.pending.entries c.oldest.result c.self.invariant.ordered c.self.invariant.noted c.oldest.ensures.oldest
+  oldest = oldest_is c.args.labels.now c.self.inside.notes (unboxed c.self.inside.pending.entries) c.oldest.result c.self.invariant.ordered c.self.invariant.noted c.oldest.ensures.oldest
       ∙ ap (λ (q : QueueView). option_map (λ x. x.0) (oldest c.args.labels.now (waiting q))) c.self.view_is;
 }
