@@ -21,8 +21,6 @@ use Rattle.asp_model.specs.Chase.{Values, lead, lead_of}
 use Rattle.asp_model.specs.Shapes.{future_shape}
 use Rattle.coded_cells.specs.Shapes.{parcel_shape}
 use Rattle.future_table.specs.Values.{AreOfCode, StayOfCode, values_of}
-use Rattle.std.specs.Arc.{arc_value}
-use Rattle.program_code.specs.declared.code.Node.{Node}
 
 abbrev pub name_order : FutureName → FutureName → Ordering
 name_order = ordering.ghosts.cmp

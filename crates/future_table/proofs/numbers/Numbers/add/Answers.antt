@@ -1,9 +1,8 @@
-use Rattle.std.proofs.Common.{◌≡◌, ◌∙◌, ◌∷◌, ◌++◌, [], None, false, map, sym, ap}
+use Rattle.std.proofs.Common.{◌≡◌, ◌∙◌, ◌∷◌, ◌++◌, [], None, map, ap}
 use Rattle.std.specs.Prelude.{if◌then◌else◌}
-use Rattle.std.specs.List.{list_any}
 use Rattle.asp_model.specs.Shapes.{future_shape}
 use Rattle.future_table.specs.Numbers.{number_of}
-use Rattle.future_table.proofs.NumberLemmas.{absent_none, same_one}
+use Rattle.future_table.proofs.NumberLemmas.{absent_none}
 use Rattle.future_table.proofs.numbers.Numbers.add.Goals as goal
 
 pub returns-clause-added : goal.returns-clause-added

@@ -1,13 +1,12 @@
-use Rattle.std.proofs.Common.{◌≡◌, ◌∙◌, ◌+◌, ◌++◌, ◌∷◌, ℕ, List, Some, [], Bool, true, false, cond, sym, ap, subst}
+use Rattle.std.proofs.Common.{◌≡◌, ◌∙◌, ◌+◌, ◌++◌, ◌∷◌, ℕ, Some, [], Bool, true, false, cond, sym, ap, subst}
 use Rattle.std.specs.declared.alloc.Global.{Global}
 use Rattle.std.specs.declared.boxed.Box.{Box}
 use Rattle.std.specs.List.Sorted.{IsStrictlySortedBy}
-use Rattle.std.specs.Map.{keys_of}
 use Rattle.std.specs.Ordering.{eq_by_cmp, nat_cmp}
 use Rattle.asp_model.specs.declared.word.Label.{Label}
 use Rattle.request_queue.specs.declared.request.Request.{Request}
 use Rattle.request_queue.specs.declared.notes.Notes.{Notes}
-use Rattle.request_queue.specs.Pending.{QueueView, request_at}
+use Rattle.request_queue.specs.Pending.{QueueView}
 use Rattle.request_queue.specs.Notes.{is_noted, is_that}
 use Rattle.request_queue.specs.Kept.{unboxed, waits}
 use Rattle.request_queue.proofs.BoxLemmas.{inserted_unboxed, keys_unboxed, updated_unboxed}
