@@ -12,7 +12,7 @@ pub data SeatShape (X R : Type 0) : Type 0 where
 
 module _ {X R : Type 0} where
   abbrev pub seat_shape : Seat X R → SeatShape X R
-  seat_shape (seat.In x) = In x
+  seat_shape (seat.In x) = In x.value
   seat_shape (seat.Out came) = Out came.items
 
   abbrev pub is_in : Option (SeatShape X R) → Bool

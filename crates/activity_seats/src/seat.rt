@@ -3,6 +3,6 @@
 /// An activity that is here, or what has come for it since somebody took it.
 #[derive(Drop)]
 pub enum Seat<X, R> {
-    In(X),
+    In(Box<X>),
     Out(Vec<R>),
 }

@@ -79,12 +79,12 @@ impl<X: Drop, R: Drop> Seats<X, R> {
     }
 
     /// An activity that is here, under the next number.
-    pub fn add(&mut self, name: ActivityName, here: X) -> Result<u32, AllocError>
+    pub fn add(&mut self, name: ActivityName, here: Box<X>) -> Result<u32, AllocError>
         requires kept { AreSeats self.old }
         requires new { IsFound (names_in self.old) name None }
         ensures number { IfOk result (λ k. k ≡ length (seats_in self.old)) }
         ensures names { OnOk result (names_in self.new ≡ names_in self.old ++ name ∷ []) }
-        ensures seats { OnOk result (seats_in self.new ≡ seats_in self.old ++ In here ∷ []) }
+        ensures seats { OnOk result (seats_in self.new ≡ seats_in self.old ++ In here.value ∷ []) }
         ensures kept { OnOk result (AreSeats self.new) }
     {
         let number = self.seats.len();
@@ -113,7 +113,7 @@ impl<X: Drop, R: Drop> Seats<X, R> {
         ensures here { IsTaken (seat_at self.now number) (option_map (λ x. x.now) result) }
     {
         match &self.seats[number as usize] {
-            Seat::In(activity) => Some(activity),
+            Seat::In(activity) => Some(activity.as_ref()),
             Seat::Out(_) => None,
         }
     }
@@ -139,10 +139,11 @@ impl<X: Drop, R: Drop> Seats<X, R> {
     }
 
     /// Takes an activity that is here, and leaves an empty box for what comes. It takes no memory.
-    pub fn take(&mut self, number: u32) -> Option<X>
+    pub fn take(&mut self, number: u32) -> Option<Box<X>>
         requires kept { AreSeats self.old }
         requires known { IsKnown number self.old }
-        ensures taken { IsTaken (seat_at self.old number) result }
+        ensures taken { let taken = option_map (λ b. b.value) result in
+            IsTaken (seat_at self.old number) taken }
         ensures left { IfSome result (λ x. seats_in self.new
             ≡ with_seat (seats_in self.old) number (Out [])) }
         ensures none { result ≡ None → seats_in self.new ≡ seats_in self.old }
@@ -162,13 +163,13 @@ impl<X: Drop, R: Drop> Seats<X, R> {
     }
 
     /// Brings an activity back that was taken, and answers what came for it. It takes no memory.
-    pub fn put(&mut self, number: u32, here: X) -> Vec<R>
+    pub fn put(&mut self, number: u32, here: Box<X>) -> Vec<R>
         requires kept { AreSeats self.old }
         requires known { IsKnown number self.old }
         requires out { is_in (seat_at self.old number) ≡ false }
         ensures came { IsOut (seat_at self.old number) result.items }
         ensures names { names_in self.new ≡ names_in self.old }
-        ensures seats { seats_in self.new ≡ with_seat (seats_in self.old) number (In here) }
+        ensures seats { seats_in self.new ≡ with_seat (seats_in self.old) number (In here.value) }
         ensures kept { AreSeats self.new }
     {
         match self.swap(number, Seat::In(here)) {

@@ -22,7 +22,7 @@ IsMade (Some made) n x = (made.0 ≡ n) × Stands x made.1 []
 -- what an effect gives to others
 abbrev pub IsGiven : Effect → Given → Type 0
 IsGiven e given.Nothing = (e.sent ≡ None) × (e.made ≡ None) × (e.filled ≡ None)
-IsGiven e (given.Made n x) = (e.sent ≡ None) × IsMade e.made n x × (e.filled ≡ None)
+IsGiven e (given.Made n x) = (e.sent ≡ None) × IsMade e.made n x.value × (e.filled ≡ None)
 IsGiven e (given.Sent n r) =
     (e.sent ≡ Some (n, request_shape r)) × (e.made ≡ None) × (e.filled ≡ None)
 IsGiven e (given.Filled f p) =
@@ -31,7 +31,7 @@ IsGiven e (given.Filled f p) =
 -- what is given is of this code
 abbrev pub IsGivenOf : List Node → Given → Type 0
 IsGivenOf k given.Nothing = Unit {0}
-IsGivenOf k (given.Made n x) = code_of x ≡ k
+IsGivenOf k (given.Made n x) = code_of x.value ≡ k
 IsGivenOf k (given.Sent n r) = arc_value r.arguments.code ≡ k
 IsGivenOf k (given.Filled f p) = arc_value p.code ≡ k
 

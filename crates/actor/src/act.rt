@@ -29,7 +29,7 @@ use std::alloc::{AllocError, Global};
 pub enum Given {
     Nothing,
     /// A new activity.
-    Made(ActivityName, Actor),
+    Made(ActivityName, Box<Actor>),
     /// A request, to the activity of this name.
     Sent(ActivityName, Request),
     /// The value of a future.

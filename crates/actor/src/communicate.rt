@@ -92,7 +92,8 @@ impl Actor {
         let number = next_number(self.creations)?;
         let created = name.created(alloc, number)?;
         let parcel = self.activity.pack(alloc, &[object])?;
-        let made = Actor::made(alloc, &parcel, service)?;
+        let begun = Actor::made(alloc, &parcel, service)?;
+        let made = Box::new(alloc, begun)?;
         self.activity.created(alloc, created.copy(alloc)?)?;
         self.creations = number;
         Ok(Given::Made(created, made))

@@ -16,7 +16,7 @@ pub overflow_add-self : goal.overflow_add-self
 overflow_add-self g c = omega (arith, c.swap.ensures.away, away_fits c.args.self.now c.requires.kept)
 
 pub returns-in-In-clause-kept : goal.returns-in-In-clause-kept
-returns-in-In-clause-kept g c = kept_set c.args.self.now (record c.swap.new.self { away = c.swap.new.self.away + 1 }) c.args.number (In c.in-In.here) (Out c.new.result.items) c.swap.ensures.names c.swap.ensures.seats c.in-In.ensures.was (omega (arith, c.swap.ensures.away)) c.requires.kept
+returns-in-In-clause-kept g c = kept_set c.args.self.now (record c.swap.new.self { away = c.swap.new.self.away + 1 }) c.args.number (In c.in-In.here.value) (Out c.new.result.items) c.swap.ensures.names c.swap.ensures.seats c.in-In.ensures.was (omega (arith, c.swap.ensures.away)) c.requires.kept
 
 pub returns-in-Out-clause-kept : goal.returns-in-Out-clause-kept
 returns-in-Out-clause-kept g c = kept_same c.args.self.now c.swap-in-Out.new.self (c.swap-in-Out.ensures.names ∙ c.swap.ensures.names)
