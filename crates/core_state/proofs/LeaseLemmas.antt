@@ -35,7 +35,7 @@ used_on n t m g advance.Serves used within sum = tt
 
 module _ (h : HistoryShape) (code : List Node) (x y : Lease) (l : IsLease h code x) (fresh : x.spent ≡ false) (m : ℕ) where
   pub runs_on : y.number ≡ x.number → y.burst ≡ x.burst → y.grant ≡ x.grant → y.taken ≡ min (x.taken + m) (2 ^ 64 - 1)
-      → ((a : Activity) (rs : List RequestShape) → Stands x.actor a rs → IsRunBy y.actor a rs (x.grant - x.taken) m) → code_of y.actor ≡ code_of x.actor
+      → ((a : Activity) (rs : List RequestShape) → Stands x.actor.value a rs → IsRunBy y.actor.value a rs (x.grant - x.taken) m) → code_of y.actor.value ≡ code_of x.actor.value
       → y.spent ≡ false → HasStopped h code y
   runs_on number burst grant taken runs coded still =
       let done = l.done fresh in

@@ -191,7 +191,7 @@ module _ (h : HistoryShape) (code : List Node) (x y : CoreState) (s : RunShape) 
     }
 
   -- and the lease is one of it
-  pub is_lease : (l : Lease) → l.number ≡ k → l.burst ≡ x.bursts + 1 → l.grant ≡ min MOST_GRANTED x.left → l.taken ≡ 0 → l.spent ≡ false → l.actor ≡ here.0 → IsNewLease now code k l
+  pub is_lease : (l : Lease) → l.number ≡ k → l.burst ≡ x.bursts + 1 → l.grant ≡ min MOST_GRANTED x.left → l.taken ≡ 0 → l.spent ≡ false → l.actor.value ≡ here.0 → IsNewLease now code k l
   is_lease l number burst grant taken fresh actor =
       let count : bursts_in now.entries ≡ bursts_in h.entries + 1 = (bursts_are_counted h.entries).0 (Lent k) in
       let first : suc (bursts_in h.entries) ≡ l.burst = omega (arith, burst, core.bursts) in

@@ -19,8 +19,8 @@ use Rattle.core_state.specs.declared.lease.Lease.{Lease}
 pub record HasDone (code : List Node) (x : Lease) (a : model.Activity) (rs : List RequestShape) : Type 0 where
   pub end : model.Activity
   pub run : LocalRun x.taken a end
-  pub stands : Stands x.actor end rs
-  pub coded : code_of x.actor ≡ code
+  pub stands : Stands x.actor.value end rs
+  pub coded : code_of x.actor.value ≡ code
 
 -- it is out by this history, and has taken no more than its grant; spent, it has nothing else
 pub record IsLease (h : HistoryShape) (code : List Node) (x : Lease) : Type 0 where

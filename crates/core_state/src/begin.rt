@@ -1,9 +1,11 @@
 //! How a core begins.
 
-ghost use Rattle.std.specs.Prelude.{◌≡◌, [], IfOk};
+ghost use Rattle.std.specs.Prelude.{◌≡◌, ◌∷◌, [], IfOk};
 ghost use Rattle.std.specs.Arc.{arc_value};
+ghost use Rattle.asp_model.specs.Names.{main_name};
 ghost use Rattle.asp_model.specs.Term.{locations};
 ghost use Rattle.journals.specs.Journals.{begun};
+ghost use Rattle.activity_seats.specs.Seats.{AreSeats, In, names_in, seats_in};
 ghost use Rattle.core_state.specs.Cores.{IsCore, history_begun, program_of};
 
 use crate::come_back::rank_of;
@@ -15,8 +17,21 @@ use asp_model::ActivityName;
 use core_journal::Journal;
 use future_table::FutureTable;
 use program_code::Code;
+use request_queue::Request;
 use std::alloc::{AllocError, Global};
 use std::sync::Arc;
+
+/// The main activity alone.
+fn main_seat(alloc: Global, actor: Actor) -> Result<Seats<Actor, Request>, AllocError>
+    ensures names { IfOk result (λ s. names_in s ≡ main_name ∷ []) }
+    ensures seats { IfOk result (λ s. seats_in s ≡ In actor ∷ []) }
+    ensures kept { IfOk result AreSeats }
+{
+    let mut seats = Seats::new(alloc);
+    let first = Box::new(alloc, actor)?;
+    seats.add(ActivityName::main(alloc)?, first)?;
+    Ok(seats)
+}
 
 impl CoreState {
     /// The main activity alone, with the program of this code as its term, and the whole budget.
@@ -32,8 +47,7 @@ impl CoreState {
         let mut ranks = Ranks::new(alloc);
         let rank = rank_of(alloc, &actor, &futures)?;
         ranks.rank(0, rank)?;
-        let mut seats = Seats::new(alloc);
-        seats.add(ActivityName::main(alloc)?, actor)?;
+        let seats = main_seat(alloc, actor)?;
         let mut journal = Journal::new(alloc);
         journal.reserve(1)?;
         Ok(CoreState {

@@ -91,12 +91,12 @@ fn receive_all(alloc: Global, actor: &mut Actor, came: Vec<Request>) -> Result<(
 impl CoreState {
     /// Takes the activity out of a lease that comes back. It has received what came meanwhile, and
     /// has settled. There is room in the journal for what follows.
-    pub fn take_back(&mut self, lease: Lease) -> Result<Actor, AllocError>
+    pub fn take_back(&mut self, lease: Lease) -> Result<Box<Actor>, AllocError>
         requires lease { IsSomeLease self.old lease }
         ensures returning { (h : HistoryShape) (code : List NodeShape) (s : RunShape) →
             IsCore h code self.old s → (l : IsLease h code lease) →
             let back = IsReturning h code self.new s lease.number l.name lease.grant lease.taken in
-            IfOk result back }
+            IfOk result (λ b. back b.value) }
         ensures entries { entries_in self.new.journal ≡ entries_in self.old.journal }
     {
         if lease.spent {
@@ -105,8 +105,9 @@ impl CoreState {
         self.journal.reserve(self.seats.len() + 3)?;
         let mut actor = lease.actor;
         let came = self.seats.collect(lease.number);
-        receive_all(self.alloc, &mut actor, came)?;
-        actor.settle()?;
+        let here = actor.as_mut();
+        receive_all(self.alloc, here, came)?;
+        here.settle()?;
         Ok(actor)
     }
 
@@ -116,16 +117,16 @@ impl CoreState {
         number: u32,
         grant: u64,
         taken: u64,
-        actor: Actor,
+        actor: Box<Actor>,
     ) -> Result<(), AllocError>
-        requires returning { IsSomeReturning self.old number grant taken actor }
+        requires returning { IsSomeReturning self.old number grant taken actor.value }
         ensures committed { (h : HistoryShape) (code : List NodeShape) (s : RunShape) (n : Name) →
-            (r : IsReturning h code self.old s number n grant taken actor) →
+            (r : IsReturning h code self.old s number n grant taken actor.value) →
             OnOk result (IsRunCommitted h code s number n grant taken r.end self.new) }
         ensures entries { OnErr result
             (entries_in self.new.journal ≡ entries_in self.old.journal) }
     {
-        let rank = rank_of(self.alloc, &actor, &self.futures)?;
+        let rank = rank_of(self.alloc, actor.as_ref(), &self.futures)?;
         self.ranks.rank(number, rank)?;
         let _came = self.seats.put(number, actor);
         self.left = self.left.saturating_add(grant.saturating_sub(taken));

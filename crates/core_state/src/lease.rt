@@ -17,7 +17,7 @@ pub struct Lease {
     pub grant: u64,
     pub taken: u64,
     pub spent: bool,
-    pub actor: Actor,
+    pub actor: Box<Actor>,
 }
 
 impl Lease {
@@ -51,7 +51,7 @@ impl Lease {
             return Err(AllocError);
         }
         let left = self.grant.saturating_sub(self.taken);
-        match self.actor.run(self.alloc, left) {
+        match self.actor.as_mut().run(self.alloc, left) {
             Ok(taken) => {
                 self.taken = self.taken.saturating_add(taken);
                 Ok(())

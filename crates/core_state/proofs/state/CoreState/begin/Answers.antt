@@ -1,8 +1,7 @@
-use Rattle.std.proofs.Common.{◌≡◌, ◌∙◌, ◌++◌, ◌∷◌, [], arith, ap, refl, subst}
+use Rattle.std.proofs.Common.{◌≡◌, ◌∙◌, [], arith, ap, refl, subst}
 use Rattle.std.specs.Arc.{arc_value}
 use Rattle.asp_model.specs.Names.{main_name}
 use Rattle.activity_ranks.specs.Ranks.{IsRanked, Rests, rank_shape}
-use Rattle.activity_seats.specs.Seats.{In}
 use Rattle.rank_laws.specs.Ranked.{rank_of}
 use Rattle.core_state.specs.declared.state.CoreState.{CoreState}
 use Rattle.core_state.specs.Cores.{program_of}
@@ -21,7 +20,7 @@ pub returns : goal.returns
 returns c =
     let k = arc_value c.args.code in
     let program = program_of k in
-    let x : CoreState = record { alloc = c.args.alloc; seats = c.add.new.self; ranks = c.rank.new.self; futures = c.new-futures.result; journal = c.reserve.new.self; left = c.args.budget; bursts = 0 } in
+    let x : CoreState = record { alloc = c.args.alloc; seats = c.in_ok-seats.seats; ranks = c.rank.new.self; futures = c.new-futures.result; journal = c.reserve.new.self; left = c.args.budget; bursts = 0 } in
     let stands = c.in_ok-settle.ensures.stands (first_of program) [] c.in_ok-actor.ensures.stands in
     let told : rank_shape c.in_ok-rank.rank ≡ rank_of [] [] main_name (first_of program) =
     c.in_ok-rank.ensures.rank (first_of program) [] main_name stands ∙ ap (λ values. rank_of values [] main_name (first_of program)) c.new-futures.ensures.values in
@@ -29,9 +28,7 @@ returns c =
       begun =
           begins k x program c.args.budget c.settle.new.self c.requires.bare (omega (arith, c.ranges.budget.fits))
           (c.reserve.ensures.entries ∙ c.new-journal.ensures.entries)
-          c.in_ok-add.ensures.kept
-          (c.in_ok-add.ensures.names ∙ (λ i. c.new-seats.ensures.names i ++ c.in_ok-main.ensures.name i ∷ []))
-          (c.in_ok-add.ensures.seats ∙ ap (λ seats. seats ++ In c.settle.new.self ∷ []) c.new-seats.ensures.seats)
+          c.in_ok-seats.ensures.kept c.in_ok-seats.ensures.names c.in_ok-seats.ensures.seats
           c.new-futures.ensures.values refl refl c.in_ok-reserve.ensures.room stands (c.settle.ensures.code ∙ c.in_ok-actor.ensures.code)
           (subst (IsRanked c.rank.new.self 0) told c.in_ok-rank-2.ensures.here)
           (λ j apart. c.in_ok-rank-2.ensures.others j Rests apart (c.new-ranks.ensures.rest j));

@@ -1,4 +1,5 @@
 use Rattle.std.proofs.Common.{◌≡◌, ◌∙◌, true, false, refl, sym, ap, ◌-◌, ◌+◌, arith}
+use Rattle.std.specs.Option.{option_map}
 use Rattle.rank_laws.specs.Runs.{is_ready}
 use Rattle.laws.proofs.NameLemmas.{no_some, some_is}
 use Rattle.core_state.specs.declared.lease.Lease.{Lease}
@@ -18,7 +19,7 @@ pub returns-in_default : goal.returns-in_default
 returns-in_default c = record {
   lent = λ h code s core.
       let ready : is_ready s c.args.number ≡ true = going h code c.args.self.now s core c.args.number (some_more c.args.self.now.left c.if-self-eq0.false) (sym c.goes.ensures.goes ∙ c.if-not-goes.false) in
-      no_some (sym c.in_default.is ∙ taken_here h code c.args.self.now s core c.args.number ready c.take.result c.take.ensures.taken);
+      no_some (ap (option_map (λ b. b.value)) (sym c.in_default.is) ∙ taken_here h code c.args.self.now s core c.args.number ready _ c.take.ensures.taken);
 }
 
 pub note-requires : goal.note-requires
@@ -39,7 +40,7 @@ returns c = record {
       let ready : is_ready s k ≡ true = going h code x s core k (some_more x.left c.if-self-eq0.false) (sym c.goes.ensures.goes ∙ c.if-not-goes.false) in
       let y : CoreState = record { alloc = x.alloc; seats = c.take.new.self; ranks = c.leave.new.self; futures = x.futures; journal = c.note.new.self; left = x.left - c.min-grant.result; bursts = x.bursts + 1 } in
       let l : Lease = record { alloc = x.alloc; number = k; burst = x.bursts + 1; grant = c.min-grant.result; taken = 0; spent = false; actor = c.in-Some.actor } in
-      let actor = some_is (sym c.in-Some.is ∙ taken_here h code x s core k ready c.take.result c.take.ensures.taken) in (
+      let actor = some_is (ap (option_map (λ b. b.value)) (sym c.in-Some.is) ∙ taken_here h code x s core k ready _ c.take.ensures.taken) in (
         ready,
         lends h code x y s core k ready (record {
           seats = c.in-Some.ensures.left;

@@ -2,7 +2,7 @@ use Rattle.std.proofs.Common.{◌≡◌, ◌∙◌, ◌++◌, ap, arith, map, re
 use Rattle.std.specs.Arc.{arc_value}
 use Rattle.std.specs.List.{AllByRecursion}
 use Rattle.activity_seats.specs.Seats.{IsOut, is_in}
-use Rattle.actor.specs.Actors.{Stands}
+use Rattle.actor.specs.Actors.{Stands, code_of}
 use Rattle.asp_model.specs.Configuration.{requests_of}
 use Rattle.request_queue.specs.declared.request.Request.{Request}
 use Rattle.request_queue.specs.Requests.{request_shape}
@@ -24,7 +24,7 @@ receive_all-requires c =
     let came : c.collect-came.result.items ≡ b.0 = subst (λ seat. IsOut seat c.collect-came.result.items) b.1 c.collect-came.ensures.came in
     record {
       code =
-          subst (λ code. AllByRecursion (λ (r : Request). arc_value r.arguments.code ≡ code) c.collect-came.result.items) (sym (r.4.done c.if-lease.false).coded)
+          subst (λ code. AllByRecursion (λ (r : Request). arc_value r.arguments.code ≡ code) c.collect-came.result.items) (sym (ap code_of c.as_mut-here.ensures.value ∙ (r.4.done c.if-lease.false).coded))
           (subst (AllByRecursion (λ (q : Request). arc_value q.arguments.code ≡ r.1)) (sym came) b.2.coded);
     }
 
@@ -36,6 +36,7 @@ returns-clause-returning c = λ h code s core l.
     let came : c.collect-came.result.items ≡ b.0 = subst (λ seat. IsOut seat c.collect-came.result.items) b.1 c.collect-came.ensures.came in
     let done = l.done c.if-lease.false in
     let rs = requests_of l.run.configuration l.name in
+    let here = subst (λ a. Stands a done.end rs) (sym c.as_mut-here.ensures.value) done.stands in
     taken_back h code x s core c.args.lease l c.if-lease.false y (record {
       seats = c.collect-came.ensures.seats;
       names = c.collect-came.ensures.names;
@@ -47,5 +48,5 @@ returns-clause-returning c = λ h code s core l.
       left = refl;
       bursts = refl;
     }) c.settle.new.self
-    (subst (λ qs. Stands c.settle.new.self done.end (rs ++ map request_shape qs)) came (c.in_ok-settle.ensures.stands done.end (rs ++ map request_shape c.collect-came.result.items) (c.in_ok-receive_all.ensures.stands done.end rs done.stands)))
-    (c.settle.ensures.code ∙ c.receive_all.ensures.code ∙ done.coded)
+    (subst (λ qs. Stands c.settle.new.self done.end (rs ++ map request_shape qs)) came (c.in_ok-settle.ensures.stands done.end (rs ++ map request_shape c.collect-came.result.items) (c.in_ok-receive_all.ensures.stands done.end rs here)))
+    (c.settle.ensures.code ∙ c.receive_all.ensures.code ∙ ap code_of c.as_mut-here.ensures.value ∙ done.coded)
