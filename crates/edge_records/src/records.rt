@@ -2,7 +2,6 @@
 
 ghost use Rattle.std.specs.Prelude.{
   ◌≡◌,
-  ◌≢◌,
   ◌<◌,
   ◌++◌,
   ◌∷◌,
@@ -16,7 +15,6 @@ ghost use Rattle.std.specs.Prelude.{
   not,
   position,
   slice_get,
-  true,
   false,
 };
 ghost use Rattle.std.specs.Option.{option_copied};
@@ -32,9 +30,7 @@ ghost use Rattle.journals.specs.Edges.{
   has_received,
   has_value as hands_on,
   home_of,
-  is_chosen as is_sent,
   is_home,
-  is_no_edge,
   no_holders,
   same_edge,
 };
@@ -66,7 +62,6 @@ ghost use Rattle.edge_records.specs.Records.{
   HasRoom,
   answers_of,
   names_of,
-  owes as is_owed,
   shape_of,
 };
 
@@ -169,20 +164,6 @@ impl Records {
         }
     }
 
-    /// Whether the answer for an edge sends the value now.
-    pub fn is_chosen(&self, answer: Choice, edge: Edge) -> bool
-        requires records { AreRecords self.now }
-        requires known { IsKnownEdge (names_of self.now) edge }
-        ensures chosen { let x = edge_of (names_of self.now) edge in
-            result ≡ is_sent (choice_shape answer) (shape_of self.now) x }
-    {
-        match answer {
-            Choice::FromHome => true,
-            Choice::Forward => self.has_value(edge),
-            Choice::Leave => false,
-        }
-    }
-
     /// The edge of a place.
     pub fn edge(&self, place: usize) -> Edge
         requires within { place < length self.now.edges.keys }
@@ -201,26 +182,6 @@ impl Records {
         self.delivered.is_done(place)
     }
 
-    /// Whether the edge of a place is owed.
-    pub fn owes(&self, place: usize) -> bool
-        requires records { AreRecords self.now }
-        ensures owed { result ≡ is_owed self.now place }
-    {
-        place < self.edges.len() && self.owes_kept(place)
-    }
-
-    // Whether the edge of a place is owed, where there is one.
-    fn owes_kept(&self, place: usize) -> bool
-        requires records { AreRecords self.now }
-        requires within { place < length self.now.edges.keys }
-        ensures owed { result ≡ is_owed self.now place }
-    {
-        let edge = self.edges.as_slice()[place];
-        !self.was_delivered(place)
-            && self.is_filled(edge.future)
-            && self.is_chosen(self.answers[place], edge)
-    }
-
     /// Whether an edge is kept.
     pub fn has_edge(&self, edge: Edge) -> bool
         requires records { AreRecords self.now }
@@ -229,17 +190,6 @@ impl Records {
             result ≡ has_edge x (shape_of self.now).edges }
     {
         self.edges.contains(&edge)
-    }
-
-    /// Whether an edge is kept, or has equal ends.
-    pub fn is_no_edge(&self, edge: Edge) -> bool
-        requires records { AreRecords self.now }
-        requires known { IsKnownEdge (names_of self.now) edge }
-        ensures edge { let x = edge_of (names_of self.now) edge in
-            result ≡ is_no_edge x (shape_of self.now).edges }
-        ensures apart { result ≡ false → edge.from ≢ edge.to }
-    {
-        edge.from == edge.to || self.has_edge(edge)
     }
 
     /// The number of the home of a future.

@@ -21,7 +21,7 @@ ghost use Rattle.std.specs.Prelude.{
 };
 ghost use Rattle.std.specs.Option.{option_copied};
 ghost use Rattle.asp_model.specs.Shapes.{delivery_shape, future_shape};
-ghost use Rattle.journals.specs.Edges.{Begins, Passes, after_event, home_of, is_no_edge, no_holders};
+ghost use Rattle.journals.specs.Edges.{Begins, Passes, after_event, home_of, is_no_edge as is_none, no_holders};
 ghost use Rattle.edge_records.specs.Changes.{once_filled, once_received};
 ghost use Rattle.marked_places.specs.Firsts.{IsFirstFrom};
 ghost use Rattle.future_update.specs.Holders.{
@@ -43,6 +43,7 @@ use crate::settling::{settle_filled, settle_received};
 use asp_model::{ActivityName, Delivery, FutureName};
 use edge_records::{EdgeNames, Passing, Records};
 use marked_places::Lanes;
+use owed_edges::is_no_edge;
 use std::alloc::{AllocError, Global};
 use std::collections::BTreeSet;
 use std::marker::Model;
@@ -125,12 +126,12 @@ impl Holders {
         ensures activities { self.new.activities ≡ self.old.activities }
         ensures asked { P.asked policy.new ≤ P.asked policy.old + 1 }
         ensures nobody { let edge = edge_between (future_shape future.now) from.now to.now in
-            is_no_edge edge self.old.holders.edges ≡ true → policy.new ≡ policy.old }
+            is_none edge self.old.holders.edges ≡ true → policy.new ≡ policy.old }
         ensures err { OnErr result (self.new ≡ self.old) }
         ensures unasked { OnErr result (policy.new ≡ policy.old) }
     {
         let edge = self.records.enter_edge(future, from, to)?;
-        if self.records.is_no_edge(edge) {
+        if is_no_edge(&self.records, edge) {
             return Ok(());
         }
         make_room(&mut self.records, &mut self.passings, &mut self.owed, edge)?;

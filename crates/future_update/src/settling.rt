@@ -5,10 +5,11 @@ ghost use Rattle.std.specs.BTreeMap.Range.{IsLeBy};
 ghost use Rattle.marked_places.specs.Lanes.{AreLanes, KeepsLanes, count};
 ghost use Rattle.marked_places.specs.Marks.{MarkedIf, is_marked};
 ghost use Rattle.future_update.specs.Passings.{ArePassings, IsLeft, IsLeftOf, IsSound, passing_cmp};
-ghost use Rattle.edge_records.specs.Records.{AreRecords, owes};
+ghost use Rattle.edge_records.specs.Records.{AreRecords, owes as is_owed};
 
 use edge_records::{Future, Passing, Receipt, Records};
 use marked_places::Lanes;
+use owed_edges::owes;
 use std::collections::BTreeSet;
 
 /// Marks what is owed between two passings, where all else that is owed is marked.
@@ -27,7 +28,7 @@ pub fn settle(
     requires sound { IsSound records.now owed.old.marks }
     requires left { IsLeft records.now owed.old.marks low high }
     ensures lanes { KeepsLanes owed.old owed.new }
-    ensures marked { (p : ℕ) → is_marked owed.new.marks p ≡ owes records.now p }
+    ensures marked { (p : ℕ) → is_marked owed.new.marks p ≡ is_owed records.now p }
 {
     for passing in passings.range(low..=high) {
         settle_at(records, owed, passing.place as usize);
@@ -40,9 +41,9 @@ pub fn settle_at(records: &Records, owed: &mut Lanes, place: usize)
     requires lanes { AreLanes owed.old }
     requires room { length records.now.edges.keys ≤ count owed.old }
     ensures lanes { KeepsLanes owed.old owed.new }
-    ensures marked { MarkedIf (owes records.now place) place owed.old.marks owed.new.marks }
+    ensures marked { MarkedIf (is_owed records.now place) place owed.old.marks owed.new.marks }
 {
-    if records.owes(place) {
+    if owes(records, place) {
         owed.set(place, true);
     }
 }
@@ -61,7 +62,7 @@ pub fn settle_filled(
     requires sound { IsSound records.now owed.old.marks }
     requires left { IsLeftOf records.now owed.old.marks (λ e. e.future ≡ future) }
     ensures lanes { KeepsLanes owed.old owed.new }
-    ensures marked { (p : ℕ) → is_marked owed.new.marks p ≡ owes records.now p }
+    ensures marked { (p : ℕ) → is_marked owed.new.marks p ≡ is_owed records.now p }
 {
     let low = Passing {
         by: future.by,
@@ -93,7 +94,7 @@ pub fn settle_received(
     requires left { IsLeftOf records.now owed.old.marks
         (λ e. (e.future ≡ receipt.future) × (e.from ≡ receipt.by)) }
     ensures lanes { KeepsLanes owed.old owed.new }
-    ensures marked { (p : ℕ) → is_marked owed.new.marks p ≡ owes records.now p }
+    ensures marked { (p : ℕ) → is_marked owed.new.marks p ≡ is_owed records.now p }
 {
     let low = Passing {
         by: receipt.future.by,
