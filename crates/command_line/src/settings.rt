@@ -31,7 +31,7 @@ const DEFAULT_WORKERS: u32 = 4;
 const DEFAULT_BUDGET: u64 = 1_000_000;
 
 /// How a program is run.
-#[derive(Debug, Drop)]
+#[derive(Drop)]
 pub struct Settings {
     /// How many workers race.
     pub workers: u32,

@@ -22,7 +22,7 @@ use asp_model::{MOST_DEPTH, MOST_PAIRS};
 use std::alloc::Global;
 
 /// What the words ask for.
-#[derive(Debug, Drop)]
+#[derive(Drop)]
 pub enum Task<'a> {
     /// Run the program in a file.
     Run {

@@ -8,19 +8,19 @@ use crate::UpdatePolicy;
 use asp_model::{ActivityName, Choice, FutureName};
 
 /// Leaves each value until it is needed.
-#[derive(Clone, Copy, Debug, Drop)]
+#[derive(Clone, Copy, Drop)]
 pub struct LazyPolicy;
 
 /// Has each value handed on along the way that its future went.
-#[derive(Clone, Copy, Debug, Drop)]
+#[derive(Clone, Copy, Drop)]
 pub struct ForwardPolicy;
 
 /// Has each value sent from its home.
-#[derive(Clone, Copy, Debug, Drop)]
+#[derive(Clone, Copy, Drop)]
 pub struct MessagePolicy;
 
 /// Has so many values sent from their homes, and leaves those that come after.
-#[derive(Debug, Drop)]
+#[derive(Drop)]
 pub struct BudgetedPolicy {
     pub left: u64,
 }

@@ -8,7 +8,7 @@ use asp_model::Label;
 use std::alloc::Global;
 
 /// Which strategy futures have: that of their request's label, where that is listed.
-#[derive(Debug, Drop)]
+#[derive(Drop)]
 pub struct Plan {
     /// Of all other futures.
     pub strategy: Strategy,

@@ -8,7 +8,7 @@ use crate::{PolicyBox, UpdatePolicy};
 use asp_model::{ActivityName, Choice, FutureName};
 
 /// Which of the policies is asked.
-#[derive(Clone, Copy, Debug, PartialEq, Eq)]
+#[derive(Clone, Copy, PartialEq, Eq)]
 pub enum Strategy {
     Lazy,
     Forward,
