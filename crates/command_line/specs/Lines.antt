@@ -20,6 +20,9 @@ one = codes "one.asp"
 abbrev pub with_budget : ℕ → SettingsShape
 with_budget n = record usual { budget = n }
 
+abbrev pub with_workers : ℕ → SettingsShape
+with_workers n = record usual { workers = n }
+
 abbrev pub with_plan : Strategy → List (Text × Strategy) → SettingsShape
 with_plan s xs = record usual { plan = record { strategy = s; by_label = xs } }
 
@@ -29,6 +32,8 @@ pub record AcceptedLines : Type 0 where
   pub budget : Asks (one ∷ codes "--budget=5" ∷ []) (Runs one (with_budget 5) None)
   pub budget_before : Asks (codes "--budget" ∷ codes "10000000" ∷ one ∷ []) (Runs one (with_budget 10000000) None)
   pub leading_zeros : Asks (one ∷ codes "--budget=00000001" ∷ []) (Runs one (with_budget 1) None)
+  pub workers : Asks (one ∷ codes "--workers=16" ∷ []) (Runs one (with_workers 16) None)
+  pub workers_before : Asks (codes "--workers" ∷ codes "01" ∷ one ∷ []) (Runs one (with_workers 1) None)
   pub check : Asks (codes "--check" ∷ one ∷ []) (Checks one)
   pub replay : Asks (one ∷ codes "--replay=one.report" ∷ []) (Replays one (codes "one.report") None)
   pub replay_hyphen : Asks (one ∷ codes "--replay" ∷ codes "-" ∷ []) (Replays one (codes "-") None)
@@ -47,8 +52,8 @@ pub record AcceptedLines : Type 0 where
       (Runs one (with_plan Forward ((codes "go", Message) ∷ (codes "_a1", Lazy) ∷ [])) None)
   pub sixteen : Asks (one ∷ codes "--update=a=lazy,b=lazy,c=lazy,d=lazy,e=lazy,f=lazy,g=lazy,h=lazy,i=lazy,j=lazy,k=lazy,l=lazy,m=lazy,n=lazy,o=lazy,p=lazy" ∷ [])
       (Runs one (with_plan Lazy (map (λ b. (b ∷ [], Lazy)) (codes "abcdefghijklmnop"))) None)
-  pub make_all : Asks (codes "--make=3" ∷ codes "--strategy=message" ∷ codes "--update=go=lazy" ∷ codes "--budget=7" ∷ [])
-      (Makes 3 (record (with_plan Message ((codes "go", Lazy) ∷ [])) { budget = 7 }))
+  pub make_all : Asks (codes "--make=3" ∷ codes "--strategy=message" ∷ codes "--update=go=lazy" ∷ codes "--budget=7" ∷ codes "--workers=2" ∷ [])
+      (Makes 3 (record (with_plan Message ((codes "go", Lazy) ∷ [])) { workers = 2; budget = 7 }))
   pub end_of_options : Asks (codes "--" ∷ codes "--check" ∷ []) (Runs (codes "--check") usual None)
   pub one_hyphen : Asks (codes "-" ∷ []) (Runs (codes "-") usual None)
   pub empty_word : Asks (codes "" ∷ []) (Runs (codes "") usual None)
@@ -103,8 +108,8 @@ pub record RefusedNumbers : Type 0 where
   pub state_word : IsRefused (one ∷ codes "--state=all" ∷ [])
   pub no_workers : IsRefused (one ∷ codes "--workers=0" ∷ [])
   pub workers_above : IsRefused (one ∷ codes "--workers=17" ∷ [])
-  -- until workers race
-  pub workers : IsRefused (one ∷ codes "--workers=4" ∷ [])
+  pub workers_sign : IsRefused (one ∷ codes "--workers=-4" ∷ [])
+  pub workers_nothing : IsRefused (one ∷ codes "--workers=" ∷ [])
   pub no_pairs : IsRefused (codes "--make=0" ∷ [])
   pub pairs_above : IsRefused (codes "--make=2001" ∷ [])
 
@@ -112,6 +117,7 @@ pub record RefusedNumbers : Type 0 where
 pub record RefusedWords : Type 0 where
   pub two_files : IsRefused (one ∷ one ∷ [])
   pub twice : IsRefused (one ∷ codes "--budget=5" ∷ codes "--budget=5" ∷ [])
+  pub workers_twice : IsRefused (one ∷ codes "--workers=4" ∷ codes "--workers=4" ∷ [])
   pub state_twice : IsRefused (one ∷ codes "--state=1" ∷ codes "--state=1" ∷ [])
   pub flag_twice : IsRefused (one ∷ codes "--check" ∷ codes "--check" ∷ [])
   pub flag_with_value : IsRefused (one ∷ codes "--check=" ∷ [])

@@ -34,10 +34,9 @@ usual = record { workers = 4; budget = 1000000; plan = record { strategy = Lazy;
 abbrev pub are_given : SettingTexts → Bool
 are_given t = is_some t.workers || (is_some t.budget || (is_some t.strategy || is_some t.update))
 
--- no number of workers is accepted yet: a run has one thread
 abbrev pub workers_of : Option Text → Option ℕ
 workers_of None = Some usual.workers
-workers_of (Some text) = None
+workers_of (Some text) = number_in 1 MOST_WORKERS text
 
 abbrev pub budget_of : Option Text → Option ℕ
 budget_of None = Some usual.budget

@@ -3,7 +3,7 @@
 ghost use Rattle.std.specs.Prelude.{◌≡◌, ◌≤◌, IfOk, IfErr, Some, None};
 ghost use Rattle.asp_model.specs.declared.limits.TheConstants.{
   MOST_REDUCTIONS as MOST_BUDGET,
-  MOST_WORKERS,
+  MOST_WORKERS as MOST_RACING,
 };
 ghost use Rattle.update_policy.specs.Plans.{plan_shape};
 ghost use Rattle.command_line.specs.Settings.{
@@ -22,7 +22,7 @@ use crate::command::Given;
 use crate::error::WordsError;
 use crate::number::number_in;
 use crate::update::{strategy_in, update_in};
-use asp_model::MOST_REDUCTIONS;
+use asp_model::{MOST_REDUCTIONS, MOST_WORKERS};
 use std::alloc::Global;
 use update_policy::{Plan, Strategy};
 
@@ -68,16 +68,18 @@ pub fn are_given(texts: &Given<'_>) -> bool
         || texts.update.is_some()
 }
 
-// No number is accepted yet.
 fn workers_in(text: Option<&str>) -> Result<u32, WordsError>
     ensures ok { IfOk result (λ n. workers_of (text_behind text.entry) ≡ Some n) }
     ensures usage { IfErr result (λ _. workers_of (text_behind text.entry) ≡ None) }
-    ensures within { IfOk result (λ n. (1 ≤ n) × (n ≤ MOST_WORKERS)) }
+    ensures within { IfOk result (λ n. (1 ≤ n) × (n ≤ MOST_RACING)) }
 {
-    match text {
-        Some(_) => Err(WordsError::Usage),
-        None => Ok(DEFAULT_WORKERS),
-    }
+    let Some(text) = text else {
+        return Ok(DEFAULT_WORKERS);
+    };
+    let Some(workers) = number_in(text, 1, MOST_WORKERS as u64) else {
+        return Err(WordsError::Usage);
+    };
+    Ok(workers as u32)
 }
 
 fn budget_in(text: Option<&str>) -> Result<u64, WordsError>

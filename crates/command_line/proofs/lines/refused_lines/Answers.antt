@@ -61,7 +61,8 @@ numbers = record {
   state_word = refl;
   no_workers = refl;
   workers_above = refl;
-  workers = refl;
+  workers_sign = refl;
+  workers_nothing = refl;
   no_pairs = refl;
   pairs_above = refl;
 }
@@ -71,6 +72,7 @@ unfolding clap_on_literals is_identifier is_taken rows_given task_of
 words = record {
   two_files = refl;
   twice = refl;
+  workers_twice = refl;
   state_twice = refl;
   flag_twice = refl;
   flag_with_value = refl;
