@@ -1,6 +1,7 @@
 -- A lease that has come back, and is settled, once the edges were told of it.
 use Rattle.std.proofs.Common.{◌≡◌, ◌∙◌, ◌-◌, [], ℕ, zero, suc, Bool, false, List, Option, Some, None, length, refl, sym, ap, subst, arith}
 use Rattle.std.proofs.lemmas.List.{append-nil}
+use Rattle.std.specs.Global.{Box}
 use Rattle.asp_model.specs.Chase.{chase}
 use Rattle.asp_model.specs.Configuration.{Activity, Configuration, requests_of}
 use Rattle.asp_model.specs.History.{Committed, HistoryShape}
@@ -62,7 +63,7 @@ module _ (h : HistoryShape) (code : List Node) (s : RunShape) (x : CoreState) (v
   Even = length u.answers ≡ length u.holders.edges
 
   module _ (taken k grant reductions : ℕ) (turned : IsTurned k false u.activities w.activities) (holders : w.holders ≡ u.holders) (answers : w.answers ≡ u.answers) (even : Even) where
-    pub ran_back : (a : Actor) (r : IsArrived h code z s n taken (Ran k grant reductions a)) → u ≡ v
+    pub ran_back : (a : Box Actor) (r : IsArrived h code z s n taken (Ran k grant reductions a)) → u ≡ v
         → IsSettled h code z s n taken (Ran k grant reductions a) r y → IsBroughtBack h code s k n grant taken y w
     ran_back a r same core =
         let end = r.0.end in

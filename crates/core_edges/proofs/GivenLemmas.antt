@@ -1,5 +1,6 @@
 -- What a reduction gives, by its effect.
 use Rattle.std.proofs.Common.{◌≡◌, true, false, List, [], ◌++◌, Option, Some, None, refl, sym, ap, ◌∙◌, append-nil}
+use Rattle.std.specs.Global.{Box}
 use Rattle.asp_model.specs.Names.{Name, FutureShape}
 use Rattle.asp_model.specs.Parcel.{ParcelShape}
 use Rattle.asp_model.specs.Configuration as model
@@ -30,16 +31,16 @@ module _ (by : Name) (e : Effect) where
   pub nothing_given : IsGiven e given.Nothing → (h : HoldersShape) → after_events (effect_events by [] e) h ≡ h
   nothing_given g h = ap (λ es. after_events es h) (parts None None None g.0 g.1 g.2)
 
-  pub made_given : (n : Name) (x : Actor) (cells : CodedStore) → ((a : model.Activity) (rs : List RequestShape) → Stands x a rs → store_of (code_of x) cells ≡ a.store)
+  pub made_given : (n : Name) (x : Box Actor) (cells : CodedStore) → ((a : model.Activity) (rs : List RequestShape) → Stands x.value a rs → store_of (code_of x.value) cells ≡ a.store)
       → IsGiven e (given.Made n x) → (h : HoldersShape) → after_events (effect_events by [] e) h ≡ with_passed (futures_held cells) by n h
   made_given n x cells told g h = made e.made refl g.1
     where
-      made : (o : Option (Name × model.Activity)) → e.made ≡ o → IsMade o n x → after_events (effect_events by [] e) h ≡ with_passed (futures_held cells) by n h
+      made : (o : Option (Name × model.Activity)) → e.made ≡ o → IsMade o n x.value → after_events (effect_events by [] e) h ≡ with_passed (futures_held cells) by n h
       made None is m = absurd m
       made (Some z) is m =
           ap (λ es. after_events es h) (parts None (Some z) None g.0 is g.2 ∙ append-nil (passes_all by z.0 z.1.store))
           ∙ (λ i. after_events (passes_all by (m.0 i) (sym (told z.1 [] m.1) i)) h)
-          ∙ passes_are (code_of x) cells by n h
+          ∙ passes_are (code_of x.value) cells by n h
 
   pub sent_given : (n : Name) (r : Request) → IsGiven e (given.Sent n r) → (h : HoldersShape) → after_events (effect_events by [] e) h ≡ after_events (sent_events by (Some (n, request_shape r))) h
   sent_given n r g h = ap (λ es. after_events es h) (parts (Some (n, request_shape r)) None None g.0 g.1 g.2 ∙ append-nil (sent_events by (Some (n, request_shape r))))

@@ -132,7 +132,7 @@ impl<P: UpdatePolicy> Edges<P> {
     {
         match given {
             Given::Nothing => Ok(()),
-            Given::Made(name, actor) => self.pass_store(actor.store(), by, name),
+            Given::Made(name, actor) => self.pass_store(actor.as_ref().store(), by, name),
             Given::Sent(home, request) => self.sent(alloc, by, home, request),
             Given::Filled(future, _) => {
                 self.holders.filled(future);

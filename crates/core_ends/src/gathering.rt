@@ -41,7 +41,7 @@ fn bring(
 {
     let name = seats.name(number).copy(alloc)?;
     if let Some(actor) = seats.take(number) {
-        activities.insert(name, actor)?;
+        activities.insert(name, Box::into_inner(actor))?;
     }
     Ok(())
 }

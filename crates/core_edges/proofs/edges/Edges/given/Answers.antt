@@ -1,7 +1,10 @@
-use Rattle.std.proofs.Common.{refl, sym, ap, ◌∙◌, subst}
+use Rattle.std.proofs.Common.{◌≡◌, List, refl, sym, ap, ◌∙◌, subst}
+use Rattle.asp_model.specs.Configuration as model
+use Rattle.asp_model.specs.Configuration.{RequestShape}
 use Rattle.asp_model.specs.Shapes.{future_shape}
-use Rattle.coded_cells.specs.Shapes.{parcel_shape}
+use Rattle.coded_cells.specs.Shapes.{parcel_shape, store_of}
 use Rattle.request_queue.specs.Requests.{request_shape}
+use Rattle.actor.specs.Actors.{Stands, code_of}
 use Rattle.actor.specs.Effects.{IsGiven}
 use Rattle.core_edges.specs.Answers.{AreAnswered}
 use Rattle.core_edges.specs.Given.{IsSomeFresh}
@@ -28,7 +31,9 @@ returns-in-Nothing-clause-answers g c = none_answered g.P.UpdatePolicy.answer g.
 pub returns-in-Made-clause-holders : goal.returns-in-Made-clause-holders
 returns-in-Made-clause-holders g c e given =
     let is = subst (IsGiven e) c.in-Made.is given in
-    let told = made_given c.args.by.now e c.in-Made.name c.in-Made.actor c.store.result.now.cells c.store.ensures.store is c.args.self.now.holders.holders in
+    let cells = c.store.result.now.cells in
+    let held = subst (λ x. (a : model.Activity) (rs : List RequestShape) → Stands x a rs → store_of (code_of x) cells ≡ a.store) c.as_ref.ensures c.store.ensures.store in
+    let told = made_given c.args.by.now e c.in-Made.name c.in-Made.actor cells held is c.args.self.now.holders.holders in
     on_ok c.pass_store.result (λ passed. passed.holders ∙ sym told) c.pass_store.ensures.passed
 
 pub returns-in-Made-clause-answers : goal.returns-in-Made-clause-answers
