@@ -1,5 +1,6 @@
 -- What has arrived, once it is settled.
 use Rattle.std.proofs.Common.{◌≡◌, ℕ, suc, List, Some, None, arith, subst, sym}
+use Rattle.std.specs.Global.{Box}
 use Rattle.asp_model.specs.History.{HistoryShape}
 use Rattle.asp_model.specs.Names.{Name}
 use Rattle.journals.specs.Journals.{RunShape}
@@ -14,11 +15,11 @@ use Rattle.core_commits.specs.Commits.{IsActCommitted, IsCommitted}
 use Rattle.core_commits.proofs.CommitLemmas.{committed_acting, committed_alone}
 
 module _ (h : HistoryShape) (code : List Node) (x : CoreState) (s : RunShape) (n : Name) (taken k grant reductions : ℕ) where
-  pub ran_committed : (a : Actor) (r : IsArrived h code x s n taken (Ran k grant reductions a)) (y : CoreState)
+  pub ran_committed : (a : Box Actor) (r : IsArrived h code x s n taken (Ran k grant reductions a)) (y : CoreState)
       → IsRunCommitted h code s k n grant reductions r.0.end y → IsCommitted h code s k n grant taken y
   ran_committed a r y done =
       subst (λ t. IsCommitted h code s k n grant t y) r.1
-      (committed_alone x k grant reductions a (h, code, s, n, r.0) y (subst (λ t. act_at s n grant t r.0.end ≡ None) (sym r.1) r.2) done)
+      (committed_alone x k grant reductions a.value (h, code, s, n, r.0) y (subst (λ t. act_at s n grant t r.0.end ≡ None) (sym r.1) r.2) done)
 
   same_taken : (a b : ℕ) → reductions ≡ suc a → reductions ≡ suc b → a ≡ b
   same_taken a b is so = omega (arith, is, so)

@@ -34,7 +34,7 @@ act_at s n grant taken end = act_within (grant - taken) (act_of (chase s.configu
 -- one has come back that took so many contractions: with the communication exactly where it may be done
 abbrev pub IsArrived : (h : HistoryShape) (code : List Node) → CoreState → RunShape → Name → (taken : ℕ) → Arrival → Type 0
 IsArrived h code x s n taken (Ran k grant reductions a) =
-    (r : IsReturning h code x s k n grant reductions a) × (reductions ≡ taken) × (act_at s n grant taken r.end ≡ None)
+    (r : IsReturning h code x s k n grant reductions a.value) × (reductions ≡ taken) × (act_at s n grant taken r.end ≡ None)
 IsArrived h code x s n taken (Acted k grant reductions g) =
     (e : Effect) × (r : IsGiving h code x s k n grant reductions e g) × (reductions ≡ suc taken)
     × (act_at s n grant taken r.acting.returning.end ≡ Some e)

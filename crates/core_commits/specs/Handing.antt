@@ -49,13 +49,15 @@ IsSomeToHand x g = (h : HistoryShape) × (code : List Node) × (u : RunShape) ×
 abbrev pub with_received : RunShape → Name → RequestShape → RunShape
 with_received u m r = record u { configuration = record u.configuration { received = with_sent (Some (m, r)) u.configuration.received } }
 
-pub record IsReceiving (h : HistoryShape) (code : List Node) (x : CoreState) (u : RunShape) (r : Request) : Type 0 where
+-- a request may come to one who is there
+pub record IsReceiving (h : HistoryShape) (code : List Node) (x : CoreState) (u : RunShape) (to : Name) (r : Request) : Type 0 where
   pub populated : IsPopulated h code x u
   pub numbered : AreNumbered u
+  pub there : IsThere u.configuration to
   pub coded : arc_value r.arguments.code ≡ code
 
-abbrev pub IsSomeReceiving : CoreState → Request → Type 0
-IsSomeReceiving x r = (h : HistoryShape) × (code : List Node) × (u : RunShape) × IsReceiving h code x u r
+abbrev pub IsSomeReceiving : CoreState → Name → Request → Type 0
+IsSomeReceiving x to r = (h : HistoryShape) × (code : List Node) × (u : RunShape) × IsReceiving h code x u to r
 
 -- the run with one activity in again, in this configuration
 abbrev pub came_in : RunShape → ℕ → ℕ → Configuration → RunShape

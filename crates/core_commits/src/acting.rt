@@ -18,11 +18,15 @@ use std::alloc::AllocError;
 
 /// An activity whose lease comes back takes the reduction that it intends, and comes in. What that
 /// gives is answered: it may be handed on. Nothing is said where it intends none.
-pub fn bring_in(state: &mut CoreState, number: u32, mut actor: Actor) -> Result<Given, AllocError>
-    requires coming { IsComing state.old number actor }
+pub fn bring_in(
+    state: &mut CoreState,
+    number: u32,
+    mut actor: Box<Actor>,
+) -> Result<Given, AllocError>
+    requires coming { IsComing state.old number actor.value }
     ensures given { (h : HistoryShape) (code : List NodeShape) (s : RunShape) (n : Name)
         (grant : ℕ) (taken : ℕ) (e : Effect) (left : ℕ) →
-        (r : IsReturning h code state.old s number n grant taken actor) →
+        (r : IsReturning h code state.old s number n grant taken actor.value) →
         intent_in (with_activity n r.end s.configuration) n ≡ Acts e →
         let now = with_entry h (Committed number (suc taken)) in
         let then = came_in s number left (with_activity n e.own s.configuration) in
@@ -33,8 +37,9 @@ pub fn bring_in(state: &mut CoreState, number: u32, mut actor: Actor) -> Result<
     ensures bursts { state.new.bursts ≡ state.old.bursts }
 {
     let name = state.seats.name(number).copy(state.alloc)?;
-    let given = actor.act(state.alloc, &name, &state.futures)?;
-    actor.settle()?;
+    let here = actor.as_mut();
+    let given = here.act(state.alloc, &name, &state.futures)?;
+    here.settle()?;
     let _came = state.seats.put(number, actor);
     Ok(given)
 }

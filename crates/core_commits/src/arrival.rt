@@ -10,7 +10,7 @@ pub enum Arrival {
         number: u32,
         grant: u64,
         taken: u64,
-        actor: Actor,
+        actor: Box<Actor>,
     },
     /// With so many reductions, of which the last was the communication that gives this to others.
     /// The activity is in, and nobody has what it gives.

@@ -68,7 +68,7 @@ pub fn arrive(state: &mut CoreState, lease: Lease) -> Result<Arrival, AllocError
     let grant = lease.grant;
     let taken = lease.taken;
     let actor = state.take_back(lease)?;
-    let acts = may_act(state, grant, taken, &actor)?;
+    let acts = may_act(state, grant, taken, actor.as_ref())?;
     if !acts {
         return Ok(Arrival::Ran {
             number,

@@ -30,23 +30,24 @@ use std::alloc::AllocError;
 
 /// A request comes to whom it is sent: to the activity, or into its box. Its number is answered.
 fn hand_over(state: &mut CoreState, to: &ActivityName, request: Request) -> Result<u32, AllocError>
-    requires receiving { IsSomeReceiving state.old request }
+    requires receiving { IsSomeReceiving state.old to.now request }
     ensures populated { (h : HistoryShape) (code : List NodeShape) (u : RunShape) →
-        IsReceiving h code state.old u request →
+        IsReceiving h code state.old u to.now request →
         OnOk result (IsPopulated h code state.new (with_received u to.now (request_shape request))) }
     ensures number { (h : HistoryShape) (code : List NodeShape) (u : RunShape) →
-        IsReceiving h code state.old u request → IfOk result (λ k. name_at u.names k ≡ Some to.now) }
+        IsReceiving h code state.old u to.now request →
+        IfOk result (λ k. name_at u.names k ≡ Some to.now) }
     ensures journal { state.new.journal ≡ state.old.journal }
     ensures ranks { state.new.ranks ≡ state.old.ranks }
     ensures left { state.new.left ≡ state.old.left }
     ensures bursts { state.new.bursts ≡ state.old.bursts }
 {
     let Some(number) = state.seats.number_of(to) else {
-        return Err(AllocError);
+        unreachable!()
     };
     match state.seats.take(number) {
         Some(mut actor) => {
-            actor.receive(state.alloc, request)?;
+            actor.as_mut().receive(state.alloc, request)?;
             let _came = state.seats.put(number, actor);
             Ok(number)
         }

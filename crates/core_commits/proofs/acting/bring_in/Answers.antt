@@ -5,7 +5,7 @@ use Rattle.asp_model.specs.Chase.{chase}
 use Rattle.future_table.specs.Values.{AreOfCode, values_of}
 use Rattle.laws.proofs.NameLemmas.{some_is}
 use Rattle.activity_seats.specs.Seats.{Out, seats_in}
-use Rattle.actor.specs.Actors.{Stands}
+use Rattle.actor.specs.Actors.{IsClosedFor, Stands, code_of}
 use Rattle.actor.specs.Effects.{IsDoneBy, IsGiven, IsGivenOf}
 use Rattle.core_state.specs.declared.state.CoreState.{CoreState}
 use Rattle.core_state.proofs.ListLemmas.{got_within, name_got}
@@ -18,13 +18,13 @@ pub name-requires-clause-known : goal.name-requires-clause-known
 name-requires-clause-known c = got_within (seats_in c.args.state.now.seats) c.args.number (Out []) c.requires.coming.6.away
 
 pub act-requires-clause-closed : goal.act-requires-clause-closed
-act-requires-clause-closed c = let r = c.requires.coming in back_closed r.0 r.1 c.args.state.now r.2 c.args.number r.3 r.4 r.5 c.args.actor r.6
+act-requires-clause-closed c = let r = c.requires.coming in subst IsClosedFor (sym c.as_mut-here.ensures.value) (back_closed r.0 r.1 c.args.state.now r.2 c.args.number r.3 r.4 r.5 c.args.actor.value r.6)
 
 pub act-requires-clause-values : goal.act-requires-clause-values
-act-requires-clause-values c = let r = c.requires.coming in back_values r.0 r.1 c.args.state.now r.2 c.args.number r.3 r.4 r.5 c.args.actor r.6
+act-requires-clause-values c = let r = c.requires.coming in back_values r.0 r.1 c.args.state.now r.2 c.args.number r.3 r.4 r.5 c.args.actor.value r.6
 
 pub act-requires-clause-code : goal.act-requires-clause-code
-act-requires-clause-code c = let r = c.requires.coming in subst (λ k. AreOfCode k c.args.state.now.futures) (sym r.6.coded) r.6.populated.values
+act-requires-clause-code c = let r = c.requires.coming in subst (λ k. AreOfCode k c.args.state.now.futures) (sym (ap code_of c.as_mut-here.ensures.value ∙ r.6.coded)) r.6.populated.values
 
 pub put-came-requires-clause-known : goal.put-came-requires-clause-known
 put-came-requires-clause-known c = got_within (seats_in c.args.state.now.seats) c.args.number (Out []) c.requires.coming.6.away
@@ -35,18 +35,19 @@ returns-clause-given c = λ h code s n grant taken e left r intends.
     let k = c.args.number in
     let y : CoreState = record { alloc = x.alloc; seats = c.put-came.new.self; ranks = x.ranks; futures = x.futures; journal = x.journal; left = x.left; bursts = x.bursts } in
     let rs = requests_of s.configuration n in
+    let coded = ap code_of c.as_mut-here.ensures.value ∙ r.coded in
     let same : c.in_ok-name.name ≡ n = c.in_ok-name.ensures.name ∙ some_is (sym c.name.ensures.name ∙ ap (λ ns. slice_get ns k) r.populated.names ∙ sym (name_got s.names k) ∙ r.has_run.named) in
-    let acts : intent (chase (values_of x.futures)) rs c.in_ok-name.name r.end ≡ Acts e = (λ i. intent (chase (r.populated.futures i)) rs (same i) r.end) ∙ intended h code x s k n grant taken c.args.actor r e intends in
-    let done : Stands c.act.new.self e.own rs × IsGiven e c.in_ok-given.given = subst (λ p. IsDoneBy p rs c.act.new.self c.in_ok-given.given) acts (c.in_ok-given.ensures.acts r.end rs r.stands) in
+    let acts : intent (chase (values_of x.futures)) rs c.in_ok-name.name r.end ≡ Acts e = (λ i. intent (chase (r.populated.futures i)) rs (same i) r.end) ∙ intended h code x s k n grant taken c.args.actor.value r e intends in
+    let done : Stands c.act.new.self e.own rs × IsGiven e c.in_ok-given.given = subst (λ p. IsDoneBy p rs c.act.new.self c.in_ok-given.given) acts (c.in_ok-given.ensures.acts r.end rs (subst (λ a. Stands a r.end rs) (sym c.as_mut-here.ensures.value) r.stands)) in
     record {
       populated =
-          comes_back h code x y s k r.populated (numbered h code x s k n grant taken c.args.actor r) n r.has_run.named c.settle.new.self e.own (suc taken) left
+          comes_back h code x y s k r.populated (numbered h code x s k n grant taken c.args.actor.value r) n r.has_run.named c.settle.new.self e.own (suc taken) left
           (got_within (seats_in x.seats) k (Out []) r.away) c.put-came.ensures.seats c.put-came.ensures.names c.put-came.ensures.kept refl
-          (c.in_ok-settle.ensures.stands e.own rs done.0) (c.settle.ensures.code ∙ c.act.ensures.code ∙ r.coded);
-      numbered = own_numbered h code x s k n grant taken c.args.actor r e intends left;
+          (c.in_ok-settle.ensures.stands e.own rs done.0) (c.settle.ensures.code ∙ c.act.ensures.code ∙ coded);
+      numbered = own_numbered h code x s k n grant taken c.args.actor.value r e intends left;
       given = done.1;
-      coded = subst (λ k. IsGivenOf k c.in_ok-given.given) r.coded c.in_ok-given.ensures.given;
-      made = made_new h code x s k n grant taken c.args.actor r e intends left;
-      sent = sent_there h code x s k n grant taken c.args.actor r e intends left;
-      filled = filled_new h code x s k n grant taken c.args.actor r e intends left;
+      coded = subst (λ k. IsGivenOf k c.in_ok-given.given) coded c.in_ok-given.ensures.given;
+      made = made_new h code x s k n grant taken c.args.actor.value r e intends left;
+      sent = sent_there h code x s k n grant taken c.args.actor.value r e intends left;
+      filled = filled_new h code x s k n grant taken c.args.actor.value r e intends left;
     }

@@ -1,5 +1,6 @@
-use Rattle.std.proofs.Common.{◌≡◌, ◌∙◌, ◌+◌, ◌-◌, ◌≤◌, arith, refl, suc, sym}
+use Rattle.std.proofs.Common.{◌≡◌, ◌∙◌, ◌+◌, ◌-◌, ◌≤◌, arith, refl, subst, suc, sym}
 use Rattle.asp_model.specs.Configuration.{requests_of}
+use Rattle.actor.specs.Actors.{IsClosedFor, Stands}
 use Rattle.core_state.specs.Commits.{IsSomeReturning}
 use Rattle.core_state.proofs.ComeBackLemmas.{back_closed, back_values}
 use Rattle.core_commits.proofs.CommitLemmas.{acts_not, acts_now, come_acting, one_left, to_hand}
@@ -9,13 +10,13 @@ pub may_act-requires-clause-closed : goal.may_act-requires-clause-closed
 may_act-requires-clause-closed c =
     let r = c.requires.lease in
     let l = c.args.lease in
-    back_closed r.0 r.1 c.take_back.new.self r.2 l.number r.4.name l.grant l.taken c.in_ok-actor.actor (c.in_ok-actor.ensures.returning r.0 r.1 r.2 r.3 r.4)
+    subst IsClosedFor (sym c.as_ref.ensures) (back_closed r.0 r.1 c.take_back.new.self r.2 l.number r.4.name l.grant l.taken c.in_ok-actor.actor.value (c.in_ok-actor.ensures.returning r.0 r.1 r.2 r.3 r.4))
 
 pub may_act-requires-clause-values : goal.may_act-requires-clause-values
 may_act-requires-clause-values c =
     let r = c.requires.lease in
     let l = c.args.lease in
-    back_values r.0 r.1 c.take_back.new.self r.2 l.number r.4.name l.grant l.taken c.in_ok-actor.actor (c.in_ok-actor.ensures.returning r.0 r.1 r.2 r.3 r.4)
+    back_values r.0 r.1 c.take_back.new.self r.2 l.number r.4.name l.grant l.taken c.in_ok-actor.actor.value (c.in_ok-actor.ensures.returning r.0 r.1 r.2 r.3 r.4)
 
 pub bring_in-requires : goal.bring_in-requires
 bring_in-requires c =
@@ -27,20 +28,20 @@ pub returns-then-not-acts-clause-arrived : goal.returns-then-not-acts-clause-arr
 returns-then-not-acts-clause-arrived c = λ h code s core lease.
     let l = c.args.lease in
     let x = c.take_back.new.self in
-    let a = c.in_ok-actor.actor in
+    let a = c.in_ok-actor.actor.value in
     let back = c.in_ok-actor.ensures.returning h code s core lease in
     let z : IsSomeReturning x l.number l.grant l.taken a = (h, code, s, lease.name, back) in
-    let none = acts_not x l.number l.grant l.taken a z c.in_ok-acts.acts (c.in_ok-acts.ensures.act back.end (requests_of s.configuration lease.name) lease.name back.stands) c.if-not-acts.true in
+    let none = acts_not x l.number l.grant l.taken a z c.in_ok-acts.acts (c.in_ok-acts.ensures.act back.end (requests_of s.configuration lease.name) lease.name (subst (λ y. Stands y back.end (requests_of s.configuration lease.name)) (sym c.as_ref.ensures) back.stands)) c.if-not-acts.true in
     ((back, refl, none), refl, refl)
 
 pub returns-clause-arrived : goal.returns-clause-arrived
 returns-clause-arrived c = λ h code s core lease.
     let l = c.args.lease in
     let x = c.take_back.new.self in
-    let a = c.in_ok-actor.actor in
+    let a = c.in_ok-actor.actor.value in
     let back = c.in_ok-actor.ensures.returning h code s core lease in
     let z : IsSomeReturning x l.number l.grant l.taken a = (h, code, s, lease.name, back) in
-    let act = acts_now x l.number l.grant l.taken a z c.in_ok-acts.acts (c.in_ok-acts.ensures.act back.end (requests_of s.configuration lease.name) lease.name back.stands) c.if-not-acts.false in
+    let act = acts_now x l.number l.grant l.taken a z c.in_ok-acts.acts (c.in_ok-acts.ensures.act back.end (requests_of s.configuration lease.name) lease.name (subst (λ y. Stands y back.end (requests_of s.configuration lease.name)) (sym c.as_ref.ensures) back.stands)) c.if-not-acts.false in
     let few : l.grant ≤ 64 = omega (arith, lease.grant) in
     let q = c.saturating_add.result in
     let more : q ≡ suc l.taken = omega (arith, c.saturating_add.ensures, few, one_left x l.number l.grant l.taken a z act.0 act.1) in

@@ -17,7 +17,7 @@ add-requires-clause-new c = λ k found.
     let r = c.requires.given in
     let x = c.args.state.now in
     let to = subst (λ g. IsToHand r.0 r.1 x r.2 r.3 g) c.in-Made.is r.4 in
-    new_name r.0 r.1 x r.2 r.3 (given.Made c.in-Made.name c.in-Made.actor) c.in-Made.name c.in-Made.actor to to.given.1 k c.in-Made.name (named r.0 r.1 x r.2 to.populated k c.in-Made.name found) refl
+    new_name r.0 r.1 x r.2 r.3 (given.Made c.in-Made.name c.in-Made.actor) c.in-Made.name c.in-Made.actor.value to to.given.1 k c.in-Made.name (named r.0 r.1 x r.2 to.populated k c.in-Made.name found) refl
 
 pub fill-requires-clause-absent : goal.fill-requires-clause-absent
 fill-requires-clause-absent c =
@@ -31,6 +31,13 @@ fill-requires-clause-one_root c =
     let to = subst (λ g. IsToHand r.0 r.1 c.args.state.now r.2 r.3 g) c.in-Filled.is r.4 in
     (to.filled (future_shape c.in-Filled.future, parcel_shape c.in-Filled.value) to.given.2).1
 
+pub hand_over-requires : goal.hand_over-requires
+hand_over-requires c =
+    let r = c.requires.given in
+    let to = subst (λ g. IsToHand r.0 r.1 c.args.state.now r.2 r.3 g) c.in-Sent.is r.4 in
+    let there = to.sent (c.in-Sent.to, request_shape c.in-Sent.request) to.given.0 in
+    record { receiving = (r.0, r.1, r.2, record { populated = to.populated; numbered = to.numbered; there = there; coded = to.coded }) }
+
 pub returns-in_ok-number-in-Made-clause-populated : goal.returns-in_ok-number-in-Made-clause-populated
 returns-in_ok-number-in-Made-clause-populated c = λ h code u e r.
     let x = c.args.state.now in
@@ -38,15 +45,15 @@ returns-in_ok-number-in-Made-clause-populated c = λ h code u e r.
     let a = c.in-Made.actor in
     let y : CoreState = record { alloc = x.alloc; seats = c.add.new.self; ranks = x.ranks; futures = x.futures; journal = x.journal; left = x.left; bursts = x.bursts } in
     let to = subst (λ g. IsToHand h code x u e g) c.in-Made.is r in
-    let b = made_is e.made n a to.given.1 in
+    let b = made_is e.made n a.value to.given.1 in
     subst (IsPopulated h code y) (handed_is u e None (Some (n, b.0)) None to.given.0 b.1 to.given.2)
-    (member_comes h code x y u n a b.0 to.populated (new_name h code x u e (given.Made n a) n a to to.given.1) (to.made (n, b.0) b.1).1
+    (member_comes h code x y u n a.value b.0 to.populated (new_name h code x u e (given.Made n a) n a.value to to.given.1) (to.made (n, b.0) b.1).1
     c.in_ok-number-in-Made.ensures.seats c.in_ok-number-in-Made.ensures.names c.in_ok-number-in-Made.ensures.kept refl b.2 to.coded)
 
 pub returns-in_ok-number-in-Made-clause-change : goal.returns-in_ok-number-in-Made-clause-change
 returns-in_ok-number-in-Made-clause-change c = λ h code u e r.
     let to = subst (λ g. IsToHand h code c.args.state.now u e g) c.in-Made.is r in
-    let b = made_is e.made c.in-Made.name c.in-Made.actor to.given.1 in
+    let b = made_is e.made c.in-Made.name c.in-Made.actor.value to.given.1 in
     let last : c.in_ok-number-in-Made.number ≡ length u.names = c.in_ok-number-in-Made.ensures.number ∙ sym (ap length (sym to.populated.names) ∙ to.populated.kept.same) in
     (c.in-Made.name, b.0, b.1, last, to.given.0, to.given.2)
 
@@ -55,12 +62,12 @@ returns-in_ok-number-in-Sent-clause-populated c = λ h code u e r.
     let to = subst (λ g. IsToHand h code c.args.state.now u e g) c.in-Sent.is r in
     let sent = Some (c.in-Sent.to, request_shape c.in-Sent.request) in
     subst (IsPopulated h code c.hand_over.new.state) (nobody_made u sent None ∙ handed_is u e sent None None to.given.0 to.given.1 to.given.2)
-    (c.in_ok-number-in-Sent.ensures.populated h code u (record { populated = to.populated; numbered = to.numbered; coded = to.coded }))
+    (c.in_ok-number-in-Sent.ensures.populated h code u (record { populated = to.populated; numbered = to.numbered; there = to.sent (c.in-Sent.to, request_shape c.in-Sent.request) to.given.0; coded = to.coded }))
 
 pub returns-in_ok-number-in-Sent-clause-change : goal.returns-in_ok-number-in-Sent-clause-change
 returns-in_ok-number-in-Sent-clause-change c = λ h code u e r.
     let to = subst (λ g. IsToHand h code c.args.state.now u e g) c.in-Sent.is r in
-    let named = c.in_ok-number-in-Sent.ensures.number h code u (record { populated = to.populated; numbered = to.numbered; coded = to.coded }) in
+    let named = c.in_ok-number-in-Sent.ensures.number h code u (record { populated = to.populated; numbered = to.numbered; there = to.sent (c.in-Sent.to, request_shape c.in-Sent.request) to.given.0; coded = to.coded }) in
     (c.in-Sent.to, request_shape c.in-Sent.request, to.given.0, named, to.given.1, to.given.2)
 
 pub returns-in_ok-fill-in-Filled-clause-change : goal.returns-in_ok-fill-in-Filled-clause-change
