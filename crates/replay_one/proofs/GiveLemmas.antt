@@ -1,5 +1,6 @@
 -- What an effect gives to others is handed on.
 use Rattle.std.proofs.Common.{◌≡◌, [], ℕ, true, false, List, Option, Some, None, length, refl, sym, ap, subst, ◌∙◌}
+use Rattle.std.specs.Global.{Box}
 use Rattle.std.proofs.lemmas.Bool.{false_from_ne_true}
 use Rattle.std.specs.FinMap.{find, put}
 use Rattle.asp_model.specs.declared.name.FutureName.{FutureName}
@@ -65,16 +66,16 @@ module _ (p : Population) (n : Name) (program : Tree) (c : Configuration) (e : E
   made_is None m x h = absurd h
   made_is (Some z) m x h = (z.1, (λ i. Some (h.0 i, z.1)), h.1)
 
-  pub made_given : (m : Name) (x : Actor) → IsGiving p n (given.Made m x) program c e → (b : model.Activity) × (e.made ≡ Some (m, b)) × Stands x b []
-  made_given m x h = made_is e.made m x h.given.1
+  pub made_given : (m : Name) (x : Box Actor) → IsGiving p n (given.Made m x) program c e → (b : model.Activity) × (e.made ≡ Some (m, b)) × Stands x.value b []
+  made_given m x h = made_is e.made m x.value h.given.1
 
   -- who is made has received nothing
-  pub made_alone : (m : Name) (x : Actor) → IsGiving p n (given.Made m x) program c e → requests_of (with_activity n e.own c) m ≡ []
+  pub made_alone : (m : Name) (x : Box Actor) → IsGiving p n (given.Made m x) program c e → requests_of (with_activity n e.own c) m ≡ []
   made_alone m x h =
       let b = made_given m x h in
       absent_received_none program c m h.reached ((effects_are_new program c n e h.reached h.intends).made (m, b.0) b.1)
 
-  pub made_population : (q : Population) (m : Name) (x : Actor) (h : IsGiving p n (given.Made m x) program c e) → IsPopulation q (with_activity m (made_given m x h).0 (with_activity n e.own c)) → IsPopulation q (with_effect n e c)
+  pub made_population : (q : Population) (m : Name) (x : Box Actor) (h : IsGiving p n (given.Made m x) program c e) → IsPopulation q (with_activity m (made_given m x h).0 (with_activity n e.own c)) → IsPopulation q (with_effect n e c)
   made_population q m x h k =
       let b = made_given m x h in
       subst (IsPopulation q) (effect_of n e c None (Some (m, b.0)) None h.given.0 b.1 h.given.2) k
@@ -114,7 +115,7 @@ module _ (p : Population) (n : Name) (program : Tree) (c : Configuration) (e : E
     sends = λ m k not a. a;
   }
 
-  pub made_handed : (lists : Option ListsShape) (s t : Schedule) (m : Name) (x : Actor) → IsGiving p n (given.Made m x) program c e → IsMoreReady s None t → ready_in t m ≡ true → IsHandedOn lists c n e s t
+  pub made_handed : (lists : Option ListsShape) (s t : Schedule) (m : Name) (x : Box Actor) → IsGiving p n (given.Made m x) program c e → IsMoreReady s None t → ready_in t m ≡ true → IsHandedOn lists c n e s t
   made_handed lists s t m x h more woken =
       let b = made_given m x h in
       record {

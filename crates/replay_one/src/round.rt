@@ -248,7 +248,7 @@ impl Machine {
             Given::Nothing => Ok(()),
             Given::Made(made, actor) => {
                 self.schedule.wake(made.copy(alloc)?)?;
-                self.population.insert(made, actor)
+                self.population.insert(made, Box::into_inner(actor))
             }
             Given::Sent(to, request) => {
                 self.schedule.wake_server(&to, &request.label)?;
