@@ -39,14 +39,9 @@ pub fn deliver_edge(
     let Some(value) = state.futures.value(future) else {
         unreachable!()
     };
-    actor.fill_each(state.alloc, future, value)?;
-    rank_again(
-        state.alloc,
-        &mut state.ranks,
-        &state.futures,
-        number,
-        &actor,
-    )?;
+    let here = actor.as_mut();
+    here.fill_each(state.alloc, future, value)?;
+    rank_again(state.alloc, &mut state.ranks, &state.futures, number, here)?;
     let _came = state.seats.put(number, actor);
     state.journal.note(entry);
     Ok(())

@@ -40,14 +40,9 @@ pub fn deliver_need(
     let Some(value) = state.futures.value(future) else {
         unreachable!()
     };
-    actor.fill(state.alloc, loc, value)?;
-    rank_again(
-        state.alloc,
-        &mut state.ranks,
-        &state.futures,
-        number,
-        &actor,
-    )?;
+    let here = actor.as_mut();
+    here.fill(state.alloc, loc, value)?;
+    rank_again(state.alloc, &mut state.ranks, &state.futures, number, here)?;
     let _came = state.seats.put(number, actor);
     state.journal.note(entry);
     Ok(())

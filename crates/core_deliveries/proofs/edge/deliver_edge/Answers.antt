@@ -1,10 +1,10 @@
-use Rattle.std.proofs.Common.{◌≡◌, ◌∙◌, ◌++◌, ◌∷◌, [], length, slice_get, refl, sym, ap, arith}
+use Rattle.std.proofs.Common.{◌≡◌, ◌∙◌, ◌++◌, ◌∷◌, [], length, slice_get, refl, sym, ap, arith, subst}
 use Rattle.asp_model.specs.History.{Delivered, Edge}
 use Rattle.asp_model.specs.Shapes.{entry_shape, future_shape}
 use Rattle.journals.specs.Deliveries.{holders_from, unpack_each}
 use Rattle.activity_seats.specs.Seats.{In, Out, is_in, seats_in, with_seat}
 use Rattle.activity_seats.proofs.SeatLemmas.{set_twice}
-use Rattle.actor.specs.Actors.{Stands}
+use Rattle.actor.specs.Actors.{IsSomebody, Stands, code_of}
 use Rattle.rank_laws.specs.Ranked.{rank_in}
 use Rattle.core_state.specs.declared.state.CoreState.{CoreState}
 use Rattle.core_state.proofs.ListLemmas.{got_set}
@@ -21,25 +21,25 @@ unreachable-requires-in_default-value c = value_there (owed_edge c.args.state.no
 
 pub fill_each-requires-clause-value : goal.fill_each-requires-clause-value
 fill_each-requires-clause-value c =
-    let z : Sees c.args.state.now c.args.number (future_shape c.args.future.now) c.in-Some.actor c.in-Some-value.value.now = record { taken = c.in-Some.ensures.taken; got = c.in-Some-value.ensures.value; held = c.in-Some-value.ensures.held } in
+    let z : Sees c.args.state.now c.args.number (future_shape c.args.future.now) c.in-Some.actor.value c.in-Some-value.value.now = record { taken = c.in-Some.ensures.taken; got = c.in-Some-value.ensures.value; held = c.in-Some-value.ensures.held } in
     value_closed (owed_edge c.args.state.now c.args.number (future_shape c.args.future.now) c.args.from.now c.requires.passed) z
 
 pub fill_each-requires-clause-somebody : goal.fill_each-requires-clause-somebody
 fill_each-requires-clause-somebody c =
     let q = owed_edge c.args.state.now c.args.number (future_shape c.args.future.now) c.args.from.now c.requires.passed in
-    let z : Sees c.args.state.now c.args.number (future_shape c.args.future.now) c.in-Some.actor c.in-Some-value.value.now = record { taken = c.in-Some.ensures.taken; got = c.in-Some-value.ensures.value; held = c.in-Some-value.ensures.held } in
-    (receiver q, received q, stood q z)
+    let z : Sees c.args.state.now c.args.number (future_shape c.args.future.now) c.in-Some.actor.value c.in-Some-value.value.now = record { taken = c.in-Some.ensures.taken; got = c.in-Some-value.ensures.value; held = c.in-Some-value.ensures.held } in
+    subst IsSomebody (sym c.as_mut-here.ensures.value) (receiver q, received q, stood q z)
 
 pub fill_each-requires-clause-code : goal.fill_each-requires-clause-code
 fill_each-requires-clause-code c =
-    let z : Sees c.args.state.now c.args.number (future_shape c.args.future.now) c.in-Some.actor c.in-Some-value.value.now = record { taken = c.in-Some.ensures.taken; got = c.in-Some-value.ensures.value; held = c.in-Some-value.ensures.held } in
-    value_code (owed_edge c.args.state.now c.args.number (future_shape c.args.future.now) c.args.from.now c.requires.passed) z
+    let z : Sees c.args.state.now c.args.number (future_shape c.args.future.now) c.in-Some.actor.value c.in-Some-value.value.now = record { taken = c.in-Some.ensures.taken; got = c.in-Some-value.ensures.value; held = c.in-Some-value.ensures.held } in
+    value_code (owed_edge c.args.state.now c.args.number (future_shape c.args.future.now) c.args.from.now c.requires.passed) z ∙ ap code_of (sym c.as_mut-here.ensures.value)
 
 pub rank_again-requires-clause-closed : goal.rank_again-requires-clause-closed
 rank_again-requires-clause-closed c =
     let q = owed_edge c.args.state.now c.args.number (future_shape c.args.future.now) c.args.from.now c.requires.passed in
-    let z : Sees c.args.state.now c.args.number (future_shape c.args.future.now) c.in-Some.actor c.in-Some-value.value.now = record { taken = c.in-Some.ensures.taken; got = c.in-Some-value.ensures.value; held = c.in-Some-value.ensures.held } in
-    filled_closed q c.fill_each.new.self (stands_then q z c.fill_each.new.self (λ p. unpack_each (receiver q).store (holders_from 0 (future_shape c.args.future.now) (receiver q).store) p) refl (c.in_ok-fill_each.ensures.stands (receiver q) (received q) (stood q z)))
+    let z : Sees c.args.state.now c.args.number (future_shape c.args.future.now) c.in-Some.actor.value c.in-Some-value.value.now = record { taken = c.in-Some.ensures.taken; got = c.in-Some-value.ensures.value; held = c.in-Some-value.ensures.held } in
+    filled_closed q c.fill_each.new.self (stands_then q z c.fill_each.new.self (λ p. unpack_each (receiver q).store (holders_from 0 (future_shape c.args.future.now) (receiver q).store) p) refl (c.in_ok-fill_each.ensures.stands (receiver q) (received q) (subst (λ a. Stands a (receiver q) (received q)) (sym c.as_mut-here.ensures.value) (stood q z))))
 
 pub rank_again-requires-clause-values : goal.rank_again-requires-clause-values
 rank_again-requires-clause-values c = values_closed (owed_edge c.args.state.now c.args.number (future_shape c.args.future.now) c.args.from.now c.requires.passed)
@@ -65,13 +65,13 @@ returns-clause-delivered c = λ h code s core owed.
     let k = c.args.number in
     let f = future_shape c.args.future.now in
     let q = owed_edge x k f c.args.from.now (h, code, s, core, owed) in
-    let z : Sees c.args.state.now c.args.number (future_shape c.args.future.now) c.in-Some.actor c.in-Some-value.value.now = record { taken = c.in-Some.ensures.taken; got = c.in-Some-value.ensures.value; held = c.in-Some-value.ensures.held } in
+    let z : Sees c.args.state.now c.args.number (future_shape c.args.future.now) c.in-Some.actor.value c.in-Some-value.value.now = record { taken = c.in-Some.ensures.taken; got = c.in-Some-value.ensures.value; held = c.in-Some-value.ensures.held } in
     let y : CoreState = record { alloc = x.alloc; seats = c.put-came.new.self; ranks = c.rank_again.new.ranks; futures = x.futures; journal = c.note.new.self; left = x.left; bursts = x.bursts } in
     let stands : Stands c.fill_each.new.self (filled q) (received q) =
-    stands_then q z c.fill_each.new.self (λ p. unpack_each (receiver q).store (holders_from 0 (future_shape c.args.future.now) (receiver q).store) p) refl (c.in_ok-fill_each.ensures.stands (receiver q) (received q) (stood q z)) in
+    stands_then q z c.fill_each.new.self (λ p. unpack_each (receiver q).store (holders_from 0 (future_shape c.args.future.now) (receiver q).store) p) refl (c.in_ok-fill_each.ensures.stands (receiver q) (received q) (subst (λ a. Stands a (receiver q) (received q)) (sym c.as_mut-here.ensures.value) (stood q z))) in
     let entry : entry_shape c.in_ok-entry.entry ≡ Delivered (Edge f c.args.from.now owed.name) =
     c.in_ok-entry.ensures.entry ∙ ap (λ m. Delivered (Edge f c.args.from.now m)) (c.in_ok-to.ensures.name ∙ named_so q _ c.name.ensures.name) in
-    core_then q y c.fill_each.new.self stands (c.fill_each.ensures.code ∙ its_code q z)
+    core_then q y c.fill_each.new.self stands (c.fill_each.ensures.code ∙ ap code_of c.as_mut-here.ensures.value ∙ its_code q z)
     (record {
       seats = c.put-came.ensures.seats ∙ ap (λ seats. with_seat seats k (In c.fill_each.new.self)) c.in-Some.ensures.left ∙ set_twice (seats_in x.seats) k (Out []) (In c.fill_each.new.self);
       names = c.put-came.ensures.names ∙ c.take.ensures.names;

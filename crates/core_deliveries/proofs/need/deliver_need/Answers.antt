@@ -1,10 +1,10 @@
-use Rattle.std.proofs.Common.{◌≡◌, ◌∙◌, ◌++◌, ◌∷◌, [], length, slice_get, refl, sym, ap, arith}
+use Rattle.std.proofs.Common.{◌≡◌, ◌<◌, ◌∙◌, ◌++◌, ◌∷◌, [], length, slice_get, refl, sym, ap, arith, subst}
 use Rattle.asp_model.specs.History.{Delivered, Need}
 use Rattle.asp_model.specs.Parcel.{unpack_at}
 use Rattle.asp_model.specs.Shapes.{entry_shape, future_shape}
 use Rattle.activity_seats.specs.Seats.{In, Out, is_in, seats_in, with_seat}
 use Rattle.activity_seats.proofs.SeatLemmas.{set_twice}
-use Rattle.actor.specs.Actors.{Stands}
+use Rattle.actor.specs.Actors.{Stands, code_of}
 use Rattle.rank_laws.specs.Ranked.{rank_in}
 use Rattle.core_state.specs.declared.state.CoreState.{CoreState}
 use Rattle.core_state.proofs.ListLemmas.{got_set}
@@ -21,24 +21,25 @@ unreachable-requires-in_default-value c = value_there (owed_need c.args.state.no
 
 pub fill-requires-clause-value : goal.fill-requires-clause-value
 fill-requires-clause-value c =
-    let z : Sees c.args.state.now c.args.number (future_shape c.args.future.now) c.in-Some.actor c.in-Some-value.value.now = record { taken = c.in-Some.ensures.taken; got = c.in-Some-value.ensures.value; held = c.in-Some-value.ensures.held } in
+    let z : Sees c.args.state.now c.args.number (future_shape c.args.future.now) c.in-Some.actor.value c.in-Some-value.value.now = record { taken = c.in-Some.ensures.taken; got = c.in-Some-value.ensures.value; held = c.in-Some-value.ensures.held } in
     value_closed (owed_need c.args.state.now c.args.number c.args.loc (future_shape c.args.future.now) c.requires.need) z
 
 pub fill-requires-clause-within : goal.fill-requires-clause-within
 fill-requires-clause-within c =
-    let z : Sees c.args.state.now c.args.number (future_shape c.args.future.now) c.in-Some.actor c.in-Some-value.value.now = record { taken = c.in-Some.ensures.taken; got = c.in-Some-value.ensures.value; held = c.in-Some-value.ensures.held } in
-    in_its_store (owed_need c.args.state.now c.args.number c.args.loc (future_shape c.args.future.now) c.requires.need) z c.args.loc (place_within c.args.state.now c.args.number c.args.loc (future_shape c.args.future.now) c.requires.need)
+    let z : Sees c.args.state.now c.args.number (future_shape c.args.future.now) c.in-Some.actor.value c.in-Some-value.value.now = record { taken = c.in-Some.ensures.taken; got = c.in-Some-value.ensures.value; held = c.in-Some-value.ensures.held } in
+    subst (λ a. c.args.loc < length a.activity.state.store.cells) (sym c.as_mut-here.ensures.value)
+    (in_its_store (owed_need c.args.state.now c.args.number c.args.loc (future_shape c.args.future.now) c.requires.need) z c.args.loc (place_within c.args.state.now c.args.number c.args.loc (future_shape c.args.future.now) c.requires.need))
 
 pub fill-requires-clause-code : goal.fill-requires-clause-code
 fill-requires-clause-code c =
-    let z : Sees c.args.state.now c.args.number (future_shape c.args.future.now) c.in-Some.actor c.in-Some-value.value.now = record { taken = c.in-Some.ensures.taken; got = c.in-Some-value.ensures.value; held = c.in-Some-value.ensures.held } in
-    value_code (owed_need c.args.state.now c.args.number c.args.loc (future_shape c.args.future.now) c.requires.need) z
+    let z : Sees c.args.state.now c.args.number (future_shape c.args.future.now) c.in-Some.actor.value c.in-Some-value.value.now = record { taken = c.in-Some.ensures.taken; got = c.in-Some-value.ensures.value; held = c.in-Some-value.ensures.held } in
+    value_code (owed_need c.args.state.now c.args.number c.args.loc (future_shape c.args.future.now) c.requires.need) z ∙ ap code_of (sym c.as_mut-here.ensures.value)
 
 pub rank_again-requires-clause-closed : goal.rank_again-requires-clause-closed
 rank_again-requires-clause-closed c =
     let q = owed_need c.args.state.now c.args.number c.args.loc (future_shape c.args.future.now) c.requires.need in
-    let z : Sees c.args.state.now c.args.number (future_shape c.args.future.now) c.in-Some.actor c.in-Some-value.value.now = record { taken = c.in-Some.ensures.taken; got = c.in-Some-value.ensures.value; held = c.in-Some-value.ensures.held } in
-    filled_closed q c.fill.new.self (stands_then q z c.fill.new.self (λ p. unpack_at (receiver q).store c.args.loc p) refl (c.in_ok-fill.ensures.stands (receiver q) (received q) (stood q z)))
+    let z : Sees c.args.state.now c.args.number (future_shape c.args.future.now) c.in-Some.actor.value c.in-Some-value.value.now = record { taken = c.in-Some.ensures.taken; got = c.in-Some-value.ensures.value; held = c.in-Some-value.ensures.held } in
+    filled_closed q c.fill.new.self (stands_then q z c.fill.new.self (λ p. unpack_at (receiver q).store c.args.loc p) refl (c.in_ok-fill.ensures.stands (receiver q) (received q) (subst (λ a. Stands a (receiver q) (received q)) (sym c.as_mut-here.ensures.value) (stood q z))))
 
 pub rank_again-requires-clause-values : goal.rank_again-requires-clause-values
 rank_again-requires-clause-values c = values_closed (owed_need c.args.state.now c.args.number c.args.loc (future_shape c.args.future.now) c.requires.need)
@@ -64,13 +65,13 @@ returns-clause-delivered c = λ h code s core owed.
     let k = c.args.number in
     let f = future_shape c.args.future.now in
     let q = owed_need x k c.args.loc f (h, code, s, core, owed) in
-    let z : Sees c.args.state.now c.args.number (future_shape c.args.future.now) c.in-Some.actor c.in-Some-value.value.now = record { taken = c.in-Some.ensures.taken; got = c.in-Some-value.ensures.value; held = c.in-Some-value.ensures.held } in
+    let z : Sees c.args.state.now c.args.number (future_shape c.args.future.now) c.in-Some.actor.value c.in-Some-value.value.now = record { taken = c.in-Some.ensures.taken; got = c.in-Some-value.ensures.value; held = c.in-Some-value.ensures.held } in
     let y : CoreState = record { alloc = x.alloc; seats = c.put-came.new.self; ranks = c.rank_again.new.ranks; futures = x.futures; journal = c.note.new.self; left = x.left; bursts = x.bursts } in
     let stands : Stands c.fill.new.self (filled q) (received q) =
-    stands_then q z c.fill.new.self (λ p. unpack_at (receiver q).store c.args.loc p) refl (c.in_ok-fill.ensures.stands (receiver q) (received q) (stood q z)) in
+    stands_then q z c.fill.new.self (λ p. unpack_at (receiver q).store c.args.loc p) refl (c.in_ok-fill.ensures.stands (receiver q) (received q) (subst (λ a. Stands a (receiver q) (received q)) (sym c.as_mut-here.ensures.value) (stood q z))) in
     let entry : entry_shape c.in_ok-entry.entry ≡ Delivered (Need f owed.name c.args.loc) =
     c.in_ok-entry.ensures.entry ∙ ap (λ m. Delivered (Need f m c.args.loc)) (c.in_ok-to.ensures.name ∙ named_so q _ c.name.ensures.name) in
-    core_then q y c.fill.new.self stands (c.fill.ensures.code ∙ its_code q z)
+    core_then q y c.fill.new.self stands (c.fill.ensures.code ∙ ap code_of c.as_mut-here.ensures.value ∙ its_code q z)
     (record {
       seats = c.put-came.ensures.seats ∙ ap (λ seats. with_seat seats k (In c.fill.new.self)) c.in-Some.ensures.left ∙ set_twice (seats_in x.seats) k (Out []) (In c.fill.new.self);
       names = c.put-came.ensures.names ∙ c.take.ensures.names;
