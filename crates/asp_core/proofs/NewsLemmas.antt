@@ -41,7 +41,7 @@ module _ (h : HistoryShape) (code : List Node) (s : RunShape) (x : CoreState) (v
       → IsUnmet g v.activities
   unmet_given given.Nothing e n b is new = tt
   unmet_given (given.Made m a) e n b is new =
-      let made = made_is e.made m a is.1 in
+      let made = made_is e.made m a.value is.1 in
       unmet_one m (absent_before s.configuration n m b (new (m, made.0) made.1))
   unmet_given (given.Sent m r) e n b is new = tt
   unmet_given (given.Filled f p) e n b is new = tt
