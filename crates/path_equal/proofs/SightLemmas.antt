@@ -1,29 +1,23 @@
 -- What is read at a place.
 use Rattle.std.proofs.Common.{◌≡◌, ℕ, zero, suc, ◌≤◌, pos, true, List, [], ◌∷◌, Option, Some, None, length, refl, sym, ap, ◌∙◌, arith}
-use Rattle.std.specs.Borrow.{Bor}
-use Rattle.std.specs.FinMap.{find}
-use Rattle.std.specs.Option.{option_map}
-use Rattle.asp_model.specs.Names.{FutureShape, future_cmp}
+use Rattle.asp_model.specs.Names.{FutureShape}
 use Rattle.asp_model.specs.Parcel.{ParcelShape}
 use Rattle.asp_model.specs.Store.{CellShape, Number, Object, Reference, Future, Group, Store, cell}
-use Rattle.asp_model.specs.Chase.{Values, Chase, Value, Unfilled, Cycle, chase}
+use Rattle.asp_model.specs.Chase.{chase}
 use Rattle.program_code.specs.declared.code.Class.{Class}
 use Rattle.program_code.specs.declared.code.Node.{Node}
-use Rattle.coded_cells.specs.declared.cells.Parcel.{Parcel}
-use Rattle.coded_cells.specs.Shapes.{class_object, parcel_shape, store_of}
-use Rattle.future_table.specs.Values as table
-use Rattle.future_table.specs.Values.{told}
-use Rattle.chase_laws.proofs.ChaseLemmas.{chase_finds}
-use Rattle.paths.specs.Places.{Place, In_store, In_value, Side, inner, written, entered, read, found, entered_by, read_by, part, value_by, name_by}
+use Rattle.coded_cells.specs.Shapes.{class_object, store_of}
+use Rattle.paths.specs.Places.{Place, In_store, In_value, Side, inner, written, entered, read, found, entered_by, read_by, part, name_by}
 use Rattle.paths.specs.Places as places
 use Rattle.paths.specs.StateLines.{is_compound}
 use Rattle.path_equal.specs.declared.seen.Seen.{Seen}
 use Rattle.path_equal.specs.declared.sights.Sight.{Sight}
 use Rattle.path_equal.specs.declared.state.State.{State}
 use Rattle.future_table.specs.Values.{values_of}
-use Rattle.path_equal.specs.Sights.{Sees, seen_shape, seen_value}
+use Rattle.path_equal.specs.Sights.{Sees, seen_shape}
 use Rattle.path_equal.specs.States.{side_in}
 use Rattle.path_equal.specs.Texts.{shown_by}
+use Rattle.state_spots.specs.Reads.{seen_value}
 
 pub cell_past : (s : Store) (n : ℕ) → length s ≤ n → Number (pos 0) ≡ cell s n
 cell_past [] n h = refl
@@ -39,29 +33,6 @@ object_enters values code ns (Some k) = refl
 pub object_compound : (code : List Node) (ns : List ℕ) (k : Option Class) → is_compound (class_object code ns k) ≡ true
 object_compound code ns None = refl
 object_compound code ns (Some k) = refl
-
--- Values of futures
-
--- the value of the future at the end of a chase is the value that is read
-pub value_told : (vs : Values) (f g : FutureShape) → table.Value g ≡ told (chase vs f) → find future_cmp g vs ≡ value_by (chase vs f)
-value_told vs f g e = by (chase vs f) refl e
-  where
-    by : (k : Chase) → chase vs f ≡ k → table.Value g ≡ told k → find future_cmp g vs ≡ value_by k
-    by (Value h p) is t =
-        let same : g ≡ h = cc in
-        ap (λ (x : FutureShape). find future_cmp x vs) same ∙ (chase_finds vs f h p is).0
-    by (Unfilled h) is t = absurd cc
-    by (Cycle h) is t = absurd cc
-
-pub unfilled_told : (c : Chase) (g : FutureShape) → table.Unfilled g ≡ told c → None ≡ value_by c
-unfilled_told (Value h p) g t = absurd cc
-unfilled_told (Unfilled h) g t = refl
-unfilled_told (Cycle h) g t = refl
-
-pub cycle_told : (c : Chase) (g : FutureShape) → table.Cycle g ≡ told c → None ≡ value_by c
-cycle_told (Value h p) g t = absurd cc
-cycle_told (Unfilled h) g t = refl
-cycle_told (Cycle h) g t = refl
 
 -- Sights
 
@@ -90,10 +61,6 @@ written_inside a q v c there = ap (λ (o : Option ParcelShape). part o (suc c)) 
 pub found_is : (s : State) (p : Place) → found (side_in s) p ≡ shown_by (values_of s.futures.now) (read (side_in s) p)
 unfolding side_in
 found_is s p = refl
-
-pub seen_is : (o : Option (Bor Parcel)) → seen_value o ≡ option_map (λ (v : Bor Parcel). parcel_shape v.now) o
-seen_is None = refl
-seen_is (Some v) = refl
 
 pub compound_told : (awaited : FutureShape → FutureShape) (c : CellShape) → is_compound (places.told awaited c) ≡ is_compound c
 compound_told awaited (Number z) = refl

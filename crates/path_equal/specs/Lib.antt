@@ -2,7 +2,6 @@
 pub mod States
 pub mod Views
 pub mod Sights
-pub mod Spots
 pub mod Texts
 pub mod Walks
 pub mod Below

@@ -1,18 +1,15 @@
 -- What is read at a place.
-use Rattle.std.specs.Prelude.{◌≡◌, Option, Some, None}
-use Rattle.std.specs.Borrow.{Bor}
-use Rattle.asp_model.specs.Parcel.{ParcelShape}
+use Rattle.std.specs.Prelude.{◌≡◌, Some}
 use Rattle.asp_model.specs.Shapes.{future_shape}
 use Rattle.asp_model.specs.Store.{CellShape, Number, Reference, Future, Group, cell}
 use Rattle.program_code.specs.Classes.{class_at}
 use Rattle.coded_cells.specs.declared.cells.Parcel.{Parcel}
 use Rattle.coded_cells.specs.Shapes.{class_object, parcel_shape}
-use Rattle.paths.specs.Places.{Place, In_store, Side, inner, entered, read}
+use Rattle.paths.specs.Places.{Place, Side, entered, read}
 use Rattle.path_equal.specs.declared.seen.Seen.{Seen}
 use Rattle.path_equal.specs.declared.seen.Seen.TheVariants as seen
-use Rattle.path_equal.specs.declared.sights.At.{At}
-use Rattle.path_equal.specs.declared.sights.At.TheVariants as at
 use Rattle.path_equal.specs.declared.sights.Sight.{Sight}
+use Rattle.state_spots.specs.Reads.{seen_value}
 
 abbrev pub seen_shape : Seen → CellShape
 seen_shape (seen.Number n) = Number n
@@ -20,15 +17,6 @@ seen_shape (seen.Object o k) = class_object k.now o.now.places.items (class_at k
 seen_shape (seen.Reference n) = Reference n.now
 seen_shape (seen.Future f) = Future (future_shape f.now)
 seen_shape (seen.Group ns) = Group ns.now
-
-abbrev pub seen_value : Option (Bor Parcel) → Option ParcelShape
-seen_value None = None
-seen_value (Some v) = Some (parcel_shape v.now)
-
--- one reads at this place: at a cell of the store, or of the value that is entered at a place
-abbrev pub IsAt : Side → At → Place → Type 0
-IsAt a (at.Store i) p = p ≡ In_store i
-IsAt a (at.Value v c) p = (q : Place) × (p ≡ inner q c) × (entered a q ≡ Some (parcel_shape v.now))
 
 -- what is read at a place, and the value that is entered there
 pub record Sees (a : Side) (p : Place) (s : Sight) : Type 0 where

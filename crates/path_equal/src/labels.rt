@@ -3,7 +3,7 @@
 use asp_model::Label;
 
 /// Where a path begins.
-#[derive(Clone, Copy, Debug)]
+#[derive(Clone, Copy)]
 pub enum Root {
     /// At the active object.
     Active,
@@ -14,7 +14,7 @@ pub enum Root {
 }
 
 /// A step of a path.
-#[derive(Debug, Drop)]
+#[derive(Drop)]
 pub enum PathLabel {
     /// To the first field with this label.
     Field(Label),

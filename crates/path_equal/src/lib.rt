@@ -3,7 +3,6 @@
 
 mod below;
 mod children;
-mod entered;
 mod labels;
 mod lines;
 mod names;

@@ -8,7 +8,7 @@ ghost use Rattle.paths.specs.Places.{Side};
 ghost use Rattle.paths.specs.Snapshots.{SnapshotShape};
 ghost use Rattle.paths.specs.StateLines.{is_compound, state_lines as lines_of_state};
 ghost use Rattle.path_equal.specs.Sights.{Sees, seen_shape};
-ghost use Rattle.path_equal.specs.Spots.{
+ghost use Rattle.state_spots.specs.Spots.{
   Grows,
   HasValues,
   IsNumbered,
@@ -30,7 +30,6 @@ ghost use Rattle.path_equal.specs.Walks.{
 };
 
 use crate::below::{Due, Parent, push_below};
-use crate::entered::{Entered, Spot};
 use crate::seen::Seen;
 use crate::sights::{Sight, look_at};
 use crate::state::State;
@@ -38,6 +37,7 @@ use crate::texts::{line, same_line};
 use asp_model::Word;
 use coded_cells::Place;
 use indexmap::IndexMap;
+use state_spots::{Entered, Spot};
 use std::alloc::{AllocError, Global};
 
 /// The lines so far, with the path of each object and group that they show, and what is still to be

@@ -20,15 +20,16 @@ ghost use Rattle.path_equal.specs.Texts.{shown_by};
 use crate::children::child;
 use crate::labels::{PathLabel, Root};
 use crate::seen::Seen;
-use crate::sights::{At, awaited, look_at};
+use crate::sights::look_at;
 use crate::state::State;
 use asp_model::{ActivityName, FutureName};
 use coded_cells::Place;
 use future_table::FutureTable;
+use state_spots::{At, awaited};
 use term_places::nth_place;
 
 /// What is found at the end of a path.
-#[derive(Clone, Copy, Debug)]
+#[derive(Clone, Copy)]
 pub enum Found<'a> {
     Number(i64),
     Object,

@@ -1,26 +1,15 @@
 //! What is read at a place: a future with a value is read as the value's root.
 
 ghost use Rattle.std.specs.Prelude.{◌≡◌};
-ghost use Rattle.asp_model.specs.Chase.{chase as chase_of};
-ghost use Rattle.asp_model.specs.Shapes.{future_shape};
-ghost use Rattle.future_table.specs.Values.{values_of};
-ghost use Rattle.paths.specs.Places.{Place as PlaceShape, entered_by, name_by, value_by, written};
-ghost use Rattle.path_equal.specs.Sights.{IsAt, IsRootOf, Sees, seen_shape, seen_value};
+ghost use Rattle.paths.specs.Places.{Place as PlaceShape, entered_by, written};
+ghost use Rattle.path_equal.specs.Sights.{IsRootOf, Sees, seen_shape};
 ghost use Rattle.path_equal.specs.States.{side_in};
+ghost use Rattle.state_spots.specs.Reads.{IsAt, seen_value};
 
 use crate::seen::{Seen, in_store, in_value};
 use crate::state::State;
-use asp_model::FutureName;
-use coded_cells::{Parcel, Place};
-use future_table::{Chase, FutureTable};
-
-/// Where one reads: a cell of the store, or of a value. The root of a value stands where the value is
-/// entered.
-#[derive(Clone, Copy)]
-pub enum At<'a> {
-    Store(Place),
-    Value(&'a Parcel, Place),
-}
+use coded_cells::Parcel;
+use state_spots::{At, value_of};
 
 /// What is read at a place, and the value that is entered there.
 #[derive(Clone, Copy)]
@@ -68,25 +57,5 @@ fn value_at<'a>(state: &State<'a>, seen: Seen<'a>) -> Option<&'a Parcel>
     match seen {
         Seen::Future(future) => value_of(state.futures, future),
         _ => None,
-    }
-}
-
-fn value_of<'a>(futures: &'a FutureTable, future: &'a FutureName) -> Option<&'a Parcel>
-    ensures value { let c = chase_of (values_of futures.now) (future_shape future.now) in
-        seen_value result ≡ value_by c }
-{
-    match futures.chase(future) {
-        Chase::Value(name) => futures.value(name),
-        Chase::Unfilled(_) | Chase::Cycle(_) => None,
-    }
-}
-
-/// The future that is awaited where this one has no value.
-pub fn awaited<'a>(futures: &'a FutureTable, future: &'a FutureName) -> &'a FutureName
-    ensures name { let c = chase_of (values_of futures.now) (future_shape future.now) in
-        future_shape result.now ≡ name_by c }
-{
-    match futures.chase(future) {
-        Chase::Value(name) | Chase::Unfilled(name) | Chase::Cycle(name) => name,
     }
 }

@@ -17,11 +17,11 @@ ghost use Rattle.path_equal.specs.Texts.{
 
 use crate::names::{push_future, push_name};
 use crate::seen::Seen;
-use crate::sights::awaited;
 use asp_model::{Label, Word};
 use coded_cells::Object;
 use future_table::FutureTable;
 use program_code::{Class, Code, MethodCode};
+use state_spots::awaited;
 use std::alloc::{AllocError, Global};
 
 /// The line of a place, with what is seen there.

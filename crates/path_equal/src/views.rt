@@ -1,8 +1,8 @@
 //! The states of activities at the end of a run.
 
 ghost use Rattle.std.specs.Prelude.{◌≡◌, IfNone, IfSome, slice_get, true};
-ghost use Rattle.std.specs.Arc.{arc_value};
 ghost use Rattle.asp_model.specs.Shapes.{status_shape};
+ghost use Rattle.future_table.specs.Values.{values_of};
 ghost use Rattle.paths.specs.Outcomes.{EndShape, WholeOutcome};
 ghost use Rattle.run_ends.specs.Ends.{IsEndOf, IsSnapshotOf};
 ghost use Rattle.path_equal.specs.Views.{
@@ -18,19 +18,26 @@ ghost use Rattle.path_equal.specs.Views.{
 
 use crate::state::State;
 use asp_model::{ActivityName, ActivityReport, Status};
+use future_table::FutureTable;
+use program_code::Code;
 use run_ends::{EndState, RunEnd};
 
 // What is read of an activity that ended with this status.
-fn state_of<'a>(end: &'a RunEnd, state: &'a EndState, status: &Status) -> State<'a>
-    ensures state { (o : WholeOutcome) (e : EndShape) → IsEndOf end.now o →
-        IsSnapshotOf (arc_value end.now.code) state.now e.snapshot →
+fn state_of<'a>(
+    code: &'a Code,
+    futures: &'a FutureTable,
+    state: &'a EndState,
+    status: &Status,
+) -> State<'a>
+    ensures state { (o : WholeOutcome) (e : EndShape) → values_of futures.now ≡ o.futures →
+        IsSnapshotOf code.now state.now e.snapshot →
         status_shape status.now ≡ e.report.status → IsSeenAs o e result }
 {
     State {
-        code: &end.code,
+        code,
         machine: &state.machine,
         store: &state.store,
-        futures: &end.futures,
+        futures,
         active: state.active,
         result: state.result(status),
     }
@@ -49,7 +56,8 @@ pub fn state_at(end: &RunEnd, number: usize) -> Option<State<'_>>
         return None;
     }
     let activity = &end.outcome.activities[number];
-    Some(state_of(end, &end.states[number], &activity.status))
+    let state = &end.states[number];
+    Some(state_of(&end.code, &end.futures, state, &activity.status))
 }
 
 // The number of the activity of a name, where the names ascend.

@@ -1,6 +1,6 @@
 use Rattle.std.proofs.Common.{◌-◌, ◌<◌, length, subst, arith}
 use Rattle.path_equal.specs.declared.below.Due.{Due}
-use Rattle.path_equal.specs.Spots.{IsSpot, size_of}
+use Rattle.state_spots.specs.Spots.{IsSpot, size_of}
 use Rattle.path_equal.specs.Walks.{AreSpots, state_seen}
 use Rattle.path_equal.proofs.WalkLemmas.{all_front, all_last, still_more}
 use Rattle.path_equal.proofs.lines.all_lines.Goals as goal

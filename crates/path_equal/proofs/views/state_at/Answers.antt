@@ -5,6 +5,7 @@ use Rattle.asp_model.specs.declared.outcome.ActivityReport.{ActivityReport}
 use Rattle.program_code.specs.declared.code.Node.{Node}
 use Rattle.paths.specs.Outcomes.{EndShape}
 use Rattle.run_ends.specs.declared.ends.EndState.{EndState}
+use Rattle.run_ends.specs.Ends.{IsSnapshotOf}
 use Rattle.path_equal.specs.Views.{IsSeen}
 use Rattle.path_equal.proofs.ViewLemmas.{end_at, none_reported, none_seen}
 use Rattle.path_equal.proofs.views.state_at.Goals as goal
@@ -33,9 +34,10 @@ returns c = record {
       let rs : List ActivityReport = c.args.end.now.outcome.activities.items in
       let xs : List EndState = c.args.end.now.states.items in
       let r : ActivityReport = c.index-activity.result.now in
-      let x : EndState = c.index.result.now in
+      let x : EndState = c.index-state.result.now in
+      let code : k ≡ c.deref.result.now = sym c.deref.ensures in
       let reported : slice_get rs n ≡ Some r = slice_get-get_or rs n r (omega arith) ∙ ap Some (sym c.index-activity.ensures) in
-      let there : slice_get xs n ≡ Some x = slice_get-get_or xs n x (omega arith) ∙ ap Some (sym c.index.ensures) in
+      let there : slice_get xs n ≡ Some x = slice_get-get_or xs n x (omega arith) ∙ ap Some (sym c.index-state.ensures) in
       let at = end_at k rs xs o.ends n r x (ap (λ s. s.activities) h.outcome) h.states reported there in
-      subst (λ (e : Option EndShape). IsSeen o e (Some c.state_of.result)) (sym at.is) (c.state_of.ensures.state o at.end h at.snapshot (ap (λ s. s.status) at.report));
+      subst (λ (e : Option EndShape). IsSeen o e (Some c.state_of.result)) (sym at.is) (c.state_of.ensures.state o at.end h.futures (subst (λ (q : List Node). IsSnapshotOf q x at.end.snapshot) code at.snapshot) (ap (λ s. s.status) at.report));
 }

@@ -3,8 +3,8 @@
 
 ghost use Rattle.std.specs.Prelude.{◌≡◌, ◌+◌, ◌≤◌, ◌<◌, ◌^◌, [], IfOk, OnOk};
 ghost use Rattle.paths.specs.Places.{Side, entered};
-ghost use Rattle.path_equal.specs.Sights.{IsAt, seen_value};
-ghost use Rattle.path_equal.specs.Spots.{
+ghost use Rattle.state_spots.specs.Reads.{IsAt, seen_value};
+ghost use Rattle.state_spots.specs.Spots.{
   EntersAt,
   Grows,
   HasValues,
@@ -17,14 +17,21 @@ ghost use Rattle.path_equal.specs.Spots.{
   size_of,
 };
 
-use crate::sights::At;
 use coded_cells::{Parcel, Place};
 use indexmap::IndexSet;
 use std::alloc::{AllocError, Global};
 
+/// Where one reads: a cell of the store, or of a value. The root of a value stands where the value is
+/// entered.
+#[derive(Clone, Copy)]
+pub enum At<'a> {
+    Store(Place),
+    Value(&'a Parcel, Place),
+}
+
 /// A place: a cell of the store, where `home` is 0, or of the value that is entered at the spot of the
 /// number below. No spot is the root of a value, since that stands where the value is entered.
-#[derive(Clone, Copy, Debug, PartialEq, Eq, Hash, Drop)]
+#[derive(Clone, Copy, PartialEq, Eq, Hash, Drop)]
 pub struct Spot {
     pub home: usize,
     pub cell: Place,

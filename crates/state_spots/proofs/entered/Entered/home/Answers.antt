@@ -1,7 +1,7 @@
 use Rattle.std.proofs.Common.{◌∙◌, sym, ap, arith}
-use Rattle.path_equal.specs.Sights.{seen_value}
-use Rattle.path_equal.proofs.EnterLemmas.{enters_numbered, enters_within, enters_values, enters_home}
-use Rattle.path_equal.proofs.entered.Entered.home.Goals as goal
+use Rattle.state_spots.specs.Reads.{seen_value}
+use Rattle.state_spots.proofs.EnterLemmas.{enters_numbered, enters_within, enters_values, enters_home}
+use Rattle.state_spots.proofs.entered.Entered.home.Goals as goal
 
 pub returns-in_ok-number-in-Some-clause-numbered : goal.returns-in_ok-number-in-Some-clause-numbered
 returns-in_ok-number-in-Some-clause-numbered c =

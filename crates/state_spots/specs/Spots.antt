@@ -5,9 +5,9 @@ use Rattle.std.specs.List.{list_any}
 use Rattle.coded_cells.specs.declared.cells.Parcel.{Parcel}
 use Rattle.coded_cells.specs.Shapes.{parcel_shape}
 use Rattle.paths.specs.Places.{Place, In_store, Side, inner, entered, child_by}
-use Rattle.path_equal.specs.declared.entered.Spot.{Spot}
-use Rattle.path_equal.specs.declared.entered.Entered.{Entered}
-use Rattle.path_equal.specs.contracts.entered.SpotPartialEq.TheImpl as equality
+use Rattle.state_spots.specs.declared.entered.Spot.{Spot}
+use Rattle.state_spots.specs.declared.entered.Entered.{Entered}
+use Rattle.state_spots.specs.contracts.entered.SpotPartialEq.TheImpl as equality
 
 abbrev pub is_spot : Spot → Spot → Bool
 is_spot = equality.ghosts.eq

@@ -2,8 +2,8 @@
 use Rattle.std.proofs.Common.{◌≡◌, ℕ, zero, suc, ◌+◌, ◌≤◌, List, [], ◌∷◌, ◌++◌, length, refl, sym, ap, ◌∙◌, arith, length-append, append_assoc}
 use Rattle.std.proofs.lemmas.List.{get_or_append_left, append-nil}
 use Rattle.paths.specs.Places.{Place, In_store, inner}
-use Rattle.path_equal.specs.declared.entered.Spot.{Spot}
-use Rattle.path_equal.specs.Spots.{numbered_place, spot_place, places_from, places_of, IsSpot}
+use Rattle.state_spots.specs.declared.entered.Spot.{Spot}
+use Rattle.state_spots.specs.Spots.{numbered_place, spot_place, places_from, places_of, IsSpot}
 
 -- Growth
 

@@ -1,5 +1,5 @@
-use Rattle.path_equal.proofs.EnterLemmas.{value_at}
-use Rattle.path_equal.proofs.entered.Entered.at.Goals as goal
+use Rattle.state_spots.proofs.EnterLemmas.{value_at}
+use Rattle.state_spots.proofs.entered.Entered.at.Goals as goal
 
 pub returns-else-spot-eq0 : goal.returns-else-spot-eq0
 returns-else-spot-eq0 c = record {

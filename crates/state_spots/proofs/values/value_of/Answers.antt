@@ -1,8 +1,8 @@
 use Rattle.std.proofs.Common.{◌∙◌}
 use Rattle.asp_model.specs.Shapes.{future_shape}
 use Rattle.future_table.specs.Values.{values_of}
-use Rattle.path_equal.proofs.SightLemmas.{seen_is, value_told}
-use Rattle.path_equal.proofs.sights.value_of.Goals as goal
+use Rattle.state_spots.proofs.ValueLemmas.{seen_is, value_told}
+use Rattle.state_spots.proofs.values.value_of.Goals as goal
 
 pub returns-in-Value : goal.returns-in-Value
 returns-in-Value c = record {

@@ -12,10 +12,10 @@ use Rattle.asp_model.specs.Parcel.{ParcelShape}
 use Rattle.coded_cells.specs.declared.cells.Parcel.{Parcel}
 use Rattle.coded_cells.specs.Shapes.{parcel_shape}
 use Rattle.paths.specs.Places.{Place, In_store, Side, inner, entered, child_by}
-use Rattle.path_equal.specs.declared.entered.Spot.{Spot}
-use Rattle.path_equal.specs.declared.entered.Entered.{Entered}
-use Rattle.path_equal.specs.Spots.{is_spot, place_at, no_spot, spot_at, numbered_place, spot_place, places_of, places_in, place_of, size_of, IsSpot, IsNumbered, HasValues, Stays, Adds, EntersAt, Grows, IsHome}
-use Rattle.path_equal.proofs.SpotLemmas.{places_of-push, length-places_of, spot_stays}
+use Rattle.state_spots.specs.declared.entered.Spot.{Spot}
+use Rattle.state_spots.specs.declared.entered.Entered.{Entered}
+use Rattle.state_spots.specs.Spots.{is_spot, place_at, no_spot, spot_at, numbered_place, spot_place, places_of, places_in, place_of, size_of, IsSpot, IsNumbered, HasValues, Stays, Adds, EntersAt, Grows, IsHome}
+use Rattle.state_spots.proofs.SpotLemmas.{places_of-push, length-places_of, spot_stays}
 
 -- Spots can be told apart
 
