@@ -1,9 +1,10 @@
 #!/usr/bin/env python3
 """Measures how the cost of runs and of replays grows: each at a size and at twice the size.
 
-    bench/growth.py [--program PATH] [--turns N] [--scale F] [--runs-alone] [--counts] [NAME ..]
+    bench/growth.py [--program PATH] [--turns N] [--scale F] [--words WORDS] [--runs-alone] [--counts] [NAME ..]
 
-With no NAME all are measured: bench/growth.py --list prints the names. A size is multiplied by F, which
+With no NAME all are measured: bench/growth.py --list prints the names. WORDS go to each run, and not to
+the replays, as in --words='--workers 4' or --words='--strategy message'. A size is multiplied by F, which
 may be below 1. The seconds are medians of the processor's seconds of N runs, and what is marked grew to
 more than 2.5 times at twice the size, so that it is worth a look: figures depend on the machine, and a
 ratio of short runs means little. With --counts the instructions that callgrind counts stand in place of
@@ -298,13 +299,13 @@ def ratio(small, large):
 def show_growth(folder, program, options):
     size = max(2, int(program.size * options.scale))
     texts = [folder.text(program.text(n)) for n in (size // 2, size)]
-    runs = [median(options, [text, *MOST, *program.words]) for text in texts]
+    runs = [median(options, [text, *MOST, *options.words, *program.words]) for text in texts]
     times, mark = ratio(*runs)
     line = f"{size:>9,} {program.shows:<56}{seconds(runs[0])}{seconds(runs[1])}{times}"
     if not options.runs_alone:
         reports = [folder.new() for _ in texts]
         for text, report in zip(texts, reports):
-            measure.once(options.program, [text, *MOST, *program.words], report)
+            measure.once(options.program, [text, *MOST, *options.words, *program.words], report)
         replays = [median(options, [text, "--replay", report, *program.words]) for text, report in zip(texts, reports)]
         times, other = ratio(*replays)
         line += f"{seconds(replays[0])}{seconds(replays[1])}{times}"
@@ -337,6 +338,7 @@ def words():
     parser.add_argument("--program", default=measure.PROGRAM)
     parser.add_argument("--turns", type=int, default=3)
     parser.add_argument("--scale", type=float, default=1.0)
+    parser.add_argument("--words", type=str.split, default=[])
     parser.add_argument("--runs-alone", action="store_true")
     parser.add_argument("--counts", action="store_true")
     parser.add_argument("--list", action="store_true")

@@ -1,8 +1,8 @@
 #!/usr/bin/env python3
 """Measures the built programs at two sizes each: time, peak memory, and the ratio of the times.
 
-    bench/measure.py [PART ..]     with no PART all of them: reading runs replays cores reports printing stores
-                           edges turns
+    bench/measure.py [PART ..]     with no PART all of them: reading runs replays cores growth bytes reports
+                           printing stores edges turns
 
 Nothing here is a test: figures depend on the machine, and only their ratios within one run mean
 something. The seconds are those of the processor, so that other work on the machine matters less;
@@ -72,6 +72,22 @@ def crowd(n):
         "let m = [; many(s, k) = if (k == 0) { 0 } else { "
         "let b = active([; wait(t, v) = print(v + k)]) in b.wait(f); s.many(k - 1) }] in "
         f"m.many({n}); a.go()"
+    )
+
+
+def made(n):
+    """So many activities of one object, which nobody asks for anything."""
+    return (
+        "let w = [; square(s, v) = v * v] in "
+        f"let m = [; many(s, k) = if (k == 0) {{ 0 }} else {{ active(w); s.many(k - 1) }}] in m.many({n})"
+    )
+
+
+def pending(n):
+    """So many requests to an activity that serves none of them."""
+    return (
+        "let c = active([; run(s) = serve(last), first(s) = 0, last(s) = 0], run) in "
+        f"let m = [; many(s, k) = if (k == 0) {{ 0 }} else {{ c.first(); s.many(k - 1) }}] in m.many({n})"
     )
 
 
@@ -259,6 +275,31 @@ def show_cores(folder):
                   f"(at most 2 is wanted); status {run.status}, peak {run.peak / 1024:,.0f} MiB", flush=True)
 
 
+def show_core_growth(folder):
+    """Runs at twice the size, and of one future that goes to many also under the other strategies."""
+    def texts(name, text, large, *words):
+        half, whole = ([folder.text(text(n)), *MOST, *words] for n in (large // 2, large))
+        show(name, half, whole, turns=3, most=2.5)
+
+    for n in (4_000, 20_000):
+        texts(f"{n:,} pairs", make, n)
+    for strategy in ("lazy", "forward", "message"):
+        texts(f"one future to 5,000 activities, {strategy}", crowd, 5_000, "--strategy", strategy)
+    texts("100,000 activities that wait", crowd, 100_000)
+
+
+def show_bytes(folder):
+    """What a run's memory grows by, with each of so many more."""
+    for name, text, size in (
+        ("a pair", make, 10_000),
+        ("an activity", made, 50_000),
+        ("an activity that waits", crowd, 20_000),
+        ("a pending request", pending, 50_000),
+    ):
+        small, large = (once(PROGRAM, [folder.text(text(n)), *MOST]) for n in (size, 2 * size))
+        print(f"{name}: {(large.peak - small.peak) * 1024 / size:,.0f} bytes", flush=True)
+
+
 def show_reports(folder):
     """Reports of 8 and of 16 MiB whose last line is bad, so that nothing is replayed: status 9."""
     program = folder.text("7")
@@ -360,6 +401,8 @@ PARTS = {
     "runs": show_runs,
     "replays": show_replays,
     "cores": show_cores,
+    "growth": show_core_growth,
+    "bytes": show_bytes,
     "reports": show_reports,
     "printing": show_printing,
     "stores": show_stores,
