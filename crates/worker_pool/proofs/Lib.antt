@@ -1,0 +1,6 @@
+pub mod OutLemmas
+pub mod CoreLemmas
+pub mod RowLemmas
+pub mod SeatLemmas
+pub mod TurnLemmas
+pub mod SenderLemmas

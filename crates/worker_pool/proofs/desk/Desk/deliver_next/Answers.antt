@@ -1,0 +1,13 @@
+use Rattle.std.proofs.Common.{rules, alloc_error}
+use Rattle.worker_pool.proofs.CoreLemmas.{deliver_out}
+use Rattle.worker_pool.proofs.TurnLemmas.{stood, turn_further}
+use Rattle.worker_pool.proofs.desk.Desk.deliver_next.Goals as goal
+
+pub returns-clause-turn : goal.returns-clause-turn
+returns-clause-turn g c =
+    let e = c.deliver.ensures in
+    let before = c.next_delivery.ensures.turn in
+    let orderly = before.keeps.orderly in
+    turn_further c.args.seat c.args.self.now c.next_delivery.new.self _ before
+    (stood c.args.seat c.next_delivery.new.self _ orderly e.begins e.code e.kept (search rules) (search rules)
+    (deliver_out _ _ orderly.kept c.deliver.result alloc_error _ e.delivered e.spent e.err))

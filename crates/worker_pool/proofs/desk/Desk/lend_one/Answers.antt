@@ -1,0 +1,29 @@
+use Rattle.std.proofs.Common.{rules, ◌≡◌, ◌<◌, Some, length, sym, ◌∙◌, subst}
+use Rattle.asp_core.specs.declared.cores.Core.{Core}
+use Rattle.asp_core.specs.Cores.{history_of}
+use Rattle.worker_pool.specs.Rows.{IsOut}
+use Rattle.worker_pool.proofs.CoreLemmas.{lends, lends_none}
+use Rattle.worker_pool.proofs.RowLemmas.{here_set}
+use Rattle.worker_pool.proofs.TurnLemmas.{filled, stood}
+use Rattle.worker_pool.proofs.desk.Desk.lend_one.Goals as goal
+
+pub returns-in_err-lease-clause-turn : goal.returns-in_err-lease-clause-turn
+returns-in_err-lease-clause-turn g c =
+    let e = c.lend.ensures in
+    let same = lends_none _ _ c.requires.orderly.kept _ c.lend.result e.lent e.spent (search rules) in
+    stood c.args.seat c.args.self.now _ c.requires.orderly e.begins e.code e.kept (search rules) (search rules)
+    (λ k burst out. subst (λ (x : Core g.row.P.Denot). IsOut (history_of x) k burst) (sym same) out)
+
+pub returns-clause-turn : goal.returns-clause-turn
+returns-clause-turn g c =
+    let e = c.lend.ensures in
+    filled c.args.seat c.args.self.now _ c.requires.orderly e.begins e.code e.kept (search rules) _ c.in_ok-lease.lease
+    (lends _ _ c.requires.orderly.kept _ c.lend.result e.lent e.spent c.in_ok-lease.lease (search rules)) (search rules)
+
+pub returns-clause-lease : goal.returns-clause-lease
+returns-clause-lease g c =
+    let e = c.lend.ensures in
+    let within : c.args.seat < length c.args.self.now.rows.items = search rules in
+    let lease = (lends _ _ c.requires.orderly.kept _ c.lend.result e.lent e.spent c.in_ok-lease.lease (search rules)).lease in
+    let same : Some (c.number.result, c.burst.result) ≡ Some (c.in_ok-lease.lease.number, c.in_ok-lease.lease.burst) = λ i. Some (c.number.ensures.number i, c.burst.ensures.burst i) in
+    (here_set c.args.self.now.rows.items c.args.seat (Some (c.number.result, c.burst.result)) within ∙ same, lease)

@@ -1,0 +1,23 @@
+use Rattle.std.proofs.Common.{rules, ◌<◌, length, subst, sym}
+use Rattle.asp_model.specs.History.{BeginsWith}
+use Rattle.asp_model.proofs.HistoryLemmas.{begins_with_earlier}
+use Rattle.asp_core.specs.declared.cores.Core.{Core}
+use Rattle.asp_core.specs.Cores.{history_of}
+use Rattle.turn_hub.specs.declared.seat.Seat.{Seat}
+use Rattle.turn_hub.specs.Seats.{seen_by}
+use Rattle.worker_pool.specs.declared.desk.SharedDesk.{SharedDesk}
+use Rattle.worker_pool.specs.Desks.{history_at}
+use Rattle.worker_pool.specs.Turns.{desk_in}
+use Rattle.worker_pool.specs.Working.{IsReady, opened_at}
+use Rattle.worker_pool.proofs.SeatLemmas.{some_of}
+use Rattle.worker_pool.proofs.pool.closed.Goals as goal
+
+pub returns-clause-begins : goal.returns-clause-begins
+returns-clause-begins g c =
+    let S = Seat (SharedDesk g.row.P.Denot) in
+    let some_seat : 0 < length c.args.all.items = search rules in
+    let h = history_at (desk_in c.close.result) in
+    let first = history_at (opened_at c.args.hub) in
+    let one = some_of (λ (s : S). IsReady c.args.hub 1 s) (λ (s : S). BeginsWith h (seen_by s)) c.args.all.items some_seat c.requires.ready c.close.ensures.history in
+    subst (λ (k : Core g.row.P.Denot). BeginsWith (history_of k) first) (sym c.into_core.ensures.core)
+    (begins_with_earlier h (seen_by one.0) first one.2 one.1.4)

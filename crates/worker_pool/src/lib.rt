@@ -1,0 +1,10 @@
+//! Workers that race for one core: each takes turns at it, and works on its lease between them.
+#![tactic(auto)]
+
+mod desk;
+mod gate;
+mod pool;
+mod work;
+
+pub use gate::{Gate, OpenGate};
+pub use pool::{Settings, run, run_core};
