@@ -1,13 +1,16 @@
 //! The program `asp`: the real files and streams, one call, its status.
 #![tactic(auto)]
 
-use asp_edge::{FileSource, StdSink};
+use asp_edge::{FileSource, Sink, Source, StdSink};
 use asp_top::run_asp;
 use std::alloc::AllocError;
 use std::env;
 use std::io::ErrorKind;
 use std::process::ExitCode;
+use std::sync::Wait;
+use std::thread::Threads;
 use update_policy::{ForwardPolicy, LazyPolicy, MessagePolicy, Policies, PolicyBox};
+use worker_pool::OpenGate;
 
 /// There was no memory for the words or for the policies.
 const NO_MEMORY: u8 = 8;
@@ -16,7 +19,13 @@ const NO_MEMORY: u8 = 8;
 const NO_WORDS: u8 = 12;
 
 // The status of the command.
-fn run(rt: &HostRuntime, words: &[String]) -> Result<u8, AllocError> {
+fn run<R: AllocGlobal + Threads + Wait + Sync, S: Source, O: Sink, E: Sink>(
+    rt: &R,
+    words: &[String],
+    source: &mut S,
+    out: &mut O,
+    err: &mut E,
+) -> Result<u8, AllocError> {
     let alloc = rt.alloc();
     let lazy: PolicyBox = Box::new(alloc, LazyPolicy)?;
     let forward: PolicyBox = Box::new(alloc, ForwardPolicy)?;
@@ -26,10 +35,7 @@ fn run(rt: &HostRuntime, words: &[String]) -> Result<u8, AllocError> {
         forward,
         message,
     };
-    let mut source = FileSource::new(rt);
-    let mut out = StdSink::out(rt);
-    let mut err = StdSink::err(rt);
-    Ok(run_asp(rt, words, &mut source, &mut out, &mut err, policies))
+    Ok(run_asp(rt, words, source, out, err, policies, &OpenGate))
 }
 
 fn main(rt: HostRuntime) -> ExitCode {
@@ -44,5 +50,9 @@ fn main(rt: HostRuntime) -> ExitCode {
             return ExitCode::from(NO_MEMORY);
         }
     }
-    ExitCode::from(run(&rt, &words).unwrap_or(NO_MEMORY))
+    let mut source = FileSource::new(&rt);
+    let mut out = StdSink::out(&rt);
+    let mut err = StdSink::err(&rt);
+    let status = run(&rt, &words, &mut source, &mut out, &mut err);
+    ExitCode::from(status.unwrap_or(NO_MEMORY))
 }

@@ -3,7 +3,8 @@
 ghost use Rattle.std.specs.Prelude.{◌≡◌, ◌≤◌, IfOk, IfErr, codes, map, string_bytes};
 ghost use Rattle.asp_model.specs.Report.{text_of, with_feed};
 ghost use Rattle.asp_model.specs.Outcome.{exit_status};
-ghost use Rattle.asp_model.specs.Shapes.{outcome_shape};
+ghost use Rattle.asp_model.specs.Shapes.{outcome_shape, tree_of};
+ghost use Rattle.core_ends.specs.Runs.{IsEndOfRun};
 ghost use Rattle.paths.specs.Outcomes.{WholeOutcome};
 ghost use Rattle.report_laws.specs.Depths.{report_to};
 ghost use Rattle.run_ends.specs.Ends.{IsEndOf};
@@ -18,16 +19,19 @@ ghost use Rattle.asp_top.specs.Ready.{IsReady, IsReadyFor, text_in};
 use crate::programs::{checked_in, program_of};
 use crate::reports::lists_of;
 use crate::stop::Stop;
+use asp_check::Checked;
 use asp_edge::Source;
 use asp_model::{MOST_PAIRS, Outcome, Word, exit_number};
 use command_line::{Settings, Task, read_words};
-use core_runs::run;
 use load_gen::make;
 use replay_one::replay;
 use run_ends::RunEnd;
 use run_report::{render, summarize};
 use std::alloc::{AllocError, Global};
+use std::sync::Wait;
+use std::thread::Threads;
 use update_policy::Policies;
+use worker_pool::{Gate, Settings as Racing, run};
 
 /// A text that is ready to be written, piece by piece, and the status that goes with it.
 #[derive(Drop)]
@@ -85,13 +89,35 @@ fn checked_text(alloc: Global) -> Result<Prepared, AllocError>
     Ok(Prepared { status: 0, pieces })
 }
 
-fn prepare_run<'a, S: Source>(
+// Runs the program as the settings ask.
+fn raced<R: Threads + Wait + Sync, G: Gate>(
+    rt: &R,
+    alloc: Global,
+    program: &Checked,
+    settings: Settings,
+    policies: Policies,
+    gate: &G,
+) -> Result<RunEnd, AllocError>
+    requires within { IsSettings (settings_shape settings) }
+    ensures end { IfOk result (IsEndOfRun (tree_of program.now.program.root) settings.budget) }
+{
+    let racing = Racing {
+        workers: settings.workers,
+        budget: settings.budget,
+        plan: settings.plan,
+    };
+    run(rt, alloc, program, racing, policies, gate)
+}
+
+fn prepare_run<'a, R: Threads + Wait + Sync, S: Source, G: Gate>(
+    rt: &R,
     alloc: Global,
     file: &'a str,
     settings: Settings,
     depth: Option<u32>,
     source: &mut S,
     policies: Policies,
+    gate: &G,
 ) -> Result<Prepared, Stop<'a>>
     requires within { IsSettings (settings_shape settings) }
     ensures answer { let task = Runs file.entry.now (settings_shape settings) depth in
@@ -100,7 +126,7 @@ fn prepare_run<'a, S: Source>(
         IfErr result (StopsTask (outside S.told source) task) }
 {
     let checked = program_of(alloc, file, source)?;
-    let end = run(alloc, &checked, settings.budget, settings.plan, policies);
+    let end = raced(rt, alloc, &checked, settings, policies, gate);
     drop(checked);
     let end = end?;
     Ok(report_for(alloc, &end, depth)?)
@@ -145,11 +171,13 @@ fn prepare_replay<'a, S: Source>(
     }
 }
 
-fn prepare_made<'a>(
+fn prepare_made<'a, R: Threads + Wait + Sync, G: Gate>(
+    rt: &R,
     alloc: Global,
     pairs: u64,
     settings: Settings,
     policies: Policies,
+    gate: &G,
 ) -> Result<Prepared, Stop<'a>>
     requires least { 1 ≤ pairs }
     requires most { pairs ≤ MOST_PAIRS }
@@ -161,17 +189,19 @@ fn prepare_made<'a>(
 {
     let text = make(alloc, pairs)?;
     let program = checked_in(alloc, text.as_bytes())?;
-    let end = run(alloc, &program, settings.budget, settings.plan, policies);
+    let end = raced(rt, alloc, &program, settings, policies, gate);
     drop(program);
     let end = end?;
     Ok(summary_for(alloc, pairs, &end.outcome)?)
 }
 
-fn prepare_task<'a, S: Source>(
+fn prepare_task<'a, R: Threads + Wait + Sync, S: Source, G: Gate>(
+    rt: &R,
     alloc: Global,
     task: Task<'a>,
     source: &mut S,
     policies: Policies,
+    gate: &G,
 ) -> Result<Prepared, Stop<'a>>
     requires within { IsWithin (task_shape task) }
     ensures answer { IfOk result (IsReady (outside S.told source) (task_shape task.entry)) }
@@ -182,29 +212,31 @@ fn prepare_task<'a, S: Source>(
             file,
             settings,
             depth,
-        } => prepare_run(alloc, file, settings, depth, source, policies),
+        } => prepare_run(rt, alloc, file, settings, depth, source, policies, gate),
         Task::Check { file } => prepare_check(alloc, file, source),
         Task::Replay {
             file,
             report,
             depth,
         } => prepare_replay(alloc, file, report, depth, source),
-        Task::Make { pairs, settings } => prepare_made(alloc, pairs, settings, policies),
+        Task::Make { pairs, settings } => prepare_made(rt, alloc, pairs, settings, policies, gate),
     }
 }
 
 /// What the words ask for, ready to be written. The words come first, then the program's file, its
 /// reading and its check, the report's file where there is one, and the run or the replay; the
 /// first refusal in this order ends the work.
-pub fn prepare<'a, S: Source>(
+pub fn prepare<'a, R: Threads + Wait + Sync, S: Source, G: Gate>(
+    rt: &R,
     alloc: Global,
     words: &'a [String],
     source: &mut S,
     policies: Policies,
+    gate: &G,
 ) -> Result<Prepared, Stop<'a>>
     ensures answer { IfOk result (IsReadyFor words.entry.now (outside S.told source)) }
     ensures stop { IfErr result (StopsWords words.entry.now (outside S.told source)) }
 {
     let task = read_words(alloc, words)?;
-    prepare_task(alloc, task, source, policies)
+    prepare_task(rt, alloc, task, source, policies, gate)
 }

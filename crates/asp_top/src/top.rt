@@ -12,20 +12,25 @@ use crate::prepare::prepare;
 use crate::writing::{refuse, write_prepared};
 use asp_edge::{Sink, Source};
 use std::alloc::Global;
+use std::sync::Wait;
+use std::thread::Threads;
 use update_policy::Policies;
+use worker_pool::Gate;
 
 // The call, of which the public one says what follows.
-fn run_words<S: Source, O: Sink, E: Sink>(
+fn run_words<R: Threads + Wait + Sync, S: Source, O: Sink, E: Sink, G: Gate>(
+    rt: &R,
     alloc: Global,
     words: &[String],
     source: &mut S,
     out: &mut O,
     err: &mut E,
     policies: Policies,
+    gate: &G,
 ) -> u8
     ensures { Ends (saw S.told O.told E.told words.now source out err) result }
 {
-    match prepare(alloc, words, source, policies) {
+    match prepare(rt, alloc, words, source, policies, gate) {
         Ok(prepared) => write_prepared(&prepared, out, err),
         Err(stop) => refuse(alloc, &stop, err),
     }
@@ -37,16 +42,25 @@ fn run_words<S: Source, O: Sink, E: Sink>(
 /// pairs and writes a summary. With `--state D` a report shows the states of its activities. A run
 /// asks the policy of each future's strategy, which `--strategy` and `--update` name, how the
 /// future's value is to come to the activities that it was passed to; the policies are dropped when
-/// the call ends, if not before. The words come first, then the program's file, the reading, the
-/// check, the report's file, the run or the replay, and the writing; the first refusal in this order
-/// ends the call. All lines are made before the first is written.
-pub fn run_asp<R: AllocGlobal, S: Source, O: Sink, E: Sink>(
+/// the call ends, if not before. Workers race for the run, 4 or as many as `--workers` says, and each
+/// passes the gate between its work and the turn in which that is committed. The words come first,
+/// then the program's file, the reading, the check, the report's file, the run or the replay, and the
+/// writing; the first refusal in this order ends the call. All lines are made before the first is
+/// written.
+pub fn run_asp<
+    R: AllocGlobal + Threads + Wait + Sync,
+    S: Source,
+    O: Sink,
+    E: Sink,
+    G: Gate,
+>(
     rt: &R,
     words: &[String],
     source: &mut S,
     out: &mut O,
     err: &mut E,
     policies: Policies,
+    gate: &G,
 ) -> u8
     // How the call ends, in full: the status, and what `out` and `err` took.
     ensures ends { Ends (saw S.told O.told E.told words.now source out err) result }
@@ -76,5 +90,5 @@ pub fn run_asp<R: AllocGlobal, S: Source, O: Sink, E: Sink>(
     ensures no_replay { RefusesReports (saw S.told O.told E.told words.now source out err) result }
     ensures complete { Completes (saw S.told O.told E.told words.now source out err) result }
 {
-    run_words(rt.alloc(), words, source, out, err, policies)
+    run_words(rt, rt.alloc(), words, source, out, err, policies, gate)
 }

@@ -4,7 +4,10 @@ use asp_edge::{MemorySink, MemorySource};
 use asp_model::Word;
 use asp_top::run_asp;
 use std::alloc::{AllocError, Global};
-use update_policy::Policies;
+use std::sync::Wait;
+use std::thread::Threads;
+use update_policy::{ForwardPolicy, LazyPolicy, MessagePolicy, Policies, PolicyBox};
+use worker_pool::Gate;
 
 /// The bytes for which a sink has room.
 const ROOM: usize = 65_536;
@@ -36,14 +39,27 @@ pub fn sink(alloc: Global, fails: &[u64], keep: usize) -> Result<MemorySink, All
     MemorySink::new(alloc, fails.to_vec(alloc)?, keep, ROOM)
 }
 
+/// A policy for each strategy, as the program has them.
+pub fn usual_policies(alloc: Global) -> Result<Policies, AllocError> {
+    let lazy: PolicyBox = Box::new(alloc, LazyPolicy)?;
+    let forward: PolicyBox = Box::new(alloc, ForwardPolicy)?;
+    let message: PolicyBox = Box::new(alloc, MessagePolicy)?;
+    Ok(Policies {
+        lazy,
+        forward,
+        message,
+    })
+}
+
 /// The status of the command. This alone calls `run_asp`.
-pub fn status_of<R: AllocGlobal>(
+pub fn status_of<R: AllocGlobal + Threads + Wait + Sync, G: Gate>(
     rt: &R,
     words: &[String],
     source: &mut MemorySource,
     out: &mut MemorySink,
     err: &mut MemorySink,
     policies: Policies,
+    gate: &G,
 ) -> u8 {
-    run_asp(rt, words, source, out, err, policies)
+    run_asp(rt, words, source, out, err, policies, gate)
 }

@@ -1,11 +1,14 @@
 //! Reads and writes that fail.
 
-use crate::commands::{owned, sink, source, status_of};
+use crate::commands::{owned, sink, source, status_of, usual_policies};
 use asp_edge::{MemorySink, MemorySource};
 use std::alloc::{AllocError, Global};
 use std::process::Abort;
+use std::sync::Wait;
 use std::test::Fail;
-use update_policy::{ForwardPolicy, LazyPolicy, MessagePolicy, Policies, PolicyBox};
+use std::thread::Threads;
+use update_policy::Policies;
+use worker_pool::OpenGate;
 
 const PROGRAM: &str = "print(1 + 2)";
 
@@ -116,7 +119,7 @@ static CASES: [Case; 12] = [
 ];
 
 // Its status and what it writes.
-fn answers<R: Abort + AllocGlobal>(
+fn answers<R: Abort + AllocGlobal + Threads + Wait + Sync>(
     rt: &R,
     case: &Case,
     words: &[String],
@@ -125,26 +128,23 @@ fn answers<R: Abort + AllocGlobal>(
     err: &mut MemorySink,
     policies: Policies,
 ) {
-    let status = status_of(rt, words, source, out, err, policies);
+    let status = status_of(rt, words, source, out, err, policies, &OpenGate);
     assert_eq!(rt; status, case.status);
     assert_eq!(rt; out.bytes(), case.out.as_bytes());
     assert_eq!(rt; err.bytes(), case.err.as_bytes());
 }
 
-fn tries<R: Abort + AllocGlobal>(rt: &R, alloc: Global, case: &Case) -> Result<(), AllocError> {
+fn tries<R: Abort + AllocGlobal + Threads + Wait + Sync>(
+    rt: &R,
+    alloc: Global,
+    case: &Case,
+) -> Result<(), AllocError> {
     let words = owned(alloc, case.words)?;
     let files = [("a.asp", PROGRAM), ("r", REPORT)];
     let mut source = source(alloc, &files, case.reads)?;
     let mut out = sink(alloc, case.outs, case.keep)?;
     let mut err = sink(alloc, case.errs, case.keep)?;
-    let lazy: PolicyBox = Box::new(alloc, LazyPolicy)?;
-    let forward: PolicyBox = Box::new(alloc, ForwardPolicy)?;
-    let message: PolicyBox = Box::new(alloc, MessagePolicy)?;
-    let policies = Policies {
-        lazy,
-        forward,
-        message,
-    };
+    let policies = usual_policies(alloc)?;
     answers(rt, case, &words, &mut source, &mut out, &mut err, policies);
     Ok(())
 }

@@ -1,5 +1,6 @@
 //! Whole runs of which no command shows what is tested: reads and writes that fail, policies that
-//! count how often they are asked, printed programs, and replays under lists that no report has.
+//! count how often they are asked, workers that race, printed programs, and replays under lists that
+//! no report has.
 #![tactic(auto)]
 
 #[cfg(test)]
@@ -10,5 +11,7 @@ mod faults_of_the_outside;
 mod policies_asked;
 #[cfg(test)]
 mod printing;
+#[cfg(test)]
+mod racing;
 #[cfg(test)]
 mod replays;

@@ -4,10 +4,12 @@ use crate::commands::{owned, sink, source, status_of};
 use asp_model::{ActivityName, Choice, FutureName};
 use std::alloc::{AllocError, Global};
 use std::process::Abort;
-use std::sync::Arc;
 use std::sync::atomic::{AtomicU64, Ordering};
+use std::sync::{Arc, Wait};
 use std::test::Fail;
+use std::thread::Threads;
 use update_policy::{ForwardPolicy, LazyPolicy, Policies, PolicyBox, UpdatePolicy};
+use worker_pool::OpenGate;
 
 /// A future passes three activities unread.
 const PASSED: &str = "let q = active([; slow(s, v) = v * 10]) in let z = active([; take(s, v) = \
@@ -88,7 +90,7 @@ static CASES: [Case; 6] = [
     },
 ];
 
-fn status<R: AllocGlobal>(
+fn status<R: AllocGlobal + Threads + Wait + Sync>(
     rt: &R,
     alloc: Global,
     case: &Case,
@@ -106,10 +108,22 @@ fn status<R: AllocGlobal>(
     let mut source = source(alloc, &[("a.asp", case.program)], &[])?;
     let mut out = sink(alloc, &[], 0)?;
     let mut err = sink(alloc, &[], 0)?;
-    Ok(status_of(rt, &words, &mut source, &mut out, &mut err, policies))
+    Ok(status_of(
+        rt,
+        &words,
+        &mut source,
+        &mut out,
+        &mut err,
+        policies,
+        &OpenGate,
+    ))
 }
 
-fn counts<R: Abort + AllocGlobal>(rt: &R, alloc: Global, case: &Case) -> Result<(), AllocError> {
+fn counts<R: Abort + AllocGlobal + Threads + Wait + Sync>(
+    rt: &R,
+    alloc: Global,
+    case: &Case,
+) -> Result<(), AllocError> {
     let asked = Arc::new(alloc, AtomicU64::new(0))?;
     let dropped = Arc::new(alloc, AtomicU64::new(0))?;
     let counting = Counting {
