@@ -13,6 +13,12 @@ use Rattle.core_edges.specs.declared.edges.Edges.{Edges}
 use Rattle.core_edges.specs.Answers.{Answering, AreAnswered, AreAsked, Counting}
 use Rattle.core_edges.specs.Strategies.{KeepsEdges, strategy_in}
 
+pub same_strategies : {P : Type 0} (old new : Edges P) → KeepsEdges old new → strategy_in old ≡ strategy_in new
+same_strategies old new keeps =
+    let plans = sym keeps.plan in
+    let kept = sym keeps.strategies in
+    λ i. λ f. or_strategy (plans i).strategy (lookup (λ g. same_future f (future_shape g)) (kept i).entries)
+
 module _ {P : Type 0} (answers : Answering P) (counts : Counting P) where
   asked_even : (strategies : FutureShape → Strategy) (xs : List EdgeShape) (bs : List ChoiceShape) (old new : Policies P)
       → AreAsked answers counts strategies xs bs old new → length bs ≡ length xs
@@ -29,12 +35,6 @@ module _ {P : Type 0} (answers : Answering P) (counts : Counting P) where
   answered_even strategies old new r even =
       ap length r.kept ∙ both old.holders.answers r.given old.holders.holders.edges r.added even (asked_even strategies r.added r.given old.policies new.policies r.asked)
       ∙ ap length (sym r.edges)
-
-  same_strategies : (old new : Edges P) → KeepsEdges old new → strategy_in old ≡ strategy_in new
-  same_strategies old new keeps =
-      let plans = sym keeps.plan in
-      let kept = sym keeps.strategies in
-      λ i. λ f. or_strategy (plans i).strategy (lookup (λ g. same_future f (future_shape g)) (kept i).entries)
 
   -- and so after a change of who is known and who is out
   pub answered_then : (old mid new : Edges P) → AreAnswered answers counts (strategy_in mid) old mid → KeepsEdges mid new

@@ -18,7 +18,10 @@ use Rattle.laws.proofs.NameLemmas.{name_same, name_total, no_some}
 use Rattle.program_code.specs.declared.code.Node.{Node}
 use Rattle.actor.specs.declared.act.Given.{Given}
 use Rattle.actor.specs.declared.actor.Actor.{Actor}
-use Rattle.future_update.specs.Holders.{HoldersView, IsTurned}
+use Rattle.future_update.specs.Holders.{IsTurned}
+use Rattle.core_edges.specs.declared.edges.Edges.{Edges}
+use Rattle.core_edges.specs.Labels.{AreByLabels}
+use Rattle.core_edges.specs.Strategies.{KeepsEdges}
 use Rattle.core_laws.specs.Commits.{made_by, returned, with_activity}
 use Rattle.core_laws.proofs.EventLemmas.{acts_are_events, runs_are_silent}
 use Rattle.core_state.specs.declared.state.CoreState.{CoreState}
@@ -27,8 +30,10 @@ use Rattle.core_commits.specs.declared.arrival.Arrival.{Arrival}
 use Rattle.core_commits.specs.declared.arrival.Arrival.TheVariants.{Acted, Ran}
 use Rattle.core_commits.specs.Arrivals.{IsArrived, IsSettled, act_at, grant_of, number_of}
 use Rattle.core_commits.specs.Commits.{act_by, act_of, act_within}
-use Rattle.asp_core.specs.Bringing.{AreToldBy, IsBroughtBack}
+use Rattle.asp_core.specs.Bringing.{AreToldBy, IsBroughtBack, KeepLabelsBy}
 use Rattle.asp_core.specs.Runs.{Stand, counted}
+use Rattle.asp_core.proofs.NewsLemmas.{is_new_to}
+use Rattle.asp_core.proofs.PlanLemmas.{labels_kept}
 use Rattle.asp_core.proofs.StandLemmas.{comes_back}
 
 -- what acts so has no need
@@ -57,15 +62,16 @@ no_need s n grant taken end e is =
 same_taken : (reductions a b : ℕ) → reductions ≡ suc a → reductions ≡ suc b → a ≡ b
 same_taken reductions a b is so = omega (arith, is, so)
 
-module _ (h : HistoryShape) (code : List Node) (s : RunShape) (x : CoreState) (v : HoldersView) (st : Stand h code s x v) (n : Name) (z y : CoreState) (u w : HoldersView) where
+module _ {P : Type 0} (h : HistoryShape) (code : List Node) (s : RunShape) (x : CoreState) (v : Edges P) (st : Stand h code s x v.holders) (labels : AreByLabels s.configuration v)
+    (n : Name) (z y : CoreState) (u w : Edges P) (keeps : KeepsEdges u w) where
   -- the answers are as many as edges, once the edges were told
   abbrev Even : Type 0
-  Even = length u.answers ≡ length u.holders.edges
+  Even = length u.holders.answers ≡ length u.holders.holders.edges
 
-  module _ (taken k grant reductions : ℕ) (turned : IsTurned k false u.activities w.activities) (holders : w.holders ≡ u.holders) (answers : w.answers ≡ u.answers) (even : Even) where
-    pub ran_back : (a : Box Actor) (r : IsArrived h code z s n taken (Ran k grant reductions a)) → u ≡ v
+  module _ (taken k grant reductions : ℕ) (turned : IsTurned k false u.holders.activities w.holders.activities) (even : Even) where
+    pub ran_back : (a : Box Actor) (r : IsArrived h code z s n taken (Ran k grant reductions a)) → u.holders ≡ v.holders → u ≡ v
         → IsSettled h code z s n taken (Ran k grant reductions a) r y → IsBroughtBack h code s k n grant taken y w
-    ran_back a r same core =
+    ran_back a r same edges core =
         let end = r.0.end in
         let none : act_at s n grant reductions end ≡ None = subst (λ t. act_at s n grant t end ≡ None) (sym r.1) r.2 in
         let c : Configuration = with_activity n end s.configuration in
@@ -74,38 +80,41 @@ module _ (h : HistoryShape) (code : List Node) (s : RunShape) (x : CoreState) (v
           end = end;
           has_run = r.0.has_run;
           after = t;
-          stand = subst (λ q. Stand (with_entry h (Committed k q)) code t y w) (sym (ap (counted reductions) none))
-              (comes_back h code s x v st u w y k reductions (grant - reductions) c [] core
-              (ap (λ q. q.holders) same ∙ ap (λ es. after_events es v.holders) (sym (runs_are_silent s k grant n reductions end r.0.has_run)))
-              even (ap (λ q. q.activities) same ∙ sym (append-nil v.activities)) turned holders answers);
+          stand = subst (λ q. Stand (with_entry h (Committed k q)) code t y w.holders) (sym (ap (counted reductions) none))
+              (comes_back h code s x v.holders st u.holders w.holders y k reductions (grant - reductions) c [] core
+              (ap (λ q. q.holders) same ∙ ap (λ es. after_events es v.holders.holders) (sym (runs_are_silent s k grant n reductions end r.0.has_run)))
+              even (ap (λ q. q.activities) same ∙ sym (append-nil v.holders.activities)) turned keeps.holders keeps.answers);
+          labels = labels_kept s.configuration c v w refl (subst (λ q. KeepsEdges q w) edges keeps) labels;
         })
 
-    pub acted_back : (g : Given) (r : IsArrived h code z s n taken (Acted k grant reductions g)) → AreToldBy n (Acted k grant reductions g) v u
-        → IsSettled h code z s n taken (Acted k grant reductions g) r y → IsBroughtBack h code s k n grant taken y w
-    acted_back g r told core =
+    pub acted_back : (g : Given) (r : IsArrived h code z s n taken (Acted k grant reductions g)) → AreToldBy n (Acted k grant reductions g) v.holders u.holders
+        → KeepLabelsBy (Acted k grant reductions g) v u → IsSettled h code z s n taken (Acted k grant reductions g) r y → IsBroughtBack h code s k n grant taken y w
+    acted_back g r told labelled core =
         let e = r.0 in
         let acting = r.1.acting in
         let end = acting.returning.end in
         let same = same_taken reductions acting.taken taken acting.more r.2 in
         let some : act_at s n grant acting.taken end ≡ Some e = subst (λ t. act_at s n grant t end ≡ Some e) (sym same) r.3 in
-        let c : Configuration = with_effect n e (with_activity n end s.configuration) in
+        let ended : Configuration = with_activity n end s.configuration in
+        let c : Configuration = with_effect n e ended in
         let t : RunShape = returned s k (grant - reductions) c (made_by e.made) in
         let know = told e r.1.hand.given in
         let events : entry_events (Committed k reductions) s ≡ effect_events n [] e =
         ap (λ q. entry_events (Committed k q) s) acting.more
         ∙ acts_are_events s k grant n acting.taken end e acting.returning.has_run (no_need s n grant acting.taken end e some) acting.intends in
+        let new = is_new_to h code s r.1.before k n grant reductions r.1.actor e acting in
         subst (λ q. IsBroughtBack h code s k n grant q y w) same (record {
           end = end;
           has_run = acting.returning.has_run;
           after = t;
-          stand = subst (λ q. Stand (with_entry h (Committed k q)) code t y w) (acting.more ∙ sym (ap (counted acting.taken) some))
-              (comes_back h code s x v st u w y k reductions (grant - reductions) c (made_by e.made) core
-              (know.holders ∙ ap (λ es. after_events es v.holders) (sym events))
-              even know.activities turned holders answers);
+          stand = subst (λ q. Stand (with_entry h (Committed k q)) code t y w.holders) (acting.more ∙ sym (ap (counted acting.taken) some))
+              (comes_back h code s x v.holders st u.holders w.holders y k reductions (grant - reductions) c (made_by e.made) core
+              (know.holders ∙ ap (λ es. after_events es v.holders.holders) (sym events))
+              even know.activities turned keeps.holders keeps.answers);
+          labels = labels_kept c c u w refl keeps (labelled ended n e new r.1.hand.given labels);
         })
 
-  pub brought_back : (taken : ℕ) (a : Arrival) (r : IsArrived h code z s n taken a) → AreToldBy n a v u → IsSettled h code z s n taken a r y → Even
-      → IsTurned (number_of a) false u.activities w.activities → w.holders ≡ u.holders → w.answers ≡ u.answers
-      → IsBroughtBack h code s (number_of a) n (grant_of a) taken y w
-  brought_back taken (Ran k grant reductions a) r told core even turned holders answers = ran_back taken k grant reductions turned holders answers even a r told core
-  brought_back taken (Acted k grant reductions g) r told core even turned holders answers = acted_back taken k grant reductions turned holders answers even g r told core
+  pub brought_back : (taken : ℕ) (a : Arrival) (r : IsArrived h code z s n taken a) → AreToldBy n a v.holders u.holders → KeepLabelsBy a v u → IsSettled h code z s n taken a r y → Even
+      → IsTurned (number_of a) false u.holders.activities w.holders.activities → IsBroughtBack h code s (number_of a) n (grant_of a) taken y w
+  brought_back taken (Ran k grant reductions a) r told labelled core even turned = ran_back taken k grant reductions turned even a r told labelled core
+  brought_back taken (Acted k grant reductions g) r told labelled core even turned = acted_back taken k grant reductions turned even g r told labelled core

@@ -5,6 +5,7 @@ use Rattle.std.specs.Arc.{arc_value}
 use Rattle.asp_model.specs.History.{BeginsWith, EntryShape, HistoryShape}
 use Rattle.journals.specs.Journals.{RunShape}
 use Rattle.laws.proofs.NameLemmas.{none_true}
+use Rattle.core_edges.specs.Labels.{AreByLabels}
 use Rattle.core_state.specs.Cores.{program_of, with_entry}
 use Rattle.asp_core.specs.declared.cores.Core.{Core}
 use Rattle.asp_core.specs.Calls.{HasEntered, HasGoneOn}
@@ -30,7 +31,7 @@ module _ {P : Type 0} where
   same_history old new code budget entries = λ i. record { program = program_of (arc_value (code i)); budget = budget i; entries = entries i }
 
   module _ (old new : Core P) (e : EntryShape) (t : RunShape) (code : new.code ≡ old.code) (budget : new.budget ≡ old.budget) (fresh : new.spent ≡ false)
-      (st : Stand (with_entry (history_of old) e) (code_of old) t new.state new.edges.holders) where
+      (st : Stand (with_entry (history_of old) e) (code_of old) t new.state new.edges.holders) (labels : AreByLabels t.configuration new.edges) where
     pub entered : HasEntered old e new
     entered = λ i. record { program = program_of (arc_value (code i)); budget = budget i; entries = st.core.entries i }
 
@@ -40,7 +41,7 @@ module _ {P : Type 0} where
         (subst (λ k. Stand (with_entry (history_of old) e) k t new.state new.edges.holders) (ap arc_value (sym code)) st)
 
     pub runs : IsRun new t
-    runs = record { fresh = fresh; stand = stands }
+    runs = record { fresh = fresh; stand = stands; labels = labels }
 
     pub has_gone_on : HasGoneOn old e new
     has_gone_on = record {

@@ -1,9 +1,10 @@
 pub mod OutLemmas
 pub mod DueLemmas
 pub mod StandLemmas
-pub mod BringLemmas
-pub mod NewsLemmas
 pub mod AnswerLemmas
+pub mod PlanLemmas
+pub mod NewsLemmas
+pub mod BringLemmas
 pub mod CoreLemmas
 pub mod StartLemmas
 pub mod LendLemmas

@@ -8,10 +8,12 @@ use Rattle.asp_model.specs.Names.{Name, name_cmp}
 use Rattle.asp_model.specs.Step.{name_at}
 use Rattle.journals.specs.Journals.{RunShape}
 use Rattle.laws.proofs.NameLemmas.{none_true}
-use Rattle.laws.proofs.WholeLemmas.{reached_are_sound}
+use Rattle.laws.proofs.WholeLemmas.{reached_are_sound, sound_intents}
+use Rattle.laws.specs.Steps.{IsNewTo}
 use Rattle.program_code.specs.declared.code.Node.{Node}
 use Rattle.actor.specs.declared.act.Given.{Given}
 use Rattle.actor.specs.declared.act.Given.TheVariants as given
+use Rattle.actor.specs.declared.actor.Actor.{Actor}
 use Rattle.actor.specs.Effects.{IsGiven}
 use Rattle.future_update.specs.Holders.{HoldersView, is_met}
 use Rattle.core_laws.specs.Commits.{with_activity}
@@ -20,6 +22,7 @@ use Rattle.core_state.specs.declared.state.CoreState.{CoreState}
 use Rattle.core_commits.specs.declared.arrival.Arrival.{Arrival}
 use Rattle.core_commits.specs.declared.arrival.Arrival.TheVariants.{Acted, Ran}
 use Rattle.core_commits.specs.Arrivals.{IsArrived}
+use Rattle.core_commits.specs.Commits.{IsActing}
 use Rattle.core_commits.proofs.ActLemmas.{reached}
 use Rattle.core_commits.proofs.HandLemmas.{made_is}
 use Rattle.edge_laws.specs.Fresh.{IsFresh}
@@ -28,6 +31,13 @@ use Rattle.asp_core.specs.Bringing.{IsNewBy, IsUnmet}
 use Rattle.asp_core.specs.Runs.{Stand, holders_left}
 use Rattle.asp_core.proofs.OutLemmas.{unmet}
 use Rattle.asp_core.proofs.StandLemmas.{numbered}
+
+-- what an activity intends is new to its configuration
+pub is_new_to : (h : HistoryShape) (code : List Node) (s : RunShape) (before : CoreState) (k : ℕ) (n : Name) (grant reductions : ℕ) (a : Actor) (e : Effect)
+    → (acting : IsActing h code before s k n grant reductions a e) → IsNewTo (with_activity n acting.returning.end s.configuration) e
+is_new_to h code s before k n grant reductions a e acting =
+    let c : Configuration = with_activity n acting.returning.end s.configuration in
+    (sound_intents c (reached_are_sound h.program c (reached h code before s k n grant acting.taken a acting.returning))).effects n e acting.intends
 
 module _ (h : HistoryShape) (code : List Node) (s : RunShape) (x : CoreState) (v : HoldersView) (st : Stand h code s x v) where
   -- nobody has the name of one who is not there

@@ -4,6 +4,7 @@ use Rattle.asp_model.specs.Names.{main_name}
 use Rattle.asp_model.specs.Term.{Tree}
 use Rattle.journals.specs.Edges.{HoldersShape, no_holders}
 use Rattle.journals.specs.Journals.{begun}
+use Rattle.laws.proofs.NameLemmas.{no_some}
 use Rattle.program_code.specs.declared.code.Node.{Node}
 use Rattle.future_update.specs.Holders.{HoldersView, is_out}
 use Rattle.core_state.specs.declared.state.CoreState.{CoreState}
@@ -36,4 +37,4 @@ module _ {P : Type 0} (x : Core P) (program : Tree) (same : program_of (code_of 
   pub run_begins : IsRun x (begun program x.budget)
   run_begins =
       subst (λ p. IsRun x (begun p x.budget)) same
-      (record { fresh = fresh; stand = subst (λ h. Stand h (code_of x) (begun (program_of (code_of x)) x.budget) x.state x.edges.holders) (sym history_so) st })
+      (record { fresh = fresh; labels = λ m k r none. no_some none; stand = subst (λ h. Stand h (code_of x) (begun (program_of (code_of x)) x.budget) x.state x.edges.holders) (sym history_so) st })

@@ -7,6 +7,7 @@ use Rattle.journals.specs.Journals.{RunShape}
 use Rattle.program_code.specs.declared.code.Node.{Node}
 use Rattle.activity_seats.specs.Seats.{names_in, seats_in}
 use Rattle.core_journal.specs.Journal.{entries_in}
+use Rattle.core_edges.specs.Labels.{AreByLabels}
 use Rattle.core_state.specs.Cores.{program_of}
 use Rattle.asp_core.specs.declared.cores.Core.{Core}
 use Rattle.asp_core.specs.Runs.{Stand}
@@ -28,10 +29,12 @@ module _ {P : Type 0} where
   abbrev pub activities_of : Core P → ℕ
   activities_of x = length (seats_in x.state.seats)
 
-  -- it is not spent, and stands for this run of its history
+  -- it is not spent, and stands for this run of its history, in which each future has the plan's strategy for the
+  -- label of its request
   pub record IsRun (x : Core P) (s : RunShape) : Type 0 where
     pub fresh : x.spent ≡ false
     pub stand : Stand (history_of x) (code_of x) s x.state x.edges.holders
+    pub labels : AreByLabels s.configuration x.edges
 
   -- so each core does that is not spent
   abbrev pub IsKept : Core P → Type 0

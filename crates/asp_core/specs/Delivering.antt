@@ -7,6 +7,8 @@ use Rattle.journals.specs.Journals.{RunShape}
 use Rattle.program_code.specs.declared.code.Node.{Node}
 use Rattle.future_update.specs.Holders.{HoldersView, edge_in, owed_to_one_in}
 use Rattle.marked_places.specs.Firsts.{IsFirstFrom}
+use Rattle.core_edges.specs.declared.edges.Edges.{Edges}
+use Rattle.core_edges.specs.Labels.{AreByLabels}
 use Rattle.core_state.specs.declared.state.CoreState.{CoreState}
 use Rattle.core_state.specs.Cores.{with_entry}
 use Rattle.asp_core.specs.Calls.{MayDeliver}
@@ -17,8 +19,8 @@ abbrev pub StandForDelivery : CoreState → HoldersView → DeliveryShape → Ty
 StandForDelivery x v d = (h : HistoryShape) × (code : List Node) × (s : RunShape) × Stand h code s x v × MayDeliver s d
 
 -- it was entered
-abbrev pub IsHanded : HistoryShape → List Node → DeliveryShape → CoreState → HoldersView → Type 0
-IsHanded h code d y w = (t : RunShape) × Stand (with_entry h (Delivered d)) code t y w
+abbrev pub IsHanded : {P : Type 0} → HistoryShape → List Node → DeliveryShape → CoreState → Edges P → Type 0
+IsHanded h code d y w = (t : RunShape) × Stand (with_entry h (Delivered d)) code t y w.holders × AreByLabels t.configuration w
 
 -- the first edge that is owed to one that is in, or there is none
 abbrev pub IsDueDelivery : HoldersView → Option DeliveryShape → Type 0

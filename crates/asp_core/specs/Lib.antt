@@ -1,6 +1,7 @@
 -- in reading order
 pub mod Runs
 pub mod Cores
+pub mod Plans
 pub mod Calls
 pub mod Bringing
 pub mod Delivering

@@ -10,6 +10,7 @@ ghost use Rattle.core_journal.specs.Journal.{entries_in};
 ghost use Rattle.core_state.specs.Leases.{IsLease};
 ghost use Rattle.core_edges.specs.Answers.{AreAnswered};
 ghost use Rattle.core_edges.specs.Given.{IsSomeFresh};
+ghost use Rattle.core_edges.specs.Labels.{AreByLabels};
 ghost use Rattle.core_edges.specs.Strategies.{strategy_in};
 ghost use Rattle.asp_core.specs.Bringing.{
   AreTold,
@@ -17,10 +18,13 @@ ghost use Rattle.asp_core.specs.Bringing.{
   IsBroughtBack,
   IsNewBy,
   IsUnmet,
+  KeepLabels,
+  KeepLabelsBy,
   StandForLease,
 };
 ghost use Rattle.asp_core.specs.Calls.{IsCommittedBy};
 ghost use Rattle.asp_core.specs.Cores.{IsKept, IsRun, code_of, history_of};
+ghost use Rattle.asp_core.specs.Plans.{KeepsStrategies, StayByPlan};
 ghost use Rattle.asp_core.specs.Runs.{Stand};
 
 use crate::cores::Core;
@@ -45,6 +49,8 @@ fn tell<P: UpdatePolicy>(
         OnOk result (AreTold by.now e edges.old.holders edges.new.holders) }
     ensures answers { let strategies = strategy_in edges.new in
         OnOk result (AreAnswered P.answer P.asked strategies edges.old edges.new) }
+    ensures labels { OnOk result (KeepLabels given.now edges.old edges.new) }
+    ensures keeps { OnOk result (KeepsStrategies edges.old edges.new) }
 {
     edges.given(alloc, by, given)?;
     match given {
@@ -68,6 +74,8 @@ fn tell_arrival<P: UpdatePolicy>(
         (AreToldBy by.now arrival.now edges.old.holders edges.new.holders) }
     ensures answers { let strategies = strategy_in edges.new in
         OnOk result (AreAnswered P.answer P.asked strategies edges.old edges.new) }
+    ensures labels { OnOk result (KeepLabelsBy arrival.now edges.old edges.new) }
+    ensures keeps { OnOk result (KeepsStrategies edges.old edges.new) }
 {
     match arrival {
         Arrival::Ran { .. } => Ok(()),
@@ -84,11 +92,13 @@ fn bring_back<P: UpdatePolicy>(
 ) -> Result<(), AllocError>
     requires lease { StandForLease state.old edges.old.holders lease }
     ensures back { (h : HistoryShape) (code : List NodeShape) (s : RunShape) →
-        Stand h code s state.old edges.old.holders → (l : IsLease h code lease) →
+        Stand h code s state.old edges.old.holders → AreByLabels s.configuration edges.old →
+        (l : IsLease h code lease) →
         let back = IsBroughtBack h code s lease.number l.name lease.grant lease.taken in
-        OnOk result (back state.new edges.new.holders) }
+        OnOk result (back state.new edges.new) }
     ensures answers { let strategies = strategy_in edges.new in
         OnOk result (AreAnswered P.answer P.asked strategies edges.old edges.new) }
+    ensures keeps { OnOk result (KeepsStrategies edges.old edges.new) }
     ensures entries { OnErr result
         (entries_in state.new.journal ≡ entries_in state.old.journal) }
 {
@@ -113,6 +123,8 @@ impl<P: UpdatePolicy> Core<P> {
             OnOk result (IsCommittedBy self.old s lease l.name self.new) }
         ensures answers { let strategies = strategy_in self.new.edges in
             OnOk result (AreAnswered P.answer P.asked strategies self.old.edges self.new.edges) }
+        ensures by_plan { OnOk result
+            (StayByPlan P.answer P.asked self.old.edges self.new.edges) }
         ensures spent { self.old.spent ≡ true → result ≡ Err alloc_error }
         ensures gives_up { OnErr result (self.new.spent ≡ true) }
         ensures err { OnErr result (history_of self.new ≡ history_of self.old) }

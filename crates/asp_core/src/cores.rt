@@ -28,6 +28,7 @@ impl<P: UpdatePolicy + Drop> Core<P> {
     ghost use Rattle.journals.specs.Journals.{begun};
     ghost use Rattle.core_state.specs.Cores.{history_begun};
     ghost use Rattle.asp_core.specs.Cores.{IsRun, history_of};
+    ghost use Rattle.asp_core.specs.Plans.{AreByPlan};
 
     /// A core whose main activity is in, with the program as its term, and the whole budget.
     pub fn new(
@@ -41,6 +42,10 @@ impl<P: UpdatePolicy + Drop> Core<P> {
             IfOk result (λ x. IsRun x (begun term budget)) }
         ensures history { let term = tree_of program.now.program.root in
             IfOk result (λ x. history_of x ≡ history_begun term budget) }
+        ensures plan { IfOk result (λ x. x.edges.plan ≡ plan) }
+        ensures policies { IfOk result (λ x. x.edges.policies ≡ policies) }
+        ensures by_plan { IfOk result
+            (λ x. AreByPlan P.answer P.asked plan policies x.edges) }
     {
         let code = Arc::new(alloc, compile(alloc, program)?)?;
         let state = CoreState::begin(alloc, code.clone()?, budget)?;

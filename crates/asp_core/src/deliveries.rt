@@ -31,10 +31,12 @@ ghost use Rattle.core_journal.specs.Journal.{entries_in};
 ghost use Rattle.core_state.specs.Cores.{IsSomeCore};
 ghost use Rattle.core_edges.specs.Answers.{AreAnswered};
 ghost use Rattle.core_edges.specs.Deliveries.{future_of};
+ghost use Rattle.core_edges.specs.Labels.{AreByLabels};
 ghost use Rattle.core_edges.specs.Strategies.{KeepsOthers, strategy_in};
 ghost use Rattle.asp_core.specs.Calls.{HasGoneOn, MayDeliver, owed_next};
 ghost use Rattle.asp_core.specs.Cores.{IsKept, IsRun, code_of, history_of};
 ghost use Rattle.asp_core.specs.Delivering.{IsDueDelivery, IsHanded, StandForDelivery};
+ghost use Rattle.asp_core.specs.Plans.{KeepsStrategies, StayByPlan};
 ghost use Rattle.asp_core.specs.Runs.{Stand, StandForSome};
 
 use crate::cores::Core;
@@ -132,10 +134,12 @@ fn hand<P: UpdatePolicy>(
     requires delivery { let d = delivery_shape delivery.now in
         StandForDelivery state.old edges.old.holders d }
     ensures handed { (h : HistoryShape) (code : List NodeShape) (s : RunShape) →
-        Stand h code s state.old edges.old.holders → let d = delivery_shape delivery.now in
-        MayDeliver s d → OnOk result (IsHanded h code d state.new edges.new.holders) }
+        Stand h code s state.old edges.old.holders → AreByLabels s.configuration edges.old →
+        let d = delivery_shape delivery.now in
+        MayDeliver s d → OnOk result (IsHanded h code d state.new edges.new) }
     ensures answers { let strategies = strategy_in edges.new in
         OnOk result (AreAnswered P.answer P.asked strategies edges.old edges.new) }
+    ensures keeps { OnOk result (KeepsStrategies edges.old edges.new) }
     ensures entries { OnErr result
         (entries_in state.new.journal ≡ entries_in state.old.journal) }
 {
@@ -193,6 +197,8 @@ impl<P: UpdatePolicy> Core<P> {
             OnOk result (HasGoneOn self.old entry self.new) }
         ensures answers { let strategies = strategy_in self.new.edges in
             OnOk result (AreAnswered P.answer P.asked strategies self.old.edges self.new.edges) }
+        ensures by_plan { OnOk result
+            (StayByPlan P.answer P.asked self.old.edges self.new.edges) }
         ensures spent { self.old.spent ≡ true → result ≡ Err alloc_error }
         ensures gives_up { OnErr result (self.new.spent ≡ true) }
         ensures err { OnErr result (history_of self.new ≡ history_of self.old) }

@@ -6,6 +6,7 @@ ghost use Rattle.journals.specs.Journals.{RunShape};
 ghost use Rattle.core_state.specs.Lending.{IsNextReady};
 ghost use Rattle.asp_core.specs.Calls.{IsLentBy};
 ghost use Rattle.asp_core.specs.Cores.{IsKept, IsRun, activities_of, code_of, history_of};
+ghost use Rattle.asp_core.specs.Plans.{StayByPlan};
 
 use crate::cores::Core;
 use core_state::Lease;
@@ -32,6 +33,7 @@ impl<P: UpdatePolicy> Core<P> {
         requires known { number < activities_of self.old }
         ensures lent { (s : RunShape) → IsRun self.old s →
             IsLentBy self.old s number result self.new }
+        ensures by_plan { StayByPlan P.answer P.asked self.old.edges self.new.edges }
         ensures spent { self.old.spent ≡ true → (result ≡ None) × (self.new ≡ self.old) }
         ensures kept { IsKept self.new }
         ensures begins { BeginsWith (history_of self.new) (history_of self.old) }

@@ -4,6 +4,7 @@ use Rattle.core_commits.specs.Arrivals.{act_at}
 use Rattle.asp_core.specs.Cores.{code_of, history_of}
 use Rattle.asp_core.specs.Runs.{counted}
 use Rattle.asp_core.proofs.CoreLemmas.{begins_before, begins_same, has_gone_on, entered, run_kept, runs, same_history}
+use Rattle.asp_core.proofs.PlanLemmas.{by_plan_on}
 use Rattle.asp_core.proofs.cores.Core.commit.Goals as goal
 
 pub returns-in_err-bring_back-clause-begins : goal.returns-in_err-bring_back-clause-begins
@@ -17,9 +18,9 @@ returns-clause-committed g c = λ s run l.
     let x = c.args.self.now in
     let lease = c.args.lease in
     let new = record x { state = c.bring_back.new.state; edges = c.bring_back.new.edges; spent = false } in
-    let back = c.in_ok-bring_back.ensures.back (history_of x) (code_of x) s run.stand l in
+    let back = c.in_ok-bring_back.ensures.back (history_of x) (code_of x) s run.stand run.labels l in
     let e = Committed lease.number (counted lease.taken (act_at s l.name lease.grant lease.taken back.end)) in
-    record { end = back.end; has_run = back.has_run; on = has_gone_on x new e back.after refl refl refl back.stand }
+    record { end = back.end; has_run = back.has_run; on = has_gone_on x new e back.after refl refl refl back.stand back.labels }
 
 pub returns-clause-kept : goal.returns-clause-kept
 returns-clause-kept g c =
@@ -27,9 +28,9 @@ returns-clause-kept g c =
     let lease = c.args.lease in
     let new = record x { state = c.bring_back.new.state; edges = c.bring_back.new.edges; spent = false } in
     let r = c.requires.kept c.if-self.false in
-    let back = c.in_ok-bring_back.ensures.back (history_of x) (code_of x) r.0 r.1.stand c.requires.lease in
+    let back = c.in_ok-bring_back.ensures.back (history_of x) (code_of x) r.0 r.1.stand r.1.labels c.requires.lease in
     let e = Committed lease.number (counted lease.taken (act_at r.0 c.requires.lease.name lease.grant lease.taken back.end)) in
-    run_kept new back.after (runs x new e back.after refl refl refl back.stand)
+    run_kept new back.after (runs x new e back.after refl refl refl back.stand back.labels)
 
 pub returns-clause-begins : goal.returns-clause-begins
 returns-clause-begins g c =
@@ -37,6 +38,11 @@ returns-clause-begins g c =
     let lease = c.args.lease in
     let new = record x { state = c.bring_back.new.state; edges = c.bring_back.new.edges; spent = false } in
     let r = c.requires.kept c.if-self.false in
-    let back = c.in_ok-bring_back.ensures.back (history_of x) (code_of x) r.0 r.1.stand c.requires.lease in
+    let back = c.in_ok-bring_back.ensures.back (history_of x) (code_of x) r.0 r.1.stand r.1.labels c.requires.lease in
     let e = Committed lease.number (counted lease.taken (act_at r.0 c.requires.lease.name lease.grant lease.taken back.end)) in
-    begins_before (history_of new) (history_of x) e (entered x new e back.after refl refl refl back.stand)
+    begins_before (history_of new) (history_of x) e (entered x new e back.after refl refl refl back.stand back.labels)
+
+pub returns-clause-by_plan : goal.returns-clause-by_plan
+returns-clause-by_plan g c =
+    let r = c.requires.kept c.if-self.false in
+    by_plan_on g.P.UpdatePolicy.answer g.P.UpdatePolicy.asked c.args.self.now r.0 c.bring_back.new.edges r.1 c.in_ok-bring_back.ensures.keeps c.in_ok-bring_back.ensures.answers

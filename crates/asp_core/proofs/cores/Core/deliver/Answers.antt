@@ -3,22 +3,23 @@ use Rattle.asp_model.specs.History.{Delivered}
 use Rattle.asp_model.specs.Shapes.{delivery_shape}
 use Rattle.asp_core.specs.Cores.{code_of, history_of}
 use Rattle.asp_core.proofs.CoreLemmas.{begins_before, entered, has_gone_on, run_kept, runs}
+use Rattle.asp_core.proofs.PlanLemmas.{by_plan_on}
 use Rattle.asp_core.proofs.cores.Core.deliver.Goals as goal
 
 pub returns-clause-delivered : goal.returns-clause-delivered
 returns-clause-delivered g c = λ s run.
     let x = c.args.self.now in
     let new = record x { state = c.hand.new.state; edges = c.hand.new.edges; spent = false } in
-    let handed = c.in_ok-hand.ensures.handed (history_of x) (code_of x) s run.stand (c.requires.may s run) in
-    has_gone_on x new (Delivered (delivery_shape c.args.delivery.now)) handed.0 refl refl refl handed.1
+    let handed = c.in_ok-hand.ensures.handed (history_of x) (code_of x) s run.stand run.labels (c.requires.may s run) in
+    has_gone_on x new (Delivered (delivery_shape c.args.delivery.now)) handed.0 refl refl refl handed.1 handed.2
 
 pub returns-clause-kept : goal.returns-clause-kept
 returns-clause-kept g c =
     let x = c.args.self.now in
     let new = record x { state = c.hand.new.state; edges = c.hand.new.edges; spent = false } in
     let r = c.requires.kept c.if-self.false in
-    let handed = c.in_ok-hand.ensures.handed (history_of x) (code_of x) r.0 r.1.stand (c.requires.may r.0 r.1) in
-    run_kept new handed.0 (runs x new (Delivered (delivery_shape c.args.delivery.now)) handed.0 refl refl refl handed.1)
+    let handed = c.in_ok-hand.ensures.handed (history_of x) (code_of x) r.0 r.1.stand r.1.labels (c.requires.may r.0 r.1) in
+    run_kept new handed.0 (runs x new (Delivered (delivery_shape c.args.delivery.now)) handed.0 refl refl refl handed.1 handed.2)
 
 pub returns-clause-begins : goal.returns-clause-begins
 returns-clause-begins g c =
@@ -26,5 +27,10 @@ returns-clause-begins g c =
     let new = record x { state = c.hand.new.state; edges = c.hand.new.edges; spent = false } in
     let r = c.requires.kept c.if-self.false in
     let e = Delivered (delivery_shape c.args.delivery.now) in
-    let handed = c.in_ok-hand.ensures.handed (history_of x) (code_of x) r.0 r.1.stand (c.requires.may r.0 r.1) in
-    begins_before (history_of new) (history_of x) e (entered x new e handed.0 refl refl refl handed.1)
+    let handed = c.in_ok-hand.ensures.handed (history_of x) (code_of x) r.0 r.1.stand r.1.labels (c.requires.may r.0 r.1) in
+    begins_before (history_of new) (history_of x) e (entered x new e handed.0 refl refl refl handed.1 handed.2)
+
+pub returns-clause-by_plan : goal.returns-clause-by_plan
+returns-clause-by_plan g c =
+    let r = c.requires.kept c.if-self.false in
+    by_plan_on g.P.UpdatePolicy.answer g.P.UpdatePolicy.asked c.args.self.now r.0 c.hand.new.edges r.1 c.in_ok-hand.ensures.keeps c.in_ok-hand.ensures.answers

@@ -4,6 +4,7 @@ use Rattle.lease_laws.specs.Entries.{with_lease}
 use Rattle.core_state.specs.Lending.{IsNewLease}
 use Rattle.asp_core.specs.Cores.{IsKept, code_of, history_of}
 use Rattle.asp_core.proofs.CoreLemmas.{begins_before, begins_same, entered, run_kept, runs}
+use Rattle.asp_core.proofs.PlanLemmas.{by_plan_kept, labels_kept}
 use Rattle.asp_core.proofs.StandLemmas.{lends}
 use Rattle.asp_core.proofs.cores.Core.lend.Goals as goal
 
@@ -36,8 +37,9 @@ returns-clause-lent g c = λ s run.
     let lent = c.in-Some.ensures.lent (history_of x) (code_of x) s run.stand.core in
     let st = lends (history_of x) (code_of x) s x.state x.edges.holders run.stand w.holders y k lent.1 c.lent.ensures.turned c.lent.ensures.edges.holders c.lent.ensures.edges.answers in
     let new = record x { state = y; edges = w } in
-    let on = entered x new (Lent k) (with_lease s k) refl refl run.fresh st in
-    (lent.0, on, runs x new (Lent k) (with_lease s k) refl refl run.fresh st, subst (λ h. IsNewLease h (code_of x) k c.in-Some.lease) (sym on) lent.2)
+    let labels = labels_kept s.configuration s.configuration x.edges w refl c.lent.ensures.edges run.labels in
+    let on = entered x new (Lent k) (with_lease s k) refl refl run.fresh st labels in
+    (lent.0, on, runs x new (Lent k) (with_lease s k) refl refl run.fresh st labels, subst (λ h. IsNewLease h (code_of x) k c.in-Some.lease) (sym on) lent.2)
 
 pub returns-clause-kept : goal.returns-clause-kept
 returns-clause-kept g c =
@@ -48,8 +50,9 @@ returns-clause-kept g c =
     let r = c.requires.kept c.if-self.false in
     let lent = c.in-Some.ensures.lent (history_of x) (code_of x) r.0 r.1.stand.core in
     let st = lends (history_of x) (code_of x) r.0 x.state x.edges.holders r.1.stand w.holders y k lent.1 c.lent.ensures.turned c.lent.ensures.edges.holders c.lent.ensures.edges.answers in
+    let labels = labels_kept r.0.configuration r.0.configuration x.edges w refl c.lent.ensures.edges r.1.labels in
     let new = record x { state = y; edges = w } in
-    run_kept new (with_lease r.0 k) (runs x new (Lent k) (with_lease r.0 k) refl refl r.1.fresh st)
+    run_kept new (with_lease r.0 k) (runs x new (Lent k) (with_lease r.0 k) refl refl r.1.fresh st labels)
 
 pub returns-clause-begins : goal.returns-clause-begins
 returns-clause-begins g c =
@@ -60,5 +63,12 @@ returns-clause-begins g c =
     let r = c.requires.kept c.if-self.false in
     let lent = c.in-Some.ensures.lent (history_of x) (code_of x) r.0 r.1.stand.core in
     let st = lends (history_of x) (code_of x) r.0 x.state x.edges.holders r.1.stand w.holders y k lent.1 c.lent.ensures.turned c.lent.ensures.edges.holders c.lent.ensures.edges.answers in
+    let labels = labels_kept r.0.configuration r.0.configuration x.edges w refl c.lent.ensures.edges r.1.labels in
     let new = record x { state = y; edges = w } in
-    begins_before (history_of new) (history_of x) (Lent k) (entered x new (Lent k) (with_lease r.0 k) refl refl r.1.fresh st)
+    begins_before (history_of new) (history_of x) (Lent k) (entered x new (Lent k) (with_lease r.0 k) refl refl r.1.fresh st labels)
+
+pub returns-in_default-clause-by_plan : goal.returns-in_default-clause-by_plan
+returns-in_default-clause-by_plan g c = λ plan policies is. is
+
+pub returns-clause-by_plan : goal.returns-clause-by_plan
+returns-clause-by_plan g c = by_plan_kept g.P.UpdatePolicy.answer g.P.UpdatePolicy.asked c.args.self.now.edges c.lent.new.self c.lent.ensures.edges
