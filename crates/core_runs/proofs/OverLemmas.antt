@@ -8,6 +8,7 @@ use Rattle.asp_model.specs.declared.journal.Delivery.{Delivery}
 use Rattle.asp_model.specs.declared.outcome.Verdict.{Verdict}
 use Rattle.asp_model.specs.Shapes.{delivery_shape, outcome_shape, verdict_shape}
 use Rattle.asp_model.specs.Term.{Tree}
+use Rattle.journals.specs.Edges.{HoldersShape}
 use Rattle.journals.specs.Journals.{RunShape, run_of}
 use Rattle.laws.proofs.NameLemmas.{is_there, no_some}
 use Rattle.paths.specs.Outcomes.{whole_outcome_of}
@@ -17,11 +18,16 @@ use Rattle.verdict_laws.proofs.OutcomeLemmas.{journals_end, verdicts_spend}
 use Rattle.core_state.specs.declared.lease.Lease.{Lease}
 use Rattle.core_state.specs.Cores.{history_begun}
 use Rattle.core_state.specs.Leases.{IsLease}
+use Rattle.update_policy.specs.Plans.{plan_shape, strategy_by}
+use Rattle.core_edges.specs.Answers.{Answering, AreAsked, Counting}
+use Rattle.core_edges.specs.Strategies.{strategy_in}
 use Rattle.core_ends.specs.Runs.{IsEndOfRun}
 use Rattle.asp_core.specs.declared.cores.Core.{Core}
 use Rattle.asp_core.specs.Cores.{IsKept, IsRun, code_of, history_of}
 use Rattle.asp_core.specs.Calls.{IsLentBy, MayDeliver, verdict_of}
+use Rattle.asp_core.specs.Plans.{StayByPlan}
 use Rattle.core_runs.specs.Over.{IsOver}
+use Rattle.core_runs.specs.Plans.{IsEndAsPlanned}
 
 -- Histories
 
@@ -82,20 +88,42 @@ module _ {P : Type 0} where
       record { run = f.0; is = f.1; told = λ s i. ap is_some (sym (told s i) ∙ ap (option_map verdict_shape) is) }
 
   -- a core that goes on from another
-  pub record IsGoing (first now : Core P) : Type 0 where
+  pub record IsGoing (answers : Answering P) (counts : Counting P) (first now : Core P) : Type 0 where
     pub kept : IsKept now
     pub begins : BeginsWith (history_of now) (history_of first)
     pub code : code_of now ≡ code_of first
+    pub by_plan : StayByPlan answers counts first.edges now.edges
 
-  pub going_first : (x : Core P) → IsKept x → IsGoing x x
-  going_first x kept = record { kept = kept; begins = begins_itself (history_of x); code = refl }
+  module _ (answers : Answering P) (counts : Counting P) where
+    pub going_first : (x : Core P) → IsKept x → IsGoing answers counts x x
+    going_first x kept = record { kept = kept; begins = begins_itself (history_of x); code = refl; by_plan = λ plan policies is. is }
 
-  pub going_on : (x y z : Core P) → IsGoing x y → IsKept z → BeginsWith (history_of z) (history_of y) → code_of z ≡ code_of y → IsGoing x z
-  going_on x y z going kept begins code = record { kept = kept; begins = begins_then (history_of x) (history_of y) (history_of z) going.begins begins; code = code ∙ going.code }
+    pub going_on : (x y z : Core P) → IsGoing answers counts x y → IsKept z → BeginsWith (history_of z) (history_of y) → code_of z ≡ code_of y → StayByPlan answers counts y.edges z.edges
+        → IsGoing answers counts x z
+    going_on x y z going kept begins code stay = record {
+      kept = kept;
+      begins = begins_then (history_of x) (history_of y) (history_of z) going.begins begins;
+      code = code ∙ going.code;
+      by_plan = λ plan policies is. stay plan policies (going.by_plan plan policies is);
+    }
 
-  pub going_end : {E : Type 0} (r : Result (Core P) E) (x y : Core P) → IfOk r (λ z. z ≡ y) → IsGoing x y → IfOk r (λ z. BeginsWith (history_of z) (history_of x))
-  going_end (Ok z) x y same going = subst (λ q. BeginsWith (history_of q) (history_of x)) (sym same) going.begins
-  going_end (Err e) x y same going = tt
+    pub going_end : {E : Type 0} (r : Result (Core P) E) (x y : Core P) (Q : Core P → Type 0) → IfOk r (λ z. z ≡ y) → Q y → IfOk r Q
+    going_end (Ok z) x y Q same is = subst Q (sym same) is
+    going_end (Err e) x y Q same is = tt
+
+    -- the end of a run by a plan
+    pub ended_by_plan : {E : Type 0} (x : Core P) (over : IsOver x) (r : Result RunEnd E) → IfOk r (λ q. IsEndOf q (whole_outcome_of over.run.configuration)) → IfOk r (λ q. outcome_shape q.outcome ≡ outcome_of over.run.configuration)
+        → IsEndAsPlanned answers counts x r
+    unfolding run_ended
+    ended_by_plan x over (Ok q) end outcome plan policies by = record {
+      end = run_ended x over.run over q over.is end outcome;
+      strategies = strategy_in x.edges;
+      labels = λ m k p st. over.is.labels m k p st ∙ ap (λ o. strategy_by (plan_shape o) p.label) by.same;
+      choices = x.edges.holders.answers;
+      after = x.edges.policies;
+      asked = subst (λ (h : HoldersShape). AreAsked answers counts (strategy_in x.edges) h.edges x.edges.holders.answers policies x.edges.policies) over.is.stand.edges.holders by.asked;
+    }
+    ended_by_plan x over (Err e) end outcome plan policies by = tt
 
   -- the end is that of the run of its history
   pub outcome_ended : {E : Type 0} (x : Core P) (over : IsOver x) (r : Result RunEnd E) → IfOk r (λ q. IsEndOf q (whole_outcome_of over.run.configuration)) → IfOk r (λ q. outcome_shape q.outcome ≡ outcome_of over.run.configuration)
@@ -111,8 +139,8 @@ on_ok (Ok a) x = x
 on_ok (Err e) x = tt
 
 -- with the program and the budget of another history
-pub ended_as : {E : Type 0} (r : Result RunEnd E) (h k : HistoryShape) (program : Tree) (budget : ℕ) → BeginsWith h k → k ≡ history_begun program budget → IfOk r (IsEndOfRun h.program h.budget) → IfOk r (IsEndOfRun program budget)
-ended_as r h k program budget begins is end =
+pub ended_as : {E : Type 0} (Q : Tree → ℕ → RunEnd → Type 0) (r : Result RunEnd E) (h k : HistoryShape) (program : Tree) (budget : ℕ) → BeginsWith h k → k ≡ history_begun program budget → IfOk r (Q h.program h.budget) → IfOk r (Q program budget)
+ended_as Q r h k program budget begins is end =
     let term : h.program ≡ program = begins.0 ∙ ap (λ (q : HistoryShape). q.program) is in
     let most : h.budget ≡ budget = begins.1 ∙ ap (λ (q : HistoryShape). q.budget) is in
-    subst (λ b. IfOk r (IsEndOfRun program b)) most (subst (λ t. IfOk r (IsEndOfRun t h.budget)) term end)
+    subst (λ b. IfOk r (Q program b)) most (subst (λ t. IfOk r (Q t h.budget)) term end)

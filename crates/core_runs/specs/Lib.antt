@@ -1,1 +1,3 @@
+-- in reading order
 pub mod Over
+pub mod Plans

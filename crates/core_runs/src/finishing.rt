@@ -6,7 +6,9 @@ ghost use Rattle.asp_model.specs.Shapes.{tree_of};
 ghost use Rattle.asp_model.specs.declared.limits.TheConstants.{MOST_REDUCTIONS};
 ghost use Rattle.core_ends.specs.Runs.{IsEndOfRun};
 ghost use Rattle.asp_core.specs.Cores.{IsKept, activities_of, code_of, history_of};
+ghost use Rattle.asp_core.specs.Plans.{StayByPlan};
 ghost use Rattle.core_runs.specs.Over.{IsOver};
+ghost use Rattle.core_runs.specs.Plans.{IsEndAsPlanned, IsEndByPlan};
 
 use asp_check::Checked;
 use asp_core::Core;
@@ -21,6 +23,7 @@ fn work<P: UpdatePolicy>(core: &mut Core<P>, number: u32) -> Result<(), AllocErr
     ensures kept { IsKept core.new }
     ensures begins { OnOk result (BeginsWith (history_of core.new) (history_of core.old)) }
     ensures code { OnOk result (code_of core.new ≡ code_of core.old) }
+    ensures by_plan { OnOk result (StayByPlan P.answer P.asked core.old.edges core.new.edges) }
 {
     let Some(mut lease) = core.lend(number) else {
         return Err(AllocError);
@@ -36,6 +39,7 @@ fn advance<P: UpdatePolicy>(core: &mut Core<P>) -> Result<bool, AllocError>
     ensures kept { IsKept core.new }
     ensures begins { OnOk result (BeginsWith (history_of core.new) (history_of core.old)) }
     ensures code { OnOk result (code_of core.new ≡ code_of core.old) }
+    ensures by_plan { OnOk result (StayByPlan P.answer P.asked core.old.edges core.new.edges) }
 {
     if let Some(delivery) = core.next_owed()? {
         core.deliver(&delivery)?;
@@ -69,6 +73,7 @@ pub fn finish<P: UpdatePolicy + Drop>(mut core: Core<P>) -> Result<Core<P>, Allo
     ensures over { IfOk result IsOver }
     ensures begins { IfOk result (λ x. BeginsWith (history_of x) (history_of core)) }
     ensures code { IfOk result (λ x. code_of x ≡ code_of core) }
+    ensures by_plan { IfOk result (λ x. StayByPlan P.answer P.asked core.edges x.edges) }
 {
     for _round in 0..u64::MAX {
         if !advance(&mut core)? {
@@ -82,6 +87,7 @@ pub fn finish<P: UpdatePolicy + Drop>(mut core: Core<P>) -> Result<Core<P>, Allo
 pub fn end_of_run<P: UpdatePolicy + Drop>(core: Core<P>) -> Result<RunEnd, AllocError>
     requires over { IsOver core }
     ensures end { let h = history_of core in IfOk result (IsEndOfRun h.program h.budget) }
+    ensures by_plan { IsEndAsPlanned P.answer P.asked core result }
 {
     core.outcome()
 }
@@ -96,6 +102,8 @@ pub fn run<P: UpdatePolicy + Drop>(
 ) -> Result<RunEnd, AllocError>
     requires within { budget ≤ MOST_REDUCTIONS }
     ensures end { IfOk result (IsEndOfRun (tree_of program.now.program.root) budget) }
+    ensures by_plan { let term = tree_of program.now.program.root in
+        IfOk result (IsEndByPlan P.answer P.asked plan policies term budget) }
 {
     let begun = Core::new(alloc, program, budget, plan, policies)?;
     let core = finish(begun)?;

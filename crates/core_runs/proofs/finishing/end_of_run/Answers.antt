@@ -1,7 +1,12 @@
-use Rattle.core_runs.proofs.OverLemmas.{outcome_ended}
+use Rattle.core_runs.proofs.OverLemmas.{ended_by_plan, outcome_ended}
 use Rattle.core_runs.proofs.finishing.end_of_run.Goals as goal
 
-pub returns : goal.returns
-returns g c =
+pub returns-clause-end : goal.returns-clause-end
+returns-clause-end g c =
     let over = c.requires.over in
-    record { end = outcome_ended c.args.core over c.outcome.result (c.outcome.ensures.end over.run over.is) (c.outcome.ensures.outcome over.run over.is) }
+    outcome_ended c.args.core over c.outcome.result (c.outcome.ensures.end over.run over.is) (c.outcome.ensures.outcome over.run over.is)
+
+pub returns-clause-by_plan : goal.returns-clause-by_plan
+returns-clause-by_plan g c =
+    let over = c.requires.over in
+    ended_by_plan g.P.UpdatePolicy.answer g.P.UpdatePolicy.asked c.args.core over c.outcome.result (c.outcome.ensures.end over.run over.is) (c.outcome.ensures.outcome over.run over.is)

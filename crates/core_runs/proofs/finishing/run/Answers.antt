@@ -1,0 +1,14 @@
+use Rattle.std.proofs.Common.{IfOk}
+use Rattle.asp_model.specs.Shapes.{tree_of}
+use Rattle.asp_core.specs.Cores.{history_of}
+use Rattle.core_runs.specs.Plans.{IsEndByPlan}
+use Rattle.core_runs.proofs.OverLemmas.{ended_as}
+use Rattle.core_runs.proofs.finishing.run.Goals as goal
+
+pub returns-clause-by_plan : goal.returns-clause-by_plan
+returns-clause-by_plan g c =
+    let begun = c.in_ok-begun.begun in
+    let core = c.in_ok-core.core in
+    let by = c.in_ok-core.ensures.by_plan c.args.plan c.args.policies c.in_ok-begun.ensures.by_plan in
+    ended_as (IsEndByPlan g.P.UpdatePolicy.answer g.P.UpdatePolicy.asked c.args.plan c.args.policies) c.end_of_run.result (history_of core) (history_of begun) (tree_of c.args.program.now.program.root) c.args.budget
+    c.in_ok-core.ensures.begins c.in_ok-begun.ensures.history (c.end_of_run.ensures.by_plan c.args.plan c.args.policies by)

@@ -1,0 +1,34 @@
+-- The end of a run as a plan and policies had it.
+use Rattle.std.specs.Prelude.{◌≡◌, ℕ, IfOk, List, Result}
+use Rattle.asp_model.specs.Configuration.{RequestShape}
+use Rattle.asp_model.specs.History.{ChoiceShape}
+use Rattle.asp_model.specs.Names.{FutureShape, Name}
+use Rattle.asp_model.specs.Term.{Tree}
+use Rattle.journals.specs.Passing.{holders_of}
+use Rattle.laws.specs.Kept.{Stands}
+use Rattle.run_ends.specs.declared.ends.RunEnd.{RunEnd}
+use Rattle.update_policy.specs.declared.plan.Plan.{Plan}
+use Rattle.update_policy.specs.declared.strategy.Policies.{Policies}
+use Rattle.update_policy.specs.declared.strategy.Strategy.{Strategy}
+use Rattle.update_policy.specs.Plans.{plan_shape, strategy_by}
+use Rattle.core_edges.specs.Answers.{Answering, AreAsked, Counting}
+use Rattle.core_ends.specs.Runs.{IsEndOfRun}
+use Rattle.asp_core.specs.declared.cores.Core.{Core}
+use Rattle.asp_core.specs.Cores.{history_of}
+use Rattle.asp_core.specs.Plans.{AreByPlan}
+
+pub record IsEndByPlan {P : Type 0} (answers : Answering P) (counts : Counting P) (plan : Plan) (policies : Policies P) (program : Tree) (budget : ℕ) (r : RunEnd) : Type 0 where
+  pub end : IsEndOfRun program budget r
+  -- each future has the plan's strategy for the label of its request
+  pub strategies : FutureShape → Strategy
+  pub labels : (m : Name) (k : ℕ) (q : RequestShape) → Stands end.run.configuration m k q
+      → strategies q.future ≡ strategy_by (plan_shape plan) q.label
+  -- each edge of the journal has the answer of the policy of its future's strategy, which was asked about it once
+  pub choices : List ChoiceShape
+  pub after : Policies P
+  pub asked : AreAsked answers counts strategies (holders_of program budget end.journal).edges choices policies after
+
+-- the end that a core gives, by whatever plan and policies its edges were answered
+abbrev pub IsEndAsPlanned : {P E : Type 0} → Answering P → Counting P → Core P → Result RunEnd E → Type 0
+IsEndAsPlanned answers counts x r = (plan : Plan) (policies : Policies _) → AreByPlan answers counts plan policies x.edges
+    → IfOk r (IsEndByPlan answers counts plan policies (history_of x).program (history_of x).budget)
