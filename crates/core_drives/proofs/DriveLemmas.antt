@@ -1,5 +1,5 @@
 -- What steps make of who is out, and of the leases.
-use Rattle.std.proofs.Common.{◌≡◌, ◌≢◌, ◌<◌, ◌≤◌, ◌-◌, ◌==◌, ◌&&◌, ◌∙◌, ◌∷◌, [], ℕ, Bool, true, false, not, nat_le, List, Option, Some, None, is_none, is_some, cond, inl, inr, ◌⊎◌, refl, sym, ap, subst, arith}
+use Rattle.std.proofs.Common.{◌≡◌, ◌≢◌, ◌<◌, ◌-◌, ◌==◌, ◌&&◌, ◌∙◌, ◌∷◌, [], ℕ, Bool, true, false, not, nat_le, List, Option, Some, None, is_some, cond, inl, inr, ◌⊎◌, refl, sym, ap, subst, arith}
 use Rattle.std.proofs.lemmas.Bool.{eqb-true, false_from_ne_true}
 use Rattle.std.specs.BTreeMap.{BTreeMap, get, is_at}
 use Rattle.std.specs.Map.{lookup}

@@ -3,6 +3,7 @@
 ghost use Rattle.std.specs.Prelude.{◌≡◌, OnOk, map};
 ghost use Rattle.asp_model.specs.Shapes.{delivery_shape};
 ghost use Rattle.asp_core.specs.Cores.{code_of, history_of};
+ghost use Rattle.asp_core.specs.Plans.{StayByPlan};
 ghost use Rattle.core_drives.specs.Driving.{IsDriving};
 ghost use Rattle.core_drives.specs.Steps.{
   Commits,
@@ -32,6 +33,8 @@ impl<P: UpdatePolicy> Driver<P> {
     fn lend(&mut self, number: u32) -> Result<(), AllocError>
         requires driving { IsDriving self.old }
         ensures driving { OnOk result (IsDriving self.new) }
+        ensures by_plan { OnOk result
+            (StayByPlan P.answer P.asked self.old.core.edges self.new.core.edges) }
         ensures stepped { let step = Lends number in
             OnOk result (IsStepped step (history_of self.old.core) (history_of self.new.core)) }
     {
@@ -47,6 +50,8 @@ impl<P: UpdatePolicy> Driver<P> {
     fn work(&mut self, number: u32) -> Result<(), AllocError>
         requires driving { IsDriving self.old }
         ensures driving { OnOk result (IsDriving self.new) }
+        ensures by_plan { OnOk result
+            (StayByPlan P.answer P.asked self.old.core.edges self.new.core.edges) }
         ensures same { OnOk result (self.new.core ≡ self.old.core) }
     {
         if let Some(mut lease) = self.leases.remove(&number) {
@@ -59,6 +64,8 @@ impl<P: UpdatePolicy> Driver<P> {
     fn commit(&mut self, number: u32) -> Result<(), AllocError>
         requires driving { IsDriving self.old }
         ensures driving { OnOk result (IsDriving self.new) }
+        ensures by_plan { OnOk result
+            (StayByPlan P.answer P.asked self.old.core.edges self.new.core.edges) }
         ensures stepped { let step = Commits number in
             OnOk result (IsStepped step (history_of self.old.core) (history_of self.new.core)) }
     {
@@ -71,6 +78,8 @@ impl<P: UpdatePolicy> Driver<P> {
     fn deliver(&mut self, delivery: &Delivery) -> Result<(), AllocError>
         requires driving { IsDriving self.old }
         ensures driving { OnOk result (IsDriving self.new) }
+        ensures by_plan { OnOk result
+            (StayByPlan P.answer P.asked self.old.core.edges self.new.core.edges) }
         ensures stepped { let step = Delivers (delivery_shape delivery.now) in
             OnOk result (IsStepped step (history_of self.old.core) (history_of self.new.core)) }
     {
@@ -85,6 +94,8 @@ impl<P: UpdatePolicy> Driver<P> {
     pub fn step(&mut self, step: &Step) -> Result<(), AllocError>
         requires driving { IsDriving self.old }
         ensures driving { OnOk result (IsDriving self.new) }
+        ensures by_plan { OnOk result
+            (StayByPlan P.answer P.asked self.old.core.edges self.new.core.edges) }
         ensures stepped { let step = step_shape step.now in
             OnOk result (IsStepped step (history_of self.old.core) (history_of self.new.core)) }
     {
@@ -100,6 +111,8 @@ impl<P: UpdatePolicy> Driver<P> {
     pub fn take(&mut self, steps: &[Step]) -> Result<(), AllocError>
         requires driving { IsDriving self.old }
         ensures driving { OnOk result (IsDriving self.new) }
+        ensures by_plan { OnOk result
+            (StayByPlan P.answer P.asked self.old.core.edges self.new.core.edges) }
         ensures leads { let steps = map step_shape steps.now in
             OnOk result (Lead steps (history_of self.old.core) (history_of self.new.core)) }
     {

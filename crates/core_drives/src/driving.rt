@@ -2,6 +2,7 @@
 
 ghost use Rattle.std.specs.Prelude.{IfOk, map};
 ghost use Rattle.asp_model.specs.Shapes.{tree_of};
+ghost use Rattle.asp_core.specs.Plans.{AreByPlan};
 ghost use Rattle.core_drives.specs.Driven.{IsDriven};
 ghost use Rattle.core_drives.specs.Steps.{step_shape};
 
@@ -25,6 +26,7 @@ pub fn drive<P: UpdatePolicy + Drop>(
 ) -> Result<Core<P>, AllocError>
     ensures driven { let program = tree_of program.now.program.root in
         IfOk result (IsDriven program budget (map step_shape steps.now)) }
+    ensures by_plan { IfOk result (λ x. AreByPlan P.answer P.asked plan policies x.edges) }
 {
     let mut driver = Driver {
         core: Core::new(alloc, program, budget, plan, policies)?,

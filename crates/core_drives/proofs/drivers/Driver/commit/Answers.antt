@@ -51,3 +51,6 @@ returns-in-None-clause-stepped g c =
     let d = c.requires.driving in
     let k = c.args.number in
     commit_left x.core d.run k d.is (nobody_out (history_of x.core) (code_of x.core) k (grant_of k d.run.out) (get nat_cmp x.leases k) (sym c.in-None.ensures.value) (d.held k))
+
+pub returns-in-None-clause-by_plan : goal.returns-in-None-clause-by_plan
+returns-in-None-clause-by_plan g c = λ plan policies is. is

@@ -40,3 +40,6 @@ returns-else-may_deliver-clause-stepped g c =
     let x = c.args.self.now in
     let d = c.requires.driving in
     delivery_left x.core d.run (delivery_shape c.args.delivery.now) d.is (sym (c.may_deliver.ensures.may d.run d.is) ∙ c.if-may_deliver.false)
+
+pub returns-else-may_deliver-clause-by_plan : goal.returns-else-may_deliver-clause-by_plan
+returns-else-may_deliver-clause-by_plan g c = λ plan policies is. is

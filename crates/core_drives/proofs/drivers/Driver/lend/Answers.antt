@@ -1,4 +1,4 @@
-use Rattle.std.proofs.Common.{◌≡◌, sym, subst, arith}
+use Rattle.std.proofs.Common.{sym, subst, arith}
 use Rattle.lease_laws.specs.Entries.{with_lease}
 use Rattle.asp_core.specs.Cores.{history_of}
 use Rattle.core_drives.specs.Driving.{IsDriving}
@@ -48,3 +48,12 @@ returns-in_ok-insert-clause-stepped g c =
     let d = c.requires.driving in
     let lent = c.in-Some.ensures.lent d.run d.is in
     lend_entered x.core c.lend.new.self d.run c.args.number d.is lent.0 lent.1
+
+pub returns-then-number-activities-clause-by_plan : goal.returns-then-number-activities-clause-by_plan
+returns-then-number-activities-clause-by_plan g c = λ plan policies is. is
+
+pub returns-in_default-clause-by_plan : goal.returns-in_default-clause-by_plan
+returns-in_default-clause-by_plan g c = c.lend.ensures.by_plan
+
+pub returns-in_ok-insert-clause-by_plan : goal.returns-in_ok-insert-clause-by_plan
+returns-in_ok-insert-clause-by_plan g c = c.lend.ensures.by_plan

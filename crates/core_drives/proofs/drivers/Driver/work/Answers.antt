@@ -24,3 +24,9 @@ returns-in_ok-insert-clause-driving g c =
 
 pub returns-in_default-clause-driving : goal.returns-in_default-clause-driving
 returns-in_default-clause-driving g c = driving_same c.args.self.now c.requires.driving c.remove.new.self c.in_default.ensures.unchanged
+
+pub returns-in_ok-insert-clause-by_plan : goal.returns-in_ok-insert-clause-by_plan
+returns-in_ok-insert-clause-by_plan g c = λ plan policies is. is
+
+pub returns-in_default-clause-by_plan : goal.returns-in_default-clause-by_plan
+returns-in_default-clause-by_plan g c = λ plan policies is. is
