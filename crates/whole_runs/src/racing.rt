@@ -24,6 +24,7 @@ const HELD_BURST: u64 = 40;
 const MOST_LOOKS: u64 = 50_000_000;
 
 /// Holds the worker that comes with one burst until another one has come with a later burst.
+#[derive(Drop)]
 struct HoldingGate {
     held: AtomicBool,
     later: AtomicBool,
