@@ -47,13 +47,7 @@ fn run_words<R: Threads + Wait + Sync, S: Source, O: Sink, E: Sink, G: Gate>(
 /// then the program's file, the reading, the check, the report's file, the run or the replay, and the
 /// writing; the first refusal in this order ends the call. All lines are made before the first is
 /// written.
-pub fn run_asp<
-    R: AllocGlobal + Threads + Wait + Sync,
-    S: Source,
-    O: Sink,
-    E: Sink,
-    G: Gate,
->(
+pub fn run_asp<R: AllocGlobal + Threads + Wait + Sync, S: Source, O: Sink, E: Sink, G: Gate>(
     rt: &R,
     words: &[String],
     source: &mut S,

@@ -93,8 +93,10 @@ fn a_later_lease_is_run_while_one_is_held(rt: HostRuntime) -> Result<(), Fail> {
     let (status, out) = raced(&rt, alloc, &gate)?;
     assert_eq!(rt; status, 5);
     let (main, other) = counts_of(alloc, out.bytes())?;
-    let report = format!(in alloc; "asp report 1\nverdict budget\nactivity 0 {main} running\n\
-         senders\nactivity 0.1 {other} running\nsenders 0\n")?;
+    let report = format!(in alloc;
+        "asp report 1\nverdict budget\nactivity 0 {main} running\n\
+         senders\nactivity 0.1 {other} running\nsenders 0\n"
+    )?;
     assert_eq!(rt; out.bytes(), report.as_bytes());
     assert_eq!(rt; main.saturating_add(other), BUDGET);
     assert!(rt; gate.held.load(Ordering::SeqCst));
