@@ -190,8 +190,9 @@ def per_second(run):
     return f"{run.reductions / run.seconds:,.0f} reductions a second"
 
 
-def show(name, small, large, turns=5, times=2, most=None, program=PROGRAM):
+def show(name, small, large, turns=5, times=2, most=None, program=None):
     """The runs under two lists of words, the second of so many times the size, and the most that is wanted."""
+    program = program or PROGRAM
     first, second = best(program, small, turns), best(program, large, turns)
     size = "twice the size" if times == 2 else f"{times} times the size"
     bound = f" (at most {most} is wanted)" if most else ""
