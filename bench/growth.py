@@ -4,7 +4,7 @@
     bench/growth.py [--program PATH] [--turns N] [--scale F] [--words WORDS] [--runs-alone] [--counts] [NAME ..]
 
 With no NAME all are measured: bench/growth.py --list prints the names. WORDS go to each run, and not to
-the replays, as in --words='--workers 4' or --words='--strategy message'. A size is multiplied by F, which
+the replays, in place of '--workers 1', as in --words='--workers 1 --strategy message'. A size is multiplied by F, which
 may be below 1. The seconds are medians of the processor's seconds of N runs, and what is marked grew to
 more than 2.5 times at twice the size, so that it is worth a look: figures depend on the machine, and a
 ratio of short runs means little. With --counts the instructions that callgrind counts stand in place of
@@ -318,7 +318,7 @@ def turn(folder, name, size, turns, options):
     """Nanoseconds of a turn beside a body of that size: the reading of the text is not in them."""
     text = folder.text(BODIES[name](turns, body(size)))
     words = ["--budget", str(turns * 5)] if name == "repeat" else MOST
-    run, read = median(options, [text, *words]), median(options, [text, "--budget", "1"])
+    run, read = (median(options, [text, *of, *options.words]) for of in (words, ["--budget", "1"]))
     return (run.seconds - read.seconds) / turns * 1e9, run.peak - read.peak
 
 
@@ -338,7 +338,7 @@ def words():
     parser.add_argument("--program", default=measure.PROGRAM)
     parser.add_argument("--turns", type=int, default=3)
     parser.add_argument("--scale", type=float, default=1.0)
-    parser.add_argument("--words", type=str.split, default=[])
+    parser.add_argument("--words", type=str.split, default=["--workers", "1"])
     parser.add_argument("--runs-alone", action="store_true")
     parser.add_argument("--counts", action="store_true")
     parser.add_argument("--list", action="store_true")

@@ -6,7 +6,8 @@
 
 Nothing here is a test: figures depend on the machine, and only their ratios within one run mean
 something. The seconds are those of the processor, so that other work on the machine matters less;
-only threads that contend for the turn are measured by the clock.
+only threads that contend for the turn are measured by the clock. All runs have one worker: bench/race.py
+measures what more of them gain.
 A peak is never below that of this script, some 10 MiB, since a child begins as its copy.
 """
 import os
@@ -28,7 +29,7 @@ BUILD = """measure: build the programs first, at the top of the repository:
     (cd crates/edge_timing && rt run -- turns 10)
     (cd crates/turn_timing && rt run -- call 2 100 1 1)"""
 MEBIBYTE = 1 << 20
-MOST = ["--budget", "10000000"]
+MOST = ["--budget", "10000000", "--workers", "1"]
 
 
 class Run(NamedTuple):

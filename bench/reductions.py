@@ -5,7 +5,7 @@
 
 The seconds are medians of the processor's seconds of N runs, which take turns, so that all see the same
 machine. Beside the program runs another build of it, where --parent names one, and CPython does the same
-loop. A size is multiplied by F. Nothing here is a test: figures depend on the machine.
+loop. All runs have one worker. A size is multiplied by F. Nothing here is a test: figures depend on the machine.
 """
 import argparse
 import os
@@ -15,7 +15,7 @@ import tempfile
 
 import measure
 
-MOST = ["--budget", "10000000"]
+MOST = measure.MOST
 PYTHON_LOOP = """
 class Counter:
     def __init__(self):
