@@ -1,7 +1,7 @@
 #!/usr/bin/env python3
 """Runs programs again and again by racing workers, and replays each report.
 
-    bench/soak.py [RUNS [SEED]]     10,000 runs with no RUNS
+    bench/soak.py [RUNS [START]]     10,000 runs with no RUNS
 
 It takes the program that `rt ci` built, or the one that ASP names. A run is one of the programs below, by 1 to
 16 workers, under a strategy and within a budget by chance; it has 60 seconds. Each report is replayed, and the
@@ -122,8 +122,8 @@ def failure(words, report):
 
 def main():
     runs = int(sys.argv[1]) if len(sys.argv) > 1 else RUNS
-    seed = int(sys.argv[2]) if len(sys.argv) > 2 else random.randrange(2**32)
-    chance = random.Random(seed)
+    start = int(sys.argv[2]) if len(sys.argv) > 2 else random.randrange(2**32)
+    chance = random.Random(start)
     failed = 0
     reports = collections.defaultdict(set)
     with tempfile.TemporaryDirectory() as folder:
@@ -139,7 +139,7 @@ def main():
                 print(f"{why}: {' '.join([name, *words[1:]])}", flush=True)
             if turn % 1_000 == 999:
                 print(f"{turn + 1} runs, {failed} failed", flush=True)
-    print(f"{runs} runs with the seed {seed}, {failed} failed")
+    print(f"{runs} runs from the start {start}, {failed} failed")
     for name, seen in reports.items():
         print(f"{name}: {len(seen)} reports")
     sys.exit(1 if failed else 0)
