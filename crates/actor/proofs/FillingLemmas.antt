@@ -15,7 +15,7 @@ use Rattle.journals.specs.Deliveries as model
 use Rattle.journals.specs.Deliveries.{is_held, unpack_each}
 use Rattle.laws.specs.Closed.{AreBelow}
 use Rattle.laws.proofs.MovedLemmas.{length_written}
-use Rattle.laws.proofs.NameLemmas.{future_itself, futures_tied}
+use Rattle.chase_laws.proofs.FutureLemmas.{future_itself, futures_tied}
 use Rattle.object_store.specs.Holders.{holders, holders_from, is_future}
 use Rattle.program_code.specs.Classes.{class_at}
 use Rattle.program_code.specs.declared.code.Class.{Class}

@@ -18,7 +18,7 @@ use Rattle.asp_model.specs.Parcel.{has_place}
 use Rattle.asp_model.specs.Configuration.{RequestShape, label_of}
 use Rattle.asp_model.specs.Intent.{Numbered, oldest_match}
 use Rattle.laws.specs.Closed.{AreBelow}
-use Rattle.laws.proofs.NameLemmas.{no_some, some_is}
+use Rattle.chase_laws.proofs.FutureLemmas.{no_some, some_is}
 use Rattle.request_queue.specs.declared.request.Request.{Request}
 use Rattle.request_queue.specs.Pending.{but, oldest, pending_of, request_at}
 use Rattle.request_queue.specs.Requests.{request_shape}

@@ -13,8 +13,9 @@ use Rattle.journals.specs.Edges.{after_events}
 use Rattle.journals.specs.Journals.{RunShape}
 use Rattle.journals.specs.Owed.{need_of, need_to}
 use Rattle.journals.specs.Passing.{effect_events, entry_events}
-use Rattle.laws.proofs.MapLemmas as Maps
-use Rattle.laws.proofs.NameLemmas.{name_same, name_total, no_some}
+use Rattle.chase_laws.proofs.MapLemmas as Maps
+use Rattle.laws.proofs.NameLemmas.{name_same, name_total}
+use Rattle.chase_laws.proofs.FutureLemmas.{no_some}
 use Rattle.program_code.specs.declared.code.Node.{Node}
 use Rattle.actor.specs.declared.act.Given.{Given}
 use Rattle.actor.specs.declared.actor.Actor.{Actor}

@@ -11,9 +11,9 @@ use Rattle.journals.specs.Deliveries.{edge_delivered, need_delivered}
 use Rattle.journals.specs.Edges.{HoldersShape, has_filled}
 use Rattle.journals.specs.Journals.{RunShape, is_in, over}
 use Rattle.journals.specs.Owed.{next_owed}
-use Rattle.laws.proofs.ChaseLemmas.{chase_finds}
+use Rattle.chase_laws.proofs.ChaseLemmas.{chase_finds}
 use Rattle.laws.proofs.DeliveryLemmas.{edge_done, need_done}
-use Rattle.laws.proofs.NameLemmas.{none_true}
+use Rattle.chase_laws.proofs.FutureLemmas.{none_true}
 use Rattle.program_code.specs.declared.code.Node.{Node}
 use Rattle.future_update.specs.Holders.{HoldersView}
 use Rattle.edge_laws.proofs.RunLemmas.{holders_are_of_runs}

@@ -6,7 +6,7 @@ use Rattle.journals.specs.Edges.{EdgeShape, owed_at}
 use Rattle.journals.specs.Journals.{RunShape, grant_of, is_in}
 use Rattle.journals.specs.Owed.{first_edge}
 use Rattle.journal_laws.specs.EdgesKept.{IsKnownEdge}
-use Rattle.laws.proofs.NameLemmas.{no_some, some_is}
+use Rattle.chase_laws.proofs.FutureLemmas.{no_some, some_is}
 use Rattle.laws.specs.Linked.{Each}
 use Rattle.laws.specs.Reached.{IsThere}
 use Rattle.lease_laws.specs.Numbered.{AreNumbered}

@@ -5,7 +5,7 @@ use Rattle.asp_model.specs.History.{HistoryShape}
 use Rattle.asp_model.specs.Status.{verdict_of}
 use Rattle.journals.specs.Journals.{RunShape}
 use Rattle.journals.specs.Owed.{first_edge, goes_on, is_any, next_owed, verdict_told}
-use Rattle.laws.proofs.NameLemmas.{none_true}
+use Rattle.chase_laws.proofs.FutureLemmas.{none_true}
 use Rattle.program_code.specs.declared.code.Node.{Node}
 use Rattle.edge_records.specs.declared.edge.EdgeNames.{EdgeNames}
 use Rattle.edge_records.specs.Names.{delivery_along, edge_named}

@@ -5,7 +5,7 @@ use Rattle.asp_model.specs.History.{HistoryShape}
 use Rattle.asp_model.specs.Names.{Name}
 use Rattle.asp_model.specs.Step.{name_at}
 use Rattle.journals.specs.Journals.{RunShape}
-use Rattle.laws.proofs.NameLemmas.{some_is}
+use Rattle.chase_laws.proofs.FutureLemmas.{some_is}
 use Rattle.lease_laws.proofs.LeaseLemmas.{leases_stay}
 use Rattle.program_code.specs.declared.code.Node.{Node}
 use Rattle.activity_seats.specs.Seats.{names_in, seats_in}

@@ -7,7 +7,7 @@ use Rattle.asp_model.specs.Intent.{Effect}
 use Rattle.asp_model.specs.Names.{Name, name_cmp}
 use Rattle.asp_model.specs.Step.{name_at}
 use Rattle.journals.specs.Journals.{RunShape}
-use Rattle.laws.proofs.NameLemmas.{none_true}
+use Rattle.chase_laws.proofs.FutureLemmas.{none_true}
 use Rattle.laws.proofs.WholeLemmas.{reached_are_sound, sound_intents}
 use Rattle.laws.specs.Steps.{IsNewTo}
 use Rattle.program_code.specs.declared.code.Node.{Node}

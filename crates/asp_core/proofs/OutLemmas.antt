@@ -4,7 +4,8 @@ use Rattle.std.proofs.lemmas.List.{map-append}
 use Rattle.asp_model.specs.Names.{Name, same_name}
 use Rattle.asp_model.specs.Step.{name_at}
 use Rattle.journals.specs.Journals.{RunShape, grant_of, out_but}
-use Rattle.laws.proofs.NameLemmas.{name_itself, names_apart, names_tied, no_some, none_true, some_is}
+use Rattle.laws.proofs.NameLemmas.{name_itself, names_apart, names_tied}
+use Rattle.chase_laws.proofs.FutureLemmas.{no_some, none_true, some_is}
 use Rattle.lease_laws.proofs.LeaseLemmas.{grant_but}
 use Rattle.lease_laws.proofs.NameListLemmas.{number_stays}
 use Rattle.core_state.proofs.PopulateLemmas.{grant_gone}

@@ -14,7 +14,7 @@ use Rattle.laws.specs.Kept.{Stands}
 use Rattle.laws.specs.Linked.{Each}
 use Rattle.laws.proofs.DeliveryLemmas.{edge_done, need_done}
 use Rattle.laws.proofs.EachLemmas.{each_weaker}
-use Rattle.laws.proofs.NameLemmas.{no_some, none_true, some_is}
+use Rattle.chase_laws.proofs.FutureLemmas.{no_some, none_true, some_is}
 use Rattle.laws.proofs.WholeLemmas.{reached_are_sound}
 use Rattle.request_queue.specs.Requests.{request_shape}
 use Rattle.actor.specs.declared.act.Given.{Given}

@@ -4,7 +4,7 @@ use Rattle.asp_model.specs.Names.{main_name}
 use Rattle.asp_model.specs.Term.{Tree}
 use Rattle.journals.specs.Edges.{HoldersShape, no_holders}
 use Rattle.journals.specs.Journals.{begun}
-use Rattle.laws.proofs.NameLemmas.{no_some}
+use Rattle.chase_laws.proofs.FutureLemmas.{no_some}
 use Rattle.program_code.specs.declared.code.Node.{Node}
 use Rattle.future_update.specs.Holders.{HoldersView, is_out}
 use Rattle.core_state.specs.declared.state.CoreState.{CoreState}

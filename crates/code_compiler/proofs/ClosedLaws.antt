@@ -12,10 +12,11 @@ use Rattle.asp_model.specs.Term.{Tree, Trees, MethodHead, node, none, more, tree
 use Rattle.asp_model.specs.Readable.{HasArity}
 use Rattle.asp_model.specs.Shapes.{tree_of}
 use Rattle.program_code.specs.Fitting.{head_names}
-use Rattle.name_slots.specs.Slots.{bound_in, head_in}
+use Rattle.name_slots.specs.Slots.{bound_in}
+use Rattle.program_code.specs.Parts.{body_tree, field_label, field_tree, method_head}
 use Rattle.code_compiler.specs.Closed.{IsClosed, AreClosed}
-use Rattle.code_compiler.specs.Parts.{field_label, field_tree, body_tree, terms_below, fields_below, bodies_below, AreClosedMethods}
-use Rattle.code_compiler.proofs.TermTrees.{make_is, call_is, steps_is, group_is}
+use Rattle.code_compiler.specs.Parts.{terms_below, fields_below, bodies_below, AreClosedMethods}
+use Rattle.program_code.proofs.TermTrees.{make_is, call_is, steps_is, group_is}
 
 -- lists of terms
 
@@ -36,17 +37,17 @@ call_closed ns t xs a l ts m e is c =
 -- objects
 
 both_closed : (ns : List Text) (fs : List (Label × Term)) (ms : List Method)
-    → AreClosed ns (map (λ (l : Text). let no_name : List Text = [] in no_name) (map field_label fs) ++ map head_names (map head_in ms)) (trees (map field_tree fs ++ map body_tree ms)) → AreClosed ns [] (fields_below fs) × AreClosedMethods ns ms
+    → AreClosed ns (map (λ (l : Text). let no_name : List Text = [] in no_name) (map field_label fs) ++ map head_names (map method_head ms)) (trees (map field_tree fs ++ map body_tree ms)) → AreClosed ns [] (fields_below fs) × AreClosedMethods ns ms
 both_closed ns [] ms c = (tt, subst (λ (l : List (List Text)). AreClosed ns l (bodies_below ms)) (heads_map ms) c)
   where
-    heads_map : (ms : List Method) → map head_names (map head_in ms) ≡ map bound_in ms
+    heads_map : (ms : List Method) → map head_names (map method_head ms) ≡ map bound_in ms
     heads_map [] = refl
     heads_map (m ∷ ms) = ap (λ (ns : List (List Text)). bound_in m ∷ ns) (heads_map ms)
 both_closed ns (f ∷ fs) ms c = let h : AreClosed ns [] (fields_below fs) × AreClosedMethods ns ms = both_closed ns fs ms c.1 in ((c.0, h.0), h.1)
 
 make_closed : (ns : List Text) (t : Term) (fs : Vec (Label × Term)) (ms : Vec Method) (m : Mark) → t ≡ Make fs ms m → IsClosed ns (tree_of t) → AreClosed ns [] (fields_below fs.items) × AreClosedMethods ns ms.items
 make_closed ns t fs ms m is c =
-    let h : IsClosed ns (node (term.Make (map field_label fs.items) (map head_in ms.items)) (trees (map field_tree fs.items ++ map body_tree ms.items))) = subst (IsClosed ns) (ap tree_of is ∙ make_is fs ms m) c in
+    let h : IsClosed ns (node (term.Make (map field_label fs.items) (map method_head ms.items)) (trees (map field_tree fs.items ++ map body_tree ms.items))) = subst (IsClosed ns) (ap tree_of is ∙ make_is fs ms m) c in
     both_closed ns fs.items ms.items h.2
 
 pub fields_closed : (ns : List Text) (t : Term) (xs : List (Label × Term)) (fs : Vec (Label × Term)) (ms : Vec Method) (m : Mark) → xs ≡ fs.items → t ≡ Make fs ms m → IsClosed ns (tree_of t) → AreClosed ns [] (fields_below xs)

@@ -12,10 +12,11 @@ use Rattle.asp_model.specs.Names.{Text}
 use Rattle.asp_model.specs.Term.{trees}
 use Rattle.asp_model.specs.Shapes.{tree_of}
 use Rattle.program_code.specs.Fitting.{head_names}
-use Rattle.name_slots.specs.Slots.{bound_in, head_in}
+use Rattle.name_slots.specs.Slots.{bound_in}
+use Rattle.program_code.specs.Parts.{body_tree, field_label, field_tree, method_head}
 use Rattle.code_compiler.specs.Free.{with_free, free_in, free_below}
-use Rattle.code_compiler.specs.Parts.{field_label, field_tree, body_tree, terms_below, fields_below, bodies_below}
-use Rattle.code_compiler.proofs.TermTrees.{make_is, loc_is, hole_is, var_is, number_is, get_is, put_is, call_is, clone_is, active_is, serve_is, let_is, steps_is, if_is, repeat_is, operate_is, print_is, echo_is, group_is, scatter_is, size_is, member_is, waitall_is}
+use Rattle.code_compiler.specs.Parts.{terms_below, fields_below, bodies_below}
+use Rattle.program_code.proofs.TermTrees.{make_is, loc_is, hole_is, var_is, number_is, get_is, put_is, call_is, clone_is, active_is, serve_is, let_is, steps_is, if_is, repeat_is, operate_is, print_is, echo_is, group_is, scatter_is, size_is, member_is, waitall_is}
 
 pub loc_free : (b acc : List Text) (n : ℕ) (m : Mark) → free_in b acc (tree_of (Loc n m)) ≡ acc
 loc_free b acc n m = ap (free_in b acc) (loc_is n m)
@@ -84,15 +85,15 @@ pub waitall_free : (b acc : List Text) (a : Box Term) (m : Mark) → free_in b a
 waitall_free b acc a m = ap (free_in b acc) (waitall_is a m)
 
 object_free : (b acc : List Text) (fs : List (Label × Term)) (ms : List Method)
-    → free_below b acc (map (λ (l : Text). let no_name : List Text = [] in no_name) (map field_label fs) ++ map head_names (map head_in ms)) (trees (map field_tree fs ++ map body_tree ms))
+    → free_below b acc (map (λ (l : Text). let no_name : List Text = [] in no_name) (map field_label fs) ++ map head_names (map method_head ms)) (trees (map field_tree fs ++ map body_tree ms))
     ≡ free_below b (free_below b acc [] (fields_below fs)) (map bound_in ms) (bodies_below ms)
 object_free b acc [] ms = ap (λ (ns : List (List Text)). free_below b acc ns (bodies_below ms)) (heads_map ms)
   where
-    heads_map : (ms : List Method) → map head_names (map head_in ms) ≡ map bound_in ms
+    heads_map : (ms : List Method) → map head_names (map method_head ms) ≡ map bound_in ms
     heads_map [] = refl
     heads_map (m ∷ ms) = ap (λ (ns : List (List Text)). bound_in m ∷ ns) (heads_map ms)
 object_free b acc (f ∷ fs) ms =
-    ap (λ (l : List Text). free_below b (free_in l acc (field_tree f)) (map (λ (x : Text). let no_name : List Text = [] in no_name) (map field_label fs) ++ map head_names (map head_in ms)) (trees (map field_tree fs ++ map body_tree ms))) (append-nil b)
+    ap (λ (l : List Text). free_below b (free_in l acc (field_tree f)) (map (λ (x : Text). let no_name : List Text = [] in no_name) (map field_label fs) ++ map head_names (map method_head ms)) (trees (map field_tree fs ++ map body_tree ms))) (append-nil b)
     ∙ object_free b (free_in b acc (field_tree f)) fs ms
 
 pub make_free : (b acc : List Text) (fs : Vec (Label × Term)) (ms : Vec Method) (m : Mark)

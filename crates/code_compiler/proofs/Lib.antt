@@ -1,4 +1,3 @@
-pub mod TermTrees
 pub mod FreeLemmas
 pub mod ClosedLemmas
 pub mod ClosedLaws

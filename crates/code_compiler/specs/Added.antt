@@ -6,10 +6,10 @@ use Rattle.asp_model.specs.Term.{Tree}
 use Rattle.program_code.specs.declared.code.Child.{Child}
 use Rattle.program_code.specs.declared.code.MethodCode.{MethodCode}
 use Rattle.program_code.specs.declared.code.Node.{Node}
-use Rattle.name_slots.specs.Slots.{environment, head_in}
+use Rattle.name_slots.specs.Slots.{environment}
+use Rattle.program_code.specs.Parts.{body_tree, method_head}
 use Rattle.name_slots.specs.declared.scope.Scope.{Scope}
 use Rattle.code_compiler.specs.Compiled.{Body, Adds, AddsMethods}
-use Rattle.code_compiler.specs.Parts.{body_tree}
 
 -- a body that has used these slots so far
 abbrev pub body_of : Scope → List ℕ → Body
@@ -31,4 +31,4 @@ AddsChild s us vs ns ms c ts = Adds (body_of s us.items) (body_of s vs.items) ns
 
 -- the code of these methods, whose captured places begin at a number of their object's
 abbrev pub AddsCode : Scope → Vec ℕ → Vec ℕ → Vec Node → Vec Node → ℕ → List MethodCode → List Method → Type 0
-AddsCode s us vs ns ms start codes methods = AddsMethods (body_of s us.items) (body_of s vs.items) ns.items ms.items start codes (map head_in methods) (map body_tree methods)
+AddsCode s us vs ns ms start codes methods = AddsMethods (body_of s us.items) (body_of s vs.items) ns.items ms.items start codes (map method_head methods) (map body_tree methods)

@@ -7,7 +7,8 @@ use Rattle.asp_model.specs.Names.{Text}
 use Rattle.asp_model.specs.Term.{Head, Make, Tree, Trees, node, none, more, trees}
 use Rattle.asp_model.specs.Shapes.{tree_of}
 use Rattle.code_compiler.specs.Closed.{AreClosed}
-use Rattle.name_slots.specs.Slots.{head_in, bound_in}
+use Rattle.name_slots.specs.Slots.{bound_in}
+use Rattle.program_code.specs.Parts.{body_tree, field_label, field_tree, method_head}
 
 -- what stands in a tree's node
 abbrev pub head_at : Tree → Head
@@ -21,15 +22,6 @@ list_of (more t ts) = t ∷ list_of ts
 abbrev pub parts_of : Tree → List Tree
 parts_of (node h ts) = list_of ts
 
-abbrev pub field_label : Label × Term → Text
-field_label f = f.0.text
-
-abbrev pub field_tree : Label × Term → Tree
-field_tree f = tree_of f.1
-
-abbrev pub body_tree : Method → Tree
-body_tree m = tree_of m.body
-
 abbrev pub terms_below : List Term → Trees
 terms_below ts = trees (map tree_of ts)
 
@@ -40,7 +32,7 @@ abbrev pub bodies_below : List Method → Trees
 bodies_below ms = trees (map body_tree ms)
 
 abbrev pub object_tree : List (Label × Term) → List Method → Tree
-object_tree fs ms = node (Make (map field_label fs) (map head_in ms)) (trees (map field_tree fs ++ map body_tree ms))
+object_tree fs ms = node (Make (map field_label fs) (map method_head ms)) (trees (map field_tree fs ++ map body_tree ms))
 
 -- methods whose bodies are closed under what is bound round their object
 abbrev pub AreClosedMethods : List Text → List Method → Type 0

@@ -5,7 +5,8 @@ ghost use Rattle.asp_model.specs.Term.{has_text};
 ghost use Rattle.asp_model.specs.Shapes.{tree_of};
 ghost use Rattle.name_slots.specs.Slots.{bound_in};
 ghost use Rattle.code_compiler.specs.Free.{free_below, free_in, with_free};
-ghost use Rattle.code_compiler.specs.Parts.{bodies_below, body_tree, fields_below, terms_below};
+ghost use Rattle.code_compiler.specs.Parts.{bodies_below, fields_below, terms_below};
+ghost use Rattle.program_code.specs.Parts.{body_tree};
 
 use asp_model::{Label, Method, Term, Word};
 use std::alloc::{AllocError, Global};

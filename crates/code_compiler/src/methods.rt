@@ -4,11 +4,11 @@ ghost use Rattle.std.specs.Prelude.{◌≡◌, ◌+◌, ◌∷◌, ◌++◌, [],
 ghost use Rattle.std.specs.List.{flat_map};
 ghost use Rattle.program_code.specs.Fitting.{CapturesFit, captured_names};
 ghost use Rattle.program_code.specs.Uses.{use_at};
-ghost use Rattle.name_slots.specs.Slots.{bound_in, environment, head_in, names_of};
+ghost use Rattle.name_slots.specs.Slots.{bound_in, environment, names_of};
+ghost use Rattle.program_code.specs.Parts.{body_tree, method_head};
 ghost use Rattle.code_compiler.specs.Added.{body_of};
 ghost use Rattle.code_compiler.specs.Compiled.{AreAmong, IsMethod};
 ghost use Rattle.code_compiler.specs.Free.{free_in};
-ghost use Rattle.code_compiler.specs.Parts.{body_tree};
 
 use crate::free::{note_term, push_head, push_words};
 use crate::nodes::push_use;
@@ -49,7 +49,7 @@ pub fn end_method(
     ended: Ended,
 ) -> Result<MethodCode, AllocError>
     requires among { AreAmong (names_of scope.now) ended.captured.items }
-    ensures made { let head = head_in method.now in
+    ensures made { let head = method_head method.now in
         let old = body_of scope.now uses.old.items in
         let new = body_of scope.now uses.new.items in
         IfOk result (IsMethod old new ended.captured.items ended.uses.items start head ended.code) }

@@ -12,7 +12,8 @@ ghost use Rattle.program_code.specs.declared.code.Node.{Node as NodeShape};
 ghost use Rattle.name_slots.specs.Slots.{names_of};
 ghost use Rattle.code_compiler.specs.Added.{AddsTerm};
 ghost use Rattle.code_compiler.specs.Compiled.{EndsTable, is_plain};
-ghost use Rattle.code_compiler.specs.Parts.{field_label, head_at};
+ghost use Rattle.code_compiler.specs.Parts.{head_at};
+ghost use Rattle.program_code.specs.Parts.{field_label};
 
 use asp_model::{Label, Term, Word};
 use name_slots::{Scope, leaf_of};

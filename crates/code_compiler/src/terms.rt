@@ -6,11 +6,12 @@ ghost use Rattle.asp_model.specs.Shapes.{tree_of};
 ghost use Rattle.asp_model.specs.Term.{Let, Make, Tree, node, trees, two};
 ghost use Rattle.program_code.specs.Tables.{text_of};
 ghost use Rattle.program_code.specs.declared.code.Node.{Node as NodeShape};
-ghost use Rattle.name_slots.specs.Slots.{bound_in, head_in, names_of};
+ghost use Rattle.name_slots.specs.Slots.{bound_in, names_of};
+ghost use Rattle.program_code.specs.Parts.{body_tree, field_tree, method_head};
 ghost use Rattle.code_compiler.specs.Added.{AddsChild, AddsCode, AddsRow, AddsTerm, AddsTerms};
 ghost use Rattle.code_compiler.specs.Closed.{AreClosed, IsClosed};
 ghost use Rattle.code_compiler.specs.Compiled.{EndsTable};
-ghost use Rattle.code_compiler.specs.Parts.{AreClosedMethods, body_tree, field_tree, fields_below, parts_of, terms_below};
+ghost use Rattle.code_compiler.specs.Parts.{AreClosedMethods, fields_below, parts_of, terms_below};
 
 use crate::methods::{Ended, captured_names_of, end_method, next_start, only_child};
 use crate::nodes::{field_labels, kind_of, put, put_variable};
@@ -188,7 +189,7 @@ fn put_object(
         → AddsRow scope.now us uses.old ns nodes.old below ts
         → length ts ≡ length fields.items
         → let ls = map text_of fields.items in
-        let t = node (Make ls (map head_in methods.now)) (trees (ts ++ map body_tree methods.now)) in OnOk result
+        let t = node (Make ls (map method_head methods.now)) (trees (ts ++ map body_tree methods.now)) in OnOk result
         (AddsTerm scope.now us uses.new ns nodes.new children.old children.new t) }
     ensures ends { OnOk result (EndsTable (length nodes.new.items) children.new.items) }
 {

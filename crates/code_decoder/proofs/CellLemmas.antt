@@ -18,8 +18,9 @@ use Rattle.program_code.specs.Tables.{head_of, piece_of, placed_method, seen_met
 use Rattle.program_code.proofs.LookupLemmas.{sound_method_at}
 use Rattle.code_laws.specs.Shown.{shown}
 use Rattle.code_laws.proofs.ShownLemmas.{over_from, shown_over}
-use Rattle.code_decoder.specs.Decoded.{body_tree, method_head, shown_child}
-use Rattle.code_decoder.proofs.TermTrees.{stored_is}
+use Rattle.code_decoder.specs.Decoded.{shown_child}
+use Rattle.program_code.specs.Parts.{body_tree, method_head}
+use Rattle.program_code.proofs.TermTrees.{stored_is}
 
 -- Fields
 

@@ -1,4 +1,3 @@
-pub mod TermTrees
 pub mod SeenLemmas
 pub mod DecodeLemmas
 pub mod BehindLemmas

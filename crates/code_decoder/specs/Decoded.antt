@@ -1,15 +1,12 @@
 -- What terms that are decoded are, by the code that they come from.
 use Rattle.std.specs.Prelude.{◌≡◌, ◌<◌, ◌≤◌, ℕ, zero, suc, Option, Some, None, List, [], ◌∷◌, ◌++◌, length, map}
-use Rattle.asp_model.specs.declared.word.Label.{Label}
-use Rattle.asp_model.specs.declared.term.Term.{Term}
-use Rattle.asp_model.specs.declared.term.Method.{Method}
 use Rattle.asp_model.specs.Names.{Text}
-use Rattle.asp_model.specs.Term.{Hole, Var, Make, Steps, MethodHead, Tree, Trees, node, none, more, trees, leaf, loc, Environment}
+use Rattle.asp_model.specs.Term.{Hole, Var, Make, Steps, Tree, Trees, node, none, more, trees, leaf, loc, Environment}
 use Rattle.asp_model.specs.Split.{plugged}
 use Rattle.asp_model.specs.declared.store.Object.{Object}
 use Rattle.asp_model.specs.Store as store
 use Rattle.asp_model.specs.Store.{CellShape}
-use Rattle.asp_model.specs.Shapes.{tree_of, field_shape, stored_method}
+use Rattle.asp_model.specs.Shapes.{field_shape, stored_method}
 use Rattle.program_code.specs.declared.code.Child.{Child}
 use Rattle.program_code.specs.declared.code.Child.TheVariants as child
 use Rattle.program_code.specs.declared.code.Kind.{Kind}
@@ -33,18 +30,6 @@ seen_tree seen.Nothing = leaf Hole
 abbrev pub trees_then : List Tree → Trees → Trees
 trees_then [] us = us
 trees_then (t ∷ ts) us = more t (trees_then ts us)
-
-abbrev pub field_label : Label × Term → Text
-field_label f = f.0.text
-
-abbrev pub field_tree : Label × Term → Tree
-field_tree f = tree_of f.1
-
-abbrev pub method_head : Method → MethodHead
-method_head m = record { label = m.label.text; slf = m.slf; parameters = m.parameters.items }
-
-abbrev pub body_tree : Method → Tree
-body_tree m = tree_of m.body
 
 -- what stands below a node, and the bodies of methods, over these trees
 abbrev pub shown_child : List Tree → List Piece → Child → Tree

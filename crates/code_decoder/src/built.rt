@@ -5,7 +5,8 @@ ghost use Rattle.std.specs.Prelude.{◌≡◌, IfOk, [], map};
 ghost use Rattle.asp_model.specs.Term.{Make, more, node, none, trees};
 ghost use Rattle.asp_model.specs.Shapes.{tree_of};
 ghost use Rattle.program_code.specs.Tables.{kind_head, text_of};
-ghost use Rattle.code_decoder.specs.Decoded.{body_tree, field_label, field_tree, method_head, trees_then};
+ghost use Rattle.code_decoder.specs.Decoded.{trees_then};
+ghost use Rattle.program_code.specs.Parts.{body_tree, field_label, field_tree, method_head};
 
 use crate::copies::{copy_labels, copy_service};
 use crate::split::{both, first_of, only};

@@ -5,7 +5,8 @@ ghost use Rattle.asp_model.specs.Shapes.{tree_of};
 ghost use Rattle.program_code.specs.Sound.{AllBelow, IsBelow, KindBelow, MethodsBelow};
 ghost use Rattle.program_code.specs.Tables.{head_of, piece_at, pieces};
 ghost use Rattle.code_laws.specs.Shown.{shown};
-ghost use Rattle.code_decoder.specs.Decoded.{body_tree, finished_tree, method_head, seen_tree, shown_body, shown_child};
+ghost use Rattle.code_decoder.specs.Decoded.{finished_tree, seen_tree, shown_body, shown_child};
+ghost use Rattle.program_code.specs.Parts.{body_tree, method_head};
 
 use crate::built::{built, object};
 use crate::copies::copy_words;

@@ -15,8 +15,9 @@ use Rattle.laws.specs.Steps.{IsNewTo}
 use Rattle.laws.proofs.ClosedLaws.{reached_are_closed}
 use Rattle.laws.proofs.FrameLemmas.{effects_are_new}
 use Rattle.laws.proofs.LinkedLemmas.{intends_step, targets_are_there}
-use Rattle.laws.proofs.MapLemmas as Maps
-use Rattle.laws.proofs.NameLemmas.{future_total, future_same, name_case, name_total, name_same, no_some}
+use Rattle.chase_laws.proofs.MapLemmas as Maps
+use Rattle.laws.proofs.NameLemmas.{name_case, name_total, name_same}
+use Rattle.chase_laws.proofs.FutureLemmas.{future_total, future_same, no_some}
 use Rattle.laws.proofs.ReachedLemmas.{moves_go_on}
 use Rattle.schedules.proofs.EffectLemmas.{absent_received_none}
 use Rattle.lease_laws.specs.Numbered.{AreNumbered}

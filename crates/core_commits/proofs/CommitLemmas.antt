@@ -11,8 +11,9 @@ use Rattle.journals.specs.Communications.{is_communication}
 use Rattle.journals.specs.Journals.{RunShape, entered, out_but, run_of}
 use Rattle.journals.specs.Owed.{need_of}
 use Rattle.journal_laws.proofs.BudgetLemmas.{budgets_are_kept}
-use Rattle.laws.proofs.MapLemmas as Maps
-use Rattle.laws.proofs.NameLemmas.{is_there, name_total, name_same, no_some, none_true}
+use Rattle.chase_laws.proofs.MapLemmas as Maps
+use Rattle.laws.proofs.NameLemmas.{is_there, name_total, name_same}
+use Rattle.chase_laws.proofs.FutureLemmas.{no_some, none_true}
 use Rattle.laws.proofs.WholeLemmas.{reached_are_sound}
 use Rattle.lease_laws.proofs.BurstLemmas.{bursts_are_counted}
 use Rattle.lease_laws.proofs.GrowingLemmas.{entries_go_on}

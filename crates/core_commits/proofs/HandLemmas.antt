@@ -9,7 +9,7 @@ use Rattle.asp_model.specs.Parcel.{ParcelShape}
 use Rattle.asp_model.specs.Names.{Name, FutureShape, name_cmp, future_cmp}
 use Rattle.asp_model.specs.Step.{name_at, put_some, with_sent}
 use Rattle.journals.specs.Journals.{RunShape}
-use Rattle.laws.proofs.NameLemmas.{no_some, some_is, true_false}
+use Rattle.chase_laws.proofs.FutureLemmas.{no_some, some_is, true_false}
 use Rattle.program_code.specs.declared.code.Node.{Node}
 use Rattle.request_queue.specs.declared.request.Request.{Request}
 use Rattle.activity_seats.specs.Seats.{In, IsTaken, Out, SeatShape, is_in, names_in, seat_at}

@@ -11,8 +11,9 @@ use Rattle.asp_model.specs.Names.{Name, name_cmp}
 use Rattle.asp_model.specs.Shapes.{future_shape}
 use Rattle.asp_model.specs.Step.{name_at, with_effect, with_sent}
 use Rattle.journals.specs.Journals.{RunShape}
-use Rattle.laws.proofs.MapLemmas as Maps
-use Rattle.laws.proofs.NameLemmas.{name_total, name_same, no_some, true_false}
+use Rattle.chase_laws.proofs.MapLemmas as Maps
+use Rattle.laws.proofs.NameLemmas.{name_total, name_same}
+use Rattle.chase_laws.proofs.FutureLemmas.{no_some, true_false}
 use Rattle.lease_laws.proofs.NameListLemmas.{number_stays}
 use Rattle.core_laws.specs.Commits.{made_by, with_activity}
 use Rattle.program_code.specs.declared.code.Node.{Node}

@@ -6,8 +6,9 @@ use Rattle.asp_model.specs.Names.{Name, name_cmp}
 use Rattle.asp_model.specs.Step.{name_at}
 use Rattle.asp_model.specs.Store.{Store}
 use Rattle.journals.specs.Journals.{RunShape, entered, grant_of}
-use Rattle.laws.proofs.MapLemmas as Maps
-use Rattle.laws.proofs.NameLemmas.{name_same, name_total, some_is}
+use Rattle.chase_laws.proofs.MapLemmas as Maps
+use Rattle.laws.proofs.NameLemmas.{name_same, name_total}
+use Rattle.chase_laws.proofs.FutureLemmas.{some_is}
 use Rattle.lease_laws.specs.Entries.{IsIn, with_store_of}
 use Rattle.lease_laws.specs.Leases.{bursts_in}
 use Rattle.lease_laws.specs.Numbered.{AreNumbered}

@@ -12,7 +12,8 @@ use Rattle.journals.specs.Journals.{RunShape, delivered, grant_of, is_in}
 use Rattle.journals.specs.Owed.{first_edge, first_need, need_delivery, need_of, need_to, or_else}
 use Rattle.journal_laws.specs.EdgesKept.{IsKnownEdge}
 use Rattle.laws.specs.Linked.{Each}
-use Rattle.laws.proofs.NameLemmas.{is_there, no_some, none_true, some_is}
+use Rattle.laws.proofs.NameLemmas.{is_there}
+use Rattle.chase_laws.proofs.FutureLemmas.{no_some, none_true, some_is}
 use Rattle.verdict_laws.specs.Owed.{is_in_to}
 use Rattle.verdict_laws.proofs.OwedLemmas.{in_named}
 use Rattle.core_deliveries.specs.Deliveries.{IsPassed}

@@ -9,10 +9,10 @@ use Rattle.asp_model.specs.Store.{Store, cell}
 use Rattle.journals.specs.Deliveries.{at_place, value_needed, value_of}
 use Rattle.journals.specs.Journals.{RunShape}
 use Rattle.laws.specs.Reached.{HasValue, Makes, Needs}
-use Rattle.laws.proofs.ChaseLemmas.{chase_finds}
+use Rattle.chase_laws.proofs.ChaseLemmas.{chase_finds}
 use Rattle.laws.proofs.ClosedLaws.{in_store}
 use Rattle.laws.proofs.DeliveryLemmas.{NeedDone, need_done}
-use Rattle.laws.proofs.NameLemmas.{future_itself, some_is}
+use Rattle.chase_laws.proofs.FutureLemmas.{future_itself, some_is}
 use Rattle.lease_laws.specs.Entries.{with_store_of}
 use Rattle.lease_laws.specs.Numbered.{AreNumbered}
 use Rattle.lease_laws.proofs.EntryLemmas.{needs_are_entered}

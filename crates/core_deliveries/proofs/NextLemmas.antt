@@ -23,7 +23,8 @@ use Rattle.journals.specs.Owed.{need_at, need_in, need_of, need_to, needed_at}
 use Rattle.journal_laws.proofs.JournalLemmas.{journals_reach}
 use Rattle.laws.specs.Closed.{IsClosed}
 use Rattle.laws.proofs.ClosedLaws.{reached_are_closed}
-use Rattle.laws.proofs.NameLemmas.{future_itself, is_there, no_some, none_true, some_is}
+use Rattle.laws.proofs.NameLemmas.{is_there}
+use Rattle.chase_laws.proofs.FutureLemmas.{future_itself, no_some, none_true, some_is}
 use Rattle.lease_laws.specs.Entries.{IsIn}
 use Rattle.program_code.specs.declared.code.Node.{Node}
 use Rattle.future_table.specs.Values.{values_of}

@@ -14,8 +14,9 @@ use Rattle.journal_laws.proofs.JournalLemmas.{journals_reach}
 use Rattle.laws.specs.Closed.{IsClosed, IsClosedValue}
 use Rattle.laws.specs.Reached.{HasValue, IsReached, Makes, Move}
 use Rattle.laws.proofs.ClosedLaws.{reached_are_closed}
-use Rattle.laws.proofs.MapLemmas as Maps
-use Rattle.laws.proofs.NameLemmas.{name_same, name_total, no_some, none_true, some_is, true_false}
+use Rattle.chase_laws.proofs.MapLemmas as Maps
+use Rattle.laws.proofs.NameLemmas.{name_same, name_total}
+use Rattle.chase_laws.proofs.FutureLemmas.{no_some, none_true, some_is, true_false}
 use Rattle.laws.proofs.ReachedLemmas.{moves_go_on}
 use Rattle.path_laws.specs.Whole.{IsWhole}
 use Rattle.path_laws.proofs.WholeLemmas.{reached_are_whole}

@@ -16,7 +16,8 @@ use Rattle.journals.specs.Deliveries.{edge_delivered, need_delivered, value_need
 use Rattle.journals.specs.Journals.{RunShape, delivered, grant_of, is_in, number_of, over}
 use Rattle.laws.specs.Reached.{IsFilled, IsThere}
 use Rattle.laws.proofs.DeliveryLemmas.{NeedDone, edge_done, need_done}
-use Rattle.laws.proofs.NameLemmas.{future_itself, is_there, names_tied, no_some, none_true, some_is, true_false}
+use Rattle.laws.proofs.NameLemmas.{is_there, names_tied}
+use Rattle.chase_laws.proofs.FutureLemmas.{future_itself, no_some, none_true, some_is, true_false}
 use Rattle.lease_laws.specs.Entries.{IsIn}
 use Rattle.lease_laws.specs.Numbered.{AreNumbered}
 use Rattle.lease_laws.proofs.EntryLemmas.{edges_are_entered, needs_are_entered}

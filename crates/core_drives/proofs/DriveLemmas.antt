@@ -8,7 +8,7 @@ use Rattle.asp_model.specs.Configuration.{Configuration}
 use Rattle.asp_model.specs.History.{Committed, Delivered, DeliveryShape, Edge, EntryShape, HistoryShape, Lent, Need}
 use Rattle.asp_model.specs.Names.{Name}
 use Rattle.journals.specs.Journals.{RunShape, back, committed, delivered, entered, grant_of, granted, out_but, over, reduced, run_of}
-use Rattle.laws.proofs.NameLemmas.{no_some, some_is, true_false}
+use Rattle.chase_laws.proofs.FutureLemmas.{no_some, some_is, true_false}
 use Rattle.lease_laws.specs.Entries.{with_lease}
 use Rattle.lease_laws.specs.Leases.{stays_out}
 use Rattle.lease_laws.proofs.BurstLemmas.{leases_last}

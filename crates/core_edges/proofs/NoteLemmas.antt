@@ -8,7 +8,7 @@ use Rattle.std.proofs.lemmas.List.Quantifiers.{position-Some}
 use Rattle.std.proofs.lemmas.Option.{slice_get-get_or}
 use Rattle.asp_model.specs.History.{DeliveryShape, Edge, Need}
 use Rattle.journals.specs.Edges.{Delivers, EdgeShape, HoldersShape, after_event, after_events, has_edge, same_edge}
-use Rattle.laws.proofs.NameLemmas.{no_some, none_true}
+use Rattle.chase_laws.proofs.FutureLemmas.{no_some, none_true}
 use Rattle.edge_records.specs.Names.{edge_between}
 use Rattle.edge_records.proofs.PlaceLemmas.{same_edge_same}
 use Rattle.future_update.specs.Holders.{is_delivered, place_in, with_delivery}

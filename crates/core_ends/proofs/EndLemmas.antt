@@ -11,7 +11,8 @@ use Rattle.asp_model.specs.Names.{Name, name_cmp}
 use Rattle.asp_model.specs.Step.{name_at}
 use Rattle.journals.specs.Journals.{RunShape, grant_of}
 use Rattle.journal_laws.proofs.JournalLemmas.{journals_reach}
-use Rattle.laws.proofs.NameLemmas.{names_apart, no_some, some_is, true_false}
+use Rattle.laws.proofs.NameLemmas.{names_apart}
+use Rattle.chase_laws.proofs.FutureLemmas.{no_some, some_is, true_false}
 use Rattle.lease_laws.specs.Numbered.{AreNumbered}
 use Rattle.lease_laws.proofs.NumberLemmas.{journals_are_numbered}
 use Rattle.program_code.specs.declared.code.Node.{Node}

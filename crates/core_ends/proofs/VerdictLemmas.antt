@@ -14,7 +14,8 @@ use Rattle.journals.specs.Journals.{RunShape, grant_of}
 use Rattle.journals.specs.Owed.{first_edge, first_need, is_any, need_to, next_owed, or_else, verdict_told}
 use Rattle.journal_laws.proofs.JournalLemmas.{journals_reach}
 use Rattle.laws.proofs.EntryLemmas.{In, entry_found, found_entry}
-use Rattle.laws.proofs.NameLemmas.{is_there, no_some, none_true, true_false}
+use Rattle.laws.proofs.NameLemmas.{is_there}
+use Rattle.chase_laws.proofs.FutureLemmas.{no_some, none_true, true_false}
 use Rattle.laws.proofs.WholeLemmas.{reached_are_sound}
 use Rattle.laws.proofs.NamesLaws.{entries_ascend}
 use Rattle.laws.specs.Reached.{IsReached, IsThere}

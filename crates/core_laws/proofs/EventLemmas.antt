@@ -11,7 +11,7 @@ use Rattle.journals.specs.Edges.{Event}
 use Rattle.journals.specs.Passing.{effect_events, named_events, read_in, redex_read, step_events, steps_events, unpacked_by}
 use Rattle.laws.specs.Reached.{IsAt, Steps}
 use Rattle.laws.specs.Sound.{IsSound}
-use Rattle.laws.proofs.MapLemmas.{find_same}
+use Rattle.chase_laws.proofs.MapLemmas.{find_same}
 use Rattle.laws.proofs.NameLemmas.{name_same, name_total}
 use Rattle.laws.proofs.WholeLemmas.{moves_keep_sound, sound_intents}
 use Rattle.activity_step.specs.Local.{IsLocalStep, LocalRun}

@@ -12,8 +12,9 @@ use Rattle.asp_model.specs.Intent.{Effect}
 use Rattle.asp_model.specs.Step.{put_some, with_effect}
 use Rattle.journals.specs.Journals.{newcomers}
 use Rattle.laws.specs.Reached.{IsAt}
-use Rattle.laws.proofs.MapLemmas.{find_other, find_same}
-use Rattle.laws.proofs.NameLemmas.{name_case, name_itself, name_same, name_total, no_some}
+use Rattle.chase_laws.proofs.MapLemmas.{find_other, find_same}
+use Rattle.laws.proofs.NameLemmas.{name_case, name_itself, name_same, name_total}
+use Rattle.chase_laws.proofs.FutureLemmas.{no_some}
 use Rattle.core_laws.specs.Commits.{made_by, with_activity}
 
 abbrev Entries : Type 0

@@ -10,7 +10,8 @@ use Rattle.asp_model.specs.Shapes.{delivery_shape, outcome_shape, verdict_shape}
 use Rattle.asp_model.specs.Term.{Tree}
 use Rattle.journals.specs.Edges.{HoldersShape}
 use Rattle.journals.specs.Journals.{RunShape, run_of}
-use Rattle.laws.proofs.NameLemmas.{is_there, no_some}
+use Rattle.laws.proofs.NameLemmas.{is_there}
+use Rattle.chase_laws.proofs.FutureLemmas.{no_some}
 use Rattle.paths.specs.Outcomes.{whole_outcome_of}
 use Rattle.run_ends.specs.declared.ends.RunEnd.{RunEnd}
 use Rattle.run_ends.specs.Ends.{IsEndOf}

@@ -8,7 +8,7 @@ use Rattle.asp_model.specs.Term.{Tree, locations}
 use Rattle.journals.specs.Journals.{begun}
 use Rattle.laws.specs.Closed.{IsClosed}
 use Rattle.laws.proofs.ClosedLaws.{reached_are_closed}
-use Rattle.laws.proofs.NameLemmas.{no_some, some_is}
+use Rattle.chase_laws.proofs.FutureLemmas.{no_some, some_is}
 use Rattle.laws.proofs.ReachedLemmas.{start_is_reached}
 use Rattle.operand_reads.specs.Values.{AreClosedValues}
 use Rattle.program_code.specs.declared.code.Node.{Node}

@@ -15,7 +15,7 @@ use Rattle.journal_laws.proofs.BudgetLemmas.{budgets_are_kept}
 use Rattle.journal_laws.proofs.JournalLemmas.{journals_reach}
 use Rattle.laws.specs.Closed.{IsClosed}
 use Rattle.laws.proofs.ClosedLaws.{reached_are_closed}
-use Rattle.laws.proofs.MapLemmas as Maps
+use Rattle.chase_laws.proofs.MapLemmas as Maps
 use Rattle.laws.proofs.NameLemmas.{name_total, name_same}
 use Rattle.lease_laws.specs.Numbered.{AreNumbered}
 use Rattle.lease_laws.proofs.BurstLemmas.{bursts_are_counted}

@@ -10,7 +10,7 @@ use Rattle.asp_model.specs.Step.{name_at}
 use Rattle.asp_model.specs.declared.limits.TheConstants.{MOST_GRANTED}
 use Rattle.journals.specs.Journals.{RunShape, grant_of, granted, may_lend, run_of}
 use Rattle.journals.specs.Owed.{need_to}
-use Rattle.laws.proofs.NameLemmas.{no_some, none_true}
+use Rattle.chase_laws.proofs.FutureLemmas.{no_some, none_true}
 use Rattle.lease_laws.specs.Entries.{with_lease}
 use Rattle.lease_laws.specs.Leases.{IsLentAt, bursts_in}
 use Rattle.lease_laws.proofs.BurstLemmas.{bursts_are_counted, leases_begin, leases_last}

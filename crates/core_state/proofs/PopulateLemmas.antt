@@ -10,8 +10,9 @@ use Rattle.asp_model.specs.Names.{Name, FutureShape, name_cmp, future_cmp}
 use Rattle.asp_model.specs.Parcel.{ParcelShape}
 use Rattle.asp_model.specs.Step.{name_at, with_sent}
 use Rattle.journals.specs.Journals.{RunShape, grant_of, out_but}
-use Rattle.laws.proofs.MapLemmas as Maps
-use Rattle.laws.proofs.NameLemmas.{name_total, name_same, no_some, some_is}
+use Rattle.chase_laws.proofs.MapLemmas as Maps
+use Rattle.laws.proofs.NameLemmas.{name_total, name_same}
+use Rattle.chase_laws.proofs.FutureLemmas.{no_some, some_is}
 use Rattle.lease_laws.specs.Numbered.{AreNumbered}
 use Rattle.lease_laws.proofs.BurstLemmas.{leases_last}
 use Rattle.lease_laws.proofs.LeaseLemmas.{grant_but}

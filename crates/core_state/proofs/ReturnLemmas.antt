@@ -8,7 +8,7 @@ use Rattle.journals.specs.Journals.{RunShape, grant_of, run_of}
 use Rattle.journal_laws.proofs.JournalLemmas.{journals_reach}
 use Rattle.laws.specs.Reached.{IsAt, IsReached}
 use Rattle.laws.specs.Sound.{IsSound}
-use Rattle.laws.proofs.NameLemmas.{no_some}
+use Rattle.chase_laws.proofs.FutureLemmas.{no_some}
 use Rattle.laws.proofs.WholeLemmas.{reached_are_sound}
 use Rattle.lease_laws.specs.Leases.{IsOutSince}
 use Rattle.lease_laws.specs.Numbered.{AreNumbered}

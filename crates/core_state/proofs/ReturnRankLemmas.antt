@@ -10,7 +10,7 @@ use Rattle.asp_model.specs.Step.{intent_in, name_at, with_effect}
 use Rattle.journals.specs.Journals.{RunShape, grant_of, out_but}
 use Rattle.laws.specs.Reached.{IsAt}
 use Rattle.laws.specs.Sound.{IsSound}
-use Rattle.laws.proofs.MapLemmas as Maps
+use Rattle.chase_laws.proofs.MapLemmas as Maps
 use Rattle.laws.proofs.NameLemmas.{is_there, name_total, name_same}
 use Rattle.lease_laws.specs.Numbered.{AreNumbered}
 use Rattle.lease_laws.proofs.LeaseLemmas.{grant_but}

@@ -17,8 +17,9 @@ use Rattle.laws.specs.Kept.{IsBegun, Stands, answers_at, mark, tally}
 use Rattle.laws.specs.Kept as kept
 use Rattle.laws.specs.Steps.{IsNewTo}
 use Rattle.laws.specs.Sound.{IsSound}
-use Rattle.laws.proofs.NameLemmas.{no_some, some_is, is_there, name_total, name_same, future_total, future_same, future_case, future_itself, futures_apart, futures_tied}
-use Rattle.laws.proofs.MapLemmas as Maps
+use Rattle.laws.proofs.NameLemmas.{is_there, name_total, name_same}
+use Rattle.chase_laws.proofs.FutureLemmas.{no_some, some_is, future_total, future_same, future_case, future_itself, futures_apart, futures_tied}
+use Rattle.chase_laws.proofs.MapLemmas as Maps
 use Rattle.laws.proofs.StepLemmas.{step_taken}
 use Rattle.laws.proofs.FactLemmas.{Face, acts_facts, face_of, holds, Holding, as_before, serving, ending}
 use Rattle.laws.proofs.SoundLemmas.{at_name, came, mark_same}

@@ -19,8 +19,9 @@ use Rattle.journals.specs.Deliveries.{with_store}
 use Rattle.journals.specs.Journals.{RunShape, begun, grant_of, out_but, granted, reduced, all_entered}
 use Rattle.laws.specs.Sound.{IsSound}
 use Rattle.laws.specs.Reached.{Steps, Edges, Needs}
-use Rattle.laws.proofs.NameLemmas.{name_total, name_same, no_some, some_is, true_false, not_some, is_there}
-use Rattle.laws.proofs.MapLemmas as Maps
+use Rattle.laws.proofs.NameLemmas.{name_total, name_same, not_some, is_there}
+use Rattle.chase_laws.proofs.FutureLemmas.{no_some, some_is, true_false}
+use Rattle.chase_laws.proofs.MapLemmas as Maps
 use Rattle.laws.proofs.StepLemmas.{step_taken}
 use Rattle.laws.proofs.CommuteLemmas.{took}
 use Rattle.laws.proofs.FactLemmas.{face, face_of, IsMade}

@@ -5,7 +5,7 @@ use Rattle.std.proofs.Common.{refl, sym, ap, subst, ◌∙◌, arith, inl, inr, 
 use Rattle.std.proofs.Math.Nat.{suc-mul}
 use Rattle.std.proofs.lemmas.List.{length-map}
 use Rattle.laws.specs.Linked.{Each}
-use Rattle.laws.proofs.NameLemmas.{true_false}
+use Rattle.chase_laws.proofs.FutureLemmas.{true_false}
 use Rattle.laws.proofs.EntryLemmas.{In}
 
 module _ {A : Type 0} (eq : A → A → Bool) (tied : (x y : A) → eq x y ≡ true → x ≡ y) (itself : (x : A) → eq x x ≡ true) where

@@ -4,7 +4,8 @@ use Rattle.std.proofs.Common.{refl, sym, ap, ◌∙◌}
 use Rattle.asp_model.specs.Names.{Name, FutureShape, same_name, same_future}
 use Rattle.journals.specs.Edges.{EdgeShape, Event, Begins, Passes, Fills, Receives, Delivers, HoldersShape, no_holders, same_edge, has_edge, home_of, is_no_edge, with_edge, with_edges, with_held, with_delivered, after_event, after_events}
 use Rattle.laws.specs.Linked.{Each}
-use Rattle.laws.proofs.NameLemmas.{none_true, true_false, names_tied, name_itself, futures_tied, future_itself}
+use Rattle.laws.proofs.NameLemmas.{names_tied, name_itself}
+use Rattle.chase_laws.proofs.FutureLemmas.{none_true, true_false, futures_tied, future_itself}
 use Rattle.laws.proofs.EachLemmas.{each_both, each_weaker}
 use Rattle.journal_laws.specs.EdgesKept.{AreEdges, EdgesAreDistinct}
 

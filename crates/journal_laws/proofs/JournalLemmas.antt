@@ -13,7 +13,7 @@ use Rattle.journals.specs.Journals.{RunShape, begun, grant_of, is_in, granted, m
 use Rattle.laws.specs.Reached.{Move, Steps, Edges, Needs, Makes, IsReached}
 use Rattle.laws.specs.Sound.{IsSound}
 use Rattle.laws.specs.Closed.{IsClosed}
-use Rattle.laws.proofs.NameLemmas.{no_some, some_is, none_true}
+use Rattle.chase_laws.proofs.FutureLemmas.{no_some, some_is, none_true}
 use Rattle.laws.proofs.ReachedLemmas.{start_is_reached, moves_go_on}
 use Rattle.laws.proofs.WholeLemmas.{moves_keep_sound, moves_keep_closed}
 use Rattle.journal_laws.specs.Entries.{JournalsReach, EntriesKeepSound, EntriesKeepClosed}

@@ -22,10 +22,11 @@ use Rattle.laws.specs.Kept.{IsBegun, sends_of}
 use Rattle.laws.specs.Kept as kept
 use Rattle.laws.specs.Linked.{Each, IsKnown, AreKnown}
 use Rattle.laws.specs.Sound.{IsSound}
-use Rattle.laws.proofs.NameLemmas.{no_some, some_is, name_total, name_same}
-use Rattle.laws.proofs.MapLemmas as Maps
+use Rattle.laws.proofs.NameLemmas.{name_total, name_same}
+use Rattle.chase_laws.proofs.FutureLemmas.{no_some, some_is}
+use Rattle.chase_laws.proofs.MapLemmas as Maps
 use Rattle.laws.proofs.StepLemmas.{step_taken}
-use Rattle.laws.proofs.ChaseLemmas.{chase_finds}
+use Rattle.chase_laws.proofs.ChaseLemmas.{chase_finds}
 use Rattle.laws.proofs.FactLemmas.{acts_facts}
 use Rattle.laws.proofs.DeliveryLemmas.{edge_done, need_done}
 use Rattle.laws.proofs.EachLemmas.{each_both, each_weaker}

@@ -11,8 +11,9 @@ use Rattle.asp_model.specs.Intent.{Effect, Acts, Rests, Awaits, Ready, Reads, La
 use Rattle.asp_model.specs.Step.{with_effect}
 use Rattle.journals.specs.Communications.{is_asking, is_communication}
 use Rattle.laws.specs.Reached.{IsAt}
-use Rattle.laws.proofs.NameLemmas.{none_true, name_total, name_same}
-use Rattle.laws.proofs.MapLemmas as Maps
+use Rattle.laws.proofs.NameLemmas.{name_total, name_same}
+use Rattle.chase_laws.proofs.FutureLemmas.{none_true}
+use Rattle.chase_laws.proofs.MapLemmas as Maps
 use Rattle.laws.proofs.StepLemmas.{step_taken}
 use Rattle.laws.proofs.FactLemmas.{no_acts, acts_is}
 use Rattle.laws.proofs.LinkedLemmas.{acting}

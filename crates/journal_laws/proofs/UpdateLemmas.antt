@@ -10,8 +10,9 @@ use Rattle.asp_model.specs.Parcel.{ParcelShape, parcel_of, place_at, unpack_at}
 use Rattle.journals.specs.Deliveries.{is_held, holders_from, unpack_each}
 use Rattle.journals.specs.Passing.{future_in, futures_in}
 use Rattle.laws.specs.Linked.{Each}
-use Rattle.laws.proofs.NameLemmas.{true_false, none_true, some_is, future_itself, name_total, name_same}
-use Rattle.laws.proofs.MapLemmas as Maps
+use Rattle.laws.proofs.NameLemmas.{name_total, name_same}
+use Rattle.chase_laws.proofs.FutureLemmas.{true_false, none_true, some_is, future_itself}
+use Rattle.chase_laws.proofs.MapLemmas as Maps
 use Rattle.laws.proofs.EntryLemmas.{In}
 use Rattle.laws.proofs.EachLemmas.{each_both}
 use Rattle.laws.proofs.ContractionLemmas.{IsOfNames, all_moved, all_parcel}

@@ -12,10 +12,10 @@ use Rattle.asp_model.specs.Chase.{Chase, Value, Unfilled, Cycle}
 use Rattle.asp_model.specs.Configuration.{RequestShape, ServiceShape, Activity}
 use Rattle.asp_model.specs.Intent.{Done, Serving, Running, Awaits, Faulted, Intent, Acts, Rests, Effect, Ready, Reads, Lacks, fetched, operand_ready, operands_ready, redex_ready, Numbered, oldest_match, labels_served, serves, newest, filling, ends_service, sends, creates, contracts, intent}
 use Rattle.laws.specs.Linked.{Each}
-use Rattle.laws.proofs.NameLemmas.{no_some, some_is}
+use Rattle.chase_laws.proofs.FutureLemmas.{no_some, some_is}
 use Rattle.laws.proofs.EachLemmas.{each_both}
 use Rattle.laws.proofs.ContractionLemmas.{IsOfNames, of_cell, all_moved, all_parcel, all_placed, Fine, contract_fine}
-use Rattle.laws.proofs.ChaseLemmas.{awaited}
+use Rattle.chase_laws.proofs.ChaseLemmas.{awaited}
 use Rattle.laws.proofs.FactLemmas.{no_acts, acts_is}
 
 -- all values that are read are of P

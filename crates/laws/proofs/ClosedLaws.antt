@@ -11,9 +11,9 @@ use Rattle.asp_model.specs.Intent.{Acts, Effect}
 use Rattle.asp_model.specs.Step.{ListsShape, intent_in, step, with_effect}
 use Rattle.laws.specs.Reached.{Move, Steps, Edges, Needs, Makes}
 use Rattle.laws.specs.Closed.{AreBelow, IsClosedActivity, IsClosedParcel, IsClosedValue, IsClosed, ReachedAreClosed, SplitsAreBelow, CopiesAreClosed, ValuesAreClosed, IsClosedStore}
-use Rattle.laws.proofs.NameLemmas.{no_some, none_true}
+use Rattle.chase_laws.proofs.FutureLemmas.{no_some, none_true}
 use Rattle.laws.proofs.StepLemmas.{step_taken}
-use Rattle.laws.proofs.ChaseLemmas.{chase_finds}
+use Rattle.chase_laws.proofs.ChaseLemmas.{chase_finds}
 use Rattle.laws.proofs.SoundLemmas.{came}
 use Rattle.laws.proofs.LinkedLemmas.{acting, found_after, value_after}
 use Rattle.laws.proofs.VisitLemmas.{packed_closed, value_closed}

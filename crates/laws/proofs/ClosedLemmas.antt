@@ -12,7 +12,7 @@ use Rattle.asp_model.specs.Configuration.{RequestShape, ServiceShape, Activity, 
 use Rattle.asp_model.specs.Intent.{Intent, Acts, Rests, Awaits, Effect, Ready, Reads, Lacks, fetched, operand_ready, operands_ready, redex_ready, start_term, creates, sends, Numbered, oldest_match, labels_served, serves, newest, but_newest, filling, ends_service, contracts, intent}
 use Rattle.laws.specs.Linked.{Each}
 use Rattle.laws.specs.Closed.{AreBelow, IsClosedStore, IsClosedParcel, IsClosedValue, ContextsBelow, SplitBelow, places_round, places_of, IsClosedActivity}
-use Rattle.laws.proofs.NameLemmas.{no_some, some_is}
+use Rattle.chase_laws.proofs.FutureLemmas.{no_some, some_is}
 use Rattle.laws.proofs.FactLemmas.{match_is}
 use Rattle.laws.proofs.EachLemmas.{each_both, each_weaker, below_more}
 use Rattle.laws.proofs.MovedLemmas.{cell_below, allotted, unpacked_closed, unpacked_length, unpacked_roots_below, unpacked_at_closed}
@@ -26,7 +26,7 @@ first_below : (k : ℕ) (ns : List ℕ) → AreBelow k ns → AreBelow k (first_
 first_below k [] h = tt
 first_below k (n ∷ ns) h = (h.0, tt)
 
-operands_below : (k : ℕ) (h : Head) (ns : List ℕ) → AreBelow k ns → AreBelow k (strict_operands h ns)
+pub operands_below : (k : ℕ) (h : Head) (ns : List ℕ) → AreBelow k ns → AreBelow k (strict_operands h ns)
 operands_below k (Get l) ns a = a
 operands_below k (Put l) ns a = first_below k ns a
 operands_below k (Call l) ns a = first_below k ns a
@@ -49,7 +49,7 @@ first_members : (s : Store) (ns : List ℕ) → IsClosedStore s → AreBelow (le
 first_members s [] h = tt
 first_members s (n ∷ ns) h = members_below (length s) (cell s n) (cell_below (length s) s h n)
 
-waited_below : (s : Store) (h : Head) (ns : List ℕ) → IsClosedStore s → AreBelow (length s) (strict_members s h ns)
+pub waited_below : (s : Store) (h : Head) (ns : List ℕ) → IsClosedStore s → AreBelow (length s) (strict_members s h ns)
 waited_below s WaitAll ns k = first_members s ns k
 waited_below s h ns k = tt
 

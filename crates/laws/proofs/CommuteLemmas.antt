@@ -10,10 +10,11 @@ use Rattle.asp_model.specs.Configuration.{RequestShape, Activity, Configuration,
 use Rattle.asp_model.specs.Intent.{Acts, Rests, Done, Effect, intent}
 use Rattle.asp_model.specs.Step.{ListsShape, intent_in, put_some, with_sent, with_effect, name_at, is_named, names_or_none, is_next, may_send}
 use Rattle.laws.specs.Waking.{labels_wanted}
-use Rattle.laws.proofs.NameLemmas.{named_is, name_total, name_same, future_total, future_same, no_some, some_is, is_there}
-use Rattle.laws.proofs.MapLemmas as Maps
+use Rattle.laws.proofs.NameLemmas.{named_is, name_total, name_same, is_there}
+use Rattle.chase_laws.proofs.FutureLemmas.{future_total, future_same, no_some, some_is}
+use Rattle.chase_laws.proofs.MapLemmas as Maps
 use Rattle.laws.proofs.StepLemmas.{Takes}
-use Rattle.laws.proofs.ChaseLemmas.{chase_value}
+use Rattle.chase_laws.proofs.ChaseLemmas.{chase_value}
 use Rattle.laws.proofs.PersistLemmas.{KeepsValues, GoesOn, intent_on}
 use Rattle.laws.proofs.OrderLemmas.{IsNew, KeysApart, fills_extend, fills_longer, own_kept, box_grows, still_there, swap_some}
 use Rattle.laws.proofs.FactLemmas.{acts_facts}

@@ -10,8 +10,9 @@ use Rattle.asp_model.specs.Parcel.{ParcelShape, has_place, unpack_at}
 use Rattle.asp_model.specs.Configuration.{Activity, Configuration}
 use Rattle.journals.specs.Deliveries.{with_store, holders_from, unpack_each, at_holders, edge_delivered, value_of, value_needed, at_place, need_delivered}
 use Rattle.laws.specs.Kept.{AreDistinct, mark, one_unless}
-use Rattle.laws.proofs.NameLemmas.{name_total, name_same, name_case, some_is, no_some, futures_tied}
-use Rattle.laws.proofs.MapLemmas as Maps
+use Rattle.laws.proofs.NameLemmas.{name_total, name_same, name_case}
+use Rattle.chase_laws.proofs.FutureLemmas.{some_is, no_some, futures_tied}
+use Rattle.chase_laws.proofs.MapLemmas as Maps
 use Rattle.laws.proofs.FactLemmas.{face, holds}
 use Rattle.laws.proofs.SoundLemmas.{Sound, at_name, in_map}
 use Rattle.laws.proofs.ExactLemmas.{Exact}

@@ -8,7 +8,7 @@ use Rattle.asp_model.specs.Intent.{Effect}
 use Rattle.asp_model.specs.Step.{ListsShape, with_sent, with_effect, step}
 use Rattle.laws.specs.Commuting.{Commute, StepsCommute, ReceiveApart, FreeStepsCommute}
 use Rattle.laws.proofs.NameLemmas.{name_total, name_same}
-use Rattle.laws.proofs.MapLemmas as Maps
+use Rattle.chase_laws.proofs.MapLemmas as Maps
 use Rattle.laws.proofs.StepLemmas.{Takes, step_taken, takes_step}
 use Rattle.laws.proofs.SoundLemmas.{Sound}
 use Rattle.laws.proofs.CommuteLemmas.{SendsApart, sends_apart, effects_commute}

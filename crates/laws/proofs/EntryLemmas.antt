@@ -6,7 +6,8 @@ use Rattle.std.specs.FinMap.Entries.{below_all}
 use Rattle.std.specs.Ordering.{is_eq, is_lt}
 use Rattle.std.specs.Cmp.{tied_itself}
 use Rattle.asp_model.specs.Names.{Name, name_cmp}
-use Rattle.laws.proofs.NameLemmas.{name_total, name_case, names_apart, no_some, some_is}
+use Rattle.laws.proofs.NameLemmas.{name_total, name_case, names_apart}
+use Rattle.chase_laws.proofs.FutureLemmas.{no_some, some_is}
 
 abbrev pub In : {A : Type 0} → A → List A → Type 0
 In x [] = ⊥

@@ -9,8 +9,9 @@ use Rattle.asp_model.specs.Intent.{Effect}
 use Rattle.asp_model.specs.Step.{put_some, with_sent, with_effect}
 use Rattle.laws.specs.Reached.{IsThere}
 use Rattle.laws.specs.Kept.{Stands}
-use Rattle.laws.proofs.NameLemmas.{name_total, name_same, name_case, no_some, none_true}
-use Rattle.laws.proofs.MapLemmas as Maps
+use Rattle.laws.proofs.NameLemmas.{name_total, name_same, name_case}
+use Rattle.chase_laws.proofs.FutureLemmas.{no_some, none_true}
+use Rattle.chase_laws.proofs.MapLemmas as Maps
 use Rattle.laws.proofs.OrderLemmas.{still_there}
 use Rattle.laws.proofs.FactLemmas.{face_of, IsMade, IsSent}
 use Rattle.laws.proofs.SoundLemmas.{Took, at_name, Placed, came, own_after, by_face}

@@ -13,7 +13,7 @@ use Rattle.asp_model.specs.Configuration.{RequestShape, ServiceShape, Activity, 
 use Rattle.asp_model.specs.Intent.{Intent, Acts, Rests, Done, Effect, StatusShape, Ready, Reads, Lacks, Awaits, redex_ready, Numbered, oldest_match, labels_served, serves, newest, but_newest, filling, ends_service, creates, sends, contracts, intent}
 use Rattle.asp_model.specs.Step.{intent_in}
 use Rattle.laws.specs.Kept.{tally, tally_all}
-use Rattle.laws.proofs.NameLemmas.{no_some, some_is}
+use Rattle.chase_laws.proofs.FutureLemmas.{no_some, some_is}
 
 -- of an activity, what the order of steps keeps; an absent one has that of a new one
 pub record Face : Type 0 where

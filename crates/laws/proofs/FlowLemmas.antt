@@ -14,7 +14,8 @@ use Rattle.asp_model.specs.Intent.{Effect}
 use Rattle.asp_model.specs.Step.{ListsShape, with_sent, with_effect, name_at, is_named, is_next, may_send, step}
 use Rattle.asp_model.specs.Replay.{senders_in, lists_of, counts_of, count_in, log_of}
 use Rattle.laws.specs.Reached.{RunsTo}
-use Rattle.laws.proofs.NameLemmas.{name_case, name_itself, some_is}
+use Rattle.laws.proofs.NameLemmas.{name_case, name_itself}
+use Rattle.chase_laws.proofs.FutureLemmas.{some_is}
 use Rattle.laws.proofs.StepLemmas.{step_taken, takes_step}
 use Rattle.laws.proofs.SoundLemmas.{Took, at_name, own_after, other_after}
 use Rattle.laws.proofs.KeptLemmas.{is_sent}

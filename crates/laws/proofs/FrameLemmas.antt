@@ -10,8 +10,9 @@ use Rattle.asp_model.specs.Intent.{Acts, Effect}
 use Rattle.asp_model.specs.Step.{ListsShape, intent_in, step, put_some, with_sent}
 use Rattle.laws.specs.Reached.{IsAt}
 use Rattle.laws.specs.Steps.{FillsOne, IsNewTo, ListedIsFree, StepsCount, OthersStay, OneIsMade, RequestsGrow, FuturesFill, IntentsStay, EffectsAreNew}
-use Rattle.laws.proofs.NameLemmas.{name_total, name_same, name_case, no_some, is_there}
-use Rattle.laws.proofs.MapLemmas as Maps
+use Rattle.laws.proofs.NameLemmas.{name_total, name_same, name_case, is_there}
+use Rattle.chase_laws.proofs.FutureLemmas.{no_some}
+use Rattle.chase_laws.proofs.MapLemmas as Maps
 use Rattle.laws.proofs.StepLemmas.{step_taken, listed_is_free}
 use Rattle.laws.proofs.OrderLemmas.{IsNew, own_kept}
 use Rattle.laws.proofs.FactLemmas.{Face, face, face_of, IsMade, IsSent, acts_facts}

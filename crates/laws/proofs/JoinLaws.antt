@@ -13,7 +13,8 @@ use Rattle.asp_model.specs.Replay.{lists_of, counts_of, senders_in, zero_or, lon
 use Rattle.laws.specs.Reached.{RunsTo}
 use Rattle.laws.specs.Replays.{ListedRunsStayWithin}
 use Rattle.laws.specs.Joins.{AreCompatibleRuns, lists_of_both, counts_of_both, JoinedFits, StuckIsJoined, StuckRunsAgree}
-use Rattle.laws.proofs.NameLemmas.{name_total, name_same, no_some, none_true}
+use Rattle.laws.proofs.NameLemmas.{name_total, name_same}
+use Rattle.chase_laws.proofs.FutureLemmas.{no_some, none_true}
 use Rattle.laws.proofs.SoundLemmas.{at_name}
 use Rattle.laws.proofs.ReachedLemmas.{Right, start_right, start_is_reached, runs_go_on}
 use Rattle.laws.proofs.ListLemmas.{IsPrefix, with_name, find_mapped, senders_own, count_own}

@@ -13,7 +13,8 @@ use Rattle.asp_model.specs.Configuration.{RequestShape, Configuration, or_none, 
 use Rattle.asp_model.specs.Step.{ListsShape, with_sent, name_at, is_next, may_send, step}
 use Rattle.asp_model.specs.Replay.{senders_in, log_of}
 use Rattle.laws.specs.Reached.{IsThere, RunsTo}
-use Rattle.laws.proofs.NameLemmas.{named_is, no_some, some_is}
+use Rattle.laws.proofs.NameLemmas.{named_is}
+use Rattle.chase_laws.proofs.FutureLemmas.{no_some, some_is}
 use Rattle.laws.proofs.StepLemmas.{step_taken, listed_is_free}
 use Rattle.laws.proofs.SoundLemmas.{at_name, other_after}
 use Rattle.laws.proofs.KeptLemmas.{is_sent}

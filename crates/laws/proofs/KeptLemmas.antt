@@ -10,8 +10,9 @@ use Rattle.asp_model.specs.Configuration.{RequestShape, Activity, Configuration,
 use Rattle.asp_model.specs.Intent.{Effect, filling}
 use Rattle.asp_model.specs.Step.{put_some, with_sent, with_effect}
 use Rattle.laws.specs.Kept.{Stands, mark, tally, one_where, one_unless}
-use Rattle.laws.proofs.NameLemmas.{name_total, name_same, future_total, future_same, name_case, future_case, no_some, some_is, last_same}
-use Rattle.laws.proofs.MapLemmas as Maps
+use Rattle.laws.proofs.NameLemmas.{name_total, name_same, name_case, last_same}
+use Rattle.chase_laws.proofs.FutureLemmas.{future_total, future_same, future_case, no_some, some_is}
+use Rattle.chase_laws.proofs.MapLemmas as Maps
 use Rattle.laws.proofs.OrderLemmas.{IsFresh, IsNew, KeysApart, sorted_some}
 use Rattle.laws.proofs.FactLemmas.{Face, face_of, holds, IsMade, IsSent, Holding, as_before, serving, ending}
 use Rattle.laws.proofs.SoundLemmas.{Sound, Took, at_name, in_map, Placed, IsLast, came, stays, longer_by, made_new, own_after, other_after, by_face, mark_same, mark_other, is_not, at_below}

@@ -1,10 +1,8 @@
-pub mod MapLemmas
 pub mod NameLemmas
+pub mod OperandLemmas
 pub mod EachLemmas
 pub mod StepLemmas
 pub mod ContractionLemmas
-pub mod ChaseLemmas
-pub mod CycleLemmas
 pub mod PersistLemmas
 pub mod OrderLemmas
 pub mod FactLemmas

@@ -17,12 +17,13 @@ use Rattle.laws.specs.Reached.{IsThere, Move, Steps, Makes, Edges, Needs}
 use Rattle.laws.specs.Kept.{IsBegun, sends_of}
 use Rattle.laws.specs.Linked.{Each, IsKnown, IsLinked, CellsAreLinked, TargetsAreThere, AwaitedAreBegun, IntentsStep, StuckIsStill, IsStill, AreKnown}
 use Rattle.commuting_systems.specs.Systems.{Leads}
-use Rattle.laws.proofs.NameLemmas.{name_total, name_same, future_total, future_same, name_case, future_case, no_some, some_is, none_true, is_there}
-use Rattle.laws.proofs.MapLemmas as Maps
+use Rattle.laws.proofs.NameLemmas.{name_total, name_same, name_case, is_there}
+use Rattle.chase_laws.proofs.FutureLemmas.{future_total, future_same, future_case, no_some, some_is, none_true}
+use Rattle.chase_laws.proofs.MapLemmas as Maps
 use Rattle.laws.proofs.StepLemmas.{step_taken, takes_step}
 use Rattle.laws.proofs.EachLemmas.{each_weaker}
 use Rattle.laws.proofs.ContractionLemmas.{IsOfNames, of_cell, all_placed, all_moved}
-use Rattle.laws.proofs.ChaseLemmas.{KeepsLeads, chase_finds, chase_awaits}
+use Rattle.chase_laws.proofs.ChaseLemmas.{KeepsLeads, chase_finds, chase_awaits}
 use Rattle.laws.proofs.FactLemmas.{acts_facts}
 use Rattle.laws.proofs.SoundLemmas.{Took, at_name, came, own_after}
 use Rattle.laws.proofs.KeptLemmas.{sends_grow, is_sent}

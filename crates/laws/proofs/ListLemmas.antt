@@ -9,7 +9,7 @@ use Rattle.asp_model.specs.Configuration.{RequestShape, Activity, Configuration,
 use Rattle.asp_model.specs.Step.{name_at, names_or_none, with_sent}
 use Rattle.asp_model.specs.Replay.{lists_of, counts_of, log_of, senders_in, count_in, zero_or}
 use Rattle.laws.proofs.NameLemmas.{name_total, name_same, names_tied}
-use Rattle.laws.proofs.MapLemmas as Maps
+use Rattle.chase_laws.proofs.MapLemmas as Maps
 use Rattle.laws.proofs.FactLemmas.{face}
 use Rattle.laws.proofs.SoundLemmas.{at_name, box_sent}
 use Rattle.laws.proofs.TidyLemmas.{Tidy, empty_where_absent}

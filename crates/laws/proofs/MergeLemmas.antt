@@ -12,8 +12,9 @@ use Rattle.std.specs.declared.cmp.Ordering.TheVariants.{Less, Equal, Greater}
 use Rattle.asp_model.specs.Names.{Name, name_cmp, same_name}
 use Rattle.asp_model.specs.Step.{ListsShape, names_or_none}
 use Rattle.asp_model.specs.Replay.{CountsShape, senders_in, count_in, zero_or, longer, joined_lists, joined_counts}
-use Rattle.laws.proofs.NameLemmas.{name_total, name_same, name_case, names_tied, name_itself, names_apart, none_true}
-use Rattle.laws.proofs.MapLemmas as Maps
+use Rattle.laws.proofs.NameLemmas.{name_total, name_same, name_case, names_tied, name_itself, names_apart}
+use Rattle.chase_laws.proofs.FutureLemmas.{none_true}
+use Rattle.chase_laws.proofs.MapLemmas as Maps
 use Rattle.laws.proofs.ListLemmas.{IsPrefix}
 use Rattle.laws.proofs.EntryLemmas.{first_of_both, second_of_both}
 

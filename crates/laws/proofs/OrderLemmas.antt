@@ -11,9 +11,10 @@ use Rattle.asp_model.specs.Parcel.{ParcelShape}
 use Rattle.asp_model.specs.Configuration.{RequestShape, Activity, Configuration, or_none}
 use Rattle.asp_model.specs.Intent.{Effect}
 use Rattle.asp_model.specs.Step.{put_some, with_sent, with_effect}
-use Rattle.laws.proofs.NameLemmas.{name_total, name_same, future_total, future_same, name_case}
-use Rattle.laws.proofs.ChaseLemmas.{MoreFilled}
-use Rattle.laws.proofs.MapLemmas as Maps
+use Rattle.laws.proofs.NameLemmas.{name_total, name_same, name_case}
+use Rattle.chase_laws.proofs.FutureLemmas.{future_total, future_same}
+use Rattle.chase_laws.proofs.ChaseLemmas.{MoreFilled}
+use Rattle.chase_laws.proofs.MapLemmas as Maps
 
 abbrev pub IsNew : {K X : Type 0} → (K → K → Ordering) → Option (K × X) → List (K × X) → Type 0
 IsNew R None es = Unit {0}

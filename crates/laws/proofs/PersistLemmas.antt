@@ -12,9 +12,9 @@ use Rattle.asp_model.specs.Chase.{Chase, Value, Unfilled, Cycle}
 use Rattle.asp_model.specs.Configuration.{RequestShape, ServiceShape, Activity}
 use Rattle.asp_model.specs.Intent.{Done, Serving, Running, Awaits, Faulted, Intent, Acts, Rests, Ready, Reads, Lacks, fetched, operand_ready, operands_ready, redex_ready, Numbered, oldest_match, labels_served, serves, newest, ends_service, contracts, intent}
 use Rattle.laws.specs.Waking.{labels_of_head, labels_at, labels_wanted, has_wanted}
-use Rattle.laws.proofs.NameLemmas.{no_some, some_is}
+use Rattle.chase_laws.proofs.FutureLemmas.{no_some, some_is}
 use Rattle.laws.proofs.ContractionLemmas.{serves_by_head}
-use Rattle.laws.proofs.ChaseLemmas.{awaited}
+use Rattle.chase_laws.proofs.ChaseLemmas.{awaited}
 
 -- Readings
 

@@ -15,7 +15,7 @@ use Rattle.asp_model.specs.Step.{ListsShape, step}
 use Rattle.asp_model.specs.Replay.{CountsShape, lists_of, counts_of, total, count_in, least_step, steps_from, plain_run, replay, Fits}
 use Rattle.laws.specs.Reached.{RunsTo}
 use Rattle.laws.specs.Replays.{IsItsReplay, OwnListsShow, RunsUnderOwnLists, ReplaysLead, ReplaysAreRuns, RunsReplay, PlainRunsReplay, PlainRunsAreRuns, EndsWith, FitsWhereRun, RunsAgree}
-use Rattle.laws.proofs.NameLemmas.{no_some, true_false}
+use Rattle.chase_laws.proofs.FutureLemmas.{no_some, true_false}
 use Rattle.laws.proofs.StepLemmas.{step_taken}
 use Rattle.laws.proofs.FactLemmas.{face}
 use Rattle.laws.proofs.SoundLemmas.{at_name}

@@ -14,7 +14,8 @@ use Rattle.asp_model.specs.Step.{ListsShape, intent_in, with_effect, name_at, is
 use Rattle.asp_model.specs.Replay.{lists_of, senders_in, log_of}
 use Rattle.laws.specs.Reached.{IsThere, RunsTo}
 use Rattle.laws.specs.Joins.{HasOneSender, IsOneSenderEnd, OneSenderBounds, OneSenderEnds}
-use Rattle.laws.proofs.NameLemmas.{named_is, name_case, name_itself, no_some}
+use Rattle.laws.proofs.NameLemmas.{named_is, name_case, name_itself}
+use Rattle.chase_laws.proofs.FutureLemmas.{no_some}
 use Rattle.laws.proofs.StepLemmas.{Takes, step_taken, takes_step, listed_is_free}
 use Rattle.laws.proofs.FactLemmas.{acts_is}
 use Rattle.laws.proofs.SoundLemmas.{Took}

@@ -8,8 +8,9 @@ use Rattle.asp_model.specs.Configuration.{RequestShape, Activity, Configuration,
 use Rattle.asp_model.specs.Intent.{Effect}
 use Rattle.asp_model.specs.Step.{put_some, with_sent, with_effect}
 use Rattle.laws.specs.Kept.{IsOrdered, Stands, mark, one_where, one_unless}
-use Rattle.laws.proofs.NameLemmas.{name_total, name_same, name_case, future_itself, futures_apart, no_some, some_is, true_false, not_some}
-use Rattle.laws.proofs.MapLemmas as Maps
+use Rattle.laws.proofs.NameLemmas.{name_total, name_same, name_case, not_some}
+use Rattle.chase_laws.proofs.FutureLemmas.{future_itself, futures_apart, no_some, some_is, true_false}
+use Rattle.chase_laws.proofs.MapLemmas as Maps
 use Rattle.laws.proofs.FactLemmas.{Face, face, face_of, holds, IsMade, Facts}
 use Rattle.laws.proofs.OrderLemmas.{IsNew}
 

@@ -7,8 +7,9 @@ use Rattle.asp_model.specs.Store.{Object}
 use Rattle.asp_model.specs.Parcel.{has_place}
 use Rattle.asp_model.specs.Configuration.{Activity, start, begun}
 use Rattle.std.specs.Prelude.{None}
-use Rattle.laws.proofs.NameLemmas.{name_total, name_same, name_case, no_some, none_true, last_same}
-use Rattle.laws.proofs.MapLemmas as Maps
+use Rattle.laws.proofs.NameLemmas.{name_total, name_same, name_case, last_same}
+use Rattle.chase_laws.proofs.FutureLemmas.{no_some, none_true}
+use Rattle.chase_laws.proofs.MapLemmas as Maps
 use Rattle.laws.specs.Kept.{mark}
 use Rattle.laws.proofs.FactLemmas.{face, holds}
 use Rattle.laws.proofs.SoundLemmas.{Sound, at_name}

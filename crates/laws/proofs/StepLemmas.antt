@@ -7,7 +7,7 @@ use Rattle.asp_model.specs.Names.{Name, name_cmp}
 use Rattle.asp_model.specs.Configuration.{RequestShape, Configuration}
 use Rattle.asp_model.specs.Intent.{Intent, Acts, Rests, Effect}
 use Rattle.asp_model.specs.Step.{ListsShape, intent_in, with_effect, may_send, is_next, step}
-use Rattle.laws.proofs.NameLemmas.{no_some, some_is}
+use Rattle.chase_laws.proofs.FutureLemmas.{no_some, some_is}
 
 -- an activity takes a step with this effect
 pub record Takes (lists : Option ListsShape) (c : Configuration) (n : Name) (e : Effect) : Type 0 where

@@ -10,7 +10,7 @@ use Rattle.asp_model.specs.Intent.{Effect}
 use Rattle.asp_model.specs.Step.{ListsShape, is_next, may_send, with_effect}
 use Rattle.laws.specs.Reached.{IsThere}
 use Rattle.laws.specs.Kept.{Stands, AreDistinct}
-use Rattle.laws.proofs.NameLemmas.{no_some, none_true}
+use Rattle.chase_laws.proofs.FutureLemmas.{no_some, none_true}
 use Rattle.laws.proofs.StepLemmas.{Takes}
 use Rattle.laws.proofs.FactLemmas.{Face, face_of, Holding, as_before, serving, ending}
 use Rattle.laws.proofs.SoundLemmas.{Took, at_name, came, by_face}

@@ -7,7 +7,7 @@ use Rattle.asp_model.specs.Store.{Store, cell, moved_cell, reached}
 use Rattle.asp_model.specs.Parcel.{has_place, walk, visit, visit_order, number_in, parcel_of}
 use Rattle.laws.specs.Linked.{Each}
 use Rattle.laws.specs.Closed.{AreBelow, IsClosedStore, IsClosedParcel, IsClosedValue}
-use Rattle.laws.proofs.NameLemmas.{none_true}
+use Rattle.chase_laws.proofs.FutureLemmas.{none_true}
 use Rattle.laws.proofs.EachLemmas.{each_both, each_first, each_second, each_weaker, each_mapped}
 use Rattle.laws.proofs.MovedLemmas.{reached_moved, cell_below}
 

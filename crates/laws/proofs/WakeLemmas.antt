@@ -13,10 +13,10 @@ use Rattle.asp_model.specs.Step.{ListsShape, intent_in, put_some, with_effect, m
 use Rattle.asp_model.specs.Status.{status_of_intent, status_of, is_running}
 use Rattle.laws.specs.Reached.{IsFilled}
 use Rattle.laws.specs.Waking.{labels_wanted, has_wanted, NoneRestsRunning, DoneStays, FaultStays, ServingStays, AwaitingStays, OthersStayNext, CyclesStay}
-use Rattle.laws.proofs.NameLemmas.{none_true, no_some}
+use Rattle.chase_laws.proofs.FutureLemmas.{none_true, no_some}
 use Rattle.laws.proofs.StepLemmas.{Takes, step_taken, held_back, holds_back}
-use Rattle.laws.proofs.ChaseLemmas.{chase_unfilled}
-use Rattle.laws.proofs.CycleLemmas.{chase_cycle}
+use Rattle.chase_laws.proofs.ChaseLemmas.{chase_unfilled}
+use Rattle.chase_laws.proofs.EndLemmas.{chase_cycle}
 use Rattle.laws.proofs.PersistLemmas.{GoesOn, KeepsLack, KeepsValues, intent_on}
 use Rattle.laws.proofs.OrderLemmas.{fills_extend, fills_longer}
 use Rattle.laws.proofs.SoundLemmas.{Sound, Took}

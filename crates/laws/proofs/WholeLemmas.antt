@@ -7,7 +7,8 @@ use Rattle.asp_model.specs.Parcel.{has_place}
 use Rattle.asp_model.specs.Configuration.{RequestShape, Activity, Configuration, requests_of}
 use Rattle.laws.specs.Kept.{creations_of, sends_of, Stands, AreDistinct, mark, one_unless, answers_of, answers_at, is_served, IsBegun, StandsOnce}
 use Rattle.laws.specs.Sound.{IsSound, StartIsSound, MovesKeepSound, ReachedAreSound, StartIsClosed, MovesKeepClosed, SoundIntents, SoundSteps}
-use Rattle.laws.proofs.NameLemmas.{name_case, none_true, last_same}
+use Rattle.laws.proofs.NameLemmas.{name_case, last_same}
+use Rattle.chase_laws.proofs.FutureLemmas.{none_true}
 use Rattle.laws.proofs.FactLemmas.{face, holds}
 use Rattle.laws.proofs.SoundLemmas.{Sound, at_name, in_map, Placed}
 use Rattle.laws.proofs.ReachedLemmas.{Right, move_right, start_right, reached_right}

@@ -5,7 +5,6 @@ pub mod Steps
 pub mod Linked
 pub mod Closed
 pub mod Sound
-pub mod Chases
 pub mod Waking
 pub mod Commuting
 pub mod Replays

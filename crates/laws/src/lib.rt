@@ -3,7 +3,6 @@
 //! does nothing.
 #![tactic(auto)]
 
-mod chases;
 mod closed;
 mod commuting;
 mod joins;
@@ -15,7 +14,6 @@ mod sound;
 mod steps;
 mod waking;
 
-pub use chases::{chases_end, chases_find};
 pub use closed::{copies_are_closed, reached_are_closed, splits_are_below, values_are_closed};
 pub use commuting::{free_steps_commute, steps_commute};
 pub use joins::{

@@ -3,7 +3,7 @@ use Rattle.std.proofs.Common.{◌≡◌, ◌+◌, ◌≤◌, ◌<◌, ◌==◌, 
 use Rattle.std.proofs.lemmas.List.{append_assoc}
 use Rattle.asp_model.specs.History.{EntryShape, Lent, Committed, Delivered}
 use Rattle.journals.specs.Journals.{run_of}
-use Rattle.laws.proofs.NameLemmas.{no_some, none_true, some_is}
+use Rattle.chase_laws.proofs.FutureLemmas.{no_some, none_true, some_is}
 use Rattle.lease_laws.specs.Leases.{BurstsAreCounted, LeasesAreOne, LeasesBegin, LeasesGoOn, LeasesLast, burst_from, burst_out, bursts_in, lends_by, stays_out}
 
 not_both : (a b : Bool) → (not a && b) ≡ true → (a ≡ false) × (b ≡ true)

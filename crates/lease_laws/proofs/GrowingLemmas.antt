@@ -6,7 +6,7 @@ use Rattle.journals.specs.Edges.{Event, HoldersShape, after_event, after_events,
 use Rattle.journals.specs.Journals.{RunShape, all_entered, begun, entered}
 use Rattle.journals.specs.Passing.{entry_events, events_from}
 use Rattle.journal_laws.proofs.JournalLemmas.{first_entered}
-use Rattle.laws.proofs.NameLemmas.{some_is}
+use Rattle.chase_laws.proofs.FutureLemmas.{some_is}
 use Rattle.lease_laws.specs.Growing.{EntriesGoOn, HoldersGoOn}
 
 abbrev pub all_then : List EntryShape → Option RunShape → Option RunShape

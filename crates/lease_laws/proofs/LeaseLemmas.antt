@@ -14,8 +14,9 @@ use Rattle.laws.specs.Reached.{IsAt, Steps}
 use Rattle.laws.specs.Sound.{IsSound}
 use Rattle.laws.proofs.DeliveryLemmas.{edge_done, need_done}
 use Rattle.laws.proofs.FrameLemmas.{others_on, requests_grow}
-use Rattle.laws.proofs.MapLemmas.{find_other}
-use Rattle.laws.proofs.NameLemmas.{is_there, name_total, name_same, no_some, none_true, some_is}
+use Rattle.chase_laws.proofs.MapLemmas.{find_other}
+use Rattle.laws.proofs.NameLemmas.{is_there, name_total, name_same}
+use Rattle.chase_laws.proofs.FutureLemmas.{no_some, none_true, some_is}
 use Rattle.laws.proofs.WholeLemmas.{moves_keep_sound, right_of, start_is_sound}
 use Rattle.lease_laws.specs.Leases.{IsOutSince, LeasesStay, stays_out}
 use Rattle.lease_laws.proofs.GrowingLemmas.{all_then, entered_then}

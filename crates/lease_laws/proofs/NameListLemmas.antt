@@ -6,7 +6,8 @@ use Rattle.asp_model.specs.Names.{Name, name_cmp, same_name}
 use Rattle.asp_model.specs.Step.{name_at}
 use Rattle.journals.specs.Journals.{number_of}
 use Rattle.laws.proofs.EntryLemmas.{In, below_apart, first_of_both, second_of_both}
-use Rattle.laws.proofs.NameLemmas.{name_itself, names_tied, no_some, some_is}
+use Rattle.laws.proofs.NameLemmas.{name_itself, names_tied}
+use Rattle.chase_laws.proofs.FutureLemmas.{no_some, some_is}
 
 -- who has a number stands in the list
 pub numbered_in : (ns : List Name) (k : ℕ) (n : Name) → name_at ns k ≡ Some n → In n ns

@@ -15,7 +15,8 @@ use Rattle.laws.specs.Reached.{IsThere, Makes, Move}
 use Rattle.laws.specs.Sound.{IsSound}
 use Rattle.laws.proofs.DeliveryLemmas.{edge_done, need_done, same_there}
 use Rattle.laws.proofs.EntryLemmas.{In, entry_found, found_entry}
-use Rattle.laws.proofs.NameLemmas.{is_there, name_itself, names_tied, none_true, some_is}
+use Rattle.laws.proofs.NameLemmas.{is_there, name_itself, names_tied}
+use Rattle.chase_laws.proofs.FutureLemmas.{none_true, some_is}
 use Rattle.laws.proofs.WholeLemmas.{moves_keep_sound, start_is_sound}
 use Rattle.lease_laws.specs.Numbered.{AreNumbered, EntriesKeepNumbers, JournalsAreNumbered}
 use Rattle.lease_laws.proofs.NameListLemmas.{AreApart, apart_both, apart_passed, entry_of, in_back, in_both, in_front, in_numbered, in_passed, name_in, names_apart_in, numbered_in, one_number, passed_in}

@@ -3,8 +3,9 @@ use Rattle.std.specs.Prelude.{ℕ, List, ◌++◌, map}
 use Rattle.std.specs.Borrow.{Bor}
 use Rattle.asp_model.specs.declared.term.Method.{Method}
 use Rattle.asp_model.specs.Names.{Text}
-use Rattle.asp_model.specs.Term.{MethodHead, Environment}
+use Rattle.asp_model.specs.Term.{Environment}
 use Rattle.program_code.specs.Fitting.{names, head_names}
+use Rattle.program_code.specs.Parts.{method_head}
 use Rattle.name_slots.specs.declared.scope.Scope.{Scope}
 
 abbrev pub environment : List (Bor Text × ℕ) → Environment
@@ -14,9 +15,6 @@ environment bs = map (λ b. (b.0.now, b.1)) bs
 abbrev pub names_of : Scope → List Text
 names_of s = names (environment s.bound.now) ++ s.captured.now
 
-abbrev pub head_in : Method → MethodHead
-head_in m = record { label = m.label.text; slf = m.slf; parameters = m.parameters.items }
-
 -- the names that a method binds in its body
 abbrev pub bound_in : Method → List Text
-bound_in m = head_names (head_in m)
+bound_in m = head_names (method_head m)

@@ -16,7 +16,7 @@ use Rattle.asp_grammar.specs.Nodes.{PartShape, put_to, is_get, terms_at, in_pare
 use Rattle.asp_grammar.specs.Signs.{IsWord, clones, repeats, prints, sizes, awaits, IsHead, head, parameter, IsService, no_service, service, IsLabels, first_label, and_label, IsLabelPart, no_labels, labels}
 use Rattle.asp_grammar.specs.Grammar.{may_put, IsPrim, number, variable, parentheses, object, word, active, serve, choice, echo, group_none, group, scatter, member, IsPost, prim, get, call_none, call, IsArgs, argument, and_argument, IsFields, field, and_field, IsMethods, first_method, and_method, IsFieldPart, no_fields, fields, IsMethodPart, no_methods, methods, IsProd, post, times, IsSum, prod, plus, IsTest, sum, test, IsExpr, tested, assign, IsSeq, last, then, bind, IsProgram}
 use Rattle.laws.specs.Linked.{Each}
-use Rattle.laws.proofs.NameLemmas.{none_true}
+use Rattle.chase_laws.proofs.FutureLemmas.{none_true}
 use Rattle.laws.proofs.EachLemmas.{each_both, each_first, each_second}
 use Rattle.outcome_laws.proofs.TokenLemmas.{IsSoundLexeme}
 

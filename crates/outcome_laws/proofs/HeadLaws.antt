@@ -15,9 +15,9 @@ use Rattle.asp_model.specs.Intent.{Acts, Effect}
 use Rattle.asp_model.specs.Step.{ListsShape, intent_in, step, with_effect}
 use Rattle.laws.specs.Reached.{Move, Steps, Makes, IsReached, Edges, Needs}
 use Rattle.laws.specs.Linked.{Each}
-use Rattle.laws.proofs.NameLemmas.{no_some}
+use Rattle.chase_laws.proofs.FutureLemmas.{no_some}
 use Rattle.laws.proofs.StepLemmas.{step_taken}
-use Rattle.laws.proofs.ChaseLemmas.{chase_finds}
+use Rattle.chase_laws.proofs.ChaseLemmas.{chase_finds}
 use Rattle.laws.proofs.SoundLemmas.{came}
 use Rattle.laws.proofs.LinkedLemmas.{acting, found_after, value_after}
 use Rattle.outcome_laws.specs.Heads.{EachHead, LabelHas, MethodHas, HoldsOfWritten, CellHas, LineHas, ActivityHas, HasEverywhere, Passes, ReachedHave}

@@ -18,7 +18,8 @@ use Rattle.asp_model.specs.WellFormed.{is_printable}
 use Rattle.paths.specs.Outcomes.{EndShape, end_of}
 use Rattle.report_laws.specs.Depths.{has_printable_labels}
 use Rattle.laws.specs.Linked.{Each}
-use Rattle.laws.proofs.NameLemmas.{name_total, future_total, no_some}
+use Rattle.laws.proofs.NameLemmas.{name_total}
+use Rattle.chase_laws.proofs.FutureLemmas.{future_total, no_some}
 use Rattle.laws.proofs.EntryLemmas.{first_of_both, second_of_both}
 use Rattle.laws.proofs.NamesLaws.{entries_ascend}
 use Rattle.outcome_laws.specs.Heads.{LabelHas, MethodHas, EachHead, CellHas, HasEverywhere, Passes}

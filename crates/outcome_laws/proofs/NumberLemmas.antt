@@ -16,7 +16,7 @@ use Rattle.asp_model.specs.Replay.{total, counts_of}
 use Rattle.asp_model.specs.WellFormed.{is_index, is_name, is_future_name}
 use Rattle.laws.specs.Reached.{Move, Steps, Makes, IsReached, IsThere, Edges, Needs}
 use Rattle.laws.specs.Kept.{sends_of, IsBegun}
-use Rattle.laws.proofs.NameLemmas.{none_true}
+use Rattle.chase_laws.proofs.FutureLemmas.{none_true}
 use Rattle.laws.proofs.StepLemmas.{step_taken}
 use Rattle.laws.proofs.FactLemmas.{Face, face, face_of, IsMade, IsSent}
 use Rattle.laws.proofs.SoundLemmas.{Took, at_name, by_face}

@@ -18,7 +18,8 @@ use Rattle.asp_model.specs.Outcome.{ActivityReportShape, activity_report, outcom
 use Rattle.asp_model.specs.WellFormed.{is_index, is_name, is_future_name, is_named_status, is_sound_report, begins_with_main}
 use Rattle.paths.specs.Outcomes.{EndShape, end_of, whole_outcome_of, reported}
 use Rattle.laws.specs.Reached.{IsAt}
-use Rattle.laws.proofs.NameLemmas.{none_true, name_itself, is_there}
+use Rattle.laws.proofs.NameLemmas.{name_itself, is_there}
+use Rattle.chase_laws.proofs.FutureLemmas.{none_true}
 use Rattle.laws.proofs.EntryLemmas.{In, entry_found, found_entry, first_of_both, second_of_both}
 use Rattle.laws.proofs.ReachedLemmas.{reached_right}
 use Rattle.laws.proofs.NamesLaws.{entries_ascend, requests_are_sends}

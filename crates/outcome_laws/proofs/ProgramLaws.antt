@@ -10,7 +10,7 @@ use Rattle.asp_model.specs.Marked.{plain}
 use Rattle.asp_model.specs.Readable.{is_letter, is_digit, is_inner, reserved_words, is_identifier, names_of_method, is_written, IsReadable, AreReadable}
 use Rattle.asp_model.specs.WellFormed.{is_printable}
 use Rattle.asp_tokens.specs.Tokens.{lexemes_of}
-use Rattle.laws.proofs.NameLemmas.{none_true}
+use Rattle.chase_laws.proofs.FutureLemmas.{none_true}
 use Rattle.outcome_laws.specs.Heads.{EachHead, EachBelow, Passes}
 use Rattle.outcome_laws.specs.Texts.{has_printable_text}
 use Rattle.outcome_laws.specs.Programs.{ProgramsAreReadable, ProgramsHaveNoPlaces, ProgramTextsArePrintable}

@@ -14,7 +14,7 @@ use Rattle.asp_tokens.specs.Bytes.{is_digit, is_letter, is_blank, is_inner, sign
 use Rattle.asp_tokens.specs.Tokens.{Lexeme, lexeme, Scan, Between, InComment, AfterSlash, AfterColon, AfterEquals, InNumber, InWord, InText, Move, Goes, NoToken, TooLarge, digit, sign_move, between, with_token, move, at_end, after_move, lex, lexemes_of}
 use Rattle.asp_tokens.proofs.TableLemmas.{by_test, either, IsFixed, of_sign, of_word}
 use Rattle.laws.specs.Linked.{Each}
-use Rattle.laws.proofs.NameLemmas.{none_true}
+use Rattle.chase_laws.proofs.FutureLemmas.{none_true}
 use Rattle.laws.proofs.EachLemmas.{each_both}
 
 -- it writes a name, a number or a text of the language

@@ -13,7 +13,7 @@ use Rattle.asp_model.specs.Chase.{Chase, Value, Unfilled, Cycle}
 use Rattle.asp_model.specs.Configuration.{RequestShape, ServiceShape, Activity}
 use Rattle.asp_model.specs.Intent.{Intent, Acts, Rests, Awaits, Effect, Ready, Reads, Lacks, fetched, operand_ready, operands_ready, redex_ready, oldest_match, labels_served, Numbered, serves, newest, ends_service, contracts, intent}
 use Rattle.laws.specs.Closed.{AreBelow, IsClosedStore, IsClosedActivity, SplitBelow, places_of}
-use Rattle.laws.proofs.NameLemmas.{no_some, some_is, none_true}
+use Rattle.chase_laws.proofs.FutureLemmas.{no_some, some_is, none_true}
 use Rattle.laws.proofs.EachLemmas.{below_more}
 use Rattle.laws.proofs.MovedLemmas.{length_written}
 use Rattle.laws.proofs.PlacesLemmas.{front, back, split_is_below}

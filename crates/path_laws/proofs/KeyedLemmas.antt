@@ -8,7 +8,7 @@ use Rattle.std.specs.Ordering.{is_eq, is_lt}
 use Rattle.std.specs.Cmp.{IsTotalOrder, tied_itself}
 use Rattle.std.specs.FinMap.{IsAntisymmetric, find, is_sorted}
 use Rattle.std.specs.FinMap.Entries.{same_entries, below_all}
-use Rattle.laws.proofs.NameLemmas.{no_some, none_true}
+use Rattle.chase_laws.proofs.FutureLemmas.{no_some, none_true}
 use Rattle.laws.proofs.EntryLemmas.{In, first_of_both, second_of_both}
 use Rattle.paths.specs.Agree.{Pairs, no_pair, pair, MayBoth, neither, both}
 

@@ -21,10 +21,6 @@ pub mod ActivityLemmas
 pub mod ParcelLemmas
 pub mod StillLemmas
 pub mod IntentLemmas
-pub mod WalkLemmas
-pub mod CycleLemmas
-pub mod MeetLemmas
-pub mod RefilledLemmas
 pub mod StatusLemmas
 pub mod RenamedLemmas
 pub mod FillingLemmas

@@ -1,7 +1,7 @@
 -- Equal reading relates the places to which one path leads: they show the same, lead on alike, and have one partner.
 use Rattle.std.specs.Prelude.{◌≡◌, ◌↔◌, ℕ, List, [], ◌∷◌, ◌++◌, Option, Some, None, map}
 use Rattle.std.proofs.Common.{refl, sym, ap, subst, ◌∙◌}
-use Rattle.laws.proofs.NameLemmas.{no_some, some_is}
+use Rattle.chase_laws.proofs.FutureLemmas.{no_some, some_is}
 use Rattle.paths.specs.Places.{Place, In_store, Side, found, children, nth_place, from, found_at, AreReadAlike}
 use Rattle.paths.specs.PathLabels.{PathLabel, number_by, numbered_child, leads_by, from_by}
 use Rattle.path_laws.specs.Reading.{LabelsReadAlike}

@@ -6,7 +6,7 @@ use Rattle.asp_model.specs.Store.{CellShape, Number, Object, Reference, Future, 
 use Rattle.asp_model.specs.Parcel.{ParcelShape}
 use Rattle.asp_model.specs.Contraction.{is_future}
 use Rattle.laws.specs.Linked.{Each}
-use Rattle.laws.proofs.NameLemmas.{no_some, none_true, true_false, future_case}
+use Rattle.chase_laws.proofs.FutureLemmas.{no_some, none_true, true_false, future_case}
 use Rattle.paths.specs.Places.{Place, In_store, In_value, Side, inner, beside, part, read_by, child_by, entered_by, told, written, entered, found, children}
 use Rattle.paths.specs.Agree.{Pairs, no_pair, pair}
 use Rattle.path_laws.specs.Links.{IsClosedSide, Good}

@@ -12,7 +12,8 @@ use Rattle.asp_model.specs.Intent.{StatusShape, Done, Serving, Running, Awaits, 
 use Rattle.asp_model.specs.Replay.{lists_of, counts_of, log_of}
 use Rattle.asp_model.specs.Status.{status_of, statuses_of, verdict_among}
 use Rattle.asp_model.specs.Report.{verdict_line, activity_lines}
-use Rattle.laws.proofs.NameLemmas.{none_true, name_total, name_same, future_total, future_same}
+use Rattle.laws.proofs.NameLemmas.{name_total, name_same}
+use Rattle.chase_laws.proofs.FutureLemmas.{none_true, future_total, future_same}
 use Rattle.laws.proofs.ListLemmas.{find_mapped, with_name}
 use Rattle.laws.proofs.JoinLaws.{sorted_mapped}
 use Rattle.paths.specs.Places.{Place, In_store, side_by}

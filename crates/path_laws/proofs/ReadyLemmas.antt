@@ -9,7 +9,7 @@ use Rattle.asp_model.specs.Parcel.{ParcelShape, unpack_at}
 use Rattle.asp_model.specs.Contraction.{is_future, strict_operands, strict_members, members_at, members_of, first_of}
 use Rattle.asp_model.specs.Chase.{Chase, Value, Unfilled, Cycle}
 use Rattle.asp_model.specs.Intent.{Ready, Reads, Lacks, fetched, operand_ready, operands_ready, redex_ready}
-use Rattle.laws.proofs.NameLemmas.{none_true, true_false}
+use Rattle.chase_laws.proofs.FutureLemmas.{none_true, true_false}
 use Rattle.paths.specs.Places.{Place, In_store, Side, told, read_by, entered_by, entered, found, side_by, value_by, name_by}
 use Rattle.paths.specs.Agree.{Pairs, no_pair, pair}
 use Rattle.path_laws.specs.Links.{IsClosedSide, Link}

@@ -13,9 +13,10 @@ use Rattle.asp_model.specs.Status.{status_of_intent, status_of}
 use Rattle.laws.specs.Linked.{Each}
 use Rattle.laws.specs.Reached.{IsAt}
 use Rattle.laws.specs.Closed.{AreBelow, IsClosedActivity, IsClosedParcel, IsClosed, IsClosedStore}
-use Rattle.laws.proofs.NameLemmas.{no_some, some_is, name_total, name_same, name_case, future_total, future_same, future_case, true_false}
-use Rattle.laws.proofs.MapLemmas as Maps
-use Rattle.laws.proofs.ChaseLemmas.{walk_by, chase_by}
+use Rattle.laws.proofs.NameLemmas.{name_total, name_same, name_case}
+use Rattle.chase_laws.proofs.FutureLemmas.{no_some, some_is, future_total, future_same, future_case, true_false}
+use Rattle.chase_laws.proofs.MapLemmas as Maps
+use Rattle.chase_laws.proofs.ChaseLemmas.{walk_by, chase_by}
 use Rattle.laws.proofs.StepLemmas.{Takes, step_taken, takes_step}
 use Rattle.laws.proofs.LinkedLemmas.{acting}
 use Rattle.laws.proofs.ClosedLaws.{effect_closed, closed_after}

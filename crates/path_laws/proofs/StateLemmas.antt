@@ -2,7 +2,7 @@
 use Rattle.std.specs.Prelude.{◌≡◌, ℕ, zero, suc, ◌==◌, ◌&&◌, Bool, true, false, List, [], ◌∷◌, ◌++◌, Option, Some, None, codes}
 use Rattle.std.proofs.Common.{refl, sym, ap, subst, arith}
 use Rattle.asp_model.specs.Store.{Field, CellShape, Number, Object, Reference, Future, Group}
-use Rattle.laws.proofs.NameLemmas.{none_true}
+use Rattle.chase_laws.proofs.FutureLemmas.{none_true}
 use Rattle.paths.specs.Places.{Place, In_store, In_value, Side, found, children}
 use Rattle.paths.specs.Agree.{Pairs, no_pair, pair}
 use Rattle.paths.specs.StateLines.{same_place, Path, is_compound, what_text, state_line, Shown, path_of, with_line, with_place, by_labels, by_numbers, shown_below, show_each, show_place, show_to, show_result, state_shown}

@@ -13,10 +13,11 @@ use Rattle.asp_model.specs.Intent.{Effect, Acts}
 use Rattle.asp_model.specs.Step.{ListsShape, intent_in, step}
 use Rattle.journals.specs.Deliveries.{with_store}
 use Rattle.laws.specs.Reached.{IsAt, Move, Steps, Edges, Needs, Makes}
-use Rattle.laws.proofs.NameLemmas.{no_some, some_is, name_total, name_same, name_case}
-use Rattle.laws.proofs.MapLemmas as Maps
+use Rattle.laws.proofs.NameLemmas.{name_total, name_same, name_case}
+use Rattle.chase_laws.proofs.FutureLemmas.{no_some, some_is}
+use Rattle.chase_laws.proofs.MapLemmas as Maps
 use Rattle.laws.proofs.StepLemmas.{step_taken}
-use Rattle.laws.proofs.ChaseLemmas.{chase_finds}
+use Rattle.chase_laws.proofs.ChaseLemmas.{chase_finds}
 use Rattle.laws.proofs.LinkedLemmas.{acting, found_after}
 use Rattle.laws.proofs.DeliveryLemmas.{found_delivered, edge_done, need_done}
 use Rattle.laws.proofs.WholeLemmas.{start_is_sound, moves_keep_sound, start_is_closed, moves_keep_closed}

@@ -4,7 +4,7 @@ use Rattle.std.specs.Prelude.{◌≡◌, ℕ, ◌&&◌, Bool, true, false, List,
 use Rattle.std.proofs.Common.{refl, sym, ap, subst, ◌∙◌, inl, inr}
 use Rattle.asp_model.specs.Store.{CellShape, Object}
 use Rattle.laws.specs.Linked.{Each}
-use Rattle.laws.proofs.NameLemmas.{none_true, true_false, some_is}
+use Rattle.chase_laws.proofs.FutureLemmas.{none_true, true_false, some_is}
 use Rattle.laws.proofs.EntryLemmas.{In}
 use Rattle.paths.specs.Places.{Place, In_store, Side, found, children, AreReadAlike}
 use Rattle.paths.specs.Agree.{Pairs, no_pair, pair}

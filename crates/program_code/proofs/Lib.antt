@@ -1,3 +1,4 @@
+pub mod TermTrees
 pub mod TableLemmas
 pub mod GrowthLemmas
 pub mod LookupLemmas

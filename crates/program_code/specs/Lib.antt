@@ -6,3 +6,4 @@ pub mod Uses
 pub mod Tables
 pub mod Classes
 pub mod Sound
+pub mod Parts

@@ -10,8 +10,8 @@ use Rattle.asp_model.specs.Contraction.{Contraction, Becomes, Faults, Needs, Com
 use Rattle.asp_model.specs.Chase.{Chase, Value, Unfilled, Cycle}
 use Rattle.asp_model.specs.Configuration.{RequestShape, ServiceShape, Activity}
 use Rattle.asp_model.specs.Intent.{Awaits, Intent, Acts, Rests, Ready, Reads, Lacks, Numbered, fetched, operand_ready, operands_ready, redex_ready, serves, newest, ends_service, contracts, labels_served, oldest_match}
-use Rattle.laws.proofs.NameLemmas.{no_some, none_true, some_is}
-use Rattle.laws.proofs.ChaseLemmas.{awaited}
+use Rattle.chase_laws.proofs.FutureLemmas.{no_some, none_true, some_is}
+use Rattle.chase_laws.proofs.ChaseLemmas.{awaited}
 
 abbrev pub future_of : CellShape → Option FutureShape
 future_of (stores.Future f) = Some f

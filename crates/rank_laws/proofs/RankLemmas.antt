@@ -17,15 +17,16 @@ use Rattle.asp_model.specs.Step.{intent_in, put_some, with_effect}
 use Rattle.journals.specs.Owed.{need_at, need_in, need_of, needed_at}
 use Rattle.laws.specs.Reached.{IsAt}
 use Rattle.laws.specs.Sound.{HasRightIntents, IsSound, LeavesOthers}
-use Rattle.laws.proofs.MapLemmas as Maps
-use Rattle.laws.proofs.NameLemmas.{name_total, name_same, future_total, none_true, future_case, future_itself, futures_apart}
+use Rattle.chase_laws.proofs.MapLemmas as Maps
+use Rattle.laws.proofs.NameLemmas.{name_total, name_same}
+use Rattle.chase_laws.proofs.FutureLemmas.{future_total, none_true, future_case, future_itself, futures_apart}
 use Rattle.laws.proofs.OrderLemmas.{sorted_some}
 use Rattle.laws.proofs.WakeLemmas.{none_rests_running}
 use Rattle.laws.proofs.WholeLemmas.{sound_intents, sound_steps}
 use Rattle.chase_laws.proofs.FilledLemmas.{follows_f, no_cycle_unfilled, keeps_unfilled, keeps_value, never_still, still_sorted}
 use Rattle.chase_laws.proofs.CycleLemmas.{chase_never}
 use Rattle.chase_laws.proofs.MeetLemmas.{cycle_never, named_cycle}
-use Rattle.laws.proofs.ChaseLemmas.{awaited}
+use Rattle.chase_laws.proofs.ChaseLemmas.{awaited}
 use Rattle.chase_laws.proofs.ChaseLemmas.{chase_by, is_end}
 use Rattle.activity_ranks.specs.Ranks.{RankShape, Circles, Goes, Waits, Rests, awaits, goes, has_need, shifted}
 use Rattle.rank_laws.specs.Ranked.{rank_at, rank_awaiting, rank_by, rank_in, rank_of, rank_unless}

@@ -17,7 +17,8 @@ use Rattle.asp_model.specs.Order.{name_cmp_same}
 use Rattle.asp_model.specs.Step.{name_at, names_or_none}
 use Rattle.asp_model.specs.Replay.{senders_in}
 use Rattle.laws.proofs.EntryLemmas.{first_of_both, second_of_both}
-use Rattle.laws.proofs.NameLemmas.{name_total, name_case, names_apart, no_some}
+use Rattle.laws.proofs.NameLemmas.{name_total, name_case, names_apart}
+use Rattle.chase_laws.proofs.FutureLemmas.{no_some}
 
 both_hold : (a b : Bool) → T a → T b → T (a && b)
 both_hold true b h k = k

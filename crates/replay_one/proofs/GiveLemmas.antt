@@ -22,8 +22,9 @@ use Rattle.laws.specs.Reached.{IsThere, Steps}
 use Rattle.laws.proofs.ClosedLaws.{reached_are_closed}
 use Rattle.laws.proofs.FrameLemmas.{effects_are_new}
 use Rattle.laws.proofs.LinkedLemmas.{intends_step, targets_are_there}
-use Rattle.laws.proofs.MapLemmas.{find_same, stays_there}
-use Rattle.laws.proofs.NameLemmas.{future_total, future_same, name_total, name_same, no_some, some_is, true_false}
+use Rattle.chase_laws.proofs.MapLemmas.{find_same, stays_there}
+use Rattle.laws.proofs.NameLemmas.{name_total, name_same}
+use Rattle.chase_laws.proofs.FutureLemmas.{future_total, future_same, no_some, some_is, true_false}
 use Rattle.laws.proofs.ReachedLemmas.{moves_go_on}
 use Rattle.actor.specs.declared.actor.Actor.{Actor}
 use Rattle.actor.specs.declared.act.Given.TheVariants as given

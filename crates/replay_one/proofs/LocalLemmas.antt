@@ -1,25 +1,24 @@
 -- Contractions that need no other activity are steps of the run, where the least-named that is ready takes them.
-use Rattle.std.proofs.Common.{◌≡◌, ◌+◌, ◌-◌, ◌≤◌, ◌<◌, ◌++◌, ◌∷◌, [], ℕ, zero, suc, Bool, true, false, cond, T, List, Option, Some, None, refl, sym, ap, subst, ◌∙◌, ⊎_elim, arith}
-use Rattle.std.proofs.lemmas.List.{append-nil}
+use Rattle.std.proofs.Common.{◌≡◌, ◌+◌, ◌-◌, ◌≤◌, ◌<◌, ◌++◌, ℕ, zero, suc, Bool, true, false, cond, T, List, Option, Some, None, refl, sym, ap, subst, ◌∙◌, ⊎_elim, arith}
 use Rattle.std.specs.FinMap.{find, is_sorted, put}
 use Rattle.std.specs.FinMap.Entries.{find-put, is_sorted-put, same_entries}
 use Rattle.std.specs.Ordering.{eq_by_cmp, is_lt}
 use Rattle.asp_model.specs.Names.{Name, FutureShape, name_cmp}
 use Rattle.asp_model.specs.Term.{Tree}
-use Rattle.asp_model.specs.Split.{Redex, Splits, Stands}
-use Rattle.asp_model.specs.Store as stores
-use Rattle.asp_model.specs.Store.{Store, CellShape, cell}
-use Rattle.asp_model.specs.Contraction.{Contraction, LineShape, Becomes, Needs, contract, first_future, is_future, row, strict_members, strict_operands}
+use Rattle.asp_model.specs.Split.{Splits, Stands}
+use Rattle.asp_model.specs.Contraction.{contract, first_future, strict_members, strict_operands}
 use Rattle.asp_model.specs.Chase.{Chase, chase}
 use Rattle.asp_model.specs.Configuration.{Activity, Configuration, RequestShape, requests_of}
-use Rattle.asp_model.specs.Intent.{Acts, Awaits, Done, Effect, Reads, Rests, Lacks, alone, contracts, ends_service, intent, newest, operand_ready, operands_ready, redex_ready}
+use Rattle.asp_model.specs.Intent.{Acts, Awaits, Done, Effect, Reads, Rests, Lacks, alone, contracts, ends_service, intent, newest, redex_ready}
 use Rattle.asp_model.specs.Step.{ListsShape, intent_in, step}
 use Rattle.asp_model.specs.Replay.{least_step, steps_from}
 use Rattle.laws.specs.Reached.{IsReached, IsAt, Steps}
-use Rattle.laws.proofs.MapLemmas.{find_same, find_other}
-use Rattle.laws.proofs.NameLemmas.{name_total, name_same, name_case, no_some, none_true}
+use Rattle.chase_laws.proofs.MapLemmas.{find_same, find_other}
+use Rattle.laws.proofs.NameLemmas.{name_total, name_same, name_case}
+use Rattle.chase_laws.proofs.FutureLemmas.{no_some}
 use Rattle.laws.proofs.NamesLaws.{entries_ascend}
 use Rattle.laws.proofs.ReachedLemmas.{moves_go_on}
+use Rattle.laws.proofs.OperandLemmas.{no_future, redex_reads}
 use Rattle.laws.proofs.StepLemmas.{takes_step}
 use Rattle.schedules.specs.Schedules.{IsScheduled}
 use Rattle.schedules.proofs.LeastLemmas.{least_steps}
@@ -27,43 +26,6 @@ use Rattle.schedules.specs.Watches.{IsWatched, Watches}
 use Rattle.schedules.proofs.WokenLemmas.{called_are_scheduled}
 use Rattle.activity_step.specs.Local.{IsLocalStep, LocalRun}
 use Rattle.replay_one.specs.Population.{with_activity}
-
--- Operands that are no futures
-
-abbrev or_later : Bool → ℕ → Option ℕ → Option ℕ
-or_later b n o = elim b [ true ↦ Some n | false ↦ o ]
-
-first_is_none : (b : Bool) (n : ℕ) (o : Option ℕ) → or_later b n o ≡ None → (b ≡ false) × (o ≡ None)
-first_is_none true n o h = no_some (sym h)
-first_is_none false n o h = (refl, h)
-
-abbrev row_unless : Store → Redex → Option ℕ → Contraction
-row_unless s r o = elim o [ Some n ↦ Needs n | None ↦ row s r.head r.places r.behind ]
-
-no_future : (s : Store) (r : Redex) (o : Option ℕ) (t : Tree) (u : Store) (ls : List LineShape) → row_unless s r o ≡ Becomes t u ls → o ≡ None
-no_future s r None t u ls h = refl
-no_future s r (Some n) t u ls h = cc
-
-module _ (chases : FutureShape → Chase) (s : Store) where
-  reads_it : (n : ℕ) (c : CellShape) → is_future c ≡ false → operand_ready chases s n c ≡ Reads s
-  reads_it n (stores.Future f) h = none_true (sym h)
-  reads_it n c h = refl
-
-  reads_all : (ns ms : List ℕ) → first_future s (ns ++ ms) ≡ None → (operands_ready chases s ns ≡ Reads s) × (first_future s ms ≡ None)
-  reads_all [] ms h = (refl, h)
-  reads_all (n ∷ ns) ms h =
-      let first = first_is_none (is_future (cell s n)) n (first_future s (ns ++ ms)) h in
-      let rest = reads_all ns ms first.1 in (
-        ap (λ r. elim r [ Reads t ↦ operands_ready chases t ns | Lacks f ↦ Lacks f ]) (reads_it n (cell s n) first.0) ∙ rest.0,
-        rest.1,
-      )
-
-  redex_reads : (r : Redex) → first_future s (strict_operands r.head r.places ++ strict_members s r.head r.places) ≡ None → redex_ready chases s r ≡ Reads s
-  redex_reads r h =
-      let ms = strict_members s r.head r.places in
-      let operands = reads_all (strict_operands r.head r.places) ms h in
-      ap (λ q. elim q [ Reads t ↦ operands_ready chases t (strict_members t r.head r.places) | Lacks f ↦ Lacks f ]) operands.0
-      ∙ (reads_all ms [] (ap (first_future s) (append-nil ms) ∙ operands.1)).0
 
 -- One contraction
 

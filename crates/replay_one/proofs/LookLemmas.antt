@@ -17,7 +17,7 @@ use Rattle.asp_model.specs.Shapes.{fault_shape, future_shape}
 use Rattle.future_table.specs.Values.{values_of}
 use Rattle.laws.specs.Reached.{IsReached, IsAt, IsThere}
 use Rattle.laws.proofs.LinkedLemmas.{targets_are_there}
-use Rattle.laws.proofs.NameLemmas.{no_some, none_true, some_is}
+use Rattle.chase_laws.proofs.FutureLemmas.{no_some, none_true, some_is}
 use Rattle.laws.proofs.StepLemmas.{holds_back, takes_step}
 use Rattle.actor.specs.declared.actor.Actor.{Actor}
 use Rattle.actor.specs.declared.outlook.Outlook.{Outlook}

@@ -8,7 +8,7 @@ use Rattle.asp_model.specs.Replay.{CountsShape, Fits, counts_of, plain_run, repl
 use Rattle.asp_model.specs.Outcome.{OutcomeShape, counts_in, lists_in, outcome_of}
 use Rattle.asp_model.specs.Step.{ListsShape}
 use Rattle.asp_model.specs.Names.{Name, main_name}
-use Rattle.laws.proofs.NameLemmas.{no_some}
+use Rattle.chase_laws.proofs.FutureLemmas.{no_some}
 use Rattle.laws.proofs.ReachedLemmas.{start_is_reached}
 use Rattle.laws.proofs.ReplayLemmas.{plain_runs_replay}
 use Rattle.laws.proofs.SpendLemmas.{plain_runs_spend}

@@ -20,8 +20,9 @@ use Rattle.future_table.specs.Values.{AreOfCode, values_of}
 use Rattle.laws.specs.Reached.{IsThere}
 use Rattle.laws.proofs.ClosedLaws.{reached_are_closed}
 use Rattle.laws.proofs.LinkedLemmas.{acting}
-use Rattle.laws.proofs.MapLemmas.{find_same, find_other}
-use Rattle.laws.proofs.NameLemmas.{name_total, name_same, name_case, names_apart, no_some, some_is, is_there}
+use Rattle.chase_laws.proofs.MapLemmas.{find_same, find_other}
+use Rattle.laws.proofs.NameLemmas.{name_total, name_same, name_case, names_apart, is_there}
+use Rattle.chase_laws.proofs.FutureLemmas.{no_some, some_is}
 use Rattle.program_code.specs.declared.code.Node.{Node}
 use Rattle.operand_reads.specs.Values.{AreClosedValues}
 use Rattle.actor.specs.declared.actor.Actor.{Actor}

@@ -30,7 +30,8 @@ use Rattle.laws.specs.Reached.{IsAt}
 use Rattle.laws.specs.Closed.{IsClosed}
 use Rattle.laws.proofs.ClosedLaws.{reached_are_closed}
 use Rattle.laws.proofs.EntryLemmas.{In, entry_found, first_of_both, second_of_both}
-use Rattle.laws.proofs.NameLemmas.{name_total, name_case, no_some}
+use Rattle.laws.proofs.NameLemmas.{name_total, name_case}
+use Rattle.chase_laws.proofs.FutureLemmas.{no_some}
 use Rattle.laws.proofs.NamesLaws.{entries_ascend}
 use Rattle.actor.specs.declared.actor.Actor.{Actor}
 use Rattle.actor.specs.Actors.{Stands, code_of}

@@ -17,8 +17,9 @@ use Rattle.laws.specs.Waking.{labels_wanted}
 use Rattle.laws.proofs.CommuteLemmas.{values_kept}
 use Rattle.laws.proofs.FactLemmas.{acts_facts}
 use Rattle.laws.proofs.KeptLemmas.{fresh}
-use Rattle.laws.proofs.MapLemmas.{find_other, find_same}
-use Rattle.laws.proofs.NameLemmas.{future_total, future_same, name_case, name_same, name_total, no_some, none_true, some_is, true_false}
+use Rattle.chase_laws.proofs.MapLemmas.{find_other, find_same}
+use Rattle.laws.proofs.NameLemmas.{name_case, name_same, name_total}
+use Rattle.chase_laws.proofs.FutureLemmas.{future_total, future_same, no_some, none_true, some_is, true_false}
 use Rattle.laws.proofs.OrderLemmas.{own_kept}
 use Rattle.laws.proofs.ReachedLemmas.{moves_go_on, reached_sound}
 use Rattle.laws.proofs.SoundLemmas.{Took}

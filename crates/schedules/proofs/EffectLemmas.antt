@@ -7,8 +7,9 @@ use Rattle.asp_model.specs.Configuration.{RequestShape, Activity, Configuration,
 use Rattle.asp_model.specs.Intent.{Effect}
 use Rattle.asp_model.specs.Step.{put_some, with_sent}
 use Rattle.schedules.specs.Effects.{NobodyReceives, TargetsReceive, OthersReceiveNone, AbsentReceivedNone, MadeReceivedNone, OwnIsThere, MadeIsThere, OthersAreKept}
-use Rattle.laws.proofs.NameLemmas.{name_total, name_same, name_case, true_false}
-use Rattle.laws.proofs.MapLemmas as Maps
+use Rattle.laws.proofs.NameLemmas.{name_total, name_same, name_case}
+use Rattle.chase_laws.proofs.FutureLemmas.{true_false}
+use Rattle.chase_laws.proofs.MapLemmas as Maps
 use Rattle.laws.proofs.FactLemmas.{acts_facts}
 use Rattle.laws.proofs.SoundLemmas.{Took, made_new, own_by}
 use Rattle.laws.proofs.TidyLemmas.{empty_where_absent}

@@ -15,7 +15,8 @@ use Rattle.asp_model.specs.Replay.{least_step}
 use Rattle.laws.specs.Reached.{IsReached, IsAt, IsThere}
 use Rattle.schedules.specs.Schedules.{RestsIn, WaitsFor, RestersLeave, NotesLeave, LeastSteps, NoneIsReady, MainIsReady}
 use Rattle.schedules.specs.Watches.{MainIsWatched}
-use Rattle.laws.proofs.NameLemmas.{name_total, name_case, names_apart, no_some, some_is, none_true, true_false}
+use Rattle.laws.proofs.NameLemmas.{name_total, name_case, names_apart}
+use Rattle.chase_laws.proofs.FutureLemmas.{no_some, some_is, none_true, true_false}
 use Rattle.laws.proofs.EntryLemmas.{In, first_of_both, second_of_both, entry_found, found_entry}
 use Rattle.laws.proofs.NamesLaws.{entries_ascend}
 

@@ -13,7 +13,7 @@ use Rattle.asp_model.specs.Step.{ListsShape}
 use Rattle.asp_model.specs.Replay.{CountsShape, total}
 use Rattle.asp_model.specs.ReportLines.{parts, verdict_lines, activity_in, senders_of, is_output}
 use Rattle.asp_model.specs.ReadReport.{Next, Title, Verdict, Main, Senders, Later, Progress, goes_on, with_activity, with_senders, is_behind, behind, Reading, Reads, BadLine, ended, read_on}
-use Rattle.laws.proofs.NameLemmas.{no_some, some_is, none_true}
+use Rattle.chase_laws.proofs.FutureLemmas.{no_some, some_is, none_true}
 use Rattle.schedules.specs.Divergence.{AreInOrder, ReportsAreInOrder}
 use Rattle.schedules.proofs.LeastLemmas.{true_of}
 use Rattle.schedules.proofs.RowLemmas.{less_both}

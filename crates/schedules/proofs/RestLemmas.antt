@@ -15,8 +15,9 @@ use Rattle.asp_model.specs.Replay.{senders_in}
 use Rattle.laws.specs.Reached.{IsReached, IsAt, IsStep}
 use Rattle.laws.specs.Waking.{has_wanted, labels_wanted}
 use Rattle.schedules.specs.Schedules.{WaitsFor, IsSentTo, IsFilledBy, IsNextIn}
-use Rattle.laws.proofs.NameLemmas.{name_case, future_case, future_total, future_same, none_true, no_some, true_false, named_is}
-use Rattle.laws.proofs.MapLemmas as Maps
+use Rattle.laws.proofs.NameLemmas.{name_case, named_is}
+use Rattle.chase_laws.proofs.FutureLemmas.{future_case, future_total, future_same, none_true, no_some, true_false}
+use Rattle.chase_laws.proofs.MapLemmas as Maps
 use Rattle.laws.proofs.StepLemmas.{step_taken, held_back, holds_back}
 use Rattle.laws.proofs.FrameLemmas.{intends_stay}
 use Rattle.laws.proofs.LinkedLemmas.{targets_are_there}

@@ -13,7 +13,8 @@ use Rattle.asp_model.specs.Names.{Name, name_cmp, same_name}
 use Rattle.asp_model.specs.Step.{ListsShape}
 use Rattle.asp_model.specs.Replay.{CountsShape, entries_of}
 use Rattle.schedules.specs.Divergence.{Row, same_row, lesser_name, first_difference}
-use Rattle.laws.proofs.NameLemmas.{name_total, name_same, name_case, names_tied, name_itself, names_apart, no_some, none_true, true_false}
+use Rattle.laws.proofs.NameLemmas.{name_total, name_same, name_case, names_tied, name_itself, names_apart}
+use Rattle.chase_laws.proofs.FutureLemmas.{no_some, none_true, true_false}
 
 abbrev pub lists_by : List Row → ListsShape
 lists_by rows = map (λ r. (r.name, r.senders)) rows

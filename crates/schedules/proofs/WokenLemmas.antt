@@ -13,7 +13,8 @@ use Rattle.laws.specs.Waking.{labels_wanted}
 use Rattle.laws.specs.Reached.{IsReached, IsAt, IsThere}
 use Rattle.schedules.specs.Schedules.{RestsIn, IsScheduled, WokenAreScheduled}
 use Rattle.schedules.specs.Watches.{CalledAreScheduled, IsCalledBy, IsWatched, Watches}
-use Rattle.laws.proofs.NameLemmas.{true_false, is_there, some_is}
+use Rattle.laws.proofs.NameLemmas.{is_there}
+use Rattle.chase_laws.proofs.FutureLemmas.{true_false, some_is}
 use Rattle.schedules.proofs.EffectLemmas.{others_are_kept}
 use Rattle.schedules.proofs.RestLemmas.{StillRests, rests_still}
 

@@ -14,7 +14,7 @@ use Rattle.asp_check.specs.declared.fault.CheckKind.TheVariants.{DoubleLabel, Do
 use Rattle.asp_check.specs.Placed.{place_or, later, placed, behind}
 use Rattle.asp_check.specs.NameFaults.{NameSet, no_names, with_name, with_names, fault_at, when, unless, repeats, method_faults, object_faults, faults_at, name_faults, name_faults_below}
 use Rattle.asp_check.specs.Faults.{IsChecked}
-use Rattle.laws.proofs.NameLemmas.{none_true}
+use Rattle.chase_laws.proofs.FutureLemmas.{none_true}
 use Rattle.sound_programs.specs.Proper.{are_distinct, names_bound, are_single, is_proper_node, IsProper, AreProper}
 use Rattle.sound_programs.proofs.ScopeLemmas.{equal_texts, or_cases, or_left, or_right, text_both}
 

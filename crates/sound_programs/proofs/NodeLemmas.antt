@@ -5,7 +5,7 @@ use Rattle.asp_model.specs.Term.{Head, Loc, Hole, Var, Number, Make, Get, Put, C
 use Rattle.asp_model.specs.Term as term
 use Rattle.asp_model.specs.Readable.{HasArity}
 use Rattle.asp_model.specs.Split.{Redex, reduced_count}
-use Rattle.laws.proofs.NameLemmas.{none_true}
+use Rattle.chase_laws.proofs.FutureLemmas.{none_true}
 use Rattle.sound_programs.specs.Proper.{is_proper_node}
 use Rattle.sound_programs.proofs.TermLemmas.{IsProperRedex, is_place, count_behind}
 

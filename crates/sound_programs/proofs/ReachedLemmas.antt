@@ -13,9 +13,9 @@ use Rattle.asp_model.specs.Step.{ListsShape, intent_in, step, with_effect}
 use Rattle.journals.specs.Deliveries.{with_store, holders_from, unpack_each}
 use Rattle.laws.specs.Reached.{Move, Steps, Edges, Needs, Makes}
 use Rattle.laws.specs.Linked.{Each}
-use Rattle.laws.proofs.NameLemmas.{no_some}
+use Rattle.chase_laws.proofs.FutureLemmas.{no_some}
 use Rattle.laws.proofs.StepLemmas.{step_taken}
-use Rattle.laws.proofs.ChaseLemmas.{chase_finds}
+use Rattle.chase_laws.proofs.ChaseLemmas.{chase_finds}
 use Rattle.laws.proofs.SoundLemmas.{came}
 use Rattle.laws.proofs.LinkedLemmas.{acting, found_after, value_after}
 use Rattle.laws.proofs.DeliveryLemmas.{found_delivered, edge_done, need_done}

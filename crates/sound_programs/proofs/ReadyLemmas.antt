@@ -2,18 +2,19 @@
 use Rattle.std.specs.Prelude.{◌≡◌, ℕ, zero, suc, ◌<◌, ◌≤◌, Bool, true, false, List, [], ◌∷◌, ◌++◌, Some, None, length, map, ◌⊎◌}
 use Rattle.std.proofs.Common.{refl, sym, ap, subst, ◌∙◌, arith, inl, inr, ⊎_elim}
 use Rattle.asp_model.specs.Names.{FutureShape}
-use Rattle.asp_model.specs.Term.{Head, Get, Put, Call, Clone, Active, If, Operate, Print, Scatter, Size, Member, WaitAll}
+use Rattle.asp_model.specs.Term.{Head, WaitAll}
 use Rattle.asp_model.specs.Split.{Redex}
-use Rattle.asp_model.specs.Store.{CellShape, Number, Object, Reference, Future, Group, Store, cell, with_cell, moved_cell, reached}
+use Rattle.asp_model.specs.Store.{CellShape, Number, Object, Reference, Future, Group, Store, cell, with_cell, moved_cell}
 use Rattle.asp_model.specs.Parcel.{ParcelShape, place_at, unpack_at}
-use Rattle.asp_model.specs.Contraction.{first_of, strict_operands, strict_members, members_of, members_at, is_future, first_future}
+use Rattle.asp_model.specs.Contraction.{strict_operands, strict_members, members_of, members_at, is_future, first_future}
 use Rattle.asp_model.specs.Chase.{Chase, Value, Unfilled, Cycle}
 use Rattle.asp_model.specs.Intent.{Ready, Reads, Lacks, fetched, operand_ready, operands_ready, redex_ready}
 use Rattle.laws.specs.Linked.{Each}
 use Rattle.laws.specs.Closed.{AreBelow, IsClosedStore}
-use Rattle.laws.proofs.NameLemmas.{none_true}
+use Rattle.chase_laws.proofs.FutureLemmas.{none_true}
+use Rattle.laws.proofs.ClosedLemmas.{operands_below, waited_below}
 use Rattle.laws.proofs.EachLemmas.{each_both, below_more}
-use Rattle.laws.proofs.MovedLemmas.{cell_below, length_written, unpacked_at_closed}
+use Rattle.laws.proofs.MovedLemmas.{length_written, unpacked_at_closed}
 
 -- Cells of changed stores
 
@@ -130,37 +131,6 @@ module _ (chases : FutureShape → Chase) (given : AllGiven chases) where
   operands_none (n ∷ ns) s below h = then_none s (n ∷ []) ns (λ t. operands_ready chases t ns) (below.0, tt) (λ t f. operands_none ns t (below_more (length s) (length t) f.longer ns below.1) f.closed) (operand_ready chases s n (cell s n)) (operand_none s n (cell s n) refl below.0 h)
 
 -- The strict operands of a redex
-
-first_below : (k : ℕ) (ns : List ℕ) → AreBelow k ns → AreBelow k (first_of ns)
-first_below k [] h = tt
-first_below k (n ∷ ns) h = (h.0, tt)
-
-operands_below : (k : ℕ) (h : Head) (ns : List ℕ) → AreBelow k ns → AreBelow k (strict_operands h ns)
-operands_below k (Get l) ns a = a
-operands_below k (Put l) ns a = first_below k ns a
-operands_below k (Call l) ns a = first_below k ns a
-operands_below k Clone ns a = a
-operands_below k (Active service) ns a = a
-operands_below k If ns a = a
-operands_below k (Operate sign) ns a = a
-operands_below k Print ns a = a
-operands_below k (Scatter l) ns a = a
-operands_below k Size ns a = a
-operands_below k Member ns a = a
-operands_below k WaitAll ns a = a
-operands_below k h ns a = tt
-
-members_below : (k : ℕ) (c : CellShape) → AreBelow k (reached c) → AreBelow k (members_of c)
-members_below k (Group ns) h = h
-members_below k c h = tt
-
-first_members : (s : Store) (ns : List ℕ) → IsClosedStore s → AreBelow (length s) (members_at s ns)
-first_members s [] h = tt
-first_members s (n ∷ ns) h = members_below (length s) (cell s n) (cell_below (length s) s h n)
-
-waited_below : (s : Store) (h : Head) (ns : List ℕ) → IsClosedStore s → AreBelow (length s) (strict_members s h ns)
-waited_below s WaitAll ns k = first_members s ns k
-waited_below s h ns k = tt
 
 -- a group that is waited for has its members still where some of them are unpacked
 same_first : (s t : Store) (ns : List ℕ) → IsFrom s t → AreBelow (length s) ns → Each (IsNone s) ns → members_at t ns ≡ members_at s ns

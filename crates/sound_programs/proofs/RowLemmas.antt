@@ -9,7 +9,7 @@ use Rattle.asp_model.specs.Store.{MethodShape, CellShape, Number, Object, Refere
 use Rattle.asp_model.specs.Contraction.{Contraction, Becomes, Faults, Needs, Communicates, Breaks, LineShape, TextLine, row, contract, is_future, first_future, strict_operands, strict_members}
 use Rattle.asp_model.specs.Contraction as rows
 use Rattle.laws.specs.Linked.{Each}
-use Rattle.laws.proofs.NameLemmas.{no_some, some_is, none_true}
+use Rattle.chase_laws.proofs.FutureLemmas.{no_some, some_is, none_true}
 use Rattle.laws.proofs.EachLemmas.{each_both}
 use Rattle.sound_programs.specs.Proper.{names_bound, are_single, IsProper, AreProper, IsProperCell}
 use Rattle.sound_programs.proofs.ScopeLemmas.{or_cases, Leaves, put_proper}

@@ -5,7 +5,7 @@ use Rattle.std.proofs.lemmas.Slice.Eq.{bytes_eq-Decides}
 use Rattle.asp_model.specs.Names.{Text, same_text}
 use Rattle.asp_model.specs.Term.{Loc, Var, Tree, Trees, node, none, more, binders, child_count, has_text, Environment, location_of, without, variable_or, put_in, put_below, moved, moved_below}
 use Rattle.asp_model.specs.Readable.{HasArity}
-use Rattle.laws.proofs.NameLemmas.{none_true}
+use Rattle.chase_laws.proofs.FutureLemmas.{none_true}
 use Rattle.sound_programs.specs.Proper.{IsProper, AreProper}
 
 -- Texts

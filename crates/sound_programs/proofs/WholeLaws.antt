@@ -16,7 +16,7 @@ use Rattle.asp_check.proofs.PlaceLemmas.{readable_has_no_places}
 use Rattle.laws.specs.Reached.{Move, Makes, IsAt}
 use Rattle.laws.specs.Closed.{AreBelow, SplitBelow}
 use Rattle.laws.proofs.ClosedLaws.{closed_start, move_closed}
-use Rattle.laws.proofs.ChaseLemmas.{chase_finds}
+use Rattle.chase_laws.proofs.ChaseLemmas.{chase_finds}
 use Rattle.laws.proofs.PlacesLemmas.{front, back, split_is_below}
 use Rattle.sound_programs.specs.Programs.{IsWhole, ProgramsAreProper, StartIsWhole, MovesKeepWhole, ReachedAreWhole}
 use Rattle.sound_programs.proofs.TermLemmas.{ProperSplit, IsProperRedex, split_proper}

@@ -12,7 +12,7 @@ use Rattle.asp_model.specs.Outcome.{ActivityReportShape, activity_report, counts
 use Rattle.journals.specs.Owed.{goes_on, is_any, next_owed}
 use Rattle.journal_laws.specs.Budgets.{granted_in}
 use Rattle.journal_laws.proofs.BudgetLemmas.{budgets_are_kept}
-use Rattle.laws.proofs.NameLemmas.{no_some, none_true, some_is}
+use Rattle.chase_laws.proofs.FutureLemmas.{no_some, none_true, some_is}
 use Rattle.paths.specs.Agree.{Agrees, Pairs, no_pair, pair}
 use Rattle.paths.specs.Outcomes.{EndShape, EndsAgree, OutcomesAgree, end_of, report_lines_to, reported, whole_outcome_of}
 use Rattle.path_laws.specs.Correct.{IsReplayed}

@@ -7,7 +7,7 @@ use Rattle.asp_model.specs.History.{ChoiceShape, DeliveryShape, Edge, Need}
 use Rattle.journals.specs.Edges.{EdgeShape, HoldersShape, owed_at}
 use Rattle.journals.specs.Journals.{RunShape, grant_of, is_in}
 use Rattle.journals.specs.Owed.{first_edge, first_need, need_delivery, need_to, next_owed, or_else}
-use Rattle.laws.proofs.NameLemmas.{no_some, none_true, some_is}
+use Rattle.chase_laws.proofs.FutureLemmas.{no_some, none_true, some_is}
 use Rattle.lease_laws.specs.Numbered.{AreNumbered}
 use Rattle.lease_laws.proofs.NameListLemmas.{numbered_so}
 use Rattle.lease_laws.proofs.NumberLemmas.{named_by}

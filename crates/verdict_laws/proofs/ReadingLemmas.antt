@@ -13,8 +13,8 @@ use Rattle.asp_model.specs.Configuration.{Activity, Configuration, RequestShape,
 use Rattle.asp_model.specs.Intent.{Acts, Awaits, Done, Intent, Lacks, Reads, Ready, Rests, contracts, ends_service, intent, newest, operand_ready, operands_ready, redex_ready}
 use Rattle.journals.specs.Owed.{need_at, need_in, need_of, needed_at}
 use Rattle.journals.specs.Passing.{cell_read, effect_events, operands_read, read_in, redex_read, unpacked_by}
-use Rattle.laws.proofs.ChaseLemmas.{awaited}
-use Rattle.laws.proofs.NameLemmas.{no_some, none_true, some_is}
+use Rattle.chase_laws.proofs.ChaseLemmas.{awaited}
+use Rattle.chase_laws.proofs.FutureLemmas.{no_some, none_true, some_is}
 use Rattle.rank_laws.proofs.OperandLemmas.{lacks_so, operands}
 use Rattle.verdict_laws.specs.Readings.{ActsUnpackNothing}
 

@@ -1,30 +1,32 @@
 -- A delivery along an edge makes no need.
-use Rattle.std.proofs.Common.{◌≡◌, ◌≢◌, ◌⊎◌, ◌<◌, ◌++◌, ◌∷◌, [], inl, inr, ℕ, zero, suc, Bool, true, false, List, Option, Some, None, length, refl, sym, ap, subst, ◌∙◌}
+use Rattle.std.proofs.Common.{◌≡◌, ◌≢◌, ◌⊎◌, ◌<◌, ◌++◌, ◌∷◌, [], inl, inr, ℕ, Bool, true, false, List, Option, Some, None, length, refl, sym, ap, subst, ◌∙◌}
 use Rattle.std.proofs.lemmas.List.{append-nil}
 use Rattle.std.specs.FinMap.{find}
 use Rattle.asp_model.specs.Names.{Name, FutureShape, name_cmp}
-use Rattle.asp_model.specs.Term.{Head, Get, Put, Call, Clone, Active, If, Operate, Print, Scatter, Size, Member, WaitAll, locations_below, own_locations}
+use Rattle.asp_model.specs.Term.{Head, WaitAll, locations_below, own_locations}
 use Rattle.asp_model.specs.Parcel.{ParcelShape, unpack_at}
 use Rattle.asp_model.specs.Split.{Redex, Split, Splits, Stands, split}
 use Rattle.asp_model.specs.Store as stores
-use Rattle.asp_model.specs.Store.{CellShape, Store, cell, moved_cell, reached}
-use Rattle.asp_model.specs.Contraction.{first_future, first_of, is_future, members_at, members_of, strict_members, strict_operands}
+use Rattle.asp_model.specs.Store.{CellShape, Store, cell}
+use Rattle.asp_model.specs.Contraction.{first_future, is_future, members_of, strict_members, strict_operands}
 use Rattle.asp_model.specs.Chase.{Chase, Cycle, Unfilled, Value, Values, chase}
 use Rattle.asp_model.specs.Configuration.{Activity, Configuration, requests_of}
 use Rattle.asp_model.specs.Intent as intents
-use Rattle.asp_model.specs.Intent.{Acts, Awaits, Done, Faulted, Intent, Running, Serving, StatusShape, intent}
+use Rattle.asp_model.specs.Intent.{Acts, Awaits, Done, Faulted, Intent, Running, Serving, StatusShape}
 use Rattle.asp_model.specs.Step.{intent_in}
 use Rattle.asp_model.specs.Status.{status_of, status_of_intent}
 use Rattle.journals.specs.Deliveries.{holders_from, unpack_each, with_store}
 use Rattle.journals.specs.Owed.{need_at, need_in, need_of, needed_at}
-use Rattle.laws.specs.Closed.{AreBelow, CellsBelow, IsClosedStore, SplitBelow}
+use Rattle.laws.specs.Closed.{AreBelow, IsClosedStore, SplitBelow}
 use Rattle.laws.specs.Reached.{Edges, IsAt, Needs}
 use Rattle.laws.proofs.ClosedLaws.{in_store, splits_are_below}
+use Rattle.laws.proofs.ClosedLemmas.{operands_below, waited_below}
 use Rattle.laws.proofs.CommuteLemmas.{intended_is}
 use Rattle.laws.proofs.DeliveryLemmas.{edge_done, need_done}
 use Rattle.laws.proofs.EachLemmas.{each_first, each_second}
-use Rattle.laws.proofs.MapLemmas as Maps
-use Rattle.laws.proofs.NameLemmas.{name_same, name_total, no_some, none_true, some_is}
+use Rattle.chase_laws.proofs.MapLemmas as Maps
+use Rattle.laws.proofs.NameLemmas.{name_same, name_total}
+use Rattle.chase_laws.proofs.FutureLemmas.{no_some, none_true, some_is}
 use Rattle.laws.proofs.WakeLemmas.{none_rests_running}
 use Rattle.paths.specs.Agree.{Agrees}
 use Rattle.paths.specs.Places.{In_store, entered_by, name_by, read_by, told, value_by}
@@ -37,44 +39,6 @@ use Rattle.path_laws.proofs.WholeLemmas.{moves_keep_whole}
 use Rattle.activity_ranks.specs.Ranks.{Goes, HasNeed, RankShape, Rests}
 use Rattle.rank_laws.specs.Ranked.{rank_by, rank_in, rank_of, rank_resting, rank_unless}
 use Rattle.verdict_laws.specs.Receivers.{DeliveriesKeepRank, NeedsKeepRank}
-
--- Operands are in the store
-
-first_below : (k : ℕ) (ns : List ℕ) → AreBelow k ns → AreBelow k (first_of ns)
-first_below k [] h = tt
-first_below k (n ∷ ns) h = (h.0, tt)
-
-operands_below : (k : ℕ) (h : Head) (ns : List ℕ) → AreBelow k ns → AreBelow k (strict_operands h ns)
-operands_below k (Get l) ns a = a
-operands_below k (Put l) ns a = first_below k ns a
-operands_below k (Call l) ns a = first_below k ns a
-operands_below k Clone ns a = a
-operands_below k (Active service) ns a = a
-operands_below k If ns a = a
-operands_below k (Operate sign) ns a = a
-operands_below k Print ns a = a
-operands_below k (Scatter l) ns a = a
-operands_below k Size ns a = a
-operands_below k Member ns a = a
-operands_below k WaitAll ns a = a
-operands_below k h ns a = tt
-
-cell_reaches : (k : ℕ) (s : Store) → CellsBelow k s → (n : ℕ) → AreBelow k (reached (cell s n))
-cell_reaches k [] h n = tt
-cell_reaches k (c ∷ cs) h zero = h.0
-cell_reaches k (c ∷ cs) h (suc n) = cell_reaches k cs h.1 n
-
-members_below : (k : ℕ) (c : CellShape) → AreBelow k (reached c) → AreBelow k (members_of c)
-members_below k (stores.Group ns) h = h
-members_below k c h = tt
-
-all_members : (s : Store) (ns : List ℕ) → IsClosedStore s → AreBelow (length s) (members_at s ns)
-all_members s [] h = tt
-all_members s (n ∷ ns) h = members_below (length s) (cell s n) (cell_reaches (length s) s h n)
-
-waited_below : (s : Store) (h : Head) (ns : List ℕ) → IsClosedStore s → AreBelow (length s) (strict_members s h ns)
-waited_below s WaitAll ns k = all_members s ns k
-waited_below s h ns k = tt
 
 -- A future that stays one
 

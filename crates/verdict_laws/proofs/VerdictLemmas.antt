@@ -16,7 +16,7 @@ use Rattle.asp_model.specs.Chase.{chase}
 use Rattle.laws.proofs.WakeLemmas.{none_rests_running}
 use Rattle.laws.specs.Reached.{IsThere}
 use Rattle.laws.specs.Sound.{IsSound}
-use Rattle.laws.proofs.NameLemmas.{no_some, none_true, true_false}
+use Rattle.chase_laws.proofs.FutureLemmas.{no_some, none_true, true_false}
 use Rattle.laws.proofs.StepLemmas.{step_by, step_is}
 use Rattle.laws.proofs.WholeLemmas.{sound_intents}
 use Rattle.lease_laws.specs.Numbered.{AreNumbered}

@@ -4,7 +4,7 @@ use Rattle.asp_model.specs.Names.{future_cmp}
 use Rattle.asp_model.specs.Shapes.{delivery_shape}
 use Rattle.coded_cells.specs.Shapes.{parcel_shape}
 use Rattle.future_table.specs.Values.{values_of}
-use Rattle.laws.proofs.NameLemmas.{none_true}
+use Rattle.chase_laws.proofs.FutureLemmas.{none_true}
 use Rattle.core_edges.specs.Deliveries.{future_of}
 use Rattle.core_edges.proofs.AnswerLemmas.{on_ok}
 use Rattle.asp_core.proofs.deliveries.tell.Goals as goal

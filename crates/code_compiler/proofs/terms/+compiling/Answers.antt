@@ -13,16 +13,17 @@ use Rattle.program_code.specs.declared.code.MethodCode.{MethodCode}
 use Rattle.program_code.specs.declared.code.Node.{Node}
 use Rattle.program_code.specs.Fitting.{names, slots_from}
 use Rattle.program_code.specs.Tables.{kind_head, text_of}
-use Rattle.name_slots.specs.Slots.{bound_in, environment, head_in, names_of}
+use Rattle.name_slots.specs.Slots.{bound_in, environment, names_of}
+use Rattle.program_code.specs.Parts.{body_tree, field_label, field_tree, method_head}
 use Rattle.name_slots.proofs.SlotLemmas.{names_slots}
 use Rattle.code_compiler.specs.Added.{body_of}
 use Rattle.code_compiler.specs.Closed.{IsClosed}
 use Rattle.code_compiler.specs.Free.{free_in}
 use Rattle.code_compiler.specs.Compiled.{Body, Adds, AddsMethods, AreAmong, IsMethod, SameScope, captured_count}
-use Rattle.code_compiler.specs.Parts.{field_label, field_tree, body_tree, parts_of}
+use Rattle.code_compiler.specs.Parts.{parts_of}
 use Rattle.code_compiler.proofs.NodeLemmas.{whole, plain_node, then_ok}
 use Rattle.code_compiler.proofs.PartLemmas.{row_parts, row_size, row_closed, two_parts, call_parts}
-use Rattle.code_compiler.proofs.TermTrees.{make_is, if_is}
+use Rattle.program_code.proofs.TermTrees.{make_is, if_is}
 use Rattle.code_compiler.proofs.ClosedLemmas.{body_closed, captured_among}
 use Rattle.code_compiler.proofs.ClosedLaws.{call_closed, fields_closed, methods_closed, field_at, method_at}
 use Rattle.code_compiler.proofs.SizeLemmas.{call_size, fields_size, methods_size, term_size_at, method_size_at, field_size_at}
@@ -158,7 +159,7 @@ put_object-returns-clause-adds t c = λ vs ns ts row size.
     let ls : List Node = c.compile_methods.new.nodes.items in
     let k = c.in_ok-class.class in
     let labels : List Text = map text_of c.args.fields.items in
-    let heads : List MethodHead = map head_in c.args.methods.now in
+    let heads : List MethodHead = map method_head c.args.methods.now in
     let us : List Tree = map body_tree c.args.methods.now in
     let fields_are : k.value.fields.items ≡ c.args.fields.items = ap (λ (x : Class). x.fields.items) c.in_ok-class.ensures.ok ∙ (λ i. (c.in_ok-made.ensures.fields i).items) in
     let methods_are : k.value.methods.items ≡ c.in_ok-methods.methods.items = ap (λ (x : Class). x.methods.items) c.in_ok-class.ensures.ok ∙ (λ i. (c.in_ok-made.ensures.methods i).items) in
@@ -231,9 +232,9 @@ compile_methods-loop-method-preserved t c =
     let code : MethodCode = c.in_ok-code.code in
     let codes : List MethodCode = c.loop-method.codes.items in
     let old = take i c.args.methods.now in
-    let all : AddsMethods a d ns ls c.args.first (codes ++ code ∷ []) (map head_in old ++ head_in m ∷ []) (map body_tree old ++ body_tree m ∷ []) =
-    methods_more a b d ns ms ls c.args.first c.loop-method.start codes (code ∷ []) (map head_in old) (head_in m ∷ []) (map body_tree old) (body_tree m ∷ []) c.loop-method.invariant.adds c.in_ok-code.ensures.adds c.loop-method.invariant.next in
-    let hs : map head_in old ++ head_in m ∷ [] ≡ map head_in (take (i + 1) c.args.methods.now) = map_step head_in c.args.methods.now i m c.loop-method-test.true c.method-item.is in
+    let all : AddsMethods a d ns ls c.args.first (codes ++ code ∷ []) (map method_head old ++ method_head m ∷ []) (map body_tree old ++ body_tree m ∷ []) =
+    methods_more a b d ns ms ls c.args.first c.loop-method.start codes (code ∷ []) (map method_head old) (method_head m ∷ []) (map body_tree old) (body_tree m ∷ []) c.loop-method.invariant.adds c.in_ok-code.ensures.adds c.loop-method.invariant.next in
+    let hs : map method_head old ++ method_head m ∷ [] ≡ map method_head (take (i + 1) c.args.methods.now) = map_step method_head c.args.methods.now i m c.loop-method-test.true c.method-item.is in
     let ts : map body_tree old ++ body_tree m ∷ [] ≡ map body_tree (take (i + 1) c.args.methods.now) = map_step body_tree c.args.methods.now i m c.loop-method-test.true c.method-item.is in
     let pushed : codes ++ code ∷ [] ≡ c.push.new.self.items = sym c.in_ok-push.ensures.items in
     let counted : captured_count (codes ++ code ∷ []) ≡ captured_count codes + (length code.captured.items + 0) = count_append codes (code ∷ []) in
@@ -241,8 +242,8 @@ compile_methods-loop-method-preserved t c =
     let begin : c.loop-method.start ≡ c.args.first + captured_count codes = c.loop-method.invariant.next in
     let sum : c.in_ok-start.start ≡ c.args.first + captured_count (codes ++ code ∷ []) = omega (arith, counted, step, begin) in
     record {
-      adds = subst (λ (ks : List MethodCode). AddsMethods a d ns ls c.args.first ks (map head_in (take (i + 1) c.args.methods.now)) (map body_tree (take (i + 1) c.args.methods.now))) pushed
-          (subst (λ (us : List Tree). AddsMethods a d ns ls c.args.first (codes ++ code ∷ []) (map head_in (take (i + 1) c.args.methods.now)) us) ts (subst (λ (h : List MethodHead). AddsMethods a d ns ls c.args.first (codes ++ code ∷ []) h (map body_tree old ++ body_tree m ∷ [])) hs all));
+      adds = subst (λ (ks : List MethodCode). AddsMethods a d ns ls c.args.first ks (map method_head (take (i + 1) c.args.methods.now)) (map body_tree (take (i + 1) c.args.methods.now))) pushed
+          (subst (λ (us : List Tree). AddsMethods a d ns ls c.args.first (codes ++ code ∷ []) (map method_head (take (i + 1) c.args.methods.now)) us) ts (subst (λ (h : List MethodHead). AddsMethods a d ns ls c.args.first (codes ++ code ∷ []) h (map body_tree old ++ body_tree m ∷ [])) hs all));
       next = sum ∙ ap (λ (ks : List MethodCode). c.args.first + captured_count ks) pushed;
     }
 
@@ -264,7 +265,7 @@ compile_method-end_method-requires t c =
 pub compile_method-returns : goal.compile_method-returns
 compile_method-returns t c =
     let m = c.args.method.now in
-    let head : MethodHead = head_in m in
+    let head : MethodHead = method_head m in
     let a : Body = body_of c.args.scope.now c.args.uses.now.items in
     let b : Body = body_of c.args.scope.now c.end_method.new.uses.items in
     let inner : Body = record { captured = c.deref-2.result.now; bound = environment c.deref-3.result.now; uses = c.new-inner_uses.result.items } in
@@ -312,8 +313,8 @@ compile_term-returns-in_ok-compile_fields-in-Make-clause-adds t c =
     let ms : List Method = c.deref-in-Make-2.result.now in
     let ls : List Text = map text_of c.in_ok-labels-in-Make.labels.items in
     let labels : ls ≡ map field_label c.in-Make.fields.items = c.in_ok-labels-in-Make.ensures.labels ∙ ap (map field_label) c.deref.ensures.value in
-    let is : node (term.Make ls (map head_in ms)) (trees (map field_tree fs ++ map body_tree ms)) ≡ tree_of c.args.term.now =
-    (λ i. node (term.Make (labels i) (map head_in (c.deref-in-Make-2.ensures.value i))) (trees (map field_tree (c.deref-in-Make.ensures.value i) ++ map body_tree (c.deref-in-Make-2.ensures.value i))))
+    let is : node (term.Make ls (map method_head ms)) (trees (map field_tree fs ++ map body_tree ms)) ≡ tree_of c.args.term.now =
+    (λ i. node (term.Make (labels i) (map method_head (c.deref-in-Make-2.ensures.value i))) (trees (map field_tree (c.deref-in-Make.ensures.value i) ++ map body_tree (c.deref-in-Make-2.ensures.value i))))
     ∙ sym (ap tree_of c.in-Make.is ∙ make_is c.in-Make.fields c.in-Make.methods c.in-Make.mark) in
     let size : length (map field_tree fs) ≡ length c.in_ok-labels-in-Make.labels.items =
     map_length field_tree fs ∙ ap length c.deref-in-Make.ensures.value ∙ sym (map_length field_label c.in-Make.fields.items) ∙ sym (ap length labels) ∙ map_length text_of c.in_ok-labels-in-Make.labels.items in

@@ -1,7 +1,7 @@
 use Rattle.std.proofs.Common.{◌≡◌, ◌++◌, map, take, reverse}
 use Rattle.asp_model.specs.Shapes.{tree_of}
 use Rattle.program_code.specs.Tables.{text_of}
-use Rattle.code_decoder.specs.Decoded.{field_label, field_tree}
+use Rattle.program_code.specs.Parts.{field_label, field_tree}
 use Rattle.code_decoder.proofs.built.labelled.Given as goal
 
 abbrev pub invariant-loop-label : goal.invariant-loop-label

@@ -2,8 +2,8 @@ use Rattle.std.proofs.Common.{◌∙◌, ◌++◌, ap, map}
 use Rattle.asp_model.specs.Term.{Make, node, trees}
 use Rattle.asp_model.specs.Shapes.{tree_of}
 use Rattle.program_code.specs.Tables.{text_of}
-use Rattle.code_decoder.specs.Decoded.{body_tree, method_head}
-use Rattle.code_decoder.proofs.TermTrees.{make_is}
+use Rattle.program_code.specs.Parts.{body_tree, method_head}
+use Rattle.program_code.proofs.TermTrees.{make_is}
 use Rattle.code_decoder.proofs.SeenLemmas.{trees_append}
 use Rattle.code_decoder.proofs.built.object.Goals as goal
 

@@ -5,7 +5,8 @@ use Rattle.asp_model.specs.declared.term.Method.{Method}
 use Rattle.program_code.specs.declared.code.MethodCode.{MethodCode}
 use Rattle.program_code.specs.Pieces.{Piece}
 use Rattle.program_code.specs.Tables.{head_of, pieces, placed_method}
-use Rattle.code_decoder.specs.Decoded.{body_tree, method_head, seen_tree, shown_child}
+use Rattle.code_decoder.specs.Decoded.{seen_tree, shown_child}
+use Rattle.program_code.specs.Parts.{body_tree, method_head}
 use Rattle.code_decoder.proofs.BehindLemmas.{both_ok}
 use Rattle.code_decoder.proofs.CellLemmas.{method_stored}
 use Rattle.std.proofs.Common.{rules}

@@ -1,7 +1,8 @@
 use Rattle.std.proofs.Common.{◌≡◌, ◌+◌, ◌*◌, ◌++◌, map, take}
 use Rattle.asp_model.specs.Shapes.{tree_of}
 use Rattle.program_code.specs.Tables.{head_of, pieces}
-use Rattle.code_decoder.specs.Decoded.{body_tree, method_head, rank, seen_tree, shown_body, shown_child}
+use Rattle.code_decoder.specs.Decoded.{rank, seen_tree, shown_body, shown_child}
+use Rattle.program_code.specs.Parts.{body_tree, method_head}
 use Rattle.code_decoder.proofs.decoder.+decoder.Given as goal
 
 abbrev pub decreases-child_term : goal.decreases-child_term

@@ -8,7 +8,7 @@ use Rattle.program_code.specs.Tables.{piece_at, pieces}
 use Rattle.code_laws.specs.Nodes.{IsTerm, later}
 use Rattle.code_laws.proofs.NodeLemmas.{is_term}
 use Rattle.code_decoder.specs.Decoded.{IsBehind, IsContextIn, seen_tree}
-use Rattle.code_decoder.proofs.TermTrees.{hole_is}
+use Rattle.program_code.proofs.TermTrees.{hole_is}
 use Rattle.code_decoder.proofs.BehindLemmas.{if_ok, later_term, context_shown}
 use Rattle.code_decoder.proofs.terms.context_of.Goals as goal
 

@@ -3,7 +3,7 @@ use Rattle.asp_model.specs.Configuration.{requests_of}
 use Rattle.asp_model.specs.Intent.{Acts, intent}
 use Rattle.asp_model.specs.Chase.{chase}
 use Rattle.future_table.specs.Values.{AreOfCode, values_of}
-use Rattle.laws.proofs.NameLemmas.{some_is}
+use Rattle.chase_laws.proofs.FutureLemmas.{some_is}
 use Rattle.activity_seats.specs.Seats.{Out, seats_in}
 use Rattle.actor.specs.Actors.{IsClosedFor, Stands, code_of}
 use Rattle.actor.specs.Effects.{IsDoneBy, IsGiven, IsGivenOf}

@@ -2,7 +2,7 @@ use Rattle.std.proofs.Common.{◌≡◌, OnOk, is_some, sym, subst, true}
 use Rattle.std.proofs.lemmas.Result.{on_ok_weaker}
 use Rattle.asp_model.specs.Shapes.{delivery_shape, future_shape}
 use Rattle.journals.specs.Journals.{delivered}
-use Rattle.laws.proofs.NameLemmas.{true_false}
+use Rattle.chase_laws.proofs.FutureLemmas.{true_false}
 use Rattle.core_deliveries.specs.Deliveries.{IsDelivered, IsNeeded}
 use Rattle.core_deliveries.proofs.TargetLemmas.{edge_is_delivered, need_there, numbered_core}
 use Rattle.core_deliveries.proofs.deliveries.deliver.Goals as goal

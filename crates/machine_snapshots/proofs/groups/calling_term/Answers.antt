@@ -5,7 +5,7 @@ use Rattle.asp_model.specs.declared.term.Term.TheVariants as shown
 use Rattle.asp_model.specs.Names.{Text}
 use Rattle.asp_model.specs.Shapes.{tree_of}
 use Rattle.asp_model.specs.Term.{Hole, leaf, loc}
-use Rattle.code_decoder.proofs.TermTrees.{group_is, hole_is}
+use Rattle.program_code.proofs.TermTrees.{group_is, hole_is}
 use Rattle.machine_frames.specs.Calls.{rounds}
 use Rattle.machine_snapshots.specs.Groups.{call_trees}
 use Rattle.machine_snapshots.proofs.GroupLemmas.{calling_is}

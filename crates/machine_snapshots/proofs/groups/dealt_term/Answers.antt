@@ -2,7 +2,7 @@ use Rattle.std.proofs.Common.{◌≡◌, ◌++◌, List, ℕ, drop, length, map,
 use Rattle.asp_model.specs.Names.{Text}
 use Rattle.asp_model.specs.Shapes.{tree_of}
 use Rattle.asp_model.specs.Term.{Tree, loc}
-use Rattle.code_decoder.proofs.TermTrees.{group_is}
+use Rattle.program_code.proofs.TermTrees.{group_is}
 use Rattle.machine_frames.specs.Calls.{rounds}
 use Rattle.machine_snapshots.specs.Groups.{call_trees}
 use Rattle.machine_snapshots.proofs.GroupLemmas.{dealt_is}

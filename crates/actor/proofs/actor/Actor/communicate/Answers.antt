@@ -4,7 +4,7 @@ use Rattle.asp_model.specs.Contraction.{Communication, Creates, Sends, Serves}
 use Rattle.asp_model.specs.Intent.{Numbered, communicates, creates, labels_served, oldest_match, sends, serves}
 use Rattle.asp_model.specs.Names.{Name, Text}
 use Rattle.asp_model.specs.Store.{cell}
-use Rattle.laws.proofs.NameLemmas.{some_is}
+use Rattle.chase_laws.proofs.FutureLemmas.{some_is}
 use Rattle.request_queue.specs.Requests.{request_shape}
 use Rattle.serve_rules.specs.Labels.{label_text}
 use Rattle.actor.specs.declared.actor.Actor.{Actor}

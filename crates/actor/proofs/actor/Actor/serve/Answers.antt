@@ -5,7 +5,7 @@ use Rattle.asp_model.specs.Configuration as model
 use Rattle.asp_model.specs.Configuration.{RequestShape, label_of}
 use Rattle.asp_model.specs.Intent.{Numbered, serves}
 use Rattle.laws.specs.Closed.{IsClosedParcel}
-use Rattle.laws.proofs.NameLemmas.{some_is}
+use Rattle.chase_laws.proofs.FutureLemmas.{some_is}
 use Rattle.program_code.specs.declared.code.Node.{Node}
 use Rattle.coded_cells.specs.Shapes.{parcel_shape}
 use Rattle.request_queue.specs.declared.request.Request.{Request}

@@ -2,7 +2,7 @@ use Rattle.std.proofs.Common.{◌≡◌, ◌∙◌, IfOk, sym, subst}
 use Rattle.asp_model.specs.Configuration as model
 use Rattle.asp_model.specs.Configuration.{requests_of}
 use Rattle.laws.specs.Waking.{labels_wanted}
-use Rattle.laws.proofs.NameLemmas.{no_some, some_is}
+use Rattle.chase_laws.proofs.FutureLemmas.{no_some, some_is}
 use Rattle.serve_rules.specs.Labels.{HaveSame}
 use Rattle.actor.specs.declared.actor.Actor.{Actor}
 use Rattle.replay_one.proofs.PopulationLemmas.{actor_closed, found_stands, there_found}

@@ -1,5 +1,0 @@
-use Rattle.laws.proofs.ChaseLemmas.{chase_finds}
-use Rattle.laws.proofs.chases.chases_find.Goals as goal
-
-pub returns : goal.returns
-returns c = chase_finds
