@@ -1,4 +1,5 @@
 pub mod NumberLemmas
+pub mod LeafLemmas
 pub mod MeaningLemmas
 pub mod ReachedLemmas
 pub mod VisitLemmas

@@ -1,12 +1,15 @@
 //! The parcel of what some places reach.
 
-ghost use Rattle.std.specs.Prelude.{◌≡◌, IfOk, length, map};
+ghost use Rattle.std.specs.Prelude.{◌≡◌, ◌∷◌, [], IfOk, IfSome, length, map};
 ghost use Rattle.std.specs.Arc.{arc_value};
 ghost use Rattle.asp_model.specs.Parcel.{parcel_of};
-ghost use Rattle.coded_cells.specs.Cells.{all_coded};
+ghost use Rattle.coded_cells.specs.Cells.{all_coded, coded, moved_coded};
 ghost use Rattle.coded_cells.specs.Fits.{AllFitCode};
 ghost use Rattle.coded_cells.specs.Shapes.{parcel_shape, store_of};
 ghost use Rattle.deep_copy.specs.Copied.{copied_cell};
+ghost use Rattle.deep_copy.specs.Leaves.{IsLeaf, IsLoneLeaf};
+ghost use Rattle.deep_copy.specs.Moves.{move_of};
+ghost use Rattle.deep_copy.specs.declared.moves.Moves.TheVariants as moves;
 ghost use Rattle.laws.specs.Closed.{AreBelow, IsClosedParcel, IsClosedStore};
 
 use crate::copied::{code_is_sound, moved_cell, moved_places};
@@ -35,10 +38,73 @@ pub fn pack(
         IfOk result (λ p. fit store.now.cells → fit (all_coded p.cells.items)) }
 {
     code_is_sound(code);
+    match lone_leaf(store, roots) {
+        Some(cell) => {
+            let parcel = pack_leaf(alloc, code, cell)?;
+            Ok(parcel)
+        }
+        None => pack_visited(alloc, code, store, roots),
+    }
+}
+
+fn pack_visited(
+    alloc: Global,
+    code: &Arc<Code>,
+    store: &Store,
+    roots: &[Place],
+) -> Result<Parcel, AllocError>
+    requires closed { IsClosedStore (store_of (arc_value code.now) store.now.cells) }
+    requires within { AreBelow (length store.now.cells) roots.now }
+    ensures parcel { let s = store_of (arc_value code.now) store.now.cells in
+        IfOk result (λ p. parcel_shape p ≡ parcel_of s roots.now) }
+    ensures code { IfOk result (λ p. arc_value p.code ≡ arc_value code.now) }
+    ensures closed { IfOk result (λ p. IsClosedParcel (parcel_shape p)) }
+    ensures fits { let fit = AllFitCode (arc_value code.now) in
+        IfOk result (λ p. fit store.now.cells → fit (all_coded p.cells.items)) }
+{
+    code_is_sound(code);
     let order = visit_order(alloc, code, store, roots)?;
     let moves = Moves::ToNumber(&order);
     let cells = copied_cells(alloc, store, &moves, order.as_slice())?;
     let roots = moved_places(alloc, &moves, roots)?;
+    let code = Arc::try_clone(code)?;
+    Ok(Parcel { code, cells, roots })
+}
+
+// The cell of the one root, where it reaches no other: the deep copy is this cell alone.
+fn lone_leaf<'a>(store: &'a Store, roots: &[Place]) -> Option<&'a Cell>
+    requires within { AreBelow (length store.now.cells) roots.now }
+    ensures leaf { IfSome result (λ c. IsLoneLeaf store.now.cells roots.now (coded c.now)) }
+{
+    match roots {
+        [root] => leaf(store.cell(*root)),
+        _ => None,
+    }
+}
+
+fn leaf(cell: &Cell) -> Option<&Cell>
+    ensures same { IfSome result (λ c. coded c.now ≡ coded cell.now) }
+    ensures leaf { IfSome result (λ c. IsLeaf (coded c.now)) }
+{
+    match cell {
+        Cell::Number(_) => Some(cell),
+        Cell::Reference(_) => Some(cell),
+        Cell::Future(_) => Some(cell),
+        Cell::Object(_) => None,
+        Cell::Group(_) => None,
+    }
+}
+
+fn pack_leaf(alloc: Global, code: &Arc<Code>, cell: &Cell) -> Result<Parcel, AllocError>
+    ensures cells { let copy = moved_coded (move_of (moves.Up 0)) (coded cell.now) in
+        IfOk result (λ p. all_coded p.cells.items ≡ copy ∷ []) }
+    ensures roots { IfOk result (λ p. p.roots.items ≡ 0 ∷ []) }
+    ensures code { IfOk result (λ p. arc_value p.code ≡ arc_value code.now) }
+{
+    let mut cells = Vec::with_capacity(alloc, 1)?;
+    cells.push(moved_cell(alloc, &Moves::Up(0), cell)?)?;
+    let mut roots = Vec::with_capacity(alloc, 1)?;
+    roots.push(0)?;
     let code = Arc::try_clone(code)?;
     Ok(Parcel { code, cells, roots })
 }
