@@ -1,6 +1,6 @@
 -- Trees over places: where the first marked leaf stands.
-use Rattle.std.proofs.Common.{◌≡◌, ◌≢◌, ℕ, zero, suc, ◌+◌, ◌-◌, ◌*◌, ◌/◌, ◌%◌, ◌^◌, ◌<◌, ◌≤◌, ◌⊎◌, inl, inr, Bool, true, false, List, length, refl, sym, ap, ◌∙◌, subst, T, arith, eqb}
-use Rattle.std.specs.Prelude.{◌||◌, ◌&&◌, ◌==◌, Option, Some, None}
+use Rattle.std.proofs.Common.{◌≡◌, ◌≢◌, ℕ, zero, suc, ◌+◌, ◌-◌, ◌*◌, ◌/◌, ◌%◌, ◌^◌, ◌<◌, ◌≤◌, ◌⊎◌, inl, inr, Bool, true, false, List, length, refl, sym, ap, ◌∙◌, subst, T, arith, eqb, leb}
+use Rattle.std.specs.Prelude.{◌||◌, ◌&&◌, ◌==◌, Option, Some, None, slice_index_or}
 use Rattle.std.proofs.lemmas.Bool.Decides.{eqb_tells, leb_tells}
 use Rattle.std.proofs.lemmas.Bool.{eqb-true}
 use Rattle.std.proofs.lemmas.Nat.{pow_below, pow_pos, pow-add}
@@ -9,7 +9,7 @@ use Rattle.std.proofs.Math.Nat.{mul-le-mul_right, le-mul_of_pos_right}
 use Rattle.std.specs.Prelude.{replicate}
 use Rattle.std.proofs.lemmas.List.{length-replicate}
 use Rattle.marked_places.specs.declared.marks.Marks.{Marks}
-use Rattle.marked_places.specs.Marks.{AgreesAt, IsTree, node_at}
+use Rattle.marked_places.specs.Marks.{AgreesAt, IsTree, is_marked, node_at, room}
 use Rattle.marked_places.specs.Firsts.{IsFirstFrom}
 
 -- Powers
@@ -86,6 +86,20 @@ within_children i h k r e within =
 -- a node that is marked has a child that is
 pub right_marked : (xs : List Bool) (i : ℕ) → AgreesAt xs i → node_at xs i ≡ true → node_at xs (2 * i) ≡ false → node_at xs (2 * i + 1) ≡ true
 right_marked xs i agrees marked left = sym (ap (λ b. b || node_at xs (2 * i + 1)) left) ∙ sym agrees ∙ marked
+
+pub root_unmarked : (xs : List Bool) (b : Bool) → b ≡ slice_index_or xs 1 b → b ≡ false → node_at xs 1 ≡ false
+root_unmarked xs b read unmarked = sym (subst (λ d. d ≡ slice_index_or xs 1 d) unmarked read)
+
+-- where the root is not marked no place is
+pub none_marked : (m : Marks) (start : ℕ) → IsTree m → 0 < room m → node_at m.nodes.items 1 ≡ false → IsFirstFrom (is_marked m) start None
+none_marked m start tree some unmarked = λ n from. by n (leb_tells (room m) n)
+  where
+    size : room m ≡ 2 ^ m.height
+    size = tree.power some
+
+    by : (n : ℕ) → ((leb (room m) n ≡ true) × (room m ≤ n)) ⊎ ((leb (room m) n ≡ false) × (n < room m)) → is_marked m n ≡ false
+    by n (inl e) = get_or_past m.nodes.items (room m + n) false (omega (arith, tree.whole, e.1))
+    by n (inr e) = none_below m.nodes.items (room m) tree.nodes m.height 1 (omega arith) (omega (arith, size)) unmarked (room m + n) (omega (arith, size)) (omega (arith, size, e.1))
 
 -- Up to the parent
 

@@ -156,6 +156,10 @@ impl Marks {
         if start >= room {
             return None;
         }
+        // The root says whether any place is marked.
+        if !self.nodes[1] {
+            return None;
+        }
         if self.nodes[room + start] {
             return Some(start);
         }
