@@ -10,6 +10,3 @@ pub use edge::{ReadError, Sink, Source, WriteFailed};
 pub use memory_sink::MemorySink;
 pub use memory_source::MemorySource;
 pub use system::{FileSource, StdSink};
-
-#[cfg(test)]
-mod tests;

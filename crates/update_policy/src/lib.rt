@@ -10,6 +10,3 @@ pub use kinds::{BudgetedPolicy, ForwardPolicy, LazyPolicy, MessagePolicy};
 pub use plan::Plan;
 pub use policy::{PolicyBox, UpdatePolicy};
 pub use strategy::{Policies, Strategy};
-
-#[cfg(test)]
-mod tests;

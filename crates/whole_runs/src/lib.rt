@@ -1,6 +1,5 @@
 //! Whole runs of which no command shows what is tested: reads and writes that fail, policies that
-//! count how often they are asked, workers that race, printed programs, and replays under lists that
-//! no report has.
+//! count how often they are asked, workers that race, and replays under lists that no report has.
 #![tactic(auto)]
 
 #[cfg(test)]
@@ -9,8 +8,6 @@ mod commands;
 mod faults_of_the_outside;
 #[cfg(test)]
 mod policies_asked;
-#[cfg(test)]
-mod printing;
 #[cfg(test)]
 mod racing;
 #[cfg(test)]

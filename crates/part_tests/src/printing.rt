@@ -5,7 +5,8 @@ use asp_syntax::{SyntaxError, read_program};
 use end_drops::drop_program;
 use std::alloc::Global;
 
-fn printed(alloc: Global, text: &str) -> Result<String, SyntaxError> {
+/// The text of the program that is read from a text.
+pub fn printed(alloc: Global, text: &str) -> Result<String, SyntaxError> {
     let program = read_program(alloc, text.as_bytes())?;
     let text = print_program(alloc, &program);
     drop_program(program);

@@ -1,16 +1,9 @@
 //! Groups as texts: read, and printed.
 
-use asp_print::print_program;
+use crate::printing::printed;
 use asp_syntax::{SyntaxError, SyntaxFault, SyntaxKind, read_program};
 use end_drops::drop_program;
 use std::alloc::{AllocError, Global};
-
-fn printed(alloc: Global, text: &str) -> Result<String, SyntaxError> {
-    let program = read_program(alloc, text.as_bytes())?;
-    let text = print_program(alloc, &program);
-    drop_program(program);
-    Ok(text?)
-}
 
 // The first fault of a text.
 fn fault_in(alloc: Global, text: &str) -> Result<Option<SyntaxFault>, AllocError> {

@@ -1,13 +1,13 @@
 //! What the policies answer in turn, and which of them a strategy asks.
 
-use crate::{
-    BudgetedPolicy, ForwardPolicy, LazyPolicy, MessagePolicy, Policies, PolicyBox, Strategy,
-    UpdatePolicy,
-};
 use asp_model::{ActivityName, Choice, FutureName};
 use std::alloc::{AllocError, Global};
 use std::sync::Arc;
 use std::sync::atomic::{AtomicU64, Ordering};
+use update_policy::{
+    BudgetedPolicy, ForwardPolicy, LazyPolicy, MessagePolicy, Policies, PolicyBox, Strategy,
+    UpdatePolicy,
+};
 
 /// Counts how often it is asked.
 #[derive(Drop)]

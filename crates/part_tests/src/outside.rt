@@ -1,6 +1,8 @@
-//! What each call answers in turn, and what the system gives.
+//! What sources and sinks answer in turn, and what the system gives.
 
-use crate::{FileSource, MemorySink, MemorySource, ReadError, Sink, Source, StdSink, WriteFailed};
+use asp_edge::{
+    FileSource, MemorySink, MemorySource, ReadError, Sink, Source, StdSink, WriteFailed,
+};
 use asp_model::Word;
 use std::test::Fail;
 

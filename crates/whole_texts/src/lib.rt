@@ -1,5 +1,0 @@
-//! Whole texts, read and printed. Tests alone.
-#![tactic(auto)]
-
-#[cfg(test)]
-mod groups;
