@@ -2,7 +2,7 @@
 """Measures the built programs at two sizes each: time, peak memory, and the ratio of the times.
 
     bench/measure.py [PART ..]     with no PART all of them: reading runs replays cores growth bytes reports
-                           printing stores edges turns
+                           printing edges turns
 
 Nothing here is a test: figures depend on the machine, and only their ratios within one run mean
 something. The seconds are those of the processor, so that other work on the machine matters less;
@@ -21,13 +21,9 @@ from typing import NamedTuple
 ROOT = os.path.dirname(os.path.dirname(os.path.abspath(__file__)))
 PROGRAM = os.path.join(ROOT, "crates", "asp", "out", "asp")
 TIMING = os.path.join(ROOT, "crates", "timing", "out", "timing")
-EDGE_TIMING = os.path.join(ROOT, "crates", "edge_timing", "out", "edge_timing")
-TURN_TIMING = os.path.join(ROOT, "crates", "turn_timing", "out", "turn_timing")
 BUILD = """measure: build the programs first, at the top of the repository:
     rt ci, or (cd crates/asp && rt run -- data/one.asp)
-    (cd crates/timing && rt run -- pack grid 10)
-    (cd crates/edge_timing && rt run -- turns 10)
-    (cd crates/turn_timing && rt run -- call 2 100 1 1)"""
+    (cd crates/timing && rt run -- edges turns 10)"""
 MEBIBYTE = 1 << 20
 MOST = ["--budget", "10000000", "--workers", "1"]
 
@@ -322,43 +318,13 @@ def show_printing(folder):
         show(f"reading and printing {name}", ["print", small], ["print", large], program=TIMING)
 
 
-def show_part():
-    """Packing a part of ten cells, without the making of the store, which is measured by itself."""
-    def packing(size):
-        run = best(TIMING, ["part", str(size), "1000000"], 3)
-        empty = best(TIMING, ["part", str(size), "0"], 3)
-        return run.seconds - empty.seconds
-
-    small, large = packing(1_000), packing(1_000_000)
-    print(f"packing 10 cells 1,000,000 times: {small:.3f} s in a store of 1,000 cells, {large:.3f} s in one of "
-          f"1,000,000: {large / small:.2f} times (1 is wanted)", flush=True)
-
-
-def show_cells():
-    small, large = 1 << 20, 1 << 21
-    for kind in ("numbers", "objects", "futures"):
-        first, second = (once(TIMING, ["cells", kind, str(size)]) for size in (small, large))
-        print(f"{kind}: {(second.peak - first.peak) * 1024 / (large - small):.0f} bytes a cell", flush=True)
-
-
-def show_stores(_folder):
-    for shape in ("chain", "wide", "grid"):
-        words = [["pack", shape, str(size)] for size in (500_000, 1_000_000)]
-        show(f"packing and unpacking a {shape}", *words, turns=3, most=2.5, program=TIMING)
-    show_part()
-    for name, places in (("many futures", "many"), ("one future at many places", "one")):
-        words = [["futures", places, str(size)] for size in (100_000, 200_000)]
-        show(name, *words, turns=5, most=2.5, program=TIMING)
-    show_cells()
-
-
 def show_edges(_folder):
     """Edges that are entered, filled and delivered: one future to many, many to one, and to one that goes out."""
     small, large = 100_000, 200_000
     for shape in ("wide", "many", "turns"):
-        words = [[shape, str(size)] for size in (small, large)]
-        show(f"edges {shape}", *words, turns=3, most=2.5, program=EDGE_TIMING)
-        first, second = (once(EDGE_TIMING, of_size) for of_size in words)
+        words = [["edges", shape, str(size)] for size in (small, large)]
+        show(f"edges {shape}", *words, turns=3, most=2.5, program=TIMING)
+        first, second = (once(TIMING, of_size) for of_size in words)
         print(f"{shape}: {(second.peak - first.peak) * 1024 / (large - small):.0f} bytes an edge", flush=True)
 
 
@@ -366,7 +332,7 @@ def turns_of(threads, count, inside=0, outside=0, runs=5):
     """Runs of so many turns of each thread, by kind. The kinds alternate, so that all see the same machine."""
     words = [str(word) for word in (threads, count, inside, outside)]
     kinds = ("mutex", "hub", "call")
-    made = [[once(TURN_TIMING, [kind, *words]) for kind in kinds] for _ in range(runs)]
+    made = [[once(TIMING, ["turns", kind, *words]) for kind in kinds] for _ in range(runs)]
     return {kind: [turn[place] for turn in made] for place, kind in enumerate(kinds)}
 
 
@@ -389,11 +355,11 @@ def show_turns(_folder):
         print(f"a turn alone, {kind}: {least[kind] / count * 1e9:.1f} ns, {least[kind] / least['mutex']:.2f} times a "
               f"Mutex's {least['mutex'] / count * 1e9:.1f} (at most 2.5 is wanted)", flush=True)
     rounds = 20_000_000
-    spin = best(TURN_TIMING, ["spin", "1", str(rounds), "0", "0"], 5).seconds / rounds
+    spin = best(TIMING, ["turns", "spin", "1", str(rounds), "0", "0"], 5).seconds / rounds
     for threads in (2, 4):
         show_contended(threads, round(200e-9 / spin), round(1_800e-9 / spin))
     for kind, name in (("wait", "wait for the turn"), ("rest", "rest")):
-        run = once(TURN_TIMING, [kind, "4", "3000", "0", "0"])
+        run = once(TIMING, ["turns", kind, "4", "3000", "0", "0"])
         print(f"seats that {name} for {run.elapsed:.1f} s: {run.seconds:.3f} s of the processor "
               f"(less than 0.1 is wanted)", flush=True)
 
@@ -407,7 +373,6 @@ PARTS = {
     "bytes": show_bytes,
     "reports": show_reports,
     "printing": show_printing,
-    "stores": show_stores,
     "edges": show_edges,
     "turns": show_turns,
 }
@@ -417,7 +382,7 @@ def main():
     wanted = sys.argv[1:] or list(PARTS)
     if not set(wanted) <= set(PARTS):
         sys.exit(f"measure: the parts are {' '.join(PARTS)}")
-    if not all(os.access(program, os.X_OK) for program in (PROGRAM, TIMING, EDGE_TIMING, TURN_TIMING)):
+    if not all(os.access(program, os.X_OK) for program in (PROGRAM, TIMING)):
         sys.exit(BUILD)
     with tempfile.TemporaryDirectory() as path:
         for name in wanted:

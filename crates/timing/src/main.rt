@@ -1,32 +1,42 @@
-//! For the bench: what no command of `asp` shows of stores, parcels, futures and printed programs.
+//! For the bench: what no command of `asp` shows of printed programs, edges and turns.
 #![tactic(auto)]
 
-mod cells;
-mod futures;
-mod printed;
-mod shapes;
+ghost use Rattle.std.specs.Prelude.{◌<◌, ◌≤◌, IfOk};
+ghost use Rattle.asp_model.specs.declared.limits.TheConstants.{MOST_WORKERS};
 
-use crate::cells::{Kind, filled};
-use crate::futures::{many_futures, one_future};
+mod count;
+mod counting;
+mod edges;
+mod passing;
+mod printed;
+mod racing;
+mod shapes;
+mod sleeps;
+mod turns;
+
+use crate::passing::show_edges;
 use crate::printed::print_file;
-use crate::shapes::{Shape, pack_all, pack_part};
+use crate::racing::show_turns;
+use crate::turns::Turns;
 use anyhow::{Result, bail};
-use std::alloc::Global;
+use asp_model::MOST_WORKERS;
 use std::env;
 
-fn count(alloc: Global, task: &str, what: &str, number: u32) -> Result<usize> {
-    Ok(match (task, what) {
-        ("pack", "chain") => pack_all(alloc, Shape::Chain, number)?,
-        ("pack", "wide") => pack_all(alloc, Shape::Wide, number)?,
-        ("pack", "grid") => pack_all(alloc, Shape::Grid, number)?,
-        ("part", size) => pack_part(alloc, size.parse()?, number)?,
-        ("futures", "many") => many_futures(alloc, number)?,
-        ("futures", "one") => one_future(alloc, number)?,
-        ("cells", "numbers") => filled(alloc, Kind::Number, number)?.len(),
-        ("cells", "objects") => filled(alloc, Kind::Object, number)?.len(),
-        ("cells", "futures") => filled(alloc, Kind::Future, number)?.len(),
-        _ => bail!("there is no such task"),
-    })
+fn number(word: Option<String>) -> Result<u32> {
+    match word {
+        Some(text) => Ok(text.parse()?),
+        None => bail!("a number is wanted"),
+    }
+}
+
+fn threads(word: Option<String>) -> Result<u32>
+    ensures { IfOk result (λ n. (0 < n) × (n ≤ MOST_WORKERS)) }
+{
+    let threads = number(word)?;
+    if threads == 0 || threads > MOST_WORKERS {
+        bail!("1 to {MOST_WORKERS} threads are wanted");
+    }
+    Ok(threads)
 }
 
 fn main(rt: HostRuntime) -> Result<()> {
@@ -34,13 +44,19 @@ fn main(rt: HostRuntime) -> Result<()> {
     let (Some(task), Some(what)) = (words.next(), words.next()) else {
         bail!("a task and what it is done with are wanted");
     };
-    match words.next() {
-        Some(number) => {
-            let cells = count(rt.alloc(), &task, &what, number.parse()?)?;
-            println!(rt; "{cells}")?;
-            Ok(())
+    match task.as_str() {
+        "print" => print_file(&rt, &what),
+        "edges" => show_edges(&rt, &what, number(words.next())?),
+        "turns" => {
+            let threads = threads(words.next())?;
+            let turns = Turns {
+                times: number(words.next())?,
+                inside: number(words.next())?,
+                outside: number(words.next())?,
+                more: what.as_str() == "call",
+            };
+            show_turns(&rt, &what, threads, &turns)
         }
-        None if task.as_str() == "print" => print_file(&rt, &what),
-        None => bail!("a number is wanted"),
+        _ => bail!("there is no such task"),
     }
 }

@@ -4,6 +4,7 @@ use anyhow::{Result, bail};
 use asp_edge::{FileSource, Source};
 use asp_print::print_program;
 use asp_syntax::read_program;
+use end_drops::drop_program;
 
 /// The most bytes of a program.
 const MOST: usize = 1_048_576;
@@ -15,7 +16,7 @@ pub fn print_file(rt: &HostRuntime, name: &str) -> Result<()> {
         bail!("{name} holds no program");
     };
     let text = print_program(rt.alloc(), &program);
-    drop(program);
+    drop_program(program);
     let text = text?;
     println!(rt; "{text}")?;
     Ok(())

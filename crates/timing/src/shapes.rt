@@ -1,117 +1,164 @@
-//! Stores of some shapes, and what is packed of them.
+//! Ways that futures of main go: one to many, many to one, and to one that goes out and in.
 
-use crate::cells::object;
-use anyhow::{Result, ensure};
-use closed_stores::{FIELD, FIELDS, code, is_closed_store};
-use coded_cells::{Cell, Place};
-use deep_copy::{pack, unpack};
-use object_store::Store;
-use program_code::Code;
+ghost use Rattle.std.specs.Prelude.{◌≡◌, [], OnOk, length};
+
+use crate::edges::{begin, deliver, deliver_all, fill};
+use asp_model::{ActivityName, FutureName};
+use future_update::Holders;
 use std::alloc::{AllocError, Global};
-use std::sync::Arc;
+use update_policy::PolicyBox;
 
-/// How the cells of a store hang together. What leads to all of them stands last.
-#[derive(Clone, Copy)]
-pub enum Shape {
-    /// Objects that each lead to the next one.
-    Chain,
-    /// One object that leads to half of the cells, each of which leads to one of the others.
-    Wide,
-    /// Rows of two objects, which both lead to both cells of the row below.
-    Grid,
+fn future(alloc: Global, index: u32) -> Result<FutureName, AllocError> {
+    let by = ActivityName::main(alloc)?;
+    Ok(FutureName { by, index })
 }
 
-/// How many cells the part has that is packed again and again.
-const PART: Place = 10;
+// The future goes from main to an activity that main created, and once more.
+fn pass(
+    alloc: Global,
+    future: &FutureName,
+    to: u32,
+    holders: &mut Holders,
+    policy: &mut PolicyBox,
+) -> Result<(), AllocError>
+    ensures activities { holders.new.activities ≡ holders.old.activities }
+{
+    let to = future.by.created(alloc, to)?;
+    let first = holders.passed(future, &future.by, &to, policy);
+    let again = holders.passed(future, &future.by, &to, policy);
+    drop(to);
+    first?;
+    again
+}
 
-fn chain(alloc: Global, store: &mut Store, size: u32) -> Result<(), AllocError> {
-    let mut last = store.add(Cell::Number(0))?;
-    for _ in 1..size {
-        last = store.add(object(alloc, FIELD, vec![in alloc; last]?)?)?;
+// The same, of a future that begins.
+fn begin_and_pass(
+    alloc: Global,
+    future: &FutureName,
+    to: u32,
+    holders: &mut Holders,
+    policy: &mut PolicyBox,
+) -> Result<(), AllocError>
+    ensures activities { holders.new.activities ≡ holders.old.activities }
+{
+    begin(holders, future, &future.by)?;
+    pass(alloc, future, to, holders, policy)
+}
+
+fn pass_to_many(
+    alloc: Global,
+    future: &FutureName,
+    number: u32,
+    holders: &mut Holders,
+    policy: &mut PolicyBox,
+) -> Result<(), AllocError> {
+    for to in 0..number {
+        pass(alloc, future, to, holders, policy)?;
+    }
+    fill(holders, future);
+    Ok(())
+}
+
+/// One future goes to so many activities.
+pub fn wide(
+    alloc: Global,
+    number: u32,
+    holders: &mut Holders,
+    policy: &mut PolicyBox,
+) -> Result<(), AllocError> {
+    let future = future(alloc, 1)?;
+    let begun = begin(holders, &future, &future.by);
+    let answer = pass_to_many(alloc, &future, number, holders, policy);
+    drop(future);
+    begun?;
+    deliver_all(holders);
+    answer
+}
+
+// One more future of main goes to the same activity, and is filled.
+fn pass_one(
+    alloc: Global,
+    index: u32,
+    holders: &mut Holders,
+    policy: &mut PolicyBox,
+) -> Result<(), AllocError>
+    ensures activities { holders.new.activities ≡ holders.old.activities }
+{
+    let future = future(alloc, index)?;
+    let answer = begin_and_pass(alloc, &future, 1, holders, policy);
+    fill(holders, &future);
+    drop(future);
+    answer
+}
+
+fn pass_all(
+    alloc: Global,
+    number: u32,
+    holders: &mut Holders,
+    policy: &mut PolicyBox,
+) -> Result<(), AllocError>
+    ensures activities { holders.new.activities ≡ holders.old.activities }
+{
+    for index in 0..number {
+        pass_one(alloc, index, holders, policy)?;
     }
     Ok(())
 }
 
-fn wide(alloc: Global, store: &mut Store, size: u32) -> Result<(), AllocError> {
-    let mut parts = Vec::new(alloc);
-    for _ in 0..size / 2 {
-        let leaf = store.add(Cell::Number(0))?;
-        parts.push(store.add(object(alloc, FIELD, vec![in alloc; leaf]?)?)?)?;
-    }
-    store.add(object(alloc, FIELDS, parts)?)?;
+/// So many futures go to one activity.
+pub fn many(
+    alloc: Global,
+    number: u32,
+    holders: &mut Holders,
+    policy: &mut PolicyBox,
+) -> Result<(), AllocError> {
+    pass_all(alloc, number, holders, policy)?;
+    deliver_all(holders);
     Ok(())
 }
 
-fn grid(alloc: Global, store: &mut Store, size: u32) -> Result<(), AllocError> {
-    let mut left = store.add(Cell::Number(0))?;
-    let mut right = store.add(Cell::Number(1))?;
-    for _ in 1..size / 2 {
-        let next = store.add(object(alloc, FIELDS, vec![in alloc; left, right]?)?)?;
-        right = store.add(object(alloc, FIELDS, vec![in alloc; left, right]?)?)?;
-        left = next;
-    }
-    store.add(object(alloc, FIELDS, vec![in alloc; left, right]?)?)?;
+fn meet(alloc: Global, holders: &mut Holders) -> Result<(), AllocError>
+    requires new { holders.old.activities ≡ [] }
+    ensures met { OnOk result (length holders.new.activities ≡ 1) }
+{
+    let main = ActivityName::main(alloc)?;
+    let to = main.created(alloc, 1);
+    drop(main);
+    let to = to?;
+    let answer = holders.met(&to);
+    drop(to);
+    answer?;
     Ok(())
 }
 
-fn shaped(alloc: Global, shape: Shape, size: u32) -> Result<Store, AllocError> {
-    let mut store = Store::new(alloc);
-    let made = match shape {
-        Shape::Chain => chain(alloc, &mut store, size),
-        Shape::Wide => wide(alloc, &mut store, size),
-        Shape::Grid => grid(alloc, &mut store, size),
-    };
-    made?;
-    Ok(store)
-}
-
-// How many fields the objects of a shape have, where some have more than one.
-fn field_count(shape: Shape, size: u32) -> u32 {
-    match shape {
-        Shape::Wide => size / 2,
-        Shape::Chain | Shape::Grid => 2,
+/// So many futures go to one activity, which is out and in again before each delivery.
+pub fn turns(
+    alloc: Global,
+    number: u32,
+    holders: &mut Holders,
+    policy: &mut PolicyBox,
+) -> Result<(), AllocError>
+    requires new { holders.old.activities ≡ [] }
+{
+    meet(alloc, holders)?;
+    pass_all(alloc, number, holders, policy)?;
+    for _ in 0..number {
+        turn(holders);
     }
+    Ok(())
 }
 
-// Packs all of a store, unpacks it elsewhere, and tells the cells there.
-fn copied(alloc: Global, code: &Arc<Code>, store: &Store) -> Result<usize> {
-    ensure!(is_closed_store(code, store), "a place leads nowhere");
-    let root = store.len().saturating_sub(1);
-    ensure!(root < store.len(), "there is no cell to pack");
-    let parcel = pack(alloc, code, store, &[root])?;
-    let mut other = Store::new(alloc);
-    let unpacked = unpack(alloc, &mut other, &parcel);
-    drop(parcel);
-    unpacked?;
-    Ok(other.len())
-}
-
-/// Packs all of a store of about so many cells, unpacks it elsewhere, and tells the cells there.
-pub fn pack_all(alloc: Global, shape: Shape, size: u32) -> Result<usize> {
-    let code = code(alloc, field_count(shape, size))?;
-    let store = shaped(alloc, shape, size)?;
-    let cells = copied(alloc, &code, &store);
-    drop(store);
-    cells
-}
-
-// Packs a part of a chain so many times, and tells how many cells were packed.
-fn packed(alloc: Global, code: &Arc<Code>, store: &Store, times: u32) -> Result<usize> {
-    ensure!(is_closed_store(code, store), "a place leads nowhere");
-    ensure!(PART <= store.len(), "there are not so many cells");
-    let mut cells: usize = 0;
-    for _ in 0..times {
-        let parcel = pack(alloc, code, store, &[PART - 1])?;
-        cells = cells.saturating_add(parcel.cells.len());
+// The one activity that was met is out and in again, and a value is delivered to it.
+fn turn(holders: &mut Holders)
+    requires met { length holders.old.activities ≡ 1 }
+    ensures met { length holders.new.activities ≡ 1 }
+{
+    holders.lent(0);
+    if let Some(place) = holders.next_owed_in() {
+        deliver(holders, place);
     }
-    Ok(cells)
-}
-
-/// Packs a part of a chain so many times, and tells how many cells were packed.
-pub fn pack_part(alloc: Global, size: u32, times: u32) -> Result<usize> {
-    let code = code(alloc, 1)?;
-    let store = shaped(alloc, Shape::Chain, size)?;
-    let cells = packed(alloc, &code, &store, times);
-    drop(store);
-    cells
+    holders.returned(0);
+    if let Some(place) = holders.next_owed_in() {
+        deliver(holders, place);
+    }
 }

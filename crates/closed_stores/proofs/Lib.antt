@@ -1,3 +1,0 @@
-pub mod SampleLemmas
-pub mod CellsLemmas
-pub mod PlacesLemmas
