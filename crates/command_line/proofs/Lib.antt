@@ -1,3 +1,4 @@
 pub mod Faultless
 pub mod PlainWords
 pub mod PairLemmas
+mod ReservedLemmas

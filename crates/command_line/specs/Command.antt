@@ -3,7 +3,7 @@ use Rattle.std.specs.Prelude.{List, [], ◌∷◌, Option, Some, Bool, true, fal
 use Rattle.std.specs.Option.{option_map_or}
 use Rattle.std.specs.Str.{bytes_eq}
 use Rattle.clap.specs.Walk.{Row, Rule, Text, first_of}
-use Rattle.clap.specs.Simple.{App, matches_of, new_app, new_rule, on_top}
+use Rattle.clap.specs.Simple.{App, matches_of, new_app, new_rule, on_top, with_rule}
 use Rattle.clap.specs.Takes.{takes}
 use Rattle.clap.specs.declared.builder.action.ArgAction.TheVariants.{SetTrue}
 
@@ -26,6 +26,12 @@ bare_command = on_top (λ s. record s {
   disable_help_flag = true;
   disable_version_flag = true;
 }) (new_app (codes "asp"))
+
+-- behind the others, in this order
+abbrev pub with_more : App → App
+with_more a =
+    with_rule (with_rule (with_rule (with_rule (with_rule a (option_rule (codes "make"))) (option_rule (codes "state")))
+    (option_rule (codes "workers"))) (option_rule (codes "strategy"))) (option_rule (codes "update"))
 
 abbrev pub command : App
 command = on_top (λ s. record s {

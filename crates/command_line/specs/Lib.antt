@@ -6,3 +6,4 @@ pub mod Task
 pub mod Lines
 pub mod PlainWords
 pub mod Shapes
+pub mod Reserved

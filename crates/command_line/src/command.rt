@@ -3,7 +3,7 @@
 
 ghost use Rattle.std.specs.Prelude.{◌≡◌, IfOk, IfErr, map, option_map, string_bytes, false, true};
 ghost use Rattle.clap.specs.Words.{app_of, first_of, found_of, rows_of, rule_of, with_rule};
-ghost use Rattle.command_line.specs.Command.{bare_command, check_rule, command as the_command, file_rule, given_in, is_taken, option_rule, rows_given, says_true, texts_in, texts_of};
+ghost use Rattle.command_line.specs.Command.{bare_command, check_rule, command as the_command, file_rule, given_in, is_taken, option_rule, rows_given, says_true, texts_in, texts_of, with_more};
 ghost use Rattle.command_line.specs.Shapes.{given_shape, texts_shape};
 ghost use Rattle.command_line.specs.declared.error.WordsError.TheVariants as errors;
 
@@ -66,9 +66,17 @@ fn matches<'a>(alloc: Global, words: &'a [String]) -> Result<ArgMatches<'a>, Wor
 fn command<'a>(alloc: Global) -> Result<Command<'a>, AllocError>
     ensures { IfOk result (λ c. app_of c ≡ the_command) }
 {
-    let command = with_file_and_check(alloc)?;
+    let command = with_file(alloc, bare(alloc))?;
+    let command = with_check(alloc, command)?;
     let command = with_option(alloc, command, "budget")?;
     let command = with_option(alloc, command, "replay")?;
+    with_more_options(alloc, command)
+}
+
+// The options behind `--replay`.
+fn with_more_options<'a>(alloc: Global, command: Command<'a>) -> Result<Command<'a>, AllocError>
+    ensures { IfOk result (λ c. app_of c ≡ with_more (app_of command.entry)) }
+{
     let command = with_option(alloc, command, "make")?;
     let command = with_option(alloc, command, "state")?;
     let command = with_option(alloc, command, "workers")?;
@@ -76,17 +84,26 @@ fn command<'a>(alloc: Global) -> Result<Command<'a>, AllocError>
     with_option(alloc, command, "update")
 }
 
-// The program's name, FILE and `--check`.
-fn with_file_and_check<'a>(alloc: Global) -> Result<Command<'a>, AllocError>
-    ensures { IfOk result
-        (λ c. app_of c ≡ with_rule (with_rule bare_command file_rule) check_rule) }
+// The program's name.
+fn bare<'a>(alloc: Global) -> Command<'a>
+    ensures { app_of result ≡ bare_command }
 {
-    let command = Command::new(alloc, "asp")
+    Command::new(alloc, "asp")
         .no_binary_name(true)
         .disable_help_flag(true)
-        .disable_version_flag(true);
-    let check = option(alloc, "check").action(ArgAction::SetTrue);
-    command.arg(Arg::new(alloc, "file"))?.arg(check)
+        .disable_version_flag(true)
+}
+
+fn with_file<'a>(alloc: Global, command: Command<'a>) -> Result<Command<'a>, AllocError>
+    ensures { IfOk result (λ c. app_of c ≡ with_rule (app_of command.entry) file_rule) }
+{
+    command.arg(Arg::new(alloc, "file"))
+}
+
+fn with_check<'a>(alloc: Global, command: Command<'a>) -> Result<Command<'a>, AllocError>
+    ensures { IfOk result (λ c. app_of c ≡ with_rule (app_of command.entry) check_rule) }
+{
+    command.arg(option(alloc, "check").action(ArgAction::SetTrue))
 }
 
 fn with_option<'a>(

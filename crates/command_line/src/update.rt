@@ -21,6 +21,12 @@ ghost use Rattle.command_line.specs.Settings.{
   strategy_in as strategy_within,
   update_of,
 };
+ghost use Rattle.command_line.specs.Reserved.{
+  words_of_activities,
+  words_of_choices,
+  words_of_groups,
+  words_of_values,
+};
 ghost use Rattle.command_line.specs.Shapes.{text_behind};
 ghost use Rattle.command_line.specs.declared.error.WordsError.TheVariants as errors;
 
@@ -182,23 +188,34 @@ fn are_inner(bytes: &[u8]) -> bool
     bytes.iter().all(|b| is_inner(*b))
 }
 
+// The words are looked at in four parts: a chain of sixteen takes long to prove.
+#[tactic(auto, using(crate::proofs::ReservedLemmas::reserved_in_parts))]
 fn is_reserved(text: &str) -> bool
     ensures { result ≡ has_text text.now reserved_words }
 {
-    text == "let"
-        || text == "in"
-        || text == "if"
-        || text == "else"
-        || text == "repeat"
-        || text == "active"
-        || text == "serve"
-        || text == "clone"
-        || text == "print"
-        || text == "echo"
-        || text == "group"
-        || text == "scatter"
-        || text == "size"
-        || text == "member"
-        || text == "waitall"
-        || text == "pending"
+    is_of_choices(text) || is_of_activities(text) || is_of_values(text) || is_of_groups(text)
+}
+
+fn is_of_choices(text: &str) -> bool
+    ensures { result ≡ has_text text.now words_of_choices }
+{
+    text == "let" || text == "in" || text == "if" || text == "else"
+}
+
+fn is_of_activities(text: &str) -> bool
+    ensures { result ≡ has_text text.now words_of_activities }
+{
+    text == "repeat" || text == "active" || text == "serve" || text == "clone"
+}
+
+fn is_of_values(text: &str) -> bool
+    ensures { result ≡ has_text text.now words_of_values }
+{
+    text == "print" || text == "echo" || text == "group" || text == "scatter"
+}
+
+fn is_of_groups(text: &str) -> bool
+    ensures { result ≡ has_text text.now words_of_groups }
+{
+    text == "size" || text == "member" || text == "waitall" || text == "pending"
 }
