@@ -75,7 +75,7 @@ pub fn push_use(uses: &mut Vec<usize>, leaf: &Leaf) -> Result<(), AllocError>
 
 /// What the node of a term does, where it binds no name and makes no object. Another one, for which
 /// this is never called, is answered as want of memory.
-#[tactic(auto, using(crate::proofs::TermTrees::trees_are))]
+#[tactic(auto, using(program_code::proofs::TermTrees::trees_are))]
 pub fn kind_of(alloc: Global, term: &Term) -> Result<Kind, AllocError>
     ensures head { IfOk result (λ k. kind_head k ≡ head_at (tree_of term.now)) }
     ensures plain { IfOk result (λ k. is_plain k ≡ true) }

@@ -15,7 +15,7 @@ use program_code::Kind;
 use std::alloc::{AllocError, Global};
 
 /// A node over these terms.
-#[tactic(auto, using(crate::proofs::TermTrees::rows_are))]
+#[tactic(auto, using(program_code::proofs::TermTrees::rows_are))]
 pub fn built(alloc: Global, kind: &Kind, terms: Vec<Term>) -> Result<Term, AllocError>
     ensures term { IfOk result
         (λ r. tree_of r ≡ node (kind_head kind.now) (trees (map tree_of terms.items))) }
@@ -44,7 +44,7 @@ pub fn built(alloc: Global, kind: &Kind, terms: Vec<Term>) -> Result<Term, Alloc
     }
 }
 
-#[tactic(auto, using(crate::proofs::TermTrees::leaves_are))]
+#[tactic(auto, using(program_code::proofs::TermTrees::leaves_are))]
 fn over_none(alloc: Global, kind: &Kind) -> Result<Term, AllocError>
     ensures term { IfOk result (λ r. tree_of r ≡ node (kind_head kind.now) none) }
 {
@@ -62,7 +62,7 @@ fn over_none(alloc: Global, kind: &Kind) -> Result<Term, AllocError>
     }
 }
 
-#[tactic(auto, using(crate::proofs::TermTrees::ones_are))]
+#[tactic(auto, using(program_code::proofs::TermTrees::ones_are))]
 fn over_one(alloc: Global, kind: &Kind, term: Term) -> Result<Term, AllocError>
     ensures term { IfOk result
         (λ r. tree_of r ≡ node (kind_head kind.now) (more (tree_of term) none)) }
@@ -86,7 +86,7 @@ fn over_one(alloc: Global, kind: &Kind, term: Term) -> Result<Term, AllocError>
     }
 }
 
-#[tactic(auto, using(crate::proofs::TermTrees::twos_are))]
+#[tactic(auto, using(program_code::proofs::TermTrees::twos_are))]
 fn over_two(
     alloc: Global,
     kind: &Kind,
@@ -115,7 +115,7 @@ fn over_two(
     }
 }
 
-#[tactic(auto, using(crate::proofs::TermTrees::others_are))]
+#[tactic(auto, using(program_code::proofs::TermTrees::others_are))]
 fn over_first(
     alloc: Global,
     kind: &Kind,
@@ -140,7 +140,7 @@ fn over_first(
 }
 
 /// An object with these labels over the terms of its fields, and these methods.
-#[tactic(auto, using(crate::proofs::TermTrees::trees_are))]
+#[tactic(auto, using(program_code::proofs::TermTrees::trees_are))]
 pub fn object(
     alloc: Global,
     labels: &[Label],

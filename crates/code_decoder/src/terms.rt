@@ -91,7 +91,7 @@ fn locations(alloc: Global, places: &[usize]) -> Result<Vec<Term>, AllocError>
 }
 
 /// A place as a term.
-#[tactic(auto, using(crate::proofs::TermTrees::trees_are))]
+#[tactic(auto, using(program_code::proofs::TermTrees::trees_are))]
 pub fn location(alloc: Global, place: usize) -> Term
     ensures location { tree_of result ≡ loc place }
 {
@@ -100,7 +100,7 @@ pub fn location(alloc: Global, place: usize) -> Term
 
 /// A call of these places, the receiver first. A call without a receiver is answered as want of
 /// memory.
-#[tactic(auto, using(crate::proofs::TermTrees::trees_are))]
+#[tactic(auto, using(program_code::proofs::TermTrees::trees_are))]
 pub fn call_of(alloc: Global, label: &Label, places: &[usize]) -> Result<Term, AllocError>
     ensures call { IfOk result
         (λ r. tree_of r ≡ node (Call label.now.text) (trees (map loc places.now))) }
@@ -226,7 +226,7 @@ fn with_itself<'a>(
     sequence(alloc, terms)
 }
 
-#[tactic(auto, using(crate::proofs::TermTrees::trees_are))]
+#[tactic(auto, using(program_code::proofs::TermTrees::trees_are))]
 fn sequence(alloc: Global, terms: Vec<Term>) -> Result<Term, AllocError>
     ensures term { IfOk result (λ r. tree_of r ≡ node Steps (trees (map tree_of terms.items))) }
 {

@@ -118,7 +118,7 @@ fn locations(alloc: Global, places: &[usize]) -> Result<Vec<Term>, AllocError>
 }
 
 /// A group of calls, of which the first have their results.
-#[tactic(auto, using(code_decoder::proofs::TermTrees::trees_are))]
+#[tactic(auto, using(program_code::proofs::TermTrees::trees_are))]
 pub fn dealt_term(
     alloc: Global,
     code: &Code,
@@ -140,7 +140,7 @@ pub fn dealt_term(
 }
 
 /// The same, with a hole in the place of the next call.
-#[tactic(auto, using(code_decoder::proofs::TermTrees::trees_are))]
+#[tactic(auto, using(program_code::proofs::TermTrees::trees_are))]
 pub fn calling_term(
     alloc: Global,
     code: &Code,
