@@ -39,8 +39,8 @@ pub fn node_in<'a>(code: &'a Code, number: usize) -> Option<&'a Node>
 }
 
 impl State {
-    /// A redex whose terms are all places.
-    #[inline(always)]
+    /// A redex whose terms are all places, of a kind that is rarer.
+    #[inline(never)]
     fn simple_advance(
         &mut self,
         alloc: Global,
@@ -58,15 +58,11 @@ impl State {
             IfOk result (IsAdvance code.now self.new t vs s ls go) }
     {
         match kind {
-            Kind::Number(n) => self.decided_advance(alloc, Decision::Number(*n), count, go),
             Kind::Echo(text) => self.echo_advance(alloc, text, count, go),
             Kind::Group => self.group_advance(alloc, count, count, go),
             Kind::Active(_) => self.active_advance(alloc, count, go),
             Kind::Serve(_) => Ok(Advance::Serves),
-            Kind::Get(_) => self.value_advance(alloc, code, kind, count, go),
-            Kind::Put(_) => self.value_advance(alloc, code, kind, count, go),
             Kind::Clone => self.value_advance(alloc, code, kind, count, go),
-            Kind::Operate(_) => self.value_advance(alloc, code, kind, count, go),
             Kind::Print => self.value_advance(alloc, code, kind, count, go),
             Kind::Size => self.value_advance(alloc, code, kind, count, go),
             Kind::Member => self.value_advance(alloc, code, kind, count, go),
@@ -75,7 +71,8 @@ impl State {
         }
     }
 
-    /// The redex of a node whose terms that are reduced in place are done.
+    /// The redex of a node whose terms that are reduced in place are done. What a call that is not
+    /// inlined answers is kept apart, so that the answer itself needs no memory.
     #[inline(always)]
     fn reduce(
         &mut self,
@@ -96,26 +93,26 @@ impl State {
             return Err(AllocError);
         };
         match &node.kind {
-            Kind::Make(class) => self.make_advance(alloc, class, number, count, go),
+            Kind::Make(class) => Ok(self.make_advance(alloc, class, number, count, go)?),
             Kind::Call(label) => self.call_advance(alloc, code, label, number, count, go),
-            Kind::Scatter(_) => self.scatter_advance(alloc, number, count, go),
-            Kind::Let(_) => self.let_advance(node, count, go),
+            Kind::Scatter(_) => Ok(self.scatter_advance(alloc, number, count, go)?),
+            Kind::Let(_) => Ok(self.let_advance(node, count, go)?),
             Kind::Steps => self.steps_advance(node, number, from, count, go),
             Kind::If => self.if_advance(alloc, code, node, count, go),
             Kind::Repeat => self.repeat_advance(number, from, count, go),
-            Kind::Number(_)
-            | Kind::Get(_)
-            | Kind::Put(_)
-            | Kind::Clone
+            Kind::Number(n) => self.decided_advance(alloc, Decision::Number(*n), count, go),
+            Kind::Get(_) => self.value_advance(alloc, code, &node.kind, count, go),
+            Kind::Put(_) => self.value_advance(alloc, code, &node.kind, count, go),
+            Kind::Operate(_) => self.value_advance(alloc, code, &node.kind, count, go),
+            Kind::Clone
             | Kind::Active(_)
             | Kind::Serve(_)
-            | Kind::Operate(_)
             | Kind::Print
             | Kind::Echo(_)
             | Kind::Group
             | Kind::Size
             | Kind::Member
-            | Kind::WaitAll => self.simple_advance(alloc, code, &node.kind, count, go),
+            | Kind::WaitAll => Ok(self.simple_advance(alloc, code, &node.kind, count, go)?),
         }
     }
 
@@ -130,14 +127,16 @@ impl State {
         match self.machine.focus {
             Focus::Node { number, from, done } => self.reduce(alloc, code, number, from, done, go),
             Focus::Place(place) => Ok(Advance::Rests(place)),
-            Focus::Asked(count) => self.asked_advance(alloc, code, count, go),
+            Focus::Asked(count) => Ok(self.asked_advance(alloc, code, count, go)?),
             Focus::Calls {
                 spread: _spread,
                 number: _number,
                 members,
                 done,
-            } => self.group_advance(alloc, members, done, go),
-            Focus::Called { number, count } => self.called_advance(alloc, code, number, count, go),
+            } => Ok(self.group_advance(alloc, members, done, go)?),
+            Focus::Called { number, count } => Ok(self.called_advance(
+                alloc, code, number, count, go,
+            )?),
         }
     }
 }

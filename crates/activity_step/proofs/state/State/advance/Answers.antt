@@ -41,8 +41,8 @@ returns-in-Place c = record {
       };
 }
 
-pub returns-in-Asked : goal.returns-in-Asked
-returns-in-Asked c = record {
+pub returns-in_ok-asked_advance-in-Asked : goal.returns-in_ok-asked_advance-in-Asked
+returns-in_ok-asked_advance-in-Asked c = record {
   advance = λ t vs s ls h.
       let k = c.args.code.now in
       let a = c.args.self.now in
@@ -50,11 +50,11 @@ returns-in-Asked c = record {
       let settled : Settled k t vs new = settles k c.nodes.result.now (view_of a.machine) new t vs c.nodes.ensures.nodes h.machine c.in_ok-settle.ensures.settled in
       let x : State = record { machine = c.settle.new.self; store = a.store; lines = a.lines } in
       let here : Stands k x t vs s ls = record { machine = settled.standing; store = h.store; lines = h.lines } in
-      c.asked_advance.ensures.advance t vs s ls here c.in-Asked.is;
+      c.in_ok-asked_advance-in-Asked.ensures.advance t vs s ls here c.in-Asked.is;
 }
 
-pub returns-in-Calls : goal.returns-in-Calls
-returns-in-Calls c = record {
+pub returns-in_ok-group_advance-in-Calls : goal.returns-in_ok-group_advance-in-Calls
+returns-in_ok-group_advance-in-Calls c = record {
   advance = λ t vs s ls h.
       let k = c.args.code.now in
       let a = c.args.self.now in
@@ -64,12 +64,12 @@ returns-in-Calls c = record {
       let here : Stands k x t vs s ls = record { machine = settled.standing; store = h.store; lines = h.lines } in
       let full = subst (IsSettledAt k new.frames) c.in-Calls.is settled.settled in
       let at : AtCalls k new c.in-Calls._spread c.in-Calls._number c.in-Calls.members c.in-Calls.done t vs = at_calls k new c.in-Calls._spread c.in-Calls._number c.in-Calls.members c.in-Calls.done t vs settled.standing c.in-Calls.is in
-      c.group_advance.ensures.advance k t vs s ls here
+      c.in_ok-group_advance-in-Calls.ensures.advance k t vs s ls here
       (results_redex k new c.in-Calls.members c.in-Calls.done t vs (results k new c.in-Calls._spread c.in-Calls._number c.in-Calls.members c.in-Calls.done t vs at full));
 }
 
-pub returns-in-Called : goal.returns-in-Called
-returns-in-Called c = record {
+pub returns-in_ok-called_advance-in-Called : goal.returns-in_ok-called_advance-in-Called
+returns-in_ok-called_advance-in-Called c = record {
   advance = λ t vs s ls h.
       let k = c.args.code.now in
       let a = c.args.self.now in
@@ -77,5 +77,5 @@ returns-in-Called c = record {
       let settled : Settled k t vs new = settles k c.nodes.result.now (view_of a.machine) new t vs c.nodes.ensures.nodes h.machine c.in_ok-settle.ensures.settled in
       let x : State = record { machine = c.settle.new.self; store = a.store; lines = a.lines } in
       let here : Stands k x t vs s ls = record { machine = settled.standing; store = h.store; lines = h.lines } in
-      c.called_advance.ensures.advance t vs s ls here c.in-Called.is;
+      c.in_ok-called_advance-in-Called.ensures.advance t vs s ls here c.in-Called.is;
 }

@@ -1,6 +1,17 @@
-use Rattle.std.proofs.Common.{◌≡◌, true, Some, length, inl, inr, sym, ap, ◌∙◌}
+use Rattle.std.proofs.Common.{rules, ◌≡◌, ℕ, List, [], true, Some, length, inl, inr, sym, ap, subst, ◌∙◌, to_z, of_z, w64}
+use Rattle.asp_model.specs.Term.{Number}
+use Rattle.asp_model.specs.Store as store
+use Rattle.asp_model.specs.Contraction.{allots}
+use Rattle.program_code.specs.declared.code.Kind.{Kind}
+use Rattle.program_code.specs.declared.code.Kind.TheVariants as kind
+use Rattle.program_code.specs.Tables.{kind_head}
+use Rattle.code_laws.specs.Nodes.{operand_count}
+use Rattle.coded_cells.specs.Shapes.{store_of}
+use Rattle.activity_rows.specs.Decisions.{value_redex}
 use Rattle.program_code.specs.declared.code.Node.{Node}
-use Rattle.machine_frames.specs.Rows.{AtNode, is_simple}
+use Rattle.machine_frames.specs.Rows.{AtNode, IsAtRedex, is_simple}
+use Rattle.machine_frames.specs.Stacks.{last}
+use Rattle.machine_frames.proofs.StackLemmas.{last_none}
 use Rattle.machine_frames.specs.Standing.{View, view_of}
 use Rattle.machine_frames.proofs.RowLemmas.{value_row}
 use Rattle.machine_frames.proofs.SpreadLemmas.{at_call}
@@ -9,14 +20,14 @@ use Rattle.program_code.specs.declared.code.Class.{Class}
 use Rattle.activity_step.proofs.TermLemmas.{simple_size}
 use Rattle.activity_step.proofs.state.State.reduce.Goals as goal
 
-pub returns-in-Make : goal.returns-in-Make
-returns-in-Make c = record {
+pub returns-in_ok-make_advance-in-Make : goal.returns-in_ok-make_advance-in-Make
+returns-in_ok-make_advance-in-Make c = record {
   advance = λ t vs s ls h at full.
       let k = c.args.code.now in
       let v : View = view_of c.args.self.now.machine in
       let n : Node = c.in-Some.node.now in
       let here : AtNode k v c.args.number c.args.from c.args.count n = record { focus = at; full = full; node = c.in-Some.ensures.piece } in
-      c.make_advance.ensures.advance k c.args.from n t vs s ls h here c.in-Some.ensures.class (ap class_of c.in-Make.is ∙ ap (λ (x : Class). Some x) (sym c.deref.ensures));
+      c.in_ok-make_advance-in-Make.ensures.advance k c.args.from n t vs s ls h here c.in-Some.ensures.class (ap class_of c.in-Make.is ∙ ap (λ (x : Class). Some x) (sym c.deref.ensures));
 }
 
 pub returns-in-Call : goal.returns-in-Call
@@ -29,24 +40,24 @@ returns-in-Call c = record {
       c.call_advance.ensures.advance t vs s ls h (at_call k v c.args.number c.args.from c.args.count n c.in-Call.label t vs h.machine here c.in-Call.is);
 }
 
-pub returns-in-Scatter : goal.returns-in-Scatter
-returns-in-Scatter c = record {
+pub returns-in_ok-scatter_advance-in-Scatter : goal.returns-in_ok-scatter_advance-in-Scatter
+returns-in_ok-scatter_advance-in-Scatter c = record {
   advance = λ t vs s ls h at full.
       let k = c.args.code.now in
       let v : View = view_of c.args.self.now.machine in
       let n : Node = c.in-Some.node.now in
       let here : AtNode k v c.args.number c.args.from c.args.count n = record { focus = at; full = full; node = c.in-Some.ensures.piece } in
-      c.scatter_advance.ensures.advance k c.args.from n c.in-Scatter.field-0 t vs s ls h here c.in-Scatter.is;
+      c.in_ok-scatter_advance-in-Scatter.ensures.advance k c.args.from n c.in-Scatter.field-0 t vs s ls h here c.in-Scatter.is;
 }
 
-pub returns-in-Let : goal.returns-in-Let
-returns-in-Let c = record {
+pub returns-in_ok-let_advance-in-Let : goal.returns-in_ok-let_advance-in-Let
+returns-in_ok-let_advance-in-Let c = record {
   advance = λ t vs s ls h at full.
       let k = c.args.code.now in
       let v : View = view_of c.args.self.now.machine in
       let n : Node = c.in-Some.node.now in
       let here : AtNode k v c.args.number c.args.from c.args.count n = record { focus = at; full = full; node = c.in-Some.ensures.piece } in
-      c.let_advance.ensures.advance k c.args.number c.args.from c.in-Let.field-0 t vs s ls h here c.in-Let.is;
+      c.in_ok-let_advance-in-Let.ensures.advance k c.args.number c.args.from c.in-Let.field-0 t vs s ls h here c.in-Let.is;
 }
 
 pub returns-in-Steps : goal.returns-in-Steps
@@ -86,21 +97,69 @@ returns-in-Number c = record {
       let v : View = view_of c.args.self.now.machine in
       let n : Node = c.in-Some.node.now in
       let here : AtNode k v c.args.number c.args.from c.args.count n = record { focus = at; full = full; node = c.in-Some.ensures.piece } in
-      let simple : is_simple n.kind ≡ true = elim c.in-Number.is [
-        | inl x ↦ ap is_simple x.1
+      let a = c.args.self.now in
+      let q = a.store.cells in
+      let ops : List ℕ = last c.args.count a.machine.operands.items in
+      let is = c.in-Number.is in
+      let simple : is_simple n.kind ≡ true = ap is_simple is in
+      let none_done : c.args.count ≡ 0 = simple_size k v c.args.number c.args.from c.args.count n here simple ∙ ap (λ (x : Kind). operand_count x (length n.children.items)) is in
+      let empty : ops ≡ [] = ap (λ (m : ℕ). last m a.machine.operands.items) none_done ∙ last_none a.machine.operands.items in
+      let alone : IsAtRedex k v t vs c.args.count (value_redex (kind_head (kind.Number c.in-Number.n)) []) = subst (λ (x : List ℕ). IsAtRedex k v t vs c.args.count (value_redex (kind_head (kind.Number c.in-Number.n)) x)) empty (subst (λ (x : Kind). IsAtRedex k v t vs c.args.count (value_redex (kind_head x) ops)) is (value_row k v c.args.number c.args.from c.args.count n t vs h.machine at full c.in-Some.ensures.piece simple)) in
+      let same : to_z w64 (of_z w64 c.in-Number.n) ≡ c.in-Number.n = search rules in
+      c.decided_advance.ensures.advance k t vs s ls (value_redex (Number c.in-Number.n) []) h alone (ap (λ z. allots (store_of k q) (store.Number z) []) (sym same));
+}
+
+pub returns-in-Get : goal.returns-in-Get
+returns-in-Get c = record {
+  advance = λ t vs s ls h at full.
+      let k = c.args.code.now in
+      let v : View = view_of c.args.self.now.machine in
+      let n : Node = c.in-Some.node.now in
+      let here : AtNode k v c.args.number c.args.from c.args.count n = record { focus = at; full = full; node = c.in-Some.ensures.piece } in
+      let simple : is_simple n.kind ≡ true = ap is_simple c.in-Get.is in
+      c.value_advance.ensures.advance t vs s ls h (value_row k v c.args.number c.args.from c.args.count n t vs h.machine at full c.in-Some.ensures.piece simple);
+}
+
+pub returns-in-Put : goal.returns-in-Put
+returns-in-Put c = record {
+  advance = λ t vs s ls h at full.
+      let k = c.args.code.now in
+      let v : View = view_of c.args.self.now.machine in
+      let n : Node = c.in-Some.node.now in
+      let here : AtNode k v c.args.number c.args.from c.args.count n = record { focus = at; full = full; node = c.in-Some.ensures.piece } in
+      let simple : is_simple n.kind ≡ true = ap is_simple c.in-Put.is in
+      c.value_advance-in-Put.ensures.advance t vs s ls h (value_row k v c.args.number c.args.from c.args.count n t vs h.machine at full c.in-Some.ensures.piece simple);
+}
+
+pub returns-in-Operate : goal.returns-in-Operate
+returns-in-Operate c = record {
+  advance = λ t vs s ls h at full.
+      let k = c.args.code.now in
+      let v : View = view_of c.args.self.now.machine in
+      let n : Node = c.in-Some.node.now in
+      let here : AtNode k v c.args.number c.args.from c.args.count n = record { focus = at; full = full; node = c.in-Some.ensures.piece } in
+      let simple : is_simple n.kind ≡ true = ap is_simple c.in-Operate.is in
+      c.value_advance-in-Operate.ensures.advance t vs s ls h (value_row k v c.args.number c.args.from c.args.count n t vs h.machine at full c.in-Some.ensures.piece simple);
+}
+
+pub returns-in_ok-simple_advance-in-Clone : goal.returns-in_ok-simple_advance-in-Clone
+returns-in_ok-simple_advance-in-Clone c = record {
+  advance = λ t vs s ls h at full.
+      let k = c.args.code.now in
+      let v : View = view_of c.args.self.now.machine in
+      let n : Node = c.in-Some.node.now in
+      let here : AtNode k v c.args.number c.args.from c.args.count n = record { focus = at; full = full; node = c.in-Some.ensures.piece } in
+      let simple : is_simple n.kind ≡ true = elim c.in-Clone.is [
+        | inl x ↦ ap is_simple x
         | inr (inl x) ↦ ap is_simple x.1
         | inr (inr (inl x)) ↦ ap is_simple x.1
         | inr (inr (inr (inl x))) ↦ ap is_simple x
         | inr (inr (inr (inr (inl x)))) ↦ ap is_simple x.1
-        | inr (inr (inr (inr (inr (inl x))))) ↦ ap is_simple x.1
-        | inr (inr (inr (inr (inr (inr (inl x)))))) ↦ ap is_simple x.1
+        | inr (inr (inr (inr (inr (inl x))))) ↦ ap is_simple x
+        | inr (inr (inr (inr (inr (inr (inl x)))))) ↦ ap is_simple x
         | inr (inr (inr (inr (inr (inr (inr (inl x))))))) ↦ ap is_simple x
-        | inr (inr (inr (inr (inr (inr (inr (inr (inl x)))))))) ↦ ap is_simple x.1
-        | inr (inr (inr (inr (inr (inr (inr (inr (inr (inl x))))))))) ↦ ap is_simple x
-        | inr (inr (inr (inr (inr (inr (inr (inr (inr (inr (inl x)))))))))) ↦ ap is_simple x
-        | inr (inr (inr (inr (inr (inr (inr (inr (inr (inr (inr (inl x))))))))))) ↦ ap is_simple x
-        | inr (inr (inr (inr (inr (inr (inr (inr (inr (inr (inr (inr x))))))))))) ↦ ap is_simple x
+        | inr (inr (inr (inr (inr (inr (inr (inr x))))))) ↦ ap is_simple x
       ] in
-      c.simple_advance.ensures.advance (length n.children.items) t vs s ls c.in-Some.ensures.sound h
+      c.in_ok-simple_advance-in-Clone.ensures.advance (length n.children.items) t vs s ls c.in-Some.ensures.sound h
       (value_row k v c.args.number c.args.from c.args.count n t vs h.machine at full c.in-Some.ensures.piece simple) (simple_size k v c.args.number c.args.from c.args.count n here simple);
 }

@@ -1,10 +1,6 @@
 use Rattle.std.proofs.Common.{rules, ◌≡◌, ℕ, Bool, true, false, List, [], ◌∷◌, Option, Some, refl, sym, ap, subst, ◌∙◌, to_z, of_z, w64}
-use Rattle.asp_model.specs.Term.{Number}
-use Rattle.asp_model.specs.Store as store
-use Rattle.asp_model.specs.Contraction.{allots}
 use Rattle.program_code.specs.declared.code.Kind.{Kind}
 use Rattle.program_code.specs.Tables.{kind_head, text_of}
-use Rattle.coded_cells.specs.Shapes.{store_of}
 use Rattle.activity_rows.specs.Decisions.{value_redex}
 use Rattle.machine_frames.specs.Rows.{IsAtRedex}
 use Rattle.machine_frames.specs.Stacks.{last}
@@ -16,22 +12,6 @@ use Rattle.program_code.specs.declared.code.Kind.TheVariants as kind
 use Rattle.code_laws.specs.Nodes.{operand_count}
 use Rattle.std.specs.Option.{option_map}
 use Rattle.activity_step.proofs.state.State.simple_advance.Goals as goal
-
-pub returns-in-Number : goal.returns-in-Number
-returns-in-Number c = record {
-  advance = λ size t vs s ls sound h at whole.
-      let k = c.args.code.now in
-      let a = c.args.self.now in
-      let v : View = view_of a.machine in
-      let q = a.store.cells in
-      let ops : List ℕ = last c.args.count a.machine.operands.items in
-      let is = c.in-Number.is in
-      let none_done : c.args.count ≡ 0 = whole ∙ ap (λ (x : Kind). operand_count x size) is in
-      let empty : ops ≡ [] = ap (λ (n : ℕ). last n a.machine.operands.items) none_done ∙ last_none a.machine.operands.items in
-      let here : IsAtRedex k v t vs c.args.count (value_redex (kind_head (kind.Number c.in-Number.n)) []) = subst (λ (x : List ℕ). IsAtRedex k v t vs c.args.count (value_redex (kind_head (kind.Number c.in-Number.n)) x)) empty (subst (λ (x : Kind). IsAtRedex k v t vs c.args.count (value_redex (kind_head x) ops)) is at) in
-      let same : to_z w64 (of_z w64 c.in-Number.n) ≡ c.in-Number.n = search rules in
-      c.decided_advance.ensures.advance k t vs s ls (value_redex (Number c.in-Number.n) []) h here (ap (λ z. allots (store_of k q) (store.Number z) []) (sym same));
-}
 
 pub returns-in-Echo : goal.returns-in-Echo
 returns-in-Echo c = record {
@@ -87,17 +67,8 @@ returns-in-Active c = record {
       c.active_advance.ensures.advance k (option_map text_of c.in-Active.field-0) t vs s ls h here;
 }
 
-pub returns-in-Get : goal.returns-in-Get
-returns-in-Get c = record { advance = λ size t vs s ls sound h at whole. c.value_advance.ensures.advance t vs s ls h at }
-
-pub returns-in-Put : goal.returns-in-Put
-returns-in-Put c = record { advance = λ size t vs s ls sound h at whole. c.value_advance-in-Put.ensures.advance t vs s ls h at }
-
 pub returns-in-Clone : goal.returns-in-Clone
-returns-in-Clone c = record { advance = λ size t vs s ls sound h at whole. c.value_advance-in-Clone.ensures.advance t vs s ls h at }
-
-pub returns-in-Operate : goal.returns-in-Operate
-returns-in-Operate c = record { advance = λ size t vs s ls sound h at whole. c.value_advance-in-Operate.ensures.advance t vs s ls h at }
+returns-in-Clone c = record { advance = λ size t vs s ls sound h at whole. c.value_advance.ensures.advance t vs s ls h at }
 
 pub returns-in-Print : goal.returns-in-Print
 returns-in-Print c = record { advance = λ size t vs s ls sound h at whole. c.value_advance-in-Print.ensures.advance t vs s ls h at }
