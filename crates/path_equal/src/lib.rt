@@ -15,6 +15,7 @@ mod views;
 
 pub use labels::{PathLabel, Root};
 pub use lines::state_lines;
+pub use names::{push_future, push_name};
 pub use reading::{Found, read_path};
 pub use state::State;
 pub use views::{state_at, view};

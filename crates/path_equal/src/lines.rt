@@ -64,10 +64,22 @@ fn all_lines(alloc: Global, state: &State, depth: u32) -> Result<Vec<Word>, Allo
     ensures lines { IfOk result (λ v. v.items ≡ (state_seen state.now depth).lines) }
 {
     let mut walk = begun(alloc, state, depth)?;
+    let shown = show_all(alloc, state, &mut walk);
+    let lines = walk.lines;
+    shown?;
+    Ok(lines)
+}
+
+// Shows all that is due.
+fn show_all<'a>(alloc: Global, state: &State<'a>, walk: &mut Walk<'a>) -> Result<(), AllocError>
+    requires walk { IsWalk state.now walk.old }
+    ensures lines { let whole = shown_after state.now walk.old walk.old.due.items in
+        OnOk result (walk.new.lines.items ≡ whole.lines) }
+{
     while let Some(due) = walk.due.pop() {
-        show(alloc, state, &mut walk, due)?;
+        show(alloc, state, walk, due)?;
     }
-    Ok(walk.lines)
+    Ok(())
 }
 
 fn begun<'a>(alloc: Global, state: &State<'a>, depth: u32) -> Result<Walk<'a>, AllocError>
@@ -113,7 +125,7 @@ fn show<'a>(
 {
     let sight = look_at(state, walk.entered.at(due.spot));
     if !sight.seen.is_compound() {
-        return show_plain(alloc, state, walk, due, sight.seen);
+        return show_plain(alloc, state, walk, &due, sight.seen);
     }
     match walk.paths.get(&due.spot) {
         Some(first) => {
@@ -130,14 +142,14 @@ fn show_plain<'a>(
     alloc: Global,
     state: &State<'a>,
     walk: &mut Walk<'a>,
-    due: Due,
+    due: &Due,
     seen: Seen<'a>,
 ) -> Result<(), AllocError>
     requires walk { IsWalk state.now walk.old }
-    requires read { IsReadAt state.now walk.old due seen }
+    requires read { IsReadAt state.now walk.old due.now seen }
     requires plain { is_compound (seen_shape seen) ≡ false }
     ensures walk { OnOk result (IsWalk state.now walk.new) }
-    ensures shown { OnOk result (Shows state.now due walk.old walk.new) }
+    ensures shown { OnOk result (Shows state.now due.now walk.old walk.new) }
 {
     let line = line(alloc, state.futures, &due.path, seen)?;
     walk.lines.push(line)?;

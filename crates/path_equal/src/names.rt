@@ -9,7 +9,8 @@ ghost use Rattle.path_equal.specs.Texts.{AddsText, dotted};
 use asp_model::{ActivityName, FutureName};
 use std::alloc::AllocError;
 
-/// The numbers of a name, with dots between them.
+/// Adds the numbers of a name to the end of a text, with dots between them. Where memory runs out,
+/// a part of them may stand there.
 pub fn push_name(text: &mut String, name: &ActivityName) -> Result<(), AllocError>
     ensures name { OnOk result (AddsText text.old text.new (name_text name.now)) }
 {

@@ -1,3 +1,2 @@
-pub mod PieceLemmas
 pub mod EndLemmas
 pub mod SummaryLemmas

@@ -2,10 +2,9 @@
 #![tactic(auto)]
 
 mod lines;
-mod names;
 mod report;
 mod summary;
 
-pub use names::push_name;
+pub use path_equal::push_name;
 pub use report::render;
 pub use summary::summarize;

@@ -3,10 +3,11 @@
 ghost use Rattle.std.specs.Prelude.{◌≡◌, string_bytes, IfOk, OnOk};
 ghost use Rattle.asp_model.specs.Report.{fault_text as text_of_fault, status_text, verdict_line as line_of_verdict, senders_line as line_of_senders, output_line as line_of_output};
 ghost use Rattle.asp_model.specs.Shapes.{fault_shape, line_shape, status_shape, verdict_shape};
-ghost use Rattle.run_report.specs.Pieces.{Adds, activity_text};
+ghost use Rattle.path_equal.specs.Texts.{AddsText};
+ghost use Rattle.run_report.specs.Pieces.{activity_text};
 
-use crate::names::{push_future, push_name};
 use asp_model::{ActivityName, Fault, Line, Status, Verdict};
+use path_equal::{push_future, push_name};
 use std::alloc::{AllocError, Global};
 
 /// How the run ended.
@@ -64,7 +65,7 @@ pub fn output_line(alloc: Global, line: &Line) -> Result<String, AllocError>
 
 // What an activity does at the end.
 fn push_status(text: &mut String, status: &Status) -> Result<(), AllocError>
-    ensures { OnOk result (Adds text.old text.new (status_text (status_shape status.now))) }
+    ensures { OnOk result (AddsText text.old text.new (status_text (status_shape status.now))) }
 {
     match status {
         Status::Done => text.push_str("done"),

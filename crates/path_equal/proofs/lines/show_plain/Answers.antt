@@ -14,7 +14,7 @@ pub returns-clause-shown : goal.returns-clause-shown
 returns-clause-shown c =
     let s = c.args.state.now in
     let old = c.args.walk.now in
-    let due = c.args.due in
+    let due = c.args.due.now in
     let p = place_of old.entered due.spot in
     let here = found_seen s p c.args.seen c.requires.read in
     let what = what_text (found (side_in s) p) in

@@ -1,9 +1,9 @@
 use Rattle.std.proofs.Common.{◌-◌, ◌<◌, length, subst, arith}
 use Rattle.path_equal.specs.declared.below.Due.{Due}
 use Rattle.state_spots.specs.Spots.{IsSpot, size_of}
-use Rattle.path_equal.specs.Walks.{AreSpots, state_seen}
+use Rattle.path_equal.specs.Walks.{AreSpots, shown_after}
 use Rattle.path_equal.proofs.WalkLemmas.{all_front, all_last, still_more}
-use Rattle.path_equal.proofs.lines.all_lines.Goals as goal
+use Rattle.path_equal.proofs.lines.show_all.Goals as goal
 
 pub show-requires-clause-walk : goal.show-requires-clause-walk
 show-requires-clause-walk c =
@@ -23,7 +23,7 @@ show-requires-clause-spot c =
 
 pub loop-due-smaller : goal.loop-due-smaller
 loop-due-smaller c =
-    let whole = state_seen c.args.state.now c.args.depth in
+    let whole = shown_after c.args.state.now c.args.walk.now c.args.walk.now.due.items in
     let more = still_more c.args.state.now c.loop-due.walk c.pop.new.self.items c.in-Some.due whole c.in-Some.ensures.items c.loop-due.invariant.shown in
     let fewer : length whole.lines - length c.show.new.walk.lines.items < length whole.lines - length c.loop-due.walk.lines.items = omega (arith, more, c.in_ok-show.ensures.shown.line) in
     fewer
