@@ -3,15 +3,15 @@
 ghost use Rattle.std.specs.Prelude.{◌<◌};
 ghost use Rattle.asp_model.specs.declared.limits.TheConstants.{MOST_SEATS};
 
-use crate::crew::{Work, race};
-use crate::tasks::Tasks;
-use crate::turns::{make_tasks, take_task};
+use crate::hub::tasks::Tasks;
+use crate::hub::turns::{make_tasks, take_task};
 use std::alloc::{AllocError, Global};
 use std::sync::Wait;
 use std::test::Fail;
 use std::thread::Threads;
 use std::time::Clock;
 use turn_hub::{Hub, Seat};
+use turn_race::{Work, race};
 
 const TURNS: u64 = 20_000;
 

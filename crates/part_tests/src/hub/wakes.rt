@@ -1,13 +1,13 @@
 //! Who sleeps is woken: each test ends only if that is so.
 
-use crate::crew::{Work, race};
-use crate::tasks::Tasks;
-use crate::turns::{make_tasks, take_task, try_task};
+use crate::hub::tasks::Tasks;
+use crate::hub::turns::{make_tasks, take_task, try_task};
 use std::sync::Wait;
 use std::test::Fail;
 use std::thread;
 use std::time::{Clock, Duration};
 use turn_hub::{Hub, Seat};
+use turn_race::{Work, race};
 
 // Seat 1 lets the others fall asleep before it gives.
 fn a_while<C: Clock>(clock: &C) {

@@ -2,7 +2,7 @@
 
 ghost use Rattle.turn_race.specs.Ready.{IsReady};
 
-use crate::tasks::Tasks;
+use crate::hub::tasks::Tasks;
 use std::sync::Wait;
 use turn_hub::{Hub, Seat};
 

@@ -1,6 +1,6 @@
 //! The seats that a hub has.
 
-use crate::tasks::Tasks;
+use crate::hub::tasks::Tasks;
 use std::test::Fail;
 use turn_hub::{Full, Hub};
 
