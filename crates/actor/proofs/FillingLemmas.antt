@@ -81,7 +81,7 @@ cells_longer : (s : Store) (n : ℕ) (cs : List CellShape) → length s ≤ leng
 cells_longer s n [] = omega arith
 cells_longer s n (c ∷ cs) = omega (arith, length-append (with_cell s n c) cs, length_written s n c)
 
-unpacked_longer : (s : Store) (n : ℕ) (p : ParcelShape) → length s ≤ length (unpack_at s n p)
+pub unpacked_longer : (s : Store) (n : ℕ) (p : ParcelShape) → length s ≤ length (unpack_at s n p)
 unpacked_longer s n p = cells_longer s n (map (moved_cell (place_at (length s) n)) p.cells)
 
 -- the first of these places have the value: the actor stands over that store

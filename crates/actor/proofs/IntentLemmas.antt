@@ -124,7 +124,7 @@ asking y a cs r (advance.Rests p) e h is = absurd cc
 
 module _ (x : Actor) (y : Activity) (a : model.Activity) (rs : List RequestShape) (n : Name) (cs : List Context) (r : Redex) (h : Stands x a rs) (code : step.code_of y ≡ code_of x) (e : split a.term ≡ Splits cs r) where
   abbrev Done : Contraction → Type 0
-  Done c = IsDoneBy (contracts rs n a cs a.store c) rs (record x { activity = y }) given.Nothing
+  Done c = IsDoneBy (contracts rs n a cs a.store c) rs (record x { activity = y; clear = 0 }) given.Nothing
 
   became : (next : model.Activity) (ds : List Context) (q : Redex) (t : Tree) (s : Store) (ls : List contraction.LineShape) → StandsFor y next → split a.term ≡ Splits ds q → contract a.store q ≡ Becomes t s ls
       → next ≡ record a { term = terms.plug ds t; store = s; lines = a.lines ++ ls; reductions = suc a.reductions } → Done (contract a.store r)

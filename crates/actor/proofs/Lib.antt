@@ -10,3 +10,4 @@ pub mod HeldLemmas
 pub mod StanceLemmas
 pub mod PassingLemmas
 pub mod FillingLemmas
+pub mod ClearLemmas

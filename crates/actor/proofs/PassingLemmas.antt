@@ -16,12 +16,15 @@ use Rattle.activity_step.specs.Activities.{StandsFor}
 use Rattle.activity_step.specs.Standings.{IsAt}
 use Rattle.coded_cells.specs.Shapes.{store_of}
 use Rattle.object_store.specs.View.{StoreView}
-use Rattle.operand_reads.specs.Passed.{ArePassed, members_passed}
+use Rattle.operand_reads.specs.declared.strict.Strict.{Strict}
+use Rattle.operand_reads.specs.declared.strict.Strict.TheVariants as strict
+use Rattle.operand_reads.specs.Passed.{ArePassed}
 use Rattle.operand_reads.specs.Strict.{strict_in}
 use Rattle.operand_reads.proofs.PassedLemmas.{members_first}
 use Rattle.program_code.specs.declared.code.Node.{Node}
 use Rattle.actor.specs.declared.actor.Actor.{Actor}
 use Rattle.actor.specs.Actors.{IsClosedFor, code_of}
+use Rattle.actor.specs.Clear.{AreClearAt, HasClear}
 use Rattle.actor.specs.Passing.{HasPassed, IsPassedFor}
 use Rattle.actor.proofs.IntentLemmas.{same_redex}
 
@@ -31,32 +34,52 @@ waiting i = value_redex WaitAll (i ∷ [])
 other_head : (h : Head) (r : Redex) (i : ℕ) → waiting i ≡ r → r.head ≡ h → WaitAll ≡ h
 other_head h r i e is = ap (λ (q : Redex). q.head) e ∙ is
 
-module _ (chases : FutureShape → Chase) (s : Store) (k : ℕ) where
-  waits : (i : ℕ) (x : Told) → IsRedex (waiting i) x → ArePassed chases s (strict_in x) k → members_passed chases s (cell s i) k
-  waits i (redex.WaitAll j) is h = let places : i ∷ [] ≡ j ∷ [] = ap (λ (q : Redex). q.places) is in let same : j ≡ i = cc in subst (λ (m : ℕ). members_passed chases s (cell s m) k) same h
-  waits i redex.Goes is h = let none : i ∷ [] ≡ [] = is.operands in absurd cc
-  waits i (redex.If j) is h = let e : WaitAll ≡ term.If = ap (λ (q : Redex). q.head) is.2 in absurd cc
-  waits i (redex.Get j l) is h = let e : WaitAll ≡ term.Get l.now.text = ap (λ (q : Redex). q.head) is in absurd cc
-  waits i (redex.Put j l m) is h = let e : WaitAll ≡ term.Put l.now.text = ap (λ (q : Redex). q.head) is in absurd cc
-  waits i (redex.Call j l ks) is h = let e : WaitAll ≡ term.Call l.now.text = ap (λ (q : Redex). q.head) is in absurd cc
-  waits i (redex.Clone j) is h = let e : WaitAll ≡ term.Clone = ap (λ (q : Redex). q.head) is in absurd cc
-  waits i (redex.Active j l) is h = let e : WaitAll ≡ term.Active _ = ap (λ (q : Redex). q.head) is in absurd cc
-  waits i (redex.Serve ls) is h = let e : WaitAll ≡ term.Serve _ = ap (λ (q : Redex). q.head) is in absurd cc
-  waits i (redex.Operate sign j m) is h = let e : WaitAll ≡ term.Operate _ = ap (λ (q : Redex). q.head) is in absurd cc
-  waits i (redex.Print j) is h = let e : WaitAll ≡ term.Print = ap (λ (q : Redex). q.head) is in absurd cc
-  waits i (redex.Scatter j l m) is h = let e : WaitAll ≡ term.Scatter l.now.text = ap (λ (q : Redex). q.head) is in absurd cc
-  waits i (redex.Size j) is h = let e : WaitAll ≡ term.Size = ap (λ (q : Redex). q.head) is in absurd cc
-  waits i (redex.Member j m) is h = let e : WaitAll ≡ term.Member = ap (λ (q : Redex). q.head) is in absurd cc
+-- its strict operands are the members of a group
+waits : (i : ℕ) (x : Told) → IsRedex (waiting i) x → strict_in x ≡ strict.Members i
+waits i (redex.WaitAll j) is = let places : i ∷ [] ≡ j ∷ [] = ap (λ (q : Redex). q.places) is in let same : j ≡ i = cc in ap (λ (m : ℕ). strict.Members m) same
+waits i redex.Goes is = let none : i ∷ [] ≡ [] = is.operands in absurd cc
+waits i (redex.If j) is = let e : WaitAll ≡ term.If = ap (λ (q : Redex). q.head) is.2 in absurd cc
+waits i (redex.Get j l) is = let e : WaitAll ≡ term.Get l.now.text = ap (λ (q : Redex). q.head) is in absurd cc
+waits i (redex.Put j l m) is = let e : WaitAll ≡ term.Put l.now.text = ap (λ (q : Redex). q.head) is in absurd cc
+waits i (redex.Call j l ks) is = let e : WaitAll ≡ term.Call l.now.text = ap (λ (q : Redex). q.head) is in absurd cc
+waits i (redex.Clone j) is = let e : WaitAll ≡ term.Clone = ap (λ (q : Redex). q.head) is in absurd cc
+waits i (redex.Active j l) is = let e : WaitAll ≡ term.Active _ = ap (λ (q : Redex). q.head) is in absurd cc
+waits i (redex.Serve ls) is = let e : WaitAll ≡ term.Serve _ = ap (λ (q : Redex). q.head) is in absurd cc
+waits i (redex.Operate sign j m) is = let e : WaitAll ≡ term.Operate _ = ap (λ (q : Redex). q.head) is in absurd cc
+waits i (redex.Print j) is = let e : WaitAll ≡ term.Print = ap (λ (q : Redex). q.head) is in absurd cc
+waits i (redex.Scatter j l m) is = let e : WaitAll ≡ term.Scatter l.now.text = ap (λ (q : Redex). q.head) is in absurd cc
+waits i (redex.Size j) is = let e : WaitAll ≡ term.Size = ap (λ (q : Redex). q.head) is in absurd cc
+waits i (redex.Member j m) is = let e : WaitAll ≡ term.Member = ap (λ (q : Redex). q.head) is in absurd cc
 
 module _ (chases : FutureShape → Chase) (a : model.Activity) (k : ℕ) where
   told_has : (x : Told) → IsAt a x → ArePassed chases a.store (strict_in x) k → HasPassed chases a k
   told_has x at h = λ cs i e.
       let same : at.redex ≡ waiting i = same_redex at.contexts cs at.redex (waiting i) (sym at.splits ∙ e) in
-      waits chases a.store k i x (subst (λ (r : Redex). IsRedex r x) same at.is) h
+      subst (λ (z : Strict). ArePassed chases a.store z k) (waits i x (subst (λ (r : Redex). IsRedex r x) same at.is)) h
 
   has_told : (x : Told) → IsAt a x → HasPassed chases a k → ArePassed chases a.store (strict_in x) k
   has_told (redex.WaitAll i) at h = h at.contexts i (at.splits ∙ ap (λ (r : Redex). Splits at.contexts r) at.is)
   has_told x at h = tt
+
+module _ (a : model.Activity) (k : ℕ) where
+  pub told_clear : (x : Told) → IsAt a x → AreClearAt a.store (strict_in x) k → HasClear a k
+  told_clear x at h = λ cs i e.
+      let same : at.redex ≡ waiting i = same_redex at.contexts cs at.redex (waiting i) (sym at.splits ∙ e) in
+      subst (λ (z : Strict). AreClearAt a.store z k) (waits i x (subst (λ (r : Redex). IsRedex r x) same at.is)) h
+
+  pub clear_told : (x : Told) → IsAt a x → HasClear a k → AreClearAt a.store (strict_in x) k
+  clear_told (redex.WaitAll i) at h = h at.contexts i (at.splits ∙ ap (λ (r : Redex). Splits at.contexts r) at.is)
+  clear_told x at h = tt
+
+-- how many have come, once the others were looked at
+pub looked_on : (x : Actor) (a : model.Activity) (told : Told) → IsAt a told → StandsFor x.activity a → (t : StoreView) → t ≡ x.activity.state.store → (z : Strict) → z ≡ strict_in told → (from n : ℕ)
+    → ((m : List Node) → AreClearAt (store_of m t.cells) z from → AreClearAt (store_of m t.cells) z n) → HasClear a from → HasClear a n
+looked_on x a told at for t store z e from n on h =
+    let m : List Node = code_of x in
+    let own : store_of m t.cells ≡ a.store = ap (λ (v : StoreView). store_of m v.cells) store ∙ for.state.store in
+    let before : AreClearAt a.store z from = subst (λ (y : Strict). AreClearAt a.store y from) (sym e) (clear_told a from told at h) in
+    let now : AreClearAt a.store z n = subst (λ (s : Store). AreClearAt s z n) own (on m (subst (λ (s : Store). AreClearAt s z from) (sym own) before)) in
+    told_clear a n told at (subst (λ (y : Strict). AreClearAt a.store y n) e now)
 
 -- at a place nothing is waited for
 pub none_passed : (chases : FutureShape → Chase) (a : model.Activity) (p k : ℕ) → split a.term ≡ terms.Stands p → HasPassed chases a k

@@ -19,6 +19,6 @@ some_of None e = absurd cc
 some_of (Some v) e = (v, refl)
 
 pub service_done : (x : Actor) (y : Activity) (a : model.Activity) (rs : List RequestShape) (p : ℕ) (g : Given) (v : ServiceShape) → Stands x a rs → StandsFor y (going_on v a) → step.code_of y ≡ code_of x → newest a.services ≡ Some v
-    → IsGiven (record { own = going_on v a; sent = None; made = None; filled = filling a.present (parcel_of a.store (p ∷ [])) }) g → IsDoneBy (ends_service a p (newest a.services)) rs (record x { activity = y }) g
+    → IsGiven (record { own = going_on v a; sent = None; made = None; filled = filling a.present (parcel_of a.store (p ∷ [])) }) g → IsDoneBy (ends_service a p (newest a.services)) rs (record x { activity = y; clear = 0 }) g
 service_done x y a rs p g v h for code e gives =
-    subst (λ (o : Option ServiceShape). IsDoneBy (ends_service a p o) rs (record x { activity = y }) g) (sym e) (stands_with x y a (going_on v a) rs h for code refl refl refl, gives)
+    subst (λ (o : Option ServiceShape). IsDoneBy (ends_service a p o) rs (record x { activity = y; clear = 0 }) g) (sym e) (stands_with x y a (going_on v a) rs h for code refl refl refl, gives)

@@ -38,6 +38,7 @@ use Rattle.actor.specs.declared.outlook.Outlook.{Outlook}
 use Rattle.actor.specs.declared.outlook.Outlook.TheVariants as outlook
 use Rattle.actor.specs.Actors.{code_of}
 use Rattle.actor.specs.Asking.{asked_in, sent_to}
+use Rattle.actor.specs.Clear.{AreClearAt}
 use Rattle.actor.specs.Outlook.{IsOutlook}
 use Rattle.actor.specs.Stances.{IsHeld, StanceShape, Goes, Needs, Rests, asks_others, free_stance, held_places, held_stance, place_stance, stance_by, stance_of}
 use Rattle.actor.proofs.HeldLemmas.{held_are, redex_lacks, redex_reads}
@@ -249,10 +250,11 @@ stance_free chases rs n a cs r e none k cells own x is o h =
     ∙ sym (at_free chases rs n a cs r e none)
 
 -- The first operand that is a future, over the activity's own store
-pub own_held : (x : Actor) (a : model.Activity) → StandsFor x.activity a → (t : StoreView) → t ≡ x.activity.state.store → (told : Told) (r : Redex) → IsRedex r told → (z : Strict) → z ≡ strict_in told → (o : Option Held)
-    → ((k : List Node) → IsHeld (store_of k t.cells) (held_places (store_of k t.cells) z) o) → IsHeld a.store (strict_operands r.head r.places ++ strict_members a.store r.head r.places) o
-own_held x a for t store told r is z e o h =
+pub own_held : (x : Actor) (a : model.Activity) → StandsFor x.activity a → (t : StoreView) → t ≡ x.activity.state.store → (told : Told) (r : Redex) → IsRedex r told → (z : Strict) → z ≡ strict_in told → (o : Option Held) (n : ℕ) → AreClearAt a.store (strict_in told) n
+    → ((k : List Node) → AreClearAt (store_of k t.cells) z n → IsHeld (store_of k t.cells) (held_places (store_of k t.cells) z) o) → IsHeld a.store (strict_operands r.head r.places ++ strict_members a.store r.head r.places) o
+own_held x a for t store told r is z e o n clear h =
     let k : List Node = code_of x in
     let own : store_of k t.cells ≡ a.store = ap (λ (v : StoreView). store_of k v.cells) store ∙ for.state.store in
+    let here : AreClearAt (store_of k t.cells) z n = subst (λ (s : Store). AreClearAt s z n) (sym own) (subst (λ (y : Strict). AreClearAt a.store y n) (sym e) clear) in
     subst (λ (ns : List ℕ). IsHeld a.store ns o) (ap (held_places a.store) e ∙ held_are a.store told r is)
-    (subst (λ (s : Store). IsHeld s (held_places s z) o) own (h k))
+    (subst (λ (s : Store). IsHeld s (held_places s z) o) own (h k here))

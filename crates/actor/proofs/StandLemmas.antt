@@ -18,6 +18,8 @@ use Rattle.activity_step.specs.Activities.{StandsFor}
 use Rattle.activity_step.specs.Standings as step
 use Rattle.actor.specs.declared.actor.Actor.{Actor}
 use Rattle.actor.specs.Actors.{IsClosedFor, IsQueue, Stands, code_of}
+use Rattle.actor.specs.Clear.{HasClear}
+use Rattle.actor.proofs.ClearLemmas.{first_clear}
 use Rattle.actor.proofs.MatchLemmas.{Entries, numbered}
 
 -- the arguments of the pending requests are of this code
@@ -40,13 +42,21 @@ queue_to x z served rs k h = record {
   coded = subst (AreCoded (code_of z)) (sym k.pending) (subst (λ (m : List Node). AreCoded m x.queue.pending) (sym k.code) h.coded);
 }
 
-pub stands_with : (x : Actor) (y : Activity) (a b : model.Activity) (rs : List RequestShape) → Stands x a rs → StandsFor y b → step.code_of y ≡ code_of x → a.sends ≡ b.sends → a.creations ≡ b.creations → a.served ≡ b.served → Stands (record x { activity = y }) b rs
-stands_with x y a b rs h for code sends creations served = record {
-  activity = for;
-  sends = h.sends ∙ sends;
-  creations = h.creations ∙ creations;
-  queue = subst (λ (ns : List ℕ). IsQueue (record x { activity = y }) ns rs) served (queue_to x (record x { activity = y }) a.served rs (record { pending = refl; arrived = refl; senders = refl; code = code }) h.queue);
-}
+-- knowing so many members of a group that it waits for
+pub stands_knowing : (x : Actor) (y : Activity) (k : ℕ) (a b : model.Activity) (rs : List RequestShape) → Stands x a rs → StandsFor y b → step.code_of y ≡ code_of x → a.sends ≡ b.sends → a.creations ≡ b.creations → a.served ≡ b.served → HasClear b k → Stands (record x { activity = y; clear = k }) b rs
+stands_knowing x y k a b rs h for code sends creations served clear =
+    let z : Actor = record x { activity = y; clear = k } in
+    record {
+      activity = for;
+      sends = h.sends ∙ sends;
+      creations = h.creations ∙ creations;
+      queue = subst (λ (ns : List ℕ). IsQueue z ns rs) served (queue_to x z a.served rs (record { pending = refl; arrived = refl; senders = refl; code = code }) h.queue);
+      clear = clear;
+    }
+
+-- whatever changed, it knows none
+pub stands_with : (x : Actor) (y : Activity) (a b : model.Activity) (rs : List RequestShape) → Stands x a rs → StandsFor y b → step.code_of y ≡ code_of x → a.sends ≡ b.sends → a.creations ≡ b.creations → a.served ≡ b.served → Stands (record x { activity = y; clear = 0 }) b rs
+stands_with x y a b rs h for code sends creations served = stands_knowing x y 0 a b rs h for code sends creations served (first_clear b)
 
 -- the store of an activity that an actor stands for
 pub own_store : (x : Actor) (a : model.Activity) (rs : List RequestShape) → Stands x a rs → store_of (code_of x) x.activity.state.store.cells ≡ a.store
@@ -62,7 +72,7 @@ size x a rs h = sym (ap (λ (s : Store). length s) (own_store x a rs h)) ∙ len
 -- Closed actors
 
 -- the actor is closed, where its activity stands for another closed one
-pub closed_with : (x : Actor) (y : Activity) (h : IsClosedFor x) (b : model.Activity) → StandsFor y b → step.code_of y ≡ code_of x → h.activity.sends ≡ b.sends → h.activity.creations ≡ b.creations → h.activity.served ≡ b.served → IsClosedActivity b → IsClosedFor (record x { activity = y })
+pub closed_with : (x : Actor) (y : Activity) (h : IsClosedFor x) (b : model.Activity) → StandsFor y b → step.code_of y ≡ code_of x → h.activity.sends ≡ b.sends → h.activity.creations ≡ b.creations → h.activity.served ≡ b.served → IsClosedActivity b → IsClosedFor (record x { activity = y; clear = 0 })
 closed_with x y h b for code sends creations served closed = record {
   activity = b;
   received = h.received;

@@ -18,6 +18,7 @@ use Rattle.activity_step.specs.Standings as step
 use Rattle.operand_reads.specs.declared.strict.Strict.{Strict}
 use Rattle.operand_reads.specs.Strict.{strict_ready}
 use Rattle.actor.specs.declared.actor.Actor.{Actor}
+use Rattle.actor.specs.Clear.{HasClear}
 
 -- the code that it runs
 abbrev pub code_of : Actor → List Node
@@ -38,6 +39,8 @@ pub record Stands (x : Actor) (a : model.Activity) (rs : List RequestShape) : Ty
   pub sends : x.sends ≡ a.sends
   pub creations : x.creations ≡ a.creations
   pub queue : IsQueue x a.served rs
+  -- what it knows of the members that it waits for
+  pub clear : HasClear a x.clear
 
 -- it stands for some activity
 abbrev pub IsSomebody : Actor → Type 0

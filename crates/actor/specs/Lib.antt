@@ -1,4 +1,5 @@
 -- in reading order
+pub mod Clear
 pub mod Actors
 pub mod Effects
 pub mod Outlook

@@ -97,6 +97,7 @@ impl Actor {
             return Ok(Given::Nothing);
         }
         let value = self.activity.pack(alloc, &[place])?;
+        self.clear = 0;
         match self.activity.ended(alloc)? {
             Some(future) => Ok(Given::Filled(future, value)),
             None => Ok(Given::Nothing),
@@ -122,6 +123,7 @@ impl Actor {
         ensures code { code_of self.new ≡ code_of self.old }
         ensures given { IfOk result (IsGivenOf (code_of self.old)) }
     {
+        self.clear = 0;
         if fetch_all(alloc, &mut self.activity, futures, strict)? {
             self.contract(alloc, name)
         } else {
@@ -139,6 +141,7 @@ impl Actor {
         ensures code { code_of self.new ≡ code_of self.old }
         ensures given { IfOk result (IsGivenOf (code_of self.old)) }
     {
+        self.clear = 0;
         let advance = self.activity.step(alloc, true)?;
         if is_communication(advance) {
             self.communicate(alloc, name)

@@ -30,8 +30,8 @@ use run_ends::EndState;
 use std::alloc::{AllocError, Global};
 use std::sync::Arc;
 
-/// An activity with its pending requests, who sent all that it received, and how many requests and
-/// activities it has made.
+/// An activity with its pending requests, who sent all that it received, how many requests and
+/// activities it has made, and how many members of a group that it waits for are known to have come.
 #[derive(Drop)]
 pub struct Actor {
     pub(crate) activity: Activity,
@@ -39,6 +39,7 @@ pub struct Actor {
     pub(crate) senders: Vec<ActivityName>,
     pub(crate) sends: u32,
     pub(crate) creations: u32,
+    pub(crate) clear: usize,
 }
 
 impl Actor {
@@ -54,6 +55,7 @@ impl Actor {
             senders: Vec::new(alloc),
             sends: 0,
             creations: 0,
+            clear: 0,
         }
     }
 

@@ -94,6 +94,7 @@ impl Actor {
         let parcel = self.activity.pack(alloc, &[object])?;
         let begun = Actor::made(alloc, &parcel, service)?;
         let made = Box::new(alloc, begun)?;
+        self.clear = 0;
         self.activity.created(alloc, created.copy(alloc)?)?;
         self.creations = number;
         Ok(Given::Made(created, made))
@@ -124,6 +125,7 @@ impl Actor {
             future: future.copy(alloc)?,
             sender: name.copy(alloc)?,
         };
+        self.clear = 0;
         self.activity.sent(alloc, future)?;
         self.sends = number;
         Ok(Given::Sent(to, request))
@@ -148,6 +150,7 @@ impl Actor {
             future,
             sender: _,
         } = request;
+        self.clear = 0;
         self.activity.serves(alloc, label, future, &arguments)?;
         Ok(Given::Nothing)
     }

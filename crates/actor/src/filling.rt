@@ -4,16 +4,21 @@ ghost use Rattle.std.specs.Prelude.{◌≡◌, ◌<◌, IfOk, List, OnOk, length
 ghost use Rattle.std.specs.Arc.{arc_value};
 ghost use Rattle.asp_model.specs.Configuration as model;
 ghost use Rattle.asp_model.specs.Configuration.{RequestShape};
-ghost use Rattle.asp_model.specs.Parcel.{unpack_at};
+ghost use Rattle.asp_model.specs.Parcel.{ParcelShape, unpack_at};
 ghost use Rattle.asp_model.specs.Shapes.{future_shape};
 ghost use Rattle.coded_cells.specs.Shapes.{parcel_shape};
 ghost use Rattle.journals.specs.Deliveries.{holders_from, unpack_each};
 ghost use Rattle.laws.specs.Closed.{AreBelow, IsClosedValue};
+ghost use Rattle.activity_step.specs.Activities.{StandsFor};
 ghost use Rattle.actor.specs.Actors.{IsSomebody, Stands, code_of};
+ghost use Rattle.actor.specs.Clear.{HasClear};
 
 use crate::actor::Actor;
+use crate::held::{clear_at, holds_future};
+use activity_step::Standing;
 use asp_model::FutureName;
 use coded_cells::{Parcel, Place};
+use operand_reads::strict_of;
 use std::alloc::{AllocError, Global};
 use std::collections::BTreeSet;
 
@@ -39,7 +44,40 @@ impl Actor {
             OnOk result (Stands self.new (record a { store = filled }) rs) }
         ensures code { code_of self.new ≡ code_of self.old }
     {
-        self.activity.fill(alloc, place, value)
+        self.clear = self.clear_kept(place);
+        self.activity.fill(alloc, place, value)?;
+        self.clear = self.clear_now();
+        Ok(())
+    }
+
+    /// How many members of a group that it waits for are still known to have come, once a value has
+    /// come to a place: all, where a future stood there.
+    fn clear_kept(&self, place: Place) -> usize
+        requires within { place < length self.now.activity.state.store.cells }
+        ensures clear { (a : model.Activity) (p : ParcelShape) → StandsFor self.now.activity a →
+            HasClear a self.now.clear →
+            HasClear (record a { store = unpack_at a.store place p }) result }
+    {
+        if holds_future(self.activity.store(), place) {
+            self.clear
+        } else {
+            0
+        }
+    }
+
+    /// How many members of a group that it waits for have come before the first that has not: it
+    /// looks on from those that it knows.
+    fn clear_now(&self) -> usize
+        ensures clear { (a : model.Activity) → StandsFor self.now.activity a →
+            HasClear a self.now.clear → HasClear a result }
+    {
+        match self.activity.standing() {
+            Ok(Standing::Redex(redex)) => {
+                clear_at(self.activity.store(), strict_of(redex), self.clear)
+            }
+            Ok(Standing::Place(_)) => self.clear,
+            Err(_) => self.clear,
+        }
     }
 
     fn fill_all(

@@ -1,10 +1,12 @@
 //! The first strict operand that is a future.
 
-ghost use Rattle.std.specs.Prelude.{◌≡◌, ◌∷◌, List, []};
-ghost use Rattle.asp_model.specs.Contraction.{members_of};
+ghost use Rattle.std.specs.Prelude.{◌≡◌, ◌<◌, ◌≤◌, ◌∷◌, List, None, [], length, take, true};
+ghost use Rattle.asp_model.specs.Contraction.{first_future, is_future, members_of};
 ghost use Rattle.asp_model.specs.Store.{cell as cell_in};
 ghost use Rattle.program_code.specs.declared.code.Node.{Node as NodeShape};
 ghost use Rattle.coded_cells.specs.Shapes.{cell_shape, store_of};
+ghost use Rattle.laws.specs.Linked.{Each};
+ghost use Rattle.actor.specs.Clear.{AreClearAt, IsClear};
 ghost use Rattle.actor.specs.Stances.{IsFutureOf, IsHeld, held_places};
 
 use asp_model::FutureName;
@@ -44,11 +46,14 @@ fn future_at(store: &Store, place: Place) -> Option<Held<'_>>
     }
 }
 
-fn first_of<'a>(store: &'a Store, places: &[Place]) -> Option<Held<'a>>
-    ensures held { (k : List NodeShape) → IsHeld (store_of k store.now.cells) places.now result }
+/// The first of these places that holds a future, where the first so many hold none: these are not
+/// looked at.
+fn first_of<'a>(store: &'a Store, places: &[Place], from: usize) -> Option<Held<'a>>
+    ensures held { (k : List NodeShape) → let s = store_of k store.now.cells in
+        first_future s (take from places.now) ≡ None → IsHeld s places.now result }
 {
-    for place in places {
-        if let Some(held) = future_at(store, *place) {
+    for at in from..places.len() {
+        if let Some(held) = future_at(store, places[at]) {
             return Some(held);
         }
     }
@@ -78,10 +83,11 @@ fn members_at(store: &Store, place: Place) -> &[Place]
     members_of(store.cell(place))
 }
 
-/// The first of these operands that is a future, as the store has them: no value is read.
-pub fn first_held<'a>(store: &'a Store, strict: Strict) -> Option<Held<'a>>
+/// The first of these operands that is a future, as the store has them: no value is read. The first
+/// so many members of a group are known to have come, and are not looked at.
+pub fn first_held<'a>(store: &'a Store, strict: Strict, clear: usize) -> Option<Held<'a>>
     ensures held { (k : List NodeShape) → let s = store_of k store.now.cells in
-        IsHeld s (held_places s strict) result }
+        AreClearAt s strict clear → IsHeld s (held_places s strict) result }
 {
     match strict {
         Strict::Nothing => None,
@@ -92,7 +98,68 @@ pub fn first_held<'a>(store: &'a Store, strict: Strict) -> Option<Held<'a>>
         },
         Strict::Members(place) => match future_at(store, place) {
             Some(held) => Some(held),
-            None => first_of(store, members_at(store, place)),
+            None => first_of(store, members_at(store, place), clear),
         },
+    }
+}
+
+fn is_future(cell: &Cell) -> bool
+    ensures { (k : List NodeShape) → result ≡ is_future (cell_shape k cell.now) }
+{
+    match cell {
+        Cell::Future(_) => true,
+        Cell::Number(_) => false,
+        Cell::Object(_) => false,
+        Cell::Reference(_) => false,
+        Cell::Group(_) => false,
+    }
+}
+
+/// Whether a place of a store holds a future.
+pub fn holds_future(store: &Store, place: Place) -> bool
+    requires within { place < length store.now.cells }
+    ensures holds { (k : List NodeShape) →
+        result ≡ is_future (cell_in (store_of k store.now.cells) place) }
+{
+    is_future(store.cell(place))
+}
+
+/// Whether a place is in a store, and holds no future.
+fn is_clear(store: &Store, place: Place) -> bool
+    ensures clear { (k : List NodeShape) → result ≡ true →
+        IsClear (store_of k store.now.cells) place }
+{
+    if place >= store.len() {
+        return false;
+    }
+    !holds_future(store, place)
+}
+
+/// How many of these places are clear before the first that is not, where the first so many are:
+/// these are not looked at.
+fn clear_from(store: &Store, places: &[Place], from: usize) -> usize
+    ensures clear { (k : List NodeShape) → let s = store_of k store.now.cells in
+        Each (IsClear s) (take from places.now) → Each (IsClear s) (take result places.now) }
+    ensures within { result ≤ length places.now }
+{
+    for at in from..places.len() {
+        if !is_clear(store, places[at]) {
+            return at;
+        }
+    }
+    places.len()
+}
+
+/// How many members of a group that is waited for have come before the first that has not, where the
+/// first so many are known to have. It looks at the others alone.
+pub fn clear_at(store: &Store, strict: Strict, from: usize) -> usize
+    ensures clear { (k : List NodeShape) → let s = store_of k store.now.cells in
+        AreClearAt s strict from → AreClearAt s strict result }
+{
+    match strict {
+        Strict::Members(place) => clear_from(store, members_at(store, place), from),
+        Strict::Nothing => from,
+        Strict::One(_) => from,
+        Strict::Two(_, _) => from,
     }
 }

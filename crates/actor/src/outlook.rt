@@ -64,7 +64,9 @@ impl Actor {
             OnOk result (Stands self.new a rs) }
         ensures code { code_of self.new ≡ code_of self.old }
     {
-        self.activity.settle()
+        self.clear = 0;
+        self.activity.settle()?;
+        Ok(())
     }
 
     /// What the activity does next, once it has settled. Nothing is changed, and no value is

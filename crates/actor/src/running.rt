@@ -18,6 +18,7 @@ impl Actor {
         ensures code { code_of self.new ≡ code_of self.old }
     {
         let before = self.activity.count();
+        self.clear = 0;
         self.activity.local(alloc, most)?;
         Ok(self.activity.count().saturating_sub(before))
     }

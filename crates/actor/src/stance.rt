@@ -134,7 +134,7 @@ impl Actor {
             Stands self.now a rs → let chases = chase (values_of futures.now) in
             IfOk result (λ x. stance_shape x ≡ stance_of chases rs n a) }
     {
-        match first_held(self.activity.store(), strict_of(redex)) {
+        match first_held(self.activity.store(), strict_of(redex), self.clear) {
             Some(held) => Ok(held_stance(futures, held)),
             None => {
                 let looked = self.at_redex(alloc, futures, redex, 0)?;

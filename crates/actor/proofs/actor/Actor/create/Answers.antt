@@ -8,6 +8,7 @@ use Rattle.activity_step.specs.Activities.{StandsFor, with_new_cell}
 use Rattle.actor.specs.declared.actor.Actor.{Actor}
 use Rattle.actor.specs.Actors.{Stands}
 use Rattle.actor.specs.Asking.{service_text}
+use Rattle.actor.proofs.ClearLemmas.{first_clear}
 use Rattle.actor.proofs.StandLemmas.{queue_to}
 use Rattle.actor.proofs.actor.Actor.create.Goals as goal
 
@@ -16,7 +17,7 @@ returns-clause-done c = λ a rs cs r h e.
     let x : Actor = c.args.self.now in
     let y = c.created-3.new.self in
     let n = c.args.name.now in
-    let z : Actor = record x { activity = y; creations = c.in_ok-number.number } in
+    let z : Actor = record x { activity = y; creations = c.in_ok-number.number; clear = 0 } in
     let counted : c.in_ok-number.number ≡ suc a.creations = c.in_ok-number.ensures ∙ ap suc h.creations in
     let name : c.in_ok-created.created ≡ created_name n (suc a.creations) = c.in_ok-created.ensures.name ∙ ap (created_name n) counted in
     let for : StandsFor y (with_new_cell cs (Reference (created_name n (suc a.creations))) a) = subst (λ (m : Name). StandsFor y (with_new_cell cs (Reference m) a)) (c.in_ok-copy.ensures.name ∙ name) (c.in_ok-created-2.ensures.becomes a cs r h.activity e) in
@@ -27,6 +28,7 @@ returns-clause-done c = λ a rs cs r h e.
         sends = h.sends;
         creations = counted;
         queue = queue_to x z a.served rs (record { pending = refl; arrived = refl; senders = refl; code = c.in_ok-created-2.ensures.code }) h.queue;
+        clear = first_clear (with_new_cell cs (Reference (created_name n (suc a.creations))) a);
       },
       (refl, (sym name, boxed), refl),
     )

@@ -30,4 +30,5 @@ returns-clause-stands c = λ a rs h.
         below = below_one_more a.served rs (request_shape r) q.below;
         coded = subst (AreCoded (code_of x)) (sym pending) (all_more _ es (n, r) q.coded c.requires.code);
       };
+      clear = h.clear;
     }

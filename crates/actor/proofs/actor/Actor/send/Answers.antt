@@ -7,6 +7,7 @@ use Rattle.asp_model.specs.Store.{Future}
 use Rattle.asp_model.specs.declared.name.FutureName.{FutureName}
 use Rattle.activity_step.specs.Activities.{StandsFor, with_new_cell}
 use Rattle.actor.specs.declared.actor.Actor.{Actor}
+use Rattle.actor.proofs.ClearLemmas.{first_clear}
 use Rattle.actor.proofs.StandLemmas.{queue_to}
 use Rattle.actor.proofs.actor.Actor.send.Goals as goal
 
@@ -15,7 +16,7 @@ returns-clause-done c = λ a rs cs r places h e is.
     let x : Actor = c.args.self.now in
     let y = c.sent.new.self in
     let n = c.args.name.now in
-    let z : Actor = record x { activity = y; sends = c.in_ok-number.number } in
+    let z : Actor = record x { activity = y; sends = c.in_ok-number.number; clear = 0 } in
     let counted : c.in_ok-number.number ≡ suc a.sends = c.in_ok-number.ensures ∙ ap suc h.sends in
     let named : future_shape c.in_ok-future.future ≡ record { by = n; index = suc a.sends } = c.in_ok-future.ensures.name ∙ (λ i. record { by = n; index = counted i }) in
     let copied : future_shape c.in_ok-copy.field-0 ≡ record { by = n; index = suc a.sends } = ap (λ (f : FutureName). future_shape f) c.in_ok-copy.ensures.name ∙ named in
@@ -26,6 +27,7 @@ returns-clause-done c = λ a rs cs r places h e is.
         sends = counted;
         creations = h.creations;
         queue = queue_to x z a.served rs (record { pending = refl; arrived = refl; senders = refl; code = c.in_ok-sent.ensures.code }) h.queue;
+        clear = first_clear b;
       },
       ((λ i. Some (c.args.to, record { label = c.args.label.text; sender = sym c.in_ok-copy-2.ensures.name i; future = sym copied i; arguments = sym is i })), refl, refl),
     )

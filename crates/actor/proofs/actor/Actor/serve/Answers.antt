@@ -17,6 +17,7 @@ use Rattle.actor.specs.declared.actor.Actor.{Actor}
 use Rattle.actor.specs.declared.act.Given.TheVariants as given
 use Rattle.actor.specs.Actors.{IsClosedFor, code_of}
 use Rattle.actor.specs.Effects.{IsDoneBy}
+use Rattle.actor.proofs.ClearLemmas.{first_clear}
 use Rattle.actor.proofs.MatchLemmas.{Entries, IsMatched, all_kept, entries_served, matched, numbered, taken_is}
 use Rattle.actor.proofs.StandLemmas.{AreCoded, waiting_closed}
 use Rattle.actor.proofs.actor.Actor.serve.Goals as goal
@@ -40,7 +41,7 @@ returns-clause-done c = λ a rs cs r labels h e found.
     let y = c.serves.new.self in
     let request : Request = c.take-request.result in
     let q = h.queue in
-    let z : Actor = record x { activity = y; queue = c.take-request.new.self } in
+    let z : Actor = record x { activity = y; queue = c.take-request.new.self; clear = 0 } in
     let m : IsMatched es labels a.served rs n = matched es labels a.served rs n q.pending found in
     let is : request_shape request ≡ m.request = some_is (sym (ap (λ (o : Option Request). option_map request_shape o) c.take-request.ensures.taken) ∙ m.there) in
     let by : RequestShape → model.Activity = λ s. serving cs s.label s.future s.arguments a in
@@ -59,6 +60,7 @@ returns-clause-done c = λ a rs cs r labels h e found.
           below = (m.below, q.below);
           coded = subst (λ (k : List Node). AreCoded k c.take-request.new.self.pending) (sym code) (subst (AreCoded (code_of x)) (sym others) (all_kept _ _ es q.coded));
         };
+        clear = first_clear (by m.request);
       },
       (refl, refl, refl),
     )
