@@ -31,3 +31,10 @@ pub(crate) enum Next {
     /// It ends: the verdict is there, or the core is spent.
     End,
 }
+
+impl Next {
+    /// Whether the worker ends.
+    pub(crate) fn is_end(&self) -> bool {
+        matches!(self, Next::End)
+    }
+}

@@ -3,6 +3,7 @@
 
 mod desk;
 mod gate;
+mod margin;
 mod pool;
 mod work;
 

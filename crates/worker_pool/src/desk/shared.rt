@@ -46,13 +46,13 @@ impl<P: UpdatePolicy + Drop> SharedDesk<P> {
     }
 
     /// One turn of a worker, as at the desk.
-    pub(crate) fn turn(&mut self, seat: u32, held: Option<Lease>) -> (Next, bool)
+    pub(crate) fn turn(&mut self, seat: u32, held: Option<Lease>, may_rest: bool) -> (Next, bool)
         requires orderly { IsOrderly (desk_in self.old) }
         requires seat { seat < seats_at (desk_in self.old) }
         requires held { HasLease (desk_in self.old) seat held }
         ensures turn { IsTurn seat (desk_in self.old) (desk_in self.new) }
         ensures lease { HasLease (desk_in self.new) seat (lease_in result.0) }
     {
-        self.desk.turn(seat, held)
+        self.desk.turn(seat, held, may_rest)
     }
 }

@@ -39,9 +39,10 @@ impl<P: UpdatePolicy + Drop> Desk<P> {
     }
 
     /// One turn of a worker. The lease that it had comes back, what is owed is delivered, and the
-    /// worker gets the activity that came back, where that is ready, or else the first that is. It
-    /// also tells whether others may find work, or are to end.
-    pub(crate) fn turn(&mut self, seat: u32, held: Option<Lease>) -> (Next, bool)
+    /// worker gets the activity that came back, where that is ready, or else the first that is. One
+    /// that may rest gets none where another worker has a lease: that one comes back, and takes
+    /// what is ready. It also tells whether others may find work, or are to end.
+    pub(crate) fn turn(&mut self, seat: u32, held: Option<Lease>, may_rest: bool) -> (Next, bool)
         requires orderly { IsOrderly self.old }
         requires seat { seat < seats_at self.old }
         requires held { HasLease self.old seat held }
@@ -51,6 +52,9 @@ impl<P: UpdatePolicy + Drop> Desk<P> {
         let number = self.take_in(seat, held);
         if !self.deliver_owed(seat) {
             return (Next::Again, true);
+        }
+        if may_rest && self.has_leases() {
+            return (Next::Rest, false);
         }
         match self.lend(seat, number) {
             Some(lease) => (Next::Run(lease), self.core.next_ready().is_some()),
@@ -178,6 +182,16 @@ impl<P: UpdatePolicy + Drop> Desk<P> {
         let lease = self.core.lend(number)?;
         self.rows[seat as usize] = Some((lease.number(), lease.burst()));
         Some(lease)
+    }
+
+    // Whether somebody has a lease.
+    fn has_leases(&self) -> bool {
+        for row in self.rows.iter() {
+            if row.is_some() {
+                return true;
+            }
+        }
+        false
     }
 
     // Whether nothing is left to do: the verdict is there, or the core is spent.

@@ -1,0 +1,55 @@
+//! When a worker calls another one to work, and when it rests for others.
+
+/// What a turn costs, in contractions.
+const TURN: u64 = 24;
+
+/// What it costs to call a worker that rests, in contractions.
+const CALL: u64 = 128;
+
+/// The most of a margin, at which it allows a call.
+const MOST: u64 = 256;
+
+/// The contractions that a worker took of late, less what its turns and calls cost. A worker whose
+/// leases are shorter than its turns gains nothing from another one at work.
+#[derive(Drop)]
+pub(crate) struct Margin {
+    contractions: u64,
+}
+
+impl Margin {
+    /// A whole one.
+    pub(crate) fn new() -> Margin {
+        Margin { contractions: MOST }
+    }
+
+    /// A lease took so many contractions, and its turn comes.
+    pub(crate) fn add(&mut self, taken: u64) {
+        let earned = self.contractions.saturating_add(taken);
+        self.contractions = earned.saturating_sub(TURN).min(MOST);
+    }
+
+    /// Whether nothing is left of it: the leases were shorter than the turns.
+    pub(crate) fn is_gone(&self) -> bool {
+        self.contractions == 0
+    }
+
+    /// After a rest it suffices for some short leases, and not for a call.
+    pub(crate) fn rested(&mut self) {
+        self.contractions = MOST - CALL;
+    }
+
+    /// Whether another worker is called, where others may find work or are to end: for work only
+    /// if the margin is whole, and it pays for the call.
+    pub(crate) fn calls(&mut self, more: bool, is_end: bool) -> bool {
+        more && (is_end || self.pays())
+    }
+
+    // Pays for a call, where the margin is whole.
+    fn pays(&mut self) -> bool {
+        if self.contractions < MOST {
+            return false;
+        }
+        self.contractions = MOST - CALL;
+        true
+    }
+}
