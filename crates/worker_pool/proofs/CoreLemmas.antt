@@ -1,5 +1,6 @@
 -- Who is out after a call of the core.
 use Rattle.std.proofs.Common.{◌≡◌, ◌≢◌, ◌&&◌, not, ℕ, Bool, true, false, Option, Some, None, Result, Ok, Err, OnOk, OnErr, IfOk, IfSome, sym, ap, refl, ◌∙◌, subst}
+use Rattle.std.proofs.lemmas.Bool.{true≢false}
 use Rattle.std.proofs.lemmas.Option.{none-some}
 use Rattle.asp_model.specs.History.{Delivered, DeliveryShape, HistoryShape, Lent}
 use Rattle.asp_model.specs.Shapes.{delivery_shape}
@@ -8,9 +9,12 @@ use Rattle.journals.specs.Journals.{RunShape}
 use Rattle.core_state.specs.declared.lease.Lease.{Lease}
 use Rattle.core_state.specs.Leases.{IsLease}
 use Rattle.core_state.proofs.ListLemmas.{numbers_apart}
+use Rattle.core_edges.specs.Answers.{Answering, Counting}
 use Rattle.asp_core.specs.declared.cores.Core.{Core}
 use Rattle.asp_core.specs.Calls.{HasGoneOn, IsCommittedBy, IsLentBy, MayDeliver}
 use Rattle.asp_core.specs.Cores.{IsKept, IsRun, code_of, history_of}
+use Rattle.asp_core.specs.Plans.{AreByPlan, StayByPlan}
+use Rattle.worker_pool.specs.Desks.{KeepsPlan}
 use Rattle.worker_pool.specs.Rows.{IsOut}
 use Rattle.worker_pool.proofs.OutLemmas.{out_lasts, ready_is_in}
 
@@ -94,3 +98,27 @@ module _ {P E : Type 0} (old new : Core P) (r : Result (Option Delivery) E) wher
       let before : new ≡ old = subst (λ (q : Result (Option Delivery) E). OnOk q (new ≡ old)) is same in
       subst (λ (q : Result (Option Delivery) E). IfOk q (λ p. IfSome p (λ x. MayDeliver s (delivery_shape x)))) is
       (may s (subst (λ (x : Core P). IsRun x s) before run))
+
+-- A call keeps the plan, unless the core is spent
+module _ {P : Type 0} (answers : Answering P) (counts : Counting P) (old new : Core P) where
+  -- it was not spent before, where that would leave it spent
+  was_fresh : (b : Bool) → old.spent ≡ b → (old.spent ≡ true → new.spent ≡ true) → new.spent ≡ false → old.spent ≡ false
+  was_fresh true is stays fresh = absurd (true≢false (sym (stays is) ∙ fresh))
+  was_fresh false is stays fresh = is
+
+  pub plan_by : {A E : Type 0} (r : Result A E) (e : E) → (old.spent ≡ true → r ≡ Err e) → OnErr r (new.spent ≡ true) → OnOk r (StayByPlan answers counts old.edges new.edges) → KeepsPlan answers counts old new
+  plan_by {A} {E} (Ok x) e spent err stay fresh = (
+    was_fresh old.spent refl (λ is. absurd (subst (λ (q : Result A E). OnOk q ⊥) (sym (spent is)) tt)) fresh,
+    stay,
+  )
+  plan_by (Err x) e spent err stay fresh = absurd (true≢false (sym err ∙ fresh))
+
+  pub plan_lent : {A : Type 0} → (old.spent ≡ true → A × (new ≡ old)) → StayByPlan answers counts old.edges new.edges → KeepsPlan answers counts old new
+  plan_lent spent stay fresh = (was_fresh old.spent refl (λ is. ap (λ (x : Core P). x.spent) (spent is).1 ∙ is) fresh, stay)
+
+  pub plan_owed : {A E : Type 0} (r : Result A E) (e : E) → (old.spent ≡ true → r ≡ Err e) → OnErr r (new.spent ≡ true) → OnOk r (new ≡ old) → KeepsPlan answers counts old new
+  plan_owed r e spent err same = plan_by r e spent err (stays r same)
+    where
+      stays : {A E : Type 0} (q : Result A E) → OnOk q (new ≡ old) → OnOk q (StayByPlan answers counts old.edges new.edges)
+      stays (Ok x) is = λ plan policies. subst (λ (c : Core P). AreByPlan answers counts plan policies c.edges) (sym is)
+      stays (Err x) is = is

@@ -1,16 +1,15 @@
 -- What seats bring to their turns, and lists of seats.
 use Rattle.std.proofs.Common.{◌≡◌, ◌<◌, ℕ, List, [], ◌∷◌, All, length, Option, Some, None, Result, Ok, Err, IfOk, sym, ◌∙◌, subst, arith}
 use Rattle.std.proofs.lemmas.List.Elements.{All-head}
-use Rattle.asp_model.specs.Term.{Tree}
-use Rattle.asp_model.specs.History.{BeginsWith, HistoryShape}
-use Rattle.run_ends.specs.declared.ends.RunEnd.{RunEnd}
-use Rattle.core_ends.specs.Runs.{IsEndOfRun}
+use Rattle.asp_model.specs.History.{BeginsWith}
 use Rattle.asp_model.proofs.HistoryLemmas.{begins_with_earlier}
 use Rattle.program_code.specs.declared.code.Node.{Node}
 use Rattle.core_state.specs.declared.lease.Lease.{Lease}
 use Rattle.core_state.specs.Leases.{IsLease}
+use Rattle.core_edges.specs.Answers.{Answering, Counting}
 use Rattle.asp_core.specs.declared.cores.Core.{Core}
 use Rattle.asp_core.specs.Cores.{history_of}
+use Rattle.asp_core.specs.Plans.{StayByPlan}
 use Rattle.turn_hub.specs.declared.hub.Hub.{Hub}
 use Rattle.turn_hub.specs.declared.seat.Seat.{Seat}
 use Rattle.turn_hub.specs.Seats.{out_with, seen_by}
@@ -27,10 +26,10 @@ some_of P Q (x ∷ xs) some_element p q = (x, All-head P x xs p, All-head Q x xs
 
 module _ {P : Type 0} where
   -- what a seat has out it also has at the desk that it took, whatever happened since
-  pub brought : (hub : Hub (SharedDesk P)) (seat : Seat (SharedDesk P)) (x : SharedDesk P) (n : ℕ) (held : Option Lease) → HasOut hub seat held → row_at (desk_in x) n ≡ out_with seat
-      → BeginsWith (history_at (desk_in x)) (seen_by seat) → KeepsDesk (opened_at hub) (desk_in x) → HasLease (desk_in x) n held
-  brought hub seat x n None out row later keeps = row ∙ out
-  brought hub seat x n (Some l) out row later keeps =
+  pub brought : (answers : Answering P) (counts : Counting P) (hub : Hub (SharedDesk P)) (seat : Seat (SharedDesk P)) (x : SharedDesk P) (n : ℕ) (held : Option Lease) → HasOut hub seat held → row_at (desk_in x) n ≡ out_with seat
+      → BeginsWith (history_at (desk_in x)) (seen_by seat) → KeepsDesk answers counts (opened_at hub) (desk_in x) → HasLease (desk_in x) n held
+  brought answers counts hub seat x n None out row later keeps = row ∙ out
+  brought answers counts hub seat x n (Some l) out row later keeps =
       let is : row_at (desk_in x) n ≡ Some (l.number, l.burst) = row ∙ out.0 in (
         is,
         lease_goes_on (seen_by seat) (history_at (desk_in x)) (code_at (desk_in x)) l later
@@ -42,6 +41,7 @@ module _ {P : Type 0} where
   further (Ok c) a b later x = begins_with_earlier (history_of c) (history_of a) (history_of b) x later
   further (Err e) a b later x = x
 
-pub ended_as : {E : Type 0} (r : Result RunEnd E) (h : HistoryShape) (program : Tree) (budget : ℕ) → h.program ≡ program → h.budget ≡ budget
-    → IfOk r (IsEndOfRun h.program h.budget) → IfOk r (IsEndOfRun program budget)
-ended_as r h program budget p b x = subst (λ (z : ℕ). IfOk r (IsEndOfRun program z)) b (subst (λ (t : Tree). IfOk r (IsEndOfRun t h.budget)) p x)
+  pub planned_further : {E : Type 0} (answers : Answering P) (counts : Counting P) (r : Result (Core P) E) (a b : Core P) → StayByPlan answers counts b.edges a.edges
+      → IfOk r (λ c. StayByPlan answers counts a.edges c.edges) → IfOk r (λ c. StayByPlan answers counts b.edges c.edges)
+  planned_further answers counts (Ok c) a b before then = λ plan policies is. then plan policies (before plan policies is)
+  planned_further answers counts (Err e) a b before then = then

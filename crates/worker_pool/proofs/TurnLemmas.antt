@@ -1,46 +1,52 @@
 -- What is done in a turn, and one thing after another.
-use Rattle.std.proofs.Common.{◌≡◌, ◌≢◌, ◌⊎◌, ℕ, List, Some, None, set, sym, ap, refl, ◌∙◌, subst, ⊎_elim}
+use Rattle.std.proofs.Common.{◌≡◌, ◌≢◌, ◌⊎◌, ℕ, List, Some, None, set, vec_len, sym, ap, refl, ◌∙◌, subst, ⊎_elim}
 use Rattle.std.proofs.lemmas.Option.{none-some, same_Some}
-use Rattle.asp_model.specs.History.{BeginsWith}
+use Rattle.asp_model.specs.History.{BeginsWith, HistoryShape}
 use Rattle.asp_model.proofs.HistoryLemmas.{begins_with_earlier, begins_with_itself}
 use Rattle.core_state.specs.declared.lease.Lease.{Lease}
+use Rattle.core_edges.specs.Answers.{Answering, Counting}
 use Rattle.asp_core.specs.Cores.{IsKept}
 use Rattle.worker_pool.specs.declared.desk.Desk.{Desk}
-use Rattle.worker_pool.specs.Desks.{IsOrderly, KeepsDesk, code_at, core_at, history_at, row_at, seats_at}
+use Rattle.worker_pool.specs.Desks.{IsOrderly, KeepsDesk, KeepsPlan, code_at, core_at, history_at, row_at, seats_at}
 use Rattle.worker_pool.specs.Rows.{AreApart, AreOut, IsOut, Row, row}
 use Rattle.worker_pool.specs.Turns.{IsTurn}
 use Rattle.worker_pool.proofs.CoreLemmas.{Lends}
 use Rattle.worker_pool.proofs.OutLemmas.{lease_is_out}
 use Rattle.worker_pool.proofs.RowLemmas.{else_set, got_set}
 
-module _ {P : Type 0} where
-  pub keeps_further : (a b c : Desk P) → KeepsDesk a b → KeepsDesk b c → KeepsDesk a c
-  keeps_further a b c x y = record { code = y.code ∙ x.code; seats = y.seats ∙ x.seats; orderly = y.orderly }
+module _ {P : Type 0} (answers : Answering P) (counts : Counting P) where
+  pub keeps_further : (a b c : Desk P) → KeepsDesk answers counts a b → KeepsDesk answers counts b c → KeepsDesk answers counts a c
+  keeps_further a b c x y = record {
+    code = y.code ∙ x.code;
+    seats = y.seats ∙ x.seats;
+    plan = λ fresh. let last = y.plan fresh in let first = x.plan last.0 in (first.0, λ plan policies is. last.1 plan policies (first.1 plan policies is));
+    orderly = y.orderly;
+  }
 
-  pub turn_further : (seat : ℕ) (a b c : Desk P) → IsTurn seat a b → IsTurn seat b c → IsTurn seat a c
+  pub turn_further : (seat : ℕ) (a b c : Desk P) → IsTurn answers counts seat a b → IsTurn answers counts seat b c → IsTurn answers counts seat a c
   turn_further seat a b c x y = record {
     later = begins_with_earlier (history_at c) (history_at b) (history_at a) y.later x.later;
     others = λ n other. y.others n other ∙ x.others n other;
     keeps = keeps_further a b c x.keeps y.keeps;
   }
 
-  pub turn_still : (seat : ℕ) (a : Desk P) → IsOrderly a → IsTurn seat a a
+  pub turn_still : (seat : ℕ) (a : Desk P) → IsOrderly a → IsTurn answers counts seat a a
   turn_still seat a orderly = record {
     later = begins_with_itself (history_at a);
     others = λ n other. refl;
-    keeps = record { code = refl; seats = refl; orderly = orderly };
+    keeps = record { code = refl; seats = refl; plan = λ fresh. (fresh, λ plan policies is. is); orderly = orderly };
   }
 
-  module _ (seat : ℕ) (old new : Desk P) (orderly : IsOrderly old) (later : BeginsWith (history_at new) (history_at old)) (code : code_at new ≡ code_at old) (kept : IsKept (core_at new)) (width : seats_at new ≡ seats_at old) where
-    by_rows : ((n : ℕ) → n ≢ seat → row_at new n ≡ row_at old n) → AreOut (history_at new) new.rows.items → AreApart new.rows.items → IsTurn seat old new
+  module _ (seat : ℕ) (old new : Desk P) (orderly : IsOrderly old) (later : BeginsWith (history_at new) (history_at old)) (code : code_at new ≡ code_at old) (kept : IsKept (core_at new)) (plan : KeepsPlan answers counts (core_at old) (core_at new)) (width : seats_at new ≡ seats_at old) where
+    by_rows : ((n : ℕ) → n ≢ seat → row_at new n ≡ row_at old n) → AreOut (history_at new) new.rows.items → AreApart new.rows.items → IsTurn answers counts seat old new
     by_rows others out apart = record {
       later = later;
       others = others;
-      keeps = record { code = code; seats = width; orderly = record { kept = kept; out = out; apart = apart } };
+      keeps = record { code = code; seats = width; plan = plan; orderly = record { kept = kept; out = out; apart = apart } };
     }
 
     -- the rows stay
-    pub stood : new.rows.items ≡ old.rows.items → ((k burst : ℕ) → IsOut (history_at old) k burst → IsOut (history_at new) k burst) → IsTurn seat old new
+    pub stood : new.rows.items ≡ old.rows.items → ((k burst : ℕ) → IsOut (history_at old) k burst → IsOut (history_at new) k burst) → IsTurn answers counts seat old new
     stood rows stays =
         let same : (n : ℕ) → row_at new n ≡ row_at old n = λ n. ap (λ (rs : List Row). row rs n) rows in
         by_rows (λ n other. same n)
@@ -49,7 +55,7 @@ module _ {P : Type 0} where
 
     -- the seat's row is cleared
     pub cleared : (k burst : ℕ) → row_at old seat ≡ Some (k, burst) → new.rows.items ≡ set old.rows.items seat None
-        → ((j b : ℕ) → j ≢ k → IsOut (history_at old) j b → IsOut (history_at new) j b) → IsTurn seat old new
+        → ((j b : ℕ) → j ≢ k → IsOut (history_at old) j b → IsOut (history_at new) j b) → IsTurn answers counts seat old new
     cleared k burst has rows stays =
         let still : (n : ℕ) (x : ℕ × ℕ) → row_at new n ≡ Some x → (n ≢ seat) × (row_at old n ≡ Some x) = λ n x is. ⊎_elim
         (λ (t : (n ≡ seat) × (None ≡ Some x)). absurd (none-some x t.1))
@@ -60,7 +66,7 @@ module _ {P : Type 0} where
         (λ m n x y ne is also. orderly.apart m n x y ne (still m x is).1 (still n y also).1)
 
     -- the seat's row has a lease
-    pub filled : (k : ℕ) (l : Lease) → Lends (core_at old) (core_at new) k l → new.rows.items ≡ set old.rows.items seat (Some (l.number, l.burst)) → IsTurn seat old new
+    pub filled : (k : ℕ) (l : Lease) → Lends (core_at old) (core_at new) k l → new.rows.items ≡ set old.rows.items seat (Some (l.number, l.burst)) → IsTurn answers counts seat old new
     filled k l lends rows =
         let Before : ℕ → ℕ × ℕ → Type 0 = λ n x. row_at old n ≡ Some x in
         let Mine : ℕ → ℕ × ℕ → Type 0 = λ n x. (n ≡ seat) × (Some (l.number, l.burst) ≡ Some x) in
@@ -83,3 +89,10 @@ module _ {P : Type 0} where
         (λ (u : (n ≢ seat) × Before n y). orderly.apart m n x y ne t.1 u.1)
         (by n y also))
         (by m x is))
+
+  -- nothing but whether the core is spent changes
+  pub looked : (seat : ℕ) (old new : Desk P) → IsOrderly old → history_at new ≡ history_at old → code_at new ≡ code_at old → IsKept (core_at new) → KeepsPlan answers counts (core_at old) (core_at new)
+      → new.rows ≡ old.rows → IsTurn answers counts seat old new
+  looked seat old new orderly same code kept plan rows =
+      stood seat old new orderly (subst (λ (h : HistoryShape). BeginsWith h (history_at old)) (sym same) (begins_with_itself (history_at old))) code kept plan
+      (ap vec_len rows) (ap (λ v. v.items) rows) (λ k burst out. subst (λ (h : HistoryShape). IsOut h k burst) (sym same) out)

@@ -1,9 +1,11 @@
 -- What clauses read of a desk, and how its rows fit its core.
-use Rattle.std.specs.Prelude.{◌≡◌, ℕ, List, vec_len}
+use Rattle.std.specs.Prelude.{◌≡◌, ℕ, List, false, vec_len}
 use Rattle.asp_model.specs.History.{HistoryShape}
 use Rattle.program_code.specs.declared.code.Node.{Node}
+use Rattle.core_edges.specs.Answers.{Answering, Counting}
 use Rattle.asp_core.specs.declared.cores.Core.{Core}
 use Rattle.asp_core.specs.Cores.{IsKept, code_of, history_of}
+use Rattle.asp_core.specs.Plans.{StayByPlan}
 use Rattle.worker_pool.specs.declared.desk.Desk.{Desk}
 use Rattle.worker_pool.specs.Rows.{AreApart, AreOut, Row, row}
 
@@ -31,8 +33,13 @@ module _ {P : Type 0} where
     pub out : AreOut (history_at desk) desk.rows.items
     pub apart : AreApart desk.rows.items
 
-  -- what a desk keeps of the first one: the code, and for how many seats it is; and it is orderly
-  pub record KeepsDesk (first desk : Desk P) : Type 0 where
+  -- a core that is not spent was not before, and keeps the plan and the policies by which its edges are answered
+  abbrev pub KeepsPlan : Answering P → Counting P → (old new : Core P) → Type 0
+  KeepsPlan answers counts old new = new.spent ≡ false → (old.spent ≡ false) × StayByPlan answers counts old.edges new.edges
+
+  -- what a desk keeps of the first one: the code, for how many seats it is, and the plan; and it is orderly
+  pub record KeepsDesk (answers : Answering P) (counts : Counting P) (first desk : Desk P) : Type 0 where
     pub code : code_at desk ≡ code_at first
     pub seats : seats_at desk ≡ seats_at first
+    pub plan : KeepsPlan answers counts (core_at first) (core_at desk)
     pub orderly : IsOrderly desk

@@ -4,6 +4,7 @@ use Rattle.asp_model.specs.History.{BeginsWith}
 use Rattle.asp_model.specs.Shapes.{delivery_shape}
 use Rattle.asp_model.specs.declared.journal.Delivery.{Delivery}
 use Rattle.journals.specs.Journals.{RunShape}
+use Rattle.core_edges.specs.Answers.{Answering, Counting}
 use Rattle.asp_core.specs.Cores.{IsRun}
 use Rattle.asp_core.specs.Calls.{MayDeliver}
 use Rattle.core_state.specs.declared.lease.Lease.{Lease}
@@ -30,10 +31,10 @@ module _ {P : Type 0} where
   MayDeliverAt desk d = (s : RunShape) → IsRun (core_at desk) s → MayDeliver s (delivery_shape d)
 
   -- the history goes on, and only this seat's row may differ
-  pub record IsTurn (seat : ℕ) (old new : Desk P) : Type 0 where
+  pub record IsTurn (answers : Answering P) (counts : Counting P) (seat : ℕ) (old new : Desk P) : Type 0 where
     pub later : BeginsWith (history_at new) (history_at old)
     pub others : (n : ℕ) → n ≢ seat → row_at new n ≡ row_at old n
-    pub keeps : KeepsDesk old new
+    pub keeps : KeepsDesk answers counts old new
 
   -- the seat has this lease out, or nothing
   abbrev pub HasLease : Desk P → ℕ → Option Lease → Type 0

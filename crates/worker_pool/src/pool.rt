@@ -6,10 +6,12 @@ ghost use Rattle.asp_model.specs.History.{BeginsWith};
 ghost use Rattle.asp_model.specs.Shapes.{outcome_shape, tree_of};
 ghost use Rattle.asp_model.specs.declared.limits.TheConstants.{MOST_REDUCTIONS, MOST_WORKERS};
 ghost use Rattle.asp_core.specs.Cores.{IsKept, history_of};
+ghost use Rattle.asp_core.specs.Plans.{StayByPlan};
 ghost use Rattle.core_ends.specs.Runs.{IsEndOfRun};
 ghost use Rattle.core_runs.specs.Over.{IsOver};
+ghost use Rattle.core_runs.specs.Plans.{IsEndByPlan};
 ghost use Rattle.turn_hub.specs.Seats.{seats_of};
-ghost use Rattle.worker_pool.specs.Desks.{history_at};
+ghost use Rattle.worker_pool.specs.Desks.{core_at, history_at};
 ghost use Rattle.worker_pool.specs.Senders.{OneSenderIsEnough};
 ghost use Rattle.worker_pool.specs.Working.{AllReady, HasRows, IsReady, opened_at};
 
@@ -53,6 +55,7 @@ pub fn run_core<R: Threads + Wait + Sync, P: UpdatePolicy + Send + Drop, G: Gate
     requires kept { IsKept core }
     ensures begins { IfOk result (λ c. BeginsWith (history_of c) (history_of core)) }
     ensures over { IfOk result IsOver }
+    ensures by_plan { IfOk result (λ c. StayByPlan P.answer P.asked core.edges c.edges) }
 {
     let desk = SharedDesk::new(alloc, core, workers + 1)?;
     let (hub, mut first) = Hub::new(alloc, desk, workers + 1)?;
@@ -60,7 +63,8 @@ pub fn run_core<R: Threads + Wait + Sync, P: UpdatePolicy + Send + Drop, G: Gate
     let all = Vec::with_capacity(alloc, workers as usize + 1)?;
     work_all(rt, &hub, seats.as_mut_slice(), workers, gate);
     let all = together(&hub, seats, first, all);
-    finish(closed(hub, all))
+    let core = closed(hub, all)?;
+    finish(core)
 }
 
 /// Runs a program by so many workers, until its verdict is there. The policies are dropped when the
@@ -76,6 +80,8 @@ pub fn run<R: Threads + Wait + Sync, P: UpdatePolicy + Send + Drop, G: Gate>(
     requires workers { (0 < settings.workers) × (settings.workers ≤ MOST_WORKERS) }
     requires within { settings.budget ≤ MOST_REDUCTIONS }
     ensures end { IfOk result (IsEndOfRun (tree_of program.now.program.root) settings.budget) }
+    ensures by_plan { let term = tree_of program.now.program.root in
+        IfOk result (IsEndByPlan P.answer P.asked settings.plan policies term settings.budget) }
     ensures alone { let program = tree_of program.now.program.root in
         IfOk result (λ r. (e : IsEndOfRun program settings.budget r) →
         OneSenderIsEnough program (outcome_shape r.outcome) e.run.configuration) }
@@ -173,13 +179,23 @@ fn together<P: UpdatePolicy + Drop>(
     all
 }
 
-// The hub's core, once all seats are back.
-fn closed<P: UpdatePolicy + Drop>(hub: Hub<SharedDesk<P>>, all: Vec<Seat<SharedDesk<P>>>) -> Core<P>
+// The hub's core, once all seats are back, where it is not spent.
+fn closed<P: UpdatePolicy + Drop>(
+    hub: Hub<SharedDesk<P>>,
+    all: Vec<Seat<SharedDesk<P>>>,
+) -> Result<Core<P>, AllocError>
     requires ready { All (λ s. IsReady hub 1 s) all.items }
     requires some { 0 < vec_len all }
     requires parts { sum_by (λ s. s.parts) all.items ≡ seats_of hub }
-    ensures kept { IsKept result }
-    ensures begins { BeginsWith (history_of result) (history_at (opened_at hub)) }
+    ensures kept { IfOk result IsKept }
+    ensures begins { let first = history_at (opened_at hub) in
+        IfOk result (λ c. BeginsWith (history_of c) first) }
+    ensures by_plan { let first = core_at (opened_at hub) in
+        IfOk result (λ c. StayByPlan P.answer P.asked first.edges c.edges) }
 {
-    hub.close(all).into_core()
+    let core = hub.close(all).into_core();
+    if core.is_spent() {
+        return Err(AllocError);
+    }
+    Ok(core)
 }

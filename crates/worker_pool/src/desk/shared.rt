@@ -20,7 +20,7 @@ impl<P: UpdatePolicy + Drop> Lends for SharedDesk<P> {
 
     ghost out = { λ x n. row_at (desk_in x) n };
 
-    ghost keeps = { λ first x. KeepsDesk (desk_in first) (desk_in x) };
+    ghost keeps = { λ first x. KeepsDesk P.answer P.asked (desk_in first) (desk_in x) };
 }
 
 impl<P: UpdatePolicy + Drop> SharedDesk<P> {
@@ -50,7 +50,7 @@ impl<P: UpdatePolicy + Drop> SharedDesk<P> {
         requires orderly { IsOrderly (desk_in self.old) }
         requires seat { seat < seats_at (desk_in self.old) }
         requires held { HasLease (desk_in self.old) seat held }
-        ensures turn { IsTurn seat (desk_in self.old) (desk_in self.new) }
+        ensures turn { IsTurn P.answer P.asked seat (desk_in self.old) (desk_in self.new) }
         ensures lease { HasLease (desk_in self.new) seat (lease_in result.0) }
     {
         self.desk.turn(seat, held, may_rest)

@@ -46,7 +46,7 @@ impl<P: UpdatePolicy + Drop> Desk<P> {
         requires orderly { IsOrderly self.old }
         requires seat { seat < seats_at self.old }
         requires held { HasLease self.old seat held }
-        ensures turn { IsTurn seat self.old self.new }
+        ensures turn { IsTurn P.answer P.asked seat self.old self.new }
         ensures lease { HasLease self.new seat (lease_in result.0) }
     {
         let number = self.take_in(seat, held);
@@ -68,7 +68,7 @@ impl<P: UpdatePolicy + Drop> Desk<P> {
         requires orderly { IsOrderly self.old }
         requires seat { seat < seats_at self.old }
         requires held { HasLease self.old seat held }
-        ensures turn { IsTurn seat self.old self.new }
+        ensures turn { IsTurn P.answer P.asked seat self.old self.new }
         ensures free { row_at self.new seat ≡ None }
     {
         let lease = held?;
@@ -83,7 +83,7 @@ impl<P: UpdatePolicy + Drop> Desk<P> {
         requires seat { seat < seats_at self.old }
         requires row { row_at self.old seat ≡ Some (lease.number, lease.burst) }
         requires lease { IsLease (history_at self.old) (code_at self.old) lease }
-        ensures turn { IsTurn seat self.old self.new }
+        ensures turn { IsTurn P.answer P.asked seat self.old self.new }
         ensures free { row_at self.new seat ≡ None }
     {
         self.rows[seat as usize] = None;
@@ -93,7 +93,7 @@ impl<P: UpdatePolicy + Drop> Desk<P> {
     // Delivers what is owed, up to a limit. It tells whether that was all.
     fn deliver_owed(&mut self, seat: u32) -> bool
         requires orderly { IsOrderly self.old }
-        ensures turn { IsTurn seat self.old self.new }
+        ensures turn { IsTurn P.answer P.asked seat self.old self.new }
         ensures same { row_at self.new seat ≡ row_at self.old seat }
     {
         for _ in 0..MOST_DELIVERED {
@@ -107,7 +107,7 @@ impl<P: UpdatePolicy + Drop> Desk<P> {
     // Delivers what is owed next. It tells whether more may be owed.
     fn deliver_next(&mut self, seat: u32) -> bool
         requires orderly { IsOrderly self.old }
-        ensures turn { IsTurn seat self.old self.new }
+        ensures turn { IsTurn P.answer P.asked seat self.old self.new }
         ensures same { row_at self.new seat ≡ row_at self.old seat }
     {
         let Some(delivery) = self.next_delivery(seat) else {
@@ -119,7 +119,7 @@ impl<P: UpdatePolicy + Drop> Desk<P> {
     // What is owed next, if memory suffices to tell it.
     fn next_delivery(&mut self, seat: u32) -> Option<Delivery>
         requires orderly { IsOrderly self.old }
-        ensures turn { IsTurn seat self.old self.new }
+        ensures turn { IsTurn P.answer P.asked seat self.old self.new }
         ensures same { row_at self.new seat ≡ row_at self.old seat }
         ensures may { IfSome result (MayDeliverAt self.new) }
     {
@@ -135,7 +135,7 @@ impl<P: UpdatePolicy + Drop> Desk<P> {
         requires orderly { IsOrderly self.old }
         requires seat { seat < seats_at self.old }
         requires free { row_at self.old seat ≡ None }
-        ensures turn { IsTurn seat self.old self.new }
+        ensures turn { IsTurn P.answer P.asked seat self.old self.new }
         ensures lease { HasLease self.new seat result }
     {
         match self.lend_again(seat, number) {
@@ -149,7 +149,7 @@ impl<P: UpdatePolicy + Drop> Desk<P> {
         requires orderly { IsOrderly self.old }
         requires seat { seat < seats_at self.old }
         requires free { row_at self.old seat ≡ None }
-        ensures turn { IsTurn seat self.old self.new }
+        ensures turn { IsTurn P.answer P.asked seat self.old self.new }
         ensures lease { HasLease self.new seat result }
     {
         let number = number?;
@@ -161,7 +161,7 @@ impl<P: UpdatePolicy + Drop> Desk<P> {
         requires orderly { IsOrderly self.old }
         requires seat { seat < seats_at self.old }
         requires free { row_at self.old seat ≡ None }
-        ensures turn { IsTurn seat self.old self.new }
+        ensures turn { IsTurn P.answer P.asked seat self.old self.new }
         ensures lease { HasLease self.new seat result }
     {
         let number = self.core.next_ready()?;
@@ -173,7 +173,7 @@ impl<P: UpdatePolicy + Drop> Desk<P> {
         requires orderly { IsOrderly self.old }
         requires seat { seat < seats_at self.old }
         requires free { row_at self.old seat ≡ None }
-        ensures turn { IsTurn seat self.old self.new }
+        ensures turn { IsTurn P.answer P.asked seat self.old self.new }
         ensures lease { HasLease self.new seat result }
     {
         if number as usize >= self.core.activities() {

@@ -1,17 +1,26 @@
 use Rattle.std.proofs.Common.{◌≡◌, [], ap, subst, ◌∙◌}
 use Rattle.asp_model.specs.History.{HistoryShape}
+use Rattle.asp_model.specs.Shapes.{tree_of}
 use Rattle.asp_model.specs.Term.{Tree, locations}
 use Rattle.asp_core.specs.Cores.{history_of}
-use Rattle.worker_pool.proofs.SeatLemmas.{ended_as}
+use Rattle.core_ends.specs.Runs.{IsEndOfRun}
+use Rattle.core_runs.specs.Plans.{IsEndByPlan}
+use Rattle.core_runs.proofs.OverLemmas.{ended_as}
 use Rattle.worker_pool.proofs.SenderLemmas.{alone}
 use Rattle.worker_pool.proofs.pool.run.Goals as goal
 
 pub returns-clause-end : goal.returns-clause-end
 returns-clause-end g c =
-    let later = c.in_ok-core-2.ensures.begins in
-    let first = c.in_ok-core.ensures.history in
-    ended_as _ (history_of c.in_ok-core-2.core) _ _
-    (later.0 ∙ ap (λ (h : HistoryShape). h.program) first) (later.1 ∙ ap (λ (h : HistoryShape). h.budget) first) c.end_of_run.ensures.end
+    ended_as IsEndOfRun c.end_of_run.result (history_of c.in_ok-core-2.core) (history_of c.in_ok-core.core) (tree_of c.args.program.now.program.root) c.args.settings.budget
+    c.in_ok-core-2.ensures.begins c.in_ok-core.ensures.history c.end_of_run.ensures.end
+
+pub returns-clause-by_plan : goal.returns-clause-by_plan
+returns-clause-by_plan g c =
+    let plan = c.args.settings.plan in
+    let policies = c.args.policies in
+    let by = c.in_ok-core-2.ensures.by_plan plan policies c.in_ok-core.ensures.by_plan in
+    ended_as (IsEndByPlan g.P.UpdatePolicy.answer g.P.UpdatePolicy.asked plan policies) c.end_of_run.result (history_of c.in_ok-core-2.core) (history_of c.in_ok-core.core) (tree_of c.args.program.now.program.root) c.args.settings.budget
+    c.in_ok-core-2.ensures.begins c.in_ok-core.ensures.history (c.end_of_run.ensures.by_plan plan policies by)
 
 pub returns-clause-alone : goal.returns-clause-alone
 returns-clause-alone g c =

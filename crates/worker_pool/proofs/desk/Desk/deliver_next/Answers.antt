@@ -1,5 +1,5 @@
 use Rattle.std.proofs.Common.{rules, alloc_error}
-use Rattle.worker_pool.proofs.CoreLemmas.{deliver_out}
+use Rattle.worker_pool.proofs.CoreLemmas.{deliver_out, plan_by}
 use Rattle.worker_pool.proofs.TurnLemmas.{stood, turn_further}
 use Rattle.worker_pool.proofs.desk.Desk.deliver_next.Goals as goal
 
@@ -8,6 +8,7 @@ returns-clause-turn g c =
     let e = c.deliver.ensures in
     let before = c.next_delivery.ensures.turn in
     let orderly = before.keeps.orderly in
-    turn_further c.args.seat c.args.self.now c.next_delivery.new.self _ before
-    (stood c.args.seat c.next_delivery.new.self _ orderly e.begins e.code e.kept (search rules) (search rules)
+    let plan = plan_by g.P.UpdatePolicy.answer g.P.UpdatePolicy.asked c.next_delivery.new.self.core c.deliver.new.self c.deliver.result alloc_error e.spent e.gives_up e.by_plan in
+    turn_further g.P.UpdatePolicy.answer g.P.UpdatePolicy.asked c.args.seat c.args.self.now c.next_delivery.new.self _ before
+    (stood g.P.UpdatePolicy.answer g.P.UpdatePolicy.asked c.args.seat c.next_delivery.new.self _ orderly e.begins e.code e.kept plan (search rules) (search rules)
     (deliver_out _ _ orderly.kept c.deliver.result alloc_error _ e.delivered e.spent e.err))

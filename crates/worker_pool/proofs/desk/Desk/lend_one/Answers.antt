@@ -2,7 +2,7 @@ use Rattle.std.proofs.Common.{rules, ◌≡◌, ◌<◌, Some, length, sym, ◌�
 use Rattle.asp_core.specs.declared.cores.Core.{Core}
 use Rattle.asp_core.specs.Cores.{history_of}
 use Rattle.worker_pool.specs.Rows.{IsOut}
-use Rattle.worker_pool.proofs.CoreLemmas.{lends, lends_none}
+use Rattle.worker_pool.proofs.CoreLemmas.{lends, lends_none, plan_lent}
 use Rattle.worker_pool.proofs.RowLemmas.{here_set}
 use Rattle.worker_pool.proofs.TurnLemmas.{filled, stood}
 use Rattle.worker_pool.proofs.desk.Desk.lend_one.Goals as goal
@@ -11,13 +11,15 @@ pub returns-in_err-lease-clause-turn : goal.returns-in_err-lease-clause-turn
 returns-in_err-lease-clause-turn g c =
     let e = c.lend.ensures in
     let same = lends_none _ _ c.requires.orderly.kept _ c.lend.result e.lent e.spent (search rules) in
-    stood c.args.seat c.args.self.now _ c.requires.orderly e.begins e.code e.kept (search rules) (search rules)
+    let plan = plan_lent g.P.UpdatePolicy.answer g.P.UpdatePolicy.asked c.args.self.now.core c.lend.new.self e.spent e.by_plan in
+    stood g.P.UpdatePolicy.answer g.P.UpdatePolicy.asked c.args.seat c.args.self.now _ c.requires.orderly e.begins e.code e.kept plan (search rules) (search rules)
     (λ k burst out. subst (λ (x : Core g.row.P.Denot). IsOut (history_of x) k burst) (sym same) out)
 
 pub returns-clause-turn : goal.returns-clause-turn
 returns-clause-turn g c =
     let e = c.lend.ensures in
-    filled c.args.seat c.args.self.now _ c.requires.orderly e.begins e.code e.kept (search rules) _ c.in_ok-lease.lease
+    let plan = plan_lent g.P.UpdatePolicy.answer g.P.UpdatePolicy.asked c.args.self.now.core c.lend.new.self e.spent e.by_plan in
+    filled g.P.UpdatePolicy.answer g.P.UpdatePolicy.asked c.args.seat c.args.self.now _ c.requires.orderly e.begins e.code e.kept plan (search rules) _ c.in_ok-lease.lease
     (lends _ _ c.requires.orderly.kept _ c.lend.result e.lent e.spent c.in_ok-lease.lease (search rules)) (search rules)
 
 pub returns-clause-lease : goal.returns-clause-lease
