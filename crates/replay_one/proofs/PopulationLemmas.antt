@@ -4,6 +4,8 @@ use Rattle.std.specs.FinMap.{find, put}
 use Rattle.std.specs.Map.{lookup}
 use Rattle.std.specs.BTreeMap as trees
 use Rattle.std.specs.BTreeMap.{BTreeMap, is_at}
+use Rattle.std.specs.Global.{Box}
+use Rattle.std.specs.Option.{option_map}
 use Rattle.asp_model.specs.declared.name.FutureName.{FutureName}
 use Rattle.asp_model.specs.Names.{Name, FutureShape, name_cmp, future_cmp}
 use Rattle.asp_model.specs.Term.{Tree}
@@ -63,26 +65,37 @@ there_found p c n a h e = by (found_in p n) refl (subst (λ o. StandsAt (found_i
     by None q s = absurd s
     by (Some x) q s = (x, q, s)
 
+-- Boxes
+
+abbrev pub unboxed : Option (Box Actor) → Option Actor
+unboxed = option_map (λ b. b.value)
+
+pub in_box : {o : Option (Box Actor)} {x : Box Actor} → o ≡ Some x → unboxed o ≡ Some x.value
+in_box e = ap unboxed e
+
+pub no_box : {o : Option (Box Actor)} → o ≡ None → unboxed o ≡ None
+no_box e = ap unboxed e
+
 -- Changes
 
-others : (p q : BTreeMap Name Actor) (n m : Name) (o : Option Actor) → trees.Updates name_cmp p q n o → m ≢ n → trees.get name_cmp q m ≡ trees.get name_cmp p m
-others p q n m o u d = u.2 m (names_apart n m (λ e. d (sym e)))
+others : (p q : Population) (n m : Name) (o : Option (Box Actor)) → trees.Updates name_cmp p.activities q.activities n o → m ≢ n → found_in q m ≡ found_in p m
+others p q n m o u d = ap unboxed (u.2 m (names_apart n m (λ e. d (sym e))))
 
 -- who was in the population runs its code, and so does who stands at the name
-actors_of : (k : List Node) (p q : Population) (n : Name) (x : Actor) → AreActorsOf k p → trees.Updates name_cmp p.activities q.activities n (Some x) → code_of x ≡ k → AreActorsOf k q
+actors_of : (k : List Node) (p q : Population) (n : Name) (x : Box Actor) → AreActorsOf k p → trees.Updates name_cmp p.activities q.activities n (Some x) → code_of x.value ≡ k → AreActorsOf k q
 actors_of k p q n x h u e m y is = ⊎_elim
-    (λ same. let found : Some x ≡ Some y = sym u.1 ∙ ap (found_in q) (sym same) ∙ is in ap code_of (sym (some_is found)) ∙ e)
-    (λ apart. h m y (sym (others p.activities q.activities n m (Some x) u apart) ∙ is))
+    (λ same. let found : Some x.value ≡ Some y = sym (ap unboxed u.1) ∙ ap (found_in q) (sym same) ∙ is in ap code_of (sym (some_is found)) ∙ e)
+    (λ apart. h m y (sym (others p q n m (Some x) u apart) ∙ is))
     (name_case m n)
 
 -- another stands at a name, in a configuration that differs there alone
-set_at : (p q : Population) (c d : Configuration) (n : Name) (x : Actor) (a : model.Activity) (h : IsPopulation p c) → trees.Updates name_cmp p.activities q.activities n (Some x) → q.futures ≡ p.futures → d.futures ≡ c.futures
-    → find name_cmp n d.activities ≡ Some a → Stands x a (requests_of d n) → ((m : Name) → m ≢ n → (find name_cmp m d.activities ≡ find name_cmp m c.activities) × (requests_of d m ≡ requests_of c m)) → code_of x ≡ h.code → (t : IsPopulation q d) × (t.code ≡ h.code)
+set_at : (p q : Population) (c d : Configuration) (n : Name) (x : Box Actor) (a : model.Activity) (h : IsPopulation p c) → trees.Updates name_cmp p.activities q.activities n (Some x) → q.futures ≡ p.futures → d.futures ≡ c.futures
+    → find name_cmp n d.activities ≡ Some a → Stands x.value a (requests_of d n) → ((m : Name) → m ≢ n → (find name_cmp m d.activities ≡ find name_cmp m c.activities) × (requests_of d m ≡ requests_of c m)) → code_of x.value ≡ h.code → (t : IsPopulation q d) × (t.code ≡ h.code)
 set_at p q c d n x a h u f g is s apart e = (
   record {
     activities = λ m. ⊎_elim
-        (λ e. subst (λ k. StandsAt (found_in q k) (find name_cmp k d.activities) (requests_of d k)) (sym e) (stands_here (found_in q n) (find name_cmp n d.activities) (requests_of d n) x a u.1 is s))
-        (λ k. stands_still (found_in p m) (found_in q m) (find name_cmp m c.activities) (find name_cmp m d.activities) (requests_of c m) (requests_of d m) (others p.activities q.activities n m (Some x) u k) (apart m k).0 (apart m k).1 (h.activities m))
+        (λ e. subst (λ k. StandsAt (found_in q k) (find name_cmp k d.activities) (requests_of d k)) (sym e) (stands_here (found_in q n) (find name_cmp n d.activities) (requests_of d n) x.value a (ap unboxed u.1) is s))
+        (λ k. stands_still (found_in p m) (found_in q m) (find name_cmp m c.activities) (find name_cmp m d.activities) (requests_of c m) (requests_of d m) (others p q n m (Some x) u k) (apart m k).0 (apart m k).1 (h.activities m))
         (name_case m n);
     futures = ap values_of f ∙ h.futures ∙ sym g;
     code = h.code;
@@ -92,26 +105,22 @@ set_at p q c d n x a h u f g is s apart e = (
   refl,
 )
 
-pub changed : (p q : Population) (c : Configuration) (n : Name) (x : Actor) (a : model.Activity) (h : IsPopulation p c) → trees.Updates name_cmp p.activities q.activities n (Some x) → q.futures ≡ p.futures → Stands x a (requests_of c n) → code_of x ≡ h.code → (t : IsPopulation q (with_activity n a c)) × (t.code ≡ h.code)
+pub changed : (p q : Population) (c : Configuration) (n : Name) (x : Box Actor) (a : model.Activity) (h : IsPopulation p c) → trees.Updates name_cmp p.activities q.activities n (Some x) → q.futures ≡ p.futures → Stands x.value a (requests_of c n) → code_of x.value ≡ h.code → (t : IsPopulation q (with_activity n a c)) × (t.code ≡ h.code)
 changed p q c n x a h u f s e = set_at p q c (with_activity n a c) n x a h u f refl (find_same name_cmp name_total name_same n a c.activities) s (λ m d. (find_other name_cmp name_total name_same m n a c.activities d, refl)) e
 
--- it stands for what it stood for
-pub settled : (p q : Population) (c : Configuration) (n : Name) (x : Actor) (a : model.Activity) (h : IsPopulation p c) → trees.Updates name_cmp p.activities q.activities n (Some x) → q.futures ≡ p.futures → find name_cmp n c.activities ≡ Some a → Stands x a (requests_of c n) → code_of x ≡ h.code → IsPopulation q c
-settled p q c n x a h u f is s e = (set_at p q c c n x a h u f refl is s (λ m d. (refl, refl)) e).0
-
-pub received : (p q : Population) (c : Configuration) (n : Name) (x : Actor) (r : RequestShape) (a : model.Activity) (h : IsPopulation p c) → trees.Updates name_cmp p.activities q.activities n (Some x) → q.futures ≡ p.futures → find name_cmp n c.activities ≡ Some a → Stands x a (requests_of c n ++ r ∷ []) → code_of x ≡ h.code → IsPopulation q (with_request n r c)
+pub received : (p q : Population) (c : Configuration) (n : Name) (x : Box Actor) (r : RequestShape) (a : model.Activity) (h : IsPopulation p c) → trees.Updates name_cmp p.activities q.activities n (Some x) → q.futures ≡ p.futures → find name_cmp n c.activities ≡ Some a → Stands x.value a (requests_of c n ++ r ∷ []) → code_of x.value ≡ h.code → IsPopulation q (with_request n r c)
 received p q c n x r a h u f is s e =
     let d : Configuration = with_request n r c in
     let more : List RequestShape = requests_of c n ++ r ∷ [] in
     let here : requests_of d n ≡ more = ap or_none (find_same name_cmp name_total name_same n more c.received) in
-    (set_at p q c d n x a h u f refl is (subst (Stands x a) (sym here) s) (λ m k. (refl, ap or_none (find_other name_cmp name_total name_same m n more c.received k))) e).0
+    (set_at p q c d n x a h u f refl is (subst (Stands x.value a) (sym here) s) (λ m k. (refl, ap or_none (find_other name_cmp name_total name_same m n more c.received k))) e).0
 
 pub value_filled : (p q : Population) (c : Configuration) (f : FutureShape) (v : ParcelShape) (h : IsPopulation p c) → q.activities ≡ p.activities → values_of q.futures ≡ put future_cmp f v (values_of p.futures) → AreOfCode h.code q.futures → IsPopulation q (with_value f v c)
 value_filled p q c f v h e g coded = record {
-  activities = λ m. subst (λ (t : BTreeMap Name Actor). StandsAt (trees.get name_cmp t m) (find name_cmp m c.activities) (requests_of c m)) (sym e) (h.activities m);
+  activities = λ m. subst (λ (t : BTreeMap Name (Box Actor)). StandsAt (unboxed (trees.get name_cmp t m)) (find name_cmp m c.activities) (requests_of c m)) (sym e) (h.activities m);
   futures = g ∙ ap (λ (vs : Values). put future_cmp f v vs) h.futures;
   code = h.code;
-  actors = λ m x is. h.actors m x (sym (ap (λ (t : BTreeMap Name Actor). trees.get name_cmp t m) e) ∙ is);
+  actors = λ m x is. h.actors m x (sym (ap (λ (t : BTreeMap Name (Box Actor)). unboxed (trees.get name_cmp t m)) e) ∙ is);
   values = coded;
 }
 
@@ -126,10 +135,10 @@ none_mapped f (x ∷ xs) h = cc
 pub nobody_yet : (k : List Node) (p : Population) → p.activities.entries ≡ [] → values_of p.futures ≡ [] → (t : IsPopulation p nothing_there) × (t.code ≡ k)
 nobody_yet k p none f = (
   record {
-    activities = λ m. subst (λ o. StandsAt o None []) (sym (ap (lookup (is_at (name_cmp m))) none)) tt;
+    activities = λ m. subst (λ o. StandsAt o None []) (sym (ap (λ es. unboxed (lookup (is_at (name_cmp m)) es)) none)) tt;
     futures = f;
     code = k;
-    actors = λ m x is. no_some (sym (ap (lookup (is_at (name_cmp m))) none) ∙ is);
+    actors = λ m x is. no_some (sym (ap (λ es. unboxed (lookup (is_at (name_cmp m)) es)) none) ∙ is);
     values = subst (AreOfCode k) (sym (none_mapped (λ (e : FutureName × Parcel). (future_shape e.0, parcel_shape e.1)) p.futures f)) tt;
   },
   refl,

@@ -1,10 +1,11 @@
 -- The ends of the activities of a population are those of its configuration.
-use Rattle.std.proofs.Common.{◌≡◌, ◌<◌, ◌||◌, ◌∷◌, ◌++◌, [], Bool, T, List, Option, Some, None, length, map, refl, sym, ap, subst, ◌∙◌, inl, inr, ⊎_elim, arith}
+use Rattle.std.proofs.Common.{◌≡◌, ◌≢◌, ◌||◌, ◌∷◌, ◌++◌, [], Bool, T, List, Option, Some, None, map, refl, sym, ap, subst, ◌∙◌, inl, inr, ⊎_elim}
 use Rattle.std.specs.List.{list_any, AllByRecursion}
 use Rattle.std.proofs.lemmas.List.{append_assoc, append-nil, map-append}
 use Rattle.std.specs.List.Sorted.{IsStrictlySortedBy}
 use Rattle.std.specs.FinMap.{find, is_sorted}
 use Rattle.std.specs.Map.{keys_of}
+use Rattle.std.specs.Global.{Box}
 use Rattle.std.specs.Ordering.{ordering_reverse}
 use Rattle.std.specs.declared.cmp.Ordering.{Ordering}
 use Rattle.std.specs.declared.cmp.Ordering.TheVariants.{Less, Equal, Greater}
@@ -39,7 +40,7 @@ use Rattle.replay_one.specs.declared.population.Population.{Population}
 use Rattle.replay_one.specs.Population.{IsReachedPopulation, StandsAt}
 use Rattle.replay_one.specs.Ends.{AreClosedStates, AreEndsBy, AreEndsFor, IsEndBy, IsEndFor, end_with}
 use Rattle.replay_one.proofs.EntryLemmas.{absent_below, absent_less, find_head, find_skip, lookup_find, sorted_by}
-use Rattle.replay_one.proofs.PopulationLemmas.{stands_no, stands_none}
+use Rattle.replay_one.proofs.PopulationLemmas.{stands_no, stands_none, unboxed}
 
 pub list_any_map : {X Y : Type 0} (p : Y → Bool) (f : X → Y) (xs : List X) → list_any p (map f xs) ≡ list_any (λ x. p (f x)) xs
 list_any_map p f [] = refl
@@ -47,14 +48,26 @@ list_any_map p f (x ∷ xs) = ap (λ b. p (f x) || b) (list_any_map p f xs)
 
 -- Pairs
 
-abbrev ArePaired : Configuration → List (Name × Actor) → List (Name × model.Activity) → Type 0
+abbrev ArePaired : Configuration → List (Name × Box Actor) → List (Name × model.Activity) → Type 0
 ArePaired c [] [] = Unit {0}
 ArePaired c [] (y ∷ ys) = ⊥
 ArePaired c (x ∷ xs) [] = ⊥
-ArePaired c (x ∷ xs) (y ∷ ys) = (x.0 ≡ y.0) × Stands x.1 y.1 (requests_of c y.0) × ArePaired c xs ys
+ArePaired c (x ∷ xs) (y ∷ ys) = (x.0 ≡ y.0) × Stands x.1.value y.1 (requests_of c y.0) × ArePaired c xs ys
 
-abbrev StandBy : Configuration → List (Name × Actor) → List (Name × model.Activity) → Type 0
-StandBy c xs ys = (n : Name) → StandsAt (find name_cmp n xs) (find name_cmp n ys) (requests_of c n)
+abbrev at_name : Name → List (Name × Box Actor) → Option Actor
+at_name n xs = unboxed (find name_cmp n xs)
+
+at_head : (x : Name × Box Actor) (xs : List (Name × Box Actor)) → at_name x.0 (x ∷ xs) ≡ Some x.1.value
+at_head x xs = ap unboxed (find_head x xs)
+
+at_skip : (n : Name) (x : Name × Box Actor) (xs : List (Name × Box Actor)) → n ≢ x.0 → at_name n (x ∷ xs) ≡ at_name n xs
+at_skip n x xs d = ap unboxed (find_skip n x xs d)
+
+at_none : (n : Name) (xs : List (Name × Box Actor)) → find name_cmp n xs ≡ None → at_name n xs ≡ None
+at_none n xs e = ap unboxed e
+
+abbrev StandBy : Configuration → List (Name × Box Actor) → List (Name × model.Activity) → Type 0
+StandBy c xs ys = (n : Name) → StandsAt (at_name n xs) (find name_cmp n ys) (requests_of c n)
 
 heads_stand : (x : Actor) (y : model.Activity) (o : Option Actor) (p : Option model.Activity) (rs : List RequestShape) → o ≡ Some x → p ≡ Some y → StandsAt o p rs → Stands x y rs
 heads_stand x y o p rs e f h = subst (λ q. StandsAt (Some x) q rs) f (subst (λ q. StandsAt q p rs) e h)
@@ -71,26 +84,26 @@ both_none o p rs e f = subst (λ q. StandsAt q p rs) (sym e) (subst (λ q. Stand
 still_stand : (o o' : Option Actor) (p p' : Option model.Activity) (rs : List RequestShape) → o ≡ o' → p ≡ p' → StandsAt o p rs → StandsAt o' p' rs
 still_stand o o' p p' rs e f h = subst (λ q. StandsAt q p' rs) e (subst (λ q. StandsAt o q rs) f h)
 
-tails_stand : (c : Configuration) (x : Name × Actor) (xs : List (Name × Actor)) (y : Name × model.Activity) (ys : List (Name × model.Activity)) → T (is_sorted name_cmp (x ∷ xs)) → T (is_sorted name_cmp (y ∷ ys)) → x.0 ≡ y.0 → StandBy c (x ∷ xs) (y ∷ ys) → StandBy c xs ys
+tails_stand : (c : Configuration) (x : Name × Actor) (xs : List (Name × Box Actor)) (y : Name × model.Activity) (ys : List (Name × model.Activity)) → T (is_sorted name_cmp (x ∷ xs)) → T (is_sorted name_cmp (y ∷ ys)) → x.0 ≡ y.0 → StandBy c (x ∷ xs) (y ∷ ys) → StandBy c xs ys
 tails_stand c x xs y ys s t e h n = ⊎_elim
-    (λ q. both_none (find name_cmp n xs) (find name_cmp n ys) (requests_of c n)
-    (ap (λ k. find name_cmp k xs) (q ∙ sym e) ∙ absent_below x.0 xs (first_of_both _ _ s))
+    (λ q. both_none (at_name n xs) (find name_cmp n ys) (requests_of c n)
+    (ap (λ k. at_name k xs) (q ∙ sym e) ∙ at_none x.0 xs (absent_below x.0 xs (first_of_both _ _ s)))
     (ap (λ k. find name_cmp k ys) q ∙ absent_below y.0 ys (first_of_both _ _ t)))
-    (λ d. still_stand (find name_cmp n (x ∷ xs)) (find name_cmp n xs) (find name_cmp n (y ∷ ys)) (find name_cmp n ys) (requests_of c n) (find_skip n x xs (λ q. d (q ∙ e))) (find_skip n y ys d) (h n))
+    (λ d. still_stand (at_name n (x ∷ xs)) (at_name n xs) (find name_cmp n (y ∷ ys)) (find name_cmp n ys) (requests_of c n) (at_skip n x xs (λ q. d (q ∙ e))) (find_skip n y ys d) (h n))
     (name_case n y.0)
 
-paired : (c : Configuration) (xs : List (Name × Actor)) (ys : List (Name × model.Activity)) → T (is_sorted name_cmp xs) → T (is_sorted name_cmp ys) → StandBy c xs ys → ArePaired c xs ys
+paired : (c : Configuration) (xs : List (Name × Box Actor)) (ys : List (Name × model.Activity)) → T (is_sorted name_cmp xs) → T (is_sorted name_cmp ys) → StandBy c xs ys → ArePaired c xs ys
 paired c [] [] s t h = tt
 paired c [] (y ∷ ys) s t h = none_some None (find name_cmp y.0 (y ∷ ys)) (requests_of c y.0) y.1 refl (find_head y ys) (h y.0)
-paired c (x ∷ xs) [] s t h = some_none (find name_cmp x.0 (x ∷ xs)) None (requests_of c x.0) x.1 (find_head x xs) refl (h x.0)
+paired c (x ∷ xs) [] s t h = some_none (at_name x.0 (x ∷ xs)) None (requests_of c x.0) x.1.value (at_head x xs) refl (h x.0)
 paired c (x ∷ xs) (y ∷ ys) s t h = by (name_cmp x.0 y.0) refl (λ e. paired c xs ys (second_of_both _ _ s) (second_of_both _ _ t) (tails_stand c x xs y ys s t e h))
   where
     by : (r : Ordering) → name_cmp x.0 y.0 ≡ r → (x.0 ≡ y.0 → ArePaired c xs ys) → ArePaired c (x ∷ xs) (y ∷ ys)
-    by Less q ih = some_none (find name_cmp x.0 (x ∷ xs)) (find name_cmp x.0 (y ∷ ys)) (requests_of c x.0) x.1 (find_head x xs) (absent_less x.0 y ys q t) (h x.0)
+    by Less q ih = some_none (at_name x.0 (x ∷ xs)) (find name_cmp x.0 (y ∷ ys)) (requests_of c x.0) x.1.value (at_head x xs) (absent_less x.0 y ys q t) (h x.0)
     by Equal q ih =
         let e = name_cmp_same x.0 y.0 q in
-        (e, heads_stand x.1 y.1 (find name_cmp y.0 (x ∷ xs)) (find name_cmp y.0 (y ∷ ys)) (requests_of c y.0) (ap (λ k. find name_cmp k (x ∷ xs)) (sym e) ∙ find_head x xs) (find_head y ys) (h y.0), ih e)
-    by Greater q ih = none_some (find name_cmp y.0 (x ∷ xs)) (find name_cmp y.0 (y ∷ ys)) (requests_of c y.0) y.1 (absent_less y.0 x xs (name_total.antisymm y.0 x.0 ∙ ap ordering_reverse q) s) (find_head y ys) (h y.0)
+        (e, heads_stand x.1.value y.1 (at_name y.0 (x ∷ xs)) (find name_cmp y.0 (y ∷ ys)) (requests_of c y.0) (ap (λ k. at_name k (x ∷ xs)) (sym e) ∙ at_head x xs) (find_head y ys) (h y.0), ih e)
+    by Greater q ih = none_some (at_name y.0 (x ∷ xs)) (find name_cmp y.0 (y ∷ ys)) (requests_of c y.0) y.1 (at_none y.0 (x ∷ xs) (absent_less y.0 x xs (name_total.antisymm y.0 x.0 ∙ ap ordering_reverse q) s)) (find_head y ys) (h y.0)
 
 -- Reports
 
@@ -108,25 +121,25 @@ end_is c n y e is = let report = report_is c n y e is in λ i. record { report =
 
 -- Codes
 
-abbrev AreCoded : List Node → List (Name × Actor) → Type 0
-AreCoded k = AllByRecursion (λ x. code_of x.1 ≡ k)
+abbrev AreCoded : List Node → List (Name × Box Actor) → Type 0
+AreCoded k = AllByRecursion (λ x. code_of x.1.value ≡ k)
 
-abbrev CodedBy : List Node → List (Name × Actor) → Type 0
-CodedBy k xs = (n : Name) (x : Actor) → find name_cmp n xs ≡ Some x → code_of x ≡ k
+abbrev CodedBy : List Node → List (Name × Box Actor) → Type 0
+CodedBy k xs = (n : Name) (x : Actor) → at_name n xs ≡ Some x → code_of x ≡ k
 
-coded : (k : List Node) (xs : List (Name × Actor)) → T (is_sorted name_cmp xs) → CodedBy k xs → AreCoded k xs
+coded : (k : List Node) (xs : List (Name × Box Actor)) → T (is_sorted name_cmp xs) → CodedBy k xs → AreCoded k xs
 coded k [] s h = tt
 coded k (x ∷ xs) s h = (
-  h x.0 x.1 (find_head x xs),
+  h x.0 x.1.value (at_head x xs),
   coded k xs (second_of_both _ _ s) (λ n y e. ⊎_elim
-      (λ q. no_some (sym (ap (λ m. find name_cmp m xs) q ∙ absent_below x.0 xs (first_of_both _ _ s)) ∙ e))
-      (λ d. h n y (find_skip n x xs d ∙ e))
+      (λ q. no_some (sym (ap (λ m. at_name m xs) q ∙ at_none x.0 xs (absent_below x.0 xs (first_of_both _ _ s))) ∙ e))
+      (λ d. h n y (at_skip n x xs d ∙ e))
       (name_case n x.0)),
 )
 
 -- Ends
 
-ends_paired : (k : List Node) (c : Configuration) (xs : List (Name × Actor)) (ys : List (Name × model.Activity)) → AreCoded k xs → ArePaired c xs ys → AreThere c ys → AreEndsFor k c.futures xs (map (end_of c) ys)
+ends_paired : (k : List Node) (c : Configuration) (xs : List (Name × Box Actor)) (ys : List (Name × model.Activity)) → AreCoded k xs → ArePaired c xs ys → AreThere c ys → AreEndsFor k c.futures xs (map (end_of c) ys)
 ends_paired k c [] [] d h t = tt
 ends_paired k c [] (y ∷ ys) d h t = absurd h
 ends_paired k c (x ∷ xs) [] d h t = absurd h
@@ -135,7 +148,7 @@ ends_paired k c (x ∷ xs) (y ∷ ys) d h t = (
   ends_paired k c xs ys d.1 h.2 (λ z i. t z (inr i)),
 )
 
-closed_paired : (c : Configuration) (xs : List (Name × Actor)) (ys : List (Name × model.Activity)) → IsClosed c → ArePaired c xs ys → AreThere c ys → AreClosedStates xs
+closed_paired : (c : Configuration) (xs : List (Name × Box Actor)) (ys : List (Name × model.Activity)) → IsClosed c → ArePaired c xs ys → AreThere c ys → AreClosedStates xs
 closed_paired c [] [] k h t = tt
 closed_paired c [] (y ∷ ys) k h t = absurd h
 closed_paired c (x ∷ xs) [] k h t = absurd h
@@ -144,13 +157,13 @@ closed_paired c (x ∷ xs) (y ∷ ys) k h t = (record { activity = y.1; received
 module _ (p : Population) (program : Tree) (c : Configuration) (h : IsReachedPopulation p program c) (sorted : IsStrictlySortedBy name_cmp (keys_of p.activities.entries)) where
   population_paired : ArePaired c p.activities.entries c.activities
   population_paired = paired c p.activities.entries c.activities (sorted_by p.activities.entries sorted) (entries_ascend program c h.reached).activities
-      (λ n. subst (λ o. StandsAt o (find name_cmp n c.activities) (requests_of c n)) (lookup_find n p.activities.entries) (h.population.activities n))
+      (λ n. subst (λ o. StandsAt (unboxed o) (find name_cmp n c.activities) (requests_of c n)) (lookup_find n p.activities.entries) (h.population.activities n))
 
   all_there : AreThere c c.activities
   all_there y i = entry_found c.activities y (entries_ascend program c h.reached).activities i
 
   population_coded : AreCoded h.population.code p.activities.entries
-  population_coded = coded h.population.code p.activities.entries (sorted_by p.activities.entries sorted) (λ n x e. h.population.actors n x (lookup_find n p.activities.entries ∙ e))
+  population_coded = coded h.population.code p.activities.entries (sorted_by p.activities.entries sorted) (λ n x e. h.population.actors n x (ap unboxed (lookup_find n p.activities.entries) ∙ e))
 
   pub population_ends : AreEndsFor h.population.code (values_of p.futures) p.activities.entries (map (end_of c) c.activities)
   population_ends = subst (λ (vs : Values). AreEndsFor h.population.code vs p.activities.entries (map (end_of c) c.activities)) (sym h.population.futures) (ends_paired h.population.code c p.activities.entries c.activities population_coded population_paired all_there)
@@ -161,14 +174,14 @@ module _ (p : Population) (program : Tree) (c : Configuration) (h : IsReachedPop
 -- One end after the other
 
 -- some ends were made, and the others are still to come
-pub record IsPart (k : List Node) (values : Values) (xs : List (Name × Actor)) (es : List EndShape) (rs : List ActivityReport) (ss : List EndState) : Type 0 where
+pub record IsPart (k : List Node) (values : Values) (xs : List (Name × Box Actor)) (es : List EndShape) (rs : List ActivityReport) (ss : List EndState) : Type 0 where
   pub done : List EndShape
   pub rest : List EndShape
   pub all : es ≡ done ++ rest
   pub made : AreEndsBy k rs ss done
   pub left : AreEndsFor k values xs rest
 
-pub none_made : (k : List Node) (values : Values) (xs : List (Name × Actor)) (es : List EndShape) → AreEndsFor k values xs es → IsPart k values xs es [] []
+pub none_made : (k : List Node) (values : Values) (xs : List (Name × Box Actor)) (es : List EndShape) → AreEndsFor k values xs es → IsPart k values xs es [] []
 none_made k values xs es h = record { done = []; rest = es; all = refl; made = record { reports = refl; states = tt }; left = h }
 
 states_more : (k : List Node) (ss : List EndState) (s : EndState) (es : List EndShape) (e : EndShape) → AreSnapshotsOf k ss es → IsSnapshotOf k s e.snapshot → AreSnapshotsOf k (ss ++ s ∷ []) (es ++ e ∷ [])
@@ -186,8 +199,8 @@ ends_more k rs ss es e r s h g = record {
 }
 
 -- one more end is made
-pub one_made : (k : List Node) (values : Values) (x : Name × Actor) (xs : List (Name × Actor)) (es : List EndShape) (rs : List ActivityReport) (ss : List EndState) (r : ActivityReport) (s : EndState) → IsPart k values (x ∷ xs) es rs ss
-    → ((a : model.Activity) (qs : List RequestShape) → Stands x.1 a qs → IsEndBy (code_of x.1) (end_with values x.0 a qs) (r, s)) → IsPart k values xs es (rs ++ r ∷ []) (ss ++ s ∷ [])
+pub one_made : (k : List Node) (values : Values) (x : Name × Actor) (xs : List (Name × Box Actor)) (es : List EndShape) (rs : List ActivityReport) (ss : List EndState) (r : ActivityReport) (s : EndState) → IsPart k values (x ∷ xs) es rs ss
+    → ((a : model.Activity) (qs : List RequestShape) → Stands x.1.value a qs → IsEndBy (code_of x.1.value) (end_with values x.0 a qs) (r, s)) → IsPart k values xs es (rs ++ r ∷ []) (ss ++ s ∷ [])
 one_made k values x xs es rs ss r s p is = by p.rest p.all p.left
   where
     by : (rest : List EndShape) → es ≡ p.done ++ rest → AreEndsFor k values (x ∷ xs) rest → IsPart k values xs es (rs ++ r ∷ []) (ss ++ s ∷ [])
@@ -210,10 +223,6 @@ all_made k values es rs ss p = by p.rest p.all p.left
     by : (rest : List EndShape) → es ≡ p.done ++ rest → AreEndsFor k values [] rest → AreEndsBy k rs ss es
     by [] all left = subst (AreEndsBy k rs ss) (sym (all ∙ append-nil p.done)) p.made
     by (e ∷ rest) all left = absurd left
-
-pub empty_if : {A : Type 0} (xs : List A) → (0 < length xs → ⊥) → xs ≡ []
-empty_if [] h = refl
-empty_if (x ∷ xs) h = absurd (h (omega arith))
 
 -- Outcomes
 

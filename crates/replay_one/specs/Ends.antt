@@ -1,5 +1,6 @@
 -- The ends of the activities of a population.
 use Rattle.std.specs.Prelude.{◌≡◌, List, [], ◌∷◌, map}
+use Rattle.std.specs.Global.{Box}
 use Rattle.std.specs.List.{AllByRecursion}
 use Rattle.asp_model.specs.declared.outcome.ActivityReport.{ActivityReport}
 use Rattle.asp_model.specs.Names.{Name}
@@ -40,18 +41,18 @@ pub record AreEndsBy (k : List Node) (rs : List ActivityReport) (xs : List EndSt
   pub states : AreSnapshotsOf k xs es
 
 -- the end of an activity that an actor stands for, which runs this code
-pub record IsEndFor (k : List Node) (values : Values) (x : Name × Actor) (e : EndShape) : Type 0 where
+pub record IsEndFor (k : List Node) (values : Values) (x : Name × Box Actor) (e : EndShape) : Type 0 where
   pub activity : model.Activity
   pub received : List RequestShape
-  pub stands : Stands x.1 activity received
+  pub stands : Stands x.1.value activity received
   pub is : e ≡ end_with values x.0 activity received
-  pub coded : code_of x.1 ≡ k
+  pub coded : code_of x.1.value ≡ k
 
-abbrev pub AreEndsFor : List Node → Values → List (Name × Actor) → List EndShape → Type 0
+abbrev pub AreEndsFor : List Node → Values → List (Name × Box Actor) → List EndShape → Type 0
 AreEndsFor k values [] [] = Unit {0}
 AreEndsFor k values [] (e ∷ es) = ⊥
 AreEndsFor k values (x ∷ xs) [] = ⊥
 AreEndsFor k values (x ∷ xs) (e ∷ es) = IsEndFor k values x e × AreEndsFor k values xs es
 
-abbrev pub AreClosedStates : List (Name × Actor) → Type 0
-AreClosedStates = AllByRecursion (λ x. IsClosedFor x.1)
+abbrev pub AreClosedStates : List (Name × Box Actor) → Type 0
+AreClosedStates = AllByRecursion (λ x. IsClosedFor x.1.value)

@@ -3,6 +3,7 @@ use Rattle.std.specs.Prelude.{◌≡◌, ◌≢◌, ◌⊎◌, ◌≤◌, ◌-�
 use Rattle.std.specs.FinMap.{find, put}
 use Rattle.std.specs.Map.{lookup}
 use Rattle.std.specs.BTreeMap.{is_at}
+use Rattle.std.specs.Option.{option_map}
 use Rattle.asp_model.specs.Names.{Name, FutureShape, name_cmp, future_cmp}
 use Rattle.asp_model.specs.Term.{Tree, locations}
 use Rattle.asp_model.specs.Parcel.{ParcelShape}
@@ -30,7 +31,7 @@ abbrev pub term_of : List Node → Tree
 term_of k = tree [] (piece_at (pieces k) (root_of k))
 
 abbrev pub found_in : Population → Name → Option Actor
-found_in p n = lookup (is_at (name_cmp n)) p.activities.entries
+found_in p n = option_map (λ b. b.value) (lookup (is_at (name_cmp n)) p.activities.entries)
 
 -- nobody is there, or the one stands for the other
 abbrev pub StandsAt : Option Actor → Option model.Activity → List RequestShape → Type 0

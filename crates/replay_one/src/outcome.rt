@@ -61,25 +61,26 @@ fn status_of(alloc: Global, actor: &Actor, futures: &FutureTable) -> Result<Stat
 fn end_of(
     alloc: Global,
     name: ActivityName,
-    mut actor: Actor,
+    mut actor: Box<Actor>,
     futures: &FutureTable,
 ) -> Result<(ActivityReport, EndState), AllocError>
-    requires closed { IsClosedFor actor }
+    requires closed { IsClosedFor actor.value }
     requires values { AreClosedValues (values_of futures.now) }
-    ensures end { (a : model.Activity) (rs : List RequestShape) → Stands actor a rs →
+    ensures end { (a : model.Activity) (rs : List RequestShape) → Stands actor.value a rs →
         let end = end_with (values_of futures.now) name a rs in
-        IfOk result (IsEndBy (code_of actor) end) }
+        IfOk result (IsEndBy (code_of actor.value) end) }
 {
-    actor.settle()?;
-    let status = status_of(alloc, &actor, futures)?;
-    Ok(actor.into_end(name, status))
+    let here = actor.as_mut();
+    here.settle()?;
+    let status = status_of(alloc, here, futures)?;
+    Ok(Box::into_inner(actor).into_end(name, status))
 }
 
 /// The ends of so many activities, in ascending order of names.
 fn ends_of(
     alloc: Global,
     count: usize,
-    mut activities: BTreeMap<ActivityName, Actor>,
+    activities: BTreeMap<ActivityName, Box<Actor>>,
     futures: &FutureTable,
 ) -> Result<(Vec<ActivityReport>, Vec<EndState>), AllocError>
     requires closed { AreClosedStates activities.entries }
@@ -90,7 +91,7 @@ fn ends_of(
 {
     let mut reports = Vec::with_capacity(alloc, count)?;
     let mut states = Vec::with_capacity(alloc, count)?;
-    while let Some((name, actor)) = activities.pop_first() {
+    for (name, actor) in activities {
         let (report, state) = end_of(alloc, name, actor, futures)?;
         reports.push(report)?;
         states.push(state)?;
@@ -141,7 +142,7 @@ fn code_of_all(population: &Population) -> Result<Arc<Code>, AllocError>
         IfOk result (λ k. arc_value k ≡ p.code) }
 {
     match population.activities.first_key_value() {
-        Some((_name, actor)) => Arc::try_clone(actor.code()),
+        Some((_name, actor)) => Arc::try_clone(actor.as_ref().code()),
         // There is always main.
         None => Err(AllocError),
     }

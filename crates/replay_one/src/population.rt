@@ -4,6 +4,7 @@ ghost use Rattle.std.specs.Prelude.{◌≡◌, [], IfOk, None, OnOk, Some, lengt
 ghost use Rattle.std.specs.Arc.{arc_value};
 ghost use Rattle.std.specs.FinMap.{find};
 ghost use Rattle.std.specs.BTreeMap.{Updates};
+ghost use Rattle.std.specs.Option.{option_map};
 ghost use Rattle.asp_model.specs.Names.{Name, future_cmp, name_cmp};
 ghost use Rattle.asp_model.specs.Configuration as model;
 ghost use Rattle.asp_model.specs.Configuration.{Configuration, requests_of, start as start_of};
@@ -26,6 +27,7 @@ ghost use Rattle.replay_one.specs.Population.{
   IsPassing,
   IsReachedBySome,
   IsRunIn,
+  found_in,
   or_zero,
   passed_in,
   term_of,
@@ -49,7 +51,7 @@ use std::sync::Arc;
 /// how many of them are known to have values.
 #[derive(Drop)]
 pub struct Population {
-    pub activities: BTreeMap<ActivityName, Actor>,
+    pub activities: BTreeMap<ActivityName, Box<Actor>>,
     pub futures: FutureTable,
     pub passed: BTreeMap<ActivityName, usize>,
 }
@@ -79,8 +81,9 @@ impl Population {
             passed: BTreeMap::new(alloc),
         };
         let main = Actor::main(alloc, code)?;
+        let boxed = Box::new(alloc, main)?;
         let name = ActivityName::main(alloc)?;
-        population.insert(name, main)?;
+        population.insert(name, boxed)?;
         Ok(population)
     }
 
@@ -98,7 +101,8 @@ impl Population {
         ensures passed { self.new.passed ≡ self.old.passed }
     {
         match self.activities.get_mut(name) {
-            Some(actor) => {
+            Some(boxed) => {
+                let actor = boxed.as_mut();
                 let left = count.saturating_sub(actor.count());
                 actor.run(alloc, most.min(left))
             }
@@ -116,15 +120,15 @@ impl Population {
         ensures passed { self.new.passed ≡ self.old.passed }
     {
         match self.activities.get_mut(name) {
-            Some(actor) => actor.act(alloc, name, &self.futures),
+            Some(actor) => actor.as_mut().act(alloc, name, &self.futures),
             None => Ok(Given::Nothing),
         }
     }
 
     /// An activity that is made.
-    pub fn insert(&mut self, name: ActivityName, actor: Actor) -> Result<(), AllocError>
+    pub fn insert(&mut self, name: ActivityName, actor: Box<Actor>) -> Result<(), AllocError>
         ensures made { (c : Configuration) (a : model.Activity) → (p : IsPopulation self.old c) →
-            requests_of c name ≡ [] → Stands actor a [] → code_of actor ≡ p.code →
+            requests_of c name ≡ [] → Stands actor.value a [] → code_of actor.value ≡ p.code →
             OnOk result (IsPopulation self.new (with_activity name a c)) }
         ensures passed { self.new.passed ≡ self.old.passed }
     {
@@ -144,8 +148,18 @@ impl Population {
         ensures passed { self.new.passed ≡ self.old.passed }
     {
         match self.activities.get_mut(to) {
-            Some(actor) => actor.receive(alloc, request),
+            Some(actor) => actor.as_mut().receive(alloc, request),
             None => Ok(()),
+        }
+    }
+
+    /// The activity of a name.
+    pub fn get(&self, name: &ActivityName) -> Option<&Actor>
+        ensures value { option_map (λ a. a.now) result ≡ found_in self.now name.now }
+    {
+        match self.activities.get(name) {
+            Some(actor) => Some(actor.as_ref()),
+            None => None,
         }
     }
 
@@ -155,7 +169,7 @@ impl Population {
         ensures wanted { (c : Configuration) (a : model.Activity) → IsPopulation self.now c →
             IsAt c name.now a → IfOk result (λ s. HaveSame s (labels_wanted a)) }
     {
-        match self.activities.get(name) {
+        match self.get(name) {
             Some(actor) => actor.wanted(alloc),
             None => LabelSet::of_labels(alloc, &[]),
         }
@@ -185,7 +199,7 @@ impl Population {
         ensures received { (c : Configuration) → IsPopulation self.now c → IsThere c name.now →
             result ≡ length (requests_of c name.now) }
     {
-        match self.activities.get(name) {
+        match self.get(name) {
             Some(actor) => actor.received(),
             None => 0,
         }

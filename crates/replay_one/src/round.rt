@@ -130,7 +130,7 @@ fn look_at<'a>(
     ensures passed { (c : Configuration) → IsPopulation population.now c →
         IfOk result (λ v. HasPassedIn c name.now v.passed) }
 {
-    let Some(actor) = population.activities.get(name) else {
+    let Some(actor) = population.get(name) else {
         return Ok(unseen(Look::Leaves));
     };
     if actor.count() >= bounds.count(name) {
@@ -248,7 +248,7 @@ impl Machine {
             Given::Nothing => Ok(()),
             Given::Made(made, actor) => {
                 self.schedule.wake(made.copy(alloc)?)?;
-                self.population.insert(made, Box::into_inner(actor))
+                self.population.insert(made, actor)
             }
             Given::Sent(to, request) => {
                 self.schedule.wake_server(&to, &request.label)?;

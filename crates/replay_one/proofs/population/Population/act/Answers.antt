@@ -1,17 +1,19 @@
 use Rattle.std.proofs.Common.{◌≡◌, ◌∙◌, Some, is_some, sym, ap, refl, subst}
+use Rattle.std.specs.Global.{Box}
 use Rattle.asp_model.specs.Configuration.{requests_of}
+use Rattle.future_table.specs.Values.{AreOfCode}
 use Rattle.actor.specs.declared.actor.Actor.{Actor}
-use Rattle.actor.specs.Actors.{code_of}
+use Rattle.actor.specs.Actors.{IsClosedFor, Stands, code_of}
 use Rattle.actor.specs.Effects.{IsDoneBy, IsGivenOf}
 use Rattle.replay_one.specs.declared.population.Population.{Population}
 use Rattle.replay_one.specs.Population.{found_in}
-use Rattle.replay_one.proofs.PopulationLemmas.{acts_as, actor_closed, changed, if_ok_both, nobody_acts, values_closed, values_coded}
+use Rattle.replay_one.proofs.PopulationLemmas.{acts_as, actor_closed, changed, if_ok_both, in_box, no_box, nobody_acts, values_closed, values_coded}
 use Rattle.replay_one.proofs.population.Population.act.Goals as goal
 
 pub act-requires-clause-closed : goal.act-requires-clause-closed
 act-requires-clause-closed c =
     let r = c.requires.reached in
-    actor_closed c.args.self.now r.0 r.1 c.args.name.now c.in-Some.actor.now r.2 (sym c.in-Some.ensures.value)
+    subst IsClosedFor (sym c.as_mut.ensures.value) (actor_closed c.args.self.now r.0 r.1 c.args.name.now c.in-Some.actor.now.value r.2 (in_box (sym c.in-Some.ensures.value)))
 
 pub act-requires-clause-values : goal.act-requires-clause-values
 act-requires-clause-values c =
@@ -21,26 +23,27 @@ act-requires-clause-values c =
 pub act-requires-clause-code : goal.act-requires-clause-code
 act-requires-clause-code c =
     let r = c.requires.reached in
-    values_coded c.args.self.now r.1 c.args.name.now c.in-Some.actor.now r.2.population (sym c.in-Some.ensures.value)
+    subst (λ x. AreOfCode (code_of x) c.args.self.now.futures) (sym c.as_mut.ensures.value) (values_coded c.args.self.now r.1 c.args.name.now c.in-Some.actor.now.value r.2.population (in_box (sym c.in-Some.ensures.value)))
 
 pub returns-in-Some : goal.returns-in-Some
 returns-in-Some c =
     let p : Population = c.args.self.now in
     let n = c.args.name.now in
-    let x : Actor = c.in-Some.actor.now in
-    let new : Actor = c.act.new.self in
-    let is : found_in p n ≡ Some x = sym c.in-Some.ensures.value in
-    let updates = (c.get_mut.follows.holds new).3 (ap is_some is) in
+    let x : Box Actor = c.in-Some.actor.now in
+    let new : Box Actor = record x { value = c.act.new.self } in
+    let is : found_in p n ≡ Some x.value = in_box (sym c.in-Some.ensures.value) in
+    let updates = (c.get_mut.follows.holds new).3 (ap is_some (sym c.in-Some.ensures.value)) in
+    let was = c.as_mut.ensures.value in
     record {
       acts = λ k e h intends.
-          let t = acts_as p k n e x h is intends in
-          let code : code_of x ≡ h.code = h.actors n x is in
+          let t = acts_as p k n e x.value h is intends in
+          let code : code_of c.as_mut.result.now ≡ h.code = ap code_of was ∙ h.actors n x.value is in
           if_ok_both c.act.result _ _ _ (λ g done given.
-          let d = subst (λ q. IsDoneBy q (requests_of k n) new g) t.2 done in
+          let d = subst (λ q. IsDoneBy q (requests_of k n) new.value g) t.2 done in
           let q = changed p (record p { activities = c.get_mut.follows.lender new }) k n new e.own h updates refl d.0 (c.act.ensures.code ∙ code) in
-          (d.1, record { population = q.0; coded = subst (λ j. IsGivenOf j g) (code ∙ sym q.1) given })) (c.act.ensures.acts t.0 (requests_of k n) t.1) c.act.ensures.given;
+          (d.1, record { population = q.0; coded = subst (λ j. IsGivenOf j g) (code ∙ sym q.1) given })) (c.act.ensures.acts t.0 (requests_of k n) (subst (λ y. Stands y t.0 (requests_of k n)) (sym was) t.1)) c.act.ensures.given;
       passed = refl;
     }
 
 pub returns-in-None : goal.returns-in-None
-returns-in-None c = record { acts = λ k e h intends. nobody_acts c.args.self.now k c.args.name.now e h (sym c.in-None.ensures.value) intends; passed = refl }
+returns-in-None c = record { acts = λ k e h intends. nobody_acts c.args.self.now k c.args.name.now e h (no_box (sym c.in-None.ensures.value)) intends; passed = refl }

@@ -1,26 +1,30 @@
-use Rattle.std.proofs.Common.{◌≡◌, Some, is_some, sym, ap, refl, ◌∙◌}
+use Rattle.std.proofs.Common.{◌≡◌, Some, is_some, sym, ap, refl, subst, ◌∙◌}
+use Rattle.std.specs.Global.{Box}
 use Rattle.asp_model.specs.Configuration.{requests_of}
 use Rattle.request_queue.specs.Requests.{request_shape}
 use Rattle.actor.specs.declared.actor.Actor.{Actor}
+use Rattle.actor.specs.Actors.{Stands, code_of}
 use Rattle.replay_one.specs.declared.population.Population.{Population}
 use Rattle.replay_one.specs.Population.{found_in}
-use Rattle.replay_one.proofs.PopulationLemmas.{found_stands, nobody_there, on_ok, received}
+use Rattle.replay_one.proofs.PopulationLemmas.{found_stands, in_box, no_box, nobody_there, on_ok, received}
 use Rattle.replay_one.proofs.population.Population.send.Goals as goal
 
 pub returns-in-Some : goal.returns-in-Some
 returns-in-Some c =
     let p : Population = c.args.self.now in
     let to = c.args.to.now in
-    let x : Actor = c.in-Some.actor.now in
-    let new : Actor = c.receive.new.self in
-    let is : found_in p to ≡ Some x = sym c.in-Some.ensures.value in
-    let updates = (c.get_mut.follows.holds new).3 (ap is_some is) in
+    let x : Box Actor = c.in-Some.actor.now in
+    let new : Box Actor = record x { value = c.receive.new.self } in
+    let is : found_in p to ≡ Some x.value = in_box (sym c.in-Some.ensures.value) in
+    let updates = (c.get_mut.follows.holds new).3 (ap is_some (sym c.in-Some.ensures.value)) in
+    let was = c.as_mut.ensures.value in
     record {
       received = λ k h there.
-          let s = found_stands p k to x h is in
-          on_ok c.receive.result _ _ (λ stands. received p (record p { activities = c.get_mut.follows.lender new }) k to new (request_shape c.args.request) s.0 h updates refl s.1 stands (c.receive.ensures.code ∙ h.actors to x is)) (c.receive.ensures.stands s.0 (requests_of k to) s.2);
+          let s = found_stands p k to x.value h is in
+          on_ok c.receive.result _ _ (λ stands. received p (record p { activities = c.get_mut.follows.lender new }) k to new (request_shape c.args.request) s.0 h updates refl s.1 stands (c.receive.ensures.code ∙ ap code_of was ∙ h.actors to x.value is))
+          (c.receive.ensures.stands s.0 (requests_of k to) (subst (λ y. Stands y s.0 (requests_of k to)) (sym was) s.2));
       passed = refl;
     }
 
 pub returns-in-None : goal.returns-in-None
-returns-in-None c = record { received = λ k h there. nobody_there c.args.self.now k c.args.to.now h (sym c.in-None.ensures.value) there; passed = refl }
+returns-in-None c = record { received = λ k h there. nobody_there c.args.self.now k c.args.to.now h (no_box (sym c.in-None.ensures.value)) there; passed = refl }

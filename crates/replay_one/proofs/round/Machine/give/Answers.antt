@@ -1,10 +1,9 @@
-use Rattle.std.proofs.Common.{◌≡◌, ◌∙◌, [], true, None, Ok, Err, Result, OnOk, refl, sym, ap, subst}
+use Rattle.std.proofs.Common.{◌≡◌, ◌∙◌, true, None, Ok, Err, Result, OnOk, refl, sym, ap, subst}
 use Rattle.asp_model.specs.Names.{Name}
 use Rattle.asp_model.specs.Configuration.{Configuration}
 use Rattle.request_queue.specs.Requests.{request_shape}
 use Rattle.asp_model.specs.Step.{with_effect}
 use Rattle.actor.specs.declared.act.Given.TheVariants as given
-use Rattle.actor.specs.Actors.{Stands, code_of}
 use Rattle.schedules.specs.Schedules.{IsNextIn}
 use Rattle.replay_one.specs.declared.population.Population.{Population}
 use Rattle.replay_one.specs.declared.schedule.Schedule.{Schedule}
@@ -41,8 +40,7 @@ returns-in_ok-wake-in-Made c =
       population = λ program k e h.
           let g : IsGiving p n (given.Made m x) program k e = subst (λ g. IsGiving p n g program k e) c.in-Made.is h in
           let b = made_given p n program k e m x g in
-          on_ok c.insert.result _ _ (made_population p n program k e q m x g) (c.insert.ensures.made (with_activity n e.own k) b.0 g.here.population (made_alone p n program k e m x g)
-          (subst (λ a. Stands a b.0 []) (sym c.into_inner.ensures) b.2) (ap code_of c.into_inner.ensures ∙ g.here.coded));
+          on_ok c.insert.result _ _ (made_population p n program k e q m x g) (c.insert.ensures.made (with_activity n e.own k) b.0 g.here.population (made_alone p n program k e m x g) b.2 g.here.coded);
       handed_on = λ program k e h. any_way c.insert.result _ (made_handed p n program k e (lists_within c.args.bounds.now) c.args.self.now.schedule c.wake.new.self m x (subst (λ g. IsGiving p n g program k e) c.in-Made.is h) c.in_ok-wake-in-Made.ensures.more woken);
       passed = c.insert.ensures.passed;
     }
