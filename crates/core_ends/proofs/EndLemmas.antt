@@ -1,17 +1,21 @@
 -- The activities of a core in which nobody is out are those of its run.
-use Rattle.std.proofs.Common.{◌≡◌, ◌≢◌, ◌<◌, ◌≤◌, ◌+◌, ℕ, suc, List, Option, Some, None, is_some, length, slice_get, refl, sym, ap, subst, ◌∙◌, arith}
+use Rattle.std.proofs.Common.{◌≡◌, ◌≢◌, ◌<◌, ◌≤◌, ◌+◌, ◌++◌, ◌∷◌, [], ℕ, suc, List, Option, Some, None, is_some, length, slice_get, refl, sym, ap, subst, ◌∙◌, arith}
 use Rattle.std.specs.BTreeMap as trees
-use Rattle.std.specs.BTreeMap.{BTreeMap}
+use Rattle.std.specs.Cmp.{tied_itself}
 use Rattle.std.specs.FinMap.{find}
+use Rattle.std.specs.Global.{Box}
+use Rattle.std.specs.Map.{update_all}
 use Rattle.std.specs.Option.{option_map}
+use Rattle.std.specs.Ordering.{is_eq}
+use Rattle.std.proofs.lemmas.Map.{update_all_push, update_other, update_same}
 use Rattle.asp_model.specs.Configuration as model
 use Rattle.asp_model.specs.Configuration.{Configuration, RequestShape, requests_of}
 use Rattle.asp_model.specs.History.{HistoryShape}
-use Rattle.asp_model.specs.Names.{Name, name_cmp}
+use Rattle.asp_model.specs.Names.{Name, name_cmp, same_name}
 use Rattle.asp_model.specs.Step.{name_at}
 use Rattle.journals.specs.Journals.{RunShape, grant_of}
 use Rattle.journal_laws.proofs.JournalLemmas.{journals_reach}
-use Rattle.laws.proofs.NameLemmas.{names_apart}
+use Rattle.laws.proofs.NameLemmas.{name_total, names_apart}
 use Rattle.chase_laws.proofs.FutureLemmas.{no_some, some_is, true_false}
 use Rattle.lease_laws.specs.Numbered.{AreNumbered}
 use Rattle.lease_laws.proofs.NumberLemmas.{journals_are_numbered}
@@ -31,6 +35,24 @@ use Rattle.replay_one.specs.Population.{IsReachedPopulation, StandsAt, found_in}
 use Rattle.core_ends.specs.Gathering.{AreApart, AreBefore, IsBrought, OthersStay}
 use Rattle.core_ends.specs.Runs.{IsHome}
 
+abbrev unboxed : Option (Box Actor) → Option Actor
+unboxed = option_map (λ b. b.value)
+
+-- Boxes by their names
+
+-- the last that came with a name
+abbrev pub held_in : List (Name × Box Actor) → Name → Option (Box Actor)
+held_in = update_all same_name (λ _. None)
+
+held_here : (xs : List (Name × Box Actor)) (n : Name) (b : Box Actor) → held_in (xs ++ (n, b) ∷ []) n ≡ Some b
+held_here xs n b = sym (update_all_push same_name (λ _. None) (held_in xs) xs (n, b) n refl) ∙ update_same same_name (held_in xs) n (Some b) n (ap is_eq (tied_itself name_total n))
+
+held_else : (xs : List (Name × Box Actor)) (n q : Name) (b : Box Actor) → n ≢ q → held_in (xs ++ (n, b) ∷ []) q ≡ held_in xs q
+held_else xs n q b apart = sym (update_all_push same_name (λ _. None) (held_in xs) xs (n, b) q refl) ∙ update_other same_name (held_in xs) n (Some b) q (names_apart n q apart)
+
+pub same_before : (ns : List Name) (seats : List (SeatShape Actor Request)) (i : ℕ) (f g : Name → Option (Box Actor)) → ((n : Name) → f n ≡ g n) → AreBefore ns seats i g → AreBefore ns seats i f
+same_before ns seats i f g e h = record { here = λ k n a lt at is. ap unboxed (e n) ∙ h.here k n a lt at is; none = λ n no. e n ∙ h.none n no }
+
 -- One more
 
 abbrev seat_in : Option (SeatShape Actor Request) → Option Actor
@@ -38,31 +60,31 @@ seat_in (Some (In a)) = Some a
 seat_in (Some (Out came)) = None
 seat_in None = None
 
-module _ (ns : List Name) (apart : AreApart ns) (seats : List (SeatShape Actor Request)) (i : ℕ) (m new : BTreeMap Name Actor) (before : AreBefore ns seats i m) (n : Name) (named : slice_get ns i ≡ Some n) where
+module _ (ns : List Name) (apart : AreApart ns) (seats : List (SeatShape Actor Request)) (i : ℕ) (m new : List (Name × Box Actor)) (before : AreBefore ns seats i (held_in m)) (n : Name) (named : slice_get ns i ≡ Some n) where
   -- nothing is brought
-  still_before : ((a : Actor) → slice_get seats i ≢ Some (In a)) → new ≡ m → AreBefore ns seats (suc i) new
+  still_before : ((a : Actor) → slice_get seats i ≢ Some (In a)) → new ≡ m → AreBefore ns seats (suc i) (held_in new)
   still_before not same = record {
     here = λ k q b lt at is. number_case k i
         (λ e. absurd (not b (ap (slice_get seats) (sym e) ∙ is)))
-        (λ d. ap (λ t. trees.get name_cmp t q) same ∙ before.here k q b (omega (arith, lt, d)) at is);
-    none = λ q no. ap (λ t. trees.get name_cmp t q) same ∙ before.none q (λ k lt. no k (omega (arith, lt)));
+        (λ d. ap (λ t. unboxed (held_in t q)) same ∙ before.here k q b (omega (arith, lt, d)) at is);
+    none = λ q no. ap (λ t. held_in t q) same ∙ before.none q (λ k lt. no k (omega (arith, lt)));
   }
 
-  more_before : (a : Actor) → slice_get seats i ≡ Some (In a) → trees.Updates name_cmp m new n (Some a) → AreBefore ns seats (suc i) new
-  more_before a here u = record {
+  more_before : (a : Actor) (x : Box Actor) → slice_get seats i ≡ Some (In a) → x.value ≡ a → new ≡ m ++ (n, x) ∷ [] → AreBefore ns seats (suc i) (held_in new)
+  more_before a x here holds u = record {
     here = λ k q b lt at is. number_case k i
         (λ e.
         let same : n ≡ q = some_is (sym named ∙ ap (slice_get ns) (sym e) ∙ at) in
-        ap (trees.get name_cmp new) (sym same) ∙ u.1 ∙ ap seat_in (sym here ∙ ap (slice_get seats) (sym e) ∙ is))
-        (λ d. u.2 q (names_apart n q (λ same. d (apart k i n (at ∙ ap Some (sym same)) named))) ∙ before.here k q b (omega (arith, lt, d)) at is);
-    none = λ q no. u.2 q (names_apart n q (λ same. no i (omega arith) (named ∙ ap Some same))) ∙ before.none q (λ k lt. no k (omega (arith, lt)));
+        ap (λ r. unboxed (held_in new r)) (sym same) ∙ ap (λ t. unboxed (held_in t n)) u ∙ ap unboxed (held_here m n x) ∙ ap Some holds ∙ ap seat_in (sym here ∙ ap (slice_get seats) (sym e) ∙ is))
+        (λ d. ap (λ t. unboxed (held_in t q)) u ∙ ap unboxed (held_else m n q x (λ same. d (apart k i n (at ∙ ap Some (sym same)) named))) ∙ before.here k q b (omega (arith, lt, d)) at is);
+    none = λ q no. ap (λ t. held_in t q) u ∙ held_else m n q x (λ same. no i (omega arith) (named ∙ ap Some same)) ∙ before.none q (λ k lt. no k (omega (arith, lt)));
   }
 
-  pub one_before : IsBrought n (slice_get seats i) m new → AreBefore ns seats (suc i) new
+  pub one_before : IsBrought n (slice_get seats i) m new → AreBefore ns seats (suc i) (held_in new)
   one_before brought = by (slice_get seats i) refl brought
     where
-      by : (o : Option (SeatShape Actor Request)) → slice_get seats i ≡ o → IsBrought n o m new → AreBefore ns seats (suc i) new
-      by (Some (In a)) is u = more_before a is u
+      by : (o : Option (SeatShape Actor Request)) → slice_get seats i ≡ o → IsBrought n o m new → AreBefore ns seats (suc i) (held_in new)
+      by (Some (In a)) is b = more_before a b.0 is b.1 b.2
       by (Some (Out came)) is same = still_before (λ a e. no_some (ap seat_in (sym is ∙ e))) same
       by None is same = still_before (λ a e. no_some (ap seat_in (sym is ∙ e))) same
 
@@ -87,7 +109,7 @@ module _ (h : HistoryShape) (code : List Node) (x : CoreState) (s : RunShape) (h
   pub are_seats : AreSeats x.seats
   are_seats = core.populated.kept
 
-  module _ (p : Population) (futures : p.futures ≡ x.futures) (all : AreBefore (names_in x.seats) (seats_in x.seats) (length (seats_in x.seats)) p.activities) where
+  module _ (p : Population) (futures : p.futures ≡ x.futures) (all : AreBefore (names_in x.seats) (seats_in x.seats) (length (seats_in x.seats)) (trees.get name_cmp p.activities)) where
     record IsFoundAt (n : Name) (a : model.Activity) : Type 0 where
       pub actor : Actor
       pub found : found_in p n ≡ Some actor
@@ -107,7 +129,7 @@ module _ (h : HistoryShape) (code : List Node) (x : CoreState) (s : RunShape) (h
         }
 
     nobody : (n : Name) → find name_cmp n c.activities ≡ None → found_in p n ≡ None
-    nobody n at = all.none n (λ k lt named. true_false (is_some (find name_cmp n c.activities)) (numbered.there k n (named_so k n named)) (ap is_some at))
+    nobody n at = ap unboxed (all.none n (λ k lt named. true_false (is_some (find name_cmp n c.activities)) (numbered.there k n (named_so k n named)) (ap is_some at)))
 
     stands_by : (n : Name) (o : Option model.Activity) → find name_cmp n c.activities ≡ o → StandsAt (found_in p n) o (requests_of c n)
     stands_by n None at = subst (λ q. StandsAt q None (requests_of c n)) (sym (nobody n at)) tt
@@ -137,28 +159,28 @@ taken_in (Some (In x)) a e = ap (λ (y : Option Actor). option_map In y) (sym e)
 taken_in (Some (Out came)) a e = no_some (sym e)
 taken_in None a e = no_some (sym e)
 
--- who was taken stands at its name
-pub brought_in : (ns : List Name) (k : ℕ) (o : Option (SeatShape Actor Request)) (a : Actor) (m name : Name) (old new : BTreeMap Name Actor) → IsTaken o (Some a) → slice_get ns k ≡ Some m → name ≡ m → trees.Updates name_cmp old new name (Some a)
+-- who was taken comes with its name
+pub brought_in : (ns : List Name) (k : ℕ) (o : Option (SeatShape Actor Request)) (a : Box Actor) (m name : Name) (old new : List (Name × Box Actor)) → IsTaken o (Some a.value) → slice_get ns k ≡ Some m → name ≡ m → new ≡ old ++ (name, a) ∷ []
     → (n : Name) → slice_get ns k ≡ Some n → IsBrought n o old new
 brought_in ns k o a m name old new taken at is u n named =
-    subst (λ q. IsBrought n q old new) (sym (taken_in o a taken))
-    (subst (λ q. trees.Updates name_cmp old new q (Some a)) (is ∙ some_is (sym at ∙ named)) u)
+    subst (λ q. IsBrought n q old new) (sym (taken_in o a.value taken))
+    (a, refl, u ∙ ap (λ q. old ++ (q, a) ∷ []) (is ∙ some_is (sym at ∙ named)))
 
 -- so far
-pub record IsGathered (first now : Seats Actor Request) (count i : ℕ) (m : BTreeMap Name Actor) : Type 0 where
+pub record IsGathered (first now : Seats Actor Request) (count i : ℕ) (m : List (Name × Box Actor)) : Type 0 where
   pub kept : AreSeats now
   pub names : names_in now ≡ names_in first
   pub ahead : (j : ℕ) → i ≤ j → slice_get (seats_in now) j ≡ slice_get (seats_in first) j
-  pub before : AreBefore (names_in first) (seats_in first) i m
+  pub before : AreBefore (names_in first) (seats_in first) i (held_in m)
   pub counted : count ≡ length (seats_in first)
 
-none_yet : (ns : List Name) (seats : List (SeatShape Actor Request)) (m : BTreeMap Name Actor) → ((n : Name) → trees.get name_cmp m n ≡ None) → AreBefore ns seats 0 m
-none_yet ns seats m none = record { here = λ k n a lt. absurd (omega (arith, lt)); none = λ n no. none n }
+none_yet : (ns : List Name) (seats : List (SeatShape Actor Request)) (m : List (Name × Box Actor)) → m ≡ [] → AreBefore ns seats 0 (held_in m)
+none_yet ns seats m none = record { here = λ k n a lt. absurd (omega (arith, lt)); none = λ n no. ap (λ t. held_in t n) none }
 
-pub gathered_none : (first : Seats Actor Request) (count : ℕ) (m : BTreeMap Name Actor) → AreSeats first → count ≡ length (seats_in first) → ((n : Name) → trees.get name_cmp m n ≡ None) → IsGathered first first count 0 m
+pub gathered_none : (first : Seats Actor Request) (count : ℕ) (m : List (Name × Box Actor)) → AreSeats first → count ≡ length (seats_in first) → m ≡ [] → IsGathered first first count 0 m
 gathered_none first count m kept is none = record { kept = kept; names = refl; ahead = λ j le. refl; before = none_yet (names_in first) (seats_in first) m none; counted = is }
 
-module _ (first now : Seats Actor Request) (count i : ℕ) (m : BTreeMap Name Actor) (g : IsGathered first now count i m) (was : AreSeats first) (lt : i < count) where
+module _ (first now : Seats Actor Request) (count i : ℕ) (m : List (Name × Box Actor)) (g : IsGathered first now count i m) (was : AreSeats first) (lt : i < count) where
   pub gathered_known : i < length (seats_in now)
   gathered_known = omega (arith, lt, g.counted, was.same, g.kept.same, ap length g.names)
 
@@ -167,7 +189,7 @@ module _ (first now : Seats Actor Request) (count i : ℕ) (m : BTreeMap Name Ac
       let n = name_within (names_in first) i (omega (arith, lt, g.counted, was.same)) in
       (n.0, sym (name_got (names_in first) i) ∙ n.1)
 
-  pub gathered_more : (then : Seats Actor Request) (new : BTreeMap Name Actor) → AreApart (names_in first) → AreSeats then → names_in then ≡ names_in now → OthersStay i (seats_in now) (seats_in then)
+  pub gathered_more : (then : Seats Actor Request) (new : List (Name × Box Actor)) → AreApart (names_in first) → AreSeats then → names_in then ≡ names_in now → OthersStay i (seats_in now) (seats_in then)
       → ((n : Name) → slice_get (names_in now) i ≡ Some n → IsBrought n (seat_at now i) m new) → IsGathered first then count (i + 1) new
   gathered_more then new apart kept names others brought =
       let n = gathered_name in
@@ -177,6 +199,6 @@ module _ (first now : Seats Actor Request) (count i : ℕ) (m : BTreeMap Name Ac
         kept = kept;
         names = names ∙ g.names;
         ahead = λ j le. others j (λ same. absurd (omega (arith, le, same))) ∙ g.ahead j (omega (arith, le));
-        before = subst (λ k. AreBefore (names_in first) (seats_in first) k new) (omega arith) (one_before (names_in first) apart (seats_in first) i m new g.before n.0 n.1 here);
+        before = subst (λ k. AreBefore (names_in first) (seats_in first) k (held_in new)) (omega arith) (one_before (names_in first) apart (seats_in first) i m new g.before n.0 n.1 here);
         counted = g.counted;
       }

@@ -1,8 +1,9 @@
 //! What a run leaves.
 
 ghost use Rattle.std.specs.Prelude.{◌≡◌, IfOk, List, OnOk, Some, length, slice_get};
+ghost use Rattle.std.specs.BTreeMap.{get};
 ghost use Rattle.asp_model.specs.History.{HistoryShape};
-ghost use Rattle.asp_model.specs.Names.{Name};
+ghost use Rattle.asp_model.specs.Names.{Name, name_cmp};
 ghost use Rattle.asp_model.specs.Outcome.{outcome_of};
 ghost use Rattle.asp_model.specs.Shapes.{outcome_shape};
 ghost use Rattle.journals.specs.Journals.{RunShape};
@@ -24,24 +25,25 @@ use run_ends::RunEnd;
 use std::alloc::{AllocError, Global};
 use std::collections::BTreeMap;
 
-/// Takes the activity of a number, and puts it at its name.
+/// Takes the activity of a number, with its name.
 fn bring(
     alloc: Global,
     seats: &mut Seats<Actor, Request>,
     number: u32,
-    activities: &mut BTreeMap<ActivityName, Actor>,
+    activities: &mut Vec<(ActivityName, Box<Actor>)>,
 ) -> Result<(), AllocError>
     requires kept { AreSeats seats.old }
     requires known { IsKnown number seats.old }
     ensures brought { (n : Name) → slice_get (names_in seats.old) number ≡ Some n →
-        OnOk result (IsBrought n (seat_at seats.old number) activities.old activities.new) }
+        let seat = seat_at seats.old number in
+        OnOk result (IsBrought n seat activities.old.items activities.new.items) }
     ensures others { OthersStay number (seats_in seats.old) (seats_in seats.new) }
     ensures names { names_in seats.new ≡ names_in seats.old }
     ensures kept { AreSeats seats.new }
 {
     let name = seats.name(number).copy(alloc)?;
     if let Some(actor) = seats.take(number) {
-        activities.insert(name, Box::into_inner(actor))?;
+        activities.push((name, actor))?;
     }
     Ok(())
 }
@@ -50,17 +52,18 @@ fn bring(
 fn activities_of(
     alloc: Global,
     mut seats: Seats<Actor, Request>,
-) -> Result<BTreeMap<ActivityName, Actor>, AllocError>
+) -> Result<BTreeMap<ActivityName, Box<Actor>>, AllocError>
     requires kept { AreSeats seats }
     requires apart { AreApart (names_in seats) }
-    ensures all { IfOk result (AreBefore (names_in seats) (seats_in seats) (length (seats_in seats))) }
+    ensures all { let all = length (seats_in seats) in
+        IfOk result (λ m. AreBefore (names_in seats) (seats_in seats) all (get name_cmp m)) }
 {
-    let mut activities = BTreeMap::new(alloc);
     let count = seats.len() as u32;
+    let mut activities = Vec::with_capacity(alloc, count as usize)?;
     for number in 0..count {
         bring(alloc, &mut seats, number, &mut activities)?;
     }
-    Ok(activities)
+    BTreeMap::from_iter(alloc, activities)
 }
 
 /// What a run leaves, once nobody is out: how each activity stands, its state, and the verdict.
