@@ -132,7 +132,10 @@ fn is_clear(store: &Store, place: Place) -> bool
     if place >= store.len() {
         return false;
     }
-    !holds_future(store, place)
+    if holds_future(store, place) {
+        return false;
+    }
+    true
 }
 
 /// How many of these places are clear before the first that is not, where the first so many are:
