@@ -16,7 +16,7 @@ mod turns;
 
 use crate::passing::show_edges;
 use crate::printed::print_file;
-use crate::racing::show_turns;
+use crate::racing::taken;
 use crate::turns::Turns;
 use anyhow::{Result, bail};
 use asp_model::MOST_WORKERS;
@@ -55,7 +55,9 @@ fn main(rt: HostRuntime) -> Result<()> {
                 outside: number(words.next())?,
                 more: what.as_str() == "call",
             };
-            show_turns(&rt, &what, threads, &turns)
+            let count = taken(&rt, rt.alloc(), &what, threads, &turns)?;
+            println!(rt; "{count}")?;
+            Ok(())
         }
         _ => bail!("there is no such task"),
     }
