@@ -13,6 +13,6 @@ returns-clause-stands c = λ a rs h.
     let p : ParcelShape = parcel_shape c.args.value.now in
     let b : Activity = record a { store = unpack_at a.store c.args.place p } in
     let for = c.in_ok-fill.ensures.stands a h.activity in
-    let kept : HasClear b c.clear_kept.result = c.clear_kept.ensures.clear a p h.activity h.clear in
-    let now : HasClear b c.clear_now.result = c.clear_now.ensures.clear b for kept in
-    stands_knowing x c.fill.new.self c.clear_now.result a b rs h for c.fill.ensures.code refl refl refl now
+    let kept : HasClear b c.clear_kept-self.result = c.clear_kept-self.ensures.clear a p h.activity h.clear in
+    let now : HasClear b c.clear_now-self.result = c.clear_now-self.ensures.clear b for kept in
+    stands_knowing x c.fill.new.self c.clear_now-self.result a b rs h for c.fill.ensures.code refl refl refl now
