@@ -84,7 +84,7 @@ both_none o p rs e f = subst (λ q. StandsAt q p rs) (sym e) (subst (λ q. Stand
 still_stand : (o o' : Option Actor) (p p' : Option model.Activity) (rs : List RequestShape) → o ≡ o' → p ≡ p' → StandsAt o p rs → StandsAt o' p' rs
 still_stand o o' p p' rs e f h = subst (λ q. StandsAt q p' rs) e (subst (λ q. StandsAt o q rs) f h)
 
-tails_stand : (c : Configuration) (x : Name × Actor) (xs : List (Name × Box Actor)) (y : Name × model.Activity) (ys : List (Name × model.Activity)) → T (is_sorted name_cmp (x ∷ xs)) → T (is_sorted name_cmp (y ∷ ys)) → x.0 ≡ y.0 → StandBy c (x ∷ xs) (y ∷ ys) → StandBy c xs ys
+tails_stand : (c : Configuration) (x : Name × Box Actor) (xs : List (Name × Box Actor)) (y : Name × model.Activity) (ys : List (Name × model.Activity)) → T (is_sorted name_cmp (x ∷ xs)) → T (is_sorted name_cmp (y ∷ ys)) → x.0 ≡ y.0 → StandBy c (x ∷ xs) (y ∷ ys) → StandBy c xs ys
 tails_stand c x xs y ys s t e h n = ⊎_elim
     (λ q. both_none (at_name n xs) (find name_cmp n ys) (requests_of c n)
     (ap (λ k. at_name k xs) (q ∙ sym e) ∙ at_none x.0 xs (absent_below x.0 xs (first_of_both _ _ s)))
@@ -199,7 +199,7 @@ ends_more k rs ss es e r s h g = record {
 }
 
 -- one more end is made
-pub one_made : (k : List Node) (values : Values) (x : Name × Actor) (xs : List (Name × Box Actor)) (es : List EndShape) (rs : List ActivityReport) (ss : List EndState) (r : ActivityReport) (s : EndState) → IsPart k values (x ∷ xs) es rs ss
+pub one_made : (k : List Node) (values : Values) (x : Name × Box Actor) (xs : List (Name × Box Actor)) (es : List EndShape) (rs : List ActivityReport) (ss : List EndState) (r : ActivityReport) (s : EndState) → IsPart k values (x ∷ xs) es rs ss
     → ((a : model.Activity) (qs : List RequestShape) → Stands x.1.value a qs → IsEndBy (code_of x.1.value) (end_with values x.0 a qs) (r, s)) → IsPart k values xs es (rs ++ r ∷ []) (ss ++ s ∷ [])
 one_made k values x xs es rs ss r s p is = by p.rest p.all p.left
   where

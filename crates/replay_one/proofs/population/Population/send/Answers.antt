@@ -9,6 +9,9 @@ use Rattle.replay_one.specs.Population.{found_in}
 use Rattle.replay_one.proofs.PopulationLemmas.{found_stands, in_box, no_box, nobody_there, on_ok, received}
 use Rattle.replay_one.proofs.population.Population.send.Goals as goal
 
+pub receive-requires : goal.receive-requires
+receive-requires c = record { code = sym (ap code_of c.as_mut.ensures.value ∙ c.requires.code c.args.to.now c.in-Some.actor.now.value (in_box (sym c.in-Some.ensures.value))) }
+
 pub returns-in-Some : goal.returns-in-Some
 returns-in-Some c =
     let p : Population = c.args.self.now in
