@@ -50,7 +50,7 @@ impl<P: UpdatePolicy + Drop> Desk<P> {
         ensures lease { HasLease self.new seat (lease_in result.0) }
     {
         let number = self.take_in(seat, held);
-        if !self.deliver_owed(seat) {
+        if !self.deliver_owed() {
             return (Next::Again, true);
         }
         if may_rest && self.has_leases() {
@@ -91,13 +91,13 @@ impl<P: UpdatePolicy + Drop> Desk<P> {
     }
 
     // Delivers what is owed, up to a limit. It tells whether that was all.
-    fn deliver_owed(&mut self, seat: u32) -> bool
+    fn deliver_owed(&mut self) -> bool
         requires orderly { IsOrderly self.old }
-        ensures turn { IsTurn P.answer P.asked seat self.old self.new }
-        ensures same { row_at self.new seat ≡ row_at self.old seat }
+        ensures turn { (n : ℕ) → IsTurn P.answer P.asked n self.old self.new }
+        ensures rows { (n : ℕ) → row_at self.new n ≡ row_at self.old n }
     {
         for _ in 0..MOST_DELIVERED {
-            if !self.deliver_next(seat) {
+            if !self.deliver_next() {
                 return true;
             }
         }
@@ -105,25 +105,24 @@ impl<P: UpdatePolicy + Drop> Desk<P> {
     }
 
     // Delivers what is owed next. It tells whether more may be owed.
-    fn deliver_next(&mut self, seat: u32) -> bool
+    fn deliver_next(&mut self) -> bool
         requires orderly { IsOrderly self.old }
-        ensures turn { IsTurn P.answer P.asked seat self.old self.new }
-        ensures same { row_at self.new seat ≡ row_at self.old seat }
+        ensures turn { (n : ℕ) → IsTurn P.answer P.asked n self.old self.new }
+        ensures rows { (n : ℕ) → row_at self.new n ≡ row_at self.old n }
     {
-        let Some(delivery) = self.next_delivery(seat) else {
+        let Some(delivery) = self.next_delivery() else {
             return false;
         };
         self.core.deliver(&delivery).is_ok()
     }
 
     // What is owed next, if memory suffices to tell it.
-    fn next_delivery(&mut self, seat: u32) -> Option<Delivery>
+    fn next_delivery(&mut self) -> Option<Delivery>
         requires orderly { IsOrderly self.old }
-        ensures turn { IsTurn P.answer P.asked seat self.old self.new }
-        ensures same { row_at self.new seat ≡ row_at self.old seat }
+        ensures turn { (n : ℕ) → IsTurn P.answer P.asked n self.old self.new }
+        ensures rows { (n : ℕ) → row_at self.new n ≡ row_at self.old n }
         ensures may { IfSome result (MayDeliverAt self.new) }
     {
-        let _seat = seat;
         let Ok(owed) = self.core.next_owed() else {
             return None;
         };
