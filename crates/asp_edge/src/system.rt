@@ -109,7 +109,8 @@ impl StdSink<Stderr> {
 }
 
 impl<W: Write> StdSink<W> {
-    pub(crate) fn over(stream: W) -> StdSink<W>
+    /// A sink over a stream, with no fault so far.
+    pub fn over(stream: W) -> StdSink<W>
         ensures stream { stream_of result ≡ stream }
         ensures faults { stream_faults result ≡ 0 }
     {
