@@ -10,7 +10,7 @@ ghost use Rattle.std.specs.Ordering.{as_partial_cmp};
 ghost use Rattle.asp_model.specs.Order.{same_name_same};
 ghost use Rattle.asp_model.specs.Names.{created_name, main_name, name_cmp, same_name};
 
-use smallvec::SmallVec;
+use creation_path::CreationPath;
 use std::alloc::{AllocError, Global};
 use std::cmp::Ordering;
 use std::hash::{Hash, Hasher};
@@ -20,13 +20,13 @@ use std::marker::Model;
 /// numbers is made and copied without an allocation.
 #[derive(Debug, Drop)]
 pub struct ActivityName {
-    path: SmallVec<u32, 4>,
+    path: CreationPath,
 }
 
 impl Model for ActivityName {
     ghost Value = { List ℕ };
 
-    ghost view = { λ n. n.path.items };
+    ghost view = { λ n. n.path };
 }
 
 /// The name of a future: who sent the request, and the request's number among those that it sent,
@@ -39,12 +39,12 @@ pub struct FutureName {
 
 impl ActivityName {
     /// The name of the main activity.
-    pub fn main(alloc: Global) -> Result<ActivityName, AllocError>
+    pub fn main(_alloc: Global) -> Result<ActivityName, AllocError>
         ensures name { IfOk result (λ n. n ≡ main_name) }
     {
-        let mut path = SmallVec::new(alloc);
-        path.push(0)?;
-        Ok(ActivityName { path })
+        Ok(ActivityName {
+            path: CreationPath::one(0),
+        })
     }
 
     /// A name with these numbers.
@@ -52,7 +52,7 @@ impl ActivityName {
         ensures name { result ≡ path.items }
     {
         ActivityName {
-            path: SmallVec::from_vec(path),
+            path: CreationPath::of(path),
         }
     }
 
@@ -60,7 +60,7 @@ impl ActivityName {
     pub fn path(&self) -> &[u32]
         ensures path { result.now ≡ self.now }
     {
-        self.path.as_slice()
+        self.path.numbers()
     }
 
     /// The same name.
@@ -68,7 +68,7 @@ impl ActivityName {
         ensures name { IfOk result (λ n. n ≡ self.now) }
     {
         Ok(ActivityName {
-            path: SmallVec::from_slice(alloc, self.path())?,
+            path: self.path.copy(alloc)?,
         })
     }
 
@@ -76,9 +76,9 @@ impl ActivityName {
     pub fn created(&self, alloc: Global, number: u32) -> Result<ActivityName, AllocError>
         ensures name { IfOk result (λ n. n ≡ created_name self.now number) }
     {
-        let mut name = self.copy(alloc)?;
-        name.path.push(number)?;
-        Ok(name)
+        Ok(ActivityName {
+            path: self.path.with(alloc, number)?,
+        })
     }
 }
 
