@@ -178,17 +178,11 @@ impl Store {
         ensures room { 0 < self.old.spare → is_some_future (coded cell) ≡ false → IsOk result }
         ensures err { OnErr result (self.new ≡ self.old) }
     {
+        self.cells.reserve(1)?;
         self.index.hold(&cell, self.cells.len())?;
-        match self.cells.push(cell) {
-            Ok(()) => {
-                self.spare = self.spare.saturating_sub(1);
-                Ok(())
-            }
-            Err(refused) => {
-                self.index.release(&refused.value, self.cells.len());
-                Err(AllocError)
-            }
-        }
+        self.cells.push_reserved(cell);
+        self.spare = self.spare.saturating_sub(1);
+        Ok(())
     }
 
     // Takes the last cell out again.
