@@ -168,8 +168,9 @@ impl Machine {
 fn push_all(env: &mut Vec<usize>, places: &[usize]) -> Result<(), AllocError>
     ensures places { OnOk result (env.new.items ≡ env.old.items ++ places.now) }
 {
+    env.reserve(places.len())?;
     for place in places {
-        env.push(*place)?;
+        env.push_reserved(*place);
     }
     Ok(())
 }
