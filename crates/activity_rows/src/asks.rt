@@ -23,6 +23,7 @@ pub enum Test {
 }
 
 /// The condition of an `if`.
+#[inline(always)]
 pub fn test_row(store: &Store, operands: &[Place]) -> Result<Test, AllocError>
     ensures test { (k : List NodeShape) → IfOk result (IsTest k store.now.cells operands.now) }
 {
