@@ -6,3 +6,4 @@ pub mod RowLemmas
 pub mod ServiceLemmas
 pub mod CallLemmas
 pub mod SpreadLemmas
+pub mod SiteLemmas

@@ -8,3 +8,4 @@ pub mod Views
 pub mod Rows
 pub mod Services
 pub mod Spreads
+pub mod Sites

@@ -63,3 +63,22 @@ pub enum Focus {
         count: usize,
     },
 }
+
+/// What the next contraction is, as far as the machine alone tells.
+#[derive(Clone, Copy)]
+pub enum Site {
+    /// That of the node that it looks at.
+    Redex {
+        number: usize,
+        from: usize,
+        done: usize,
+    },
+    /// That of a number, which is the next term below the node that it looks at.
+    Number {
+        number: usize,
+        from: usize,
+        done: usize,
+        value: i64,
+    },
+    Other,
+}

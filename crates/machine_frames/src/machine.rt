@@ -114,7 +114,7 @@ impl Machine {
 
     /// Puts the place of a variable to the operands.
     #[inline(always)]
-    fn pass(&mut self, leaf: &Leaf) -> Result<(), AllocError>
+    pub(crate) fn pass(&mut self, leaf: &Leaf) -> Result<(), AllocError>
         ensures view { OnOk result
             (view_of self.new ≡ passed_view leaf.now (view_of self.old)) }
     {
@@ -133,7 +133,7 @@ impl Machine {
 
     /// Enters a node below a node.
     #[inline(always)]
-    fn enter(
+    pub(crate) fn enter(
         &mut self,
         number: usize,
         from: usize,
@@ -251,7 +251,7 @@ impl Machine {
 
     /// The place that it looks at.
     #[inline(always)]
-    fn place(&self) -> Option<usize>
+    pub(crate) fn place(&self) -> Option<usize>
         ensures some { IfSome result (λ p. self.now.focus ≡ focus.Place p) }
         ensures none { IfNone result (IsInner self.now.focus) }
     {
