@@ -33,6 +33,7 @@ use crate::state::CoreState;
 use activity_ranks::Rank;
 use actor::{Actor, Stance};
 use asp_model::{Entry, FutureName};
+use core_rules::left_with;
 use future_table::FutureTable;
 use request_queue::Request;
 use std::alloc::{AllocError, Global};
@@ -129,7 +130,7 @@ impl CoreState {
         let rank = rank_of(self.alloc, actor.as_ref(), &self.futures)?;
         self.ranks.rank(number, rank)?;
         let _came = self.seats.put(number, actor);
-        self.left = self.left.saturating_add(grant.saturating_sub(taken));
+        self.left = left_with(self.left, grant, taken);
         self.journal.note(Entry::Committed {
             number,
             reductions: taken,

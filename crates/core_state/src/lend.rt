@@ -11,6 +11,7 @@ ghost use Rattle.core_state.specs.Lending.{IsLentBy, IsNextReady};
 use crate::lease::Lease;
 use crate::state::CoreState;
 use asp_model::{Entry, MOST_GRANTED};
+use core_rules::is_lent;
 
 impl CoreState {
     /// The least number of those who are ready: who are in, can step, and lack nothing, while some
@@ -33,7 +34,7 @@ impl CoreState {
         ensures lent { (h : HistoryShape) (code : List NodeShape) (s : RunShape) →
             IsCore h code self.old s → IsLentBy h code s number self.old result self.new }
     {
-        if self.left == 0 || !self.ranks.goes(number) {
+        if !is_lent(&self.ranks, self.left, number) {
             return None;
         }
         let Some(actor) = self.seats.take(number) else {

@@ -21,7 +21,7 @@ put-came-requires-clause-known c = got_within (seats_in c.args.self.now.seats) c
 pub returns-clause-committed : goal.returns-clause-committed
 returns-clause-committed c = λ h code s n r.
     let x = c.args.self.now in
-    let y : CoreState = record { alloc = x.alloc; seats = c.put-came.new.self; ranks = c.rank.new.self; futures = x.futures; journal = c.note.new.self; left = c.saturating_add-self.result; bursts = x.bursts } in
+    let y : CoreState = record { alloc = x.alloc; seats = c.put-came.new.self; ranks = c.rank.new.self; futures = x.futures; journal = c.note.new.self; left = c.left_with-self.result; bursts = x.bursts } in
     let told : rank_shape c.in_ok-rank.rank ≡ rank_of s.configuration.futures (requests_of s.configuration n) n r.end =
     c.in_ok-rank.ensures.rank r.end (requests_of s.configuration n) n (subst (λ a. Stands a r.end (requests_of s.configuration n)) (sym c.as_ref.ensures) r.stands) ∙ ap (λ values. rank_of values (requests_of s.configuration n) n r.end) r.populated.futures in
     run_back h code x y s c.args.number n c.args.grant c.args.taken c.args.actor.value r (rank_shape c.in_ok-rank.rank) (told ∙ sym (rank_written s.configuration n r.end)) (record {
@@ -33,6 +33,6 @@ returns-clause-committed c = λ h code s n r.
       futures = refl;
       entries = c.note.ensures.entries;
       room = c.note.ensures.room;
-      left = λ small. omega (arith, small, c.saturating_add-self.ensures, c.saturating_sub.ensures);
+      left = c.left_with-self.ensures.left;
       bursts = refl;
     })

@@ -4,28 +4,23 @@ use Rattle.rank_laws.specs.Runs.{is_ready}
 use Rattle.chase_laws.proofs.FutureLemmas.{no_some, some_is}
 use Rattle.core_state.specs.declared.lease.Lease.{Lease}
 use Rattle.core_state.specs.declared.state.CoreState.{CoreState}
-use Rattle.core_state.proofs.ListLemmas.{some_more}
-use Rattle.core_state.proofs.LendLemmas.{few_bursts, going, has_room, is_lease, lends, none_left, not_going, taken_here}
+use Rattle.core_state.proofs.LendLemmas.{few_bursts, has_room, is_lease, lends, ready_going, taken_here}
 use Rattle.core_state.proofs.state.CoreState.lend.Goals as goal
-use Rattle.core_state.proofs.state.CoreState.lend.Goals.{then-self-eq0-via-then-self-eq0, then-self-eq0-via-else-self-eq0+then-not-goes}
 
-pub returns-then-self-eq0 : goal.returns-then-self-eq0
-returns-then-self-eq0 c = elim c.then-self-eq0.branch [
-  | then-self-eq0-via-then-self-eq0 w ↦ record { lent = λ h code s core. (none_left h code c.args.self.now s core c.args.number w.if-self-eq0.true, refl) }
-  | then-self-eq0-via-else-self-eq0+then-not-goes w ↦ record { lent = λ h code s core. (not_going h code c.args.self.now s core c.args.number (sym w.goes.ensures.goes ∙ w.if-not-goes.true), refl) }
-]
+pub returns-then-not-is_lent : goal.returns-then-not-is_lent
+returns-then-not-is_lent c = record { lent = λ h code s core. (ready_going h code c.args.self.now s core c.args.number ∙ sym c.is_lent.ensures.lent ∙ c.if-not-is_lent.true, refl) }
 
 pub returns-in_default : goal.returns-in_default
 returns-in_default c = record {
   lent = λ h code s core.
-      let ready : is_ready s c.args.number ≡ true = going h code c.args.self.now s core c.args.number (some_more c.args.self.now.left c.if-self-eq0.false) (sym c.goes.ensures.goes ∙ c.if-not-goes.false) in
+      let ready : is_ready s c.args.number ≡ true = ready_going h code c.args.self.now s core c.args.number ∙ sym c.is_lent.ensures.lent ∙ c.if-not-is_lent.false in
       no_some (ap (option_map (λ b. b.value)) (sym c.in_default.is) ∙ taken_here h code c.args.self.now s core c.args.number ready _ c.take.ensures.taken);
 }
 
 pub note-requires : goal.note-requires
 note-requires c =
     let r = c.requires.core in
-    record { room = has_room r.0 r.1 c.args.self.now r.2 r.3 c.args.number (going r.0 r.1 c.args.self.now r.2 r.3 c.args.number (some_more c.args.self.now.left c.if-self-eq0.false) (sym c.goes.ensures.goes ∙ c.if-not-goes.false)) }
+    record { room = has_room r.0 r.1 c.args.self.now r.2 r.3 c.args.number (ready_going r.0 r.1 c.args.self.now r.2 r.3 c.args.number ∙ sym c.is_lent.ensures.lent ∙ c.if-not-is_lent.false) }
 
 pub overflow_add-self : goal.overflow_add-self
 overflow_add-self c =
@@ -37,7 +32,7 @@ returns c = record {
   lent = λ h code s core.
       let x = c.args.self.now in
       let k = c.args.number in
-      let ready : is_ready s k ≡ true = going h code x s core k (some_more x.left c.if-self-eq0.false) (sym c.goes.ensures.goes ∙ c.if-not-goes.false) in
+      let ready : is_ready s k ≡ true = ready_going h code x s core k ∙ sym c.is_lent.ensures.lent ∙ c.if-not-is_lent.false in
       let y : CoreState = record { alloc = x.alloc; seats = c.take.new.self; ranks = c.leave.new.self; futures = x.futures; journal = c.note.new.self; left = x.left - c.min-grant.result; bursts = x.bursts + 1 } in
       let l : Lease = record { alloc = x.alloc; number = k; burst = x.bursts + 1; grant = c.min-grant.result; taken = 0; spent = false; actor = c.in-Some.actor } in
       let actor = some_is (ap (option_map (λ b. b.value)) (sym c.in-Some.is) ∙ taken_here h code x s core k ready _ c.take.ensures.taken) in (
