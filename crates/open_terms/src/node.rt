@@ -2,7 +2,7 @@
 
 ghost use Rattle.std.specs.Prelude.{◌≡◌, ◌+◌, ◌<◌, ◌^◌, ◌∷◌, ◌++◌, [], map, IfOk, OnOk, None, Some};
 ghost use Rattle.asp_model.specs.Shapes.{marked_of, mark_shape, sign_shape};
-ghost use Rattle.asp_grammar.specs.Nodes.{part, mark_at as new_mark, named_mark as new_named_mark, number_at, variable_at, echo_at, word_at, active_at, if_at, let_at, scatter_at, member_at, operated as operated_part, got as got_part, called as called_part, put as put_part, terms_at, once_more as one_more, in_parentheses, made as made_part, served as served_part};
+ghost use Rattle.asp_grammar.specs.Nodes.{part, named_mark as new_named_mark, number_at, variable_at, echo_at, word_at, active_at, if_at, let_at, scatter_at, member_at, operated as operated_part, got as got_part, called as called_part, put as put_part, once_more as one_more, in_parentheses, made as made_part, served as served_part};
 ghost use Rattle.asp_grammar.specs.Depth.{parentheses_of};
 ghost use Rattle.open_terms.specs.Shapes.{part_shape, access_shape, object_shape, labels_shape, wrap_shape, field_part, listing_part};
 ghost use Rattle.open_terms.specs.Answers.{IsAccess};
@@ -13,17 +13,7 @@ use crate::open::{
 use crate::stop::stopped;
 use asp_model::{Mark, Sign, Term, Word};
 use std::alloc::{AllocError, Global};
-
-fn mark_at(alloc: Global, at: usize) -> Mark
-    ensures { mark_shape result ≡ new_mark at }
-{
-    Mark {
-        at,
-        parentheses: 0,
-        left: 0,
-        names: Vec::new(alloc),
-    }
-}
+use term_steps::mark_at;
 
 fn named_mark(alloc: Global, at: usize, name_at: usize) -> Result<Mark, AllocError>
     ensures { IfOk result (λ m. mark_shape m ≡ new_named_mark at (name_at ∷ [])) }
@@ -280,24 +270,6 @@ pub fn put(alloc: Global, access: Access, value: Part) -> Result<Part, AllocErro
         names: mark.names,
     };
     part_of(alloc, start, Term::Put(receiver, label, value.term, mark))
-}
-
-/// One term, or the steps of several.
-#[tactic(auto, using(crate::proofs::Stacks::steps_of))]
-pub fn sequence(
-    alloc: Global,
-    start: usize,
-    mut before: Vec<Term>,
-    last: Box<Term>,
-) -> Result<Box<Term>, AllocError>
-    ensures sequence { let terms = map marked_of before.items ++ marked_of last.value ∷ [] in
-        IfOk result (λ t. marked_of t.value ≡ terms_at start terms) }
-{
-    if before.is_empty() {
-        return Ok(last);
-    }
-    with_term(&mut before, last)?;
-    boxed(alloc, Term::Steps(before, mark_at(alloc, start)))
 }
 
 /// Puts one more term behind others.

@@ -6,12 +6,13 @@ ghost use Rattle.asp_grammar.specs.States.{joined as joined_part, put_all as all
 ghost use Rattle.open_terms.specs.Shapes.{part_shape, pending_shape, waiting_shape, access_shape, put_stack, kind_shape, open_shape};
 ghost use Rattle.open_terms.specs.Answers.{Puts};
 
-use crate::node::{access_of, operated, put, sequence};
+use crate::node::{access_of, operated, put};
 use crate::open::{Access, Kind, Open, Part, Pending};
 use crate::stop::{Stop, stopped};
 use asp_model::{Sign, Term};
 use std::alloc::{AllocError, Global};
 use std::mem;
+use term_steps::sequence;
 
 /// A sequence, or a field's term, of which nothing was read.
 pub fn fresh(alloc: Global, kind: Kind) -> Open
