@@ -24,7 +24,7 @@ use Rattle.coded_cells.specs.Shapes.{store_of}
 use Rattle.object_store.specs.View.{StoreView}
 use Rattle.program_code.specs.declared.code.Node.{Node}
 use Rattle.actor.specs.declared.actor.Actor.{Actor}
-use Rattle.actor.specs.declared.outlook.Outlook.TheVariants as outlook
+use Rattle.actor_parts.specs.declared.outlook.Outlook.TheVariants as outlook
 use Rattle.actor.specs.Actors.{IsClosedFor, code_of}
 use Rattle.actor.specs.Asking.{labels_in}
 use Rattle.actor.specs.Outlook.{IsOutlook}

@@ -34,8 +34,8 @@ use Rattle.operand_reads.specs.declared.strict.Strict.{Strict}
 use Rattle.operand_reads.specs.Strict.{strict_in}
 use Rattle.actor.specs.declared.actor.Actor.{Actor}
 use Rattle.actor.specs.declared.held.Held.{Held}
-use Rattle.actor.specs.declared.outlook.Outlook.{Outlook}
-use Rattle.actor.specs.declared.outlook.Outlook.TheVariants as outlook
+use Rattle.actor_parts.specs.declared.outlook.Outlook.{Outlook}
+use Rattle.actor_parts.specs.declared.outlook.Outlook.TheVariants as outlook
 use Rattle.actor.specs.Actors.{code_of}
 use Rattle.actor.specs.Asking.{asked_in, sent_to}
 use Rattle.actor.specs.Clear.{AreClearAt}

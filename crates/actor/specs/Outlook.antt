@@ -5,8 +5,8 @@ use Rattle.asp_model.specs.Configuration.{RequestShape}
 use Rattle.asp_model.specs.Intent as intent
 use Rattle.asp_model.specs.Intent.{Intent, Acts, Rests}
 use Rattle.asp_model.specs.Shapes.{fault_shape, future_shape}
-use Rattle.actor.specs.declared.outlook.Outlook.{Outlook}
-use Rattle.actor.specs.declared.outlook.Outlook.TheVariants as outlook
+use Rattle.actor_parts.specs.declared.outlook.Outlook.{Outlook}
+use Rattle.actor_parts.specs.declared.outlook.Outlook.TheVariants as outlook
 
 -- who is sent to
 abbrev pub IsTo : Option (Name × RequestShape) → Name → Type 0

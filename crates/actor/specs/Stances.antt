@@ -10,8 +10,8 @@ use Rattle.asp_model.specs.Chase.{Chase}
 use Rattle.asp_model.specs.Contraction.{first_future, is_future, members_of}
 use Rattle.asp_model.specs.Configuration.{Activity, RequestShape}
 use Rattle.asp_model.specs.Intent as intent
-use Rattle.asp_model.specs.Intent.{Acts, Intent, StatusShape}
-use Rattle.asp_model.specs.Shapes.{fault_shape, future_shape}
+use Rattle.asp_model.specs.Intent.{Acts, Intent}
+use Rattle.asp_model.specs.Shapes.{future_shape}
 use Rattle.journals.specs.Communications.{is_communication}
 use Rattle.journals.specs.Owed.{need_of}
 use Rattle.activity_rows.specs.declared.redex.Redex.{Redex}
@@ -20,17 +20,7 @@ use Rattle.operand_reads.specs.declared.strict.Strict.{Strict}
 use Rattle.operand_reads.specs.declared.strict.Strict.TheVariants as strict
 use Rattle.operand_reads.specs.Strict.{strict_places}
 use Rattle.actor.specs.declared.held.Held.{Held}
-use Rattle.actor.specs.declared.outlook.Outlook.{Outlook}
-use Rattle.actor.specs.declared.outlook.Outlook.TheVariants as outlook
-use Rattle.actor.specs.declared.stance.Stance.{Stance}
-use Rattle.actor.specs.declared.stance.Stance.TheVariants as stance
-
-pub data StanceShape : Type 0 where
-  -- the value of this future is owed to it, at this place
-  Needs : (f : FutureShape) (place : ℕ) → StanceShape
-  -- it may step, by a communication or by a contraction
-  Goes : (communicates : Bool) → StanceShape
-  Rests : (status : StatusShape) → StanceShape
+pub use Rattle.actor_parts.specs.Stances.{StanceShape, Needs, Goes, Rests, stance_shape, free_stance}
 
 abbrev pub stance_by : Bool → Intent → StanceShape
 stance_by b (Acts e) = Goes b
@@ -39,15 +29,6 @@ stance_by b (intent.Rests status) = Rests status
 -- a need first, then what it intends
 abbrev pub stance_of : (FutureShape → Chase) → List RequestShape → Name → Activity → StanceShape
 stance_of chases rs n a = elim (need_of chases a) [ Some x ↦ Needs x.0 x.1 | None ↦ stance_by (is_communication chases a) (intent.intent chases rs n a) ]
-
-abbrev pub stance_shape : Stance → StanceShape
-stance_shape (stance.Needs p f) = Needs (future_shape f.now) p
-stance_shape stance.Contracts = Goes false
-stance_shape stance.Communicates = Goes true
-stance_shape (stance.Awaits f) = Rests (intent.Awaits (future_shape f.now))
-stance_shape (stance.Faulted x) = Rests (intent.Faulted (fault_shape x))
-stance_shape stance.Serving = Rests intent.Serving
-stance_shape stance.Done = Rests intent.Done
 
 -- Strict operands
 
@@ -79,15 +60,6 @@ abbrev pub asks_others : Redex → Bool
 asks_others (redex.Active i l) = true
 asks_others (redex.Serve ls) = true
 asks_others x = false
-
--- by what it does next, and whether its redex asks others
-abbrev pub free_stance : Bool → Outlook → StanceShape
-free_stance b outlook.Steps = Goes b
-free_stance b (outlook.Sends n) = Goes true
-free_stance b (outlook.Awaits f) = Rests (intent.Awaits (future_shape f.now))
-free_stance b (outlook.Faulted x) = Rests (intent.Faulted (fault_shape x))
-free_stance b outlook.Serving = Rests intent.Serving
-free_stance b outlook.Done = Rests intent.Done
 
 -- at a place a service ends, if one is suspended
 abbrev pub place_stance : Bool → StanceShape

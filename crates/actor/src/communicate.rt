@@ -9,7 +9,6 @@ ghost use Rattle.asp_model.specs.Contraction.{Communication, Communicates, contr
 ghost use Rattle.asp_model.specs.Intent.{communicates, creates, oldest_match, sends, serves};
 ghost use Rattle.asp_model.specs.Names.{Text};
 ghost use Rattle.asp_model.specs.Parcel.{parcel_of};
-ghost use Rattle.asp_model.specs.Shapes.{future_shape};
 ghost use Rattle.asp_model.specs.Split.{Context, Redex, Splits, split};
 ghost use Rattle.activity_step.specs.Activities.{StandsFor};
 ghost use Rattle.coded_cells.specs.Shapes.{parcel_shape};
@@ -22,7 +21,8 @@ use crate::act::Given;
 use crate::actor::Actor;
 use crate::asked::{Asked, asked_at};
 use activity_step::Standing;
-use asp_model::{ActivityName, FutureName, Label};
+use actor_parts::future_named;
+use asp_model::{ActivityName, Label};
 use coded_cells::{Parcel, Place};
 use request_queue::Request;
 use std::alloc::{AllocError, Global};
@@ -163,16 +163,6 @@ fn copied(alloc: Global, label: Option<&Label>) -> Result<Option<Label>, AllocEr
         Some(label) => Ok(Some(label.copy(alloc)?)),
         None => Ok(None),
     }
-}
-
-fn future_named(alloc: Global, name: &ActivityName, number: u32) -> Result<FutureName, AllocError>
-    ensures name { IfOk result
-        (λ f. future_shape f ≡ record { by = name.now; index = number }) }
-{
-    Ok(FutureName {
-        by: name.copy(alloc)?,
-        index: number,
-    })
 }
 
 fn next_number(number: u32) -> Result<u32, AllocError>

@@ -1,6 +1,6 @@
 //! Values of futures that come.
 
-ghost use Rattle.std.specs.Prelude.{◌≡◌, ◌<◌, IfOk, List, OnOk, length};
+ghost use Rattle.std.specs.Prelude.{◌≡◌, ◌<◌, List, OnOk, length};
 ghost use Rattle.std.specs.Arc.{arc_value};
 ghost use Rattle.asp_model.specs.Configuration as model;
 ghost use Rattle.asp_model.specs.Configuration.{RequestShape};
@@ -16,22 +16,11 @@ ghost use Rattle.actor.specs.Clear.{HasClear};
 use crate::actor::Actor;
 use crate::held::{clear_at, holds_future};
 use activity_step::Standing;
+use actor_parts::listed;
 use asp_model::FutureName;
 use coded_cells::{Parcel, Place};
 use operand_reads::strict_of;
 use std::alloc::{AllocError, Global};
-use std::collections::BTreeSet;
-
-/// These places, ascending.
-fn listed(alloc: Global, places: &BTreeSet<Place>) -> Result<Vec<Place>, AllocError>
-    ensures places { IfOk result (λ v. v.items ≡ places.now.keys) }
-{
-    let mut all = Vec::new(alloc);
-    for place in places {
-        all.push(*place)?;
-    }
-    Ok(all)
-}
 
 impl Actor {
     /// Puts the value of a future at a place. It takes no reduction.

@@ -14,5 +14,5 @@ mod stance;
 
 pub use act::Given;
 pub use actor::Actor;
-pub use outlook::{Looked, Outlook};
-pub use stance::Stance;
+pub use actor_parts::{Outlook, Stance};
+pub use outlook::Looked;

@@ -28,27 +28,11 @@ use crate::actor::Actor;
 use crate::asked::served_labels;
 use activity_rows::Redex;
 use activity_step::Standing;
-use asp_model::{ActivityName, Fault, FutureName, Label};
+use actor_parts::Outlook;
+use asp_model::Label;
 use future_table::FutureTable;
 use operand_reads::{Prospect, prospect_from};
 use std::alloc::{AllocError, Global};
-
-/// What an activity does next.
-#[derive(Clone, Copy)]
-pub enum Outlook<'a> {
-    /// It has a reduction that sends nothing.
-    Steps,
-    /// It sends a request to the activity of this name.
-    Sends(&'a ActivityName),
-    /// It needs the value of a future that has none.
-    Awaits(&'a FutureName),
-    /// It stands at a fault.
-    Faulted(Fault),
-    /// It stands at a `serve` that no pending request matches.
-    Serving,
-    /// Its term is a place, and no service is suspended.
-    Done,
-}
 
 /// What an activity does next, and how many members of a group that it waits for have values.
 #[derive(Clone, Copy)]

@@ -15,7 +15,6 @@ ghost use Rattle.operand_reads.specs.Values.{AreClosedValues};
 ghost use Rattle.actor.specs.Actors.{IsClosedFor, Stands};
 ghost use Rattle.actor.specs.Stances.{
   asks_others,
-  free_stance,
   held_stance,
   stance_of,
   stance_shape,
@@ -23,34 +22,13 @@ ghost use Rattle.actor.specs.Stances.{
 
 use crate::actor::Actor;
 use crate::held::{Held, first_held};
-use crate::outlook::Outlook;
 use activity_rows::Redex;
 use activity_step::Standing;
-use asp_model::{Fault, FutureName};
+use actor_parts::{Stance, free_stance};
 use coded_cells::Place;
 use future_table::{Chase, FutureTable};
 use operand_reads::strict_of;
 use std::alloc::{AllocError, Global};
-
-/// Where an activity stands.
-#[derive(Clone, Copy)]
-pub enum Stance<'a> {
-    /// The value of this future is owed to it: the first strict operand that is a future stands at
-    /// this place, and leads to that value.
-    Needs(Place, &'a FutureName),
-    /// It has a contraction.
-    Contracts,
-    /// It has a communication that may be done.
-    Communicates,
-    /// Its first strict operand that is a future awaits this one, which has no value.
-    Awaits(&'a FutureName),
-    /// It stands at a fault.
-    Faulted(Fault),
-    /// It stands at a `serve` that no pending request matches.
-    Serving,
-    /// Its term is a place, and no service is suspended.
-    Done,
-}
 
 /// By the end of the chase of the first operand that is a future.
 fn held_stance<'a>(futures: &'a FutureTable, held: Held<'a>) -> Stance<'a>
@@ -69,25 +47,6 @@ fn asks_others(redex: Redex) -> bool
     ensures { result ≡ asks_others redex.entry }
 {
     matches!(redex, Redex::Active(_, _) | Redex::Serve(_))
-}
-
-fn free_stance(outlook: Outlook, asks: bool) -> Stance
-    ensures stance { stance_shape result ≡ free_stance asks outlook.entry }
-{
-    match outlook {
-        Outlook::Steps => {
-            if asks {
-                Stance::Communicates
-            } else {
-                Stance::Contracts
-            }
-        }
-        Outlook::Sends(_) => Stance::Communicates,
-        Outlook::Awaits(future) => Stance::Awaits(future),
-        Outlook::Faulted(fault) => Stance::Faulted(fault),
-        Outlook::Serving => Stance::Serving,
-        Outlook::Done => Stance::Done,
-    }
 }
 
 impl Actor {

@@ -20,8 +20,8 @@ use Rattle.laws.proofs.LinkedLemmas.{targets_are_there}
 use Rattle.chase_laws.proofs.FutureLemmas.{no_some, none_true, some_is}
 use Rattle.laws.proofs.StepLemmas.{holds_back, takes_step}
 use Rattle.actor.specs.declared.actor.Actor.{Actor}
-use Rattle.actor.specs.declared.outlook.Outlook.{Outlook}
-use Rattle.actor.specs.declared.outlook.Outlook.TheVariants as outlook
+use Rattle.actor_parts.specs.declared.outlook.Outlook.{Outlook}
+use Rattle.actor_parts.specs.declared.outlook.Outlook.TheVariants as outlook
 use Rattle.actor.specs.Actors.{Stands}
 use Rattle.actor.specs.Outlook.{IsOutlook, IsTo}
 use Rattle.schedules.specs.Schedules.{IsNextIn, RestsIn}

@@ -1,4 +1,4 @@
-use Rattle.std.proofs.Common.{◌<◌, ◌≤◌, ℕ, List, get_or, length, arith}
+use Rattle.std.proofs.Common.{◌<◌, ◌≤◌, ℕ, List, length, arith}
 use Rattle.asp_model.specs.Store.{Store}
 use Rattle.coded_cells.specs.Shapes.{store_of}
 use Rattle.actor.specs.Clear.{IsClear}

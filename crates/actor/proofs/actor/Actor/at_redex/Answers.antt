@@ -9,7 +9,7 @@ use Rattle.serve_rules.specs.Labels.{label_text}
 use Rattle.operand_reads.specs.declared.prospect.Prospect.{Prospect}
 use Rattle.operand_reads.specs.Prospects.{Asks, Awaits, Goes, GoesTo, Still, Stops, prospect_shape}
 use Rattle.actor.specs.declared.actor.Actor.{Actor}
-use Rattle.actor.specs.declared.outlook.Outlook.TheVariants as outlook
+use Rattle.actor_parts.specs.declared.outlook.Outlook.TheVariants as outlook
 use Rattle.actor.specs.Actors.{code_of}
 use Rattle.actor.specs.Outlook.{IsOutlook}
 use Rattle.actor.proofs.OutlookLemmas.{By, asks, awaits, by_own, goes, goes_to, outlook_at, serve_intent, still, stops}

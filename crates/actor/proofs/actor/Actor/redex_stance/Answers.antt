@@ -5,7 +5,7 @@ use Rattle.asp_model.specs.Shapes.{future_shape}
 use Rattle.future_table.specs.Values.{values_of}
 use Rattle.actor.specs.declared.actor.Actor.{Actor}
 use Rattle.actor.specs.declared.held.Held.{Held}
-use Rattle.actor.specs.declared.outlook.Outlook.{Outlook}
+use Rattle.actor_parts.specs.declared.outlook.Outlook.{Outlook}
 use Rattle.actor.specs.Actors.{code_of}
 use Rattle.actor.specs.Stances.{free_stance}
 use Rattle.actor.proofs.PassingLemmas.{at_first, clear_told}

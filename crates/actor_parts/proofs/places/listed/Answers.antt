@@ -1,6 +1,6 @@
 use Rattle.std.proofs.Common.{◌≡◌, ◌∙◌, ◌++◌, ◌∷◌, [], sym, ap}
 use Rattle.std.proofs.lemmas.List.{append-nil, append_assoc}
-use Rattle.actor.proofs.filling.listed.Goals as goal
+use Rattle.actor_parts.proofs.places.listed.Goals as goal
 
 pub loop-place-init : goal.loop-place-init
 loop-place-init c = ap (λ all. all ++ c.into_iter-place-iterator.result) c.new-all.ensures.items ∙ c.into_iter-place-iterator.ensures.into_iter_gives.0

@@ -1,0 +1,13 @@
+//! Parts of an actor that need no machine: what an activity does next and where it stands, as they are
+//! told; names of futures; places in order.
+#![tactic(auto)]
+
+mod names;
+mod outlook;
+mod places;
+mod stance;
+
+pub use names::future_named;
+pub use outlook::Outlook;
+pub use places::listed;
+pub use stance::{Stance, free_stance};
