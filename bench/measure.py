@@ -2,7 +2,7 @@
 """Measures the built programs at two sizes each: time, peak memory, and the ratio of the times.
 
     bench/measure.py [PART ..]     with no PART all of them: reading runs replays cores growth bytes reports
-                           printing edges turns
+                           edges turns
 
 Nothing here is a test: figures depend on the machine, and only their ratios within one run mean
 something. The seconds are those of the processor, so that other work on the machine matters less;
@@ -23,7 +23,7 @@ PROGRAM = os.path.join(ROOT, "crates", "asp", "out", "asp")
 TIMING = os.path.join(ROOT, "crates", "timing", "out", "timing")
 BUILD = """measure: build the programs first, at the top of the repository:
     rt ci, or (cd crates/asp && rt run -- data/one.asp)
-    (cd crates/timing && rt run -- edges turns 10)"""
+    (cd crates/timing && rt run -- hub 1 10 0 0)"""
 MEBIBYTE = 1 << 20
 MOST = ["--budget", "10000000", "--workers", "1"]
 
@@ -69,6 +69,35 @@ def crowd(n):
         "let m = [; many(s, k) = if (k == 0) { 0 } else { "
         "let b = active([; wait(t, v) = print(v + k)]) in b.wait(f); s.many(k - 1) }] in "
         f"m.many({n}); a.go()"
+    )
+
+
+def wide(n):
+    """One future goes to so many activities, which keep it unread, and then it is filled."""
+    return (
+        "let a = active([; one(s) = serve(go); 7, go(s) = 0]) in let f = a.one() in "
+        "let m = [; many(s, k) = if (k == 0) { 0 } else { "
+        "let b = active([x = 0; keep(t, v) = t.x := v; 0]) in b.keep(f); s.many(k - 1) }] in "
+        f"m.many({n}); a.go()"
+    )
+
+
+def many(n):
+    """So many futures go to one activity, which keeps each unread, and then they are filled."""
+    return (
+        "let a = active([; hold(s) = serve(go), go(s) = 0, one(s) = 7]) in a.hold(); "
+        "let b = active([x = 0; keep(t, v) = t.x := v; 0]) in "
+        "let m = [; many(s, k) = if (k == 0) { 0 } else { b.keep(a.one()); s.many(k - 1) }] in "
+        f"m.many({n}); a.go()"
+    )
+
+
+def turned(n):
+    """So many answers come to main, which goes on with a loop as long as they come."""
+    return (
+        "let a = active([; one(s) = 7]) in "
+        "let m = [; many(s, k) = if (k == 0) { 0 } else { a.one(); s.many(k - 1) }] in "
+        f"m.many({n}); let o = [; down(s, k) = if (k == 0) {{ 0 }} else {{ s.down(k - 1) }}] in o.down({n})"
     )
 
 
@@ -187,10 +216,9 @@ def per_second(run):
     return f"{run.reductions / run.seconds:,.0f} reductions a second"
 
 
-def show(name, small, large, turns=5, times=2, most=None, program=None):
+def show(name, small, large, turns=5, times=2, most=None):
     """The runs under two lists of words, the second of so many times the size, and the most that is wanted."""
-    program = program or PROGRAM
-    first, second = best(program, small, turns), best(program, large, turns)
+    first, second = best(PROGRAM, small, turns), best(PROGRAM, large, turns)
     size = "twice the size" if times == 2 else f"{times} times the size"
     bound = f" (at most {most} is wanted)" if most else ""
     rate = ""
@@ -306,34 +334,36 @@ def show_reports(folder):
         show(f"reading a report of {name}", [program, "--replay", small], [program, "--replay", large], turns=3)
 
 
-def show_printing(folder):
-    deep = "(" * 190 + "7" + ")" * 190 + "; "
-    texts = (
-        ("fields", fields, "]"),
-        ("prints", lambda: repeat("print(1); "), "7"),
-        ("parentheses", lambda: repeat(deep), "7"),
-    )
-    for name, pieces, last in texts:
-        small, large = (folder.pieces(pieces(), size, last) for size in (MEBIBYTE // 2, MEBIBYTE))
-        show(f"reading and printing {name}", ["print", small], ["print", large], program=TIMING)
-
-
-def show_edges(_folder):
-    """Edges that are entered, filled and delivered: one future to many, many to one, and to one that goes out."""
-    small, large = 100_000, 200_000
-    for shape in ("wide", "many", "turns"):
-        words = [["edges", shape, str(size)] for size in (small, large)]
-        show(f"edges {shape}", *words, turns=3, most=2.5, program=TIMING)
-        first, second = (once(TIMING, of_size) for of_size in words)
-        print(f"{shape}: {(second.peak - first.peak) * 1024 / (large - small):.0f} bytes an edge", flush=True)
+def show_edges(folder):
+    """Edges that are entered, filled and delivered in whole runs, beside the same where none is delivered."""
+    for name, text, size in (
+        ("one future to 200,000 activities", wide, 200_000),
+        ("200,000 futures to one activity", many, 200_000),
+        ("200,000 values to one that is out and in", turned, 200_000),
+    ):
+        words = [[folder.text(text(n)), *MOST] for n in (size // 2, size)]
+        runs = {}
+        for strategy in ("lazy", "forward", "message"):
+            half, whole = ([*of_size, "--strategy", strategy] for of_size in words)
+            runs[strategy] = show(f"{name}, {strategy}", half, whole, turns=3, most=2.5)
+        for strategy in ("forward", "message"):
+            more = runs[strategy][1].seconds - runs["lazy"][1].seconds
+            print(f"{name}: a delivery under {strategy} takes {more / size * 1e6:.2f} us", flush=True)
 
 
 def turns_of(threads, count, inside=0, outside=0, runs=5):
     """Runs of so many turns of each thread, by kind. The kinds alternate, so that all see the same machine."""
     words = [str(word) for word in (threads, count, inside, outside)]
     kinds = ("mutex", "hub", "call")
-    made = [[once(TIMING, ["turns", kind, *words]) for kind in kinds] for _ in range(runs)]
+    made = [[once(TIMING, [kind, *words]) for kind in kinds] for _ in range(runs)]
     return {kind: [turn[place] for turn in made] for place, kind in enumerate(kinds)}
+
+
+def seconds_of_a_round():
+    """The seconds of one round of the loop with which threads spend their time."""
+    count, rounds = 2_000, 10_000
+    none, many = (best(TIMING, ["mutex", "1", str(count), str(of), "0"], 5) for of in (0, rounds))
+    return (many.seconds - none.seconds) / (count * rounds)
 
 
 def show_contended(threads, inside, outside):
@@ -354,12 +384,11 @@ def show_turns(_folder):
     for kind in ("hub", "call"):
         print(f"a turn alone, {kind}: {least[kind] / count * 1e9:.1f} ns, {least[kind] / least['mutex']:.2f} times a "
               f"Mutex's {least['mutex'] / count * 1e9:.1f} (at most 2.5 is wanted)", flush=True)
-    rounds = 20_000_000
-    spin = best(TIMING, ["turns", "spin", "1", str(rounds), "0", "0"], 5).seconds / rounds
+    spin = seconds_of_a_round()
     for threads in (2, 4):
         show_contended(threads, round(200e-9 / spin), round(1_800e-9 / spin))
     for kind, name in (("wait", "wait for the turn"), ("rest", "rest")):
-        run = once(TIMING, ["turns", kind, "4", "3000", "0", "0"])
+        run = once(TIMING, [kind, "4", "3000", "0", "0"])
         print(f"seats that {name} for {run.elapsed:.1f} s: {run.seconds:.3f} s of the processor "
               f"(less than 0.1 is wanted)", flush=True)
 
@@ -372,7 +401,6 @@ PARTS = {
     "growth": show_core_growth,
     "bytes": show_bytes,
     "reports": show_reports,
-    "printing": show_printing,
     "edges": show_edges,
     "turns": show_turns,
 }

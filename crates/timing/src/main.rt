@@ -1,64 +1,68 @@
-//! For the bench: what no command of `asp` shows of printed programs, edges and turns.
+//! For the bench: what a turn of `turn_hub` costs beside one of a `Mutex`, and what seats cost that
+//! sleep.
 #![tactic(auto)]
 
-ghost use Rattle.std.specs.Prelude.{◌<◌, ◌≤◌, IfOk};
+ghost use Rattle.std.specs.Prelude.{◌<◌, ◌≤◌, IfSome};
 ghost use Rattle.asp_model.specs.declared.limits.TheConstants.{MOST_WORKERS};
 
 mod count;
-mod counting;
-mod edges;
-mod passing;
-mod printed;
-mod racing;
-mod shapes;
+mod races;
 mod sleeps;
 mod turns;
 
-use crate::passing::show_edges;
-use crate::printed::print_file;
-use crate::racing::taken;
-use crate::turns::Turns;
-use anyhow::{Result, bail};
+use crate::races::taken;
+use crate::turns::{Kind, Turns};
 use asp_model::MOST_WORKERS;
 use std::env;
+use std::process::ExitCode;
 
-fn number(word: Option<String>) -> Result<u32> {
-    match word {
-        Some(text) => Ok(text.parse()?),
-        None => bail!("a number is wanted"),
+fn kind(word: Option<String>) -> Option<Kind> {
+    match word?.as_str() {
+        "hub" => Some(Kind::Hub),
+        "call" => Some(Kind::Call),
+        "mutex" => Some(Kind::Mutex),
+        "wait" => Some(Kind::Wait),
+        "rest" => Some(Kind::Rest),
+        _ => None,
     }
 }
 
-fn threads(word: Option<String>) -> Result<u32>
-    ensures { IfOk result (λ n. (0 < n) × (n ≤ MOST_WORKERS)) }
+fn number(word: Option<String>) -> Option<u32> {
+    word?.parse().ok()
+}
+
+fn threads(word: Option<String>) -> Option<u32>
+    ensures { IfSome result (λ n. (0 < n) × (n ≤ MOST_WORKERS)) }
 {
-    let threads = number(word)?;
-    if threads == 0 || threads > MOST_WORKERS {
-        bail!("1 to {MOST_WORKERS} threads are wanted");
+    match number(word) {
+        Some(threads) if threads > 0 && threads <= MOST_WORKERS => Some(threads),
+        _ => None,
     }
-    Ok(threads)
 }
 
-fn main(rt: HostRuntime) -> Result<()> {
-    let mut words = env::args(&rt)?.skip(1);
-    let (Some(task), Some(what)) = (words.next(), words.next()) else {
-        bail!("a task and what it is done with are wanted");
+fn main(rt: HostRuntime) -> ExitCode {
+    let Ok(args) = env::args(&rt) else {
+        return ExitCode::FAILURE;
     };
-    match task.as_str() {
-        "print" => print_file(&rt, &what),
-        "edges" => show_edges(&rt, &what, number(words.next())?),
-        "turns" => {
-            let threads = threads(words.next())?;
-            let turns = Turns {
-                times: number(words.next())?,
-                inside: number(words.next())?,
-                outside: number(words.next())?,
-                more: what.as_str() == "call",
-            };
-            let count = taken(&rt, rt.alloc(), &what, threads, &turns)?;
-            println!(rt; "{count}")?;
-            Ok(())
-        }
-        _ => bail!("there is no such task"),
+    let mut words = args.skip(1);
+    let kind = kind(words.next());
+    let threads = threads(words.next());
+    let times = number(words.next());
+    let inside = number(words.next());
+    let outside = number(words.next());
+    let (Some(kind), Some(threads), Some(times), Some(inside), Some(outside)) = (
+        kind, threads, times, inside, outside,
+    ) else {
+        return ExitCode::FAILURE;
+    };
+    let turns = Turns {
+        kind,
+        times,
+        inside,
+        outside,
+    };
+    match taken(&rt, rt.alloc(), threads, &turns) {
+        Ok(count) if println!(rt; "{count}").is_ok() => ExitCode::SUCCESS,
+        _ => ExitCode::FAILURE,
     }
 }

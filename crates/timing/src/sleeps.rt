@@ -1,4 +1,4 @@
-//! Seats that sleep while seat 1 does nothing for a while: for the turn, or for work.
+//! Seats that sleep while the first does nothing for a while: for the turn, or for work.
 
 ghost use Rattle.turn_race.specs.Ready.{IsReady};
 
@@ -7,38 +7,30 @@ use std::sync::Wait;
 use std::thread;
 use std::time::{Clock, Duration};
 use turn_hub::{Hub, Seat};
-use turn_race::Work;
 
-/// Seat 1 has the turn for so many milliseconds, and the others want it.
-#[derive(Clone, Copy)]
-pub struct Held {
-    pub millis: u32,
+/// Sleeps for so many milliseconds.
+pub fn nap<C: Clock>(clock: &C, millis: u32) {
+    thread::sleep(clock, Duration::from_millis(u64::from(millis)));
 }
 
-impl Work<Count> for Held {
-    fn turns<R: Wait + Clock>(&self, rt: &R, hub: &Hub<Count>, seat: &mut Seat<Count>) {
-        let mut count = hub.take(rt, seat);
-        count.add();
-        if seat.number() == 1 {
-            thread::sleep(rt, Duration::from_millis(u64::from(self.millis)));
-        }
-        hub.give(seat, count, false);
-    }
+/// Has the turn for so many milliseconds.
+pub fn hold<R: Wait + Clock>(rt: &R, hub: &Hub<Count>, seat: &mut Seat<Count>, millis: u32)
+    requires { IsReady hub.now 1 seat.old }
+    ensures { IsReady hub.now 1 seat.new }
+{
+    let mut count = hub.take(rt, seat);
+    count.add();
+    nap(rt, millis);
+    hub.give(seat, count, false);
 }
 
-/// Seat 1 finds work after so many milliseconds, and the others rest until then.
-#[derive(Clone, Copy)]
-pub struct Idle {
-    pub millis: u32,
-}
-
-// A turn that counts where seat 1 had its own. It answers whether it did.
+// A turn that counts where the first seat had its own. It answers whether it did.
 fn turn_after_first<R: Wait>(rt: &R, hub: &Hub<Count>, seat: &mut Seat<Count>) -> bool
     requires { IsReady hub.now 1 seat.old }
     ensures { IsReady hub.now 1 seat.new }
 {
     let mut count = hub.take(rt, seat);
-    let found = count.turns() > 0;
+    let found = *count.turns > 0;
     if found {
         count.add();
     }
@@ -46,7 +38,8 @@ fn turn_after_first<R: Wait>(rt: &R, hub: &Hub<Count>, seat: &mut Seat<Count>) -
     found
 }
 
-fn rest_until_first<R: Wait>(rt: &R, hub: &Hub<Count>, seat: &mut Seat<Count>)
+/// Rests until the first seat had its turn.
+pub fn rest_until_first<R: Wait>(rt: &R, hub: &Hub<Count>, seat: &mut Seat<Count>)
     requires { IsReady hub.now 1 seat.old }
     ensures { IsReady hub.now 1 seat.new }
 {
@@ -55,17 +48,5 @@ fn rest_until_first<R: Wait>(rt: &R, hub: &Hub<Count>, seat: &mut Seat<Count>)
             return;
         }
         hub.rest(rt, seat);
-    }
-}
-
-impl Work<Count> for Idle {
-    fn turns<R: Wait + Clock>(&self, rt: &R, hub: &Hub<Count>, seat: &mut Seat<Count>) {
-        if seat.number() > 1 {
-            return rest_until_first(rt, hub, seat);
-        }
-        thread::sleep(rt, Duration::from_millis(u64::from(self.millis)));
-        let mut count = hub.take(rt, seat);
-        count.add();
-        hub.give(seat, count, true);
     }
 }

@@ -1,48 +1,71 @@
-//! Turns of some threads, by a hub and by a `Mutex` of std.
+//! Turns of one seat, and of one thread that takes a `Mutex`.
 
-ghost use Rattle.std.specs.Prelude.{◌<◌, ◌≤◌};
-ghost use Rattle.asp_model.specs.declared.limits.TheConstants.{MOST_WORKERS};
 ghost use Rattle.turn_race.specs.Ready.{IsReady};
 
 use crate::count::Count;
-use std::alloc::{AllocError, Global};
+use crate::sleeps::{hold, nap, rest_until_first};
+use std::hint;
 use std::sync::{Mutex, Wait};
-use std::thread::Threads;
 use std::time::Clock;
-use std::{hint, thread};
 use turn_hub::{Hub, Seat};
-use turn_race::{Work, race};
+use turn_race::Work;
+
+/// What the threads do.
+#[derive(Clone, Copy)]
+pub enum Kind {
+    /// Each takes so many turns.
+    Hub,
+    /// The same, and each turn is given back with the word that others may find work.
+    Call,
+    /// The same by a `Mutex`.
+    Mutex,
+    /// The first has the turn for so many milliseconds, and the others sleep for it.
+    Wait,
+    /// The first finds work after so many milliseconds, and the others rest until then.
+    Rest,
+}
 
 /// What each thread does.
 #[derive(Clone, Copy)]
 pub struct Turns {
+    pub kind: Kind,
     pub times: u32,
     /// Rounds of a loop with the turn, and between two turns.
     pub inside: u32,
     pub outside: u32,
-    /// Whether each turn is given back with the word that others may find work.
-    pub more: bool,
 }
 
 /// So many rounds of a loop that only waits.
-pub fn spin(rounds: u32) {
+fn spin(rounds: u32) {
     for _ in 0..rounds {
         hint::spin_loop();
     }
 }
 
 impl Turns {
-    fn one<R: Wait>(&self, rt: &R, hub: &Hub<Count>, seat: &mut Seat<Count>)
+    /// One turn.
+    fn one<R: Wait>(&self, rt: &R, hub: &Hub<Count>, seat: &mut Seat<Count>, more: bool)
         requires { IsReady hub.now 1 seat.old }
         ensures { IsReady hub.now 1 seat.new }
     {
         let mut count = hub.take(rt, seat);
         count.add();
         spin(self.inside);
-        hub.give(seat, count, self.more);
+        hub.give(seat, count, more);
     }
 
-    fn lock_all<R: Wait>(&self, rt: &R, shared: &Mutex<Count>) {
+    fn all<R: Wait>(&self, rt: &R, hub: &Hub<Count>, seat: &mut Seat<Count>, more: bool)
+        requires { IsReady hub.now 1 seat.old }
+        ensures { IsReady hub.now 1 seat.new }
+    {
+        for _turn in 0..self.times {
+            self.one(rt, hub, seat, more);
+            spin(self.outside);
+        }
+    }
+
+    /// All turns of one thread by a `Mutex`.
+    pub fn lock_all<R: Wait>(&self, rt: &R, shared: &Mutex<Count>) {
         for _ in 0..self.times {
             let mut count = shared.lock(rt);
             count.add();
@@ -55,41 +78,17 @@ impl Turns {
 
 impl Work<Count> for Turns {
     fn turns<R: Wait + Clock>(&self, rt: &R, hub: &Hub<Count>, seat: &mut Seat<Count>) {
-        for _turn in 0..self.times {
-            self.one(rt, hub, seat);
-            spin(self.outside);
+        let is_first = seat.number() == 1;
+        match self.kind {
+            Kind::Wait if is_first => hold(rt, hub, seat, self.times),
+            Kind::Wait => self.one(rt, hub, seat, false),
+            Kind::Rest if is_first => {
+                nap(rt, self.times);
+                self.one(rt, hub, seat, true);
+            }
+            Kind::Rest => rest_until_first(rt, hub, seat),
+            Kind::Call => self.all(rt, hub, seat, true),
+            Kind::Hub | Kind::Mutex => self.all(rt, hub, seat, false),
         }
     }
-}
-
-/// The turns of so many threads by a hub. It answers how many there were.
-pub fn by_hub<R: Threads + Wait + Clock + Sync>(
-    rt: &R,
-    alloc: Global,
-    threads: u32,
-    turns: &Turns,
-) -> Result<u64, AllocError>
-    requires { (0 < threads) × (threads ≤ MOST_WORKERS) }
-{
-    Ok(race(rt, alloc, Count::new(alloc)?, threads, turns)?.turns())
-}
-
-/// The same by a `Mutex`.
-pub fn by_mutex<R: Threads + Wait + Sync>(
-    rt: &R,
-    alloc: Global,
-    threads: u32,
-    turns: &Turns,
-) -> Result<u64, AllocError>
-    requires { (0 < threads) × (threads ≤ MOST_WORKERS) }
-{
-    let shared = Mutex::new(Count::new(alloc)?);
-    let mut places = Vec::from_elem(alloc, (), threads as usize)?;
-    thread::for_each_mut(
-        rt,
-        places.as_mut_slice(),
-        threads as usize,
-        &|_, _place: &mut ()| turns.lock_all(rt, &shared),
-    );
-    Ok(shared.into_inner().turns())
 }
