@@ -1,0 +1,9 @@
+//! Cores that are driven by lists of steps: what each list makes of the journal, of the edges and
+//! of the run, and that whatever is driven is the replay of its own sender lists and counts.
+
+mod acts;
+mod driven;
+mod edges;
+mod lists;
+mod rows;
+mod shown;

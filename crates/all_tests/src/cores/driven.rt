@@ -1,0 +1,122 @@
+//! What lists of steps lead to.
+
+ghost use Rattle.std.specs.Prelude.{IfOk};
+ghost use Rattle.asp_core.specs.Cores.{IsKept};
+ghost use Rattle.core_runs.specs.Over.{IsOver};
+
+use crate::boxes::usual_policies;
+use crate::cores::acts::{Act, steps};
+use crate::cores::shown::told;
+use crate::drops::{drop_checked, drop_core, drop_end};
+use crate::programs::checked;
+use crate::repeats::is_repeated;
+use asp_check::Checked;
+use asp_core::Core;
+use asp_model::Word;
+use core_drives::drive;
+use core_runs::{end_of_run, finish};
+use run_ends::RunEnd;
+use run_report::render;
+use std::alloc::{AllocError, Global};
+use std::process::Abort;
+use std::test::Fail;
+use update_policy::{Plan, Policies, Strategy};
+
+/// A program and a budget.
+#[derive(Clone, Copy)]
+pub struct Start {
+    pub text: &'static str,
+    pub budget: u64,
+}
+
+/// A core as a text, and the report of its end where its verdict is there.
+#[derive(Drop)]
+pub struct Shown {
+    pub core: String,
+    pub report: String,
+}
+
+#[tactic(auto, using(crate::proofs::Driven::driven_kept))]
+fn driven(
+    alloc: Global,
+    program: &Checked,
+    start: &Start,
+    plan: Plan,
+    policies: Policies,
+    acts: &[Act],
+) -> Result<Core, AllocError>
+    ensures kept { IfOk result IsKept }
+{
+    let steps = steps(alloc, acts)?;
+    drive(alloc, program, start.budget, plan, policies, &steps)
+}
+
+fn lines_text(alloc: Global, lines: &[Word]) -> Result<String, AllocError> {
+    let mut text = String::new(alloc);
+    for line in lines {
+        text.push_str(line.as_str())?;
+        text.push_str("\n")?;
+    }
+    Ok(text)
+}
+
+fn report(alloc: Global, end: &RunEnd) -> Result<String, AllocError> {
+    lines_text(alloc, &render(alloc, end, None)?)
+}
+
+// The report of the end, which is that of the replay under its own lists and counts.
+fn ended(rt: &impl Abort, alloc: Global, program: &Checked, core: Core) -> Result<String, Fail>
+    requires over { IsOver core }
+{
+    let end = end_of_run(core)?;
+    let same = is_repeated(rt, alloc, program, &end);
+    let text = report(alloc, &end);
+    drop_end(end);
+    assert!(rt; same?, "the replay is another one");
+    Ok(text?)
+}
+
+#[tactic(auto, using(crate::proofs::Driven::over_kept))]
+fn finished(rt: &impl Abort, alloc: Global, program: &Checked, core: Core) -> Result<Shown, Fail>
+    requires kept { IsKept core }
+{
+    let core = finish(core)?;
+    let told = told(alloc, &core);
+    let report = ended(rt, alloc, program, core)?;
+    Ok(Shown {
+        core: told?,
+        report,
+    })
+}
+
+/// The core to which steps lead where all futures are lazy, as a text.
+pub fn after(alloc: Global, start: &Start, acts: &[Act]) -> Result<String, Fail> {
+    let policies = usual_policies(alloc)?;
+    let program = checked(alloc, start.text)?;
+    let plan = Plan::of(alloc, Strategy::Lazy);
+    let core = driven(alloc, &program, start, plan, policies, acts);
+    drop_checked(program);
+    let core = core?;
+    let text = told(alloc, &core);
+    drop_core(core);
+    Ok(text?)
+}
+
+/// The same by a plan and policies, once what is owed is delivered and whoever can has worked until the verdict
+/// is there. Its end is that of the replay under its own lists and counts.
+pub fn at_the_end(
+    rt: &impl Abort,
+    alloc: Global,
+    start: &Start,
+    plan: Plan,
+    policies: Policies,
+    acts: &[Act],
+) -> Result<Shown, Fail> {
+    let program = checked(alloc, start.text)?;
+    let shown = match driven(alloc, &program, start, plan, policies, acts) {
+        Ok(core) => finished(rt, alloc, &program, core),
+        Err(error) => Err(error.into()),
+    };
+    drop_checked(program);
+    shown
+}

@@ -1,0 +1,22 @@
+//! All tests: of the parts of a run (`parts`), of cores that are driven by lists of steps (`cores`),
+//! and of whole runs of which no command shows what is tested (`runs`).
+#![tactic(auto)]
+
+#[cfg(test)]
+mod boxes;
+#[cfg(test)]
+mod cores;
+#[cfg(test)]
+mod drops;
+#[cfg(test)]
+mod names;
+#[cfg(test)]
+mod parts;
+#[cfg(test)]
+mod programs;
+#[cfg(test)]
+mod repeats;
+#[cfg(test)]
+mod runs;
+#[cfg(test)]
+mod texts;

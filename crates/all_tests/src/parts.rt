@@ -1,0 +1,9 @@
+//! What no clause says of the parts of a run.
+
+mod groups;
+mod hub;
+mod outside;
+mod policies;
+mod printing;
+mod shown;
+mod stores;

@@ -1,0 +1,8 @@
+//! Whole runs of which no command shows what is tested: reads and writes that fail, policies that
+//! count how often they are asked, workers that race, and replays under lists that no report has.
+
+mod commands;
+mod faults_of_the_outside;
+mod policies_asked;
+mod racing;
+mod replays;

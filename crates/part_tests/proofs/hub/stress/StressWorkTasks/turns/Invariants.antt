@@ -1,5 +1,0 @@
-use Rattle.turn_race.specs.Ready.{IsReady}
-use Rattle.part_tests.proofs.hub.stress.StressWorkTasks.turns.Given as goal
-
-abbrev pub invariant-loop-turn : goal.invariant-loop-turn
-invariant-loop-turn g l = IsReady l.hub 1 l.seat

@@ -1,6 +1,0 @@
-use Rattle.asp_model.specs.Shapes.{marked_of}
-use Rattle.outcome_laws.proofs.ProgramLaws.{programs_are_readable}
-use Rattle.part_tests.proofs.stores.checked.Goals as goal
-
-pub check-requires : goal.check-requires
-check-requires c = record { readable = programs_are_readable c.args.bytes.now (marked_of c.in_ok-program.program.root) c.in_ok-program.ensures.program }

@@ -1,7 +1,0 @@
-//! Seats that race for a hub, and what they share.
-
-mod splits;
-mod stress;
-mod tasks;
-mod turns;
-mod wakes;
