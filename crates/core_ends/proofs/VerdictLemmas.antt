@@ -7,7 +7,7 @@ use Rattle.asp_model.specs.Configuration.{Activity, Configuration}
 use Rattle.asp_model.specs.History.{ChoiceShape, DeliveryShape, HistoryShape}
 use Rattle.asp_model.specs.Names.{Name, name_cmp}
 use Rattle.asp_model.specs.Intent.{StatusShape}
-use Rattle.asp_model.specs.Status.{Blocked, Budget, End, is_awaiting, is_running, status_of, statuses_of, verdict_of}
+use Rattle.asp_model.specs.Status.{Blocked, Budget, End, VerdictShape, is_awaiting, is_running, status_of, statuses_of, verdict_of}
 use Rattle.asp_model.specs.Step.{name_at}
 use Rattle.journals.specs.Edges.{HoldersShape}
 use Rattle.journals.specs.Journals.{RunShape, grant_of}
@@ -39,6 +39,7 @@ use Rattle.core_state.specs.declared.state.CoreState.{CoreState}
 use Rattle.core_state.specs.Cores.{IsAway, IsCore, IsSeated}
 use Rattle.core_state.specs.Lending.{IsNextReady}
 use Rattle.core_state.proofs.ListLemmas.{got_within, name_within}
+use Rattle.core_rules.specs.Verdicts.{IsVerdictOf}
 use Rattle.core_ends.specs.Verdicts.{GoesOn, IsStill}
 
 -- Who is out
@@ -197,22 +198,27 @@ module _ (h : HistoryShape) (code : List Node) (x : CoreState) (s : RunShape) (c
 
   -- The verdict at rest
 
-  pub budget_told : (k : ℕ) → has_number k x.ranks.going.keys ≡ true → verdict_of c ≡ Budget
+  budget_told : (k : ℕ) → has_number k x.ranks.going.keys ≡ true → verdict_of c ≡ Budget
   budget_told k going = ap (λ b. cond b Budget (cond waits Blocked End)) (some_told is_running goes refl (λ n. (ranks_tell c n).going) k (sym (core.ranks k).going ∙ going))
 
   module _ (still : IsStill s) (none : (k : ℕ) → has_number k x.ranks.going.keys ≡ false) where
     still_not : runs ≡ false
     still_not = none_told is_running goes refl (λ n. (ranks_tell c n).going) still (λ k. sym (core.ranks k).going ∙ none k)
 
-    pub blocked_told : IsAwaitTold x.ranks true → verdict_of c ≡ Blocked
+    blocked_told : IsAwaitTold x.ranks true → verdict_of c ≡ Blocked
     blocked_told some =
         let awaited : waits ≡ true = some_told is_awaiting awaits refl (λ n. (ranks_tell c n).awaiting) some.0 (some.1 (rank_of_number s some.0) (core.ranks some.0)) in
         (λ i. cond (still_not i) Budget (cond (awaited i) Blocked End))
 
-    pub end_told : IsAwaitTold x.ranks false → verdict_of c ≡ End
+    end_told : IsAwaitTold x.ranks false → verdict_of c ≡ End
     end_told nobody =
         let awaited : waits ≡ false = none_told is_awaiting awaits refl (λ n. (ranks_tell c n).awaiting) still (λ k. nobody k (rank_of_number s k) (core.ranks k)) in
         (λ i. cond (still_not i) Budget (cond (awaited i) Blocked End))
+
+  pub rest_told : IsStill s → (v : VerdictShape) → IsVerdictOf x.ranks v → verdict_of c ≡ v
+  rest_told still Budget told = budget_told told.0 told.1
+  rest_told still Blocked told = blocked_told still told.0 told.1
+  rest_told still End told = end_told still told.0 told.1
 
   -- Whether somebody goes on
 

@@ -51,17 +51,17 @@ fn bring(
 /// All activities that are in, by their names.
 fn activities_of(
     alloc: Global,
-    mut seats: Seats<Actor, Request>,
+    seats: &mut Seats<Actor, Request>,
 ) -> Result<BTreeMap<ActivityName, Box<Actor>>, AllocError>
-    requires kept { AreSeats seats }
-    requires apart { AreApart (names_in seats) }
-    ensures all { let all = length (seats_in seats) in
-        IfOk result (λ m. AreBefore (names_in seats) (seats_in seats) all (get name_cmp m)) }
+    requires kept { AreSeats seats.old }
+    requires apart { AreApart (names_in seats.old) }
+    ensures all { let all = length (seats_in seats.old) in
+        IfOk result (λ m. AreBefore (names_in seats.old) (seats_in seats.old) all (get name_cmp m)) }
 {
     let count = seats.len() as u32;
     let mut activities = Vec::with_capacity(alloc, count as usize)?;
     for number in 0..count {
-        bring(alloc, &mut seats, number, &mut activities)?;
+        bring(alloc, seats, number, &mut activities)?;
     }
     BTreeMap::from_iter(alloc, activities)
 }
@@ -77,21 +77,30 @@ pub fn end(state: CoreState) -> Result<RunEnd, AllocError>
 {
     let CoreState {
         alloc,
-        seats,
-        ranks: _,
+        mut seats,
+        ranks,
         futures,
-        journal: _,
+        journal,
         left: _,
         bursts: _,
     } = state;
-    let activities = activities_of(alloc, seats)?;
-    let passed = BTreeMap::new(alloc);
-    run_end_of(
-        alloc,
-        Population {
-            activities,
-            futures,
-            passed,
-        },
-    )
+    drop(ranks);
+    drop(journal);
+    let activities = activities_of(alloc, &mut seats);
+    drop(seats);
+    match activities {
+        Ok(activities) => {
+            let passed = BTreeMap::new(alloc);
+            let population = Population {
+                activities,
+                futures,
+                passed,
+            };
+            run_end_of(alloc, population)
+        }
+        Err(error) => {
+            drop(futures);
+            Err(error)
+        }
+    }
 }

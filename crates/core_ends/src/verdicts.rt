@@ -1,15 +1,14 @@
 //! The verdict of a core, where it has one.
 
-ghost use Rattle.std.specs.Prelude.{◌≡◌, List};
+ghost use Rattle.std.specs.Prelude.{List};
 ghost use Rattle.asp_model.specs.History.{HistoryShape};
-ghost use Rattle.asp_model.specs.Shapes.{verdict_shape};
-ghost use Rattle.asp_model.specs.Status.{verdict_of};
 ghost use Rattle.journals.specs.Journals.{RunShape};
 ghost use Rattle.program_code.specs.declared.code.Node.{Node as NodeShape};
 ghost use Rattle.core_state.specs.Cores.{IsCore, IsSomeCore};
-ghost use Rattle.core_ends.specs.Verdicts.{GoesOn, IsStill, IsToldVerdict};
+ghost use Rattle.core_ends.specs.Verdicts.{GoesOn, IsToldVerdict};
 
 use asp_model::Verdict;
+use core_rules::verdict_at_rest;
 use core_state::CoreState;
 
 /// Whether somebody is out, a value is needed, or somebody may be lent.
@@ -27,24 +26,6 @@ fn goes_on(state: &CoreState) -> bool
     }
 }
 
-/// The verdict where nobody goes on: who may step then lacks a budget.
-fn verdict_at_rest(state: &CoreState) -> Verdict
-    ensures verdict { (h : HistoryShape) (code : List NodeShape) (s : RunShape) →
-        IsCore h code state.now s → IsStill s →
-        verdict_shape result ≡ verdict_of s.configuration }
-{
-    match state.ranks.first_going() {
-        Some(_) => Verdict::Budget,
-        None => {
-            if state.ranks.someone_awaits() {
-                Verdict::Blocked
-            } else {
-                Verdict::End
-            }
-        }
-    }
-}
-
 /// The verdict of a core, where nobody is out, nothing is owed, and none may be lent.
 /// `is_edge_due` says whether a value is owed along an edge to one that is in. It takes no memory.
 pub fn verdict(state: &CoreState, is_edge_due: bool) -> Option<Verdict>
@@ -58,5 +39,5 @@ pub fn verdict(state: &CoreState, is_edge_due: bool) -> Option<Verdict>
     if goes_on(state) {
         return None;
     }
-    Some(verdict_at_rest(state))
+    Some(verdict_at_rest(&state.ranks))
 }

@@ -11,15 +11,15 @@ use Rattle.core_ends.proofs.EndLemmas.{gathered_more, held_in, same_before}
 use Rattle.core_ends.proofs.gathering.activities_of.Goals as goal
 
 pub loop-number-preserved : goal.loop-number-preserved
-loop-number-preserved c = gathered_more c.args.seats c.loop-number.seats c.len-count.result c.loop-number.number c.loop-number.activities.items c.loop-number.invariant c.requires.kept c.loop-number-test.true
+loop-number-preserved c = gathered_more c.args.seats.now c.loop-number.seats c.len-count.result c.loop-number.number c.loop-number.activities.items c.loop-number.invariant c.requires.kept c.loop-number-test.true
     c.bring.new.seats c.bring.new.activities.items c.requires.apart c.in_ok-bring.ensures.kept c.in_ok-bring.ensures.names c.in_ok-bring.ensures.others c.in_ok-bring.ensures.brought
 
 pub returns : goal.returns
 returns c =
-    let last : c.loop-number.number ≡ length (seats_in c.args.seats) = omega (arith, c.loop-number-test.false, c.loop-number.auto.number-end, c.loop-number.invariant.counted) in
+    let last : c.loop-number.number ≡ length (seats_in c.args.seats.now) = omega (arith, c.loop-number-test.false, c.loop-number.auto.number-end, c.loop-number.invariant.counted) in
     let xs : List (Name × Box Actor) = c.loop-number.activities.items in
-    let ns = names_in c.args.seats in
-    let seats = seats_in c.args.seats in
+    let ns = names_in c.args.seats.now in
+    let seats = seats_in c.args.seats.now in
     let before : AreBefore ns seats (length seats) (held_in xs) = subst (λ k. AreBefore ns seats k (held_in xs)) last c.loop-number.invariant.before in
     record {
       all = IfOk-weaker c.from_iter.result _ _ (λ m h.

@@ -3,21 +3,21 @@ use Rattle.replay_one.specs.declared.population.Population.{Population}
 use Rattle.core_ends.proofs.EndLemmas.{are_apart, reached_population}
 use Rattle.core_ends.proofs.gathering.end.Goals as goal
 
-pub activities_of-requires-clause-apart : goal.activities_of-requires-clause-apart
-activities_of-requires-clause-apart c = let r = c.requires.home in are_apart r.0 r.1 c.args.state r.2 r.3
+pub activities_of-activities-requires-clause-apart : goal.activities_of-activities-requires-clause-apart
+activities_of-activities-requires-clause-apart c = let r = c.requires.home in are_apart r.0 r.1 c.args.state r.2 r.3
 
 pub run_end_of-requires : goal.run_end_of-requires
 run_end_of-requires c =
     let r = c.requires.home in
-    let p : Population = record { activities = c.in_ok-activities.activities; futures = c.args.state.futures; passed = c.new-passed.result } in
-    record { reached = (r.0.program, r.2.configuration, reached_population r.0 r.1 c.args.state r.2 r.3 p refl c.in_ok-activities.ensures.all) }
+    let p : Population = record { activities = c.in-Ok.activities; futures = c.args.state.futures; passed = c.new-passed.result } in
+    record { reached = (r.0.program, r.2.configuration, reached_population r.0 r.1 c.args.state r.2 r.3 p refl c.in-Ok.ensures.all) }
 
-pub returns-clause-end : goal.returns-clause-end
-returns-clause-end c = λ h code s home.
-    let p : Population = record { activities = c.in_ok-activities.activities; futures = c.args.state.futures; passed = c.new-passed.result } in
-    c.run_end_of.ensures.end h.program s.configuration (reached_population h code c.args.state s home p refl c.in_ok-activities.ensures.all)
+pub returns-in-Ok-clause-end : goal.returns-in-Ok-clause-end
+returns-in-Ok-clause-end c = λ h code s home.
+    let p : Population = record { activities = c.in-Ok.activities; futures = c.args.state.futures; passed = c.new-passed.result } in
+    c.run_end_of.ensures.end h.program s.configuration (reached_population h code c.args.state s home p refl c.in-Ok.ensures.all)
 
-pub returns-clause-outcome : goal.returns-clause-outcome
-returns-clause-outcome c = λ h code s home.
-    let p : Population = record { activities = c.in_ok-activities.activities; futures = c.args.state.futures; passed = c.new-passed.result } in
-    c.run_end_of.ensures.outcome h.program s.configuration (reached_population h code c.args.state s home p refl c.in_ok-activities.ensures.all)
+pub returns-in-Ok-clause-outcome : goal.returns-in-Ok-clause-outcome
+returns-in-Ok-clause-outcome c = λ h code s home.
+    let p : Population = record { activities = c.in-Ok.activities; futures = c.args.state.futures; passed = c.new-passed.result } in
+    c.run_end_of.ensures.outcome h.program s.configuration (reached_population h code c.args.state s home p refl c.in-Ok.ensures.all)

@@ -1,6 +1,7 @@
 use Rattle.std.proofs.Common.{◌∙◌, Some, sym, ap}
+use Rattle.asp_model.specs.Shapes.{verdict_shape}
 use Rattle.core_ends.specs.Verdicts.{IsStill}
-use Rattle.core_ends.proofs.VerdictLemmas.{goes_told, still_told}
+use Rattle.core_ends.proofs.VerdictLemmas.{goes_told, rest_told, still_told}
 use Rattle.core_ends.proofs.verdicts.verdict.Goals as goal
 
 pub returns-then-goes_on : goal.returns-then-goes_on
@@ -11,5 +12,5 @@ returns c = record {
   verdict = λ h code s core holders answers due.
       let still : IsStill s = c.if-goes_on.ensures.goes_on h code s core in
       still_told h code c.args.state.now s core holders answers still (due ∙ c.if-is_edge_due.false)
-      ∙ ap Some (sym (c.verdict_at_rest.ensures.verdict h code s core still));
+      ∙ ap Some (rest_told h code c.args.state.now s core still (verdict_shape c.verdict_at_rest.result) c.verdict_at_rest.ensures.verdict);
 }
