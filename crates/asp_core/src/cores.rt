@@ -1,5 +1,13 @@
 //! A core.
 
+ghost use Rattle.std.specs.Prelude.{◌≡◌, ◌∷◌, [], IfOk, OnOk, false};
+ghost use Rattle.std.specs.Arc.{arc_value};
+ghost use Rattle.asp_model.specs.Names.{main_name};
+ghost use Rattle.asp_model.specs.Shapes.{tree_of};
+ghost use Rattle.journals.specs.Journals.{begun as start_of};
+ghost use Rattle.core_edges.specs.Strategies.{KeepsEdges};
+ghost use Rattle.core_state.specs.Cores.{IsCore, history_begun, program_of};
+
 use asp_check::Checked;
 use asp_model::{ActivityName, Entry};
 use code_compiler::compile;
@@ -20,6 +28,54 @@ pub struct Core<P = PolicyBox> {
     pub(crate) state: CoreState,
     pub(crate) edges: Edges<P>,
     pub(crate) spent: bool,
+}
+
+/// The code of a program, and the state of its start.
+#[derive(Drop)]
+struct Beginning {
+    code: Arc<Code>,
+    state: CoreState,
+}
+
+fn begun(alloc: Global, program: &Checked, budget: u64) -> Result<Beginning, AllocError>
+    ensures program { let term = tree_of program.now.program.root in
+        IfOk result (λ b. program_of (arc_value b.code) ≡ term) }
+    ensures state { IfOk result (λ b. let k = arc_value b.code in
+        IsCore (history_begun (program_of k) budget) k b.state (start_of (program_of k) budget)) }
+{
+    let code = Arc::new(alloc, compile(alloc, program)?)?;
+    let state = CoreState::begin(alloc, code.clone()?, budget)?;
+    Ok(Beginning { code, state })
+}
+
+/// The edges meet the main activity.
+fn meet_main<P: UpdatePolicy>(alloc: Global, edges: &mut Edges<P>) -> Result<(), AllocError>
+    requires none { edges.old.holders.activities ≡ [] }
+    ensures met { OnOk result (edges.new.holders.activities ≡ (main_name, false) ∷ []) }
+    ensures edges { OnOk result (KeepsEdges edges.old edges.new) }
+{
+    let main = ActivityName::main(alloc)?;
+    edges.met(&main)?;
+    Ok(())
+}
+
+/// The start of a program, of which edges are told.
+fn begin<P: UpdatePolicy>(
+    alloc: Global,
+    program: &Checked,
+    budget: u64,
+    edges: &mut Edges<P>,
+) -> Result<Beginning, AllocError>
+    requires none { edges.old.holders.activities ≡ [] }
+    ensures program { let term = tree_of program.now.program.root in
+        IfOk result (λ b. program_of (arc_value b.code) ≡ term) }
+    ensures state { IfOk result (λ b. let k = arc_value b.code in
+        IsCore (history_begun (program_of k) budget) k b.state (start_of (program_of k) budget)) }
+    ensures met { OnOk result (edges.new.holders.activities ≡ (main_name, false) ∷ []) }
+    ensures edges { OnOk result (KeepsEdges edges.old edges.new) }
+{
+    meet_main(alloc, edges)?;
+    begun(alloc, program, budget)
 }
 
 impl<P: UpdatePolicy + Drop> Core<P> {
@@ -47,18 +103,26 @@ impl<P: UpdatePolicy + Drop> Core<P> {
         ensures by_plan { IfOk result
             (λ x. AreByPlan P.answer P.asked plan policies x.edges) }
     {
-        let code = Arc::new(alloc, compile(alloc, program)?)?;
-        let state = CoreState::begin(alloc, code.clone()?, budget)?;
         let mut edges = Edges::new(alloc, plan, policies);
-        edges.met(&ActivityName::main(alloc)?)?;
-        Ok(Core {
-            alloc,
-            code,
-            budget,
-            state,
-            edges,
-            spent: false,
-        })
+        match begin(alloc, program, budget, &mut edges) {
+            Ok(begun) => Ok(Core {
+                alloc,
+                code: begun.code,
+                budget,
+                state: begun.state,
+                edges,
+                spent: false,
+            }),
+            Err(error) => {
+                drop(edges);
+                Err(error)
+            }
+        }
+    }
+
+    /// Gives a core up, wherever it stands. Whoever calls this proves no drop of a core.
+    pub fn discard(self) {
+        drop(self);
     }
 }
 

@@ -42,8 +42,19 @@ impl<P: UpdatePolicy + Drop> Core<P> {
         ensures spent { self.spent ≡ true → result ≡ Err alloc_error }
     {
         if self.spent {
+            drop(self);
             return Err(AllocError);
         }
-        core_ends::end(self.state)
+        let Core {
+            alloc: _,
+            code,
+            budget: _,
+            state,
+            edges,
+            spent: _,
+        } = self;
+        drop(code);
+        drop(edges);
+        core_ends::end(state)
     }
 }
