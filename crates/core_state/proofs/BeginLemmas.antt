@@ -1,5 +1,5 @@
 -- The core of a start.
-use Rattle.std.proofs.Common.{◌≡◌, ◌≢◌, ◌<◌, ◌≤◌, ◌^◌, ◌∷◌, [], ℕ, zero, suc, List, Option, Some, None, slice_get, refl, sym, ap, subst, arith}
+use Rattle.std.proofs.Common.{◌≡◌, ◌≢◌, ◌<◌, ◌≤◌, ◌^◌, ◌∷◌, [], ℕ, zero, suc, List, Option, Some, None, slice_get, refl, sym, ap, subst, ◌∙◌, arith}
 use Rattle.asp_model.specs.Configuration.{Activity, begun as activity_begun, start}
 use Rattle.asp_model.specs.Names.{Name, main_name}
 use Rattle.asp_model.specs.Step.{name_at}
@@ -16,7 +16,9 @@ use Rattle.future_table.specs.Values.{AreOfCode, values_of}
 use Rattle.asp_model.specs.declared.name.FutureName.{FutureName}
 use Rattle.coded_cells.specs.declared.cells.Parcel.{Parcel}
 use Rattle.activity_ranks.specs.Ranks.{IsRanked, Rests}
-use Rattle.activity_seats.specs.Seats.{AreSeats, In, names_in, seats_in}
+use Rattle.request_queue.specs.declared.request.Request.{Request}
+use Rattle.activity_seats.specs.declared.seats.Seats.{Seats}
+use Rattle.activity_seats.specs.Seats.{AreSeats, In, IsFound, names_in, seats_in}
 use Rattle.core_journal.specs.Journal.{entries_in, room}
 use Rattle.actor.specs.declared.actor.Actor.{Actor}
 use Rattle.actor.specs.Actors.{IsClosedFor, Stands, code_of}
@@ -54,6 +56,9 @@ first_closed program a bare stands = record {
 
 pub no_values_closed : (program : Tree) (xs : List (FutureName × Parcel)) → locations program ≡ [] → values_of xs ≡ [] → AreClosedValues (values_of xs)
 no_values_closed program xs bare none = subst AreClosedValues (sym none) (closed_first program bare).values
+
+pub nobody_named : (seats : Seats Actor Request) (n : Name) → names_in seats ≡ [] → IsFound (names_in seats) n None
+nobody_named seats n none k e = no_some (sym (ap (λ ns. slice_get ns k) none) ∙ e)
 
 module _ (code : List Node) (x : CoreState) (program : Tree) (budget : ℕ) (a : Actor) where
   pub begins : locations program ≡ [] → budget < 2 ^ 64 → entries_in x.journal ≡ [] → AreSeats x.seats → names_in x.seats ≡ main_name ∷ [] → seats_in x.seats ≡ In a ∷ []

@@ -1,35 +1,21 @@
-use Rattle.std.proofs.Common.{◌≡◌, ◌∙◌, [], arith, ap, refl, subst}
+use Rattle.std.proofs.Common.{arith, subst, sym}
 use Rattle.std.specs.Arc.{arc_value}
-use Rattle.asp_model.specs.Names.{main_name}
-use Rattle.activity_ranks.specs.Ranks.{IsRanked, Rests, rank_shape}
-use Rattle.rank_laws.specs.Ranked.{rank_of}
-use Rattle.core_state.specs.declared.state.CoreState.{CoreState}
-use Rattle.core_state.specs.Cores.{program_of}
-use Rattle.core_state.proofs.BeginLemmas.{begins, first_closed, first_of}
+use Rattle.journals.specs.Journals.{begun}
+use Rattle.core_state.specs.Begin.{IsEmpty, IsMain}
+use Rattle.core_state.specs.Cores.{IsCore, history_begun, program_of}
 use Rattle.core_state.proofs.state.CoreState.begin.Goals as goal
 
-pub rank_of-requires-clause-closed : goal.rank_of-requires-clause-closed
-rank_of-requires-clause-closed c =
-    let program = program_of (arc_value c.args.code) in
-    first_closed program c.settle.new.self c.requires.bare (c.in_ok-settle.ensures.stands (first_of program) [] c.in_ok-actor.ensures.stands)
+pub come_first-requires-clause-empty : goal.come_first-requires-clause-empty
+come_first-requires-clause-empty c = subst (IsEmpty c.empty-state.result) (sym c.empty-state.ensures.empty.left) c.empty-state.ensures.empty
 
-pub rank-requires : goal.rank-requires
-rank-requires c = record { rests = c.new-ranks.ensures.rest 0 }
+pub come_first-requires-clause-main : goal.come_first-requires-clause-main
+come_first-requires-clause-main c = (arc_value c.args.code, record { bare = c.requires.bare; stands = c.in_ok-actor.ensures.stands; coded = c.in_ok-actor.ensures.code })
 
-pub returns : goal.returns
-returns c =
+pub returns-in-Ok : goal.returns-in-Ok
+returns-in-Ok c =
     let k = arc_value c.args.code in
-    let program = program_of k in
-    let x : CoreState = record { alloc = c.args.alloc; seats = c.in_ok-seats.seats; ranks = c.rank.new.self; futures = c.new-futures.result; journal = c.reserve.new.self; left = c.args.budget; bursts = 0 } in
-    let stands = c.in_ok-settle.ensures.stands (first_of program) [] c.in_ok-actor.ensures.stands in
-    let told : rank_shape c.in_ok-rank.rank ≡ rank_of [] [] main_name (first_of program) =
-    c.in_ok-rank.ensures.rank (first_of program) [] main_name stands ∙ ap (λ values. rank_of values [] main_name (first_of program)) c.new-futures.ensures.values in
+    let left = c.empty-state.ensures.empty.left in
+    let main : IsMain k c.in_ok-actor.actor.value = record { bare = c.requires.bare; stands = c.in_ok-actor.ensures.stands; coded = c.in_ok-actor.ensures.code } in
     record {
-      begun =
-          begins k x program c.args.budget c.settle.new.self c.requires.bare (omega (arith, c.ranges.budget.fits))
-          (c.reserve.ensures.entries ∙ c.new-journal.ensures.entries)
-          c.in_ok-seats.ensures.kept c.in_ok-seats.ensures.names c.in_ok-seats.ensures.seats
-          c.new-futures.ensures.values refl refl c.in_ok-reserve.ensures.room stands (c.settle.ensures.code ∙ c.in_ok-actor.ensures.code)
-          (subst (IsRanked c.rank.new.self 0) told c.in_ok-rank-2.ensures.here)
-          (λ j apart. c.in_ok-rank-2.ensures.others j Rests apart (c.new-ranks.ensures.rest j));
+      begun = subst (λ b. IsCore (history_begun (program_of k) b) k c.come_first.new.self (begun (program_of k) b)) left (c.in-Ok.ensures.begun k main (omega (arith, left, c.ranges.budget.fits)));
     }
