@@ -10,8 +10,8 @@ use Rattle.chase_laws.proofs.FutureLemmas.{no_some, some_is}
 use Rattle.laws.specs.Linked.{Each}
 use Rattle.laws.specs.Reached.{IsThere}
 use Rattle.lease_laws.specs.Numbered.{AreNumbered}
-use Rattle.edge_records.specs.declared.edge.EdgeNames.{EdgeNames}
-use Rattle.edge_records.specs.Names.{delivery_along, edge_named}
+use Rattle.future_update.specs.declared.edge.EdgeNames.{EdgeNames}
+use Rattle.future_update.specs.Names.{delivery_along, edge_named}
 use Rattle.future_update.specs.Holders.{HoldersView, is_out, is_receiver_out, owed_to_one_in}
 use Rattle.core_edges.specs.Due.{IsDue}
 use Rattle.verdict_laws.specs.Owed.{is_due, is_in_to}

@@ -7,8 +7,8 @@ use Rattle.journals.specs.Journals.{RunShape}
 use Rattle.journals.specs.Owed.{first_edge, goes_on, is_any, next_owed, verdict_told}
 use Rattle.chase_laws.proofs.FutureLemmas.{none_true}
 use Rattle.program_code.specs.declared.code.Node.{Node}
-use Rattle.edge_records.specs.declared.edge.EdgeNames.{EdgeNames}
-use Rattle.edge_records.specs.Names.{delivery_along, edge_named}
+use Rattle.future_update.specs.declared.edge.EdgeNames.{EdgeNames}
+use Rattle.future_update.specs.Names.{delivery_along, edge_named}
 use Rattle.future_update.specs.Holders.{HoldersView}
 use Rattle.core_edges.specs.Due.{IsDue}
 use Rattle.core_state.specs.declared.state.CoreState.{CoreState}

@@ -1,7 +1,7 @@
 -- What a delivery is to a state and its edges.
 use Rattle.std.specs.Prelude.{◌≡◌, ℕ, false, List, Option, Some, None}
 use Rattle.asp_model.specs.History.{Delivered, DeliveryShape, HistoryShape}
-use Rattle.edge_records.specs.Names.{delivery_along}
+use Rattle.future_update.specs.Names.{delivery_along}
 use Rattle.journals.specs.Edges.{EdgeShape}
 use Rattle.journals.specs.Journals.{RunShape}
 use Rattle.program_code.specs.declared.code.Node.{Node}

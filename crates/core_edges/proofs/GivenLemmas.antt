@@ -15,7 +15,7 @@ use Rattle.request_queue.specs.declared.request.Request.{Request}
 use Rattle.request_queue.specs.Requests.{request_shape}
 use Rattle.journals.specs.Edges.{Fills, HoldersShape, after_event, after_events, has_filled}
 use Rattle.journals.specs.Passing.{effect_events, filled_events, made_events, passes_all, sent_events}
-use Rattle.edge_records.specs.Changes.{once_filled}
+use Rattle.future_update.specs.Changes.{once_filled}
 use Rattle.actor.specs.declared.act.Given.TheVariants as given
 use Rattle.actor.specs.declared.actor.Actor.{Actor}
 use Rattle.actor.specs.Actors.{Stands, code_of}

@@ -14,8 +14,8 @@ use Rattle.coded_cells.specs.declared.cells.Cell.{Cell}
 use Rattle.coded_cells.specs.Shapes.{cell_of, class_object, store_of}
 use Rattle.journals.specs.Edges.{Begins, EdgeShape, HoldersShape, Passes, Receives, after_event, after_events, home_of, is_no_edge, with_edge, with_edges, with_held}
 use Rattle.journals.specs.Passing.{future_in, futures_in, passes_all}
-use Rattle.edge_records.specs.Changes.{once_received}
-use Rattle.edge_records.specs.Names.{edge_between}
+use Rattle.future_update.specs.Changes.{once_received}
+use Rattle.future_update.specs.Names.{edge_between}
 use Rattle.update_policy.specs.declared.strategy.Strategy.{Strategy}
 use Rattle.update_policy.specs.Strategies.{IsAlikeBeside, policy_of}
 use Rattle.future_update.specs.Holders.{answered}

@@ -1,8 +1,8 @@
 -- The edge that is due: the first one that is owed to an activity that is in.
 use Rattle.std.specs.Prelude.{◌≡◌, ℕ, false, Option, Some, None}
 use Rattle.marked_places.specs.Firsts.{IsFirstFrom}
-use Rattle.edge_records.specs.declared.edge.EdgeNames.{EdgeNames}
-use Rattle.edge_records.specs.Names.{edge_named}
+use Rattle.future_update.specs.declared.edge.EdgeNames.{EdgeNames}
+use Rattle.future_update.specs.Names.{edge_named}
 use Rattle.future_update.specs.Holders.{HoldersView, edge_in, owed_to_one_in}
 
 pub record IsDueAt (v : HoldersView) (x : EdgeNames) : Type 0 where

@@ -34,8 +34,7 @@ ghost use Rattle.core_edges.specs.Strategies.{KeepsEdges, KeepsOthers, strategy_
 use actor::Given;
 use asp_model::{ActivityName, Delivery, FutureName};
 use coded_cells::Parcel;
-use edge_records::EdgeNames;
-use future_update::Holders;
+use future_update::{EdgeNames, Holders};
 use std::alloc::{AllocError, Global};
 use std::collections::BTreeMap;
 use update_policy::{Plan, Policies, PolicyBox, Strategy, UpdatePolicy};

@@ -4,11 +4,11 @@ use Rattle.std.specs.List.{AllByRecursion, IsDistinct}
 use Rattle.std.proofs.lemmas.Bool.{eqb-true}
 use Rattle.asp_model.specs.Names.{Name}
 use Rattle.journals.specs.Edges.{same_edge}
-use Rattle.edge_records.specs.declared.numbered.Edge.{Edge}
-use Rattle.edge_records.specs.Names.{AreNames, IsKnownEdge, edge_of}
-use Rattle.edge_records.specs.Numbered.{AreEdges, IsPassed, edge_at, is_edge}
-use Rattle.edge_records.proofs.NumberLemmas.{all_so, is_edge_same, same_edges, same_names, truth}
-use Rattle.edge_records.proofs.PlaceLemmas.{all_map}
+use Rattle.future_update.specs.declared.numbered.Edge.{Edge}
+use Rattle.future_update.specs.Names.{AreNames, IsKnownEdge, edge_of}
+use Rattle.future_update.specs.Numbered.{AreEdges, IsPassed, edge_at, is_edge}
+use Rattle.future_update.proofs.NumberLemmas.{all_so, is_edge_same, same_edges, same_names, truth}
+use Rattle.future_update.proofs.PlaceLemmas.{all_map}
 use Rattle.future_update.specs.Holders as view
 
 pub edges_apart : (ns : List Name) → AreNames ns → (es : List Edge) → AllByRecursion (IsPassed ns) es → AreEdges es → view.AreEdges (map (edge_of ns) es)

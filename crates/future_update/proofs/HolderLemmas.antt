@@ -14,25 +14,25 @@ use Rattle.asp_model.specs.Names.{Name, FutureShape}
 use Rattle.asp_model.specs.History.{ChoiceShape}
 use Rattle.asp_model.specs.Shapes.{choice_shape}
 use Rattle.journals.specs.Edges.{EdgeShape, HoldersShape, Begins, Delivers, Fills, Passes, after_event, has_edge, has_filled, has_received, is_owed, owed_at, same_edge}
-use Rattle.edge_records.specs.declared.numbered.Edge.{Edge}
-use Rattle.edge_records.specs.declared.numbered.Future.{Future}
-use Rattle.edge_records.specs.declared.numbered.Passing.{Passing}
-use Rattle.edge_records.specs.declared.records.Records.{Records}
+use Rattle.future_update.specs.declared.numbered.Edge.{Edge}
+use Rattle.future_update.specs.declared.numbered.Future.{Future}
+use Rattle.future_update.specs.declared.numbered.Passing.{Passing}
+use Rattle.future_update.specs.declared.records.Records.{Records}
 use Rattle.marked_places.specs.declared.marks.Marks.{Marks}
 use Rattle.future_update.specs.declared.holders.Holders.TheInside.{Inside}
-use Rattle.edge_records.specs.Changes.{once_filled, once_received}
+use Rattle.future_update.specs.Changes.{once_filled, once_received}
 use Rattle.future_update.specs.Kept.{AreHolders}
 use Rattle.marked_places.specs.declared.lanes.Lanes.{Lanes}
 use Rattle.marked_places.specs.Lanes.{AreLanes, ClosedSo, KeepsLanes, lane_count}
 use Rattle.marked_places.specs.Marks.{MarkedIf, MarkedSo, is_marked}
-use Rattle.edge_records.specs.Names.{IsKnown, IsKnownFuture, IsKnownEdge, Keeps, edge_of, future_of, name_of}
-use Rattle.edge_records.specs.Numbered.{IsPassed, edge_at, no_edge, is_edge}
+use Rattle.future_update.specs.Names.{IsKnown, IsKnownFuture, IsKnownEdge, Keeps, edge_of, future_of, name_of}
+use Rattle.future_update.specs.Numbered.{IsPassed, edge_at, no_edge, is_edge}
 use Rattle.future_update.specs.Passings.{ArePassings, passing_cmp, passing_of}
-use Rattle.edge_records.specs.Records.{AreRecords, answers_of, names_of, owes, shape_of}
-use Rattle.edge_records.proofs.NameLemmas.{clash}
-use Rattle.edge_records.proofs.NumberLemmas.{all_at, is_edge_same, is_future_same, same_edges, same_futures, same_names, truth}
-use Rattle.edge_records.proofs.RecordLemmas.{delivered_more, edge_itself, passed_more, edges_known, ticks_below}
-use Rattle.edge_records.proofs.PlaceLemmas.{edge_stands}
+use Rattle.future_update.specs.Records.{AreRecords, answers_of, names_of, owes, shape_of}
+use Rattle.future_update.proofs.NameLemmas.{clash}
+use Rattle.future_update.proofs.NumberLemmas.{all_at, is_edge_same, is_future_same, same_edges, same_futures, same_names, truth}
+use Rattle.future_update.proofs.RecordLemmas.{delivered_more, edge_itself, passed_more, edges_known, ticks_below}
+use Rattle.future_update.proofs.PlaceLemmas.{edge_stands}
 use Rattle.future_update.proofs.SettlingLemmas.{owed_within}
 use Rattle.future_update.proofs.LanedLemmas.{keeps_lanes, member_known, moved, number_among, number_named, same_activities, turned_laned, turned_out}
 use Rattle.future_update.specs.Holders.{HoldersView, IsTurned, is_out}

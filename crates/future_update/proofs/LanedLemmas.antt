@@ -7,14 +7,14 @@ use Rattle.std.proofs.lemmas.List.{get_or_append_left, get_or_push, map-append}
 use Rattle.std.proofs.lemmas.List.Folds.{list_any-append}
 use Rattle.asp_model.specs.Names.{Name, same_name}
 use Rattle.asp_model.specs.Order.{same_name_same}
-use Rattle.edge_records.specs.declared.numbered.Edge.{Edge}
-use Rattle.edge_records.specs.Names.{AreNames, IsKnownEdge, Keeps, name_of}
-use Rattle.edge_records.specs.Numbered.{edge_at, no_edge}
-use Rattle.edge_records.specs.Records.{names_of, owes}
-use Rattle.edge_records.proofs.NameLemmas.{clash, name_itself}
-use Rattle.edge_records.proofs.NumberLemmas.{all_at, all_more, same_names, truth}
-use Rattle.edge_records.proofs.RecordLemmas.{edges_known}
-use Rattle.edge_records.proofs.PlaceLemmas.{edge_stands}
+use Rattle.future_update.specs.declared.numbered.Edge.{Edge}
+use Rattle.future_update.specs.Names.{AreNames, IsKnownEdge, Keeps, name_of}
+use Rattle.future_update.specs.Numbered.{edge_at, no_edge}
+use Rattle.future_update.specs.Records.{names_of, owes}
+use Rattle.future_update.proofs.NameLemmas.{clash, name_itself}
+use Rattle.future_update.proofs.NumberLemmas.{all_at, all_more, same_names, truth}
+use Rattle.future_update.proofs.RecordLemmas.{edges_known}
+use Rattle.future_update.proofs.PlaceLemmas.{edge_stands}
 use Rattle.marked_places.specs.declared.lanes.Lanes.{Lanes}
 use Rattle.marked_places.specs.Firsts.{IsFirstFrom}
 use Rattle.marked_places.specs.Lanes.{AreLanes, ClosedSo, IsGrown, KeepsLanes, SameClosed, count, is_closed, is_open, lane_count, lane_of, spot}

@@ -1,3 +1,8 @@
+pub mod NameLemmas
+pub mod NumberLemmas
+pub mod RecordLemmas
+pub mod GrowthLemmas
+pub mod PlaceLemmas
 pub mod SettlingLemmas
 pub mod OwedLemmas
 pub mod EdgeLemmas

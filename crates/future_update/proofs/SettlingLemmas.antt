@@ -1,14 +1,14 @@
 -- Passings between two others, and what is marked as they are passed over.
 use Rattle.std.proofs.Common.{◌≡◌, ℕ, ◌<◌, ◌≤◌, ◌==◌, ◌≢◌, ◌⊎◌, inl, inr, cond, length, zero, suc, nat_lt, nat_eq, Bool, true, false, eqb, List, [], ◌∷◌, refl, sym, ap, ◌∙◌, subst, arith}
 use Rattle.std.specs.Prelude.{◌||◌, ◌&&◌, not, filter, slice_get, leb}
-use Rattle.edge_records.specs.declared.numbered.Edge.{Edge}
-use Rattle.edge_records.specs.declared.numbered.Future.{Future}
+use Rattle.future_update.specs.declared.numbered.Edge.{Edge}
+use Rattle.future_update.specs.declared.numbered.Future.{Future}
 use Rattle.std.proofs.lemmas.Bool.Decides.{eqb_tells, leb_tells, nat_tests}
 use Rattle.std.proofs.lemmas.List.{length-map}
 use Rattle.std.proofs.lemmas.Option.{slice_get_past}
 use Rattle.std.specs.BTreeSet.{BTreeSet}
 use Rattle.journals.specs.Edges.{owed_at}
-use Rattle.edge_records.specs.Names.{IsKnownEdge, edge_of}
+use Rattle.future_update.specs.Names.{IsKnownEdge, edge_of}
 use Rattle.std.specs.List.{list_any}
 use Rattle.std.specs.BTreeMap.{is_at}
 use Rattle.std.specs.BTreeMap.Range.{range_contains}
@@ -18,16 +18,16 @@ use Rattle.std.specs.declared.ops.Bound.TheVariants.{Included}
 use Rattle.std.specs.Ordering.{is_eq, is_le, is_lt, nat_cmp, ordering_then}
 use Rattle.std.specs.FinMap.{nat_cmp-IsAntisymmetric}
 use Rattle.std.proofs.lemmas.Bool.{eq-eqb}
-use Rattle.edge_records.specs.declared.numbered.Passing.{Passing}
+use Rattle.future_update.specs.declared.numbered.Passing.{Passing}
 use Rattle.marked_places.specs.declared.marks.Marks.{Marks}
-use Rattle.edge_records.specs.declared.records.Records.{Records}
+use Rattle.future_update.specs.declared.records.Records.{Records}
 use Rattle.marked_places.specs.Marks.{MarkedIf, is_marked}
-use Rattle.edge_records.specs.Numbered.{edge_at, no_edge}
-use Rattle.edge_records.proofs.NumberLemmas.{all_at}
-use Rattle.edge_records.proofs.RecordLemmas.{edges_known}
+use Rattle.future_update.specs.Numbered.{edge_at, no_edge}
+use Rattle.future_update.proofs.NumberLemmas.{all_at}
+use Rattle.future_update.proofs.RecordLemmas.{edges_known}
 use Rattle.future_update.specs.Passings.{AreAhead, ArePassings, IsLeft, IsLeftOf, IsSound, passing_cmp, passing_of}
-use Rattle.edge_records.specs.Records.{AreRecords, answers_of, names_of, owes, shape_of}
-use Rattle.edge_records.proofs.NameLemmas.{clash}
+use Rattle.future_update.specs.Records.{AreRecords, answers_of, names_of, owes, shape_of}
+use Rattle.future_update.proofs.NameLemmas.{clash}
 
 equal : (r : Ordering) → is_eq r ≡ true → r ≡ Equal
 equal Less e = clash e refl

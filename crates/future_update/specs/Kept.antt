@@ -8,10 +8,10 @@ use Rattle.marked_places.specs.declared.lanes.Lanes.{Lanes}
 use Rattle.marked_places.specs.Lanes.{AreLanes, count, is_closed, lane_count, lane_of}
 use Rattle.marked_places.specs.Marks.{is_marked}
 use Rattle.marked_places.specs.Ticks.{is_among}
-use Rattle.edge_records.specs.declared.numbered.Edge.{Edge}
-use Rattle.edge_records.specs.Names.{name_of}
-use Rattle.edge_records.specs.Numbered.{edge_at}
-use Rattle.edge_records.specs.Records.{AreRecords, answers_of, names_of, owes, shape_of}
+use Rattle.future_update.specs.declared.numbered.Edge.{Edge}
+use Rattle.future_update.specs.Names.{name_of}
+use Rattle.future_update.specs.Numbered.{edge_at}
+use Rattle.future_update.specs.Records.{AreRecords, answers_of, names_of, owes, shape_of}
 use Rattle.future_update.specs.Passings.{ArePassings}
 
 -- an activity by its number, and whether it is out: its lane is closed

@@ -1,3 +1,8 @@
+-- in reading order
+pub mod Names
+pub mod Numbered
+pub mod Changes
+pub mod Records
 pub mod Passings
 pub mod Holders
 pub mod Kept

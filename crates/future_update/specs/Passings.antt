@@ -6,14 +6,14 @@ use Rattle.std.specs.BTreeSet.{BTreeSet, contains}
 use Rattle.std.specs.BTreeMap.Range.{range_contains}
 use Rattle.std.specs.declared.ops.Bound.TheVariants.{Included}
 use Rattle.std.specs.declared.cmp.Ordering.{Ordering}
-use Rattle.edge_records.specs.declared.numbered.Edge.{Edge}
-use Rattle.edge_records.specs.declared.numbered.Passing.{Passing}
-use Rattle.edge_records.specs.contracts.numbered.PassingOrd.TheImpl as order
+use Rattle.future_update.specs.declared.numbered.Edge.{Edge}
+use Rattle.future_update.specs.declared.numbered.Passing.{Passing}
+use Rattle.future_update.specs.contracts.numbered.PassingOrd.TheImpl as order
 use Rattle.marked_places.specs.declared.marks.Marks.{Marks}
-use Rattle.edge_records.specs.declared.records.Records.{Records}
+use Rattle.future_update.specs.declared.records.Records.{Records}
 use Rattle.marked_places.specs.Marks.{is_marked}
-use Rattle.edge_records.specs.Numbered.{edge_at}
-use Rattle.edge_records.specs.Records.{owes}
+use Rattle.future_update.specs.Numbered.{edge_at}
+use Rattle.future_update.specs.Records.{owes}
 
 abbrev pub passing_cmp : Passing → Passing → Ordering
 passing_cmp = order.ghosts.cmp

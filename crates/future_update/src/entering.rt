@@ -13,11 +13,11 @@ ghost use Rattle.marked_places.specs.Lanes.{
   lane_count,
 };
 ghost use Rattle.marked_places.specs.Marks.{SameMarks, is_marked};
-ghost use Rattle.edge_records.specs.Names.{edge_of};
-ghost use Rattle.edge_records.specs.declared.numbered.Passing.{Passing};
-ghost use Rattle.edge_records.specs.Numbered.{IsPassed};
+ghost use Rattle.future_update.specs.Names.{edge_of};
+ghost use Rattle.future_update.specs.declared.numbered.Passing.{Passing};
+ghost use Rattle.future_update.specs.Numbered.{IsPassed};
 ghost use Rattle.future_update.specs.Passings.{ArePassings, passing_cmp, passing_of};
-ghost use Rattle.edge_records.specs.Records.{
+ghost use Rattle.future_update.specs.Records.{
   AreRecords,
   HasRoom,
   answers_of,
@@ -26,9 +26,10 @@ ghost use Rattle.edge_records.specs.Records.{
   shape_of,
 };
 
+use crate::numbered::{Edge, Passing};
+use crate::records::Records;
 use crate::settling::settle_at;
 use asp_model::Choice;
-use edge_records::{Edge, Passing, Records};
 use marked_places::Lanes;
 use std::alloc::AllocError;
 use std::collections::BTreeSet;

@@ -22,7 +22,7 @@ ghost use Rattle.std.specs.Prelude.{
 ghost use Rattle.std.specs.Option.{option_copied};
 ghost use Rattle.asp_model.specs.Shapes.{delivery_shape, future_shape};
 ghost use Rattle.journals.specs.Edges.{Begins, Passes, after_event, home_of, is_no_edge as is_none, no_holders};
-ghost use Rattle.edge_records.specs.Changes.{once_filled, once_received};
+ghost use Rattle.future_update.specs.Changes.{once_filled, once_received};
 ghost use Rattle.marked_places.specs.Firsts.{IsFirstFrom};
 ghost use Rattle.future_update.specs.Holders.{
   AreEdges,
@@ -36,14 +36,15 @@ ghost use Rattle.future_update.specs.Holders.{
   place_in,
   with_delivery,
 };
-ghost use Rattle.edge_records.specs.Names.{edge_between, edge_named};
+ghost use Rattle.future_update.specs.Names.{edge_between, edge_named};
 
+use crate::edge::EdgeNames;
 use crate::entering::{enter, make_room};
+use crate::numbered::Passing;
+use crate::records::Records;
 use crate::settling::{settle_filled, settle_received};
 use asp_model::{ActivityName, Delivery, FutureName};
-use edge_records::{EdgeNames, Passing, Records};
 use marked_places::Lanes;
-use owed_edges::is_no_edge;
 use std::alloc::{AllocError, Global};
 use std::collections::BTreeSet;
 use std::marker::Model;
@@ -131,7 +132,7 @@ impl Holders {
         ensures unasked { OnErr result (policy.new ≡ policy.old) }
     {
         let edge = self.records.enter_edge(future, from, to)?;
-        if is_no_edge(&self.records, edge) {
+        if self.records.is_no_edge(edge) {
             return Ok(());
         }
         make_room(&mut self.records, &mut self.passings, &mut self.owed, edge)?;

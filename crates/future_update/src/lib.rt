@@ -1,9 +1,14 @@
 //! Who was passed which future, and to whom its value is owed.
 #![tactic(auto)]
 
+mod edge;
 mod entering;
 mod holders;
+mod names;
+mod numbered;
+mod owed;
+mod records;
 mod settling;
 
-pub use edge_records::EdgeNames;
+pub use edge::EdgeNames;
 pub use holders::Holders;

@@ -5,11 +5,11 @@ ghost use Rattle.std.specs.BTreeMap.Range.{IsLeBy};
 ghost use Rattle.marked_places.specs.Lanes.{AreLanes, KeepsLanes, count};
 ghost use Rattle.marked_places.specs.Marks.{MarkedIf, is_marked};
 ghost use Rattle.future_update.specs.Passings.{ArePassings, IsLeft, IsLeftOf, IsSound, passing_cmp};
-ghost use Rattle.edge_records.specs.Records.{AreRecords, owes as is_owed};
+ghost use Rattle.future_update.specs.Records.{AreRecords, owes as is_owed};
 
-use edge_records::{Future, Passing, Receipt, Records};
+use crate::numbered::{Future, Passing, Receipt};
+use crate::records::Records;
 use marked_places::Lanes;
-use owed_edges::owes;
 use std::collections::BTreeSet;
 
 /// Marks what is owed between two passings, where all else that is owed is marked.
@@ -43,7 +43,7 @@ pub fn settle_at(records: &Records, owed: &mut Lanes, place: usize)
     ensures lanes { KeepsLanes owed.old owed.new }
     ensures marked { MarkedIf (is_owed records.now place) place owed.old.marks owed.new.marks }
 {
-    if owes(records, place) {
+    if records.owes(place) {
         owed.set(place, true);
     }
 }

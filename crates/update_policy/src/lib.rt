@@ -2,11 +2,13 @@
 #![tactic(auto)]
 
 mod kinds;
+mod passing;
 mod plan;
 mod policy;
 mod strategy;
 
 pub use kinds::{BudgetedPolicy, ForwardPolicy, LazyPolicy, MessagePolicy};
+pub use passing::{is_no_edge, is_sent};
 pub use plan::Plan;
 pub use policy::{PolicyBox, UpdatePolicy};
 pub use strategy::{Policies, Strategy};

@@ -1,5 +1,5 @@
 use Rattle.std.proofs.Common.{subst}
-use Rattle.edge_records.specs.Names.{edge_named}
+use Rattle.future_update.specs.Names.{edge_named}
 use Rattle.core_edges.specs.Due.{IsDue}
 use Rattle.asp_core.proofs.deliveries.due_in.Goals as goal
 

@@ -1,7 +1,7 @@
 use Rattle.std.proofs.Common.{subst}
 use Rattle.asp_model.specs.Shapes.{choice_shape}
 use Rattle.marked_places.specs.Marks.{MarkedIf}
-use Rattle.edge_records.specs.Records.{owes}
+use Rattle.future_update.specs.Records.{owes}
 use Rattle.future_update.proofs.HolderLemmas.{entered}
 use Rattle.future_update.proofs.entering.enter.Goals as goal
 

@@ -2,7 +2,7 @@ use Rattle.std.proofs.Common.{◌≡◌, ◌∙◌, ◌∷◌, [], List, ap, ari
 use Rattle.marked_places.specs.Lanes.{count}
 use Rattle.std.specs.BTreeSet.{keys_between}
 use Rattle.std.specs.declared.ops.Bound.TheVariants.{Included}
-use Rattle.edge_records.specs.declared.numbered.Passing.{Passing}
+use Rattle.future_update.specs.declared.numbered.Passing.{Passing}
 use Rattle.future_update.specs.Passings.{AreAhead, passing_cmp}
 use Rattle.future_update.proofs.LanedLemmas.{keeps_lanes, lanes_on}
 use Rattle.future_update.proofs.SettlingLemmas.{ahead_begins, ahead_goes, all_marked, sound_goes}

@@ -2,10 +2,10 @@ use Rattle.std.proofs.Common.{◌≡◌, ◌<◌, ◌∙◌, false, length, sym,
 use Rattle.std.proofs.lemmas.List.{length-map}
 use Rattle.journals.specs.Edges.{has_edge}
 use Rattle.future_update.specs.Holders.{HoldersView, edge_in, is_delivered, with_delivery}
-use Rattle.edge_records.specs.Names.{edge_of}
-use Rattle.edge_records.specs.Numbered.{edge_at}
-use Rattle.edge_records.specs.Records.{names_of, shape_of}
-use Rattle.edge_records.proofs.PlaceLemmas.{edge_stands}
+use Rattle.future_update.specs.Names.{edge_of}
+use Rattle.future_update.specs.Numbered.{edge_at}
+use Rattle.future_update.specs.Records.{names_of, shape_of}
+use Rattle.future_update.proofs.PlaceLemmas.{edge_stands}
 use Rattle.future_update.proofs.LanedLemmas.{keeps_same}
 use Rattle.future_update.proofs.HolderLemmas.{delivered_holders}
 use Rattle.future_update.proofs.holders.Holders.delivered.Goals as goal

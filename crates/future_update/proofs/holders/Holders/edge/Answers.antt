@@ -2,9 +2,9 @@ use Rattle.std.proofs.Common.{◌<◌, ◌∙◌, length, sym, ap, subst}
 use Rattle.std.specs.Prelude.{Some}
 use Rattle.std.proofs.lemmas.List.{length-map}
 use Rattle.future_update.specs.Holders.{HoldersView, edge_in}
-use Rattle.edge_records.specs.Names.{edge_of}
-use Rattle.edge_records.specs.Records.{names_of}
-use Rattle.edge_records.proofs.PlaceLemmas.{edge_stands}
+use Rattle.future_update.specs.Names.{edge_of}
+use Rattle.future_update.specs.Records.{names_of}
+use Rattle.future_update.proofs.PlaceLemmas.{edge_stands}
 use Rattle.future_update.proofs.holders.Holders.edge.Goals as goal
 
 pub returns : goal.returns

@@ -3,11 +3,11 @@ use Rattle.std.specs.Prelude.{IsSome}
 use Rattle.asp_model.specs.Shapes.{future_shape}
 use Rattle.journals.specs.Edges.{home_of}
 use Rattle.future_update.specs.Holders.{HoldersView}
-use Rattle.edge_records.specs.Names.{future_of}
-use Rattle.edge_records.specs.Records.{names_of, shape_of}
+use Rattle.future_update.specs.Names.{future_of}
+use Rattle.future_update.specs.Records.{names_of, shape_of}
 use Rattle.future_update.proofs.LanedLemmas.{keeps_same}
 use Rattle.future_update.proofs.HolderLemmas.{fill_left, fill_sound, filled_before, first_filled, kept, no_home, settled}
-use Rattle.edge_records.proofs.PlaceLemmas.{home_nowhere}
+use Rattle.future_update.proofs.PlaceLemmas.{home_nowhere}
 use Rattle.future_update.proofs.holders.Holders.filled.Goals as goal
 
 pub settle_filled-requires-clause-sound : goal.settle_filled-requires-clause-sound

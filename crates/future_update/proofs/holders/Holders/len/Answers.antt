@@ -1,6 +1,6 @@
 use Rattle.std.proofs.Common.{subst}
 use Rattle.future_update.specs.Holders.{AreEdges, HoldersView}
-use Rattle.edge_records.specs.Records.{names_of}
+use Rattle.future_update.specs.Records.{names_of}
 use Rattle.future_update.proofs.EdgeLemmas.{edges_apart}
 use Rattle.future_update.proofs.holders.Holders.len.Goals as goal
 

@@ -1,5 +1,5 @@
 use Rattle.std.proofs.Common.{◌≡◌, ◌∙◌, ◌++◌, ◌∷◌, [], ap, false, map, refl, subst, sym}
-use Rattle.edge_records.specs.Records.{names_of}
+use Rattle.future_update.specs.Records.{names_of}
 use Rattle.future_update.specs.Holders.{HoldersView, is_met}
 use Rattle.future_update.specs.Kept.{AreLaned, activity_entry}
 use Rattle.future_update.proofs.LanedLemmas.{activities_same, member_laned, met_entries, moved}

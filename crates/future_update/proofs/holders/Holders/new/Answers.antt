@@ -3,10 +3,10 @@ use Rattle.std.specs.Prelude.{slice_get}
 use Rattle.std.proofs.lemmas.Option.{slice_get_past}
 use Rattle.asp_model.specs.History.{ChoiceShape}
 use Rattle.journals.specs.Edges.{EdgeShape, no_holders, owed_at}
-use Rattle.edge_records.specs.declared.numbered.Edge.{Edge}
+use Rattle.future_update.specs.declared.numbered.Edge.{Edge}
 use Rattle.std.specs.List.{AllByRecursion}
-use Rattle.edge_records.specs.Records.{names_of}
-use Rattle.edge_records.proofs.NameLemmas.{clash}
+use Rattle.future_update.specs.Records.{names_of}
+use Rattle.future_update.proofs.NameLemmas.{clash}
 use Rattle.future_update.specs.Kept.{IsMember}
 use Rattle.future_update.specs.Passings.{ArePassings}
 use Rattle.future_update.proofs.HolderLemmas.{owes_by}

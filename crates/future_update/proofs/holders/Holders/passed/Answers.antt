@@ -1,6 +1,6 @@
 use Rattle.std.proofs.Common.{◌≡◌, ◌∙◌, ◌++◌, ◌∷◌, [], List, length, refl, sym, ap, subst, arith}
-use Rattle.edge_records.specs.declared.numbered.Edge.{Edge}
-use Rattle.edge_records.specs.Records.{names_of}
+use Rattle.future_update.specs.declared.numbered.Edge.{Edge}
+use Rattle.future_update.specs.Records.{names_of}
 use Rattle.future_update.proofs.LanedLemmas.{activities_same, grown_laned, keeps_lanes, keeps_on, keeps_same, moved}
 use Rattle.future_update.specs.Passings.{ArePassings}
 use Rattle.future_update.proofs.HolderLemmas.{kept, owes_same, passings_more, view_kept}

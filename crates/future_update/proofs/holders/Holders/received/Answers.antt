@@ -1,6 +1,6 @@
 use Rattle.std.proofs.Common.{◌∙◌, ap, refl, sym}
-use Rattle.edge_records.specs.Names.{future_of, name_of}
-use Rattle.edge_records.specs.Records.{names_of, shape_of}
+use Rattle.future_update.specs.Names.{future_of, name_of}
+use Rattle.future_update.specs.Records.{names_of, shape_of}
 use Rattle.future_update.proofs.LanedLemmas.{activities_same, keeps_on}
 use Rattle.future_update.specs.Holders.{HoldersView}
 use Rattle.future_update.proofs.HolderLemmas.{first_received, kept, owes_same, receive_left, receive_sound, received_before, settled, view_kept}

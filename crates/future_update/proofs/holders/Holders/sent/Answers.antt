@@ -1,6 +1,6 @@
 use Rattle.asp_model.specs.Shapes.{future_shape}
 use Rattle.std.proofs.Common.{◌∙◌, ap, refl}
-use Rattle.edge_records.specs.Records.{names_of}
+use Rattle.future_update.specs.Records.{names_of}
 use Rattle.future_update.specs.Holders.{HoldersView}
 use Rattle.future_update.proofs.LanedLemmas.{activities_same}
 use Rattle.future_update.proofs.HolderLemmas.{begun_holders, begun_same, view_told}
