@@ -5,3 +5,8 @@ pub mod ShowLemmas
 pub mod WalkLemmas
 pub mod ReadLemmas
 pub mod ViewLemmas
+pub mod SearchLemmas
+pub mod HeldLemmas
+pub mod ContextLemmas
+pub mod CallLemmas
+pub mod StackLemmas

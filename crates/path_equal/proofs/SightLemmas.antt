@@ -17,7 +17,7 @@ use Rattle.future_table.specs.Values.{values_of}
 use Rattle.path_equal.specs.Sights.{Sees, seen_shape}
 use Rattle.path_equal.specs.States.{side_in}
 use Rattle.path_equal.specs.Texts.{shown_by}
-use Rattle.state_spots.specs.Reads.{seen_value}
+use Rattle.run_ends.specs.Reads.{seen_value}
 
 pub cell_past : (s : Store) (n : ℕ) → length s ≤ n → Number (pos 0) ≡ cell s n
 cell_past [] n h = refl

@@ -11,15 +11,15 @@ use Rattle.paths.specs.Snapshots.{SnapshotShape}
 use Rattle.paths.specs.StateLines.{Path, Shown, same_place, is_compound, what_text, state_line, with_line, with_place, path_of, show_to, state_shown, state_lines}
 use Rattle.path_laws.proofs.StateLemmas.{place_tied, place_itself}
 use Rattle.path_equal.specs.declared.state.State.{State}
-use Rattle.state_spots.specs.declared.entered.Spot.{Spot}
-use Rattle.state_spots.specs.declared.entered.Entered.{Entered}
+use Rattle.run_ends.specs.declared.entered.Spot.{Spot}
+use Rattle.run_ends.specs.declared.entered.Entered.{Entered}
 use Rattle.path_equal.specs.declared.below.Due.{Due}
 use Rattle.path_equal.specs.declared.lines.Walk.{Walk}
 use Rattle.path_equal.specs.States.{IsStateOf, side_in}
-use Rattle.state_spots.specs.Spots.{is_spot, spot_place, places_of, places_in, place_of, size_of, IsSpot, IsNumbered, Grows}
+use Rattle.run_ends.specs.Spots.{is_spot, spot_place, places_of, places_in, place_of, size_of, IsSpot, IsNumbered, Grows}
 use Rattle.path_equal.specs.Walks.{Pending, show_all, pending_below, pending_of, all_pending, shown_in, shown_after, state_seen, AreSpots, IsWalk, Shows, IsExpanded}
-use Rattle.state_spots.proofs.SpotLemmas.{spot_stays}
-use Rattle.state_spots.proofs.EnterLemmas.{one_spot, spot_itself, spot_tied, spot_wider}
+use Rattle.run_ends.proofs.SpotLemmas.{spot_stays}
+use Rattle.run_ends.proofs.EnterLemmas.{one_spot, spot_itself, spot_tied, spot_wider}
 use Rattle.path_equal.proofs.ShowLemmas.{new_shown, show_all-append, below_shown, more_comes}
 
 -- Facts of each item

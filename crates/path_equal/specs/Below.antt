@@ -7,7 +7,7 @@ use Rattle.paths.specs.Places.{Place}
 use Rattle.paths.specs.StateLines.{Path, shown_below}
 use Rattle.path_equal.specs.declared.below.Due.{Due}
 use Rattle.path_equal.specs.declared.below.Parent.{Parent}
-use Rattle.state_spots.specs.Spots.{numbered_place, places_in, size_of}
+use Rattle.run_ends.specs.Spots.{numbered_place, places_in, size_of}
 use Rattle.path_equal.specs.Walks.{AreSpots, all_pending, pending_at}
 
 -- fields with their paths, where a place is this of its number

@@ -6,3 +6,6 @@ pub mod Texts
 pub mod Walks
 pub mod Below
 pub mod Reading
+pub mod Searches
+pub mod Held
+pub mod Contexts

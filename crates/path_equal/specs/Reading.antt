@@ -19,9 +19,9 @@ use Rattle.path_equal.specs.declared.labels.PathLabel.TheVariants as label
 use Rattle.path_equal.specs.declared.labels.PathLabel as labels
 use Rattle.path_equal.specs.declared.reading.Found.{Found}
 use Rattle.path_equal.specs.declared.reading.Found.TheVariants as found
-use Rattle.state_spots.specs.declared.entered.At.{At}
+use Rattle.run_ends.specs.declared.entered.At.{At}
 use Rattle.path_equal.specs.declared.state.State.{State}
-use Rattle.state_spots.specs.Reads.{IsAt}
+use Rattle.run_ends.specs.Reads.{IsAt}
 
 -- What is found
 

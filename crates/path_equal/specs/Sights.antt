@@ -9,7 +9,7 @@ use Rattle.paths.specs.Places.{Place, Side, entered, read}
 use Rattle.path_equal.specs.declared.seen.Seen.{Seen}
 use Rattle.path_equal.specs.declared.seen.Seen.TheVariants as seen
 use Rattle.path_equal.specs.declared.sights.Sight.{Sight}
-use Rattle.state_spots.specs.Reads.{seen_value}
+use Rattle.run_ends.specs.Reads.{seen_value}
 
 abbrev pub seen_shape : Seen → CellShape
 seen_shape (seen.Number n) = Number n

@@ -5,13 +5,13 @@ use Rattle.paths.specs.Places.{Place, Side, found, children, read}
 use Rattle.paths.specs.StateLines.{Path, Shown, show_to, shown_below, state_shown}
 use Rattle.path_equal.specs.declared.state.State.{State}
 use Rattle.path_equal.specs.declared.seen.Seen.{Seen}
-use Rattle.state_spots.specs.declared.entered.Spot.{Spot}
-use Rattle.state_spots.specs.declared.entered.Entered.{Entered}
+use Rattle.run_ends.specs.declared.entered.Spot.{Spot}
+use Rattle.run_ends.specs.declared.entered.Entered.{Entered}
 use Rattle.path_equal.specs.declared.below.Due.{Due}
 use Rattle.path_equal.specs.declared.lines.Walk.{Walk}
 use Rattle.path_equal.specs.States.{side_in}
 use Rattle.path_equal.specs.Sights.{seen_shape}
-use Rattle.state_spots.specs.Spots.{IsSpot, IsNumbered, HasValues, spot_place, place_of, places_in, size_of}
+use Rattle.run_ends.specs.Spots.{IsSpot, IsNumbered, HasValues, spot_place, place_of, places_in, size_of}
 
 -- a place that is still to be shown, down to a depth below it
 pub record Pending : Type 0 where

@@ -12,13 +12,13 @@ ghost use Rattle.path_equal.specs.Below.{
   place_in,
 };
 ghost use Rattle.path_equal.specs.Sights.{seen_shape};
-ghost use Rattle.state_spots.specs.Spots.{IsNumbered, size_of};
+ghost use Rattle.run_ends.specs.Spots.{IsNumbered, size_of};
 
 use crate::seen::Seen;
 use crate::texts::{field_path, member_path};
 use asp_model::{Label, Word};
 use coded_cells::Place;
-use state_spots::{Entered, Spot};
+use run_ends::{Entered, Spot};
 use std::alloc::{AllocError, Global};
 
 /// A place that is still to be shown, down to a depth below it.

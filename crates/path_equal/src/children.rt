@@ -24,7 +24,7 @@ ghost use Rattle.path_equal.specs.Reading.{
   label_shape,
 };
 ghost use Rattle.path_equal.specs.Sights.{Sees, seen_shape};
-ghost use Rattle.state_spots.specs.Reads.{IsAt, seen_value};
+ghost use Rattle.run_ends.specs.Reads.{IsAt, seen_value};
 
 use crate::labels::PathLabel;
 use crate::seen::Seen;
@@ -32,7 +32,7 @@ use crate::sights::Sight;
 use asp_model::Label;
 use coded_cells::{Parcel, Place};
 use program_code::MethodCode;
-use state_spots::At;
+use run_ends::At;
 
 /// Where a step leads to from a place, if its label is there.
 pub fn child<'a>(at: At<'a>, sight: Sight<'a>, label: &PathLabel) -> Option<At<'a>>

@@ -2,13 +2,19 @@
 #![tactic(auto)]
 
 mod below;
+mod calls;
 mod children;
+mod code;
+mod context;
+mod focus;
 mod labels;
 mod lines;
 mod names;
 mod reading;
+mod search;
 mod seen;
 mod sights;
+mod stack;
 mod state;
 mod texts;
 mod views;

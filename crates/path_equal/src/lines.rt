@@ -8,7 +8,7 @@ ghost use Rattle.paths.specs.Places.{Side};
 ghost use Rattle.paths.specs.Snapshots.{SnapshotShape};
 ghost use Rattle.paths.specs.StateLines.{is_compound, state_lines as lines_of_state};
 ghost use Rattle.path_equal.specs.Sights.{Sees, seen_shape};
-ghost use Rattle.state_spots.specs.Spots.{
+ghost use Rattle.run_ends.specs.Spots.{
   Grows,
   HasValues,
   IsNumbered,
@@ -37,7 +37,7 @@ use crate::texts::{line, same_line};
 use asp_model::Word;
 use coded_cells::Place;
 use indexmap::IndexMap;
-use state_spots::{Entered, Spot};
+use run_ends::{Entered, Spot};
 use std::alloc::{AllocError, Global};
 
 /// The lines so far, with the path of each object and group that they show, and what is still to be

@@ -21,12 +21,12 @@ use crate::children::child;
 use crate::labels::{PathLabel, Root};
 use crate::seen::Seen;
 use crate::sights::look_at;
+use crate::stack::nth_place;
 use crate::state::State;
 use asp_model::{ActivityName, FutureName};
 use coded_cells::Place;
 use future_table::FutureTable;
-use state_spots::{At, awaited};
-use term_places::nth_place;
+use run_ends::{At, awaited};
 
 /// What is found at the end of a path.
 #[derive(Clone, Copy)]

@@ -4,12 +4,12 @@ ghost use Rattle.std.specs.Prelude.{◌≡◌};
 ghost use Rattle.paths.specs.Places.{Place as PlaceShape, entered_by, written};
 ghost use Rattle.path_equal.specs.Sights.{IsRootOf, Sees, seen_shape};
 ghost use Rattle.path_equal.specs.States.{side_in};
-ghost use Rattle.state_spots.specs.Reads.{IsAt, seen_value};
+ghost use Rattle.run_ends.specs.Reads.{IsAt, seen_value};
 
 use crate::seen::{Seen, in_store, in_value};
 use crate::state::State;
 use coded_cells::Parcel;
-use state_spots::{At, value_of};
+use run_ends::{At, value_of};
 
 /// What is read at a place, and the value that is entered there.
 #[derive(Clone, Copy)]

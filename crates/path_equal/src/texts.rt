@@ -21,7 +21,7 @@ use asp_model::{Label, Word};
 use coded_cells::Object;
 use future_table::FutureTable;
 use program_code::{Class, Code, MethodCode};
-use state_spots::awaited;
+use run_ends::awaited;
 use std::alloc::{AllocError, Global};
 
 /// The line of a place, with what is seen there.

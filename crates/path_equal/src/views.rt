@@ -52,11 +52,10 @@ pub fn state_at(end: &RunEnd, number: usize) -> Option<State<'_>>
     if number >= end.outcome.activities.len() {
         return None;
     }
-    if number >= end.states.len() {
-        return None;
-    }
     let activity = &end.outcome.activities[number];
-    let state = &end.states[number];
+    let Some(state) = end.state(number) else {
+        return None;
+    };
     Some(state_of(&end.code, &end.futures, state, &activity.status))
 }
 

@@ -1,1 +1,4 @@
 pub mod PlaceLemmas
+pub mod SpotLemmas
+pub mod EnterLemmas
+pub mod ValueLemmas

@@ -1,6 +1,7 @@
 //! The end of a run with the states of its activities. Nothing of a state is copied or decoded.
 
-ghost use Rattle.std.specs.Prelude.{◌≡◌, List, reverse};
+ghost use Rattle.std.specs.Prelude.{◌≡◌, List, reverse, slice_get};
+ghost use Rattle.std.specs.Option.{option_copied};
 ghost use Rattle.asp_model.specs.Configuration.{ServiceShape};
 ghost use Rattle.asp_model.specs.Intent.{Done};
 ghost use Rattle.asp_model.specs.Shapes.{status_shape};
@@ -68,6 +69,15 @@ fn place_in(machine: &Machine) -> Option<Place>
         Focus::Asked(_) => None,
         Focus::Calls { .. } => None,
         Focus::Called { .. } => None,
+    }
+}
+
+impl RunEnd {
+    /// The state of the activity with a number, in the order of names.
+    pub fn state(&self, number: usize) -> Option<&EndState>
+        ensures state { option_copied result ≡ slice_get self.now.states.items number }
+    {
+        self.states.get(number)
     }
 }
 

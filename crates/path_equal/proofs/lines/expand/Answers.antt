@@ -2,7 +2,7 @@ use Rattle.std.proofs.Common.{◌≡◌, ◌-◌, ◌++◌, ◌∙◌, List, map
 use Rattle.std.specs.Prelude.{reverse}
 use Rattle.path_equal.specs.Below.{cell_below}
 use Rattle.path_equal.specs.Sights.{seen_shape}
-use Rattle.state_spots.specs.Spots.{numbered_place, place_of, places_in}
+use Rattle.run_ends.specs.Spots.{numbered_place, place_of, places_in}
 use Rattle.path_equal.specs.Walks.{Pending, all_pending, pending_at, pending_below}
 use Rattle.path_equal.proofs.BelowLemmas.{below_is, pending_is}
 use Rattle.path_equal.proofs.TextLemmas.{on_ok}

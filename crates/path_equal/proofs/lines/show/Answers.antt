@@ -1,6 +1,6 @@
 use Rattle.std.proofs.Common.{◌∙◌, ◌∷◌, ◌++◌, [], List, ℕ, refl, sym, ap}
 use Rattle.std.specs.Prelude.{codes}
-use Rattle.state_spots.specs.Spots.{place_of, places_in}
+use Rattle.run_ends.specs.Spots.{place_of, places_in}
 use Rattle.path_equal.specs.States.{side_in}
 use Rattle.path_equal.specs.Walks.{shown_in, shown_with}
 use Rattle.path_equal.proofs.ShowLemmas.{same_shown}

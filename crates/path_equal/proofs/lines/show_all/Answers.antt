@@ -1,6 +1,6 @@
 use Rattle.std.proofs.Common.{◌-◌, ◌<◌, length, subst, arith}
 use Rattle.path_equal.specs.declared.below.Due.{Due}
-use Rattle.state_spots.specs.Spots.{IsSpot, size_of}
+use Rattle.run_ends.specs.Spots.{IsSpot, size_of}
 use Rattle.path_equal.specs.Walks.{AreSpots, shown_after}
 use Rattle.path_equal.proofs.WalkLemmas.{all_front, all_last, still_more}
 use Rattle.path_equal.proofs.lines.show_all.Goals as goal

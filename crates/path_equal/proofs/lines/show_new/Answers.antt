@@ -3,10 +3,10 @@ use Rattle.std.specs.List.{AllByRecursion}
 use Rattle.asp_model.specs.Store.{CellShape}
 use Rattle.indexmap.proofs.CallerLemmas.{insert_entry-new}
 use Rattle.paths.specs.StateLines.{Path, state_line, what_text}
-use Rattle.state_spots.specs.declared.entered.Spot.{Spot}
-use Rattle.state_spots.specs.Spots.{IsSpot, is_spot, place_of, size_of}
+use Rattle.run_ends.specs.declared.entered.Spot.{Spot}
+use Rattle.run_ends.specs.Spots.{IsSpot, is_spot, place_of, size_of}
 use Rattle.path_equal.specs.States.{side_in}
-use Rattle.state_spots.proofs.EnterLemmas.{spot_wider}
+use Rattle.run_ends.proofs.EnterLemmas.{spot_wider}
 use Rattle.path_equal.proofs.SightLemmas.{found_compound, found_seen}
 use Rattle.path_equal.proofs.WalkLemmas.{all_pushed, new_done, paths_wider, size_grows}
 use Rattle.path_equal.proofs.lines.show_new.Goals as goal

@@ -2,7 +2,7 @@ use Rattle.std.proofs.Common.{◌∙◌, ◌∷◌, ◌++◌, [], List, ℕ, ref
 use Rattle.asp_model.specs.Store.{CellShape}
 use Rattle.paths.specs.Places.{found}
 use Rattle.paths.specs.StateLines.{state_line, what_text}
-use Rattle.state_spots.specs.Spots.{place_of, places_in}
+use Rattle.run_ends.specs.Spots.{place_of, places_in}
 use Rattle.path_equal.specs.States.{side_in}
 use Rattle.path_equal.specs.Walks.{shown_in, shown_with}
 use Rattle.path_equal.proofs.ShowLemmas.{plain_shown}

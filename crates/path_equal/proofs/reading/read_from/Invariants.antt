@@ -2,7 +2,7 @@ use Rattle.std.proofs.Common.{◌≡◌, drop}
 use Rattle.paths.specs.PathLabels.{leads_by}
 use Rattle.paths.specs.Places.{Place, In_store}
 use Rattle.path_equal.specs.Reading.{labels_shape}
-use Rattle.state_spots.specs.Reads.{IsAt}
+use Rattle.run_ends.specs.Reads.{IsAt}
 use Rattle.path_equal.specs.States.{side_in}
 use Rattle.path_equal.proofs.reading.read_from.Given as goal
 

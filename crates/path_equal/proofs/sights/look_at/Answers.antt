@@ -1,6 +1,6 @@
 use Rattle.std.proofs.Common.{◌∙◌, subst}
-use Rattle.state_spots.specs.declared.entered.At.{At}
-use Rattle.state_spots.specs.Reads.{IsAt}
+use Rattle.run_ends.specs.declared.entered.At.{At}
+use Rattle.run_ends.specs.Reads.{IsAt}
 use Rattle.path_equal.specs.States.{side_in}
 use Rattle.path_equal.proofs.SightLemmas.{store_written}
 use Rattle.path_equal.proofs.sights.look_at.Goals as goal

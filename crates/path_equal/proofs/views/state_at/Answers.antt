@@ -18,11 +18,10 @@ returns-then-number-len c = record {
       subst (λ (x : Option EndShape). IsSeen o x None) (sym none) tt;
 }
 
-pub returns-then-number-len-2 : goal.returns-then-number-len-2
-returns-then-number-len-2 c = record {
+pub returns-in_default : goal.returns-in_default
+returns-in_default c = record {
   state = λ o h.
-      let past : length c.args.end.now.states.items ≤ c.args.number = omega arith in
-      let none : slice_get o.ends c.args.number ≡ None = none_seen (arc_value c.args.end.now.code) c.args.end.now.states.items o.ends c.args.number h.states (slice_get_past c.args.end.now.states.items c.args.number past) in
+      let none : slice_get o.ends c.args.number ≡ None = none_seen (arc_value c.args.end.now.code) c.args.end.now.states.items o.ends c.args.number h.states (sym c.in_default.ensures.state) in
       subst (λ (x : Option EndShape). IsSeen o x None) (sym none) tt;
 }
 
@@ -34,10 +33,10 @@ returns c = record {
       let rs : List ActivityReport = c.args.end.now.outcome.activities.items in
       let xs : List EndState = c.args.end.now.states.items in
       let r : ActivityReport = c.index-activity.result.now in
-      let x : EndState = c.index-state.result.now in
+      let x : EndState = c.in-Some.state.now in
       let code : k ≡ c.deref.result.now = sym c.deref.ensures in
       let reported : slice_get rs n ≡ Some r = slice_get-get_or rs n r (omega arith) ∙ ap Some (sym c.index-activity.ensures) in
-      let there : slice_get xs n ≡ Some x = slice_get-get_or xs n x (omega arith) ∙ ap Some (sym c.index-state.ensures) in
+      let there : slice_get xs n ≡ Some x = sym c.in-Some.ensures.state in
       let at = end_at k rs xs o.ends n r x (ap (λ s. s.activities) h.outcome) h.states reported there in
       subst (λ (e : Option EndShape). IsSeen o e (Some c.state_of.result)) (sym at.is) (c.state_of.ensures.state o at.end h.futures (subst (λ (q : List Node). IsSnapshotOf q x at.end.snapshot) code at.snapshot) (ap (λ s. s.status) at.report));
 }

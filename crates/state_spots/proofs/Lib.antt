@@ -1,3 +1,0 @@
-pub mod SpotLemmas
-pub mod EnterLemmas
-pub mod ValueLemmas

@@ -1,5 +1,0 @@
-pub mod SearchLemmas
-pub mod HeldLemmas
-pub mod ContextLemmas
-pub mod CallLemmas
-pub mod StackLemmas

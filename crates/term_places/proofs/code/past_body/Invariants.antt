@@ -1,8 +1,0 @@
-use Rattle.std.proofs.Common.{◌≡◌, take}
-use Rattle.std.specs.List.{flat_map}
-use Rattle.term_places.specs.Held.{use_held}
-use Rattle.term_places.specs.Searches.{searched}
-use Rattle.term_places.proofs.code.past_body.Given as goal
-
-abbrev pub invariant-loop-slot : goal.invariant-loop-slot
-invariant-loop-slot l = l.search ≡ searched (flat_map (use_held l.places l.method.captured.items) (take l.slot-index l.method.uses.items)) l.fn.start

@@ -1,8 +1,0 @@
-use Rattle.std.proofs.Common.{refl}
-use Rattle.term_places.proofs.ContextLemmas.{begun_found}
-use Rattle.term_places.proofs.focus.past_begun.Goals as goal
-
-pub returns : goal.returns
-returns c = record {
-  searched = λ t b. begun_found c.args.code.now c.args.places.now c.args.own.now c.args.number c.args.from _ t c.args.start c.past-search.result c.past_behind.result b refl c.past-search.ensures.searched c.past_behind.ensures.searched;
-}

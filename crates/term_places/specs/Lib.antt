@@ -1,4 +1,0 @@
--- in reading order
-pub mod Searches
-pub mod Held
-pub mod Contexts
