@@ -1,6 +1,2 @@
-pub mod OutLemmas
-pub mod CoreLemmas
-pub mod RowLemmas
-pub mod SeatLemmas
-pub mod TurnLemmas
 pub mod SenderLemmas
+pub mod FurtherLemmas

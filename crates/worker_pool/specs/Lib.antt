@@ -1,6 +1,1 @@
--- in reading order
-pub mod Rows
-pub mod Desks
-pub mod Turns
-pub mod Working
 pub mod Senders

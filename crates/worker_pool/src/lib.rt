@@ -1,11 +1,7 @@
-//! Workers that race for one core: each takes turns at it, and works on its lease between them.
+//! A run of a core by workers that race for it, until its verdict is there.
 #![tactic(auto)]
 
-mod desk;
-mod gate;
-mod margin;
 mod pool;
-mod work;
 
-pub use gate::{Gate, OpenGate};
 pub use pool::{Settings, run, run_core};
+pub use racing_workers::{Gate, OpenGate};

@@ -1,7 +1,6 @@
-//! The workers of a run.
+//! A run by workers, which the caller finishes.
 
-ghost use Rattle.std.specs.Prelude.{◌≡◌, ℕ, ◌+◌, ◌<◌, ◌≤◌, All, IfOk, length, vec_capacity, vec_len, sum_by};
-ghost use Rattle.crossbeam_utils.specs.Padded.{padded_value};
+ghost use Rattle.std.specs.Prelude.{◌≡◌, ◌<◌, ◌≤◌, IfOk};
 ghost use Rattle.asp_model.specs.History.{BeginsWith};
 ghost use Rattle.asp_model.specs.Shapes.{outcome_shape, tree_of};
 ghost use Rattle.asp_model.specs.declared.limits.TheConstants.{MOST_REDUCTIONS, MOST_WORKERS};
@@ -10,24 +9,16 @@ ghost use Rattle.asp_core.specs.Plans.{StayByPlan};
 ghost use Rattle.core_ends.specs.Runs.{IsEndOfRun};
 ghost use Rattle.core_runs.specs.Over.{IsOver};
 ghost use Rattle.core_runs.specs.Plans.{IsEndByPlan};
-ghost use Rattle.turn_hub.specs.Seats.{seats_of};
-ghost use Rattle.worker_pool.specs.Desks.{core_at, history_at};
 ghost use Rattle.worker_pool.specs.Senders.{OneSenderIsEnough};
-ghost use Rattle.worker_pool.specs.Working.{AllReady, HasRows, IsReady, opened_at};
 
-use crate::desk::SharedDesk;
-use crate::gate::Gate;
-use crate::work::work;
 use asp_check::Checked;
 use asp_core::Core;
 use core_runs::{end_of_run, finish};
-use crossbeam_utils::CachePadded;
+use racing_workers::{Gate, race};
 use run_ends::RunEnd;
 use std::alloc::{AllocError, Global};
 use std::sync::Wait;
-use std::thread;
 use std::thread::Threads;
-use turn_hub::{Hub, Seat};
 use update_policy::{Plan, Policies, UpdatePolicy};
 
 /// What a run is made with.
@@ -38,9 +29,6 @@ pub struct Settings {
     pub budget: u64,
     pub plan: Plan,
 }
-
-// Seats of two workers lie apart in memory.
-type PaddedSeat<P> = CachePadded<Seat<SharedDesk<P>>>;
 
 /// Runs the core by so many workers, until its verdict is there. What the workers leave, the caller
 /// does: all of it, where no thread can be started.
@@ -57,13 +45,7 @@ pub fn run_core<R: Threads + Wait + Sync, P: UpdatePolicy + Send + Drop, G: Gate
     ensures over { IfOk result IsOver }
     ensures by_plan { IfOk result (λ c. StayByPlan P.answer P.asked core.edges c.edges) }
 {
-    let desk = SharedDesk::new(alloc, core, workers + 1)?;
-    let (hub, mut first) = Hub::new(alloc, desk, workers + 1)?;
-    let mut seats = deal(alloc, &hub, &mut first, workers)?;
-    let all = Vec::with_capacity(alloc, workers as usize + 1)?;
-    work_all(rt, &hub, seats.as_mut_slice(), workers, gate);
-    let all = together(&hub, seats, first, all);
-    let core = closed(hub, all)?;
+    let core = race(rt, alloc, core, workers, gate)?;
     finish(core)
 }
 
@@ -89,113 +71,4 @@ pub fn run<R: Threads + Wait + Sync, P: UpdatePolicy + Send + Drop, G: Gate>(
     let core = Core::new(alloc, program, settings.budget, settings.plan, policies)?;
     let core = run_core(rt, alloc, core, settings.workers, gate)?;
     end_of_run(core)
-}
-
-// A seat of one part for each worker.
-fn deal<P: UpdatePolicy + Drop>(
-    alloc: Global,
-    hub: &Hub<SharedDesk<P>>,
-    first: &mut Seat<SharedDesk<P>>,
-    workers: u32,
-) -> Result<Vec<PaddedSeat<P>>, AllocError>
-    requires first { IsReady hub.now (workers + 1) first.old }
-    ensures seats { IfOk result (λ seats. AllReady hub.now seats.items) }
-    ensures count { IfOk result (λ seats. vec_len seats ≡ workers) }
-    ensures first { IfOk result (λ _. IsReady hub.now 1 first.new) }
-{
-    let mut seats = Vec::new(alloc);
-    for _worker in 0..workers {
-        let Ok(seat) = hub.split(first) else {
-            unreachable!()
-        };
-        seats.push(CachePadded::new(seat))?;
-    }
-    Ok(seats)
-}
-
-// One worker at work.
-fn work_padded<R: Wait, P: UpdatePolicy + Drop, G: Gate>(
-    rt: &R,
-    hub: &Hub<SharedDesk<P>>,
-    seat: &mut PaddedSeat<P>,
-    gate: &G,
-)
-    requires rows { HasRows hub.now }
-    requires ready { IsReady hub.now 1 (padded_value seat.old) }
-    ensures ready { IsReady hub.now 1 (padded_value seat.new) }
-{
-    work(rt, hub, &mut **seat, gate);
-}
-
-// All workers at work, each at its seat.
-fn work_all<R: Threads + Wait + Sync, P: UpdatePolicy + Send + Drop, G: Gate>(
-    rt: &R,
-    hub: &Hub<SharedDesk<P>>,
-    seats: &mut [PaddedSeat<P>],
-    workers: u32,
-    gate: &G,
-)
-    requires some { 0 < workers }
-    requires rows { HasRows hub.now }
-    requires ready { AllReady hub.now seats.old }
-    ensures ready { AllReady hub.now seats.new }
-{
-    thread::for_each_mut(
-        rt,
-        seats,
-        workers as usize,
-        &|_, seat: &mut PaddedSeat<P>|
-            requires { HasRows hub.now × IsReady hub.now 1 (padded_value seat.now) }
-            ensures { IsReady hub.entry.now 1 (padded_value seat.exit.now) }
-        { work_padded(rt, hub, seat, gate) },
-    );
-}
-
-// All seats in one list, which has room for them.
-fn together<P: UpdatePolicy + Drop>(
-    hub: &Hub<SharedDesk<P>>,
-    seats: Vec<PaddedSeat<P>>,
-    first: Seat<SharedDesk<P>>,
-    room: Vec<Seat<SharedDesk<P>>>,
-) -> Vec<Seat<SharedDesk<P>>>
-    requires seats { AllReady hub.now seats.items }
-    requires first { IsReady hub.now 1 first }
-    requires room { (vec_len room ≡ 0) × (vec_len seats < vec_capacity room) }
-    ensures ready { All (λ s. IsReady hub.now 1 s) result.items }
-    ensures some { 0 < vec_len result }
-    ensures parts { sum_by (λ s. s.parts) result.items ≡ vec_len seats + 1 }
-{
-    let _hub = hub;
-    let mut rest = seats;
-    let mut all = room;
-    let Ok(()) = all.push(first) else {
-        unreachable!()
-    };
-    while let Some(seat) = rest.pop() {
-        let Ok(()) = all.push(seat.into_inner()) else {
-            unreachable!()
-        };
-    }
-    all
-}
-
-// The hub's core, once all seats are back, where it is not spent.
-fn closed<P: UpdatePolicy + Drop>(
-    hub: Hub<SharedDesk<P>>,
-    all: Vec<Seat<SharedDesk<P>>>,
-) -> Result<Core<P>, AllocError>
-    requires ready { All (λ s. IsReady hub 1 s) all.items }
-    requires some { 0 < vec_len all }
-    requires parts { sum_by (λ s. s.parts) all.items ≡ seats_of hub }
-    ensures kept { IfOk result IsKept }
-    ensures begins { let first = history_at (opened_at hub) in
-        IfOk result (λ c. BeginsWith (history_of c) first) }
-    ensures by_plan { let first = core_at (opened_at hub) in
-        IfOk result (λ c. StayByPlan P.answer P.asked first.edges c.edges) }
-{
-    let core = hub.close(all).into_core();
-    if core.is_spent() {
-        return Err(AllocError);
-    }
-    Ok(core)
 }

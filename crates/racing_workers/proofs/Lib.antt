@@ -1,0 +1,5 @@
+pub mod OutLemmas
+pub mod CoreLemmas
+pub mod RowLemmas
+pub mod SeatLemmas
+pub mod TurnLemmas

@@ -1,0 +1,17 @@
+use Rattle.std.proofs.Common.{rules, alloc_error}
+use Rattle.racing_workers.proofs.CoreLemmas.{deliver_out, plan_by}
+use Rattle.racing_workers.proofs.TurnLemmas.{stood, turn_further}
+use Rattle.racing_workers.proofs.desk.Desk.deliver_next.Goals as goal
+
+pub deliver-requires-clause-kept : goal.deliver-requires-clause-kept
+deliver-requires-clause-kept g c = (c.next_delivery.ensures.turn 0).keeps.orderly.kept
+
+pub returns-clause-turn : goal.returns-clause-turn
+returns-clause-turn g c n =
+    let e = c.deliver.ensures in
+    let before = c.next_delivery.ensures.turn n in
+    let orderly = before.keeps.orderly in
+    let plan = plan_by g.P.UpdatePolicy.answer g.P.UpdatePolicy.asked c.next_delivery.new.self.core c.deliver.new.self c.deliver.result alloc_error e.spent e.gives_up e.by_plan in
+    turn_further g.P.UpdatePolicy.answer g.P.UpdatePolicy.asked n c.args.self.now c.next_delivery.new.self _ before
+    (stood g.P.UpdatePolicy.answer g.P.UpdatePolicy.asked n c.next_delivery.new.self _ orderly e.begins e.code e.kept plan (search rules) (search rules)
+    (deliver_out _ _ orderly.kept c.deliver.result alloc_error _ e.delivered e.spent e.err))

@@ -1,0 +1,19 @@
+use Rattle.std.proofs.Common.{rules, alloc_error}
+use Rattle.racing_workers.proofs.CoreLemmas.{owed_may, plan_owed}
+use Rattle.racing_workers.proofs.TurnLemmas.{looked}
+use Rattle.racing_workers.proofs.desk.Desk.next_delivery.Goals as goal
+
+pub returns-in_default-clause-turn : goal.returns-in_default-clause-turn
+returns-in_default-clause-turn g c n =
+    let e = c.next_owed.ensures in
+    let plan = plan_owed g.P.UpdatePolicy.answer g.P.UpdatePolicy.asked c.args.self.now.core c.next_owed.new.self c.next_owed.result alloc_error e.spent e.gives_up e.same in
+    looked g.P.UpdatePolicy.answer g.P.UpdatePolicy.asked n c.args.self.now _ c.requires.orderly e.history e.code e.kept plan (search rules)
+
+pub returns-clause-turn : goal.returns-clause-turn
+returns-clause-turn g c n =
+    let e = c.next_owed.ensures in
+    let plan = plan_owed g.P.UpdatePolicy.answer g.P.UpdatePolicy.asked c.args.self.now.core c.next_owed.new.self c.next_owed.result alloc_error e.spent e.gives_up e.same in
+    looked g.P.UpdatePolicy.answer g.P.UpdatePolicy.asked n c.args.self.now _ c.requires.orderly e.history e.code e.kept plan (search rules)
+
+pub returns-clause-may : goal.returns-clause-may
+returns-clause-may g c = owed_may _ _ c.next_owed.result c.in-Ok.owed c.in-Ok.is c.next_owed.ensures.same c.next_owed.ensures.may

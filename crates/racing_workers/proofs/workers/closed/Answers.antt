@@ -1,0 +1,33 @@
+use Rattle.std.proofs.Common.{rules, ◌≡◌, ◌<◌, ◌∙◌, false, length, subst, sym, ap}
+use Rattle.asp_model.specs.History.{BeginsWith}
+use Rattle.asp_model.proofs.HistoryLemmas.{begins_with_earlier}
+use Rattle.asp_core.specs.declared.cores.Core.{Core}
+use Rattle.asp_core.specs.Cores.{history_of}
+use Rattle.asp_core.specs.Plans.{StayByPlan}
+use Rattle.turn_hub.specs.declared.seat.Seat.{Seat}
+use Rattle.turn_hub.specs.Seats.{seen_by}
+use Rattle.racing_workers.specs.declared.desk.SharedDesk.{SharedDesk}
+use Rattle.racing_workers.specs.Desks.{core_at, history_at}
+use Rattle.racing_workers.specs.Turns.{desk_in}
+use Rattle.racing_workers.specs.Working.{IsReady, opened_at}
+use Rattle.racing_workers.proofs.SeatLemmas.{some_of}
+use Rattle.racing_workers.proofs.workers.closed.Goals as goal
+
+pub returns-clause-begins : goal.returns-clause-begins
+returns-clause-begins g c =
+    let S = Seat (SharedDesk g.row.P.Denot) in
+    let some_seat : 0 < length c.args.all.items = search rules in
+    let h = history_at (desk_in c.close.result) in
+    let first = history_at (opened_at c.args.hub) in
+    let one = some_of (λ (s : S). IsReady c.args.hub 1 s) (λ (s : S). BeginsWith h (seen_by s)) c.args.all.items some_seat c.requires.ready c.close.ensures.history in
+    subst (λ (k : Core g.row.P.Denot). BeginsWith (history_of k) first) (sym c.into_core-core.ensures.core)
+    (begins_with_earlier h (seen_by one.0) first one.2 one.1.4)
+
+pub returns-clause-by_plan : goal.returns-clause-by_plan
+returns-clause-by_plan g c =
+    let C = Core g.row.P.Denot in
+    let first = core_at (opened_at c.args.hub) in
+    let same = c.into_core-core.ensures.core in
+    let fresh : c.into_core-core.result.spent ≡ false = search rules in
+    subst (λ (k : C). StayByPlan g.P.UpdatePolicy.answer g.P.UpdatePolicy.asked first.edges k.edges) (sym same)
+    (c.close.ensures.kept.plan (ap (λ (k : C). k.spent) (sym same) ∙ fresh)).1

@@ -1,0 +1,45 @@
+-- What clauses read of a desk, and how its rows fit its core.
+use Rattle.std.specs.Prelude.{◌≡◌, ℕ, List, false, vec_len}
+use Rattle.asp_model.specs.History.{HistoryShape}
+use Rattle.program_code.specs.declared.code.Node.{Node}
+use Rattle.core_edges.specs.Answers.{Answering, Counting}
+use Rattle.asp_core.specs.declared.cores.Core.{Core}
+use Rattle.asp_core.specs.Cores.{IsKept, code_of, history_of}
+use Rattle.asp_core.specs.Plans.{StayByPlan}
+use Rattle.racing_workers.specs.declared.desk.Desk.{Desk}
+use Rattle.racing_workers.specs.Rows.{AreApart, AreOut, Row, row}
+
+module _ {P : Type 0} where
+  abbrev pub core_at : Desk P → Core P
+  core_at desk = desk.core
+
+  abbrev pub history_at : Desk P → HistoryShape
+  history_at desk = history_of (core_at desk)
+
+  abbrev pub code_at : Desk P → List Node
+  code_at desk = code_of (core_at desk)
+
+  -- what a seat has out
+  abbrev pub row_at : Desk P → ℕ → Row
+  row_at desk seat = row desk.rows.items seat
+
+  -- for how many seats it is
+  abbrev pub seats_at : Desk P → ℕ
+  seats_at desk = vec_len desk.rows
+
+  -- the core is the run of its journal unless it is spent, and what stands in the rows is out and apart
+  pub record IsOrderly (desk : Desk P) : Type 0 where
+    pub kept : IsKept (core_at desk)
+    pub out : AreOut (history_at desk) desk.rows.items
+    pub apart : AreApart desk.rows.items
+
+  -- a core that is not spent was not before, and keeps the plan and the policies by which its edges are answered
+  abbrev pub KeepsPlan : Answering P → Counting P → (old new : Core P) → Type 0
+  KeepsPlan answers counts old new = new.spent ≡ false → (old.spent ≡ false) × StayByPlan answers counts old.edges new.edges
+
+  -- what a desk keeps of the first one: the code, for how many seats it is, and the plan; and it is orderly
+  pub record KeepsDesk (answers : Answering P) (counts : Counting P) (first desk : Desk P) : Type 0 where
+    pub code : code_at desk ≡ code_at first
+    pub seats : seats_at desk ≡ seats_at first
+    pub plan : KeepsPlan answers counts (core_at first) (core_at desk)
+    pub orderly : IsOrderly desk

@@ -1,0 +1,5 @@
+-- in reading order
+pub mod Rows
+pub mod Desks
+pub mod Turns
+pub mod Working

@@ -1,0 +1,42 @@
+-- What a turn at the desk changes, and what it gives.
+use Rattle.std.specs.Prelude.{◌≡◌, ◌≢◌, ℕ, Option, Some, None}
+use Rattle.asp_model.specs.History.{BeginsWith}
+use Rattle.asp_model.specs.Shapes.{delivery_shape}
+use Rattle.asp_model.specs.declared.journal.Delivery.{Delivery}
+use Rattle.journals.specs.Journals.{RunShape}
+use Rattle.core_edges.specs.Answers.{Answering, Counting}
+use Rattle.asp_core.specs.Cores.{IsRun}
+use Rattle.asp_core.specs.Calls.{MayDeliver}
+use Rattle.core_state.specs.declared.lease.Lease.{Lease}
+use Rattle.core_state.specs.Leases.{IsLease}
+use Rattle.racing_workers.specs.declared.desk.Desk.{Desk}
+use Rattle.racing_workers.specs.declared.desk.SharedDesk.{SharedDesk}
+use Rattle.racing_workers.specs.declared.desk.Next.{Next}
+use Rattle.racing_workers.specs.declared.desk.Next.TheVariants.{Again, End, Rest, Run}
+use Rattle.racing_workers.specs.Desks.{KeepsDesk, code_at, core_at, history_at, row_at}
+
+-- the lease that a worker got
+abbrev pub lease_in : Next → Option Lease
+lease_in (Run lease) = Some lease
+lease_in Again = None
+lease_in Rest = None
+lease_in End = None
+
+module _ {P : Type 0} where
+  abbrev pub desk_in : SharedDesk P → Desk P
+  desk_in x = x.desk.value
+
+  -- it may be delivered, by whatever run the core is
+  abbrev pub MayDeliverAt : Desk P → Delivery → Type 0
+  MayDeliverAt desk d = (s : RunShape) → IsRun (core_at desk) s → MayDeliver s (delivery_shape d)
+
+  -- the history goes on, and only this seat's row may differ
+  pub record IsTurn (answers : Answering P) (counts : Counting P) (seat : ℕ) (old new : Desk P) : Type 0 where
+    pub later : BeginsWith (history_at new) (history_at old)
+    pub others : (n : ℕ) → n ≢ seat → row_at new n ≡ row_at old n
+    pub keeps : KeepsDesk answers counts old new
+
+  -- the seat has this lease out, or nothing
+  abbrev pub HasLease : Desk P → ℕ → Option Lease → Type 0
+  HasLease desk seat None = row_at desk seat ≡ None
+  HasLease desk seat (Some l) = (row_at desk seat ≡ Some (l.number, l.burst)) × IsLease (history_at desk) (code_at desk) l

@@ -1,0 +1,38 @@
+-- What a worker's seat has between turns.
+use Rattle.std.specs.Prelude.{◌≡◌, ℕ, List, All, Option, Some, None}
+use Rattle.crossbeam_utils.specs.declared.cache_padded.CachePadded.{CachePadded}
+use Rattle.crossbeam_utils.specs.Padded.{padded_value}
+use Rattle.asp_model.specs.History.{BeginsWith}
+use Rattle.core_state.specs.declared.lease.Lease.{Lease}
+use Rattle.core_state.specs.Leases.{IsLease}
+use Rattle.turn_hub.specs.declared.hub.Hub.{Hub}
+use Rattle.turn_hub.specs.declared.seat.Seat.{Seat}
+use Rattle.turn_hub.specs.Seats.{IsOf, opened_with, out_with, seats_of, seen_by, taken_by}
+use Rattle.racing_workers.specs.declared.desk.Desk.{Desk}
+use Rattle.racing_workers.specs.declared.desk.SharedDesk.{SharedDesk}
+use Rattle.racing_workers.specs.Desks.{code_at, history_at, seats_at}
+use Rattle.racing_workers.specs.Turns.{desk_in}
+
+module _ {P : Type 0} where
+  -- the desk that the hub was made with
+  abbrev pub opened_at : Hub (SharedDesk P) → Desk P
+  opened_at hub = desk_in (opened_with hub)
+
+  -- the seat has this lease out, or nothing
+  abbrev pub HasOut : Hub (SharedDesk P) → Seat (SharedDesk P) → Option Lease → Type 0
+  HasOut hub seat None = out_with seat ≡ None
+  HasOut hub seat (Some l) = (out_with seat ≡ Some (l.number, l.burst)) × IsLease (seen_by seat) (code_at (opened_at hub)) l
+
+  -- the hub's desk has a row for each seat
+  abbrev pub HasRows : Hub (SharedDesk P) → Type 0
+  HasRows hub = seats_at (opened_at hub) ≡ seats_of hub
+
+  -- a seat of the hub between its turns, with so many parts, which has seen at least what the hub was made with
+  abbrev pub IsReady : Hub (SharedDesk P) → ℕ → Seat (SharedDesk P) → Type 0
+  IsReady hub parts seat =
+      IsOf hub seat × (seat.parts ≡ parts) × (taken_by seat ≡ None) × (out_with seat ≡ None)
+      × BeginsWith (seen_by seat) (history_at (opened_at hub))
+
+  -- such seats, each with one part
+  abbrev pub AllReady : Hub (SharedDesk P) → List (CachePadded (Seat (SharedDesk P))) → Type 0
+  AllReady hub seats = All (λ p. IsReady hub 1 (padded_value p)) seats
