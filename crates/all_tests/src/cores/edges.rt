@@ -100,10 +100,8 @@ fn passes(rt: &impl Abort, alloc: Global, plan: Plan, told: &str) -> Result<(), 
 #[test]
 fn values_go_along_ten_edges(rt: HostRuntime) -> Result<(), Fail> {
     let alloc = rt.alloc();
-    for strategy in [Strategy::Forward, Strategy::Message] {
-        passes(&rt, alloc, Plan::of(alloc, strategy), TEN)?;
-    }
-    Ok(())
+    passes(&rt, alloc, Plan::of(alloc, Strategy::Forward), TEN)?;
+    passes(&rt, alloc, Plan::of(alloc, Strategy::Message), TEN)
 }
 
 #[test]
@@ -140,6 +138,22 @@ fn labels_choose_whose_values_go(rt: HostRuntime) -> Result<(), Fail> {
     passes(&rt, alloc, plan, BY_LABELS)
 }
 
+/// In which order activities work, and the report then.
+static RACES: [([u32; 13], &str); 2] = [
+    (
+        [0, 0, 0, 0, 0, 0, 0, 2, 2, 2, 3, 3, 3],
+        "asp report 1\nverdict end\nactivity 0 13 done\nsenders\nactivity 0.1 29 serving\n\
+         senders 0.2 0.3\n> 2\n> 5\nactivity 0.2 9 serving\nsenders 0\n\
+         activity 0.3 9 serving\nsenders 0\n",
+    ),
+    (
+        [0, 0, 0, 0, 0, 0, 0, 3, 3, 3, 2, 2, 2],
+        "asp report 1\nverdict end\nactivity 0 13 done\nsenders\nactivity 0.1 29 serving\n\
+         senders 0.3 0.2\n> 3\n> 6\nactivity 0.2 9 serving\nsenders 0\n\
+         activity 0.3 9 serving\nsenders 0\n",
+    ),
+];
+
 // Two senders to one activity, where activities work in that order, and then whoever can.
 fn race(rt: &impl Abort, alloc: Global, numbers: &[u32], report: &str) -> Result<(), Fail> {
     let acts = works(alloc, numbers)?;
@@ -149,22 +163,8 @@ fn race(rt: &impl Abort, alloc: Global, numbers: &[u32], report: &str) -> Result
 
 #[test]
 fn two_senders_come_in_either_order(rt: HostRuntime) -> Result<(), Fail> {
-    let rows = [
-        (
-            [0, 0, 0, 0, 0, 0, 0, 2, 2, 2, 3, 3, 3],
-            "asp report 1\nverdict end\nactivity 0 13 done\nsenders\nactivity 0.1 29 serving\n\
-             senders 0.2 0.3\n> 2\n> 5\nactivity 0.2 9 serving\nsenders 0\n\
-             activity 0.3 9 serving\nsenders 0\n",
-        ),
-        (
-            [0, 0, 0, 0, 0, 0, 0, 3, 3, 3, 2, 2, 2],
-            "asp report 1\nverdict end\nactivity 0 13 done\nsenders\nactivity 0.1 29 serving\n\
-             senders 0.3 0.2\n> 3\n> 6\nactivity 0.2 9 serving\nsenders 0\n\
-             activity 0.3 9 serving\nsenders 0\n",
-        ),
-    ];
-    for (numbers, report) in rows {
-        race(&rt, rt.alloc(), &numbers, report)?;
+    for (numbers, report) in &RACES {
+        race(&rt, rt.alloc(), numbers, report)?;
     }
     Ok(())
 }
@@ -233,23 +233,28 @@ fn a_value_comes_along_an_edge_before_it_is_needed(rt: HostRuntime) -> Result<()
     )
 }
 
+/// What is spent, and the report then.
+static SPENT: [(Start, &str); 2] = [
+    (
+        Start {
+            text: ENDLESS,
+            budget: 100,
+        },
+        "asp report 1\nverdict budget\nactivity 0 100 running\nsenders\n",
+    ),
+    (
+        Start {
+            text: ONE,
+            budget: 1,
+        },
+        "asp report 1\nverdict end\nactivity 0 1 done\nsenders\n",
+    ),
+];
+
 #[test]
 fn budgets_are_spent(rt: HostRuntime) -> Result<(), Fail> {
-    let rows = [
-        (
-            ENDLESS,
-            100,
-            "asp report 1\nverdict budget\nactivity 0 100 running\nsenders\n",
-        ),
-        (
-            ONE,
-            1,
-            "asp report 1\nverdict end\nactivity 0 1 done\nsenders\n",
-        ),
-    ];
-    for (text, budget, report) in rows {
-        let start = Start { text, budget };
-        at_rest(&rt, rt.alloc(), &start, Strategy::Lazy, &[], report)?;
+    for (start, report) in &SPENT {
+        at_rest(&rt, rt.alloc(), start, Strategy::Lazy, &[], report)?;
     }
     Ok(())
 }

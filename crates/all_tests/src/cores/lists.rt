@@ -13,6 +13,20 @@ use std::process::Abort;
 use std::test::Fail;
 use update_policy::{Plan, Strategy};
 
+/// The programs that are driven.
+static TEXTS: [&str; 10] = [
+    COUNTER,
+    RACE,
+    PASSING,
+    COPIES,
+    FAULTS,
+    ENDLESS,
+    CIRCLE,
+    ITSELF,
+    OVERWRITTEN,
+    GROUP,
+];
+
 /// As many steps in a list.
 const STEPS: u32 = 100;
 
@@ -86,19 +100,7 @@ fn is_replayed(
 
 #[test]
 fn whatever_is_driven_is_the_replay_of_its_lists_and_counts(rt: HostRuntime) -> Result<(), Fail> {
-    let texts = [
-        COUNTER,
-        RACE,
-        PASSING,
-        COPIES,
-        FAULTS,
-        ENDLESS,
-        CIRCLE,
-        ITSELF,
-        OVERWRITTEN,
-        GROUP,
-    ];
-    for text in texts {
+    for text in &TEXTS {
         for number in 0..LISTS {
             is_replayed(&rt, rt.alloc(), text, number)?;
         }

@@ -18,6 +18,24 @@ fn asked(alloc: Global, policies: &mut Policies, strategy: Strategy) -> Result<C
 /// A strategy, what its policy answers, and how often the one that counts was asked until then.
 type Row = (Strategy, Choice, u64);
 
+/// The budget of two is spent.
+static BUDGETED: [Row; 4] = [
+    (Strategy::Message, Choice::FromHome, 0),
+    (Strategy::Message, Choice::FromHome, 0),
+    (Strategy::Message, Choice::Leave, 0),
+    (Strategy::Message, Choice::Leave, 0),
+];
+
+/// The policy that counts stands for `message`.
+static COUNTED: [Row; 3] = [
+    (Strategy::Lazy, Choice::Leave, 0),
+    (Strategy::Forward, Choice::Forward, 0),
+    (Strategy::Message, Choice::FromHome, 1),
+];
+
+/// Another policy stands there.
+static REPLACED: [Row; 1] = [(Strategy::Message, Choice::Leave, 1)];
+
 fn answer(
     rt: &impl Abort,
     alloc: Global,
@@ -50,27 +68,15 @@ fn a_budget_is_spent(rt: HostRuntime) -> Result<(), AllocError> {
     let alloc = rt.alloc();
     let tally = Tally::new(alloc)?;
     let budgeted = policies(alloc, Box::new(alloc, BudgetedPolicy { left: 2 })?)?;
-    let rows = [
-        (Strategy::Message, Choice::FromHome, 0),
-        (Strategy::Message, Choice::FromHome, 0),
-        (Strategy::Message, Choice::Leave, 0),
-        (Strategy::Message, Choice::Leave, 0),
-    ];
-    answer_last(&rt, alloc, budgeted, &tally, &rows)
+    answer_last(&rt, alloc, budgeted, &tally, &BUDGETED)
 }
 
 #[test]
 fn a_strategy_asks_its_own_box(rt: HostRuntime) -> Result<(), AllocError> {
     let alloc = rt.alloc();
     let tally = Tally::new(alloc)?;
-    let rows = [
-        (Strategy::Lazy, Choice::Leave, 0),
-        (Strategy::Forward, Choice::Forward, 0),
-        (Strategy::Message, Choice::FromHome, 1),
-    ];
     let counting = policies(alloc, counting_box(alloc, &tally)?)?;
-    answer_last(&rt, alloc, counting, &tally, &rows)?;
+    answer_last(&rt, alloc, counting, &tally, &COUNTED)?;
     let lazy = policies(alloc, Box::new(alloc, LazyPolicy)?)?;
-    let rows = [(Strategy::Message, Choice::Leave, 1)];
-    answer_last(&rt, alloc, lazy, &tally, &rows)
+    answer_last(&rt, alloc, lazy, &tally, &REPLACED)
 }

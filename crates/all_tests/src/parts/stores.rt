@@ -152,8 +152,8 @@ fn left(alloc: Global, text: &str) -> Result<String, Fail> {
 
 #[test]
 fn what_stands_in_the_stores(rt: HostRuntime) -> Result<(), Fail> {
-    for (text, wanted) in RUNS {
-        assert_eq!(rt; left(rt.alloc(), text)?.as_str(), wanted);
+    for (text, wanted) in &RUNS {
+        assert_eq!(rt; left(rt.alloc(), text)?.as_str(), *wanted);
     }
     Ok(())
 }

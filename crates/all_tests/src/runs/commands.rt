@@ -93,7 +93,7 @@ pub fn answered<R: AllocGlobal + Threads + Wait + Sync, G: Gate>(
     let mut answer = no_answer(alloc, command)?;
     let words = owned(alloc, command.words)?;
     let mut source = source(alloc, command)?;
-    let Answer { status, out, err } = &mut answer;
-    *status = status_of(rt, &words, &mut source, out, err, policies, gate);
+    let (out, err) = (&mut answer.out, &mut answer.err);
+    answer.status = status_of(rt, &words, &mut source, out, err, policies, gate);
     Ok(answer)
 }

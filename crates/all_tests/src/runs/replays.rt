@@ -12,6 +12,9 @@ use std::alloc::Global;
 use std::process::Abort;
 use std::test::Fail;
 
+/// The programs that are replayed.
+static TEXTS: [&str; 6] = [RACE, PASSING, CIRCLE, ITSELF, FAULTS, ENDLESS];
+
 fn repeats(rt: &impl Abort, alloc: Global, program: &Checked, budget: u64) -> Result<(), Fail> {
     let end = ran(alloc, program, budget)?;
     let same = is_repeated(rt, alloc, program, &end);
@@ -30,7 +33,7 @@ fn all_repeat(rt: &impl Abort, alloc: Global, program: &Checked) -> Result<(), F
 #[test]
 fn a_run_is_the_replay_of_its_own_lists_and_counts(rt: HostRuntime) -> Result<(), Fail> {
     let alloc = rt.alloc();
-    for text in [RACE, PASSING, CIRCLE, ITSELF, FAULTS, ENDLESS] {
+    for text in &TEXTS {
         let program = checked(alloc, text)?;
         let repeated = all_repeat(&rt, alloc, &program);
         drop_checked(program);
