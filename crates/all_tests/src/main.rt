@@ -1,5 +1,6 @@
 //! All tests: of the parts of a run (`parts`), of cores that are driven by lists of steps (`cores`),
-//! and of whole runs of which no command shows what is tested (`runs`).
+//! and of whole runs of which no command shows what is tested (`runs`). The program itself does
+//! nothing: nobody stands on it, so it need not be a library.
 #![tactic(auto)]
 
 #[cfg(test)]
@@ -20,3 +21,5 @@ mod repeats;
 mod runs;
 #[cfg(test)]
 mod texts;
+
+fn main() {}
