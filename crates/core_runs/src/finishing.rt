@@ -12,6 +12,7 @@ ghost use Rattle.core_runs.specs.Plans.{IsEndAsPlanned, IsEndByPlan};
 
 use asp_check::Checked;
 use asp_core::Core;
+use core_rules::over;
 use run_ends::RunEnd;
 use std::alloc::{AllocError, Global};
 use update_policy::{Plan, Policies, UpdatePolicy};
@@ -28,7 +29,8 @@ fn work<P: UpdatePolicy>(core: &mut Core<P>, number: u32) -> Result<(), AllocErr
     let Some(mut lease) = core.lend(number) else {
         return Err(AllocError);
     };
-    lease.run()?;
+    // A lease that is spent comes back too: the core is spent then.
+    let _ran = lease.run();
     core.commit(lease)
 }
 
@@ -54,16 +56,29 @@ fn advance<P: UpdatePolicy>(core: &mut Core<P>) -> Result<bool, AllocError>
     }
 }
 
-/// The core, where its verdict is there.
-fn judged<P: UpdatePolicy + Drop>(core: Core<P>) -> Result<Core<P>, AllocError>
-    requires kept { IsKept core }
-    ensures over { IfOk result IsOver }
-    ensures same { IfOk result (λ x. x ≡ core) }
+/// The verdict of a core has to be there.
+fn judge<P: UpdatePolicy + Drop>(core: &Core<P>) -> Result<(), AllocError>
+    requires kept { IsKept core.now }
+    ensures over { OnOk result (IsOver core.now) }
 {
-    match core.verdict() {
-        Some(_) => Ok(core),
-        None => Err(AllocError),
+    over(core.verdict())?;
+    Ok(())
+}
+
+/// Advances until nothing is left to do, and the verdict is there.
+fn go_on<P: UpdatePolicy + Drop>(core: &mut Core<P>) -> Result<(), AllocError>
+    requires kept { IsKept core.old }
+    ensures over { OnOk result (IsOver core.new) }
+    ensures begins { OnOk result (BeginsWith (history_of core.new) (history_of core.old)) }
+    ensures code { OnOk result (code_of core.new ≡ code_of core.old) }
+    ensures by_plan { OnOk result (StayByPlan P.answer P.asked core.old.edges core.new.edges) }
+{
+    for _round in 0..u64::MAX {
+        if !advance(core)? {
+            return judge(core);
+        }
     }
+    Err(AllocError)
 }
 
 /// Delivers what is owed, and lends, runs and commits, until the verdict is there. Nobody may be
@@ -75,12 +90,13 @@ pub fn finish<P: UpdatePolicy + Drop>(mut core: Core<P>) -> Result<Core<P>, Allo
     ensures code { IfOk result (λ x. code_of x ≡ code_of core) }
     ensures by_plan { IfOk result (λ x. StayByPlan P.answer P.asked core.edges x.edges) }
 {
-    for _round in 0..u64::MAX {
-        if !advance(&mut core)? {
-            return judged(core);
+    match go_on(&mut core) {
+        Ok(()) => Ok(core),
+        Err(error) => {
+            core.discard();
+            Err(error)
         }
     }
-    Err(AllocError)
 }
 
 /// The end of the run of a core whose verdict is there.
