@@ -19,6 +19,7 @@ use Rattle.future_update.specs.Names.{edge_between}
 use Rattle.update_policy.specs.declared.strategy.Strategy.{Strategy}
 use Rattle.update_policy.specs.Strategies.{IsAlikeBeside, policy_of}
 use Rattle.future_update.specs.Holders.{answered}
+use Rattle.core_rules.specs.Futures.{future_of}
 use Rattle.core_edges.specs.declared.edges.Edges.{Edges}
 use Rattle.core_edges.specs.Answers.{Answering, AreAnswered, AreAsked, Counting, IsAsked}
 use Rattle.core_edges.specs.Deliveries.{IsNoted, events_along}
@@ -35,6 +36,22 @@ edges_then (f ∷ fs) gs from to xs = edges_then fs gs from to (with_edge (edge_
 passed_events : (fs : List FutureShape) (from to : Name) (h : HoldersShape) → after_events (map (λ f. Passes (edge_between f from to)) fs) h ≡ with_passed fs from to h
 passed_events [] from to h = refl
 passed_events (f ∷ fs) from to h = passed_events fs from to (after_event (Passes (edge_between f from to)) h)
+
+-- The future in a cell
+
+abbrev pub listed : Option FutureShape → List FutureShape
+listed None = []
+listed (Some f) = one_future f
+
+held_listed : (c : CodedCell) → future_held c ≡ listed (future_of c)
+held_listed (coded.Number n) = refl
+held_listed (coded.Object class ns) = refl
+held_listed (coded.Reference n) = refl
+held_listed (coded.Future f) = refl
+held_listed (coded.Group ns) = refl
+
+pub held_told : (c : CodedCell) (o : Option FutureShape) → o ≡ future_of c → listed o ≡ future_held c
+held_told c o is = ap listed is ∙ sym (held_listed c)
 
 -- The futures in cells, by their code
 

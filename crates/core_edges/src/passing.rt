@@ -22,6 +22,7 @@ ghost use Rattle.core_edges.specs.Strategies.{IsLearned, KeepsLearning, KeepsOth
 use crate::edges::Edges;
 use asp_model::{ActivityName, Delivery, FutureName};
 use coded_cells::{Cell, Parcel};
+use core_rules::future_in;
 use object_store::Store;
 use request_queue::Request;
 use std::alloc::{AllocError, Global};
@@ -87,12 +88,9 @@ impl<P: UpdatePolicy> Edges<P> {
         ensures passed { let fs = future_held (coded cell.now) in
             OnOk result (ArePassed P.answer P.asked fs from.now to.now self.old self.new) }
     {
-        match cell {
-            Cell::Future(future) => self.pass(future, from, to),
-            Cell::Number(_) => Ok(()),
-            Cell::Object(_) => Ok(()),
-            Cell::Reference(_) => Ok(()),
-            Cell::Group(_) => Ok(()),
+        match future_in(cell) {
+            Some(future) => self.pass(future, from, to),
+            None => Ok(()),
         }
     }
 
