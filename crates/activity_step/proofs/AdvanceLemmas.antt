@@ -1,4 +1,5 @@
 -- Advances from what a redex comes to.
+use Rattle.std.specs.Prelude.{ℤ}
 use Rattle.std.proofs.Common.{◌≡◌, ℕ, Bool, true, false, List, [], ◌++◌, map, refl, sym, ap, subst, ◌∙◌}
 use Rattle.std.proofs.lemmas.List.{append-nil}
 use Rattle.asp_model.specs.Term.{Tree, loc}
@@ -14,7 +15,9 @@ use Rattle.machine_frames.specs.Standing.{View, Standing, view_of}
 use Rattle.activity_step.specs.declared.state.State.{State}
 use Rattle.activity_step.specs.declared.advance.Advance.{Advance}
 use Rattle.activity_step.specs.declared.advance.Advance.TheVariants as advance
-use Rattle.activity_step.specs.Advances.{Stands, Reduced, IsTold, IsStopped, Told, IsReduction, IsAdvance}
+use Rattle.machine_frames.specs.Sites.{IsBefore, given_view, number_redex}
+use Rattle.activity_step.specs.Activities.{reduces}
+use Rattle.activity_step.specs.Advances.{Stands, Reduced, IsTold, IsStopped, Told, IsReduction, IsAdvance, IsTaken}
 
 -- what is no contraction is told
 pub stopped : (k : List Node) (x : State) (t : Tree) (vs : List ServiceShape) (s : Store) (ls : List LineShape) (go : Bool) (n : ℕ) (r : Redex) (a : Advance) → Stands k x t vs s ls → IsAtRedex k (view_of x.machine) t vs n r
@@ -76,3 +79,28 @@ contracted k x y t vs s ls go v h opened c view store lines =
       };
     } in
     subst (IsReduction k y t vs s ls) (sym opened) reduced
+
+-- an advance that may contract took a contraction, or did nothing
+pub taken : (k : List Node) (x : State) (t : Tree) (vs : List ServiceShape) (s : Store) (ls : List LineShape) (r : Advance) → IsAdvance k x t vs s ls true r → IsTaken k x t vs s ls (reduces r)
+taken k x t vs s ls advance.Reduces h = h
+taken k x t vs s ls (advance.Rests p) h = h.kept
+taken k x t vs s ls (advance.Faults f) h = h.kept
+taken k x t vs s ls (advance.Needs p) h = h.kept
+taken k x t vs s ls (advance.Creates p) h = h.kept
+taken k x t vs s ls advance.Sends h = h.kept
+taken k x t vs s ls advance.Serves h = h.kept
+
+-- a number below a node became a place
+pub given : (k : List Node) (x y : State) (t : Tree) (vs : List ServiceShape) (s : Store) (ls : List LineShape) (number from done p : ℕ) (z : ℤ) (added : List LineShape) → Stands k x t vs s ls → IsBefore k t vs (view_of x.machine) number from done z
+    → contract (store_of k x.store.cells) (number_redex z) ≡ Becomes (loc p) (store_of k y.store.cells) added → view_of y.machine ≡ given_view number from done p (view_of x.machine) → map line_shape y.lines.items ≡ map line_shape x.lines.items ++ added
+    → Reduced k y t vs s ls
+given k x y t vs s ls number from done p z added h at is view lines = record {
+  contexts = at.contexts;
+  redex = number_redex z;
+  becomes = loc p;
+  store = store_of k y.store.cells;
+  added = added;
+  splits = at.splits;
+  is = ap (λ (q : Store). contract q (number_redex z)) (sym h.store) ∙ is;
+  after = record { machine = subst (λ (v : View). Standing k v (plug at.contexts (loc p)) vs) (sym view) (at.place p); store = refl; lines = lines ∙ ap (λ (l : List LineShape). l ++ added) h.lines };
+}

@@ -50,6 +50,11 @@ abbrev pub IsAfter : Activity → model.Activity → Bool → Advance → Type 0
 IsAfter x a true advance.Reduces = IsStepped x a
 IsAfter x a go r = IsStopped x a r
 
+-- one contraction was taken, or nothing was done
+abbrev pub IsQuick : Activity → model.Activity → Bool → Type 0
+IsQuick x a true = IsStepped x a
+IsQuick x a false = StandsFor x a
+
 -- all contractions that may be taken were taken, where one more could be
 abbrev pub IsUsed : ℕ → ℕ → Advance → Type 0
 IsUsed n most advance.Reduces = n ≡ most

@@ -76,6 +76,11 @@ IsAdvance k x t vs s ls go advance.Reduces = IsReduction k x t vs s ls go
 IsAdvance k x t vs s ls go (advance.Rests p) = Rested k x t vs s ls p
 IsAdvance k x t vs s ls go r = Told k x t vs s ls r
 
+-- a contraction was taken, or nothing was done
+abbrev pub IsTaken : List Node → State → Tree → List ServiceShape → Store → List LineShape → Bool → Type 0
+IsTaken k x t vs s ls true = Reduced k x t vs s ls
+IsTaken k x t vs s ls false = Stands k x t vs s ls
+
 -- a decision was done: the redex became this place, the cells changed so, and the output grew so
 pub record IsPerformed (k : List Node) (old new : CodedStore) (lines now : List Line) (d : Decision) (p : ℕ) : Type 0 where
   pub added : List LineShape

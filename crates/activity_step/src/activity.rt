@@ -4,7 +4,7 @@ ghost use Rattle.std.specs.Prelude.{◌≡◌, Err, IfOk, OnErr, OnOk, alloc_err
 ghost use Rattle.std.specs.Option.{option_map};
 ghost use Rattle.asp_model.specs.Shapes.{future_shape};
 ghost use Rattle.asp_model.specs.Configuration.{Activity as ActivityShape};
-ghost use Rattle.activity_step.specs.Activities.{IsAfter, IsRun, StandsFor, reduces};
+ghost use Rattle.activity_step.specs.Activities.{IsAfter, IsQuick, IsRun, StandsFor, reduces};
 ghost use Rattle.activity_step.specs.Standings.{code_of};
 ghost use Rattle.activity_step.specs.Advances.{Stands};
 
@@ -114,7 +114,7 @@ impl Activity {
     }
 
     /// One contraction, where it may be taken, or what the redex comes to.
-    #[inline(always)]
+    #[inline(never)]
     fn take(&mut self, alloc: Global, go: bool) -> Result<Advance, AllocError>
         ensures after { (a : ActivityShape) → StandsFor self.old a →
             IfOk result (IsAfter self.new a go) }
@@ -147,6 +147,36 @@ impl Activity {
         self.noted(outcome)
     }
 
+    /// One contraction of the kinds that run most, or none.
+    #[inline(always)]
+    fn quick(&mut self, alloc: Global) -> Result<bool, AllocError>
+        ensures quick { (a : ActivityShape) → StandsFor self.old a →
+            IfOk result (IsQuick self.new a) }
+        ensures code { code_of self.new ≡ code_of self.old }
+    {
+        if !self.state.quick(alloc, &self.code)? {
+            return Ok(false);
+        }
+        let count = self.count.checked_add(1).ok_or(AllocError)?;
+        self.count = count;
+        Ok(true)
+    }
+
+    /// One contraction, or what the redex comes to. What a call that is not inlined answers is kept
+    /// apart, so that the answer itself needs no memory.
+    #[inline(always)]
+    fn take_next(&mut self, alloc: Global) -> Result<Advance, AllocError>
+        ensures after { (a : ActivityShape) → StandsFor self.old a →
+            IfOk result (IsAfter self.new a true) }
+        ensures code { code_of self.new ≡ code_of self.old }
+    {
+        if self.quick(alloc)? {
+            return Ok(Advance::Reduces);
+        }
+        let advance = self.take(alloc, true)?;
+        Ok(advance)
+    }
+
     /// Takes the contractions before its stop, at most so many.
     #[inline(always)]
     fn run(&mut self, alloc: Global, most: u64) -> Result<Advance, AllocError>
@@ -156,7 +186,7 @@ impl Activity {
     {
         let mut left = most;
         while left > 0 {
-            let advance = self.take(alloc, true)?;
+            let advance = self.take_next(alloc)?;
             if !is_reduction(advance) {
                 return Ok(advance);
             }
@@ -182,7 +212,8 @@ impl Activity {
     }
 }
 
-fn is_reduction(advance: Advance) -> bool
+#[inline(always)]
+pub(crate) fn is_reduction(advance: Advance) -> bool
     ensures reduces { result ≡ reduces advance }
 {
     match advance {

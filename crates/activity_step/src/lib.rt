@@ -9,6 +9,7 @@ mod groups;
 mod objects;
 mod passing;
 mod performing;
+mod quick;
 mod reducing;
 mod services;
 mod standing;

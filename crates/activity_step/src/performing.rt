@@ -47,7 +47,7 @@ fn copy_group(alloc: Global, members: &[Place]) -> Result<Cell, AllocError>
 
 /// The redex becomes a new number.
 #[inline(always)]
-fn add_number(store: &mut Store, lines: &[Line], number: i64) -> Result<Place, AllocError>
+pub fn add_number(store: &mut Store, lines: &[Line], number: i64) -> Result<Place, AllocError>
     ensures performed { (k : List NodeShape) → IfOk result
         (IsPerformed k store.old.cells store.new.cells lines.now lines.now
         (decision.Number number)) }

@@ -1,0 +1,120 @@
+use Rattle.std.proofs.Common.{rules, ◌≡◌, ℕ, List, [], true, Some, length, inl, inr, sym, ap, subst, ◌∙◌, to_z, of_z, w64}
+use Rattle.asp_model.specs.Term.{Number}
+use Rattle.asp_model.specs.Store as store
+use Rattle.asp_model.specs.Contraction.{allots}
+use Rattle.program_code.specs.declared.code.Kind.{Kind}
+use Rattle.program_code.specs.declared.code.Kind.TheVariants as kind
+use Rattle.program_code.specs.Tables.{kind_head}
+use Rattle.code_laws.specs.Nodes.{operand_count}
+use Rattle.coded_cells.specs.Shapes.{store_of}
+use Rattle.activity_rows.specs.Decisions.{value_redex}
+use Rattle.program_code.specs.declared.code.Node.{Node}
+use Rattle.machine_frames.specs.Rows.{AtNode, IsAtRedex, is_simple}
+use Rattle.machine_frames.specs.Stacks.{last}
+use Rattle.machine_frames.proofs.StackLemmas.{last_none}
+use Rattle.machine_frames.specs.Standing.{View, view_of}
+use Rattle.machine_frames.proofs.RowLemmas.{value_row}
+use Rattle.machine_frames.proofs.SpreadLemmas.{at_call}
+use Rattle.program_code.specs.Classes.{class_of}
+use Rattle.program_code.specs.declared.code.Class.{Class}
+use Rattle.activity_step.proofs.TermLemmas.{simple_size}
+use Rattle.activity_step.proofs.state.State.quick_redex.Goals as goal
+
+pub returns-in-Make : goal.returns-in-Make
+returns-in-Make c = record {
+  taken = λ t vs s ls h at full.
+      let k = c.args.code.now in
+      let v : View = view_of c.args.self.now.machine in
+      let n : Node = c.in-Some.node.now in
+      let here : AtNode k v c.args.number c.args.from c.args.count n = record { focus = at; full = full; node = c.in-Some.ensures.piece } in
+      c.quick_make.ensures.taken k c.args.from n t vs s ls h here c.in-Some.ensures.class (ap class_of c.in-Make.is ∙ ap (λ (x : Class). Some x) (sym c.deref.ensures));
+}
+
+pub returns-in-Call : goal.returns-in-Call
+returns-in-Call c = record {
+  taken = λ t vs s ls h at full.
+      let k = c.args.code.now in
+      let v : View = view_of c.args.self.now.machine in
+      let n : Node = c.in-Some.node.now in
+      let here : AtNode k v c.args.number c.args.from c.args.count n = record { focus = at; full = full; node = c.in-Some.ensures.piece } in
+      c.taken.ensures.taken k c.call_advance.new.self t vs s ls (c.call_advance.ensures.advance t vs s ls h (at_call k v c.args.number c.args.from c.args.count n c.in-Call.label t vs h.machine here c.in-Call.is));
+}
+
+pub returns-in-Steps : goal.returns-in-Steps
+returns-in-Steps c = record {
+  taken = λ t vs s ls h at full.
+      let k = c.args.code.now in
+      let v : View = view_of c.args.self.now.machine in
+      let n : Node = c.in-Some.node.now in
+      let here : AtNode k v c.args.number c.args.from c.args.count n = record { focus = at; full = full; node = c.in-Some.ensures.piece } in
+      c.taken-in-Steps.ensures.taken k c.steps_advance.new.self t vs s ls (c.steps_advance.ensures.advance k t vs s ls h here c.in-Steps.is);
+}
+
+pub returns-in-If : goal.returns-in-If
+returns-in-If c = record {
+  taken = λ t vs s ls h at full.
+      let k = c.args.code.now in
+      let v : View = view_of c.args.self.now.machine in
+      let n : Node = c.in-Some.node.now in
+      let here : AtNode k v c.args.number c.args.from c.args.count n = record { focus = at; full = full; node = c.in-Some.ensures.piece } in
+      c.taken-in-If.ensures.taken k c.if_advance.new.self t vs s ls (c.if_advance.ensures.advance c.args.number c.args.from t vs s ls h here c.in-If.is);
+}
+
+pub returns-in-Repeat : goal.returns-in-Repeat
+returns-in-Repeat c = record {
+  taken = λ t vs s ls h at full.
+      let k = c.args.code.now in
+      let v : View = view_of c.args.self.now.machine in
+      let n : Node = c.in-Some.node.now in
+      let here : AtNode k v c.args.number c.args.from c.args.count n = record { focus = at; full = full; node = c.in-Some.ensures.piece } in
+      c.taken-in-Repeat.ensures.taken k c.repeat_advance.new.self t vs s ls (c.repeat_advance.ensures.advance k n t vs s ls h here c.in-Repeat.is);
+}
+
+pub returns-in-Number : goal.returns-in-Number
+returns-in-Number c = record {
+  taken = λ t vs s ls h at full.
+      let k = c.args.code.now in
+      let v : View = view_of c.args.self.now.machine in
+      let n : Node = c.in-Some.node.now in
+      let here : AtNode k v c.args.number c.args.from c.args.count n = record { focus = at; full = full; node = c.in-Some.ensures.piece } in
+      let a = c.args.self.now in
+      let q = a.store.cells in
+      let ops : List ℕ = last c.args.count a.machine.operands.items in
+      let is = c.in-Number.is in
+      let simple : is_simple n.kind ≡ true = ap is_simple is in
+      let none_done : c.args.count ≡ 0 = simple_size k v c.args.number c.args.from c.args.count n here simple ∙ ap (λ (x : Kind). operand_count x (length n.children.items)) is in
+      let empty : ops ≡ [] = ap (λ (m : ℕ). last m a.machine.operands.items) none_done ∙ last_none a.machine.operands.items in
+      let alone : IsAtRedex k v t vs c.args.count (value_redex (kind_head (kind.Number c.in-Number.n)) []) = subst (λ (x : List ℕ). IsAtRedex k v t vs c.args.count (value_redex (kind_head (kind.Number c.in-Number.n)) x)) empty (subst (λ (x : Kind). IsAtRedex k v t vs c.args.count (value_redex (kind_head x) ops)) is (value_row k v c.args.number c.args.from c.args.count n t vs h.machine at full c.in-Some.ensures.piece simple)) in
+      let same : to_z w64 (of_z w64 c.in-Number.n) ≡ c.in-Number.n = search rules in
+      c.taken-in-Number.ensures.taken k c.decided_advance.new.self t vs s ls (c.decided_advance.ensures.advance k t vs s ls (value_redex (Number c.in-Number.n) []) h alone (ap (λ z. allots (store_of k q) (store.Number z) []) (sym same)));
+}
+
+pub returns-in-Get : goal.returns-in-Get
+returns-in-Get c = record {
+  taken = λ t vs s ls h at full.
+      let k = c.args.code.now in
+      let v : View = view_of c.args.self.now.machine in
+      let n : Node = c.in-Some.node.now in
+      let simple : is_simple n.kind ≡ true = ap is_simple c.in-Get.is in
+      c.quick_value.ensures.taken t vs s ls h (value_row k v c.args.number c.args.from c.args.count n t vs h.machine at full c.in-Some.ensures.piece simple);
+}
+
+pub returns-in-Put : goal.returns-in-Put
+returns-in-Put c = record {
+  taken = λ t vs s ls h at full.
+      let k = c.args.code.now in
+      let v : View = view_of c.args.self.now.machine in
+      let n : Node = c.in-Some.node.now in
+      let simple : is_simple n.kind ≡ true = ap is_simple c.in-Put.is in
+      c.quick_value-in-Put.ensures.taken t vs s ls h (value_row k v c.args.number c.args.from c.args.count n t vs h.machine at full c.in-Some.ensures.piece simple);
+}
+
+pub returns-in-Operate : goal.returns-in-Operate
+returns-in-Operate c = record {
+  taken = λ t vs s ls h at full.
+      let k = c.args.code.now in
+      let v : View = view_of c.args.self.now.machine in
+      let n : Node = c.in-Some.node.now in
+      let simple : is_simple n.kind ≡ true = ap is_simple c.in-Operate.is in
+      c.quick_value-in-Operate.ensures.taken t vs s ls h (value_row k v c.args.number c.args.from c.args.count n t vs h.machine at full c.in-Some.ensures.piece simple);
+}
