@@ -13,6 +13,7 @@ use crate::handing::hand_on;
 use crate::ranking::{look, rank_others};
 use actor::Given;
 use asp_model::Entry;
+use core_rules::left_with;
 use core_state::CoreState;
 use std::alloc::AllocError;
 
@@ -37,7 +38,7 @@ pub fn come_in(
     rank_others(state, number, change)?;
     let rank = look(state, number)?;
     state.ranks.rank(number, rank)?;
-    state.left = state.left.saturating_add(grant.saturating_sub(reductions));
+    state.left = left_with(state.left, grant, reductions);
     state.journal.note(Entry::Committed { number, reductions });
     Ok(())
 }

@@ -30,6 +30,7 @@ use crate::acting::bring_in;
 use crate::arrival::Arrival;
 use crate::coming::come_in;
 use actor::{Actor, Stance};
+use core_rules::{is_used, with_communication};
 use core_state::{CoreState, Lease};
 use std::alloc::AllocError;
 
@@ -48,7 +49,7 @@ fn may_act(state: &CoreState, grant: u64, taken: u64, actor: &Actor) -> Result<b
         Stands actor.now a rs → let stands = act_of (chase (values_of state.now.futures)) rs n a in
         IfOk result (λ b. b ≡ is_some (act_within (grant - taken) stands)) }
 {
-    if taken >= grant {
+    if is_used(grant, taken) {
         return Ok(false);
     }
     let stance = actor.stance(state.alloc, &state.futures)?;
@@ -81,7 +82,7 @@ pub fn arrive(state: &mut CoreState, lease: Lease) -> Result<Arrival, AllocError
     Ok(Arrival::Acted {
         number,
         grant,
-        reductions: taken.saturating_add(1),
+        reductions: with_communication(taken),
         given,
     })
 }

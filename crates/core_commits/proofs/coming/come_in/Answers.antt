@@ -1,4 +1,4 @@
-use Rattle.std.proofs.Common.{◌≡◌, ◌∙◌, ◌++◌, ◌∷◌, ◌≤◌, ◌<◌, ◌+◌, [], ap, arith, refl, subst, sym}
+use Rattle.std.proofs.Common.{◌≡◌, ◌∙◌, ◌++◌, ◌∷◌, ◌≤◌, ◌<◌, ◌+◌, ◌-◌, ◌^◌, [], ap, refl, subst, sym}
 use Rattle.asp_model.specs.History.{Committed}
 use Rattle.activity_ranks.specs.Ranks.{IsRanked, rank_shape}
 use Rattle.rank_laws.specs.Runs.{rank_of_number}
@@ -90,7 +90,7 @@ returns-clause-committed c = λ h code s n e r.
     let w = c.rank_others.new.state in
     let there : IsPopulated g code w u = populated_too g code c.hand_on.new.state w u c.rank_others.ensures.seats c.rank_others.ensures.futures changed.populated in
     let told : rank_shape c.in_ok-rank.rank ≡ rank_of_number u k = c.in_ok-rank.ensures.rank g code u (to_look x k m q a z w there) in
-    let y : CoreState = record { alloc = w.alloc; seats = w.seats; ranks = c.rank.new.self; futures = w.futures; journal = c.note.new.self; left = c.saturating_add-state.result; bursts = w.bursts } in
+    let y : CoreState = record { alloc = w.alloc; seats = w.seats; ranks = c.rank.new.self; futures = w.futures; journal = c.note.new.self; left = c.left_with-state.result; bursts = w.bursts } in
     let journal = c.rank_others.ensures.journal ∙ c.hand_on.ensures.journal ∙ r.journal in
     let same_left : w.left ≡ x.left = c.rank_others.ensures.left ∙ c.hand_on.ensures.left ∙ r.left in
     acts_back x k m q a z y (populated_too g code w y u refl refl there)
@@ -99,5 +99,5 @@ returns-clause-committed c = λ h code s n e r.
     (λ apart. c.in_ok-rank-2.ensures.others j (rank_of_number u j) apart (others.1 j apart)))
     (c.note.ensures.entries ∙ ap (λ j. entries_in j ++ Committed k q ∷ []) journal)
     (subst (λ j. room j ≤ room c.note.new.self + 1) journal c.note.ensures.room)
-    (λ small. omega (arith, small, same_left, c.saturating_add-state.ensures, c.saturating_sub.ensures))
+    (λ small. c.left_with-state.ensures.left (subst (λ l. l + (m - q) < 2 ^ 64) (sym same_left) small) ∙ ap (λ l. l + (m - q)) same_left)
     (c.rank_others.ensures.bursts ∙ c.hand_on.ensures.bursts ∙ r.bursts)

@@ -43,8 +43,8 @@ returns-clause-arrived c = λ h code s core lease.
     let z : IsSomeReturning x l.number l.grant l.taken a = (h, code, s, lease.name, back) in
     let act = acts_now x l.number l.grant l.taken a z c.in_ok-acts.acts (c.in_ok-acts.ensures.act back.end (requests_of s.configuration lease.name) lease.name (subst (λ y. Stands y back.end (requests_of s.configuration lease.name)) (sym c.as_ref.ensures) back.stands)) c.if-not-acts.false in
     let few : l.grant ≤ 64 = omega (arith, lease.grant) in
-    let q = c.saturating_add.result in
-    let more : q ≡ suc l.taken = omega (arith, c.saturating_add.ensures, few, one_left x l.number l.grant l.taken a z act.0 act.1) in
+    let q = c.with_communication.result in
+    let more : q ≡ suc l.taken = c.with_communication.ensures.entered (omega (arith, few, one_left x l.number l.grant l.taken a z act.0 act.1)) in
     let acting = come_acting x l.number l.grant l.taken a z act.0 act.1 q more in
     let given = c.in_ok-given.ensures.given h code s lease.name l.grant l.taken act.0 (s.left + (l.grant - q)) back acting.intends in (
       (
