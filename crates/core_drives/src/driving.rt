@@ -28,10 +28,18 @@ pub fn drive<P: UpdatePolicy + Drop>(
         IfOk result (IsDriven program budget (map step_shape steps.now)) }
     ensures by_plan { IfOk result (λ x. AreByPlan P.answer P.asked plan policies x.edges) }
 {
-    let mut driver = Driver {
-        core: Core::new(alloc, program, budget, plan, policies)?,
-        leases: BTreeMap::new(alloc),
-    };
-    driver.take(steps)?;
-    Ok(driver.core)
+    let core = Core::new(alloc, program, budget, plan, policies)?;
+    let leases = BTreeMap::new(alloc);
+    let mut driver = Driver { core, leases };
+    match driver.take(steps) {
+        Ok(()) => {
+            let Driver { core, leases } = driver;
+            drop(leases);
+            Ok(core)
+        }
+        Err(error) => {
+            drop(driver);
+            Err(error)
+        }
+    }
 }
