@@ -119,10 +119,8 @@ fn a_policy_is_asked_once_an_edge(rt: HostRuntime) -> Result<(), Fail> {
     let acts = rounds(alloc, 16, 5)?;
     let plan = Plan::of(alloc, Strategy::Message);
     let shown = at_the_end(&rt, alloc, &start(COPIES), plan, policies, &acts)?;
-    assert_eq!(rt;
-        shown.core.as_str(),
-        "0#1 0.1>0 done\n0#2 0.2>0 done\n0#1 0>0.2 done\n0#3 0.2>0 done\n"
-    );
+    let edges = "end\n0#1 0.1>0 done\n0#2 0.2>0 done\n0#1 0>0.2 done\n0#3 0.2>0 done\n";
+    assert!(rt; shown.core.ends_with(edges), "{}", shown.core);
     assert_eq!(rt; tally.asked.load(Ordering::SeqCst), 4);
     Ok(())
 }

@@ -18,10 +18,6 @@ struct Row {
     want: &'static str,
 }
 
-const fn start(text: &'static str, budget: u64) -> Start {
-    Start { text, budget }
-}
-
 fn lead(rt: &impl Abort, alloc: Global, row: &Row) -> Result<(), Fail> {
     let mut all = works(alloc, row.numbers)?;
     for act in row.acts {
@@ -32,7 +28,10 @@ fn lead(rt: &impl Abort, alloc: Global, row: &Row) -> Result<(), Fail> {
 }
 
 static LENT_TWICE: Row = Row {
-    start: start(COUNTER, 100),
+    start: Start {
+        text: COUNTER,
+        budget: 100,
+    },
     numbers: &[],
     acts: &[Lend(0), Lend(0), Local(0), Commit(0)],
     want: "L0, C0:2\n2 activities, next 0, goes on\n",
@@ -44,7 +43,10 @@ fn who_is_out_is_not_lent_again(rt: HostRuntime) -> Result<(), Fail> {
 }
 
 static OTHER_STEPS: Row = Row {
-    start: start(COUNTER, 100),
+    start: Start {
+        text: COUNTER,
+        budget: 100,
+    },
     numbers: &[],
     acts: &[
         Commit(0),
@@ -63,7 +65,10 @@ fn other_steps_change_nothing(rt: HostRuntime) -> Result<(), Fail> {
 }
 
 static NOTHING_RUN: Row = Row {
-    start: start(COUNTER, 100),
+    start: Start {
+        text: COUNTER,
+        budget: 100,
+    },
     numbers: &[],
     acts: &[Lend(0), Commit(0), Commit(0)],
     want: "L0, C0:0\n1 activities, next 0, goes on\n",
@@ -75,7 +80,10 @@ fn a_lease_that_did_not_run_comes_back_with_nothing(rt: HostRuntime) -> Result<(
 }
 
 static NEED: Row = Row {
-    start: start(COUNTER, 100),
+    start: Start {
+        text: COUNTER,
+        budget: 100,
+    },
     numbers: &[0, 0, 1, 1, 1],
     acts: &[
         Lend(0),
@@ -101,7 +109,10 @@ fn a_need_is_filled_at_its_place(rt: HostRuntime) -> Result<(), Fail> {
 }
 
 static NEEDS: Row = Row {
-    start: start(COUNTER, 100),
+    start: Start {
+        text: COUNTER,
+        budget: 100,
+    },
     numbers: &[0, 0, 1, 1, 0, 1],
     acts: &[],
     want: "L0, C0:2, L0, C0:3, L1, C1:2, L1, C1:4, L1, C1:3\n\
@@ -115,7 +126,10 @@ fn who_needs_a_value_does_not_go_on(rt: HostRuntime) -> Result<(), Fail> {
 }
 
 static LATER_READ: Row = Row {
-    start: start(LATER, 100),
+    start: Start {
+        text: LATER,
+        budget: 100,
+    },
     numbers: &[0, 0, 0, 0],
     acts: &[],
     want: "L0, C0:2, L0, C0:2, L0, C0:4\n\
@@ -129,7 +143,10 @@ fn a_lease_ends_at_a_future(rt: HostRuntime) -> Result<(), Fail> {
 }
 
 static VALUE: Row = Row {
-    start: start(HELD, 1000),
+    start: Start {
+        text: HELD,
+        budget: 1000,
+    },
     numbers: &[0, 0, 1],
     acts: &[
         // it has no value yet
@@ -161,7 +178,10 @@ fn a_value_goes_to_who_is_in_as_often_as_it_is_delivered(rt: HostRuntime) -> Res
 }
 
 static OWN_VALUE: Row = Row {
-    start: start(CIRCLE, 1000),
+    start: Start {
+        text: CIRCLE,
+        budget: 1000,
+    },
     numbers: &[0, 0, 0, 0, 1, 1, 1, 1, 1],
     acts: &[
         Edge(0, 1, 1, 0),
@@ -183,7 +203,10 @@ fn a_future_that_is_its_own_value_is_delivered(rt: HostRuntime) -> Result<(), Fa
 }
 
 static SENDS_AND_FAULTS: Row = Row {
-    start: start(FAULTS, 1000),
+    start: Start {
+        text: FAULTS,
+        budget: 1000,
+    },
     numbers: &[0, 1, 2, 0, 1, 2, 0, 1, 2, 0, 1, 2, 0, 1, 2],
     acts: &[],
     want: "L0, C0:2, L1, C1:1, L0, C0:3, L2, C2:1, L0, C0:2, L1, C1:1, L0, C0:3, L1, C1:1, L2, C2:1, \
@@ -199,7 +222,10 @@ fn a_lease_ends_at_a_send_and_at_a_fault(rt: HostRuntime) -> Result<(), Fail> {
 }
 
 static INSIDE: Row = Row {
-    start: start(ENDLESS, 100),
+    start: Start {
+        text: ENDLESS,
+        budget: 100,
+    },
     numbers: &[0, 0, 0],
     acts: &[],
     want: "L0, C0:64, L0, C0:36\n1 activities, nobody next, budget\n",
@@ -211,14 +237,20 @@ fn a_budget_ends_inside_a_lease(rt: HostRuntime) -> Result<(), Fail> {
 }
 
 static BETWEEN: Row = Row {
-    start: start(ENDLESS, 64),
+    start: Start {
+        text: ENDLESS,
+        budget: 64,
+    },
     numbers: &[0, 0],
     acts: &[],
     want: "L0, C0:64\n1 activities, nobody next, budget\n",
 };
 
 static AT_THE_END: Row = Row {
-    start: start(ONE, 1),
+    start: Start {
+        text: ONE,
+        budget: 1,
+    },
     numbers: &[0, 0],
     acts: &[],
     want: "L0, C0:1\n1 activities, nobody next, end\n",
