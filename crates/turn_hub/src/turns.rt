@@ -25,8 +25,9 @@ const TAKEN: u64 = 1;
 /// The word while somebody has the turn and others may sleep for it.
 const AWAITED: u64 = 2;
 
-/// How often a seat looks at the word before it sleeps: some microseconds.
-const LOOKS: u32 = 100;
+/// How often a seat looks at the word before it sleeps: 50 to 200 microseconds, by the processor.
+/// That is many turns, and a sleep and its wake cost more than most of them.
+const LOOKS: u32 = 4_000;
 
 /// Waits until the turn is got.
 pub(crate) fn get_turn<H: Lends, R: Wait>(rt: &R, top: &Top<H>, place: &mut Place<H>)
