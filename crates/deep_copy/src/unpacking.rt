@@ -1,13 +1,13 @@
 //! A parcel's cells in a store.
 
-ghost use Rattle.std.specs.Prelude.{◌≡◌, ◌<◌, IfOk, OnErr, OnOk, length, map};
+ghost use Rattle.std.specs.Prelude.{◌≡◌, ◌<◌, ◌^◌, ◌++◌, ◌∷◌, [], IfOk, OnErr, OnOk, length, map};
 ghost use Rattle.std.specs.Arc.{arc_value};
 ghost use Rattle.asp_model.specs.Parcel.{
   unpack as unpacked_in,
   unpack_at as unpacked_at,
   unpacked_roots,
 };
-ghost use Rattle.coded_cells.specs.Cells.{all_coded, moved_coded};
+ghost use Rattle.coded_cells.specs.Cells.{all_coded, coded, moved_coded, with_cell_at, with_coded_at};
 ghost use Rattle.coded_cells.specs.Shapes.{parcel_shape, store_of};
 ghost use Rattle.deep_copy.specs.Copied.{IsClosedWith, KeepsFit};
 ghost use Rattle.deep_copy.specs.Moves.{move_of};
@@ -35,8 +35,7 @@ pub fn unpack(alloc: Global, store: &mut Store, parcel: &Parcel) -> Result<Vec<P
     code_is_sound(&parcel.code);
     let moves = Moves::Up(store.len());
     let roots = moved_places(alloc, &moves, &parcel.roots)?;
-    let cells = moved_cells(alloc, &moves, &parcel.cells)?;
-    store.graft(None, cells)?;
+    append_moved(alloc, store, &moves, &parcel.cells)?;
     Ok(roots)
 }
 
@@ -62,8 +61,89 @@ pub fn unpack_at(
         root: loc,
         size: store.len(),
     };
-    let cells = moved_cells(alloc, &moves, &parcel.cells)?;
+    graft_moved(alloc, store, loc, &moves, &parcel.cells)?;
+    Ok(())
+}
+
+// Puts the first of the cells at a place and appends the others, each with its places moved.
+fn graft_moved(
+    alloc: Global,
+    store: &mut Store,
+    loc: Place,
+    moves: &Moves,
+    cells: &[Cell],
+) -> Result<(), AllocError>
+    requires within { loc < length store.old.cells }
+    requires some { 0 < length cells.now }
+    ensures cells { let copied = map (moved_coded (move_of moves.now)) (all_coded cells.now) in
+        OnOk result (store.new.cells ≡ with_coded_at store.old.cells loc copied) }
+    ensures fits { OnOk result (length store.new.cells < 2 ^ 64) }
+    ensures err { OnErr result (store.new.cells ≡ store.old.cells) }
+{
+    if let [root] = cells {
+        return put_one(alloc, store, loc, moves, root);
+    }
+    let cells = moved_cells(alloc, moves, cells)?;
     store.graft(Some(loc), cells)?;
+    Ok(())
+}
+
+fn put_one(
+    alloc: Global,
+    store: &mut Store,
+    loc: Place,
+    moves: &Moves,
+    cell: &Cell,
+) -> Result<(), AllocError>
+    requires within { loc < length store.old.cells }
+    ensures cell { let copy = moved_coded (move_of moves.now) (coded cell.now) in
+        OnOk result (store.new.cells ≡ with_cell_at store.old.cells loc copy) }
+    ensures fits { OnOk result (length store.new.cells < 2 ^ 64) }
+    ensures err { OnErr result (store.new.cells ≡ store.old.cells) }
+{
+    let copy = moved_cell(alloc, moves, cell)?;
+    store.replace(loc, copy)?;
+    // Read for `fits`: the number of cells is a place.
+    let _after = store.len();
+    Ok(())
+}
+
+// Appends the cells with their places moved, all or none.
+fn append_moved(
+    alloc: Global,
+    store: &mut Store,
+    moves: &Moves,
+    cells: &[Cell],
+) -> Result<(), AllocError>
+    ensures cells { let copied = map (moved_coded (move_of moves.now)) (all_coded cells.now) in
+        OnOk result (store.new.cells ≡ store.old.cells ++ copied) }
+    ensures fits { OnOk result (length store.new.cells < 2 ^ 64) }
+    ensures err { OnErr result (store.new.cells ≡ store.old.cells) }
+{
+    let before = store.len();
+    for cell in cells {
+        if append_one(alloc, store, moves, cell).is_err() {
+            store.shorten_to(before);
+            return Err(AllocError);
+        }
+    }
+    // Read for `fits`: the number of cells is a place.
+    let _after = store.len();
+    Ok(())
+}
+
+fn append_one(
+    alloc: Global,
+    store: &mut Store,
+    moves: &Moves,
+    cell: &Cell,
+) -> Result<(), AllocError>
+    ensures cell { let copy = moved_coded (move_of moves.now) (coded cell.now) in
+        OnOk result (store.new.cells ≡ store.old.cells ++ copy ∷ []) }
+    ensures err { OnErr result (store.new.cells ≡ store.old.cells) }
+{
+    let copy = moved_cell(alloc, moves, cell)?;
+    store.add(copy)?;
     Ok(())
 }
 

@@ -194,8 +194,8 @@ impl Store {
         self.index.release(&last, self.cells.len());
     }
 
-    // Takes cells out at the end, down to so many.
-    fn shorten_to(&mut self, count: usize)
+    /// Takes cells out at the end, down to so many.
+    pub fn shorten_to(&mut self, count: usize)
         requires { count ≤ length self.old.cells }
         ensures { self.new.cells ≡ take count self.old.cells }
     {

@@ -1,4 +1,4 @@
-use Rattle.std.proofs.Common.{◌∙◌, List, map, ap}
+use Rattle.std.proofs.Common.{◌∙◌, ◌++◌, ℕ, List, map, refl, ap}
 use Rattle.std.specs.Arc.{arc_value}
 use Rattle.coded_cells.specs.declared.cells.Cell.{Cell}
 use Rattle.coded_cells.specs.Cells.{all_coded, moved_coded}
@@ -9,24 +9,28 @@ use Rattle.deep_copy.proofs.unpacking.unpack.Goals as goal
 pub returns-clause-cells : goal.returns-clause-cells
 returns-clause-cells c =
     let p = c.args.parcel.now in
-    let copied = c.in_ok-cells.ensures ∙ ap (λ (cs : List Cell). map (moved_coded (λ n. raised n c.len.result)) (all_coded cs)) c.deref-2.ensures.value in
-    unpacked_coded (arc_value p.code) c.code_is_sound.ensures.sound c.args.store.now.cells c.graft.new.self.cells (all_coded p.cells.items) (all_coded c.in_ok-cells.cells.items) p.roots.items c.len.result c.len.ensures c.in_ok-graft.ensures.cells copied c.in_ok-graft.ensures.fits c.requires.closed
+    let f : ℕ → ℕ = λ n. raised n c.len.result in
+    let cells = c.in_ok-append_moved.ensures.cells ∙ ap (λ (cs : List Cell). c.args.store.now.cells ++ map (moved_coded f) (all_coded cs)) c.deref-2.ensures.value in
+    unpacked_coded (arc_value p.code) c.code_is_sound.ensures.sound c.args.store.now.cells c.append_moved.new.store.cells (all_coded p.cells.items) (map (moved_coded f) (all_coded p.cells.items)) p.roots.items c.len.result c.len.ensures cells refl c.in_ok-append_moved.ensures.fits c.requires.closed
 
 pub returns-clause-roots : goal.returns-clause-roots
 returns-clause-roots c =
     let p = c.args.parcel.now in
-    let copied = c.in_ok-cells.ensures ∙ ap (λ (cs : List Cell). map (moved_coded (λ n. raised n c.len.result)) (all_coded cs)) c.deref-2.ensures.value in
-    c.in_ok-roots.ensures ∙ ap (map (λ n. raised n c.len.result)) c.deref.ensures.value
-    ∙ roots_coded (arc_value p.code) c.code_is_sound.ensures.sound c.args.store.now.cells c.graft.new.self.cells (all_coded p.cells.items) (all_coded c.in_ok-cells.cells.items) p.roots.items c.len.result c.len.ensures c.in_ok-graft.ensures.cells copied c.in_ok-graft.ensures.fits c.requires.closed
+    let f : ℕ → ℕ = λ n. raised n c.len.result in
+    let cells = c.in_ok-append_moved.ensures.cells ∙ ap (λ (cs : List Cell). c.args.store.now.cells ++ map (moved_coded f) (all_coded cs)) c.deref-2.ensures.value in
+    c.in_ok-roots.ensures ∙ ap (map f) c.deref.ensures.value
+    ∙ roots_coded (arc_value p.code) c.code_is_sound.ensures.sound c.args.store.now.cells c.append_moved.new.store.cells (all_coded p.cells.items) (map (moved_coded f) (all_coded p.cells.items)) p.roots.items c.len.result c.len.ensures cells refl c.in_ok-append_moved.ensures.fits c.requires.closed
 
 pub returns-clause-closed : goal.returns-clause-closed
 returns-clause-closed c =
     let p = c.args.parcel.now in
-    let copied = c.in_ok-cells.ensures ∙ ap (λ (cs : List Cell). map (moved_coded (λ n. raised n c.len.result)) (all_coded cs)) c.deref-2.ensures.value in
-    closed_coded (arc_value p.code) c.code_is_sound.ensures.sound c.args.store.now.cells c.graft.new.self.cells (all_coded p.cells.items) (all_coded c.in_ok-cells.cells.items) p.roots.items c.len.result c.len.ensures c.in_ok-graft.ensures.cells copied c.in_ok-graft.ensures.fits c.requires.closed
+    let f : ℕ → ℕ = λ n. raised n c.len.result in
+    let cells = c.in_ok-append_moved.ensures.cells ∙ ap (λ (cs : List Cell). c.args.store.now.cells ++ map (moved_coded f) (all_coded cs)) c.deref-2.ensures.value in
+    closed_coded (arc_value p.code) c.code_is_sound.ensures.sound c.args.store.now.cells c.append_moved.new.store.cells (all_coded p.cells.items) (map (moved_coded f) (all_coded p.cells.items)) p.roots.items c.len.result c.len.ensures cells refl c.in_ok-append_moved.ensures.fits c.requires.closed
 
 pub returns-clause-fits : goal.returns-clause-fits
 returns-clause-fits c =
     let p = c.args.parcel.now in
-    let copied = c.in_ok-cells.ensures ∙ ap (λ (cs : List Cell). map (moved_coded (λ n. raised n c.len.result)) (all_coded cs)) c.deref-2.ensures.value in
-    fit_coded (arc_value p.code) c.code_is_sound.ensures.sound c.args.store.now.cells c.graft.new.self.cells (all_coded p.cells.items) (all_coded c.in_ok-cells.cells.items) p.roots.items c.len.result c.len.ensures c.in_ok-graft.ensures.cells copied c.in_ok-graft.ensures.fits c.requires.closed
+    let f : ℕ → ℕ = λ n. raised n c.len.result in
+    let cells = c.in_ok-append_moved.ensures.cells ∙ ap (λ (cs : List Cell). c.args.store.now.cells ++ map (moved_coded f) (all_coded cs)) c.deref-2.ensures.value in
+    fit_coded (arc_value p.code) c.code_is_sound.ensures.sound c.args.store.now.cells c.append_moved.new.store.cells (all_coded p.cells.items) (map (moved_coded f) (all_coded p.cells.items)) p.roots.items c.len.result c.len.ensures cells refl c.in_ok-append_moved.ensures.fits c.requires.closed
