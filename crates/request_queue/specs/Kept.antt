@@ -1,4 +1,4 @@
--- What every queue keeps.
+-- What every crowd of pending requests keeps.
 use Rattle.std.specs.Prelude.{◌≡◌, ℕ, ◌<◌, Bool, false, List, Option, Some, None, map}
 use Rattle.std.specs.List.{AllByRecursion}
 use Rattle.std.specs.List.Sorted.{IsStrictlySortedBy}
@@ -9,7 +9,7 @@ use Rattle.std.specs.declared.boxed.Box.{Box}
 use Rattle.asp_model.specs.declared.word.Label.{Label}
 use Rattle.request_queue.specs.declared.request.Request.{Request}
 use Rattle.asp_model.specs.Names.{same_text}
-use Rattle.request_queue.specs.declared.queue.Queue.TheInside.{Inside}
+use Rattle.request_queue.specs.declared.crowd.Crowd.TheInside.{Inside}
 use Rattle.request_queue.specs.Pending.{QueueView, request_at}
 use Rattle.request_queue.specs.Notes.{is_noted}
 

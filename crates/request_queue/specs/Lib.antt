@@ -2,3 +2,4 @@ pub mod Requests
 pub mod Pending
 pub mod Notes
 pub mod Kept
+pub mod Led

@@ -202,11 +202,23 @@ impl Notes {
     }
 }
 
-// Whether a class has a method with this label.
-fn has_method(class: &Class, label: &Label) -> bool
+/// Whether a class has a method with this label.
+pub fn has_method(class: &Class, label: &Label) -> bool
     ensures member { result ≡ has_text label.now.text (class_labels class.now) }
 {
     class.method(label).is_some()
+}
+
+/// Whether a label is one of these.
+pub fn is_one_of(label: &Label, labels: &[Label]) -> bool
+    ensures member { result ≡ has_text label.now.text (map label_text labels.now) }
+{
+    for other in labels {
+        if label.text == other.text {
+            return true;
+        }
+    }
+    false
 }
 
 // Takes out the numbers of a label. A map that is empty keeps no memory.

@@ -6,42 +6,36 @@ ghost use Rattle.std.specs.Prelude.{
   ◌++◌,
   ◌∷◌,
   [],
-  ℕ,
   IsSome,
-  None,
   OnErr,
   OnOk,
   Some,
-  cond,
   length,
   map,
 };
-ghost use Rattle.std.specs.BTreeMap.{is_at};
-ghost use Rattle.std.specs.List.Sorted.{IsStrictlySortedBy};
-ghost use Rattle.std.specs.Map.{keys_of, lookup, remove_entry};
 ghost use Rattle.std.specs.Option.{option_map};
-ghost use Rattle.std.specs.Ordering.{nat_cmp};
 ghost use Rattle.serve_rules.specs.Labels.{class_labels, label_text};
 ghost use Rattle.request_queue.specs.Pending.{but, oldest, request_at, waiting};
 
-use crate::notes::Notes;
+use crate::crowd::Crowd;
+use crate::notes::{has_method, is_one_of};
 use crate::request::Request;
 use asp_model::Label;
 use program_code::Class;
 use serve_rules::LabelSet;
 use std::alloc::{AllocError, Global};
-use std::collections::BTreeMap;
 use std::marker::Model;
 
-/// The pending requests of one activity with their numbers in order of arrival, oldest first, and how
-/// many requests have arrived.
+/// The pending requests of one activity with their numbers in order of arrival, oldest first, and
+/// how many requests have arrived.
 #[derive(Drop)]
 pub struct Queue {
     alloc: Global,
-    arrived: u64,
-    /// In boxes, so that a node of the map is small.
-    pending: BTreeMap<u64, Box<Request>>,
-    notes: Notes,
+    /// The number of the first.
+    number: u64,
+    /// A request that came when none was pending. It is older than the others.
+    first: Option<Box<Request>>,
+    others: Crowd,
 }
 
 impl Model for Queue {
@@ -49,11 +43,9 @@ impl Model for Queue {
 
     ghost Value = { QueueView };
 
-    ghost use Rattle.request_queue.specs.Kept.{IsKept, view_of};
+    ghost use Rattle.request_queue.specs.Led.{led_view};
 
-    ghost view = { view_of };
-
-    ghost invariant = { IsKept };
+    ghost view = { led_view };
 }
 
 impl Queue {
@@ -64,9 +56,9 @@ impl Queue {
     {
         Queue {
             alloc,
-            arrived: 0,
-            pending: BTreeMap::new(alloc),
-            notes: Notes::new(alloc),
+            number: 0,
+            first: None,
+            others: Crowd::new(alloc),
         }
     }
 
@@ -74,7 +66,10 @@ impl Queue {
     pub fn len(&self) -> usize
         ensures len { result ≡ length self.now.pending }
     {
-        self.pending.len()
+        match &self.first {
+            Some(_) => self.others.len() + 1,
+            None => self.others.len(),
+        }
     }
 
     /// Appends a request under the next number.
@@ -84,20 +79,13 @@ impl Queue {
         ensures arrived { OnOk result (self.new.arrived ≡ self.old.arrived + 1) }
         ensures err { OnErr result (self.new ≡ self.old) }
     {
-        if self.arrived == u64::MAX {
-            return Err(AllocError);
-        }
         let request = Box::new(self.alloc, request)?;
-        self.notes.note(&request.label, self.arrived)?;
-        match self.pending.insert(self.arrived, request) {
-            Ok(_) => {
-                self.arrived += 1;
-                Ok(())
-            }
-            Err(failed) => {
-                self.notes.forget(&failed.value.1.label, self.arrived);
-                Err(AllocError)
-            }
+        if self.first.is_none() && self.others.len() == 0 {
+            self.number = self.others.count()?;
+            self.first = Some(request);
+            Ok(())
+        } else {
+            self.others.push(request)
         }
     }
 
@@ -106,7 +94,12 @@ impl Queue {
         ensures oldest { let found = oldest labels.now (waiting self.now) in
             result ≡ option_map (λ x. x.0) found }
     {
-        self.notes.oldest(labels)
+        if let Some(first) = &self.first {
+            if labels.has(&first.label) {
+                return Some(self.number);
+            }
+        }
+        self.others.first_of(labels)
     }
 
     /// The number of the oldest request with one of these labels. No set of them is made.
@@ -114,7 +107,12 @@ impl Queue {
         ensures oldest { let found = oldest (map label_text labels.now) (waiting self.now) in
             result ≡ option_map (λ x. x.0) found }
     {
-        self.notes.oldest_of(labels)
+        if let Some(first) = &self.first {
+            if is_one_of(&first.label, labels) {
+                return Some(self.number);
+            }
+        }
+        self.others.first_labelled(labels)
     }
 
     /// The number of the oldest request for a method of a class.
@@ -122,7 +120,12 @@ impl Queue {
         ensures oldest { let found = oldest (class_labels class.now) (waiting self.now) in
             result ≡ option_map (λ x. x.0) found }
     {
-        self.notes.oldest_method(class)
+        if let Some(first) = &self.first {
+            if has_method(class, &first.label) {
+                return Some(self.number);
+            }
+        }
+        self.others.first_method(class)
     }
 
     /// Removes the request of a number, and returns it.
@@ -132,24 +135,13 @@ impl Queue {
         ensures others { self.new.pending ≡ but number self.old.pending }
         ensures arrived { self.new.arrived ≡ self.old.arrived }
     {
-        let request = take_out(&mut self.pending, number).unwrap();
-        self.notes.forget(&request.label, number);
-        Box::into_inner(request)
+        if number == self.number {
+            match self.first.take() {
+                Some(request) => Box::into_inner(request),
+                None => self.others.take(number),
+            }
+        } else {
+            self.others.take(number)
+        }
     }
-}
-
-// Takes out the request of a number. A map that is empty keeps no memory.
-fn take_out(pending: &mut BTreeMap<u64, Box<Request>>, number: u64) -> Option<Box<Request>>
-    ensures value { result ≡ lookup (is_at (nat_cmp number)) pending.old.entries }
-    ensures updates { (k : ℕ) → lookup (is_at (nat_cmp k)) pending.new.entries
-        ≡ cond (is_at (nat_cmp number) k) None (lookup (is_at (nat_cmp k)) pending.old.entries) }
-    ensures entries { let old = pending.old.entries in
-        pending.new.entries ≡ remove_entry (is_at (nat_cmp number)) old }
-    ensures ordered { IsStrictlySortedBy nat_cmp (keys_of pending.new.entries) }
-{
-    let request = pending.remove(&number);
-    if pending.is_empty() {
-        pending.clear();
-    }
-    request
 }

@@ -4,7 +4,7 @@ use Rattle.serve_rules.specs.Labels.{label_text}
 use Rattle.request_queue.specs.Pending.{QueueView, oldest, waiting}
 use Rattle.request_queue.specs.Kept.{unboxed}
 use Rattle.request_queue.proofs.QueueLemmas.{oldest_is}
-use Rattle.request_queue.proofs.queue.Queue.first_labelled.Goals as goal
+use Rattle.request_queue.proofs.crowd.Crowd.first_labelled.Goals as goal
 
 pub returns : goal.returns
 returns c = record {

@@ -11,7 +11,7 @@ use Rattle.request_queue.specs.Notes.{is_noted, is_that}
 use Rattle.request_queue.specs.Pending.{QueueView, but, request_at}
 use Rattle.request_queue.proofs.BoxLemmas.{found_unboxed, keys_unboxed, removed_unboxed, some_within, updated_unboxed}
 use Rattle.request_queue.proofs.QueueLemmas.{AreBelow, below_less, notes_less}
-use Rattle.request_queue.proofs.queue.Queue.take.Goals as goal
+use Rattle.request_queue.proofs.crowd.Crowd.take.Goals as goal
 
 pub invariant_of-self : goal.invariant_of-self
 invariant_of-self c =

@@ -3,7 +3,7 @@ use Rattle.std.specs.Option.{option_map}
 use Rattle.request_queue.specs.Pending.{QueueView, oldest, waiting}
 use Rattle.request_queue.specs.Kept.{unboxed}
 use Rattle.request_queue.proofs.QueueLemmas.{oldest_is}
-use Rattle.request_queue.proofs.queue.Queue.first_of.Goals as goal
+use Rattle.request_queue.proofs.crowd.Crowd.first_of.Goals as goal
 
 pub returns : goal.returns
 returns c = record {

@@ -1,0 +1,177 @@
+//! Pending requests in maps. A served request leaves them, and the others keep their order and
+//! their numbers.
+
+ghost use Rattle.std.specs.Prelude.{
+  ◌≡◌,
+  ◌<◌,
+  ◌+◌,
+  ◌++◌,
+  ◌^◌,
+  ◌∷◌,
+  [],
+  ℕ,
+  IfOk,
+  IsSome,
+  None,
+  OnErr,
+  OnOk,
+  Some,
+  cond,
+  length,
+  map,
+};
+ghost use Rattle.std.specs.BTreeMap.{is_at};
+ghost use Rattle.std.specs.List.Sorted.{IsStrictlySortedBy};
+ghost use Rattle.std.specs.Map.{keys_of, lookup, remove_entry};
+ghost use Rattle.std.specs.Option.{option_map};
+ghost use Rattle.std.specs.Ordering.{nat_cmp};
+ghost use Rattle.serve_rules.specs.Labels.{class_labels, label_text};
+ghost use Rattle.request_queue.specs.Pending.{but, oldest, request_at, waiting};
+
+use crate::notes::Notes;
+use crate::request::Request;
+use asp_model::Label;
+use program_code::Class;
+use serve_rules::LabelSet;
+use std::alloc::{AllocError, Global};
+use std::collections::BTreeMap;
+use std::marker::Model;
+
+/// Pending requests with their numbers in order of arrival, oldest first, and how many requests
+/// have arrived, here or elsewhere.
+#[derive(Drop)]
+pub struct Crowd {
+    arrived: u64,
+    /// In boxes, so that a node of the map is small.
+    pending: BTreeMap<u64, Box<Request>>,
+    notes: Notes,
+}
+
+impl Model for Crowd {
+    ghost use Rattle.request_queue.specs.Pending.{QueueView};
+
+    ghost Value = { QueueView };
+
+    ghost use Rattle.request_queue.specs.Kept.{IsKept, view_of};
+
+    ghost view = { view_of };
+
+    ghost invariant = { IsKept };
+}
+
+impl Crowd {
+    /// No request.
+    pub fn new(alloc: Global) -> Crowd
+        ensures pending { result.pending ≡ [] }
+        ensures arrived { result.arrived ≡ 0 }
+    {
+        Crowd {
+            arrived: 0,
+            pending: BTreeMap::new(alloc),
+            notes: Notes::new(alloc),
+        }
+    }
+
+    /// How many requests are pending.
+    pub fn len(&self) -> usize
+        ensures len { result ≡ length self.now.pending }
+        ensures small { result < 2 ^ 63 }
+    {
+        self.pending.len()
+    }
+
+    /// Counts a request that is kept elsewhere, and answers its number.
+    pub fn count(&mut self) -> Result<u64, AllocError>
+        ensures number { IfOk result (λ n. n ≡ self.old.arrived) }
+        ensures pending { self.new.pending ≡ self.old.pending }
+        ensures arrived { OnOk result (self.new.arrived ≡ self.old.arrived + 1) }
+        ensures err { OnErr result (self.new ≡ self.old) }
+    {
+        if self.arrived == u64::MAX {
+            return Err(AllocError);
+        }
+        let number = self.arrived;
+        self.arrived += 1;
+        Ok(number)
+    }
+
+    /// Appends a request under the next number.
+    #[inline(never)]
+    pub fn push(&mut self, request: Box<Request>) -> Result<(), AllocError>
+        ensures pending { let old = self.old in OnOk result
+            (self.new.pending ≡ old.pending ++ (old.arrived, request.value) ∷ []) }
+        ensures arrived { OnOk result (self.new.arrived ≡ self.old.arrived + 1) }
+        ensures err { OnErr result (self.new ≡ self.old) }
+    {
+        if self.arrived == u64::MAX {
+            return Err(AllocError);
+        }
+        self.notes.note(&request.label, self.arrived)?;
+        match self.pending.insert(self.arrived, request) {
+            Ok(_) => {
+                self.arrived += 1;
+                Ok(())
+            }
+            Err(failed) => {
+                self.notes.forget(&failed.value.1.label, self.arrived);
+                Err(AllocError)
+            }
+        }
+    }
+
+    /// The number of the oldest request with one of the labels.
+    #[inline(never)]
+    pub fn first_of(&self, labels: &LabelSet) -> Option<u64>
+        ensures oldest { let found = oldest labels.now (waiting self.now) in
+            result ≡ option_map (λ x. x.0) found }
+    {
+        self.notes.oldest(labels)
+    }
+
+    /// The number of the oldest request with one of these labels. No set of them is made.
+    #[inline(never)]
+    pub fn first_labelled(&self, labels: &[Label]) -> Option<u64>
+        ensures oldest { let found = oldest (map label_text labels.now) (waiting self.now) in
+            result ≡ option_map (λ x. x.0) found }
+    {
+        self.notes.oldest_of(labels)
+    }
+
+    /// The number of the oldest request for a method of a class.
+    #[inline(never)]
+    pub fn first_method(&self, class: &Class) -> Option<u64>
+        ensures oldest { let found = oldest (class_labels class.now) (waiting self.now) in
+            result ≡ option_map (λ x. x.0) found }
+    {
+        self.notes.oldest_method(class)
+    }
+
+    /// Removes the request of a number, and returns it.
+    #[inline(never)]
+    pub fn take(&mut self, number: u64) -> Request
+        requires pending { IsSome (request_at number self.old.pending) }
+        ensures taken { request_at number self.old.pending ≡ Some result }
+        ensures others { self.new.pending ≡ but number self.old.pending }
+        ensures arrived { self.new.arrived ≡ self.old.arrived }
+    {
+        let request = take_out(&mut self.pending, number).unwrap();
+        self.notes.forget(&request.label, number);
+        Box::into_inner(request)
+    }
+}
+
+// Takes out the request of a number. A map that is empty keeps no memory.
+fn take_out(pending: &mut BTreeMap<u64, Box<Request>>, number: u64) -> Option<Box<Request>>
+    ensures value { result ≡ lookup (is_at (nat_cmp number)) pending.old.entries }
+    ensures updates { (k : ℕ) → lookup (is_at (nat_cmp k)) pending.new.entries
+        ≡ cond (is_at (nat_cmp number) k) None (lookup (is_at (nat_cmp k)) pending.old.entries) }
+    ensures entries { let old = pending.old.entries in
+        pending.new.entries ≡ remove_entry (is_at (nat_cmp number)) old }
+    ensures ordered { IsStrictlySortedBy nat_cmp (keys_of pending.new.entries) }
+{
+    let request = pending.remove(&number);
+    if pending.is_empty() {
+        pending.clear();
+    }
+    request
+}
