@@ -1,17 +1,22 @@
 -- The deep copy of a cell that reaches no other.
-use Rattle.std.proofs.Common.{◌≡◌, ◌∙◌, ◌<◌, ◌++◌, ℕ, zero, suc, true, false, List, [], ◌∷◌, length, refl, sym, ap, subst, arith}
+use Rattle.std.proofs.Common.{◌≡◌, ◌∙◌, ◌<◌, ◌++◌, ℕ, zero, suc, true, false, List, [], ◌∷◌, Option, None, Some, length, map, refl, sym, ap, subst, arith}
 use Rattle.std.proofs.lemmas.Bool.{eq-eqb}
 use Rattle.asp_model.specs.Parcel.{ParcelShape, number_in, parcel_of, visit}
 use Rattle.asp_model.specs.Store.{Store, cell, reached}
 use Rattle.program_code.specs.declared.code.Node.{Node}
+use Rattle.program_code.specs.declared.code.Class.{Class}
+use Rattle.program_code.specs.Classes.{class_at}
 use Rattle.program_code.specs.Sound.{IsSound}
 use Rattle.coded_cells.specs.Cells as coded
 use Rattle.coded_cells.specs.Cells.{CodedCell, CodedStore, cell_at, moved_coded}
-use Rattle.coded_cells.specs.Fits.{AllFitCode}
-use Rattle.coded_cells.specs.Shapes.{cell_of, store_of}
+use Rattle.coded_cells.specs.Fits.{AllFitCode, FitsCode}
+use Rattle.coded_cells.specs.Shapes.{cell_of, class_object, store_of}
 use Rattle.coded_cells.proofs.CodedLemmas.{cell-store_of, length-store_of}
+use Rattle.coded_cells.proofs.FitsLemmas.{fit_at, fits_moved}
 use Rattle.deep_copy.specs.Leaves.{IsLeaf, IsLoneLeaf}
+use Rattle.deep_copy.proofs.MeaningLemmas.{IsSoundClass, sound_class}
 use Rattle.deep_copy.proofs.PackLemmas.{packed}
+use Rattle.deep_copy.proofs.ReachedLemmas.{none_reached, object_reached}
 
 visit_none : (n : ℕ) (s : Store) (seen : List ℕ) → visit n s [] seen ≡ seen
 visit_none zero s seen = refl
@@ -26,38 +31,37 @@ own_number p = ap (λ b. elim b [ true ↦ 0 | false ↦ 1 ]) (eq-eqb p p refl)
 
 moves_alike : (f g : ℕ → ℕ) (c : CodedCell) → IsLeaf c → moved_coded f c ≡ moved_coded g c
 moves_alike f g (coded.Number n) h = refl
-moves_alike f g (coded.Object k ns) h = absurd h
+moves_alike f g (coded.Object k ns) h = ap (λ (ms : List ℕ). coded.Object k (map f ms)) h ∙ sym (ap (λ (ms : List ℕ). coded.Object k (map g ms)) h)
 moves_alike f g (coded.Reference n) h = refl
 moves_alike f g (coded.Future n) h = refl
 moves_alike f g (coded.Group ns) h = absurd h
 
 module _ (code : List Node) where
-  reaches_none : (c : CodedCell) → IsLeaf c → reached (cell_of code c) ≡ []
-  reaches_none (coded.Number n) h = refl
-  reaches_none (coded.Object k ns) h = absurd h
-  reaches_none (coded.Reference n) h = refl
-  reaches_none (coded.Future n) h = refl
-  reaches_none (coded.Group ns) h = absurd h
+  bare_reaches_none : (k : Option Class) → IsSoundClass code k → reached (class_object code [] k) ≡ []
+  bare_reaches_none None s = refl
+  bare_reaches_none (Some k) s = sym (object_reached code k [] s) ∙ none_reached k
+
+  reaches_none : IsSound code → (c : CodedCell) → IsLeaf c → reached (cell_of code c) ≡ []
+  reaches_none sound (coded.Number n) h = refl
+  reaches_none sound (coded.Object k ns) h = ap (λ (ms : List ℕ). reached (class_object code ms (class_at code k))) h ∙ bare_reaches_none (class_at code k) (sound_class code k sound)
+  reaches_none sound (coded.Reference n) h = refl
+  reaches_none sound (coded.Future n) h = refl
+  reaches_none sound (coded.Group ns) h = absurd h
 
   pub leaf_packed : IsSound code → (f : ℕ → ℕ) (s : CodedStore) (roots : List ℕ) (c : CodedCell) (cells : CodedStore) (numbers : List ℕ) → IsLoneLeaf s roots c → cells ≡ moved_coded f c ∷ [] → numbers ≡ 0 ∷ []
       → (let p : ParcelShape = record { cells = store_of code cells; roots = numbers } in p ≡ parcel_of (store_of code s) roots)
   leaf_packed sound f s [] c cells numbers h copied numbered = absurd h
   leaf_packed sound f s (p ∷ q ∷ ps) c cells numbers h copied numbered = absurd h
   leaf_packed sound f s (p ∷ []) c cells numbers h copied numbered =
-      let none : reached (cell (store_of code s) p) ≡ [] = ap reached (cell-store_of code s p) ∙ ap (λ d. reached (cell_of code d)) (sym h.1) ∙ reaches_none c h.2 in
+      let none : reached (cell (store_of code s) p) ≡ [] = ap reached (cell-store_of code s p) ∙ ap (λ d. reached (cell_of code d)) (sym h.1) ∙ reaches_none sound c h.2 in
       let within : p < length (store_of code s) = subst (λ n. p < n) (sym (length-store_of code s)) h.0 in
       packed code sound s (p ∷ []) (p ∷ []) numbers cells (lone_visit (store_of code s) p (length (store_of code s)) within none)
       (copied ∙ ap (λ d. d ∷ []) (moves_alike f (number_in (p ∷ [])) c h.2 ∙ ap (moved_coded (number_in (p ∷ []))) h.1))
       (numbered ∙ ap (λ n. n ∷ []) (sym (own_number p)))
 
-  fits_alone : (f : ℕ → ℕ) (c : CodedCell) → IsLeaf c → AllFitCode code (moved_coded f c ∷ [])
-  fits_alone f (coded.Number n) h = (tt, tt)
-  fits_alone f (coded.Object k ns) h = absurd h
-  fits_alone f (coded.Reference n) h = (tt, tt)
-  fits_alone f (coded.Future n) h = (tt, tt)
-  fits_alone f (coded.Group ns) h = absurd h
-
-  pub leaf_fits : (f : ℕ → ℕ) (s : CodedStore) (roots : List ℕ) (c : CodedCell) (cells : CodedStore) → IsLoneLeaf s roots c → cells ≡ moved_coded f c ∷ [] → AllFitCode code cells
-  leaf_fits f s [] c cells h copied = absurd h
-  leaf_fits f s (p ∷ q ∷ ps) c cells h copied = absurd h
-  leaf_fits f s (p ∷ []) c cells h copied = subst (AllFitCode code) (sym copied) (fits_alone f c h.2)
+  pub leaf_fits : (f : ℕ → ℕ) (s : CodedStore) (roots : List ℕ) (c : CodedCell) (cells : CodedStore) → IsLoneLeaf s roots c → cells ≡ moved_coded f c ∷ [] → AllFitCode code s → AllFitCode code cells
+  leaf_fits f s [] c cells h copied fit = absurd h
+  leaf_fits f s (p ∷ q ∷ ps) c cells h copied fit = absurd h
+  leaf_fits f s (p ∷ []) c cells h copied fit =
+      let here : FitsCode code c = subst (FitsCode code) (sym h.1) (fit_at code s p fit) in
+      subst (AllFitCode code) (sym copied) (fits_moved code f c here, tt)

@@ -42,6 +42,31 @@ methods_reached ps (m ∷ ms) ns s =
     let size : ℕ = length m.captured.items in
     λ i. body_reached ps m (take size ns) s.0 i ++ methods_reached ps ms (drop size ns) s.1 i
 
+-- Where no places are held
+
+none_taken : (n : ℕ) (ns : List ℕ) → ns ≡ [] → take n ns ≡ []
+none_taken zero ns e = refl
+none_taken (suc n) ns e = ap (take (suc n)) e
+
+none_left : (n : ℕ) → drop n (let ns : List ℕ = [] in ns) ≡ []
+none_left zero = refl
+none_left (suc n) = refl
+
+none_used : (slots : List ℕ) → used_places [] slots ≡ []
+none_used [] = refl
+none_used (k ∷ ks) = none_used ks
+
+none_captured : (ms : List MethodCode) → captured_places ms [] ≡ []
+none_captured [] = refl
+none_captured (m ∷ ms) =
+    let size : ℕ = length m.captured.items in
+    λ i. (ap (λ (ns : List ℕ). used_places ns m.uses.items) (none_taken size [] refl) ∙ none_used m.uses.items) i ++ (ap (captured_places ms) (none_left size) ∙ none_captured ms) i
+
+pub none_reached : (k : Class) → class_places k [] ≡ []
+none_reached k =
+    let size : ℕ = length k.fields.items in
+    λ i. none_taken size [] refl i ++ (ap (captured_places k.methods.items) (none_left size) ∙ none_captured k.methods.items) i
+
 pub object_reached : (code : List Node) (k : Class) (ns : List ℕ) → MethodsSound (pieces code) k.methods.items → class_places k ns ≡ reached (object_of (pieces code) k ns)
 object_reached code k ns s =
     let size : ℕ = length k.fields.items in

@@ -1,10 +1,10 @@
--- Cells that reach no other.
+-- Cells that reach no other: also objects that hold no places.
 use Rattle.std.specs.Prelude.{◌≡◌, ◌<◌, ℕ, List, [], ◌∷◌, length}
 use Rattle.coded_cells.specs.Cells as coded
 use Rattle.coded_cells.specs.Cells.{CodedCell, CodedStore, cell_at}
 
 abbrev pub IsLeaf : CodedCell → Type 0
-IsLeaf (coded.Object k ns) = ⊥
+IsLeaf (coded.Object k ns) = ns ≡ []
 IsLeaf (coded.Group ns) = ⊥
 IsLeaf c = Unit {0}
 

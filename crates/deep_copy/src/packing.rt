@@ -15,7 +15,7 @@ ghost use Rattle.laws.specs.Closed.{AreBelow, IsClosedParcel, IsClosedStore};
 use crate::copied::{code_is_sound, moved_cell, moved_places};
 use crate::moves::Moves;
 use crate::visiting::visit_order;
-use coded_cells::{Cell, Parcel, Place};
+use coded_cells::{Cell, Object, Parcel, Place};
 use object_store::Store;
 use program_code::Code;
 use std::alloc::{AllocError, Global};
@@ -90,8 +90,20 @@ fn leaf(cell: &Cell) -> Option<&Cell>
         Cell::Number(_) => Some(cell),
         Cell::Reference(_) => Some(cell),
         Cell::Future(_) => Some(cell),
-        Cell::Object(_) => None,
+        Cell::Object(object) => bare_object(cell, object),
         Cell::Group(_) => None,
+    }
+}
+
+// An object that holds no places reaches nothing.
+fn bare_object<'a>(cell: &'a Cell, object: &Object) -> Option<&'a Cell>
+    ensures same { IfSome result (λ c. coded c.now ≡ coded cell.now) }
+    ensures bare { IfSome result (λ c. object.now.places.items ≡ []) }
+{
+    if object.places.is_empty() {
+        Some(cell)
+    } else {
+        None
     }
 }
 

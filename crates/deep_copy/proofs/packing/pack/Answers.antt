@@ -29,4 +29,4 @@ pub returns-in_ok-parcel-in-Some-clause-closed : goal.returns-in_ok-parcel-in-So
 returns-in_ok-parcel-in-Some-clause-closed c = subst IsClosedParcel (sym (returns-in_ok-parcel-in-Some-clause-parcel c)) (parcel_closed (arc_value c.args.code.now) c.args.store.now.cells c.args.roots.now c.requires.closed c.requires.within)
 
 pub returns-in_ok-parcel-in-Some-clause-fits : goal.returns-in_ok-parcel-in-Some-clause-fits
-returns-in_ok-parcel-in-Some-clause-fits c = λ h. leaf_fits (arc_value c.args.code.now) stays c.args.store.now.cells c.args.roots.now (coded c.in-Some.cell.now) (all_coded c.in_ok-parcel-in-Some.parcel.cells.items) c.in-Some.ensures.leaf c.in_ok-parcel-in-Some.ensures.cells
+returns-in_ok-parcel-in-Some-clause-fits c = λ h. leaf_fits (arc_value c.args.code.now) stays c.args.store.now.cells c.args.roots.now (coded c.in-Some.cell.now) (all_coded c.in_ok-parcel-in-Some.parcel.cells.items) c.in-Some.ensures.leaf c.in_ok-parcel-in-Some.ensures.cells h
