@@ -125,7 +125,7 @@ impl Lane {
         if self.closed {
             return None;
         }
-        self.marks.next(0)
+        self.marks.first()
     }
 
     // Marks the place of an ordinal among the fronts, or takes its mark away.

@@ -148,6 +148,6 @@ impl Lanes {
         requires lanes { AreLanes self.now }
         ensures first { IsFirstFrom (is_open self.now) 0 result }
     {
-        self.fronts.next(0)
+        self.fronts.first()
     }
 }

@@ -74,6 +74,21 @@ impl Marks {
         Ok(())
     }
 
+    /// Makes room up to a place, which doubles the room so often.
+    pub fn reach(&mut self, place: usize) -> Result<(), AllocError>
+        requires tree { IsTree self.old }
+        ensures tree { IsTree self.new }
+        ensures same { SameMarks self.old self.new }
+        ensures room { OnOk result (place < room self.new) }
+    {
+        let mut room = self.nodes.len() / 2;
+        while room <= place {
+            self.make_room(room)?;
+            room = self.nodes.len() / 2;
+        }
+        Ok(())
+    }
+
     // No place is marked, and the room is twice as large.
     fn larger(&self) -> Result<Marks, AllocError>
         requires tree { IsTree self.now }
@@ -122,7 +137,17 @@ impl Marks {
         }
     }
 
-    /// Marks a place, or takes its mark away.
+    /// Whether a place is marked, which none beyond the room is.
+    pub fn is_set(&self, place: usize) -> bool
+        requires tree { IsTree self.now }
+        ensures marked { result ≡ is_marked self.now place }
+    {
+        let room = self.nodes.len() / 2;
+        place < room && self.nodes[room + place]
+    }
+
+    /// Marks a place, or takes its mark away. It goes up no further than to a node that already says
+    /// what it should.
     pub fn set(&mut self, place: usize, mark: bool)
         requires tree { IsTree self.old }
         requires within { place < room self.old }
@@ -131,10 +156,17 @@ impl Marks {
         ensures marked { MarkedSo place mark self.old self.new }
     {
         let mut node = self.nodes.len() / 2 + place;
+        if self.nodes[node] == mark {
+            return;
+        }
         self.nodes[node] = mark;
         while node > 1 {
             node /= 2;
-            self.nodes[node] = self.is_below(node);
+            let below = self.is_below(node);
+            if self.nodes[node] == below {
+                return;
+            }
+            self.nodes[node] = below;
         }
     }
 
@@ -145,6 +177,22 @@ impl Marks {
             result ≡ (node_at nodes (2 * node) || node_at nodes (2 * node + 1)) }
     {
         self.nodes[2 * node] || self.nodes[2 * node + 1]
+    }
+
+    /// The first marked place.
+    pub fn first(&self) -> Option<usize>
+        requires tree { IsTree self.now }
+        ensures first { IsFirstFrom (is_marked self.now) 0 result }
+    {
+        let room = self.nodes.len() / 2;
+        if room == 0 {
+            return None;
+        }
+        // The root says whether any place is marked.
+        if !self.nodes[1] {
+            return None;
+        }
+        Some(self.first_below(1, self.height) - room)
     }
 
     /// The first marked place from a place on.
