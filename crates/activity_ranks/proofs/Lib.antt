@@ -1,3 +1,4 @@
 pub mod NumberLemmas
+pub mod MarkedLemmas
 pub mod WaitingLemmas
 pub mod RankLemmas

@@ -1,4 +1,5 @@
 -- in reading order
 pub mod Numbers
+pub mod Marked
 pub mod Waiting
 pub mod Ranks

@@ -1,50 +1,85 @@
 //! Sets and lists of numbers.
 
-ghost use Rattle.std.specs.Prelude.{◌≡◌, ◌||◌, ℕ, IfOk, OnOk};
+ghost use Rattle.std.specs.Prelude.{◌≡◌, ◌||◌, ℕ, IfOk, OnOk, false};
 ghost use Rattle.activity_ranks.specs.Numbers.{Gains, IsFirst, Loses, has_number};
 
-use std::alloc::AllocError;
-use std::collections::BTreeSet;
+use marked_places::Marks;
+use std::alloc::{AllocError, Global};
+use std::marker::Model;
 
-/// The least number of a set.
-pub fn first_of(numbers: &BTreeSet<u32>) -> Option<u32>
-    ensures first { IsFirst numbers.now.keys result }
-{
-    match numbers.first() {
-        Some(number) => Some(*number),
-        None => None,
+/// A set of numbers, each a marked place. The marks of some dozens lie side by side.
+#[derive(Drop)]
+pub struct Numbers {
+    marks: Marks,
+}
+
+impl Model for Numbers {
+    ghost use Rattle.activity_ranks.specs.Numbers.{NumberSet};
+
+    ghost Value = { NumberSet };
+
+    ghost use Rattle.activity_ranks.specs.Marked.{AreNumbers, marked_in};
+
+    ghost view = { λ n. marked_in n.marks };
+
+    ghost invariant = { λ n. AreNumbers n.marks };
+}
+
+impl Numbers {
+    /// No number.
+    pub fn new(alloc: Global) -> Numbers
+        ensures none { (k : ℕ) → has_number k result.keys ≡ false }
+    {
+        Numbers {
+            marks: Marks::new(alloc),
+        }
     }
-}
 
-/// Whether a number is in a set.
-pub fn is_in(numbers: &BTreeSet<u32>, number: u32) -> bool
-    ensures test { result ≡ has_number number numbers.now.keys }
-{
-    numbers.contains(&number)
-}
-
-pub fn add(numbers: &mut BTreeSet<u32>, number: u32) -> Result<(), AllocError>
-    ensures gains { OnOk result (Gains number numbers.old.keys numbers.new.keys) }
-{
-    numbers.insert(number)?;
-    Ok(())
-}
-
-pub fn drop_out(numbers: &mut BTreeSet<u32>, number: u32)
-    ensures loses { Loses number numbers.old.keys numbers.new.keys }
-{
-    numbers.remove(&number);
-}
-
-/// All of these are in the set then.
-pub fn add_all(numbers: &mut BTreeSet<u32>, mut more: Vec<u32>) -> Result<(), AllocError>
-    ensures all { (k : ℕ) → OnOk result (has_number k numbers.new.keys
-        ≡ (has_number k more.items || has_number k numbers.old.keys)) }
-{
-    while let Some(number) = more.pop() {
-        add(numbers, number)?;
+    /// The least number.
+    pub fn first(&self) -> Option<u32>
+        ensures first { IsFirst self.now.keys result }
+    {
+        match self.marks.first() {
+            Some(number) => Some(number as u32),
+            None => None,
+        }
     }
-    Ok(())
+
+    /// Whether a number is in the set.
+    pub fn contains(&self, number: u32) -> bool
+        ensures test { result ≡ has_number number self.now.keys }
+    {
+        self.marks.is_set(number as usize)
+    }
+
+    /// A number is in the set then.
+    pub fn add(&mut self, number: u32) -> Result<(), AllocError>
+        ensures gains { OnOk result (Gains number self.old.keys self.new.keys) }
+    {
+        self.marks.reach(number as usize)?;
+        self.marks.set(number as usize, true);
+        Ok(())
+    }
+
+    /// A number is in the set no more. It takes no memory.
+    pub fn remove(&mut self, number: u32)
+        ensures loses { Loses number self.old.keys self.new.keys }
+    {
+        if self.marks.is_set(number as usize) {
+            self.marks.set(number as usize, false);
+        }
+    }
+
+    /// All of these are in the set then.
+    pub fn add_all(&mut self, mut more: Vec<u32>) -> Result<(), AllocError>
+        ensures all { (k : ℕ) → OnOk result (has_number k self.new.keys
+            ≡ (has_number k more.items || has_number k self.old.keys)) }
+    {
+        while let Some(number) = more.pop() {
+            self.add(number)?;
+        }
+        Ok(())
+    }
 }
 
 /// The numbers of both lists, the shorter one behind the longer.

@@ -15,22 +15,21 @@ ghost use Rattle.activity_ranks.specs.Ranks.{
   rested,
 };
 
-use crate::numbers::{add, add_all, drop_out, first_of, is_in};
+use crate::numbers::Numbers;
 use crate::rank::Rank;
 use crate::waiting::Waiting;
 use asp_model::FutureName;
 use std::alloc::{AllocError, Global};
-use std::collections::BTreeSet;
 
 /// The numbers of those who may step, of those to whom a value is owed, of those who wait, and of
 /// those who await round a cycle. All others rest, or somebody works on them.
 #[derive(Drop)]
 pub struct Ranks {
     alloc: Global,
-    going: BTreeSet<u32>,
-    needy: BTreeSet<u32>,
+    going: Numbers,
+    needy: Numbers,
     waiting: Waiting,
-    circling: BTreeSet<u32>,
+    circling: Numbers,
 }
 
 impl Ranks {
@@ -40,10 +39,10 @@ impl Ranks {
     {
         Ranks {
             alloc,
-            going: BTreeSet::new(alloc),
-            needy: BTreeSet::new(alloc),
+            going: Numbers::new(alloc),
+            needy: Numbers::new(alloc),
             waiting: Waiting::new(alloc),
-            circling: BTreeSet::new(alloc),
+            circling: Numbers::new(alloc),
         }
     }
 
@@ -51,35 +50,35 @@ impl Ranks {
     pub fn first_going(&self) -> Option<u32>
         ensures first { IsFirst self.now.going.keys result }
     {
-        first_of(&self.going)
+        self.going.first()
     }
 
     /// The least number of those to whom a value is owed.
     pub fn first_needy(&self) -> Option<u32>
         ensures first { IsFirst self.now.needy.keys result }
     {
-        first_of(&self.needy)
+        self.needy.first()
     }
 
     /// Whether an activity may step.
     pub fn goes(&self, number: u32) -> bool
         ensures goes { result ≡ has_number number self.now.going.keys }
     {
-        is_in(&self.going, number)
+        self.going.contains(number)
     }
 
     /// Whether a value is owed to an activity.
     pub fn has_need(&self, number: u32) -> bool
         ensures has_need { result ≡ has_number number self.now.needy.keys }
     {
-        is_in(&self.needy, number)
+        self.needy.contains(number)
     }
 
     /// Whether somebody awaits a future, be it without a value or round a cycle.
     pub fn someone_awaits(&self) -> bool
         ensures told { IsAwaitTold self.now result }
     {
-        match first_of(&self.circling) {
+        match self.circling.first() {
             Some(_) => true,
             None => match self.waiting.someone() {
                 Some(_) => true,
@@ -94,8 +93,8 @@ impl Ranks {
             IsRanked self.new number (rested x) }
         ensures others { OthersStay number self.old self.new }
     {
-        drop_out(&mut self.going, number);
-        drop_out(&mut self.needy, number);
+        self.going.remove(number);
+        self.needy.remove(number);
     }
 
     /// An activity stands so, which rested.
@@ -105,10 +104,10 @@ impl Ranks {
         ensures others { OnOk result (OthersStay number self.old self.new) }
     {
         match rank {
-            Rank::Goes => add(&mut self.going, number),
-            Rank::HasNeed => add(&mut self.needy, number),
+            Rank::Goes => self.going.add(number),
+            Rank::HasNeed => self.needy.add(number),
             Rank::Waits(future) => self.wait(number, future),
-            Rank::Circles => add(&mut self.circling, number),
+            Rank::Circles => self.circling.add(number),
             Rank::Rests => Ok(()),
         }
     }
@@ -130,10 +129,10 @@ impl Ranks {
     {
         let numbers = self.waiting.take(future);
         match rank {
-            Rank::Goes => add_all(&mut self.going, numbers),
-            Rank::HasNeed => add_all(&mut self.needy, numbers),
+            Rank::Goes => self.going.add_all(numbers),
+            Rank::HasNeed => self.needy.add_all(numbers),
             Rank::Waits(other) => self.waiting.join(other, numbers),
-            Rank::Circles => add_all(&mut self.circling, numbers),
+            Rank::Circles => self.circling.add_all(numbers),
             Rank::Rests => Ok(()),
         }
     }

@@ -13,7 +13,7 @@ returns-in-Goes c =
     let f = future_shape c.args.future.now in
     let mid = c.take-numbers.new.self in
     let ns = c.take-numbers.result.items in
-    let new : Ranks = record old { going = c.add_all.new.numbers; waiting = mid } in
+    let new : Ranks = record old { going = c.add_all.new.self; waiting = mid } in
     let told = c.take-numbers.ensures in
     record {
       shifted = subst (λ q. OnOk c.add_all.result (AreShifted f (rank_shape q) old new)) (sym c.in-Goes.is) (elim c.add_all.result as (λ r. ((k : ℕ) → OnOk r (has_number k new.going.keys ≡ (has_number k ns || has_number k old.going.keys))) → OnOk r (AreShifted f Goes old new)) [
@@ -29,7 +29,7 @@ returns-in-HasNeed c =
     let mid = c.take-numbers.new.self in
     let ns = c.take-numbers.result.items in
     let set = c.add_all-in-HasNeed in
-    let new : Ranks = record old { needy = set.new.numbers; waiting = mid } in
+    let new : Ranks = record old { needy = set.new.self; waiting = mid } in
     let told = c.take-numbers.ensures in
     record {
       shifted = subst (λ q. OnOk set.result (AreShifted f (rank_shape q) old new)) (sym c.in-HasNeed.is) (elim set.result as (λ r. ((k : ℕ) → OnOk r (has_number k new.needy.keys ≡ (has_number k ns || has_number k old.needy.keys))) → OnOk r (AreShifted f HasNeed old new)) [
@@ -61,7 +61,7 @@ returns-in-Circles c =
     let mid = c.take-numbers.new.self in
     let ns = c.take-numbers.result.items in
     let set = c.add_all-in-Circles in
-    let new : Ranks = record old { circling = set.new.numbers; waiting = mid } in
+    let new : Ranks = record old { circling = set.new.self; waiting = mid } in
     let told = c.take-numbers.ensures in
     record {
       shifted = subst (λ q. OnOk set.result (AreShifted f (rank_shape q) old new)) (sym c.in-Circles.is) (elim set.result as (λ r. ((k : ℕ) → OnOk r (has_number k new.circling.keys ≡ (has_number k ns || has_number k old.circling.keys))) → OnOk r (AreShifted f Circles old new)) [
