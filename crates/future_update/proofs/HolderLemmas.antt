@@ -2,7 +2,6 @@
 use Rattle.std.proofs.Common.{◌≡◌, ◌≢◌, ◌⊎◌, inl, inr, ℕ, ◌+◌, ◌<◌, ◌≤◌, Bool, true, false, eqb, List, [], ◌∷◌, ◌++◌, Option, Some, None, Result, Ok, Err, length, map, get_or, refl, sym, ap, ◌∙◌, subst, arith, length-append}
 use Rattle.std.specs.Prelude.{◌||◌, ◌&&◌, not, slice_get, IsSome, is_some, OnOk, OnErr}
 use Rattle.std.specs.Option.{option_map}
-use Rattle.std.specs.BTreeSet.{BTreeSet, contains}
 use Rattle.std.proofs.lemmas.Bool.{eqb-true}
 use Rattle.std.specs.Prelude.{leb, ◌==◌, unwrap_or}
 use Rattle.std.specs.List.{AllByRecursion}
@@ -27,13 +26,14 @@ use Rattle.marked_places.specs.Lanes.{AreLanes, ClosedSo, KeepsLanes, lane_count
 use Rattle.marked_places.specs.Marks.{MarkedIf, MarkedSo, is_marked}
 use Rattle.future_update.specs.Names.{IsKnown, IsKnownFuture, IsKnownEdge, Keeps, edge_of, future_of, name_of}
 use Rattle.future_update.specs.Numbered.{IsPassed, edge_at, no_edge, is_edge}
-use Rattle.future_update.specs.Passings.{ArePassings, passing_cmp, passing_of}
+use Rattle.future_update.specs.declared.passings.Passings.{Passings}
+use Rattle.future_update.specs.Passings.{ArePassings, is_kept, may_send, passing_of}
 use Rattle.future_update.specs.Records.{AreRecords, answers_of, names_of, owes, shape_of}
 use Rattle.future_update.proofs.NameLemmas.{clash}
 use Rattle.future_update.proofs.NumberLemmas.{all_at, is_edge_same, is_future_same, same_edges, same_futures, same_names, truth}
 use Rattle.future_update.proofs.RecordLemmas.{delivered_more, edge_itself, passed_more, edges_known, ticks_below}
 use Rattle.future_update.proofs.PlaceLemmas.{edge_stands}
-use Rattle.future_update.proofs.SettlingLemmas.{owed_within}
+use Rattle.future_update.proofs.SettlingLemmas.{owed_sends, owed_within}
 use Rattle.future_update.proofs.LanedLemmas.{keeps_lanes, member_known, moved, number_among, number_named, same_activities, turned_laned, turned_out}
 use Rattle.future_update.specs.Holders.{HoldersView, IsTurned, is_out}
 use Rattle.std.specs.Global.{Vec}
@@ -52,11 +52,16 @@ owes_by r h answers shape same p = λ i. owed_by (shape i) (same i) p
 pub owes_same : (r s : Records) → shape_of s ≡ shape_of r → answers_of s ≡ answers_of r → (p : ℕ) → owes s p ≡ owes r p
 owes_same r s shape same p = owes_by s (shape_of r) (answers_of r) shape same p
 
+-- Passings
+
+pub passings_kept : (s : Passings) (es fs : List Edge) (cs ds : List ChoiceShape) → ArePassings s es cs → fs ≡ es → ds ≡ cs → ArePassings s fs ds
+passings_kept s es fs cs ds h edges answers = subst (λ (xs : List Edge). ArePassings s xs ds) (sym edges) (subst (ArePassings s es) (sym answers) h)
+
 -- records that say the same
 pub kept : (s : Inside) (r : Records) → AreHolders s → AreRecords r → r.edges.keys ≡ s.records.edges.keys → shape_of r ≡ shape_of s.records → answers_of r ≡ answers_of s.records → Keeps (names_of s.records) (names_of r) → AreHolders (record s { records = r })
 kept s r h records edges shape answers names = record {
   records = records;
-  passings = subst (ArePassings s.passings) (sym edges) h.passings;
+  passings = passings_kept s.passings s.records.edges.keys r.edges.keys (answers_of s.records) (answers_of r) h.passings edges answers;
   laned = moved (names_of s.records) (names_of r) s.records.edges.keys r.edges.keys s.activities.items s.owed s.owed h.laned names edges (keeps_lanes s.owed h.laned.lanes);
   owed = λ p. h.owed p ∙ sym (owes_same s.records r shape answers p);
 }
@@ -66,10 +71,10 @@ pub begun_same : (r s : Records) (f : FutureShape) (n : Name) {E : Type 0} (resu
 begun_same r s f n (Ok v) begun unfilled err answers p = owes_by s (after_event (Begins f n) (shape_of r)) (answers_of r) begun answers p ∙ begins_same (shape_of r) f n unfilled (slice_get (shape_of r).edges p) (slice_get (answers_of r) p)
 begun_same r s f n (Err e) begun unfilled err answers p = owes_same r s err answers p
 
-pub begun_holders : (s : Inside) (r : Records) → AreHolders s → AreRecords r → r.edges.keys ≡ s.records.edges.keys → ((p : ℕ) → owes r p ≡ owes s.records p) → Keeps (names_of s.records) (names_of r) → AreHolders (record s { records = r })
-begun_holders s r h records edges same names = record {
+pub begun_holders : (s : Inside) (r : Records) → AreHolders s → AreRecords r → r.edges.keys ≡ s.records.edges.keys → ((p : ℕ) → owes r p ≡ owes s.records p) → answers_of r ≡ answers_of s.records → Keeps (names_of s.records) (names_of r) → AreHolders (record s { records = r })
+begun_holders s r h records edges same answers names = record {
   records = records;
-  passings = subst (ArePassings s.passings) (sym edges) h.passings;
+  passings = passings_kept s.passings s.records.edges.keys r.edges.keys (answers_of s.records) (answers_of r) h.passings edges answers;
   laned = moved (names_of s.records) (names_of r) s.records.edges.keys r.edges.keys s.activities.items s.owed s.owed h.laned names edges (keeps_lanes s.owed h.laned.lanes);
   owed = λ p. h.owed p ∙ sym (same p);
 }
@@ -141,17 +146,6 @@ receive_left r s h f by known known_by edges shape answers p e u =
     let known_k = all_at (IsKnownEdge ns) r.edges.keys p no_edge lt (edges_known r h) in
     (ap (λ (es : List Edge). (edge_at es p).future) edges ∙ is_future_same k.future f (sym (same_futures ns h.names k.future f known_k.future known) ∙ same.0), ap (λ (es : List Edge). (edge_at es p).from) edges ∙ eqb-true k.from by (sym (same_names ns h.names k.from by known_k.from known_by) ∙ same.1))
 
--- Passings, when an edge is entered
-
-pub passings_more : (passings : BTreeSet Passing) (es fs : List Edge) (x : Edge) → ArePassings passings es → contains passing_cmp passings (passing_of x (length es)) ≡ true → fs ≡ es ++ x ∷ [] → ArePassings passings fs
-passings_more passings es fs x old new grown = subst (ArePassings passings) (sym grown) (λ p lt. by p (omega (arith, lt, length-append es (x ∷ []))) (leb_tells (length es) p))
-  where
-    by : (p : ℕ) → p < length es + 1 → ((leb (length es) p ≡ true) × (length es ≤ p)) ⊎ ((leb (length es) p ≡ false) × (p < length es)) → contains passing_cmp passings (passing_of (edge_at (es ++ x ∷ []) p) p) ≡ true
-    by p lt (inl e) =
-        let same : length es ≡ p = omega (arith, lt, e.1) in
-        ap (λ y. contains passing_cmp passings (passing_of y p)) (get_or_push es x no_edge p same) ∙ ap (λ k. contains passing_cmp passings (passing_of x k)) (sym same) ∙ new
-    by p lt (inr e) = ap (λ y. contains passing_cmp passings (passing_of y p)) (get_or_append_left es (x ∷ []) no_edge p e.1) ∙ old p e.1
-
 -- All places that were delivered
 
 pub delivered_places : (r : Records) → AreRecords r → map (λ p. slice_get (shape_of r).edges p) r.delivered.order.items ≡ map Some (shape_of r).delivered
@@ -166,7 +160,7 @@ delivered_places r h = by r.delivered.order.items (ticks_below r.delivered (leng
 pub delivered_holders : (s : Inside) (r : Records) (owed : Lanes) (p : ℕ) → AreHolders s → p < length s.records.edges.keys → AreRecords r → r.edges.keys ≡ s.records.edges.keys → shape_of r ≡ after_event (Delivers (edge_of (names_of s.records) (edge_at s.records.edges.keys p))) (shape_of s.records) → has_edge (edge_of (names_of s.records) (edge_at s.records.edges.keys p)) (shape_of s.records).delivered ≡ false → answers_of r ≡ answers_of s.records → Keeps (names_of s.records) (names_of r) → KeepsLanes s.owed owed → MarkedSo p false s.owed.marks owed.marks → AreHolders (record s { records = r; owed = owed })
 delivered_holders s r owed p h lt records edges shape open_edge answers names still marked = record {
   records = records;
-  passings = subst (ArePassings s.passings) (sym edges) h.passings;
+  passings = passings_kept s.passings s.records.edges.keys r.edges.keys (answers_of s.records) (answers_of r) h.passings edges answers;
   laned = moved (names_of s.records) (names_of r) s.records.edges.keys r.edges.keys s.activities.items s.owed owed h.laned names edges still;
   owed = λ q. marked q ∙ by q (eqb_tells q p);
 }
@@ -223,6 +217,38 @@ more_place xs y p ne = elim (leb_tells (length xs) p) [
   | inr e ↦ slice_get-get_or (xs ++ y ∷ []) p y (omega (arith, e.1, length-append xs (y ∷ []))) ∙ ap Some (get_or_append_left xs (y ∷ []) y p e.1) ∙ sym (slice_get-get_or xs p y e.1)
 ]
 
+sent_within : (cs : List ChoiceShape) (p : ℕ) → may_send (slice_get cs p) ≡ true → p < length cs
+sent_within cs p e = elim (leb_tells (length cs) p) [
+  | inl b ↦ clash e (ap may_send (slice_get_past cs p b.1))
+  | inr b ↦ b.1
+]
+
+pub passings_more : (s t : Passings) (es : List Edge) (x : Edge) (cs : List ChoiceShape) (a : ChoiceShape) → length cs ≡ length es → ArePassings s es cs → ((k : Passing) → is_kept s k ≡ true → is_kept t k ≡ true) → (may_send (Some a) ≡ true → is_kept t (passing_of x (length es)) ≡ true) → ArePassings t (es ++ x ∷ []) (cs ++ a ∷ [])
+passings_more s t es x cs a same old kept new p sends = by (eqb_tells p (length es))
+  where
+    by : ((eqb p (length es) ≡ true) × (p ≡ length es)) ⊎ ((eqb p (length es) ≡ false) × (p ≢ length es)) → is_kept t (passing_of (edge_at (es ++ x ∷ []) p) p) ≡ true
+    by (inl e) =
+        let answer : slice_get (cs ++ a ∷ []) p ≡ Some a = slice_get-get_or (cs ++ a ∷ []) p a (omega (arith, same, e.1, length-append cs (a ∷ []))) ∙ ap Some (get_or_push cs a a p (same ∙ sym e.1)) in
+        ap (λ y. is_kept t (passing_of y p)) (get_or_push es x no_edge p (sym e.1)) ∙ ap (λ k. is_kept t (passing_of x k)) e.1 ∙ new (ap may_send (sym answer) ∙ sends)
+    by (inr e) =
+        let before : may_send (slice_get cs p) ≡ true = ap may_send (sym (more_place cs a p (λ q. e.1 (q ∙ same)))) ∙ sends in
+        let within : p < length es = subst (λ n. p < n) same (sent_within cs p before) in
+        ap (λ y. is_kept t (passing_of y p)) (get_or_append_left es (x ∷ []) no_edge p within) ∙ kept (passing_of (edge_at es p) p) (old p before)
+
+-- nothing is owed along an edge whose answer leaves the value
+pub left_nothing : (s : Records) (cs : List ChoiceShape) (a : ChoiceShape) (n : ℕ) (old : Marks) → n ≡ length cs → answers_of s ≡ cs ++ a ∷ [] → may_send (Some a) ≡ false → MarkedIf (owes s n) n old old
+left_nothing s cs a n old same answers leaves p = sym (ap (λ b. is_marked old p || (b && p == n)) not_owed ∙ last (is_marked old p))
+  where
+    answer : slice_get (answers_of s) n ≡ Some a
+    answer = ap (λ ds. slice_get ds n) answers ∙ slice_get-get_or (cs ++ a ∷ []) n a (omega (arith, same, length-append cs (a ∷ []))) ∙ ap Some (get_or_push cs a a n (sym same))
+
+    not_owed : owes s n ≡ false
+    not_owed = truth (owes s n) (λ e. clash (ap may_send (sym answer) ∙ owed_sends (shape_of s) (slice_get (shape_of s).edges n) (slice_get (answers_of s) n) e) leaves)
+
+    last : (b : Bool) → (b || false) ≡ b
+    last true = refl
+    last false = refl
+
 pub entered : (r s : Records) (x : Edge) (a : ChoiceShape) (old new : Marks) → AreRecords r → IsPassed (names_of r) x → has_edge (edge_of (names_of r) x) (shape_of r).edges ≡ false → shape_of s ≡ after_event (Passes (edge_of (names_of r) x)) (shape_of r) → answers_of s ≡ answers_of r ++ a ∷ [] → ((p : ℕ) → is_marked old p ≡ owes r p) → MarkedIf (owes s (length r.edges.keys)) (length r.edges.keys) old new → (p : ℕ) → is_marked new p ≡ owes s p
 entered r s x a old new h passed fresh shape answers owed marked p = marked p ∙ by p (eqb_tells p (length r.edges.keys))
   where
@@ -265,10 +291,10 @@ entered r s x a old new h passed fresh shape answers owed marked p = marked p �
 
 -- All that is owed was marked
 
-pub settled : (s : Inside) (r : Records) (owed : Lanes) → AreHolders s → AreRecords r → r.edges.keys ≡ s.records.edges.keys → Keeps (names_of s.records) (names_of r) → KeepsLanes s.owed owed → ((p : ℕ) → is_marked owed.marks p ≡ owes r p) → AreHolders (record s { records = r; owed = owed })
-settled s r owed h records edges names same marked = record {
+pub settled : (s : Inside) (r : Records) (owed : Lanes) → AreHolders s → AreRecords r → r.edges.keys ≡ s.records.edges.keys → answers_of r ≡ answers_of s.records → Keeps (names_of s.records) (names_of r) → KeepsLanes s.owed owed → ((p : ℕ) → is_marked owed.marks p ≡ owes r p) → AreHolders (record s { records = r; owed = owed })
+settled s r owed h records edges answers names same marked = record {
   records = records;
-  passings = subst (ArePassings s.passings) (sym edges) h.passings;
+  passings = passings_kept s.passings s.records.edges.keys r.edges.keys (answers_of s.records) (answers_of r) h.passings edges answers;
   laned = moved (names_of s.records) (names_of r) s.records.edges.keys r.edges.keys s.activities.items s.owed owed h.laned names edges same;
   owed = marked;
 }
@@ -298,7 +324,7 @@ view_told s t v e (Err x) shape answers activities = view_same s t shape answers
 pub rebuilt : (s : Inside) (r : Records) (owed : Lanes) (activities : Vec ℕ) → AreHolders s → AreRecords r → r.edges.keys ≡ s.records.edges.keys → shape_of r ≡ shape_of s.records → answers_of r ≡ answers_of s.records → owed.marks ≡ s.owed.marks → AreLaned (names_of r) r.edges.keys activities.items owed → AreHolders (record s { records = r; owed = owed; activities = activities })
 rebuilt s r owed activities h records edges shape answers marks laned = record {
   records = records;
-  passings = subst (ArePassings s.passings) (sym edges) h.passings;
+  passings = passings_kept s.passings s.records.edges.keys r.edges.keys (answers_of s.records) (answers_of r) h.passings edges answers;
   owed = λ p. ap (λ (m : Marks). is_marked m p) marks ∙ h.owed p ∙ sym (owes_same s.records r shape answers p);
   laned = laned;
 }

@@ -22,7 +22,7 @@ use Rattle.marked_places.specs.Ticks.{is_among}
 use Rattle.future_update.specs.declared.holders.Holders.TheInside.{Inside}
 use Rattle.future_update.specs.Holders.{edge_in, is_met, is_number, is_out, is_receiver_out, owed_to_one_in}
 use Rattle.future_update.specs.Kept.{AreHolders, AreLaned, IsMember, activity_entry, view_of}
-use Rattle.future_update.proofs.SettlingLemmas.{owed_within}
+use Rattle.future_update.proofs.SettlingLemmas.{either_false, owed_within}
 
 pub keeps_same : (ns ms : List Name) → ms ≡ ns → Keeps ns ms
 keeps_same ns ms e = subst (Keeps ns) (sym e) (record { more = omega arith; same = λ k lt. refl })
@@ -106,10 +106,6 @@ turned_laned ns es ks t u lane out h lanes spots same closed member = record {
 pub activities_same : (ns ms : List Name) (t u : Lanes) (ks : List ℕ) → AllByRecursion (IsMember ns t) ks → Keeps ns ms → SameClosed t u → map (activity_entry ms u) ks ≡ map (activity_entry ns t) ks
 activities_same ns ms t u [] all names closed = refl
 activities_same ns ms t u (k ∷ ks) all names closed = λ i. (names.same k all.0.0 i, closed k i) ∷ activities_same ns ms t u ks all.1 names closed i
-
-either_false : (a b : Bool) → (a || b) ≡ false → (a ≡ false) × (b ≡ false)
-either_false true b e = clash refl e
-either_false false b e = (refl, e)
 
 -- who was not met has no lane among theirs
 pub not_among : (ns ms : List Name) (t : Lanes) (a : Name) (k : ℕ) (ks : List ℕ) → AllByRecursion (IsMember ns t) ks → Keeps ns ms → name_of ms k ≡ a → is_met a (map (activity_entry ns t) ks) ≡ false → is_among k ks ≡ false

@@ -1,21 +1,22 @@
 -- Passings between two others, and what is marked as they are passed over.
-use Rattle.std.proofs.Common.{◌≡◌, ℕ, ◌<◌, ◌≤◌, ◌==◌, ◌≢◌, ◌⊎◌, inl, inr, cond, length, zero, suc, nat_lt, nat_eq, Bool, true, false, eqb, List, [], ◌∷◌, refl, sym, ap, ◌∙◌, subst, arith}
+use Rattle.std.proofs.Common.{◌≡◌, ℕ, ◌<◌, ◌≤◌, ◌==◌, ◌≢◌, ◌⊎◌, inl, inr, cond, length, zero, suc, nat_lt, nat_eq, Bool, true, false, eqb, List, [], ◌∷◌, Option, Some, None, refl, sym, ap, ◌∙◌, subst, arith}
 use Rattle.std.specs.Prelude.{◌||◌, ◌&&◌, not, filter, slice_get, leb}
 use Rattle.future_update.specs.declared.numbered.Edge.{Edge}
 use Rattle.future_update.specs.declared.numbered.Future.{Future}
 use Rattle.std.proofs.lemmas.Bool.Decides.{eqb_tells, leb_tells, nat_tests}
 use Rattle.std.proofs.lemmas.List.{length-map}
 use Rattle.std.proofs.lemmas.Option.{slice_get_past}
-use Rattle.std.specs.BTreeSet.{BTreeSet}
-use Rattle.journals.specs.Edges.{owed_at}
+use Rattle.asp_model.specs.History.{ChoiceShape, Forward, FromHome, Leave}
+use Rattle.journals.specs.Edges.{EdgeShape, HoldersShape, has_edge, has_filled, owed_at}
 use Rattle.future_update.specs.Names.{IsKnownEdge, edge_of}
 use Rattle.std.specs.List.{list_any}
 use Rattle.std.specs.BTreeMap.{is_at}
+use Rattle.std.specs.BTreeSet.{contains}
 use Rattle.std.specs.BTreeMap.Range.{range_contains}
 use Rattle.std.specs.declared.cmp.Ordering.{Ordering}
 use Rattle.std.specs.declared.cmp.Ordering.TheVariants.{Less, Equal, Greater}
 use Rattle.std.specs.declared.ops.Bound.TheVariants.{Included}
-use Rattle.std.specs.Ordering.{is_eq, is_le, is_lt, nat_cmp, ordering_then}
+use Rattle.std.specs.Ordering.{is_eq, is_gt, is_le, is_lt, nat_cmp, ordering_then}
 use Rattle.std.specs.FinMap.{nat_cmp-IsAntisymmetric}
 use Rattle.std.proofs.lemmas.Bool.{eq-eqb}
 use Rattle.future_update.specs.declared.numbered.Passing.{Passing}
@@ -25,7 +26,8 @@ use Rattle.marked_places.specs.Marks.{MarkedIf, is_marked}
 use Rattle.future_update.specs.Numbered.{edge_at, no_edge}
 use Rattle.future_update.proofs.NumberLemmas.{all_at}
 use Rattle.future_update.proofs.RecordLemmas.{edges_known}
-use Rattle.future_update.specs.Passings.{AreAhead, ArePassings, IsLeft, IsLeftOf, IsSound, passing_cmp, passing_of}
+use Rattle.future_update.specs.declared.passings.Passings.{Passings}
+use Rattle.future_update.specs.Passings.{AreAhead, ArePassings, IsBetween, IsLeft, IsSound, MarkedLast, is_kept, is_last, may_send, passing_cmp, passing_of}
 use Rattle.future_update.specs.Records.{AreRecords, answers_of, names_of, owes, shape_of}
 use Rattle.future_update.proofs.NameLemmas.{clash}
 
@@ -69,10 +71,18 @@ owed_within r p owed = elim (leb_tells (length r.edges.keys) p) [
   | inr e ↦ e.1
 ]
 
-pub ahead_begins : (r : Records) (owed : Marks) (low high : Passing) (passings : BTreeSet Passing) (ahead : List Passing) → IsLeft r owed low high → ArePassings passings r.edges.keys → ahead ≡ filter (range_contains passing_cmp (Included low) (Included high)) passings.keys → AreAhead r owed ahead
-ahead_begins r owed low high passings ahead left kept e p o u =
+pub ahead_begins : (r : Records) (owed : Marks) (low high : Passing) (sorted ahead : List Passing) → ((p : ℕ) → owes r p ≡ true → is_marked owed p ≡ false → range_contains passing_cmp (Included low) (Included high) (passing_of (edge_at r.edges.keys p) p) ≡ true) → AreAhead r owed sorted → ahead ≡ filter (range_contains passing_cmp (Included low) (Included high)) sorted → AreAhead r owed ahead
+ahead_begins r owed low high sorted ahead left kept e p o u =
     let k : Passing = passing_of (edge_at r.edges.keys p) p in
-    ap (list_any (is_at (passing_cmp k))) e ∙ any_filter (range_contains passing_cmp (Included low) (Included high)) k passings.keys (left p o u) (kept p (owed_within r p o))
+    ap (list_any (is_at (passing_cmp k))) e ∙ any_filter (range_contains passing_cmp (Included low) (Included high)) k sorted (left p o u) (kept p o u)
+
+pub none_ahead : (r : Records) (owed : Marks) (ks : List Passing) → length ks ≡ 0 → AreAhead r owed ks → AreAhead r owed []
+none_ahead r owed [] e all = all
+none_ahead r owed (k ∷ ks) e all = absurd (omega (arith, e))
+
+pub either_false : (a b : Bool) → (a || b) ≡ false → (a ≡ false) × (b ≡ false)
+either_false true b e = clash refl e
+either_false false b e = (refl, e)
 
 -- past one of them
 pub ahead_goes : (r : Records) (old new : Marks) (x : Passing) (ahead : List Passing) → AreAhead r old (x ∷ ahead) → MarkedIf (owes r x.place) x.place old new → AreAhead r new ahead
@@ -81,12 +91,8 @@ ahead_goes r old new x ahead all marked p owed unmarked = by (is_at (passing_cmp
     k : Passing
     k = passing_of (edge_at r.edges.keys p) p
 
-    or_parts : (a b : Bool) → (a || b) ≡ false → (a ≡ false) × (b ≡ false)
-    or_parts true b e = clash refl e
-    or_parts false b e = (refl, e)
-
     both : (is_marked old p ≡ false) × ((owes r x.place && p == x.place) ≡ false)
-    both = or_parts (is_marked old p) (owes r x.place && p == x.place) (sym (marked p) ∙ unmarked)
+    both = either_false (is_marked old p) (owes r x.place && p == x.place) (sym (marked p) ∙ unmarked)
 
     by : (here : Bool) → is_at (passing_cmp k) x ≡ here → list_any (is_at (passing_cmp k)) ahead ≡ true
     by true h =
@@ -112,7 +118,36 @@ all_marked r owed sound ahead p = by (is_marked owed p) refl (owes r p) refl
     by false e true h = clash (ahead p h e) refl
     by false e false h = refl
 
--- The passings of a future, and of one of its first activities
+-- The last passing, beside those that are sorted
+
+never_both : (a b : Bool) → (a && (b && false)) ≡ true → false ≡ true
+never_both true true e = e
+never_both true false e = e
+never_both false b e = e
+
+pub owed_sends : (h : HoldersShape) (x : Option EdgeShape) (a : Option ChoiceShape) → owed_at h x a ≡ true → may_send a ≡ true
+owed_sends h None a e = clash e refl
+owed_sends h (Some x) None e = clash e refl
+owed_sends h (Some x) (Some FromHome) e = refl
+owed_sends h (Some x) (Some Forward) e = refl
+owed_sends h (Some x) (Some Leave) e = never_both (not (has_edge x h.delivered)) (has_filled x.future h.filled) e
+
+pub last_goes : (r : Records) (s : Passings) (old new : Marks) → ArePassings s r.edges.keys (answers_of r) → MarkedLast r s.last old new → AreAhead r new s.sorted.keys
+last_goes r s old new passings marked = by s.last (λ p o. passings p (owed_sends (shape_of r) (slice_get (shape_of r).edges p) (slice_get (answers_of r) p) o)) marked
+  where
+    by : (last : Option Passing) → ((p : ℕ) → owes r p ≡ true → (is_last last (passing_of (edge_at r.edges.keys p) p) || list_any (is_at (passing_cmp (passing_of (edge_at r.edges.keys p) p))) s.sorted.keys) ≡ true) → MarkedLast r last old new → AreAhead r new s.sorted.keys
+    by None all then = λ p o u. all p o
+    by (Some x) all then = ahead_goes r old new x s.sorted.keys (λ p o u. all p o) then
+
+pub last_sound : (r : Records) (last : Option Passing) (old new : Marks) → IsSound r old → MarkedLast r last old new → IsSound r new
+last_sound r None old new sound marked = λ p e. sound p (sym (marked p) ∙ e)
+last_sound r (Some x) old new sound marked = sound_goes r old new x sound marked
+
+last_unmarked : (r : Records) (last : Option Passing) (old new : Marks) → MarkedLast r last old new → (p : ℕ) → is_marked new p ≡ false → is_marked old p ≡ false
+last_unmarked r None old new marked p u = sym (marked p) ∙ u
+last_unmarked r (Some x) old new marked p u = (either_false (is_marked old p) (owes r x.place && p == x.place) (sym (marked p) ∙ u)).0
+
+-- The passings of a future, by its first activities
 
 compared_self : (n : ℕ) → nat_cmp n n ≡ Equal
 compared_self n = let lt : nat_lt n n ≡ false = grind (arith, nat_tests) in let e : nat_eq n n ≡ true = grind (arith, nat_tests) in λ i. cond (lt i) Less (cond (e i) Equal Greater)
@@ -123,11 +158,26 @@ compared_less m n h = let lt : nat_lt m n ≡ true = grind (arith, nat_tests) in
 compared_more : (m n : ℕ) → n < m → nat_cmp m n ≡ Greater
 compared_more m n h = let lt : nat_lt m n ≡ false = grind (arith, nat_tests) in let e : nat_eq m n ≡ false = grind (arith, nat_tests) in λ i. cond (lt i) Less (cond (e i) Equal Greater)
 
+passing_itself : (k : Passing) → is_at (passing_cmp k) k ≡ true
+passing_itself k = λ i. is_eq (ordering_then (compared_self k.by i) (ordering_then (compared_self k.index i) (ordering_then (compared_self k.from i) (compared_self k.place i))))
+
+-- one more passing, where there is room
+
+pub kept_before : (s : Passings) (x k : Passing) → s.last ≡ None → is_kept s k ≡ true → is_kept (record { sorted = s.sorted; last = Some x }) k ≡ true
+kept_before s x k none e = by (is_at (passing_cmp k) x) (ap (λ o. is_last o k || contains passing_cmp s.sorted k) (sym none) ∙ e)
+  where
+    by : (b : Bool) → contains passing_cmp s.sorted k ≡ true → (b || contains passing_cmp s.sorted k) ≡ true
+    by true c = refl
+    by false c = c
+
+pub kept_now : (s : Passings) (x : Edge) (n m : ℕ) → n ≡ m → is_kept (record { sorted = s.sorted; last = Some (passing_of x n) }) (passing_of x m) ≡ true
+kept_now s x n m e = ap (λ b. b || contains passing_cmp s.sorted (passing_of x m)) (ap (λ j. is_at (passing_cmp (passing_of x m)) (passing_of x j)) e ∙ passing_itself (passing_of x m))
+
 -- the order where the futures are one
 same_future_order : (by index : ℕ) (f g p q : ℕ) → passing_cmp (record { by = by; index = index; from = f; place = p }) (record { by = by; index = index; from = g; place = q }) ≡ ordering_then (nat_cmp f g) (nat_cmp p q)
 same_future_order by index f g p q = λ i. ordering_then (compared_self by i) (ordering_then (compared_self index i) (ordering_then (nat_cmp f g) (nat_cmp p q)))
 
-low_first : (by index f g p : ℕ) → f ≤ g → is_le (passing_cmp (record { by = by; index = index; from = f; place = 0 }) (record { by = by; index = index; from = g; place = p })) ≡ true
+pub low_first : (by index f g p : ℕ) → f ≤ g → is_le (passing_cmp (record { by = by; index = index; from = f; place = 0 }) (record { by = by; index = index; from = g; place = p })) ≡ true
 low_first by index f g p le = ap is_le (same_future_order by index f g 0 p) ∙ cases (leb_tells g f)
   where
     last : (p : ℕ) → is_le (nat_cmp 0 p) ≡ true
@@ -160,18 +210,15 @@ passing_bounds r h p owed =
     let known = all_at (IsKnownEdge (names_of r)) r.edges.keys p no_edge lt (edges_known r h) in
     (omega (arith, lt, h.delivered.small, h.delivered_size), omega (arith, known.from, h.names.few))
 
--- what is left of a future's edges stands between the future's bounds
-pub filled_between : (r : Records) (owed : Marks) (f : Future) → AreRecords r → IsLeftOf r owed (λ e. e.future ≡ f) → IsLeft r owed (record { by = f.by; index = f.index; from = 0; place = 0 }) (record { by = f.by; index = f.index; from = 4294967295; place = 4294967295 })
-filled_between r owed f h left p o u =
+-- what is left of a future's edges stands between its bounds
+pub left_between : (r : Records) (old new : Marks) (last_one : Option Passing) (f : Future) (first last : ℕ) → AreRecords r → IsLeft r old f first last → MarkedLast r last_one old new → (p : ℕ) → owes r p ≡ true → is_marked new p ≡ false → range_contains passing_cmp (Included (record { by = f.by; index = f.index; from = first; place = 0 })) (Included (record { by = f.by; index = f.index; from = last; place = 4294967295 })) (passing_of (edge_at r.edges.keys p) p) ≡ true
+left_between r old new last_one f first last h left marked p o u =
     let e : Edge = edge_at r.edges.keys p in
-    let bounds = passing_bounds r h p o in
-    ap (λ (g : Future). range_contains passing_cmp (Included (record { by = f.by; index = f.index; from = 0; place = 0 })) (Included (record { by = f.by; index = f.index; from = 4294967295; place = 4294967295 })) (record { by = g.by; index = g.index; from = e.from; place = p })) (left p o u)
-    ∙ between f.by f.index 0 4294967295 4294967295 e.from p (omega arith) bounds.1 bounds.0
+    let kind : IsBetween f first last e = left p o (last_unmarked r last_one old new marked p u) in
+    (λ i. range_contains passing_cmp (Included (record { by = f.by; index = f.index; from = first; place = 0 })) (Included (record { by = f.by; index = f.index; from = last; place = 4294967295 })) (record { by = (kind.future i).by; index = (kind.future i).index; from = e.from; place = p }))
+    ∙ between f.by f.index first last 4294967295 e.from p kind.least kind.most (passing_bounds r h p o).0
 
-pub received_between : (r : Records) (owed : Marks) (f : Future) (by : ℕ) → AreRecords r → IsLeftOf r owed (λ e. (e.future ≡ f) × (e.from ≡ by)) → IsLeft r owed (record { by = f.by; index = f.index; from = by; place = 0 }) (record { by = f.by; index = f.index; from = by; place = 4294967295 })
-received_between r owed f by h left p o u =
-    let e : Edge = edge_at r.edges.keys p in
-    let bounds = passing_bounds r h p o in
-    let kind = left p o u in
-    (λ i. range_contains passing_cmp (Included (record { by = f.by; index = f.index; from = by; place = 0 })) (Included (record { by = f.by; index = f.index; from = by; place = 4294967295 })) (record { by = (kind.0 i).by; index = (kind.0 i).index; from = kind.1 i; place = p }))
-    ∙ between f.by f.index by by 4294967295 by p (omega arith) (omega arith) bounds.0
+pub not_more : (r : Ordering) → is_le r ≡ true → is_gt r ≡ false
+not_more Less e = refl
+not_more Equal e = refl
+not_more Greater e = clash refl (sym e)

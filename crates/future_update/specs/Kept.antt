@@ -38,6 +38,6 @@ pub record AreLaned (ns : List Name) (edges : List Edge) (activities : List ℕ)
 
 pub record AreHolders (s : Inside) : Type 0 where
   pub records : AreRecords s.records
-  pub passings : ArePassings s.passings s.records.edges.keys
+  pub passings : ArePassings s.passings s.records.edges.keys (answers_of s.records)
   pub owed : (p : ℕ) → is_marked s.owed.marks p ≡ owes s.records p
   pub laned : AreLaned (names_of s.records) s.records.edges.keys s.activities.items s.owed

@@ -1,7 +1,21 @@
 //! One more edge: all room first, then the edge with its answer.
 
-ghost use Rattle.std.specs.Prelude.{◌≡◌, ◌+◌, ◌<◌, ◌≤◌, ◌++◌, ◌∷◌, [], ℕ, OnErr, OnOk, false, length, true};
-ghost use Rattle.std.specs.BTreeSet.{contains};
+ghost use Rattle.std.specs.Prelude.{
+  ◌≡◌,
+  ◌+◌,
+  ◌<◌,
+  ◌≤◌,
+  ◌++◌,
+  ◌∷◌,
+  [],
+  ℕ,
+  None,
+  OnErr,
+  OnOk,
+  false,
+  length,
+  true,
+};
 ghost use Rattle.asp_model.specs.Shapes.{choice_shape};
 ghost use Rattle.journals.specs.Edges.{Passes, after_event, has_edge};
 ghost use Rattle.marked_places.specs.Lanes.{
@@ -16,7 +30,7 @@ ghost use Rattle.marked_places.specs.Marks.{SameMarks, is_marked};
 ghost use Rattle.future_update.specs.Names.{edge_of};
 ghost use Rattle.future_update.specs.declared.numbered.Passing.{Passing};
 ghost use Rattle.future_update.specs.Numbered.{IsPassed};
-ghost use Rattle.future_update.specs.Passings.{ArePassings, passing_cmp, passing_of};
+ghost use Rattle.future_update.specs.Passings.{ArePassings, is_kept};
 ghost use Rattle.future_update.specs.Records.{
   AreRecords,
   HasRoom,
@@ -27,23 +41,21 @@ ghost use Rattle.future_update.specs.Records.{
 };
 
 use crate::numbered::{Edge, Passing};
+use crate::passings::{Passings, is_sending};
 use crate::records::Records;
 use crate::settling::settle_at;
 use asp_model::Choice;
 use marked_places::Lanes;
 use std::alloc::AllocError;
-use std::collections::BTreeSet;
 
-/// Makes room for an edge, and notes its passing. A passing that stays without its edge, since room
-/// was missing then, is passed over.
+/// Makes room for an edge.
 pub fn make_room(
     records: &mut Records,
-    passings: &mut BTreeSet<Passing>,
+    passings: &mut Passings,
     owed: &mut Lanes,
     edge: Edge,
 ) -> Result<(), AllocError>
     requires records { AreRecords records.old }
-    requires passings { ArePassings passings.old records.old.edges.keys }
     requires lanes { AreLanes owed.old }
     ensures records { AreRecords records.new }
     ensures names { names_of records.new ≡ names_of records.old }
@@ -51,9 +63,9 @@ pub fn make_room(
     ensures shape { shape_of records.new ≡ shape_of records.old }
     ensures answers { answers_of records.new ≡ answers_of records.old }
     ensures has_room { OnOk result (HasRoom records.new) }
-    ensures passings { ArePassings passings.new records.old.edges.keys }
-    ensures passing { let place = length records.old.edges.keys in
-        OnOk result (contains passing_cmp passings.new (passing_of edge place) ≡ true) }
+    ensures passings { (k : Passing) → is_kept passings.old k ≡ true
+        → is_kept passings.new k ≡ true }
+    ensures ready { OnOk result (passings.new.last ≡ None) }
     ensures lanes { AreLanes owed.new }
     ensures marks { SameMarks owed.old.marks owed.new.marks }
     ensures closed { SameClosed owed.old owed.new }
@@ -61,31 +73,24 @@ pub fn make_room(
     ensures place { OnOk result (IsGrown edge.to owed.old owed.new) }
     ensures err { OnErr result (owed.new.spots.items ≡ owed.old.spots.items) }
 {
-    let place = records.edges.len();
     records.reserve()?;
-    note(passings, edge, place as u32)?;
+    passings.reserve()?;
     owed.make_lane(edge.to)?;
     owed.add(edge.to)
 }
 
-fn note(passings: &mut BTreeSet<Passing>, edge: Edge, place: u32) -> Result<(), AllocError>
-    ensures passing { OnOk result
-        (contains passing_cmp passings.new (passing_of edge place) ≡ true) }
-    ensures kept { (k : Passing) → contains passing_cmp passings.old k ≡ true
-        → contains passing_cmp passings.new k ≡ true }
-{
-    passings.insert(Passing {
-        by: edge.future.by,
-        index: edge.future.index,
-        from: edge.from,
-        place,
-    })?;
-    Ok(())
-}
-
-/// Enters an edge with its answer.
-pub fn enter(records: &mut Records, owed: &mut Lanes, edge: Edge, answer: Choice)
+/// Enters an edge with its answer. Nothing is ever owed along one whose answer leaves the value.
+pub fn enter(
+    records: &mut Records,
+    passings: &mut Passings,
+    owed: &mut Lanes,
+    edge: Edge,
+    answer: Choice,
+)
     requires records { AreRecords records.old }
+    requires passings { let r = records.old in
+        ArePassings passings.old r.edges.keys (answers_of r) }
+    requires ready { passings.old.last ≡ None }
     requires has_room { HasRoom records.old }
     requires passed { IsPassed (names_of records.old) edge }
     requires new { let x = edge_of (names_of records.old) edge in
@@ -99,10 +104,21 @@ pub fn enter(records: &mut Records, owed: &mut Lanes, edge: Edge, answer: Choice
     ensures shape { let event = Passes (edge_of (names_of records.old) edge) in
         shape_of records.new ≡ after_event event (shape_of records.old) }
     ensures answers { answers_of records.new ≡ answers_of records.old ++ choice_shape answer ∷ [] }
+    ensures passings { let r = records.new in
+        ArePassings passings.new r.edges.keys (answers_of r) }
     ensures lanes { KeepsLanes owed.old owed.new }
     ensures owed { (p : ℕ) → is_marked owed.new.marks p ≡ owes records.new p }
 {
     let place = records.edges.len();
     records.enter(edge, answer);
+    if !is_sending(answer) {
+        return;
+    }
+    passings.last = Some(Passing {
+        by: edge.future.by,
+        index: edge.future.index,
+        from: edge.from,
+        place: place as u32,
+    });
     settle_at(records, owed, place);
 }

@@ -40,9 +40,9 @@ ghost use Rattle.future_update.specs.Names.{edge_between, edge_named};
 
 use crate::edge::EdgeNames;
 use crate::entering::{enter, make_room};
-use crate::numbered::Passing;
+use crate::passings::Passings;
 use crate::records::Records;
-use crate::settling::{settle_filled, settle_received};
+use crate::settling::settle;
 use asp_model::{ActivityName, Delivery, FutureName};
 use marked_places::Lanes;
 use std::alloc::{AllocError, Global};
@@ -55,7 +55,7 @@ use update_policy::UpdatePolicy;
 #[derive(Drop)]
 pub struct Holders {
     records: Records,
-    passings: BTreeSet<Passing>,
+    passings: Passings,
     /// Each edge in the lane of its receiver, which is closed while that is out.
     owed: Lanes,
     /// Those that were met, by their lanes.
@@ -83,7 +83,10 @@ impl Holders {
     {
         Holders {
             records: Records::new(alloc),
-            passings: BTreeSet::new(alloc),
+            passings: Passings {
+                sorted: BTreeSet::new(alloc),
+                last: None,
+            },
             owed: Lanes::new(alloc),
             activities: Vec::new(alloc),
         }
@@ -137,7 +140,13 @@ impl Holders {
         }
         make_room(&mut self.records, &mut self.passings, &mut self.owed, edge)?;
         let answer = policy.choose(future, from, to);
-        enter(&mut self.records, &mut self.owed, edge, answer);
+        enter(
+            &mut self.records,
+            &mut self.passings,
+            &mut self.owed,
+            edge,
+            answer,
+        );
         Ok(())
     }
 
@@ -163,7 +172,8 @@ impl Holders {
         match self.records.names.find_future(future) {
             Some(future) => {
                 if self.records.fill(future) {
-                    settle_filled(&self.records, &self.passings, &mut self.owed, future);
+                    let (records, passings) = (&self.records, &self.passings);
+                    settle(records, passings, &mut self.owed, future, 0, u32::MAX);
                 }
             }
             None => {}
@@ -180,7 +190,15 @@ impl Holders {
     {
         let receipt = self.records.enter_receipt(future, by)?;
         if self.records.receive(receipt)? {
-            settle_received(&self.records, &self.passings, &mut self.owed, receipt);
+            let (future, by) = (receipt.future, receipt.by);
+            settle(
+                &self.records,
+                &self.passings,
+                &mut self.owed,
+                future,
+                by,
+                by,
+            );
         }
         Ok(())
     }

@@ -7,6 +7,7 @@ mod holders;
 mod names;
 mod numbered;
 mod owed;
+mod passings;
 mod records;
 mod settling;
 

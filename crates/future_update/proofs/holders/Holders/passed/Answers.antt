@@ -1,9 +1,10 @@
 use Rattle.std.proofs.Common.{◌≡◌, ◌∙◌, ◌++◌, ◌∷◌, [], List, length, refl, sym, ap, subst, arith}
 use Rattle.future_update.specs.declared.numbered.Edge.{Edge}
-use Rattle.future_update.specs.Records.{names_of}
+use Rattle.future_update.specs.Records.{answers_of, names_of}
 use Rattle.future_update.proofs.LanedLemmas.{activities_same, grown_laned, keeps_lanes, keeps_on, keeps_same, moved}
-use Rattle.future_update.specs.Passings.{ArePassings}
-use Rattle.future_update.proofs.HolderLemmas.{kept, owes_same, passings_more, view_kept}
+use Rattle.future_update.specs.Numbered.{edge_at}
+use Rattle.future_update.specs.Passings.{passing_of}
+use Rattle.future_update.proofs.HolderLemmas.{kept, owes_same, passings_kept, view_kept}
 use Rattle.future_update.specs.Holders.{HoldersView}
 use Rattle.future_update.proofs.holders.Holders.passed.Goals as goal
 
@@ -25,7 +26,7 @@ invariant_of-self-in_err-make_room g c =
     let m = c.make_room.ensures in
     record {
       records = m.records;
-      passings = subst (ArePassings c.make_room.new.passings) (sym m.edges) m.passings;
+      passings = λ p sends. m.passings (passing_of (edge_at c.make_room.new.records.edges.keys p) p) (passings_kept s.passings s.records.edges.keys c.make_room.new.records.edges.keys (answers_of s.records) (answers_of c.make_room.new.records) h.passings (m.edges ∙ e.edges) (m.answers ∙ e.answers) p sends);
       owed = λ p. m.marks p ∙ h.owed p ∙ sym (owes_same s.records c.make_room.new.records (m.shape ∙ e.shape) (m.answers ∙ e.answers) p);
       laned = moved (names_of s.records) (names_of c.make_room.new.records) s.records.edges.keys c.make_room.new.records.edges.keys s.activities.items s.owed c.make_room.new.owed h.laned (keeps_on (names_of s.records) (names_of c.enter_edge.new.self) (names_of c.make_room.new.records) e.keeps m.names) (m.edges ∙ e.edges) (record { lanes = m.lanes; spots = c.in_err-make_room.ensures.err; closed = m.closed; more = m.more });
     }
@@ -42,10 +43,17 @@ invariant_of-self-2 g c =
     let between = grown_laned (names_of c.enter_edge.new.self) c.enter_edge.new.self.edges.keys c.enter.new.records.edges.keys s.activities.items s.owed c.make_room.new.owed x before m.lanes c.in_ok-make_room.ensures.place m.closed m.more grown in
     record {
       records = c.enter.ensures.records;
-      passings = passings_more c.make_room.new.passings c.enter_edge.new.self.edges.keys c.enter.new.records.edges.keys x m.passings c.in_ok-make_room.ensures.passing grown;
+      passings = c.enter.ensures.passings;
       owed = c.enter.ensures.owed;
       laned = moved (names_of c.enter_edge.new.self) (names_of c.enter.new.records) c.enter.new.records.edges.keys c.enter.new.records.edges.keys s.activities.items c.make_room.new.owed c.enter.new.owed between (keeps_same (names_of c.enter_edge.new.self) (names_of c.enter.new.records) (c.enter.ensures.names ∙ m.names)) refl c.enter.ensures.lanes;
     }
+
+pub enter-requires-clause-passings : goal.enter-requires-clause-passings
+enter-requires-clause-passings g c =
+    let s = c.self.inside in
+    let e = c.enter_edge.ensures in
+    let m = c.make_room.ensures in
+    λ p sends. m.passings (passing_of (edge_at c.make_room.new.records.edges.keys p) p) (passings_kept s.passings s.records.edges.keys c.make_room.new.records.edges.keys (answers_of s.records) (answers_of c.make_room.new.records) c.self.invariant.passings (m.edges ∙ e.edges) (m.answers ∙ e.answers) p sends)
 
 pub enter-requires-clause-room : goal.enter-requires-clause-room
 enter-requires-clause-room g c =

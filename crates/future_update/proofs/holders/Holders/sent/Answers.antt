@@ -10,7 +10,7 @@ pub invariant_of-self : goal.invariant_of-self
 invariant_of-self c =
     let s = c.self.inside in
     let e = c.sent.ensures in
-    begun_holders s c.sent.new.self c.self.invariant e.records e.edges (begun_same s.records c.sent.new.self (future_shape c.args.future.now) c.args.home.now c.sent.result e.begun e.unfilled e.err e.answers) e.keeps
+    begun_holders s c.sent.new.self c.self.invariant e.records e.edges (begun_same s.records c.sent.new.self (future_shape c.args.future.now) c.args.home.now c.sent.result e.begun e.unfilled e.err e.answers) e.answers e.keeps
 
 pub returns-clause-activities : goal.returns-clause-activities
 returns-clause-activities c =
