@@ -120,6 +120,7 @@ fn append_moved(
     ensures fits { OnOk result (length store.new.cells < 2 ^ 64) }
     ensures err { OnErr result (store.new.cells ≡ store.old.cells) }
 {
+    make_room(store)?;
     let before = store.len();
     for cell in cells {
         if append_one(alloc, store, moves, cell).is_err() {
@@ -129,6 +130,16 @@ fn append_moved(
     }
     // Read for `fits`: the number of cells is a place.
     let _after = store.len();
+    Ok(())
+}
+
+// What an activity begins with is soon more: room for a few cells more spares moves.
+fn make_room(store: &mut Store) -> Result<(), AllocError>
+    ensures cells { store.new.cells ≡ store.old.cells }
+{
+    if store.len() == 0 {
+        store.reserve(8)?;
+    }
     Ok(())
 }
 
