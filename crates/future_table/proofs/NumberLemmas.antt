@@ -1,21 +1,22 @@
 -- Numbers of futures, when one more is met.
 use Rattle.std.proofs.Common.{◌≡◌, ◌+◌, ◌<◌, ℕ, zero, suc, Bool, true, false, cond, List, [], ◌∷◌, ◌++◌, Option, Some, None, length, map, get_or, refl, sym, ap, subst, ◌∙◌, T, arith}
-use Rattle.std.specs.Prelude.{◌||◌}
-use Rattle.std.specs.List.{list_any, position_from}
+use Rattle.std.specs.Prelude.{◌||◌, if◌then◌else◌, not}
+use Rattle.std.specs.List.{list_any, position_from, position_or_len}
+use Rattle.indexmap.specs.IndexSet.{insert_key}
 use Rattle.asp_model.specs.declared.name.FutureName.{FutureName}
 use Rattle.asp_model.specs.contracts.name.FutureNamePartialEq.TheImpl as equality
 use Rattle.asp_model.specs.FutureOrder.{eq_shape}
 use Rattle.asp_model.specs.Names.{FutureShape, same_future}
 use Rattle.asp_model.specs.Shapes.{future_shape}
-use Rattle.chase_laws.proofs.FutureLemmas.{future_itself, futures_tied}
-use Rattle.future_table.specs.Numbers.{named, number_from, number_of}
+use Rattle.chase_laws.proofs.FutureLemmas.{future_itself, futures_tied, true_false}
+use Rattle.future_table.specs.Numbers.{IsEntered, named, number_from, number_of}
 
 abbrev pub same_one : FutureName → FutureName → Bool
 same_one = equality.ghosts.eq
 
 -- Numbers
 
-abbrev here_or : Bool → ℕ → Option ℕ → Option ℕ
+abbrev pub here_or : Bool → ℕ → Option ℕ → Option ℕ
 here_or b k o = elim b [ true ↦ Some k | false ↦ o ]
 
 -- one more future at the end
@@ -105,12 +106,43 @@ number_position k f (g ∷ gs) =
     here_cond true o = refl
     here_cond false o = refl
 
--- a future without a number is not in the set
-pub absent_none : (k : ℕ) (f : FutureName) (fs : List FutureName) → number_from k (future_shape f) (map future_shape fs) ≡ None → list_any (same_one f) fs ≡ false
+-- a future that the list lacks has no number
+absent_none : (k : ℕ) (f : FutureName) (fs : List FutureName) → list_any (same_one f) fs ≡ false → number_from k (future_shape f) (map future_shape fs) ≡ None
 absent_none k f [] none = refl
-absent_none k f (g ∷ gs) none = by (same_future (future_shape f) (future_shape g)) refl none (absent_none (suc k) f gs)
+absent_none k f (g ∷ gs) none = by (same_one f g) (sym (eq_shape f g)) none (absent_none (suc k) f gs)
   where
-    by : (b : Bool) → same_future (future_shape f) (future_shape g) ≡ b → here_or b k (number_from (suc k) (future_shape f) (map future_shape gs)) ≡ None
-        → (number_from (suc k) (future_shape f) (map future_shape gs) ≡ None → list_any (same_one f) gs ≡ false) → (same_one f g || list_any (same_one f) gs) ≡ false
-    by true d e next = absurd cc
-    by false d e next = λ i. (eq_shape f g ∙ d) i || next e i
+    by : (b : Bool) → same_future (future_shape f) (future_shape g) ≡ b → (b || list_any (same_one f) gs) ≡ false
+        → (list_any (same_one f) gs ≡ false → number_from (suc k) (future_shape f) (map future_shape gs) ≡ None) → here_or (same_future (future_shape f) (future_shape g)) k (number_from (suc k) (future_shape f) (map future_shape gs)) ≡ None
+    by true d e next = absurd (true_false true refl e)
+    by false d e next = ap (λ b. here_or b k (number_from (suc k) (future_shape f) (map future_shape gs))) d ∙ next e
+
+-- the number that the set gives
+pub entered_number : (k : ℕ) (f : FutureName) (fs : List FutureName) → number_from k (future_shape f) (map future_shape (insert_key same_one fs f)) ≡ Some (k + position_or_len (same_one f) fs)
+entered_number k f [] = ap (λ b. here_or b k None) (future_itself (future_shape f)) ∙ ap Some zero_more
+  where
+    zero_more : k ≡ k + 0
+    zero_more = omega arith
+entered_number k f (g ∷ gs) = by (same_one f g) (sym (eq_shape f g)) (list_any (same_one f) gs) (entered_number (suc k) f gs)
+  where
+    zero_more : k ≡ k + 0
+    zero_more = omega arith
+
+    suc_more : suc k + position_or_len (same_one f) gs ≡ k + (1 + position_or_len (same_one f) gs)
+    suc_more = omega arith
+
+    past : (fs : List FutureName) → same_future (future_shape f) (future_shape g) ≡ false → number_from (suc k) (future_shape f) (map future_shape fs) ≡ Some (suc k + position_or_len (same_one f) gs)
+        → number_from k (future_shape f) (map future_shape (g ∷ fs)) ≡ Some (k + (1 + position_or_len (same_one f) gs))
+    past fs d e = ap (λ b. here_or b k (number_from (suc k) (future_shape f) (map future_shape fs))) d ∙ e ∙ ap Some suc_more
+
+    by : (b : Bool) → same_future (future_shape f) (future_shape g) ≡ b → (l : Bool) → number_from (suc k) (future_shape f) (map future_shape (if l then gs else (gs ++ f ∷ []))) ≡ Some (suc k + position_or_len (same_one f) gs)
+        → number_from k (future_shape f) (map future_shape (if b || l then g ∷ gs else (g ∷ gs ++ f ∷ []))) ≡ Some (k + cond (not b) (1 + position_or_len (same_one f) gs) 0)
+    by true d l e = ap (λ b. here_or b k (number_from (suc k) (future_shape f) (map future_shape gs))) d ∙ ap Some zero_more
+    by false d true e = past gs d e
+    by false d false e = past (gs ++ f ∷ []) d e
+
+pub entered_so : (f : FutureName) (fs new : List FutureName) (added : Bool) → added ≡ not (list_any (same_one f) fs) → new ≡ insert_key same_one fs f → IsEntered f fs new added
+entered_so f fs new added is e = subst (IsEntered f fs new) (sym is) (by (list_any (same_one f) fs) refl e)
+  where
+    by : (b : Bool) → list_any (same_one f) fs ≡ b → new ≡ (if b then fs else (fs ++ f ∷ [])) → IsEntered f fs new (not b)
+    by true d e = e
+    by false d e = (absent_none 0 f fs d, e)

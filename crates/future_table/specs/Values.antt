@@ -1,17 +1,29 @@
 -- What contracts see of a table of futures, and of a chase.
-use Rattle.std.specs.Prelude.{◌≡◌, List, map}
+use Rattle.std.specs.Prelude.{◌≡◌, List, [], ◌∷◌, Option, Some, None, map}
+use Rattle.std.specs.FinMap.{put}
+use Rattle.std.specs.declared.cmp.Ordering.{Ordering}
 use Rattle.std.specs.List.{AllByRecursion}
 use Rattle.std.specs.Arc.{arc_value}
 use Rattle.program_code.specs.declared.code.Node.{Node}
 use Rattle.asp_model.specs.declared.name.FutureName.{FutureName}
 use Rattle.coded_cells.specs.declared.cells.Parcel.{Parcel}
-use Rattle.asp_model.specs.Names.{FutureShape}
+use Rattle.asp_model.specs.Names.{FutureShape, future_cmp}
 use Rattle.asp_model.specs.Chase.{Values}
 use Rattle.asp_model.specs.Chase as chase
 use Rattle.asp_model.specs.Shapes.{future_shape}
 use Rattle.coded_cells.specs.Shapes.{parcel_shape}
 use Rattle.future_table.specs.declared.chase.Chase.{Chase}
 use Rattle.future_table.specs.declared.chase.Chase.TheVariants as chases
+
+abbrev pub by_name : FutureName → FutureName → Ordering
+by_name f g = future_cmp (future_shape f) (future_shape g)
+
+-- those of these futures that have a value, with it, in ascending order of names
+abbrev pub filled_of : List FutureName → List (Option Parcel) → List (FutureName × Parcel)
+filled_of [] ps = []
+filled_of (f ∷ fs) [] = []
+filled_of (f ∷ fs) (None ∷ ps) = filled_of fs ps
+filled_of (f ∷ fs) (Some p ∷ ps) = put by_name f p (filled_of fs ps)
 
 abbrev pub values_of : List (FutureName × Parcel) → Values
 values_of = map (λ e. (future_shape e.0, parcel_shape e.1))

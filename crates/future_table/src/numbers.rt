@@ -1,8 +1,8 @@
 //! Futures under numbers from 0, in the order in which they were met.
 
-ghost use Rattle.std.specs.Prelude.{◌≡◌, ◌<◌, ◌∷◌, ◌++◌, [], None, OnErr, OnOk, length, map};
+ghost use Rattle.std.specs.Prelude.{◌≡◌, ◌<◌, IfOk, OnErr, OnOk, Some, [], length, map};
 ghost use Rattle.asp_model.specs.Shapes.{future_shape};
-ghost use Rattle.future_table.specs.Numbers.{named, number_of};
+ghost use Rattle.future_table.specs.Numbers.{AreApart, IsEntered, named, number_of};
 
 use asp_model::FutureName;
 use indexmap::IndexSet;
@@ -12,7 +12,6 @@ use std::marker::Model;
 /// Futures under numbers, seen as the list of their names.
 #[derive(Drop)]
 pub struct Numbers {
-    alloc: Global,
     names: IndexSet<FutureName>,
 }
 
@@ -31,7 +30,6 @@ impl Numbers {
         ensures { result ≡ [] }
     {
         Numbers {
-            alloc,
             names: IndexSet::new(alloc),
         }
     }
@@ -51,14 +49,14 @@ impl Numbers {
         self.names.get_index_of(name)
     }
 
-    /// Gives a future the next number.
-    pub fn add(&mut self, name: &FutureName) -> Result<(), AllocError>
-        requires absent { number_of (future_shape name.now) (map future_shape self.old) ≡ None }
-        ensures added { OnOk result (self.new ≡ self.old ++ name.now ∷ []) }
+    /// The number of a future, and whether it has it from here: then it is the next one.
+    pub fn enter(&mut self, name: FutureName) -> Result<(usize, bool), AllocError>
+        ensures number { let number = number_of (future_shape name) (map future_shape self.new) in
+            IfOk result (λ n. number ≡ Some n.0) }
+        ensures entered { IfOk result (λ n. IsEntered name self.old self.new n.1) }
+        ensures apart { OnOk result (AreApart self.new) }
         ensures err { OnErr result (self.new ≡ self.old) }
     {
-        let name = name.copy(self.alloc)?;
-        self.names.insert(name)?;
-        Ok(())
+        Ok(self.names.insert_full(name)?)
     }
 }

@@ -31,9 +31,9 @@ impl Model for FutureTable {
 
     ghost Value = { List (FutureName × Parcel) };
 
-    ghost use Rattle.future_table.specs.Walks.{IsWhole};
+    ghost use Rattle.future_table.specs.Walks.{IsWhole, filled_in};
 
-    ghost view = { λ t. t.walks.filled.entries };
+    ghost view = { λ t. filled_in t.walks };
 
     ghost invariant = { λ t. IsWhole t.walks };
 }
@@ -66,7 +66,7 @@ impl FutureTable {
             ≡ find future_cmp (future_shape name.now) (values_of self.now) }
         ensures held { IfSome result (λ p. Contains (parcels self.now) p.now) }
     {
-        self.walks.filled.get(name)
+        walks::value(&self.walks, name)
     }
 
     /// Where the walk from a future ends.

@@ -1,17 +1,18 @@
 //! Filled futures, and the components of those that were met.
 
 ghost use Rattle.std.specs.Prelude.{◌≡◌, ◌<◌, IfOk, None, OnErr, OnOk, Some, [], length, map};
+ghost use Rattle.asp_model.specs.declared.name.FutureName.{FutureName};
 ghost use Rattle.std.specs.FinMap.{find, put};
 ghost use Rattle.asp_model.specs.Chase.{chase as chase_of};
 ghost use Rattle.asp_model.specs.Names.{future_cmp};
 ghost use Rattle.asp_model.specs.Shapes.{future_shape};
 ghost use Rattle.coded_cells.specs.Shapes.{parcel_shape};
-ghost use Rattle.std.specs.Option.{option_map};
+ghost use Rattle.std.specs.Option.{option_copied, option_map};
 ghost use Rattle.future_table.specs.Components.{EndsWithin, end_told};
 ghost use Rattle.future_table.specs.Links.{link_at};
 ghost use Rattle.future_table.specs.Numbers.{number_of};
-ghost use Rattle.future_table.specs.Values.{StayOfCode, chase_shape, told};
-ghost use Rattle.future_table.specs.Walks.{IsGoing, IsRoot, IsWhole, NumbersStay, names_in, values_in};
+ghost use Rattle.future_table.specs.Values.{StayOfCode, by_name, chase_shape, told};
+ghost use Rattle.future_table.specs.Walks.{IsFilledWith, IsGoing, IsRoot, IsUnfilled, IsWhole, NumbersStay, filled_in, names_in, values_in};
 
 use crate::chase::Chase;
 use crate::links::{End, Link, end_so, head_of, join};
@@ -19,12 +20,13 @@ use crate::numbers::Numbers;
 use asp_model::FutureName;
 use coded_cells::{Cell, Parcel};
 use std::alloc::{AllocError, Global};
-use std::collections::BTreeMap;
 
-/// The filled futures with their values, and for each future that was met its place in a component.
+/// The futures that were met, by their numbers: the value of each, if it is filled, and its place in
+/// a component.
 #[derive(Drop)]
 pub struct Walks {
-    pub filled: BTreeMap<FutureName, Parcel>,
+    alloc: Global,
+    pub values: Vec<Option<Parcel>>,
     pub numbers: Numbers,
     pub links: Vec<Link>,
 }
@@ -35,7 +37,8 @@ pub fn none(alloc: Global) -> Walks
     ensures values { values_in result ≡ [] }
 {
     Walks {
-        filled: BTreeMap::new(alloc),
+        alloc,
+        values: Vec::new(alloc),
         numbers: Numbers::new(alloc),
         links: Vec::new(alloc),
     }
@@ -48,17 +51,28 @@ pub fn fill(walks: &mut Walks, name: FutureName, value: Parcel) -> Result<(), Al
     ensures whole { IsWhole walks.new }
     ensures values { let old = values_in walks.old in OnOk result
         (values_in walks.new ≡ put future_cmp (future_shape name) (parcel_shape value) old) }
-    ensures code { let old = walks.old.filled.entries in
-        OnOk result (StayOfCode value old walks.new.filled.entries) }
-    ensures err { OnErr result (walks.new.filled.entries ≡ walks.old.filled.entries) }
+    ensures code { OnOk result (StayOfCode value (filled_in walks.old) (filled_in walks.new)) }
+    ensures err { OnErr result (filled_in walks.new ≡ filled_in walks.old) }
 {
-    let at = number(walks, &name)?;
+    let at = enter(walks, name)?;
     match root(&value) {
-        None => fill_plain(walks, name, value, at),
+        None => fill_plain(walks, value, at),
         Some(next) => {
             let next = number(walks, next)?;
-            fill_going(walks, name, value, at, next)
+            fill_going(walks, value, at, next);
         }
+    }
+    Ok(())
+}
+
+/// The value of a future, if it is filled.
+pub fn value<'a>(walks: &'a Walks, name: &FutureName) -> Option<&'a Parcel>
+    requires whole { IsWhole walks.now }
+    ensures value { option_copied result ≡ find by_name name.now (filled_in walks.now) }
+{
+    match walks.numbers.of(name) {
+        None => None,
+        Some(at) => walks.values[at].as_ref(),
     }
 }
 
@@ -102,92 +116,72 @@ fn root(value: &Parcel) -> Option<&FutureName>
 fn number(walks: &mut Walks, name: &FutureName) -> Result<usize, AllocError>
     requires whole { IsWhole walks.old }
     ensures whole { IsWhole walks.new }
-    ensures filled { walks.new.filled.entries ≡ walks.old.filled.entries }
+    ensures filled { filled_in walks.new ≡ filled_in walks.old }
     ensures number { let number = number_of (future_shape name.now) (names_in walks.new) in
         IfOk result (λ n. number ≡ Some n) }
     ensures stay { NumbersStay walks.old walks.new }
 {
     match walks.numbers.of(name) {
         Some(number) => Ok(number),
-        None => meet(walks, name),
+        None => {
+            let name = name.copy(walks.alloc)?;
+            enter(walks, name)
+        }
     }
 }
 
-fn meet(walks: &mut Walks, name: &FutureName) -> Result<usize, AllocError>
+fn enter(walks: &mut Walks, name: FutureName) -> Result<usize, AllocError>
     requires whole { IsWhole walks.old }
-    requires new { number_of (future_shape name.now) (names_in walks.old) ≡ None }
     ensures whole { IsWhole walks.new }
-    ensures filled { walks.new.filled.entries ≡ walks.old.filled.entries }
-    ensures number { let number = number_of (future_shape name.now) (names_in walks.new) in
+    ensures filled { filled_in walks.new ≡ filled_in walks.old }
+    ensures number { let number = number_of (future_shape name) (names_in walks.new) in
         IfOk result (λ n. number ≡ Some n) }
     ensures stay { NumbersStay walks.old walks.new }
 {
-    let number = walks.links.len();
     walks.links.reserve(1)?;
-    walks.numbers.add(name)?;
-    walks.links.push(Link {
-        up: None,
-        height: 0,
-        least: number,
-        end: End::Unfilled(number),
-    })?;
+    walks.values.reserve(1)?;
+    let (number, new) = walks.numbers.enter(name)?;
+    if new {
+        walks.values.push_reserved(None);
+        walks.links.push_reserved(Link {
+            up: None,
+            height: 0,
+            least: number,
+            end: End::Unfilled(number),
+        });
+    }
     Ok(number)
 }
 
 // The value's root is no future: the walks that led to the future end there.
-fn fill_plain(
-    walks: &mut Walks,
-    name: FutureName,
-    value: Parcel,
-    at: usize,
-) -> Result<(), AllocError>
+fn fill_plain(walks: &mut Walks, value: Parcel, at: usize)
     requires whole { IsWhole walks.old }
-    requires absent { find future_cmp (future_shape name) (values_in walks.old) ≡ None }
-    requires at { number_of (future_shape name) (names_in walks.old) ≡ Some at }
+    requires at { (f : FutureName) × IsUnfilled walks.old at f }
     requires root { IsRoot (parcel_shape value) None }
     ensures whole { IsWhole walks.new }
-    ensures values { let old = values_in walks.old in OnOk result
-        (values_in walks.new ≡ put future_cmp (future_shape name) (parcel_shape value) old) }
-    ensures code { let old = walks.old.filled.entries in
-        OnOk result (StayOfCode value old walks.new.filled.entries) }
-    ensures err { OnErr result (walks.new.filled.entries ≡ walks.old.filled.entries) }
+    ensures filled { (f : FutureName) → IsUnfilled walks.old at f → IsFilledWith walks.old walks.new f value }
 {
     let head = head_of(&walks.links, at);
-    walks.filled.insert(name, value)?;
+    walks.values[at] = Some(value);
     end_so(&mut walks.links, head, End::Value(at));
-    Ok(())
 }
 
 // The value's root is a future: the walks that led to the one go on as those of the other, or round
 // a cycle that closes here.
-fn fill_going(
-    walks: &mut Walks,
-    name: FutureName,
-    value: Parcel,
-    at: usize,
-    next: usize,
-) -> Result<(), AllocError>
+fn fill_going(walks: &mut Walks, value: Parcel, at: usize, next: usize)
     requires whole { IsWhole walks.old }
-    requires absent { find future_cmp (future_shape name) (values_in walks.old) ≡ None }
-    requires at { number_of (future_shape name) (names_in walks.old) ≡ Some at }
+    requires at { (f : FutureName) × IsUnfilled walks.old at f }
     requires root { IsGoing (parcel_shape value) next (names_in walks.old) }
     ensures whole { IsWhole walks.new }
-    ensures values { let old = values_in walks.old in OnOk result
-        (values_in walks.new ≡ put future_cmp (future_shape name) (parcel_shape value) old) }
-    ensures code { let old = walks.old.filled.entries in
-        OnOk result (StayOfCode value old walks.new.filled.entries) }
-    ensures err { OnErr result (walks.new.filled.entries ≡ walks.old.filled.entries) }
+    ensures filled { (f : FutureName) → IsUnfilled walks.old at f → IsFilledWith walks.old walks.new f value }
 {
     let first = head_of(&walks.links, at);
     let second = head_of(&walks.links, next);
-    // No way up is longer than the number of filled futures, so heights stay small.
-    let filled = walks.filled.len();
-    prove!(filled < usize::MAX);
-    walks.filled.insert(name, value)?;
+    walks.values[at] = Some(value);
     if first == second {
         end_so(&mut walks.links, first, End::Cycle);
     } else {
+        // No way up is longer than the number of filled futures, so heights stay small.
         join(&walks.numbers, &mut walks.links, first, second);
     }
-    Ok(())
 }
