@@ -1,6 +1,6 @@
 //! Activities under numbers from 0, in the order in which they were met.
 
-ghost use Rattle.std.specs.Prelude.{◌≡◌, ◌<◌, ◌+◌, [], IfOk, length};
+ghost use Rattle.std.specs.Prelude.{◌≡◌, ◌<◌, ◌+◌, [], IfOk, length, true};
 ghost use Rattle.asp_model.specs.Shapes.{future_shape};
 ghost use Rattle.future_update.specs.Names.{
   AreNames,
@@ -31,6 +31,9 @@ use std::alloc::{AllocError, Global};
 pub struct Names {
     alloc: Global,
     names: IndexSet<ActivityName>,
+    /// Those that were entered last as a future's sender and with it, which are tried first.
+    sender: u32,
+    beside: u32,
 }
 
 impl Names {
@@ -40,6 +43,8 @@ impl Names {
         Names {
             alloc,
             names: IndexSet::new(alloc),
+            sender: 0,
+            beside: 0,
         }
     }
 
@@ -135,18 +140,28 @@ impl Names {
         Ok(number as u32)
     }
 
-    /// A future by the number of its sender, which is met with this call if it was not before.
-    pub fn enter_future(&mut self, future: &FutureName) -> Result<Future, AllocError>
+    /// As `enter`, where a number is tried before the name is looked up.
+    fn enter_near(&mut self, name: &ActivityName, guess: u32) -> Result<u32, AllocError>
         requires names { AreNames (names_in self.old) }
         ensures names { AreNames (names_in self.new) }
         ensures keeps { Keeps (names_in self.old) (names_in self.new) }
-        ensures future { let shape = future_shape future.now in
-            IfOk result (IsFutureOf (names_in self.new) shape) }
+        ensures number { IfOk result (IsNumberOf (names_in self.new) name.now) }
     {
-        Ok(Future {
-            by: self.enter(&future.by)?,
-            index: future.index,
-        })
+        if self.is_named(guess, name) {
+            return Ok(guess);
+        }
+        self.enter(name)
+    }
+
+    // Whether a number is that of an activity.
+    #[tactic(auto, using(crate::proofs::NameLemmas::named_at))]
+    fn is_named(&self, number: u32, name: &ActivityName) -> bool
+        ensures named { result ≡ true → IsNumberOf (names_in self.now) name.now number }
+    {
+        match self.names.get_index(number as usize) {
+            Some(known) => known == name,
+            None => false,
+        }
     }
 
     /// A future and an activity by numbers.
@@ -162,9 +177,12 @@ impl Names {
             (λ x. IsFutureOf (names_in self.new) (future_shape future.now) x.0) }
         ensures home { IfOk result (λ x. IsNumberOf (names_in self.new) home.now x.1) }
     {
-        let future = self.enter_future(future)?;
+        let by = self.enter(&future.by)?;
         let home = self.enter(home)?;
-        Ok((future, home))
+        self.sender = by;
+        self.beside = home;
+        let index = future.index;
+        Ok((Future { by, index }, home))
     }
 
     /// An edge by the numbers of its activities, which are met with this call if they were not before.
@@ -180,9 +198,11 @@ impl Names {
         ensures edge { let edge = edge_between (future_shape future.now) from.now to.now in
             IfOk result (IsEdgeOf (names_in self.new) edge) }
     {
-        let future = self.enter_future(future)?;
-        let from = self.enter(from)?;
-        let to = self.enter(to)?;
+        let by = self.enter_near(&future.by, self.sender)?;
+        let from = self.enter_near(from, self.beside)?;
+        let to = self.enter_near(to, by)?;
+        let index = future.index;
+        let future = Future { by, index };
         Ok(Edge { future, from, to })
     }
 }
