@@ -1,6 +1,6 @@
 -- What a contraction asks of others stands in its redex.
 use Rattle.std.specs.Prelude.{◌≡◌, ℕ, ℤ, pos, negsuc, zero, suc, ◌+ℤ◌, ◌-ℤ◌, ◌*ℤ◌, int_div, int_rem, true, false, List, [], ◌∷◌, Option, Some, None}
-use Rattle.std.proofs.Common.{refl, subst}
+use Rattle.std.proofs.Common.{refl, subst, sym}
 use Rattle.asp_model.specs.Names.{Text}
 use Rattle.asp_model.specs.Term.{SignShape, Add, Subtract, Multiply, Divide, Remainder, Less, Equal, Head, Tree, Trees, none, more, Make, Get, Put, Call, Clone, Active, Serve, Let, Steps, If, Repeat, Operate, Print, Echo, Scatter, Size, Member, WaitAll, Environment}
 use Rattle.asp_model.specs.Term as term
@@ -9,9 +9,13 @@ use Rattle.asp_model.specs.Store.{MethodShape, CellShape, Number, Object, Refere
 use Rattle.asp_model.specs.Contraction.{Contraction, Becomes, Faults, Needs, Communicates, Breaks, Creates, Sends, Serves, row, contract}
 use Rattle.asp_model.specs.Contraction as rows
 
+abbrev pub IsObject : CellShape → Type 0
+IsObject (Object fields methods) = Unit {0}
+IsObject c = ⊥
+
 -- the object of a new activity, and the receiver and the arguments of a request, are the redex's own
 abbrev pub Asks : Store → Head → List ℕ → Contraction → Type 0
-Asks s h ns (Communicates (Creates p service)) = (h ≡ Active service) × (ns ≡ p ∷ [])
+Asks s h ns (Communicates (Creates p service)) = (h ≡ Active service) × (ns ≡ p ∷ []) × IsObject (cell s p)
 Asks s h ns (Communicates (Sends n l ks)) = (i : ℕ) × (h ≡ Call l) × (ns ≡ i ∷ ks) × (cell s i ≡ Reference n)
 Asks s h ns (Communicates (Serves ls)) = h ≡ Serve ls
 Asks s h ns c = Unit {0}
@@ -108,9 +112,12 @@ call_asks s l i js (Reference n) e = (i, refl, refl, e)
 call_asks s l i js (Number z) e = tt
 call_asks s l i js (Future f) e = tt
 
-active_asks : (s : Store) (i : ℕ) (service : Option Text) (c : CellShape) → Asks s (Active service) (i ∷ []) (rows.active_row i service c)
-active_asks s i service (Object fields methods) = (refl, refl)
-active_asks s i service c = tt
+active_asks : (s : Store) (i : ℕ) (service : Option Text) (c : CellShape) → cell s i ≡ c → Asks s (Active service) (i ∷ []) (rows.active_row i service c)
+active_asks s i service (Object fields methods) e = (refl, refl, subst IsObject (sym e) tt)
+active_asks s i service (Number z) e = tt
+active_asks s i service (Reference n) e = tt
+active_asks s i service (Future f) e = tt
+active_asks s i service (Group is) e = tt
 
 row_asks : (s : Store) (h : Head) (ns : List ℕ) (ts : Trees) → Asks s h ns (row s h ns ts)
 row_asks s (term.Number z) [] none = tt
@@ -120,7 +127,7 @@ row_asks s (Get l) (i ∷ []) none = get_asks s (Get l) (i ∷ []) l (cell s i)
 row_asks s (Put l) (i ∷ j ∷ []) none = put_asks s (Put l) (i ∷ j ∷ []) l i j (cell s i)
 row_asks s (Call l) (i ∷ js) none = call_asks s l i js (cell s i) refl
 row_asks s Clone (i ∷ []) none = tt
-row_asks s (Active l) (i ∷ []) none = active_asks s i l (cell s i)
+row_asks s (Active l) (i ∷ []) none = active_asks s i l (cell s i) refl
 row_asks s (Serve ls) [] none = refl
 row_asks s (Let x) (i ∷ []) (more a none) = tt
 row_asks s Steps (i ∷ []) ts = tt

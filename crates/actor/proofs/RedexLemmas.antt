@@ -1,5 +1,5 @@
 -- A redex that is told tells its operands, and what it asks of others.
-use Rattle.std.proofs.Common.{◌≡◌, ◌∙◌, ℕ, zero, suc, length, List, [], ◌∷◌, Option, Some, None, refl, sym, ap, subst}
+use Rattle.std.proofs.Common.{◌≡◌, ◌∙◌, ◌<◌, ℕ, Bool, true, false, zero, suc, length, List, [], ◌∷◌, Option, Some, None, refl, sym, ap, subst}
 use Rattle.asp_model.specs.Names.{Text}
 use Rattle.asp_model.specs.Term as term
 use Rattle.asp_model.specs.Term.{Head, Tree, Trees, none, more}
@@ -9,9 +9,10 @@ use Rattle.laws.specs.Closed.{AreBelow, CellsBelow, IsClosedStore}
 use Rattle.laws.specs.Waking.{labels_at, labels_of_head, labels_wanted}
 use Rattle.asp_model.specs.Store as store
 use Rattle.asp_model.specs.Store.{CellShape, Store, cell, reached}
-use Rattle.asp_model.specs.Contraction.{Communication, LineShape, Creates, Sends, Serves, Communicates, Becomes, contract, members_at, members_of, strict_members, strict_operands}
+use Rattle.asp_model.specs.Contraction.{Communication, Contraction, LineShape, Creates, Sends, Serves, Communicates, Becomes, Needs, active_row, call_row, contract, is_future, members_at, members_of, strict_members, strict_operands}
 use Rattle.activity_rows.specs.declared.redex.Redex.{Redex as Told}
 use Rattle.activity_rows.specs.declared.redex.Redex.TheVariants as redex
+use Rattle.activity_rows.specs.Decisions.{value_redex}
 use Rattle.activity_rows.specs.Redexes.{IsRedex}
 use Rattle.activity_rows.proofs.ReadLemmas.{cell_seen}
 use Rattle.program_code.specs.declared.code.Class.{Class}
@@ -28,8 +29,9 @@ use Rattle.coded_cells.specs.Shapes.{cell_of, class_object, store_of}
 use Rattle.activity_step.specs.declared.standing.Standing.{Standing}
 use Rattle.activity_step.specs.declared.standing.Standing.TheVariants as standing
 use Rattle.activity_step.specs.Standings.{IsAt, IsStandingAt}
-use Rattle.actor.specs.Asking.{IsPlaced, IsWithin, asked_for, asked_in, class_in, labels_in, sent_to}
-use Rattle.actor.proofs.AskLemmas.{contract_asks}
+use Rattle.chase_laws.proofs.FutureLemmas.{some_is}
+use Rattle.actor.specs.Asking.{IsAsked, IsPlaced, IsWithin, asked_for, asked_in, class_in, created_at, labels_in, lent_text, sent_to}
+use Rattle.actor.proofs.AskLemmas.{IsObject, contract_asks}
 
 -- Operands
 
@@ -66,6 +68,13 @@ refers k (coded.Object i ns) n e = absurd (class_refers k ns (class_at k i) n e)
 refers k (coded.Future f) n e = absurd cc
 refers k (coded.Group ns) n e = absurd cc
 
+object_created : (k : List Node) (c : CodedCell) (i : ℕ) (l : Option Text) → IsObject (cell_of k c) → created_at c i l ≡ Some (Creates i l)
+object_created k (coded.Object j ns) i l h = refl
+object_created k (coded.Number z) i l h = absurd h
+object_created k (coded.Reference m) i l h = absurd h
+object_created k (coded.Future f) i l h = absurd h
+object_created k (coded.Group ns) i l h = absurd h
+
 -- a contraction is no communication
 abbrev IsOwn : Redex → Store → Type 0
 IsOwn r s = (t : Tree) × (u : Store) × (added : List LineShape) × (contract s r ≡ Becomes t u added)
@@ -83,21 +92,24 @@ if_serves : (ls : List Text) → term.If ≡ term.Serve ls → ⊥
 if_serves ls e = absurd cc
 
 module _ (k : List Node) (s : CodedStore) where
-  created : (r : Redex) (x : Told) (p : ℕ) (service : Option Text) → IsRedex r x → contract (store_of k s) r ≡ Communicates (Creates p service) → r.head ≡ term.Active service → r.places ≡ p ∷ [] → asked_in s x ≡ Some (Creates p service)
-  created r redex.Goes p service h e head places = absurd (goes_on r (store_of k s) (Creates p service) (h.goes (store_of k s)) e)
-  created r (redex.Get i l) p service h _ head places = absurd cc
-  created r (redex.Put i l j) p service h _ head places = absurd cc
-  created r (redex.Call i l ks) p service h _ head places = absurd cc
-  created r (redex.Clone i) p service h _ head places = absurd cc
-  created r (redex.Active i l) p service h _ head places = cc
-  created r (redex.Serve ls) p service h _ head places = absurd cc
-  created r (redex.If i) p service h _ head _ = absurd (if_creates service (sym (ap (λ (q : Redex). q.head) h.2) ∙ head))
-  created r (redex.Operate sign i j) p service h _ head places = absurd cc
-  created r (redex.Print i) p service h _ head places = absurd cc
-  created r (redex.Scatter i m j) p service h _ head places = absurd cc
-  created r (redex.Size i) p service h _ head places = absurd cc
-  created r (redex.Member i j) p service h _ head places = absurd cc
-  created r (redex.WaitAll i) p service h _ head places = absurd cc
+  created : (r : Redex) (x : Told) (p : ℕ) (service : Option Text) → IsRedex r x → contract (store_of k s) r ≡ Communicates (Creates p service) → r.head ≡ term.Active service → r.places ≡ p ∷ [] → IsObject (cell (store_of k s) p) → asked_in s x ≡ Some (Creates p service)
+  created r redex.Goes p service h e head places at = absurd (goes_on r (store_of k s) (Creates p service) (h.goes (store_of k s)) e)
+  created r (redex.Get i l) p service h _ head places at = absurd cc
+  created r (redex.Put i l j) p service h _ head places at = absurd cc
+  created r (redex.Call i l ks) p service h _ head places at = absurd cc
+  created r (redex.Clone i) p service h _ head places at = absurd cc
+  created r (redex.Active i l) p service h _ head places at =
+      let place : i ≡ p = cc in
+      let text : lent_text l ≡ service = cc in
+      (λ a. created_at (cell_at s (place a)) (place a) (text a)) ∙ object_created k (cell_at s p) p service (subst IsObject (cell_seen k s p (cell_at s p) refl) at)
+  created r (redex.Serve ls) p service h _ head places at = absurd cc
+  created r (redex.If i) p service h _ head _ _ = absurd (if_creates service (sym (ap (λ (q : Redex). q.head) h.2) ∙ head))
+  created r (redex.Operate sign i j) p service h _ head places at = absurd cc
+  created r (redex.Print i) p service h _ head places at = absurd cc
+  created r (redex.Scatter i m j) p service h _ head places at = absurd cc
+  created r (redex.Size i) p service h _ head places at = absurd cc
+  created r (redex.Member i j) p service h _ head places at = absurd cc
+  created r (redex.WaitAll i) p service h _ head places at = absurd cc
 
   sent : (r : Redex) (x : Told) (i : ℕ) (n : List ℕ) (l : Text) (js : List ℕ) → IsRedex r x → contract (store_of k s) r ≡ Communicates (Sends n l js) → r.head ≡ term.Call l → r.places ≡ i ∷ js → cell (store_of k s) i ≡ store.Reference n → asked_in s x ≡ Some (Sends n l js)
   sent r redex.Goes i n l js h e head places at = absurd (goes_on r (store_of k s) (Sends n l js) (h.goes (store_of k s)) e)
@@ -139,9 +151,76 @@ module _ (k : List Node) (s : CodedStore) where
 
   -- what the redex asks of others is told
   pub asked : (r : Redex) (x : Told) (y : Communication) → IsRedex r x → contract (store_of k s) r ≡ Communicates y → asked_in s x ≡ Some y
-  asked r x (Creates p service) h e = let a = contract_asks (store_of k s) r (Communicates (Creates p service)) e in created r x p service h e a.0 a.1
+  asked r x (Creates p service) h e = let a = contract_asks (store_of k s) r (Communicates (Creates p service)) e in created r x p service h e a.0 a.1 a.2
   asked r x (Sends n l js) h e = let a = contract_asks (store_of k s) r (Communicates (Sends n l js)) e in sent r x a.0 n l js h e a.1 a.2 a.3
   asked r x (Serves ls) h e = served r x ls h e (contract_asks (store_of k s) r (Communicates (Serves ls)) e)
+
+-- What is asked as the store stands
+
+object_is : (k : List Node) (ns : List ℕ) (o : Option Class) → IsObject (class_object k ns o)
+object_is k ns None = tt
+object_is k ns (Some c) = tt
+
+abbrev needs_or : Option ℕ → Contraction → Contraction
+needs_or o c = elim o [ Some p ↦ Needs p | None ↦ c ]
+
+abbrev if_held : Bool → ℕ → Option ℕ
+if_held b i = elim b [ true ↦ Some i | false ↦ None ]
+
+creating : (s : Store) (i : ℕ) (l : Option Text) (c : CellShape) → cell s i ≡ c → IsObject c → contract s (value_redex (term.Active l) (i ∷ [])) ≡ Communicates (Creates i l)
+creating s i l (store.Object fields methods) e h = ap (λ (c : CellShape). needs_or (if_held (is_future c) i) (active_row i l c)) e
+creating s i l (store.Number z) e h = absurd h
+creating s i l (store.Reference m) e h = absurd h
+creating s i l (store.Future f) e h = absurd h
+creating s i l (store.Group ns) e h = absurd h
+
+sending : (s : Store) (i : ℕ) (l : Text) (ks n : List ℕ) → cell s i ≡ store.Reference n → contract s (value_redex (term.Call l) (i ∷ ks)) ≡ Communicates (Sends n l ks)
+sending s i l ks n e = ap (λ (c : CellShape). needs_or (if_held (is_future c) i) (call_row s l i ks c)) e
+
+module _ (k : List Node) (s : Store) (i : ℕ) where
+  created_now : (l : Option Text) (c : CodedCell) (y : Communication) → cell s i ≡ cell_of k c → created_at c i l ≡ Some y → contract s (value_redex (term.Active l) (i ∷ [])) ≡ Communicates y
+  created_now l (coded.Object j ns) y is e = creating s i l (class_object k ns (class_at k j)) is (object_is k ns (class_at k j)) ∙ ap Communicates (some_is e)
+  created_now l (coded.Number z) y is e = absurd cc
+  created_now l (coded.Reference m) y is e = absurd cc
+  created_now l (coded.Future f) y is e = absurd cc
+  created_now l (coded.Group ns) y is e = absurd cc
+
+  sent_now : (l : Text) (ks : List ℕ) (c : CodedCell) (y : Communication) → cell s i ≡ cell_of k c → sent_to c l ks ≡ Some y → contract s (value_redex (term.Call l) (i ∷ ks)) ≡ Communicates y
+  sent_now l ks (coded.Reference m) y is e = sending s i l ks m is ∙ ap Communicates (some_is e)
+  sent_now l ks (coded.Number z) y is e = absurd cc
+  sent_now l ks (coded.Object j ns) y is e = absurd cc
+  sent_now l ks (coded.Future f) y is e = absurd cc
+  sent_now l ks (coded.Group ns) y is e = absurd cc
+
+module _ (k : List Node) (s : CodedStore) where
+  asks : (r : Redex) (x : Told) (y : Communication) → IsRedex r x → asked_in s x ≡ Some y → contract (store_of k s) r ≡ Communicates y
+  asks r (redex.Active i l) y h e = ap (contract (store_of k s)) h ∙ created_now k (store_of k s) i (lent_text l) (cell_at s i) y (cell_seen k s i (cell_at s i) refl) e
+  asks r (redex.Call i l ks) y h e = ap (contract (store_of k s)) h ∙ sent_now k (store_of k s) i l.now.text ks.now (cell_at s i) y (cell_seen k s i (cell_at s i) refl) e
+  asks r (redex.Serve ls) y h e = ap (contract (store_of k s)) h ∙ ap Communicates (some_is e)
+  asks r redex.Goes y h e = absurd cc
+  asks r (redex.Get i l) y h e = absurd cc
+  asks r (redex.Put i l j) y h e = absurd cc
+  asks r (redex.Clone i) y h e = absurd cc
+  asks r (redex.If i) y h e = absurd cc
+  asks r (redex.Operate sign i j) y h e = absurd cc
+  asks r (redex.Print i) y h e = absurd cc
+  asks r (redex.Scatter i l j) y h e = absurd cc
+  asks r (redex.Size i) y h e = absurd cc
+  asks r (redex.Member i j) y h e = absurd cc
+  asks r (redex.WaitAll i) y h e = absurd cc
+
+  asked_by : (r : Redex) (x : Told) (o : Option Communication) → IsRedex r x → asked_in s x ≡ o → IsAsked o (contract (store_of k s) r)
+  asked_by r x (Some y) h e = asks r x y h e
+  asked_by r x None h e = λ y is. let both : None ≡ Some y = sym e ∙ asked k s r x y h is in absurd cc
+
+  -- what is told of the redex is what it comes to, and nothing where it asks nothing
+  pub is_asked : (r : Redex) (x : Told) → IsRedex r x → IsAsked (asked_in s x) (contract (store_of k s) r)
+  is_asked r x h = asked_by r x (asked_in s x) h refl
+
+-- a communication is asked for
+pub asked_so : (o : Option Communication) (c : Contraction) (x : Communication) → IsAsked o c → c ≡ Communicates x → o ≡ Some x
+asked_so (Some y) c x h e = let same : Communicates y ≡ Communicates x = sym h ∙ e in cc
+asked_so None c x h e = absurd (h x e)
 
 abbrev labels_of : Option Communication → List Text
 labels_of (Some (Serves ls)) = ls
@@ -160,7 +239,14 @@ labels_told s (redex.Call i l ks) ls e = sent_serves (cell_at s i) e
     sent_serves (coded.Future f) e = ap labels_of e
     sent_serves (coded.Group ns) e = ap labels_of e
 labels_told s (redex.Clone i) ls e = ap labels_of e
-labels_told s (redex.Active i l) ls e = ap labels_of e
+labels_told s (redex.Active i l) ls e = created_serves (cell_at s i) e
+  where
+    created_serves : (c : CodedCell) → created_at c i (lent_text l) ≡ Some (Serves ls) → [] ≡ ls
+    created_serves (coded.Object j ns) e = ap labels_of e
+    created_serves (coded.Number z) e = ap labels_of e
+    created_serves (coded.Reference n) e = ap labels_of e
+    created_serves (coded.Future f) e = ap labels_of e
+    created_serves (coded.Group ns) e = ap labels_of e
 labels_told s (redex.Serve ms) ls e = ap labels_of e
 labels_told s (redex.If i) ls e = ap labels_of e
 labels_told s (redex.Operate sign i j) ls e = ap labels_of e
@@ -192,7 +278,7 @@ placed n r (redex.Get i l) h b = tt
 placed n r (redex.Put i l j) h b = tt
 placed n r (redex.Call i l ks) h b = let c : AreBelow n (i ∷ ks.now) = subst (AreBelow n) (ap places h) b in c.0
 placed n r (redex.Clone i) h b = tt
-placed n r (redex.Active i l) h b = tt
+placed n r (redex.Active i l) h b = let c : AreBelow n (i ∷ []) = subst (AreBelow n) (ap places h) b in c.0
 placed n r (redex.Serve ls) h b = tt
 placed n r (redex.If i) h b = tt
 placed n r (redex.Operate sign i j) h b = tt
@@ -209,6 +295,13 @@ sent_within n (coded.Object i ns) l ks h = tt
 sent_within n (coded.Future f) l ks h = tt
 sent_within n (coded.Group ns) l ks h = tt
 
+created_within : (n : ℕ) (c : CodedCell) (i : ℕ) (l : Option Text) → i < n → IsWithin n (created_at c i l)
+created_within n (coded.Object j ns) i l h = h
+created_within n (coded.Number z) i l h = tt
+created_within n (coded.Reference m) i l h = tt
+created_within n (coded.Future f) i l h = tt
+created_within n (coded.Group ns) i l h = tt
+
 -- what others get a copy of is in the store
 pub asked_within : (n : ℕ) (s : CodedStore) (r : Redex) (x : Told) → IsRedex r x → AreBelow n r.places → IsWithin n (asked_in s x)
 asked_within n s r redex.Goes h b = tt
@@ -216,7 +309,7 @@ asked_within n s r (redex.Get i l) h b = tt
 asked_within n s r (redex.Put i l j) h b = tt
 asked_within n s r (redex.Call i l ks) h b = let c : AreBelow n (i ∷ ks.now) = subst (AreBelow n) (ap places h) b in sent_within n (cell_at s i) l.now.text ks.now c.1
 asked_within n s r (redex.Clone i) h b = tt
-asked_within n s r (redex.Active i l) h b = let c : AreBelow n (i ∷ []) = subst (AreBelow n) (ap places h) b in c.0
+asked_within n s r (redex.Active i l) h b = let c : AreBelow n (i ∷ []) = subst (AreBelow n) (ap places h) b in created_within n (cell_at s i) i (lent_text l) c.0
 asked_within n s r (redex.Serve ls) h b = tt
 asked_within n s r (redex.If i) h b = tt
 asked_within n s r (redex.Operate sign i j) h b = tt

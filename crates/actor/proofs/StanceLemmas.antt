@@ -1,6 +1,7 @@
 -- Where an activity stands, by its first operand that is a future, or by what it does next.
 use Rattle.std.proofs.Common.{◌≡◌, ◌∙◌, ◌++◌, ℕ, Bool, true, false, List, [], ◌∷◌, Option, Some, None, is_some, refl, sym, ap, subst}
 use Rattle.std.specs.Borrow.{Bor}
+use Rattle.std.specs.Option.{option_map}
 use Rattle.asp_model.specs.declared.name.FutureName.{FutureName}
 use Rattle.asp_model.specs.declared.outcome.Fault.{Fault}
 use Rattle.asp_model.specs.Names.{FutureShape, Name, Text}
@@ -67,6 +68,13 @@ stance_place chases rs n a p b e serving = ap place_stance serving ∙ sym (by_n
 
 -- At a redex
 
+abbrev needs_or : Option ℕ → Contraction → Contraction
+needs_or o c = elim o [ Some p ↦ contraction.Needs p | None ↦ c ]
+
+none_by : (o : Option ℕ) (c : Contraction) (y : Communication) → needs_or o c ≡ Communicates y → o ≡ None
+none_by None c y e = refl
+none_by (Some p) c y e = absurd cc
+
 abbrev quiet_by : Redex → Ready → Bool
 quiet_by r x = elim x [ Lacks f ↦ false | Reads s ↦ is_asking (contract s r) ]
 
@@ -111,10 +119,29 @@ module _ (chases : FutureShape → Chase) (rs : List RequestShape) (n : Name) (a
     at_free : stance_of chases rs n a ≡ stance_by (is_asking (contract a.store r)) (contracts rs n a cs a.store (contract a.store r))
     at_free = at_redex ∙ ap (λ (o : Option ℕ). told o (redex_ready chases a.store r)) none ∙ ap (λ (x : Ready). stance_by (quiet_by r x) (intended rs n a cs r x)) (redex_reads chases a.store r none)
 
--- Whether a redex asks others
+  module _ (y : Communication) (is : contract a.store r ≡ Communicates y) where
+    none_held : first_future a.store operands ≡ None
+    none_held = none_by (first_future a.store operands) (row a.store r.head r.places r.behind) y is
 
-abbrev needs_or : Option ℕ → Contraction → Contraction
-needs_or o c = elim o [ Some p ↦ contraction.Needs p | None ↦ c ]
+    -- what a redex asks of others is what its activity intends
+    pub intent_asks : intent.intent chases rs n a ≡ contracts rs n a cs a.store (Communicates y)
+    intent_asks = intent_free none_held ∙ ap (contracts rs n a cs a.store) is
+
+    pub stance_asks : stance_of chases rs n a ≡ stance_by true (contracts rs n a cs a.store (Communicates y))
+    stance_asks = at_free none_held ∙ ap (λ (c : Contraction). stance_by (is_asking c) (contracts rs n a cs a.store c)) is
+
+-- At a `serve`, by whether a request matches
+
+module _ (a : model.Activity) (cs : List Context) where
+  pub match_goes : (n : ℕ) (o : Option Numbered) → Some n ≡ option_map (λ x. x.0) o → Goes true ≡ stance_by true (serves a cs o)
+  match_goes n None e = absurd cc
+  match_goes n (Some x) e = refl
+
+  pub match_rests : (o : Option Numbered) → None ≡ option_map (λ x. x.0) o → Rests intent.Serving ≡ stance_by true (serves a cs o)
+  match_rests None e = refl
+  match_rests (Some x) e = absurd cc
+
+-- Whether a redex asks others
 
 active_becomes : (i : ℕ) (service : Option Text) (o : Option ℕ) (c : CellShape) (t : Tree) (u : Store) (ls : List LineShape) → needs_or o (active_row i service c) ≡ Becomes t u ls → ⊥
 active_becomes i service (Some p) c t u ls e = cc

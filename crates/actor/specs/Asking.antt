@@ -1,11 +1,11 @@
 -- What a redex asks of others.
-use Rattle.std.specs.Prelude.{ℕ, ◌<◌, Bool, true, false, List, [], Option, Some, None, map}
+use Rattle.std.specs.Prelude.{◌≡◌, ℕ, ◌<◌, Bool, true, false, List, [], Option, Some, None, map}
 use Rattle.std.specs.Option.{option_map}
 use Rattle.std.specs.Borrow.{Bor}
 use Rattle.asp_model.specs.declared.word.Label.{Label}
 use Rattle.asp_model.specs.Names.{Text}
 use Rattle.asp_model.specs.Store.{CellShape}
-use Rattle.asp_model.specs.Contraction.{Communication, Creates, Sends, Serves}
+use Rattle.asp_model.specs.Contraction.{Communication, Contraction, Communicates, Creates, Sends, Serves}
 use Rattle.asp_model.specs.Intent.{labels_served}
 use Rattle.activity_rows.specs.declared.redex.Redex.{Redex}
 use Rattle.activity_rows.specs.declared.redex.Redex.TheVariants as redex
@@ -39,19 +39,30 @@ abbrev pub sent_to : CodedCell → Text → List ℕ → Option Communication
 sent_to (coded.Reference n) l ks = Some (Sends n l ks)
 sent_to c l ks = None
 
+-- the cell is an object
+abbrev pub created_at : CodedCell → ℕ → Option Text → Option Communication
+created_at (coded.Object k ns) i l = Some (Creates i l)
+created_at c i l = None
+
 abbrev pub asked_in : CodedStore → Redex → Option Communication
-asked_in s (redex.Active i l) = Some (Creates i (lent_text l))
+asked_in s (redex.Active i l) = created_at (cell_at s i) i (lent_text l)
 asked_in s (redex.Call i l ks) = sent_to (cell_at s i) l.now.text ks.now
 asked_in s (redex.Serve ls) = Some (Serves (map label_text ls.now))
 asked_in s x = None
+
+-- a redex that comes to this asks so of others
+abbrev pub IsAsked : Option Communication → Contraction → Type 0
+IsAsked (Some x) c = c ≡ Communicates x
+IsAsked None c = (x : Communication) → c ≡ Communicates x → ⊥
 
 -- the labels of a `serve`
 abbrev pub labels_in : Redex → List Text
 labels_in (redex.Serve ls) = map label_text ls.now
 labels_in x = []
 
--- the receiver of a call is below n
+-- the receiver of a call is below n, and so is the object of a new activity
 abbrev pub IsPlaced : ℕ → Redex → Type 0
+IsPlaced n (redex.Active i l) = i < n
 IsPlaced n (redex.Call i l ks) = i < n
 IsPlaced n x = Unit {0}
 

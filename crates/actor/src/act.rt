@@ -16,6 +16,8 @@ ghost use Rattle.actor.specs.Asking.{communicates};
 ghost use Rattle.actor.specs.Effects.{IsDoneBy, IsGivenOf};
 
 use crate::actor::Actor;
+use crate::asked::Asked;
+use crate::communicate::copied;
 use activity_step::{Advance, Standing};
 use asp_model::{ActivityName, FutureName};
 use coded_cells::{Parcel, Place};
@@ -76,10 +78,26 @@ impl Actor {
     {
         match self.activity.standing()? {
             Standing::Place(place) => self.end_service(alloc, place),
-            Standing::Redex(redex) => {
-                let strict = strict_of(redex);
-                self.reduce(alloc, name, futures, strict)
-            }
+            Standing::Redex(redex) => match self.asks(redex) {
+                Asked::Creates(object, service) => {
+                    let service = copied(alloc, service)?;
+                    self.create(alloc, name, object, service)
+                }
+                Asked::Sends(to, label, arguments) => {
+                    let to = to.copy(alloc)?;
+                    let label = label.copy(alloc)?;
+                    let arguments = self.activity.pack(alloc, arguments)?;
+                    self.send(alloc, name, to, label, arguments)
+                }
+                Asked::Serves(labels) => match self.match_of(alloc, labels)? {
+                    Some(number) => self.serve(alloc, number),
+                    None => Ok(Given::Nothing),
+                },
+                Asked::Nothing => {
+                    let strict = strict_of(redex);
+                    self.reduce(alloc, name, futures, strict)
+                }
+            },
         }
     }
 

@@ -19,7 +19,7 @@ ghost use Rattle.actor.specs.Effects.{IsDoneBy, IsGivenOf};
 
 use crate::act::Given;
 use crate::actor::Actor;
-use crate::asked::{Asked, asked_at};
+use crate::asked::Asked;
 use activity_step::Standing;
 use actor_parts::future_named;
 use asp_model::{ActivityName, Label};
@@ -29,6 +29,7 @@ use std::alloc::{AllocError, Global};
 
 impl Actor {
     /// What the redex asks of others is done.
+    #[inline(never)]
     pub fn communicate(&mut self, alloc: Global, name: &ActivityName) -> Result<Given, AllocError>
         requires closed { IsClosedFor self.old }
         ensures done { (a : model.Activity) (rs : List RequestShape) (cs : List Context) (r : Redex)
@@ -68,12 +69,12 @@ impl Actor {
     {
         match self.activity.standing()? {
             Standing::Place(_) => Ok(Asked::Nothing),
-            Standing::Redex(redex) => Ok(asked_at(self.activity.store(), redex)),
+            Standing::Redex(redex) => Ok(self.asks(redex)),
         }
     }
 
     /// A new activity gets a copy of the object, and this one a reference to it.
-    fn create(
+    pub(crate) fn create(
         &mut self,
         alloc: Global,
         name: &ActivityName,
@@ -101,7 +102,7 @@ impl Actor {
     }
 
     /// This activity has a future for the answer of the request.
-    fn send(
+    pub(crate) fn send(
         &mut self,
         alloc: Global,
         name: &ActivityName,
@@ -132,7 +133,7 @@ impl Actor {
     }
 
     /// The request of this number is served: the term waits, and becomes its call.
-    fn serve(&mut self, alloc: Global, number: u64) -> Result<Given, AllocError>
+    pub(crate) fn serve(&mut self, alloc: Global, number: u64) -> Result<Given, AllocError>
         requires closed { IsClosedFor self.old }
         requires pending { IsSome (request_at number self.old.queue.pending) }
         ensures done { (a : model.Activity) (rs : List RequestShape) (cs : List Context) (r : Redex)
@@ -156,7 +157,7 @@ impl Actor {
     }
 }
 
-fn copied(alloc: Global, label: Option<&Label>) -> Result<Option<Label>, AllocError>
+pub(crate) fn copied(alloc: Global, label: Option<&Label>) -> Result<Option<Label>, AllocError>
     ensures { IfOk result (λ l. service_text l ≡ lent_text label.entry) }
 {
     match label {

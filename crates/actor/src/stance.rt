@@ -21,6 +21,7 @@ ghost use Rattle.actor.specs.Stances.{
 };
 
 use crate::actor::Actor;
+use crate::asked::Asked;
 use crate::held::{Held, first_held};
 use activity_rows::Redex;
 use activity_step::Standing;
@@ -81,6 +82,32 @@ impl Actor {
     }
 
     fn redex_stance<'a>(
+        &'a self,
+        alloc: Global,
+        futures: &'a FutureTable,
+        redex: Redex<'a>,
+    ) -> Result<Stance<'a>, AllocError>
+        requires closed { IsClosedFor self.now }
+        requires values { AreClosedValues (values_of futures.now) }
+        requires stands { (a : model.Activity) → StandsFor self.now.activity a → IsAt a redex }
+        ensures stance { (a : model.Activity) (rs : List RequestShape) (n : Name) →
+            Stands self.now a rs → let chases = chase (values_of futures.now) in
+            IfOk result (λ x. stance_shape x ≡ stance_of chases rs n a) }
+    {
+        match self.asks(redex) {
+            Asked::Creates(_object, _service) => Ok(Stance::Communicates),
+            Asked::Sends(_to, _label, _arguments) => Ok(Stance::Communicates),
+            Asked::Serves(labels) => match self.match_of(alloc, labels)? {
+                Some(_number) => Ok(Stance::Communicates),
+                None => Ok(Stance::Serving),
+            },
+            Asked::Nothing => self.other_stance(alloc, futures, redex),
+        }
+    }
+
+    /// Where it stands at a redex that asks nothing of others, or not yet.
+    #[inline(never)]
+    fn other_stance<'a>(
         &'a self,
         alloc: Global,
         futures: &'a FutureTable,
