@@ -123,6 +123,7 @@ impl Actor {
     }
 
     /// The redex is contracted over the values of its strict operands, if each has one.
+    #[inline(never)]
     fn reduce(
         &mut self,
         alloc: Global,
