@@ -69,8 +69,21 @@ fn look_for_turn<H: Lends>(top: &Top<H>, place: &mut Place<H>) -> bool
     false
 }
 
+// Looks for a while, or until the turn is free.
+fn watch<H: Lends>(top: &Top<H>)
+    requires table { IsSized top.now.table_id }
+{
+    for _look in 0..LOOKS {
+        if top.peek(TURN) == FREE {
+            return;
+        }
+        hint::spin_loop();
+    }
+}
+
 // Sleeps until the turn is got. Each who sleeps leaves a word that says so, also with the turn:
-// others may sleep too.
+// others may sleep too. One who was woken looks for a while before it sleeps again, since others
+// who look may be faster.
 fn wait_for_turn<H: Lends, R: Wait>(rt: &R, top: &Top<H>, place: &mut Place<H>)
     requires table { (place.old.table_id ≡ top.now.table_id) × IsSized top.now.table_id }
     requires live { 0 < length place.old.me.0.numbers }
@@ -82,6 +95,7 @@ fn wait_for_turn<H: Lends, R: Wait>(rt: &R, top: &Top<H>, place: &mut Place<H>)
             return;
         }
         top.park(rt, TURN, AWAITED as u32);
+        watch(top);
     }
     unreachable!()
 }
