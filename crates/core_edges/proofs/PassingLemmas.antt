@@ -197,6 +197,17 @@ module _ {P : Type 0} (answers : Answering P) (counts : Counting P) where
     others = record { activities = refl; plan = refl; strategies = refl };
   }
 
+  pub no_future_passed : (f : FutureShape) (held : List FutureShape) (to : Name) (x : Edges P) → held ≡ [] → IsHeldPassed answers counts f held to x x
+  no_future_passed f held to x none = record {
+    holders = λ i. record x.holders.holders { edges = sym (ap (λ fs. with_held fs (home_of f x.holders.holders.homes) to x.holders.holders.edges) none ∙ nothing (home_of f x.holders.holders.homes)) i };
+    answered = none_answered answers counts (strategy_in x) x x refl refl refl;
+    others = record { activities = refl; plan = refl; strategies = refl };
+  }
+    where
+      nothing : (o : Option Name) → with_held [] o to x.holders.holders.edges ≡ x.holders.holders.edges
+      nothing None = refl
+      nothing (Some n) = refl
+
   pub received_holders : (f : FutureShape) (held fs : List FutureShape) (by : Name) (old mid new : Edges P) → fs ≡ held → IsHeldPassed answers counts f held by old mid → new.holders.holders ≡ once_received f by mid.holders.holders → new.holders.holders ≡ after_event (Receives f by fs) old.holders.holders
   received_holders f held fs by old mid new same h e =
       e ∙ ap (once_received f by) h.holders ∙ ap (λ gs. after_event (Receives f by gs) old.holders.holders) (sym same)

@@ -1,6 +1,7 @@
 //! What is passed on by requests, by new activities and with values.
 
-ghost use Rattle.std.specs.Prelude.{◌≡◌, IfOk, None, OnOk};
+ghost use Rattle.std.specs.Prelude.{◌≡◌, [], None, OnOk};
+ghost use Rattle.std.specs.Bool.{OnFalse};
 ghost use Rattle.asp_model.specs.Shapes.{delivery_shape, future_shape};
 ghost use Rattle.coded_cells.specs.Cells.{all_coded, coded};
 ghost use Rattle.coded_cells.specs.Shapes.{parcel_shape};
@@ -27,6 +28,19 @@ use object_store::Store;
 use request_queue::Request;
 use std::alloc::{AllocError, Global};
 use update_policy::{Strategy, UpdatePolicy};
+
+/// Whether one of some cells holds a future.
+fn holds_futures(cells: &[Cell]) -> bool
+    ensures none { OnFalse result (futures_held (all_coded cells.now) ≡ []) }
+{
+    for cell in cells {
+        match future_in(cell) {
+            Some(_) => return true,
+            None => {}
+        }
+    }
+    false
+}
 
 impl<P: UpdatePolicy> Edges<P> {
     /// The strategy of a future.
@@ -168,6 +182,9 @@ impl<P: UpdatePolicy> Edges<P> {
             let held = futures_held (all_coded value.now.cells.items) in
             OnOk result (IsHeldPassed P.answer P.asked f held by.now self.old self.new) }
     {
+        if !holds_futures(&value.cells) {
+            return Ok(());
+        }
         match self.holders.home(future) {
             Some(home) => {
                 let home = home.copy(alloc)?;
