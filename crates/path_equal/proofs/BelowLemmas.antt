@@ -129,3 +129,9 @@ field_before path at xs ns m k x w next low within is path_is =
     let first : path ++ codes "." ++ get_or (map text_of xs) k x.text ≡ w = ap (λ (l : Text). path ++ codes "." ++ l) label ∙ sym path_is in
     field_next path at (map text_of xs) ns k x.text 0 (omega (arith, low, length-map xs text_of)) within
     ∙ (λ i. (first i, at (get_or ns k 0)) ∷ fields_below path at (drop (next i) (map text_of xs)) (drop (next i) ns))
+
+-- the member before those from a number on
+pub member_before : (path : Path) (at : ℕ → Place) (ns : List ℕ) (m k : ℕ) (w : Path) → suc k ≡ m → k < length ns → w ≡ path ++ codes "." ++ decimal k
+    → members_below path at k (drop k ns) ≡ (w, at (get_or ns k 0)) ∷ members_below path at m (drop m ns)
+member_before path at ns m k w next within path_is =
+    member_next path at ns k 0 within ∙ (λ i. (sym path_is i, at (get_or ns k 0)) ∷ members_below path at (next i) (drop (next i) ns))

@@ -1,5 +1,5 @@
 -- The states at the end of a run by their numbers.
-use Rattle.std.proofs.Common.{◌≡◌, ℕ, zero, suc, ◌<◌, ◌≤◌, Bool, true, false, nat_lt, List, [], ◌∷◌, map, length, get_or, Option, Some, None, inl, inr, ◌⊎◌, ⊎_elim, refl, sym, ap, subst, ◌∙◌, arith, rules}
+use Rattle.std.proofs.Common.{◌≡◌, ℕ, zero, suc, ◌<◌, ◌≤◌, Bool, T, true, false, nat_lt, List, [], ◌∷◌, map, length, get_or, Option, Some, None, inl, inr, ◌⊎◌, ⊎_elim, refl, sym, ap, subst, ◌∙◌, arith, rules}
 use Rattle.std.specs.Prelude.{slice_get}
 use Rattle.std.specs.FinMap.{is_sorted}
 use Rattle.std.specs.FinMap.Entries.{below_all}
@@ -26,6 +26,23 @@ use Rattle.paths.specs.Outcomes.{WholeOutcome}
 use Rattle.path_equal.specs.declared.state.State.{State}
 use Rattle.path_equal.specs.Views.{AreAscending, IsNamed, IsNamedAt, IsNowhere, IsSeen, NamesAscend, NoneNamed}
 
+-- Equal options and lists
+
+none_some : {A C : Type 0} {x : A} → None ≡ Some x → C
+none_some e = absurd (subst (λ o. T (elim o [ None ↦ true | Some y ↦ false ])) e tt)
+
+some_is : {A : Type 0} {x y : A} → Some x ≡ Some y → x ≡ y
+some_is {A} {x} e = ap (λ o. elim o [ None ↦ x | Some z ↦ z ]) e
+
+no_first : {A C : Type 0} {x : A} {xs : List A} → [] ≡ x ∷ xs → C
+no_first e = absurd (subst (λ l. T (elim l [ [] ↦ true | y ∷ ys ↦ false ])) e tt)
+
+first_is : {A : Type 0} {x y : A} {xs ys : List A} → x ∷ xs ≡ y ∷ ys → x ≡ y
+first_is {A} {x} e = ap (λ l. elim l [ [] ↦ x | z ∷ zs ↦ z ]) e
+
+rest_is : {A : Type 0} {x y : A} {xs ys : List A} → x ∷ xs ≡ y ∷ ys → xs ≡ ys
+rest_is {A} {x} {y} {xs} e = ap (λ l. elim l [ [] ↦ xs | z ∷ zs ↦ zs ]) e
+
 -- what stands at a number is the state and the report of one end
 pub record IsEndAt (k : List Node) (a : ActivityReport) (x : EndState) (o : Option EndShape) : Type 0 where
   pub end : EndShape
@@ -35,33 +52,33 @@ pub record IsEndAt (k : List Node) (a : ActivityReport) (x : EndState) (o : Opti
 
 pub end_at : (k : List Node) (rs : List ActivityReport) (xs : List EndState) (es : List EndShape) (n : ℕ) (a : ActivityReport) (x : EndState) → map activity_shape rs ≡ map (λ e. e.report) es → AreSnapshotsOf k xs es
     → slice_get rs n ≡ Some a → slice_get xs n ≡ Some x → IsEndAt k a x (slice_get es n)
-end_at k [] xs es n a x same are at there = absurd cc
-end_at k (b ∷ rs) [] es n a x same are at there = absurd cc
+end_at k [] xs es n a x same are at there = none_some at
+end_at k (b ∷ rs) [] es n a x same are at there = none_some there
 end_at k (b ∷ rs) (y ∷ xs) [] n a x same are at there = absurd are
 end_at k (b ∷ rs) (y ∷ xs) (e ∷ es) zero a x same are at there =
-    let first : b ≡ a = cc in
-    let state : y ≡ x = cc in
-    let report : activity_shape b ≡ e.report = cc in
+    let first : b ≡ a = some_is at in
+    let state : y ≡ x = some_is there in
+    let report : activity_shape b ≡ e.report = first_is same in
     record { end = e; is = refl; report = ap activity_shape (sym first) ∙ report; snapshot = subst (λ (z : EndState). IsSnapshotOf k z e.snapshot) state are.0 }
 end_at k (b ∷ rs) (y ∷ xs) (e ∷ es) (suc n) a x same are at there =
-    let tails : map activity_shape rs ≡ map (λ (f : EndShape). f.report) es = cc in
+    let tails : map activity_shape rs ≡ map (λ (f : EndShape). f.report) es = rest_is same in
     end_at k rs xs es n a x tails are.1 at there
 
 -- past the last
 pub none_reported : (rs : List ActivityReport) (es : List EndShape) (n : ℕ) → map activity_shape rs ≡ map (λ e. e.report) es → slice_get rs n ≡ None → slice_get es n ≡ None
 none_reported [] [] n same at = refl
-none_reported [] (e ∷ es) n same at = absurd cc
+none_reported [] (e ∷ es) n same at = no_first same
 none_reported (b ∷ rs) [] n same at = refl
-none_reported (b ∷ rs) (e ∷ es) zero same at = absurd cc
+none_reported (b ∷ rs) (e ∷ es) zero same at = none_some (sym at)
 none_reported (b ∷ rs) (e ∷ es) (suc n) same at =
-    let tails : map activity_shape rs ≡ map (λ (f : EndShape). f.report) es = cc in
+    let tails : map activity_shape rs ≡ map (λ (f : EndShape). f.report) es = rest_is same in
     none_reported rs es n tails at
 
 pub none_seen : (k : List Node) (xs : List EndState) (es : List EndShape) (n : ℕ) → AreSnapshotsOf k xs es → slice_get xs n ≡ None → slice_get es n ≡ None
 none_seen k [] [] n are at = refl
 none_seen k [] (e ∷ es) n are at = absurd are
 none_seen k (x ∷ xs) [] n are at = refl
-none_seen k (x ∷ xs) (e ∷ es) zero are at = absurd cc
+none_seen k (x ∷ xs) (e ∷ es) zero are at = none_some (sym at)
 none_seen k (x ∷ xs) (e ∷ es) (suc n) are at = none_seen k xs es n are.1 at
 
 -- Names
@@ -148,23 +165,22 @@ pub record IsReportOf (rs : List ActivityReport) (n : ℕ) (e : EndShape) : Type
   pub same : activity_shape report ≡ e.report
 
 pub report_of : (rs : List ActivityReport) (es : List EndShape) (n : ℕ) (e : EndShape) → map activity_shape rs ≡ map (λ e. e.report) es → slice_get es n ≡ Some e → IsReportOf rs n e
-report_of [] [] n e same at = absurd cc
-report_of [] (d ∷ es) n e same at = absurd cc
-report_of (r ∷ rs) [] n e same at = absurd cc
+report_of [] [] n e same at = none_some at
+report_of [] (d ∷ es) n e same at = no_first same
+report_of (r ∷ rs) [] n e same at = none_some at
 report_of (r ∷ rs) (d ∷ es) zero e same at =
-    let first : d ≡ e = cc in
-    let report : activity_shape r ≡ d.report = cc in
+    let first : d ≡ e = some_is at in
+    let report : activity_shape r ≡ d.report = first_is same in
     record { report = r; there = refl; same = report ∙ ap (λ (x : EndShape). x.report) first }
 report_of (r ∷ rs) (d ∷ es) (suc n) e same at =
-    let tails : map activity_shape rs ≡ map (λ (f : EndShape). f.report) es = cc in
+    let tails : map activity_shape rs ≡ map (λ (f : EndShape). f.report) es = rest_is same in
     let rest = report_of rs es n e tails at in
     record { report = rest.report; there = rest.there; same = rest.same }
 
 pub named_end : (rs : List ActivityReport) (es : List EndShape) (q : Name) (n : ℕ) (e : EndShape) → map activity_shape rs ≡ map (λ e. e.report) es → IsNamedAt rs q n → slice_get es n ≡ Some e → e.report.name ≡ q
 named_end rs es q n e same named at =
     let back = report_of rs es n e same at in
-    let one : Some back.report ≡ Some named.report = sym back.there ∙ named.there in
-    let report : back.report ≡ named.report = cc in
+    let report : back.report ≡ named.report = some_is (sym back.there ∙ named.there) in
     sym (ap (λ (r : ActivityReportShape). r.name) back.same) ∙ ap (λ (r : ActivityReport). r.name) report ∙ named.named
 
 pub named_view : (rs : List ActivityReport) (o : WholeOutcome) (q : Name) (n : ℕ) (r : Option State) → map activity_shape rs ≡ map (λ e. e.report) o.ends → IsNamedAt rs q n → IsSeen o (slice_get o.ends n) r → IfSome r (IsNamed o q)
@@ -182,14 +198,14 @@ view_there rs o q n None same named seen = by (slice_get o.ends n) refl seen
   where
     none_at : (rs : List ActivityReport) (es : List EndShape) (n : ℕ) → map activity_shape rs ≡ map (λ (e : EndShape). e.report) es → slice_get es n ≡ None → slice_get rs n ≡ None
     none_at [] es n same at = refl
-    none_at (b ∷ bs) [] n same at = absurd cc
-    none_at (b ∷ bs) (e ∷ es) zero same at = absurd cc
+    none_at (b ∷ bs) [] n same at = no_first (sym same)
+    none_at (b ∷ bs) (e ∷ es) zero same at = none_some (sym at)
     none_at (b ∷ bs) (e ∷ es) (suc n) same at =
-        let tails : map activity_shape bs ≡ map (λ (f : EndShape). f.report) es = cc in
+        let tails : map activity_shape bs ≡ map (λ (f : EndShape). f.report) es = rest_is same in
         none_at bs es n tails at
 
     by : (x : Option EndShape) → slice_get o.ends n ≡ x → IsSeen o x None → NoneNamed o q
-    by None e h = let no : None ≡ Some named.report = sym (none_at rs o.ends n same e) ∙ named.there in absurd cc
+    by None e h = none_some (sym (none_at rs o.ends n same e) ∙ named.there)
     by (Some e) at h = absurd h
 
 pub none_named : (rs : List ActivityReport) (o : WholeOutcome) (q : Name) → map activity_shape rs ≡ map (λ e. e.report) o.ends → IsNowhere rs q → NoneNamed o q
