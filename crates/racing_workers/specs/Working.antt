@@ -2,7 +2,8 @@
 use Rattle.std.specs.Prelude.{◌≡◌, ℕ, List, All, Option, Some, None}
 use Rattle.crossbeam_utils.specs.declared.cache_padded.CachePadded.{CachePadded}
 use Rattle.crossbeam_utils.specs.Padded.{padded_value}
-use Rattle.asp_model.specs.History.{BeginsWith}
+use Rattle.asp_model.specs.History.{BeginsWith, HistoryShape}
+use Rattle.program_code.specs.declared.code.Node.{Node}
 use Rattle.core_state.specs.declared.lease.Lease.{Lease}
 use Rattle.core_state.specs.Leases.{IsLease}
 use Rattle.turn_hub.specs.declared.hub.Hub.{Hub}
@@ -10,6 +11,7 @@ use Rattle.turn_hub.specs.declared.seat.Seat.{Seat}
 use Rattle.turn_hub.specs.Seats.{IsOf, opened_with, out_with, seats_of, seen_by, taken_by}
 use Rattle.racing_workers.specs.declared.desk.Desk.{Desk}
 use Rattle.racing_workers.specs.declared.desk.SharedDesk.{SharedDesk}
+use Rattle.racing_workers.specs.declared.seats.Seats.{Seats}
 use Rattle.racing_workers.specs.Desks.{code_at, history_at, seats_at}
 use Rattle.racing_workers.specs.Turns.{desk_in}
 
@@ -33,6 +35,24 @@ module _ {P : Type 0} where
       IsOf hub seat × (seat.parts ≡ parts) × (taken_by seat ≡ None) × (out_with seat ≡ None)
       × BeginsWith (seen_by seat) (history_at (opened_at hub))
 
-  -- such seats, each with one part
-  abbrev pub AllReady : Hub (SharedDesk P) → List (CachePadded (Seat (SharedDesk P))) → Type 0
-  AllReady hub seats = All (λ p. IsReady hub 1 (padded_value p)) seats
+  -- such a seat of one part, but it has this lease out, or nothing
+  abbrev pub IsAtWork : Hub (SharedDesk P) → Seat (SharedDesk P) → Option Lease → Type 0
+  IsAtWork hub seat held =
+      IsOf hub seat × (seat.parts ≡ 1) × (taken_by seat ≡ None) × HasOut hub seat held
+      × BeginsWith (seen_by seat) (history_at (opened_at hub))
+
+  -- both seats of a worker have nothing out
+  abbrev pub AreReady : Hub (SharedDesk P) → Seats P → Type 0
+  AreReady hub seats = IsReady hub 1 seats.first × IsReady hub 1 seats.second
+
+  -- the seats of all workers
+  abbrev pub AllReady : Hub (SharedDesk P) → List (CachePadded (Seats P)) → Type 0
+  AllReady hub seats = All (λ p. AreReady hub (padded_value p)) seats
+
+-- a lease after its work is the same, and still a lease
+abbrev pub IsWorked : Option Lease → Option Lease → Type 0
+IsWorked None None = Unit {0}
+IsWorked None (Some k) = ⊥
+IsWorked (Some l) None = ⊥
+IsWorked (Some l) (Some k) =
+    (k.number ≡ l.number) × (k.burst ≡ l.burst) × ((h : HistoryShape) (code : List Node) → IsLease h code l → IsLease h code k)

@@ -1,5 +1,8 @@
 //! What the workers share: the core beside one row for each seat.
 
+ghost use Rattle.std.specs.Prelude.{◌≡◌};
+ghost use Rattle.racing_workers.specs.Turns.{lease_in};
+
 use asp_core::Core;
 use core_state::Lease;
 use lease_rows::Row;
@@ -12,6 +15,8 @@ mod turns;
 pub(crate) struct Desk<P> {
     core: Core<P>,
     rows: Vec<Row>,
+    // How many workers have a lease at their first seats, whose numbers are odd.
+    busy: u32,
 }
 
 /// The desk in a box: a hub moves its value at each turn.
@@ -37,5 +42,20 @@ impl Next {
     /// Whether the worker ends.
     pub(crate) fn is_end(&self) -> bool {
         matches!(self, Next::End)
+    }
+
+    /// Whether the worker rests.
+    pub(crate) fn is_rest(&self) -> bool {
+        matches!(self, Next::Rest)
+    }
+
+    /// The lease that it got.
+    pub(crate) fn into_lease(self) -> Option<Lease>
+        ensures lease { result ≡ lease_in self }
+    {
+        match self {
+            Next::Run(lease) => Some(lease),
+            Next::Again | Next::Rest | Next::End => None,
+        }
     }
 }

@@ -4,6 +4,7 @@
 mod desk;
 mod gate;
 mod margin;
+mod seats;
 mod work;
 mod workers;
 

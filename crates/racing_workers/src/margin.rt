@@ -33,20 +33,31 @@ impl Margin {
         self.contractions == 0
     }
 
+    // Whether it is whole: the leases were longer than the turns.
+    fn is_whole(&self) -> bool {
+        self.contractions >= MOST
+    }
+
     /// After a rest it suffices for some short leases, and not for a call.
     pub(crate) fn rested(&mut self) {
         self.contractions = MOST - CALL;
     }
 
     /// Whether another worker is called, where others may find work or are to end: for work only
-    /// if the margin is whole, and it pays for the call.
-    pub(crate) fn calls(&mut self, more: bool, is_end: bool) -> bool {
-        more && (is_end || self.pays())
+    /// if not all are busy and the margin is whole, and it pays for the call.
+    pub(crate) fn calls(&mut self, more: bool, is_end: bool, all_busy: bool) -> bool {
+        more && (is_end || !all_busy && self.pays())
+    }
+
+    /// Whether the worker gets a second lease, where others may find work: if all are busy, and the
+    /// margin is whole.
+    pub(crate) fn allows_second(&self, more: bool, all_busy: bool) -> bool {
+        more && all_busy && self.is_whole()
     }
 
     // Pays for a call, where the margin is whole.
     fn pays(&mut self) -> bool {
-        if self.contractions < MOST {
+        if !self.is_whole() {
             return false;
         }
         self.contractions = MOST - CALL;

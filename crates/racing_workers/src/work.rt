@@ -1,44 +1,79 @@
 //! What one worker does.
 
 ghost use Rattle.std.specs.Prelude.{◌≡◌, List, None};
-ghost use Rattle.asp_model.specs.History.{BeginsWith, HistoryShape};
+ghost use Rattle.asp_model.specs.History.{HistoryShape};
 ghost use Rattle.program_code.specs.declared.code.Node.{Node as NodeShape};
 ghost use Rattle.core_state.specs.Leases.{IsLease};
-ghost use Rattle.turn_hub.specs.Seats.{IsOf, IsSame, seen_by, taken_by};
-ghost use Rattle.racing_workers.specs.Turns.{lease_in};
-ghost use Rattle.racing_workers.specs.Working.{HasOut, HasRows};
+ghost use Rattle.turn_hub.specs.Seats.{IsOf, taken_by};
+ghost use Rattle.racing_workers.specs.Working.{AreReady, HasRows, IsAtWork, IsWorked};
 
-use crate::desk::{Next, SharedDesk};
+use crate::desk::SharedDesk;
 use crate::gate::Gate;
 use crate::margin::Margin;
+use crate::seats::Seats;
 use core_state::Lease;
 use std::sync::Wait;
 use turn_hub::{Hub, Seat};
 use update_policy::UpdatePolicy;
 
-// A turn of a worker, with the lease that it has. Where others may find work, one is called if the
-// margin allows it; where they are to end, in any case.
+// What a worker does behind a turn at one of its seats.
+#[derive(Drop)]
+pub(crate) struct Turned {
+    pub(crate) lease: Option<Lease>,
+    pub(crate) rests: bool,
+    pub(crate) ends: bool,
+    // Whether it may have a second lease: more is ready, and nobody waits for it.
+    pub(crate) spare: bool,
+}
+
+// A turn of a worker at one of its seats, with the lease that it has there. Where others may find
+// work, one is called if not all are busy and the margin allows it; where they are to end, in any
+// case.
 fn take_turn<R: Wait, P: UpdatePolicy + Drop>(
     rt: &R,
     hub: &Hub<SharedDesk<P>>,
     seat: &mut Seat<SharedDesk<P>>,
     margin: &mut Margin,
     held: Option<Lease>,
-) -> Next
-    requires hub { IsOf hub.now seat.old }
+    may_rest: bool,
+) -> Turned
     requires rows { HasRows hub.now }
-    requires idle { taken_by seat.old ≡ None }
-    requires held { HasOut hub.now seat.old held }
-    ensures same { IsSame seat.old seat.new }
-    ensures idle { taken_by seat.new ≡ None }
-    ensures later { BeginsWith (seen_by seat.new) (seen_by seat.old) }
-    ensures lease { HasOut hub.now seat.new (lease_in result) }
+    requires seat { IsAtWork hub.now seat.old held }
+    ensures seat { IsAtWork hub.now seat.new result.lease }
 {
     let mut desk = hub.take(rt, seat);
-    let (next, more) = desk.turn(seat.number(), held, margin.is_gone());
-    let call = margin.calls(more, next.is_end());
+    let (next, more) = desk.turn(seat.number(), held, may_rest);
+    let all_busy = desk.are_all_busy();
+    let ends = next.is_end();
+    let call = margin.calls(more, ends, all_busy);
+    let spare = margin.allows_second(more, all_busy);
     hub.give(seat, desk, call);
-    next
+    Turned {
+        rests: next.is_rest(),
+        ends,
+        spare,
+        lease: next.into_lease(),
+    }
+}
+
+// A turn at a worker's second seat, where that has a lease, or is to get one.
+fn take_second<R: Wait, P: UpdatePolicy + Drop>(
+    rt: &R,
+    hub: &Hub<SharedDesk<P>>,
+    seat: &mut Seat<SharedDesk<P>>,
+    margin: &mut Margin,
+    held: Option<Lease>,
+    wants: bool,
+) -> Option<Lease>
+    requires rows { HasRows hub.now }
+    requires seat { IsAtWork hub.now seat.old held }
+    ensures seat { IsAtWork hub.now seat.new result }
+{
+    if !wants && held.is_none() {
+        return held;
+    }
+    let Turned { lease, .. } = take_turn(rt, hub, seat, margin, held, !wants);
+    lease
 }
 
 // The lease after its work: it took contractions, and passed the gate.
@@ -55,35 +90,69 @@ fn worked<G: Gate>(gate: &G, worker: u32, margin: &mut Margin, lease: Lease) -> 
     lease
 }
 
+// The same, if there is a lease.
+fn work_at<G: Gate>(
+    gate: &G,
+    worker: u32,
+    margin: &mut Margin,
+    held: Option<Lease>,
+) -> Option<Lease>
+    ensures worked { IsWorked held result }
+{
+    match held {
+        Some(lease) => Some(worked(gate, worker, margin, lease)),
+        None => None,
+    }
+}
+
+// Rests, if it is to.
+fn rest_if<R: Wait, P: UpdatePolicy + Drop>(
+    rt: &R,
+    hub: &Hub<SharedDesk<P>>,
+    seat: &Seat<SharedDesk<P>>,
+    margin: &mut Margin,
+    rests: bool,
+)
+    requires hub { IsOf hub.now seat.now }
+    requires no_turn { taken_by seat.now ≡ None }
+{
+    if rests {
+        hub.rest(rt, seat);
+        margin.rested();
+    }
+}
+
 /// Takes turns until the verdict is there, or the core is spent, and works between them.
 pub(crate) fn work<R: Wait, P: UpdatePolicy + Drop, G: Gate>(
     rt: &R,
     hub: &Hub<SharedDesk<P>>,
-    seat: &mut Seat<SharedDesk<P>>,
+    seats: &mut Seats<P>,
     gate: &G,
 )
-    requires hub { IsOf hub.now seat.old }
     requires rows { HasRows hub.now }
-    requires idle { taken_by seat.old ≡ None }
-    requires nothing { HasOut hub.now seat.old None }
-    ensures same { IsSame seat.old seat.new }
-    ensures idle { taken_by seat.new ≡ None }
-    ensures nothing { HasOut hub.now seat.new None }
-    ensures later { BeginsWith (seen_by seat.new) (seen_by seat.old) }
+    requires ready { AreReady hub.now seats.old }
+    ensures ready { AreReady hub.now seats.new }
 {
+    let worker = seats.first.number() / 2 + 1;
     let mut margin = Margin::new();
-    let mut held = None;
+    let mut one = None;
+    let mut two = None;
     for _ in rt.forever() {
-        held = match take_turn(rt, hub, seat, &mut margin, held) {
-            Next::Run(lease) => Some(worked(gate, seat.number(), &mut margin, lease)),
-            Next::Again => None,
-            Next::Rest => {
-                hub.rest(rt, seat);
-                margin.rested();
-                None
-            }
-            Next::End => return,
-        };
+        let may_rest = margin.is_gone();
+        let Turned {
+            lease,
+            rests,
+            ends,
+            spare,
+        } = take_turn(rt, hub, &mut seats.first, &mut margin, one, may_rest);
+        two = take_second(rt, hub, &mut seats.second, &mut margin, two, spare);
+        if ends && lease.is_none() && two.is_none() {
+            return;
+        }
+        let rests = rests && two.is_none();
+        rest_if(rt, hub, &seats.first, &mut margin, rests);
+        one = work_at(gate, worker, &mut margin, lease);
+        two = work_at(gate, worker, &mut margin, two);
     }
     unreachable!()
 }

@@ -1,6 +1,6 @@
 //! The workers of a run, and their seats.
 
-ghost use Rattle.std.specs.Prelude.{◌≡◌, ◌+◌, ◌<◌, ◌≤◌, All, IfOk, vec_capacity, vec_len, sum_by};
+ghost use Rattle.std.specs.Prelude.{◌≡◌, ◌+◌, ◌*◌, ◌<◌, ◌≤◌, ◌++◌, ◌∷◌, [], All, IfOk, vec_capacity, vec_len, sum_by};
 ghost use Rattle.crossbeam_utils.specs.Padded.{padded_value};
 ghost use Rattle.asp_model.specs.History.{BeginsWith};
 ghost use Rattle.asp_model.specs.declared.limits.TheConstants.{MOST_WORKERS};
@@ -8,10 +8,11 @@ ghost use Rattle.asp_core.specs.Cores.{IsKept, history_of};
 ghost use Rattle.asp_core.specs.Plans.{StayByPlan};
 ghost use Rattle.turn_hub.specs.Seats.{seats_of};
 ghost use Rattle.racing_workers.specs.Desks.{core_at, history_at};
-ghost use Rattle.racing_workers.specs.Working.{AllReady, HasRows, IsReady, opened_at};
+ghost use Rattle.racing_workers.specs.Working.{AllReady, AreReady, HasRows, IsReady, opened_at};
 
 use crate::desk::SharedDesk;
 use crate::gate::Gate;
+use crate::seats::Seats;
 use crate::work::work;
 use asp_core::Core;
 use crossbeam_utils::CachePadded;
@@ -23,7 +24,7 @@ use turn_hub::{Hub, Seat};
 use update_policy::UpdatePolicy;
 
 // Seats of two workers lie apart in memory.
-type PaddedSeat<P> = CachePadded<Seat<SharedDesk<P>>>;
+type PaddedSeats<P> = CachePadded<Seats<P>>;
 
 /// Has so many workers race for the core, until each of them finds the verdict or want of memory.
 /// The core comes back where it is not spent, with all that they entered. What they leave is for the
@@ -41,33 +42,64 @@ pub fn race<R: Threads + Wait + Sync, P: UpdatePolicy + Send + Drop, G: Gate>(
     ensures begins { IfOk result (λ c. BeginsWith (history_of c) (history_of core)) }
     ensures by_plan { IfOk result (λ c. StayByPlan P.answer P.asked core.edges c.edges) }
 {
-    let desk = SharedDesk::new(alloc, core, workers + 1)?;
-    let (hub, mut first) = Hub::new(alloc, desk, workers + 1)?;
+    let desk = SharedDesk::new(alloc, core, workers * 2 + 1)?;
+    let (hub, mut first) = Hub::new(alloc, desk, workers * 2 + 1)?;
     let mut seats = deal(alloc, &hub, &mut first, workers)?;
-    let all = Vec::with_capacity(alloc, workers as usize + 1)?;
+    let all = Vec::with_capacity(alloc, workers as usize * 2 + 1)?;
     work_all(rt, &hub, seats.as_mut_slice(), workers, gate);
     let all = together(&hub, seats, first, all);
     closed(hub, all)
 }
 
-// A seat of one part for each worker.
+// A seat of one part.
+fn one_seat<P: UpdatePolicy + Drop>(
+    hub: &Hub<SharedDesk<P>>,
+    first: &mut Seat<SharedDesk<P>>,
+) -> Seat<SharedDesk<P>>
+    requires first { IsReady hub.now first.old.parts first.old }
+    requires some { 1 < first.old.parts }
+    ensures seat { IsReady hub.now 1 result }
+    ensures first { IsReady hub.now first.new.parts first.new }
+    ensures parts { first.new.parts + 1 ≡ first.old.parts }
+{
+    let Ok(seat) = hub.split(first) else {
+        unreachable!()
+    };
+    seat
+}
+
+// The seats of one worker.
+fn two_seats<P: UpdatePolicy + Drop>(
+    hub: &Hub<SharedDesk<P>>,
+    first: &mut Seat<SharedDesk<P>>,
+) -> Seats<P>
+    requires first { IsReady hub.now first.old.parts first.old }
+    requires some { 2 < first.old.parts }
+    ensures seats { AreReady hub.now result }
+    ensures first { IsReady hub.now first.new.parts first.new }
+    ensures parts { first.new.parts + 2 ≡ first.old.parts }
+{
+    let second = one_seat(hub, first);
+    let one = one_seat(hub, first);
+    Seats { first: one, second }
+}
+
+// The seats of each worker.
 fn deal<P: UpdatePolicy + Drop>(
     alloc: Global,
     hub: &Hub<SharedDesk<P>>,
     first: &mut Seat<SharedDesk<P>>,
     workers: u32,
-) -> Result<Vec<PaddedSeat<P>>, AllocError>
-    requires first { IsReady hub.now (workers + 1) first.old }
+) -> Result<Vec<PaddedSeats<P>>, AllocError>
+    requires workers { workers ≤ MOST_WORKERS }
+    requires first { IsReady hub.now (workers * 2 + 1) first.old }
     ensures seats { IfOk result (λ seats. AllReady hub.now seats.items) }
     ensures count { IfOk result (λ seats. vec_len seats ≡ workers) }
     ensures first { IfOk result (λ _. IsReady hub.now 1 first.new) }
 {
     let mut seats = Vec::new(alloc);
     for _worker in 0..workers {
-        let Ok(seat) = hub.split(first) else {
-            unreachable!()
-        };
-        seats.push(CachePadded::new(seat))?;
+        seats.push(CachePadded::new(two_seats(hub, first)))?;
     }
     Ok(seats)
 }
@@ -76,21 +108,21 @@ fn deal<P: UpdatePolicy + Drop>(
 fn work_padded<R: Wait, P: UpdatePolicy + Drop, G: Gate>(
     rt: &R,
     hub: &Hub<SharedDesk<P>>,
-    seat: &mut PaddedSeat<P>,
+    seats: &mut PaddedSeats<P>,
     gate: &G,
 )
     requires rows { HasRows hub.now }
-    requires ready { IsReady hub.now 1 (padded_value seat.old) }
-    ensures ready { IsReady hub.now 1 (padded_value seat.new) }
+    requires ready { AreReady hub.now (padded_value seats.old) }
+    ensures ready { AreReady hub.now (padded_value seats.new) }
 {
-    work(rt, hub, &mut **seat, gate);
+    work(rt, hub, &mut **seats, gate);
 }
 
-// All workers at work, each at its seat.
+// All workers at work, each at its seats.
 fn work_all<R: Threads + Wait + Sync, P: UpdatePolicy + Send + Drop, G: Gate>(
     rt: &R,
     hub: &Hub<SharedDesk<P>>,
-    seats: &mut [PaddedSeat<P>],
+    seats: &mut [PaddedSeats<P>],
     workers: u32,
     gate: &G,
 )
@@ -103,26 +135,42 @@ fn work_all<R: Threads + Wait + Sync, P: UpdatePolicy + Send + Drop, G: Gate>(
         rt,
         seats,
         workers as usize,
-        &|_, seat: &mut PaddedSeat<P>|
-            requires { HasRows hub.now × IsReady hub.now 1 (padded_value seat.now) }
-            ensures { IsReady hub.entry.now 1 (padded_value seat.exit.now) }
-        { work_padded(rt, hub, seat, gate) },
+        &|_, two: &mut PaddedSeats<P>|
+            requires { HasRows hub.now × AreReady hub.now (padded_value two.now) }
+            ensures { AreReady hub.entry.now (padded_value two.exit.now) }
+        { work_padded(rt, hub, two, gate) },
     );
+}
+
+// Two seats more in a list, which has room for them.
+fn put<P: UpdatePolicy + Drop>(all: &mut Vec<Seat<SharedDesk<P>>>, seats: Seats<P>)
+    requires room { vec_len all.old + 1 < vec_capacity all.old }
+    ensures items { all.new.items ≡ (all.old.items ++ seats.first ∷ []) ++ seats.second ∷ [] }
+    ensures len { vec_len all.new ≡ vec_len all.old + 2 }
+    ensures room { vec_capacity all.old ≤ vec_capacity all.new }
+{
+    let Seats { first, second } = seats;
+    let Ok(()) = all.push(first) else {
+        unreachable!()
+    };
+    let Ok(()) = all.push(second) else {
+        unreachable!()
+    };
 }
 
 // All seats in one list, which has room for them.
 fn together<P: UpdatePolicy + Drop>(
     hub: &Hub<SharedDesk<P>>,
-    seats: Vec<PaddedSeat<P>>,
+    seats: Vec<PaddedSeats<P>>,
     first: Seat<SharedDesk<P>>,
     room: Vec<Seat<SharedDesk<P>>>,
 ) -> Vec<Seat<SharedDesk<P>>>
     requires seats { AllReady hub.now seats.items }
     requires first { IsReady hub.now 1 first }
-    requires room { (vec_len room ≡ 0) × (vec_len seats < vec_capacity room) }
+    requires room { (vec_len room ≡ 0) × (vec_len seats * 2 < vec_capacity room) }
     ensures ready { All (λ s. IsReady hub.now 1 s) result.items }
     ensures some { 0 < vec_len result }
-    ensures parts { sum_by (λ s. s.parts) result.items ≡ vec_len seats + 1 }
+    ensures parts { sum_by (λ s. s.parts) result.items ≡ vec_len seats * 2 + 1 }
 {
     let _hub = hub;
     let mut rest = seats;
@@ -130,10 +178,8 @@ fn together<P: UpdatePolicy + Drop>(
     let Ok(()) = all.push(first) else {
         unreachable!()
     };
-    while let Some(seat) = rest.pop() {
-        let Ok(()) = all.push(seat.into_inner()) else {
-            unreachable!()
-        };
+    while let Some(seats) = rest.pop() {
+        put(&mut all, seats.into_inner());
     }
     all
 }

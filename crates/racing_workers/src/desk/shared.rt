@@ -55,4 +55,9 @@ impl<P: UpdatePolicy + Drop> SharedDesk<P> {
     {
         self.desk.turn(seat, held, may_rest)
     }
+
+    /// Whether each of several workers has a lease at its first seat.
+    pub(crate) fn are_all_busy(&self) -> bool {
+        self.desk.are_all_busy()
+    }
 }

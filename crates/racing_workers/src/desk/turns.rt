@@ -27,14 +27,22 @@ impl<P: UpdatePolicy + Drop> Desk<P> {
         ensures orderly { IfOk result (λ desk. IsOrderly desk) }
     {
         let rows = empty_rows(alloc, seats)?;
-        Ok(Desk { core, rows })
+        Ok(Desk {
+            core,
+            rows,
+            busy: 0,
+        })
     }
 
     /// The core.
     pub(crate) fn into_core(self) -> Core<P>
         ensures core { result ≡ core_at self }
     {
-        let Desk { core, rows: _ } = self;
+        let Desk {
+            core,
+            rows: _,
+            busy: _,
+        } = self;
         core
     }
 
@@ -87,6 +95,7 @@ impl<P: UpdatePolicy + Drop> Desk<P> {
         ensures free { row_at self.new seat ≡ None }
     {
         clear(&mut self.rows, seat);
+        self.busy = self.busy.saturating_sub(seat % 2);
         let _committed = self.core.commit(lease);
     }
 
@@ -180,7 +189,15 @@ impl<P: UpdatePolicy + Drop> Desk<P> {
         }
         let lease = self.core.lend(number)?;
         fill(&mut self.rows, seat, lease.number(), lease.burst());
+        self.busy = self.busy.saturating_add(seat % 2);
         Some(lease)
+    }
+
+    /// Whether there are several workers, and each has a lease at its first seat: so nobody waits for
+    /// what is ready.
+    pub(crate) fn are_all_busy(&self) -> bool {
+        let workers = self.rows.len() / 2;
+        workers > 1 && self.busy as usize >= workers
     }
 
     // Whether somebody has a lease.

@@ -1,8 +1,8 @@
-use Rattle.std.proofs.Common.{◌≡◌, ◌+◌, ◌-◌, vec_len}
+use Rattle.std.proofs.Common.{◌≡◌, ◌+◌, ◌*◌, ◌-◌, vec_len}
 use Rattle.racing_workers.specs.Working.{AllReady, IsReady}
 use Rattle.racing_workers.proofs.workers.deal.Given as goal
 
--- so many seats were made, and the first one has a part less for each
+-- so many workers have their seats, and the first one has two parts less for each
 abbrev pub invariant-loop-worker : goal.invariant-loop-worker
 invariant-loop-worker g l =
-    IsReady l.hub (l.workers + 1 - l._worker) l.first × (vec_len l.seats ≡ l._worker) × AllReady l.hub l.seats.items
+    IsReady l.hub (l.workers * 2 + 1 - l._worker * 2) l.first × (vec_len l.seats ≡ l._worker) × AllReady l.hub l.seats.items

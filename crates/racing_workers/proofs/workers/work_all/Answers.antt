@@ -1,15 +1,14 @@
 use Rattle.std.proofs.Common.{rules, subst}
 use Rattle.crossbeam_utils.specs.Padded.{padded_value}
 use Rattle.crossbeam_utils.specs.declared.cache_padded.CachePadded.{CachePadded}
-use Rattle.turn_hub.specs.declared.seat.Seat.{Seat}
-use Rattle.racing_workers.specs.declared.desk.SharedDesk.{SharedDesk}
-use Rattle.racing_workers.specs.Working.{IsReady}
+use Rattle.racing_workers.specs.declared.seats.Seats.{Seats}
+use Rattle.racing_workers.specs.Working.{AreReady}
 use Rattle.racing_workers.proofs.workers.work_all.Goals as goal
 
 pub returns : goal.returns
 returns g c = record {
   ready = λ k d low.
-      let S = Seat (SharedDesk g.row.P.Denot) in
+      let S = Seats g.row.P.Denot in
       let changed = c.for_each_mut.ensures k d (search rules) in
-      subst (λ (p : CachePadded S). IsReady c.args.hub.now 1 (padded_value p)) changed.1.left changed.1.call;
+      subst (λ (p : CachePadded S). AreReady c.args.hub.now (padded_value p)) changed.1.left changed.1.call;
 }
