@@ -31,12 +31,12 @@ use Rattle.actor.specs.declared.actor.Actor.{Actor}
 use Rattle.actor.specs.Stances as stances
 use Rattle.rank_laws.specs.Runs.{rank_named, rank_of_number, rank_unless_out}
 use Rattle.core_state.specs.declared.state.CoreState.{CoreState}
-use Rattle.core_state.specs.Commits.{IsReturning, IsRunCommitted, IsSomeReturning}
+use Rattle.core_state.specs.Commits.{IsReturning, IsSomeReturning}
 use Rattle.core_state.specs.Cores.{IsPopulated, with_entry}
 use Rattle.core_state.proofs.ComeBackLemmas.{count_few}
 use Rattle.core_commits.specs.declared.change.Change.{Change}
 use Rattle.core_commits.specs.Changes.{IsChange, IsChanged, IsStanding, acted}
-use Rattle.core_commits.specs.Commits.{IsActCommitted, IsActing, IsCommitted, IsCommittedBy, act_by, act_of, act_within, communicates}
+use Rattle.core_commits.specs.Commits.{IsActCommitted, IsActing, act_by, act_of, act_within, communicates}
 use Rattle.core_commits.specs.Handing.{IsToHand, came_in, handed}
 use Rattle.core_commits.proofs.ActLemmas.{numbered, reached}
 
@@ -240,19 +240,3 @@ module _ (x : CoreState) (k grant taken : ℕ) (a : Actor) (z : IsSomeReturning 
 
     abbrev pub come_acting : (reductions : ℕ) → reductions ≡ suc taken → IsActing z.0 z.1 x u k m grant reductions a e
     come_acting reductions more = record { taken = taken; more = more; within = one_left; returning = back; intends = intends_then }
-
-    pub committed_acting : (y : CoreState) (reductions : ℕ) → reductions ≡ suc taken → IsActCommitted z.0 z.1 u k m grant reductions back.end e y → IsCommitted z.0 z.1 u k m grant taken y
-    committed_acting y reductions more core = record {
-      end = back.end;
-      has_run = back.has_run;
-      within = back.within;
-      committed = subst (λ o. IsCommittedBy z.0 z.1 u k m grant taken back.end o y) (sym is) (subst (λ q. IsActCommitted z.0 z.1 u k m grant q back.end e y) more core);
-    }
-
-  pub committed_alone : (y : CoreState) → act_in u.configuration.futures ≡ None → IsRunCommitted z.0 z.1 u k m grant taken back.end y → IsCommitted z.0 z.1 u k m grant taken y
-  committed_alone y none core = record {
-    end = back.end;
-    has_run = back.has_run;
-    within = back.within;
-    committed = subst (λ o. IsCommittedBy z.0 z.1 u k m grant taken back.end o y) (sym none) core;
-  }

@@ -3,4 +3,3 @@ pub mod ActLemmas
 pub mod StandLemmas
 pub mod OtherLemmas
 pub mod CommitLemmas
-pub mod ArrivalLemmas

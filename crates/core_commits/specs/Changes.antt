@@ -73,3 +73,10 @@ AreOthersRanked r k t = IsRanked r k Rests × ((j : ℕ) → j ≢ k → IsRanke
 -- it stood as it stands, or it rested and may step
 abbrev pub MayWake : Ranks → ℕ → RankShape → Type 0
 MayWake r k now = (before : RankShape) × IsRanked r k before × ((now ≡ before) ⊎ ((before ≡ Rests) × (now ≡ Goes)))
+
+-- one that received stands so in a state, and its rank may be told
+abbrev pub IsWaking : (h : HistoryShape) (code : List Node) → CoreState → RunShape → ℕ → Type 0
+IsWaking h code x t k = IsStanding h code x t k × MayWake x.ranks k (rank_of_number t k)
+
+abbrev pub IsSomeWaking : CoreState → ℕ → Type 0
+IsSomeWaking x k = (h : HistoryShape) × (code : List Node) × (t : RunShape) × IsWaking h code x t k

@@ -1,7 +1,7 @@
 -- What the commit of a lease leaves.
 use Rattle.std.specs.Prelude.{◌≡◌, ◌≤◌, ◌+◌, ◌-◌, ℕ, zero, suc, Bool, true, false, List, Option, Some, None}
-use Rattle.asp_model.specs.Chase.{Chase, chase}
-use Rattle.asp_model.specs.Configuration.{Activity, RequestShape, requests_of}
+use Rattle.asp_model.specs.Chase.{Chase}
+use Rattle.asp_model.specs.Configuration.{Activity, RequestShape}
 use Rattle.asp_model.specs.History.{Committed, HistoryShape}
 use Rattle.asp_model.specs.Intent.{Acts, Effect, Intent, Rests, intent}
 use Rattle.asp_model.specs.Names.{FutureShape, Name}
@@ -9,14 +9,14 @@ use Rattle.asp_model.specs.Step.{intent_in, with_effect}
 use Rattle.journals.specs.Communications.{is_communication}
 use Rattle.journals.specs.Journals.{RunShape}
 use Rattle.journals.specs.Owed.{need_of}
-use Rattle.core_laws.specs.Commits.{HasRun, made_by, returned, with_activity}
+use Rattle.core_laws.specs.Commits.{made_by, returned, with_activity}
 use Rattle.program_code.specs.declared.code.Node.{Node}
 use Rattle.actor.specs.declared.act.Given.{Given}
 use Rattle.actor.specs.declared.actor.Actor.{Actor}
 use Rattle.actor.specs.Stances as stances
 use Rattle.actor.specs.Stances.{StanceShape}
 use Rattle.core_state.specs.declared.state.CoreState.{CoreState}
-use Rattle.core_state.specs.Commits.{IsReturning, IsRunCommitted}
+use Rattle.core_state.specs.Commits.{IsReturning}
 use Rattle.core_state.specs.Cores.{IsCore, with_entry}
 use Rattle.core_commits.specs.Handing.{IsToHand, came_in}
 
@@ -44,18 +44,6 @@ abbrev pub IsActCommitted : (h : HistoryShape) (code : List Node) (s : RunShape)
 IsActCommitted h code s k n grant reductions end e new =
     IsCore (with_entry h (Committed k reductions)) code new (returned s k (grant - reductions) (with_effect n e (with_activity n end s.configuration)) (made_by e.made))
 
-abbrev pub IsCommittedBy : (h : HistoryShape) (code : List Node) (s : RunShape) (k : ℕ) (n : Name) (grant taken : ℕ) (end : Activity) → Option Effect → CoreState → Type 0
-IsCommittedBy h code s k n grant taken end None new = IsRunCommitted h code s k n grant taken end new
-IsCommittedBy h code s k n grant taken end (Some e) new = IsActCommitted h code s k n grant (suc taken) end e new
-
--- An activity that is out comes in with the contractions that it took, and with the communication at which it
--- stands then, exactly where that may be done and one of the grant is left. The rest of the grant goes back.
-pub record IsCommitted (h : HistoryShape) (code : List Node) (s : RunShape) (k : ℕ) (n : Name) (grant taken : ℕ) (new : CoreState) : Type 0 where
-  pub end : Activity
-  pub has_run : HasRun s k grant n taken end
-  pub within : taken ≤ grant
-  pub committed : IsCommittedBy h code s k n grant taken end (act_within (grant - taken) (act_of (chase s.configuration.futures) (requests_of s.configuration n) n end)) new
-
 -- an activity has come back and intends an effect, for which one of its grant is left
 pub record IsActing (h : HistoryShape) (code : List Node) (x : CoreState) (s : RunShape) (k : ℕ) (n : Name) (grant reductions : ℕ) (a : Actor) (e : Effect) : Type 0 where
   pub taken : ℕ
@@ -74,6 +62,10 @@ pub record IsGiving (h : HistoryShape) (code : List Node) (x : CoreState) (s : R
   pub ranks : x.ranks ≡ before.ranks
   pub left : x.left ≡ before.left
   pub bursts : x.bursts ≡ before.bursts
+
+-- after contractions that led here
+abbrev pub IsGivingFrom : (h : HistoryShape) (code : List Node) (x : CoreState) (s : RunShape) (k : ℕ) (n : Name) (grant reductions : ℕ) (e : Effect) → Activity → Given → Type 0
+IsGivingFrom h code x s k n grant reductions e end g = (r : IsGiving h code x s k n grant reductions e g) × (r.acting.returning.end ≡ end)
 
 abbrev pub IsSomeGiving : CoreState → ℕ → ℕ → ℕ → Given → Type 0
 IsSomeGiving x k grant reductions g = (h : HistoryShape) × (code : List Node) × (s : RunShape) × (n : Name) × (e : Effect) × IsGiving h code x s k n grant reductions e g

@@ -2,12 +2,12 @@
 #![tactic(auto)]
 
 mod acting;
-mod arrival;
 mod change;
 mod coming;
 mod commits;
 mod handing;
 mod ranking;
 
-pub use arrival::Arrival;
-pub use commits::{arrive, settle};
+pub use acting::bring_in;
+pub use coming::come_in;
+pub use commits::arrive;

@@ -18,13 +18,14 @@ ghost use Rattle.core_commits.specs.Changes.{
   IsChanged,
   IsSomeChanged,
   IsSomeStanding,
+  IsSomeWaking,
   IsStanding,
-  MayWake,
+  IsWaking,
   acted,
 };
 
 use crate::change::Change;
-use activity_ranks::{Rank, Ranks};
+use activity_ranks::Rank;
 use asp_model::FutureName;
 use core_state::{CoreState, rank_of};
 use future_table::{Chase, FutureTable};
@@ -68,19 +69,27 @@ fn is_going(rank: &Rank) -> bool
     matches!(rank, Rank::Goes)
 }
 
-/// Who received may step now, if it rested.
-fn wake(ranks: &mut Ranks, number: u32, rank: Rank) -> Result<(), AllocError>
-    requires may { MayWake ranks.old number (rank_shape rank) }
-    ensures here { OnOk result (IsRanked ranks.new number (rank_shape rank)) }
-    ensures others { OnOk result (OthersStay number ranks.old ranks.new) }
+/// Who received may step now, if it rested: who may step already is not looked at.
+fn wake(state: &mut CoreState, number: u32) -> Result<(), AllocError>
+    requires waking { IsSomeWaking state.old number }
+    ensures here { (h : HistoryShape) (code : List NodeShape) (t : RunShape) →
+        IsWaking h code state.old t number →
+        OnOk result (IsRanked state.new.ranks number (rank_of_number t number)) }
+    ensures others { OnOk result (OthersStay number state.old.ranks state.new.ranks) }
+    ensures seats { state.new.seats ≡ state.old.seats }
+    ensures futures { state.new.futures ≡ state.old.futures }
+    ensures journal { state.new.journal ≡ state.old.journal }
+    ensures left { state.new.left ≡ state.old.left }
+    ensures bursts { state.new.bursts ≡ state.old.bursts }
 {
-    if ranks.goes(number) {
+    if state.ranks.goes(number) {
         return Ok(());
     }
+    let rank = look(state, number)?;
     if !is_going(&rank) {
         return Ok(());
     }
-    ranks.rank(number, rank)
+    state.ranks.rank(number, rank)
 }
 
 /// Ranks all but the activity of a number, which comes in, once they have what it gave.
@@ -107,8 +116,7 @@ pub fn rank_others(state: &mut CoreState, number: u32, change: Change) -> Result
             if other == number {
                 return Ok(());
             }
-            let rank = look(state, other)?;
-            wake(&mut state.ranks, other, rank)?;
+            wake(state, other)?;
             Ok(())
         }
         Change::Filled(future) => {

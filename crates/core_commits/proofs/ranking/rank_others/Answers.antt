@@ -1,7 +1,7 @@
-use Rattle.std.proofs.Common.{◌≡◌, subst, sym}
+use Rattle.std.proofs.Common.{◌≡◌, subst}
 use Rattle.activity_ranks.specs.Ranks.{IsRanked, rank_shape}
 use Rattle.rank_laws.specs.Runs.{rank_of_number}
-use Rattle.core_commits.specs.Changes.{IsChange, MayWake, acted}
+use Rattle.core_commits.specs.Changes.{IsChange, acted}
 use Rattle.core_commits.proofs.OtherLemmas.{made_rests, made_stands, nothing_changed, one_filled, one_made, one_received, own_received, receiver_may_wake, receiver_stands}
 use Rattle.core_commits.proofs.ranking.rank_others.Goals as goal
 
@@ -39,22 +39,15 @@ pub returns-then-other-number-clause-ranks : goal.returns-then-other-number-clau
 returns-then-other-number-clause-ranks c = λ h code s n b e left p.
     own_received h code c.args.state.now s c.args.number n b e left c.args.change p c.in-Received.other (subst (IsChange s.names e) c.in-Received.is p.change) c.if-other-number.true
 
-pub look-requires-in-Received : goal.look-requires-in-Received
-look-requires-in-Received c =
-    let r = c.requires.changed in
-    let is = subst (IsChange r.2.names r.5) c.in-Received.is r.7.change in
-    record { standing = (r.0, r.1, acted r.2 c.args.number r.3 r.4 r.5 r.6, receiver_stands r.0 r.1 c.args.state.now r.2 c.args.number r.3 r.4 r.5 r.6 c.args.change r.7 c.in-Received.other is) }
-
 pub wake-requires : goal.wake-requires
 wake-requires c =
     let r = c.requires.changed in
     let x = c.args.state.now in
-    let t = acted r.2 c.args.number r.3 r.4 r.5 r.6 in
     let q = c.in-Received.other in
     let is = subst (IsChange r.2.names r.5) c.in-Received.is r.7.change in
-    let told : rank_shape c.in_ok-rank-in-Received.rank ≡ rank_of_number t q =
-    c.in_ok-rank-in-Received.ensures.rank r.0 r.1 t (receiver_stands r.0 r.1 x r.2 c.args.number r.3 r.4 r.5 r.6 c.args.change r.7 q is) in
-    record { may = subst (MayWake x.ranks q) (sym told) (receiver_may_wake r.0 r.1 x r.2 c.args.number r.3 r.4 r.5 r.6 c.args.change r.7 q is c.if-other-number.false) }
+    let stands = receiver_stands r.0 r.1 x r.2 c.args.number r.3 r.4 r.5 r.6 c.args.change r.7 q is in
+    let may = receiver_may_wake r.0 r.1 x r.2 c.args.number r.3 r.4 r.5 r.6 c.args.change r.7 q is c.if-other-number.false in
+    record { waking = (r.0, r.1, acted r.2 c.args.number r.3 r.4 r.5 r.6, (stands, may)) }
 
 pub returns-in_ok-wake-in-Received-clause-ranks : goal.returns-in_ok-wake-in-Received-clause-ranks
 returns-in_ok-wake-in-Received-clause-ranks c = λ h code s n b e left p.
@@ -63,8 +56,9 @@ returns-in_ok-wake-in-Received-clause-ranks c = λ h code s n b e left p.
     let q = c.in-Received.other in
     let t = acted s k n b e left in
     let is = subst (IsChange s.names e) c.in-Received.is p.change in
-    let told : rank_shape c.in_ok-rank-in-Received.rank ≡ rank_of_number t q = c.in_ok-rank-in-Received.ensures.rank h code t (receiver_stands h code x s k n b e left c.args.change p q is) in
-    one_received h code x s k n b e left c.args.change p q is c.wake.new.ranks c.if-other-number.false (subst (IsRanked c.wake.new.ranks q) told c.in_ok-wake-in-Received.ensures.here) c.in_ok-wake-in-Received.ensures.others
+    let stands = receiver_stands h code x s k n b e left c.args.change p q is in
+    let may = receiver_may_wake h code x s k n b e left c.args.change p q is c.if-other-number.false in
+    one_received h code x s k n b e left c.args.change p q is c.wake.new.state.ranks c.if-other-number.false (c.in_ok-wake-in-Received.ensures.here h code t (stands, may)) c.in_ok-wake-in-Received.ensures.others
 
 -- Filled
 
