@@ -1,7 +1,6 @@
 -- A lease that has come back, and is settled, once the edges were told of it.
-use Rattle.std.proofs.Common.{◌≡◌, ◌∙◌, ◌-◌, [], ℕ, zero, suc, Bool, false, List, Option, Some, None, length, refl, sym, ap, subst, arith}
+use Rattle.std.proofs.Common.{◌≡◌, ◌∙◌, ◌-◌, [], ℕ, zero, suc, Bool, false, List, Option, Some, None, length, refl, sym, ap, subst}
 use Rattle.std.proofs.lemmas.List.{append-nil}
-use Rattle.std.specs.Global.{Box}
 use Rattle.asp_model.specs.Chase.{chase}
 use Rattle.asp_model.specs.Configuration.{Activity, Configuration, requests_of}
 use Rattle.asp_model.specs.History.{Committed, HistoryShape}
@@ -17,23 +16,18 @@ use Rattle.chase_laws.proofs.MapLemmas as Maps
 use Rattle.laws.proofs.NameLemmas.{name_same, name_total}
 use Rattle.chase_laws.proofs.FutureLemmas.{no_some}
 use Rattle.program_code.specs.declared.code.Node.{Node}
-use Rattle.actor.specs.declared.act.Given.{Given}
-use Rattle.actor.specs.declared.actor.Actor.{Actor}
 use Rattle.future_update.specs.Holders.{IsTurned}
 use Rattle.core_edges.specs.declared.edges.Edges.{Edges}
 use Rattle.core_edges.specs.Labels.{AreByLabels}
 use Rattle.core_edges.specs.Strategies.{KeepsEdges}
-use Rattle.core_laws.specs.Commits.{made_by, returned, with_activity}
+use Rattle.core_laws.specs.Commits.{HasRun, made_by, returned, with_activity}
 use Rattle.core_laws.proofs.EventLemmas.{acts_are_events, runs_are_silent}
 use Rattle.core_state.specs.declared.state.CoreState.{CoreState}
 use Rattle.core_state.specs.Cores.{with_entry}
-use Rattle.core_commits.specs.declared.arrival.Arrival.{Arrival}
-use Rattle.core_commits.specs.declared.arrival.Arrival.TheVariants.{Acted, Ran}
-use Rattle.core_commits.specs.Arrivals.{IsArrived, IsSettled, act_at, grant_of, number_of}
+use Rattle.core_commits.specs.Arrivals.{act_at}
 use Rattle.core_commits.specs.Commits.{act_by, act_of, act_within}
-use Rattle.asp_core.specs.Bringing.{AreToldBy, IsBroughtBack, KeepLabelsBy}
+use Rattle.asp_core.specs.Bringing.{IsBroughtBack, IsCome, IsComeBy}
 use Rattle.asp_core.specs.Runs.{Stand, counted}
-use Rattle.asp_core.proofs.NewsLemmas.{is_new_to}
 use Rattle.asp_core.proofs.PlanLemmas.{labels_kept}
 use Rattle.asp_core.proofs.StandLemmas.{comes_back}
 
@@ -60,62 +54,45 @@ no_need s n grant taken end e is =
     ∙ no_need_by (need_of chases end) (is_communication chases end) (intent chases rs n end) e
     (within_some (grant - taken) (act_of chases rs n end) e is)
 
-same_taken : (reductions a b : ℕ) → reductions ≡ suc a → reductions ≡ suc b → a ≡ b
-same_taken reductions a b is so = omega (arith, is, so)
-
 module _ {P : Type 0} (h : HistoryShape) (code : List Node) (s : RunShape) (x : CoreState) (v : Edges P) (st : Stand h code s x v.holders) (labels : AreByLabels s.configuration v)
-    (n : Name) (z y : CoreState) (u w : Edges P) (keeps : KeepsEdges u w) where
-  -- the answers are as many as edges, once the edges were told
-  abbrev Even : Type 0
-  Even = length u.holders.answers ≡ length u.holders.holders.edges
-
-  module _ (taken k grant reductions : ℕ) (turned : IsTurned k false u.holders.activities w.holders.activities) (even : Even) where
-    pub ran_back : (a : Box Actor) (r : IsArrived h code z s n taken (Ran k grant reductions a)) → u.holders ≡ v.holders → u ≡ v
-        → IsSettled h code z s n taken (Ran k grant reductions a) r y → IsBroughtBack h code s k n grant taken y w
-    ran_back a r same edges core =
-        let end = r.0.end in
-        let none : act_at s n grant reductions end ≡ None = subst (λ t. act_at s n grant t end ≡ None) (sym r.1) r.2 in
+    (k : ℕ) (n : Name) (grant taken : ℕ) (y : CoreState) (u w : Edges P) (keeps : KeepsEdges u w) (even : length u.holders.answers ≡ length u.holders.holders.edges)
+    (turned : IsTurned k false u.holders.activities w.holders.activities) where
+  module _ (end : Activity) (has_run : HasRun s k grant n taken end) where
+    ran_back : act_at s n grant taken end ≡ None → IsComeBy h code s k n grant taken end None y v u → IsBroughtBack h code s k n grant taken y w
+    ran_back none r =
         let c : Configuration = with_activity n end s.configuration in
-        let t : RunShape = returned s k (grant - reductions) c [] in
-        subst (λ q. IsBroughtBack h code s k n grant q y w) r.1 (record {
+        let t : RunShape = returned s k (grant - taken) c [] in
+        record {
           end = end;
-          has_run = r.0.has_run;
+          has_run = has_run;
           after = t;
-          stand = subst (λ q. Stand (with_entry h (Committed k q)) code t y w.holders) (sym (ap (counted reductions) none))
-              (comes_back h code s x v.holders st u.holders w.holders y k reductions (grant - reductions) c [] core
-              (ap (λ q. q.holders) same ∙ ap (λ es. after_events es v.holders.holders) (sym (runs_are_silent s k grant n reductions end r.0.has_run)))
-              even (ap (λ q. q.activities) same ∙ sym (append-nil v.holders.activities)) turned keeps.holders keeps.answers);
-          labels = labels_kept s.configuration c v w refl (subst (λ q. KeepsEdges q w) edges keeps) labels;
-        })
+          stand = subst (λ q. Stand (with_entry h (Committed k q)) code t y w.holders) (sym (ap (counted taken) none))
+              (comes_back h code s x v.holders st u.holders w.holders y k taken (grant - taken) c [] r.0
+              (ap (λ (q : Edges P). q.holders.holders) r.1 ∙ ap (λ es. after_events es v.holders.holders) (sym (runs_are_silent s k grant n taken end has_run)))
+              even (ap (λ (q : Edges P). q.holders.activities) r.1 ∙ sym (append-nil v.holders.activities)) turned keeps.holders keeps.answers);
+          labels = labels_kept s.configuration c v w refl (subst (λ q. KeepsEdges q w) r.1 keeps) labels;
+        }
 
-    pub acted_back : (g : Given) (r : IsArrived h code z s n taken (Acted k grant reductions g)) → AreToldBy n (Acted k grant reductions g) v.holders u.holders
-        → KeepLabelsBy (Acted k grant reductions g) v u → IsSettled h code z s n taken (Acted k grant reductions g) r y → IsBroughtBack h code s k n grant taken y w
-    acted_back g r told labelled core =
-        let e = r.0 in
-        let acting = r.1.acting in
-        let end = acting.returning.end in
-        let same = same_taken reductions acting.taken taken acting.more r.2 in
-        let some : act_at s n grant acting.taken end ≡ Some e = subst (λ t. act_at s n grant t end ≡ Some e) (sym same) r.3 in
-        let ended : Configuration = with_activity n end s.configuration in
-        let c : Configuration = with_effect n e ended in
-        let t : RunShape = returned s k (grant - reductions) c (made_by e.made) in
-        let know = told e r.1.hand.given in
-        let events : entry_events (Committed k reductions) s ≡ effect_events n [] e =
-        ap (λ q. entry_events (Committed k q) s) acting.more
-        ∙ acts_are_events s k grant n acting.taken end e acting.returning.has_run (no_need s n grant acting.taken end e some) acting.intends in
-        let new = is_new_to h code s r.1.before k n grant reductions r.1.actor e acting in
-        subst (λ q. IsBroughtBack h code s k n grant q y w) same (record {
+    acted_back : (e : Effect) → act_at s n grant taken end ≡ Some e → IsComeBy h code s k n grant taken end (Some e) y v u → IsBroughtBack h code s k n grant taken y w
+    acted_back e some r =
+        let acted = r.1 in
+        let c : Configuration = with_effect n e (with_activity n end s.configuration) in
+        let t : RunShape = returned s k (grant - suc taken) c (made_by e.made) in
+        let events : entry_events (Committed k (suc taken)) s ≡ effect_events n [] e = acts_are_events s k grant n taken end e has_run (no_need s n grant taken end e some) r.0 in
+        record {
           end = end;
-          has_run = acting.returning.has_run;
+          has_run = has_run;
           after = t;
-          stand = subst (λ q. Stand (with_entry h (Committed k q)) code t y w.holders) (acting.more ∙ sym (ap (counted acting.taken) some))
-              (comes_back h code s x v.holders st u.holders w.holders y k reductions (grant - reductions) c (made_by e.made) core
-              (know.holders ∙ ap (λ es. after_events es v.holders.holders) (sym events))
-              even know.activities turned keeps.holders keeps.answers);
-          labels = labels_kept c c u w refl keeps (labelled ended n e new r.1.hand.given labels);
-        })
+          stand = subst (λ q. Stand (with_entry h (Committed k q)) code t y w.holders) (sym (ap (counted taken) some))
+              (comes_back h code s x v.holders st u.holders w.holders y k (suc taken) (grant - suc taken) c (made_by e.made) acted.core
+              (acted.told.holders ∙ ap (λ es. after_events es v.holders.holders) (sym events))
+              even acted.told.activities turned keeps.holders keeps.answers);
+          labels = labels_kept c c u w refl keeps (acted.labels labels);
+        }
 
-  pub brought_back : (taken : ℕ) (a : Arrival) (r : IsArrived h code z s n taken a) → AreToldBy n a v.holders u.holders → KeepLabelsBy a v u → IsSettled h code z s n taken a r y → Even
-      → IsTurned (number_of a) false u.holders.activities w.holders.activities → IsBroughtBack h code s (number_of a) n (grant_of a) taken y w
-  brought_back taken (Ran k grant reductions a) r told labelled core even turned = ran_back taken k grant reductions turned even a r told labelled core
-  brought_back taken (Acted k grant reductions g) r told labelled core even turned = acted_back taken k grant reductions turned even g r told labelled core
+    back_by : (o : Option Effect) → act_at s n grant taken end ≡ o → IsComeBy h code s k n grant taken end o y v u → IsBroughtBack h code s k n grant taken y w
+    back_by None is r = ran_back is r
+    back_by (Some e) is r = acted_back e is r
+
+  pub brought_back : IsCome h code s k n grant taken y v u → IsBroughtBack h code s k n grant taken y w
+  brought_back r = back_by r.end r.has_run (act_at s n grant taken r.end) refl r.come

@@ -1,44 +1,61 @@
 -- A lease of a core that has edges.
-use Rattle.std.proofs.Common.{◌≡◌, ◌∙◌, ◌<◌, ◌≤◌, ℕ, List, Some, length, sym, ap, slice_get, arith}
+use Rattle.std.proofs.Common.{◌≡◌, ◌∙◌, ◌<◌, ◌≤◌, ◌^◌, ℕ, suc, List, Option, Some, None, length, sym, ap, slice_get, arith}
 use Rattle.std.proofs.lemmas.List.{length-append}
+use Rattle.asp_model.specs.Configuration.{Activity}
 use Rattle.asp_model.specs.History.{HistoryShape}
+use Rattle.asp_model.specs.Intent.{Effect}
 use Rattle.asp_model.specs.Names.{Name}
 use Rattle.asp_model.specs.Step.{name_at}
 use Rattle.journals.specs.Journals.{RunShape}
 use Rattle.chase_laws.proofs.FutureLemmas.{some_is}
 use Rattle.lease_laws.proofs.LeaseLemmas.{leases_stay}
 use Rattle.program_code.specs.declared.code.Node.{Node}
-use Rattle.activity_seats.specs.Seats.{names_in, seats_in}
+use Rattle.activity_seats.specs.Seats.{names_in}
+use Rattle.actor.specs.declared.actor.Actor.{Actor}
 use Rattle.future_update.specs.Holders.{HoldersView}
 use Rattle.core_laws.specs.Commits.{made_by}
 use Rattle.core_state.specs.declared.lease.Lease.{Lease}
 use Rattle.core_state.specs.declared.state.CoreState.{CoreState}
 use Rattle.core_state.specs.Leases.{IsLease}
 use Rattle.core_state.proofs.ListLemmas.{name_got, within_name}
-use Rattle.core_commits.specs.declared.arrival.Arrival.{Arrival}
-use Rattle.core_commits.specs.declared.arrival.Arrival.TheVariants.{Acted, Ran}
-use Rattle.core_commits.specs.Arrivals.{IsArrived}
-use Rattle.asp_core.specs.Bringing.{AreToldBy}
+use Rattle.core_state.specs.Commits.{IsSomeReturning}
+use Rattle.core_commits.specs.Arrivals.{IsArrived, act_at}
+use Rattle.core_commits.specs.Commits.{IsActing}
+use Rattle.core_commits.proofs.CommitLemmas.{come_acting, one_left}
+use Rattle.core_edges.specs.declared.edges.Edges.{Edges}
+use Rattle.asp_core.specs.Bringing.{IsCome, IsComeBy}
 use Rattle.asp_core.specs.Runs.{Stand, as_met}
-use Rattle.asp_core.proofs.LendLemmas.{met_within, named_seat}
+use Rattle.asp_core.proofs.LendLemmas.{met_within}
 
 module _ (h : HistoryShape) (code : List Node) (s : RunShape) (x : CoreState) (v : HoldersView) (st : Stand h code s x v) (l : Lease) (is : IsLease h code l) where
   lease_named : name_at s.names l.number ≡ Some is.name
   lease_named = (leases_stay h.program h.budget h.entries l.number l.burst is.name is.run s is.lent is.named st.core.run).named
 
-  pub lease_seat : l.number < length (seats_in x.seats)
-  lease_seat = named_seat h code s x v st l.number is.name lease_named
+  -- one that does a communication yet intends it
+  abbrev pub lease_acting : (z : CoreState) (a : Actor) (reductions : ℕ) → (suc l.taken < 2 ^ 64 → reductions ≡ suc l.taken) → (r : IsArrived h code z s l.number is.name l.grant l.taken (Some a))
+      → IsActing h code z s l.number is.name l.grant reductions a r.0
+  lease_acting z a reductions entered r =
+      let back : IsSomeReturning z l.number l.grant l.taken a = (h, code, s, is.name, r.1) in
+      let few : l.grant ≤ 64 = omega (arith, is.grant) in
+      let within : suc l.taken < 2 ^ 64 = omega (arith, few, one_left z l.number l.grant l.taken a back r.0 r.2) in
+      come_acting z l.number l.grant l.taken a back r.0 r.2 reductions (entered within)
 
-  pub lease_name : (n : Name) → slice_get (names_in x.seats) l.number ≡ Some n → n ≡ is.name
-  lease_name n got = some_is (sym got ∙ ap (λ ns. slice_get ns l.number) st.core.populated.names ∙ sym (name_got s.names l.number) ∙ lease_named)
+-- the name of one that acts
+pub acting_name : (h : HistoryShape) (code : List Node) (s : RunShape) (z : CoreState) (k : ℕ) (n : Name) (grant reductions : ℕ) (a : Actor) (e : Effect) → IsActing h code z s k n grant reductions a e
+    → (m : Name) → slice_get (names_in z.seats) k ≡ Some m → m ≡ n
+acting_name h code s z k n grant reductions a e r m got =
+    some_is (sym got ∙ ap (λ ns. slice_get ns k) r.returning.populated.names ∙ sym (name_got s.names k) ∙ r.returning.has_run.named)
 
-  still : (u : HoldersView) (z : CoreState) (n : Name) (taken : ℕ) (a : Arrival) → IsArrived h code z s n taken a → AreToldBy n a v u → length v.activities ≤ length u.activities
-  still u z n taken (Ran k grant reductions a) r told = omega (arith, ap (λ (q : HoldersView). length q.activities) told)
-  still u z n taken (Acted k grant reductions g) r told =
-      let e = r.0 in
-      let know = told e r.1.hand.given in
-      omega (arith, ap length know.activities ∙ length-append v.activities (as_met (made_by e.made)))
+module _ {P : Type 0} (h : HistoryShape) (code : List Node) (s : RunShape) (y : CoreState) (v w : Edges P) where
+  still : (k : ℕ) (n : Name) (grant taken : ℕ) (end : Activity) (o : Option Effect) → IsComeBy h code s k n grant taken end o y v w → length v.holders.activities ≤ length w.holders.activities
+  still k n grant taken end None r = omega (arith, ap (λ (q : Edges P). length q.holders.activities) r.1)
+  still k n grant taken end (Some e) r = omega (arith, ap length r.1.told.activities ∙ length-append v.holders.activities (as_met (made_by e.made)))
 
   -- the lease's activity was met
-  pub lease_met : (u : HoldersView) (z : CoreState) (n : Name) (taken : ℕ) (a : Arrival) → IsArrived h code z s n taken a → AreToldBy n a v u → l.number < length u.activities
-  lease_met u z n taken a r told = omega (arith, still u z n taken a r told, met_within h code s x v st l.number (within_name s.names l.number is.name lease_named))
+  pub lease_met : (x : CoreState) (st : Stand h code s x v.holders) (l : Lease) (is : IsLease h code l) → IsCome h code s l.number is.name l.grant l.taken y v w → l.number < length w.holders.activities
+  lease_met x st l is r =
+      omega (
+        arith,
+        still l.number is.name l.grant l.taken r.end (act_at s is.name l.grant l.taken r.end) r.come,
+        met_within h code s x v.holders st l.number (within_name s.names l.number is.name (lease_named h code s x v.holders st l is)),
+      )

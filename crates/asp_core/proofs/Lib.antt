@@ -8,7 +8,6 @@ pub mod BringLemmas
 pub mod CoreLemmas
 pub mod StartLemmas
 pub mod LendLemmas
-pub mod TellLemmas
 pub mod LeaseLemmas
 pub mod DeliverLemmas
 pub mod EndLemmas

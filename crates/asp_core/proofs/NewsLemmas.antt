@@ -19,15 +19,13 @@ use Rattle.future_update.specs.Holders.{HoldersView, is_met}
 use Rattle.core_laws.specs.Commits.{with_activity}
 use Rattle.core_laws.proofs.NewcomerLemmas.{absent_before}
 use Rattle.core_state.specs.declared.state.CoreState.{CoreState}
-use Rattle.core_commits.specs.declared.arrival.Arrival.{Arrival}
-use Rattle.core_commits.specs.declared.arrival.Arrival.TheVariants.{Acted, Ran}
-use Rattle.core_commits.specs.Arrivals.{IsArrived}
-use Rattle.core_commits.specs.Commits.{IsActing}
+use Rattle.core_commits.specs.Commits.{IsActing, IsGiving}
 use Rattle.core_commits.proofs.ActLemmas.{reached}
 use Rattle.core_commits.proofs.HandLemmas.{made_is}
 use Rattle.edge_laws.specs.Fresh.{IsFresh}
 use Rattle.edge_laws.proofs.RunLemmas.{effects_are_fresh, holders_are_of_runs, holders_stay}
-use Rattle.asp_core.specs.Bringing.{IsNewBy, IsUnmet}
+use Rattle.core_edges.specs.Given.{IsSomeFresh}
+use Rattle.asp_core.specs.Bringing.{IsUnmet}
 use Rattle.asp_core.specs.Runs.{Stand, holders_left}
 use Rattle.asp_core.proofs.OutLemmas.{unmet}
 use Rattle.asp_core.proofs.StandLemmas.{numbered}
@@ -56,15 +54,13 @@ module _ (h : HistoryShape) (code : List Node) (s : RunShape) (x : CoreState) (v
   unmet_given (given.Sent m r) e n b is new = tt
   unmet_given (given.Filled f p) e n b is new = tt
 
-  pub is_new_by : (z : CoreState) (n : Name) (taken : ℕ) (a : Arrival) → IsArrived h code z s n taken a → IsNewBy v a
-  is_new_by z n taken (Ran k grant reductions a) r = tt
-  is_new_by z n taken (Acted k grant reductions g) r =
-      let e = r.0 in
-      let acting = r.1.acting in
+  pub is_new_given : (z : CoreState) (k : ℕ) (n : Name) (grant reductions : ℕ) (e : Effect) (g : Given) → IsGiving h code z s k n grant reductions e g → IsSomeFresh v.holders g × IsUnmet g v.activities
+  is_new_given z k n grant reductions e g r =
+      let acting = r.acting in
       let c : Configuration = with_activity n acting.returning.end s.configuration in
       let fresh : IsFresh v.holders e =
       subst (λ q. IsFresh q e) (sym st.edges.holders)
       (effects_are_fresh c (holders_left h) n e
-      (reached_are_sound h.program c (reached h code r.1.before s k n grant acting.taken r.1.actor acting.returning))
+      (reached_are_sound h.program c (reached h code r.before s k n grant acting.taken r.actor acting.returning))
       (holders_stay s.configuration c (holders_left h) refl refl (holders_are_of_runs h.program h.budget h.entries s st.core.run)) acting.intends) in
-      ((e, r.1.hand.given, fresh), unmet_given g e n e.own r.1.hand.given (λ q made. (r.1.hand.made q made).0))
+      ((e, r.hand.given, fresh), unmet_given g e n e.own r.hand.given (λ q made. (r.hand.made q made).0))

@@ -3,23 +3,25 @@
 ghost use Rattle.std.specs.Prelude.{◌≡◌, Err, List, OnErr, OnOk, alloc_error, true};
 ghost use Rattle.asp_model.specs.History.{BeginsWith, HistoryShape};
 ghost use Rattle.asp_model.specs.Intent.{Effect};
+ghost use Rattle.asp_model.specs.Names.{Name};
 ghost use Rattle.journals.specs.Journals.{RunShape};
 ghost use Rattle.program_code.specs.declared.code.Node.{Node as NodeShape};
 ghost use Rattle.actor.specs.Effects.{IsGiven};
 ghost use Rattle.core_journal.specs.Journal.{entries_in};
 ghost use Rattle.core_state.specs.Leases.{IsLease};
+ghost use Rattle.core_commits.specs.Commits.{IsActing};
 ghost use Rattle.core_edges.specs.Answers.{AreAnswered};
 ghost use Rattle.core_edges.specs.Given.{IsSomeFresh};
 ghost use Rattle.core_edges.specs.Labels.{AreByLabels};
 ghost use Rattle.core_edges.specs.Strategies.{strategy_in};
 ghost use Rattle.asp_core.specs.Bringing.{
   AreTold,
-  AreToldBy,
+  HasActed,
   IsBroughtBack,
-  IsNewBy,
+  IsCome,
+  IsSomeActing,
   IsUnmet,
   KeepLabels,
-  KeepLabelsBy,
   StandForLease,
 };
 ghost use Rattle.asp_core.specs.Calls.{IsCommittedBy};
@@ -28,10 +30,11 @@ ghost use Rattle.asp_core.specs.Plans.{KeepsStrategies, StayByPlan};
 ghost use Rattle.asp_core.specs.Runs.{Stand};
 
 use crate::cores::Core;
-use actor::Given;
+use actor::{Actor, Given};
 use asp_model::ActivityName;
-use core_commits::{Arrival, arrive, settle};
+use core_commits::{arrive, bring_in, come_in};
 use core_edges::Edges;
+use core_rules::with_communication;
 use core_state::{CoreState, Lease};
 use std::alloc::{AllocError, Global};
 use update_policy::UpdatePolicy;
@@ -62,30 +65,62 @@ fn tell<P: UpdatePolicy>(
     }
 }
 
-/// The edges are told of a lease that has come back.
-fn tell_arrival<P: UpdatePolicy>(
-    alloc: Global,
+/// An activity that has come back does its communication. The edges are told what that gives, and
+/// then others get it.
+fn act<P: UpdatePolicy>(
+    state: &mut CoreState,
     edges: &mut Edges<P>,
-    by: &ActivityName,
-    arrival: &Arrival,
+    number: u32,
+    grant: u64,
+    reductions: u64,
+    actor: Box<Actor>,
 ) -> Result<(), AllocError>
-    requires new { IsNewBy edges.old.holders arrival.now }
-    ensures told { OnOk result
-        (AreToldBy by.now arrival.now edges.old.holders edges.new.holders) }
+    requires acting { IsSomeActing state.old edges.old.holders number grant reductions actor.value }
+    ensures acted { (h : HistoryShape) (code : List NodeShape) (s : RunShape) (n : Name)
+        (e : Effect) →
+        (r : IsActing h code state.old s number n grant reductions actor.value e) →
+        let acted = HasActed h code s number n grant reductions r.returning.end e state.new in
+        OnOk result (acted edges.old edges.new) }
     ensures answers { let strategies = strategy_in edges.new in
         OnOk result (AreAnswered P.answer P.asked strategies edges.old edges.new) }
-    ensures labels { OnOk result (KeepLabelsBy arrival.now edges.old edges.new) }
     ensures keeps { OnOk result (KeepsStrategies edges.old edges.new) }
+    ensures entries { OnErr result
+        (entries_in state.new.journal ≡ entries_in state.old.journal) }
 {
-    match arrival {
-        Arrival::Ran { .. } => Ok(()),
-        Arrival::Acted { given, .. } => tell(alloc, edges, by, given),
+    let name = state.seats.name(number).copy(state.alloc)?;
+    let given = bring_in(state, number, &name, actor)?;
+    tell(state.alloc, edges, &name, &given)?;
+    come_in(state, number, grant, reductions, given)
+}
+
+/// An activity comes back to a state, and edges are told what it gives. They take it as out yet.
+fn come<P: UpdatePolicy>(
+    state: &mut CoreState,
+    edges: &mut Edges<P>,
+    lease: Lease,
+) -> Result<(), AllocError>
+    requires lease { StandForLease state.old edges.old.holders lease }
+    ensures come { (h : HistoryShape) (code : List NodeShape) (s : RunShape) →
+        Stand h code s state.old edges.old.holders → (l : IsLease h code lease) →
+        let come = IsCome h code s lease.number l.name lease.grant lease.taken in
+        OnOk result (come state.new edges.old edges.new) }
+    ensures answers { let strategies = strategy_in edges.new in
+        OnOk result (AreAnswered P.answer P.asked strategies edges.old edges.new) }
+    ensures keeps { OnOk result (KeepsStrategies edges.old edges.new) }
+    ensures entries { OnErr result
+        (entries_in state.new.journal ≡ entries_in state.old.journal) }
+{
+    let number = lease.number;
+    let grant = lease.grant;
+    let reductions = with_communication(lease.taken);
+    match arrive(state, lease)? {
+        None => Ok(()),
+        Some(actor) => act(state, edges, number, grant, reductions, actor),
     }
 }
 
 /// An activity comes back to a state, and edges are told what it gives.
 fn bring_back<P: UpdatePolicy>(
-    alloc: Global,
     state: &mut CoreState,
     edges: &mut Edges<P>,
     lease: Lease,
@@ -103,10 +138,7 @@ fn bring_back<P: UpdatePolicy>(
         (entries_in state.new.journal ≡ entries_in state.old.journal) }
 {
     let number = lease.number;
-    let name = state.name(number).copy(alloc)?;
-    let arrival = arrive(state, lease)?;
-    tell_arrival(alloc, edges, &name, &arrival)?;
-    settle(state, arrival)?;
+    come(state, edges, lease)?;
     edges.returned(number);
     Ok(())
 }
@@ -136,7 +168,7 @@ impl<P: UpdatePolicy> Core<P> {
             return Err(AllocError);
         }
         self.spent = true;
-        bring_back(self.alloc, &mut self.state, &mut self.edges, lease)?;
+        bring_back(&mut self.state, &mut self.edges, lease)?;
         self.spent = false;
         Ok(())
     }

@@ -1,4 +1,4 @@
-use Rattle.std.proofs.Common.{◌≡◌, ◌∙◌, ◌++◌, ◌∷◌, [], Bool, List, ap, false, subst, sym}
+use Rattle.std.proofs.Common.{◌∙◌, ◌++◌, ◌∷◌, [], Bool, List, ap, false}
 use Rattle.asp_model.specs.Names.{Name}
 use Rattle.future_update.specs.Holders.{is_met}
 use Rattle.asp_core.proofs.cores.meet_main.Goals as goal
