@@ -1,12 +1,14 @@
 -- The front of a lane, and what the fronts show of it.
-use Rattle.std.proofs.Common.{◌≡◌, ◌≢◌, ℕ, zero, suc, ◌<◌, ◌≤◌, ◌⊎◌, inl, inr, Bool, true, false, eqb, refl, sym, ap, ◌∙◌, subst, T, arith}
-use Rattle.std.specs.Prelude.{◌==◌, ◌&&◌, not, Option, Some, None}
+use Rattle.std.proofs.Common.{◌≡◌, ◌≢◌, ℕ, zero, suc, ◌+◌, List, [], ◌∷◌, ◌++◌, length, length-append, ◌<◌, ◌≤◌, ◌⊎◌, inl, inr, Bool, true, false, eqb, refl, sym, ap, ◌∙◌, subst, T, arith}
+use Rattle.std.specs.Prelude.{◌==◌, ◌&&◌, not, Option, Some, None, slice_index}
+use Rattle.std.proofs.Math.Seq.{get_or-append_seam}
+use Rattle.std.proofs.lemmas.List.{get_or_append_left}
 use Rattle.std.proofs.lemmas.Bool.Decides.{eqb_tells, leb_tells}
 use Rattle.marked_places.specs.declared.lane.Lane.{Lane}
 use Rattle.marked_places.specs.declared.marks.Marks.{Marks}
 use Rattle.marked_places.specs.Firsts.{IsFirstFrom}
 use Rattle.marked_places.specs.Lanes.{AreShown, IsFront, IsLane, ShownSo, is_first, is_front, none_before, place_at, size_of}
-use Rattle.marked_places.specs.Marks.{IsTree, MarkedSo, is_marked, room}
+use Rattle.marked_places.specs.Marks.{IsTree, MarkedSo, SameMarks, is_marked, room}
 
 pub clash : {b : Bool} {C : Type 0} → b ≡ true → b ≡ false → C
 clash e d = absurd (subst T (sym e ∙ d) tt)
@@ -122,6 +124,26 @@ shown_again l closed marks before after old between new h k shown front hidden n
     same true = refl
     same false = refl
 
+-- places in rising order
+abbrev IsRising : List ℕ → Type 0
+IsRising xs = (i j : ℕ) → i < j → j < length xs → slice_index xs i < slice_index xs j
+
+rises : (xs : List ℕ) (x : ℕ) → IsRising xs → ((i : ℕ) → i < length xs → slice_index xs i < x) → IsRising (xs ++ x ∷ [])
+rises xs x h last i j less lt = by (eqb_tells j (length xs))
+  where
+    left : (k : ℕ) → k < length xs → slice_index (xs ++ x ∷ []) k ≡ slice_index xs k
+    left k k_in = get_or_append_left xs (x ∷ []) _ k k_in
+
+    here : slice_index (xs ++ x ∷ []) (length xs) ≡ x
+    here = get_or-append_seam xs x [] _
+
+    by : ((eqb j (length xs) ≡ true) × (j ≡ length xs)) ⊎ ((eqb j (length xs) ≡ false) × (j ≢ length xs)) → slice_index (xs ++ x ∷ []) i < slice_index (xs ++ x ∷ []) j
+    by (inl e) = let i_in : i < length xs = omega (arith, less, e.1) in omega (arith, last i i_in, left i i_in, ap (slice_index (xs ++ x ∷ [])) e.1, here)
+    by (inr e) =
+        let j_in : j < length xs = omega (arith, lt, e.1, length-append xs (x ∷ [])) in
+        let i_in : i < length xs = omega (arith, less, j_in) in
+        omega (arith, h i j less j_in, left i i_in, left j j_in)
+
 pub closed_lane : (l : Lane) (closed : Bool) → IsLane l → IsLane (record l { closed = closed })
 closed_lane l closed h = record { tree = h.tree; room = h.room; inside = h.inside; rising = h.rising }
 
@@ -136,3 +158,25 @@ marked_lane l marks ordinal mark h within tree same so = record {
     by : (i : ℕ) → ((eqb i ordinal ≡ true) × (i ≡ ordinal)) ⊎ ((eqb i ordinal ≡ false) × (i ≢ ordinal)) → elim (i == ordinal) [ true ↦ mark | false ↦ is_marked l.marks i ] ≡ true → i < size_of l
     by i (inl a) e = omega (arith, within, a.1)
     by i (inr a) e = h.inside i (sym (ap (λ b. elim b [ true ↦ mark | false ↦ is_marked l.marks i ]) a.0) ∙ e)
+
+-- the places stay, and there may be more room
+pub roomier : (l m : Lane) → IsLane l → IsTree m.marks → SameMarks l.marks m.marks → room l.marks ≤ room m.marks → m.places.items ≡ l.places.items → IsLane m
+roomier l m h tree same kept places =
+    let long : size_of m ≡ size_of l = ap (λ xs. length xs) places in
+    record {
+      tree = tree;
+      room = omega (arith, h.room, kept, long);
+      inside = λ i e. let lt = h.inside i (sym (same i) ∙ e) in omega (arith, lt, long);
+      rising = subst IsRising (sym places) h.rising;
+    }
+
+-- one place more, behind the others
+pub longer : (l m : Lane) (place : ℕ) → IsLane l → IsTree m.marks → SameMarks l.marks m.marks → size_of l < room m.marks → ((i : ℕ) → i < size_of l → place_at l i < place) → m.places.items ≡ l.places.items ++ place ∷ [] → IsLane m
+longer l m place h tree same within last places =
+    let long : size_of m ≡ size_of l + 1 = ap (λ xs. length xs) places ∙ length-append l.places.items (place ∷ []) in
+    record {
+      tree = tree;
+      room = omega (arith, within, long);
+      inside = λ i e. let lt = h.inside i (sym (same i) ∙ e) in omega (arith, lt, long);
+      rising = subst IsRising (sym places) (rises l.places.items place h.rising last);
+    }

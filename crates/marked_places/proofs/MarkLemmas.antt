@@ -1,7 +1,7 @@
 -- Trees over places: where the first marked leaf stands.
-use Rattle.std.proofs.Common.{◌≡◌, ◌≢◌, ℕ, zero, suc, ◌+◌, ◌-◌, ◌*◌, ◌/◌, ◌%◌, ◌^◌, ◌<◌, ◌≤◌, ◌⊎◌, inl, inr, Bool, true, false, List, length, refl, sym, ap, ◌∙◌, subst, T, arith, eqb, leb}
+use Rattle.std.proofs.Common.{◌≡◌, ◌≢◌, ℕ, zero, suc, ◌+◌, ◌-◌, ◌*◌, ◌/◌, ◌%◌, ◌^◌, ◌<◌, ◌≤◌, ◌⊎◌, inl, inr, Bool, true, false, List, length, refl, sym, ap, ◌∙◌, subst, T, arith, eqb, leb, nat_lt}
 use Rattle.std.specs.Prelude.{◌||◌, ◌&&◌, ◌==◌, Option, Some, None, slice_index_or}
-use Rattle.std.proofs.lemmas.Bool.Decides.{eqb_tells, leb_tells}
+use Rattle.std.proofs.lemmas.Bool.Decides.{eqb_tells, leb_tells, nat_tests}
 use Rattle.std.proofs.lemmas.Bool.{eqb-true}
 use Rattle.std.proofs.lemmas.Nat.{pow_below, pow_pos, pow-add}
 use Rattle.std.proofs.lemmas.List.{get_or_past}
@@ -184,6 +184,55 @@ behind_parent xs r tree i h height o l unmarked first = by (eqb_tells (i % 2) 0)
       where
         pair : (i : ℕ) → i % 2 ≡ 0 → (i / 2 + 1) * 2 ≡ i + 1 + 1
         pair i even = omega (arith, even)
+
+-- Marks that are copied up to a place
+
+less : (m n : ℕ) → m < n → nat_lt m n ≡ true
+less m n lt = grind (arith, nat_tests)
+
+not_less : (m n : ℕ) → n ≤ m → nat_lt m n ≡ false
+not_less m n le = grind (arith, nat_tests)
+
+pub none_copied : (a b : ℕ → Bool) → ((p : ℕ) → a p ≡ false) → (p : ℕ) → a p ≡ (nat_lt p 0 && b p)
+none_copied a b none p = none p ∙ sym (ap (λ x. x && b p) (not_less p 0 (omega arith)))
+
+-- whether the place is among the first ones, where it is another one than the next
+next_less : (p n : ℕ) → p ≢ n → nat_lt p n ≡ nat_lt p (n + 1)
+next_less p n ne = elim (leb_tells n p) [
+  | inl e ↦ not_less p n e.1 ∙ sym (not_less p (n + 1) (omega (arith, e.1, ne)))
+  | inr e ↦ less p n e.1 ∙ sym (less p (n + 1) (omega (arith, e.1)))
+]
+
+-- the next place is marked too
+pub copied : (a b c : ℕ → Bool) (n : ℕ) → ((p : ℕ) → a p ≡ (nat_lt p n && b p)) → b n ≡ true → ((p : ℕ) → c p ≡ elim (p == n) [ true ↦ true | false ↦ a p ]) → (p : ℕ) → c p ≡ (nat_lt p (n + 1) && b p)
+copied a b c n so_far marked set p = set p ∙ by (eqb_tells p n)
+  where
+    by : ((eqb p n ≡ true) × (p ≡ n)) ⊎ ((eqb p n ≡ false) × (p ≢ n)) → elim (p == n) [ true ↦ true | false ↦ a p ] ≡ (nat_lt p (n + 1) && b p)
+    by (inl e) =
+        let here : b p ≡ true = ap b e.1 ∙ marked in
+        ap (λ x. elim x [ true ↦ true | false ↦ a p ]) e.0 ∙ sym (λ i. less p (n + 1) (omega (arith, e.1)) i && here i)
+    by (inr e) = ap (λ x. elim x [ true ↦ true | false ↦ a p ]) e.0 ∙ so_far p ∙ ap (λ x. x && b p) (next_less p n e.1)
+
+-- the next place is not marked
+pub passed_over : (a b : ℕ → Bool) (n : ℕ) → ((p : ℕ) → a p ≡ (nat_lt p n && b p)) → b n ≡ false → (p : ℕ) → a p ≡ (nat_lt p (n + 1) && b p)
+passed_over a b n so_far unmarked p = so_far p ∙ by (eqb_tells p n)
+  where
+    none : (x : Bool) → (x && false) ≡ false
+    none true = refl
+    none false = refl
+
+    by : ((eqb p n ≡ true) × (p ≡ n)) ⊎ ((eqb p n ≡ false) × (p ≢ n)) → (nat_lt p n && b p) ≡ (nat_lt p (n + 1) && b p)
+    by (inl e) =
+        let here : b p ≡ false = ap b e.1 ∙ unmarked in
+        ap (λ x. nat_lt p n && x) here ∙ none (nat_lt p n) ∙ sym (ap (λ x. nat_lt p (n + 1) && x) here ∙ none (nat_lt p (n + 1)))
+    by (inr e) = ap (λ x. x && b p) (next_less p n e.1)
+
+-- all marks are copied, since none is marked beyond the room
+pub all_copied : (a : ℕ → Bool) (m : Marks) (n : ℕ) → IsTree m → room m ≤ n → ((p : ℕ) → a p ≡ (nat_lt p n && is_marked m p)) → (p : ℕ) → a p ≡ is_marked m p
+all_copied a m n tree all so_far p = so_far p ∙ elim (leb_tells n p) [
+  | inl e ↦ ap (λ x. x && is_marked m p) (not_less p n e.1) ∙ sym (get_or_past m.nodes.items (room m + p) false (omega (arith, tree.whole, e.1, all)))
+  | inr e ↦ ap (λ x. x && is_marked m p) (less p n e.1)
+]
 
 -- No mark at all
 

@@ -3,8 +3,17 @@ use Rattle.std.proofs.lemmas.Option.{slice_get_read}
 use Rattle.marked_places.specs.declared.marks.Marks.{Marks}
 use Rattle.marked_places.specs.Lanes.{lane_count}
 use Rattle.marked_places.specs.Marks.{is_marked}
-use Rattle.marked_places.proofs.LanesLemmas.{changed, closed_so}
+use Rattle.marked_places.proofs.LanesLemmas.{changed, closed_so, fit_in}
 use Rattle.marked_places.proofs.lanes.Lanes.close.Goals as goal
+
+pub close-requires : goal.close-requires
+close-requires c =
+    let t = c.args.self.now in
+    let l = c.index_mut.result.now in
+    let h = c.requires.lanes in
+    let here = slice_get_read t.lanes.items (lane_count t) c.args.lane l refl c.requires.within c.index_mut.ensures.value in
+    let g = h.lanes c.args.lane l here in
+    record { lane = g.lane; tree = h.fronts; room = fit_in t h c.args.lane l here; shown = g.shown }
 
 pub returns-clause-lanes : goal.returns-clause-lanes
 returns-clause-lanes c = let v = c.index_mut.ensures in let w = c.close.ensures in

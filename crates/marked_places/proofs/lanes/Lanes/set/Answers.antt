@@ -4,6 +4,18 @@ use Rattle.marked_places.specs.Lanes.{spot}
 use Rattle.marked_places.proofs.LanesLemmas.{changed, closed_same, fit_in, others_so, spot_told, told_so, within_so}
 use Rattle.marked_places.proofs.lanes.Lanes.set.Goals as goal
 
+pub set-requires : goal.set-requires
+set-requires c = record { tree = c.requires.lanes.marks; within = omega (arith, c.requires.within, c.requires.lanes.room) }
+
+pub mark-requires-clause-tree : goal.mark-requires-clause-tree
+mark-requires-clause-tree c = c.requires.lanes.fronts
+
+pub returns-clause-marked : goal.returns-clause-marked
+returns-clause-marked c = c.set.ensures.marked
+
+pub returns-clause-spots : goal.returns-clause-spots
+returns-clause-spots c = refl
+
 pub mark-requires-clause-lane : goal.mark-requires-clause-lane
 mark-requires-clause-lane c =
     let t = c.args.self.now in
