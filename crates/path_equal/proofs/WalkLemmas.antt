@@ -1,6 +1,6 @@
 -- A walk that shows one place more.
-use Rattle.std.proofs.Common.{◌≡◌, ℕ, suc, ◌≤◌, Bool, true, false, cond, List, [], ◌∷◌, ◌++◌, Some, None, length, map, refl, sym, ap, subst, ◌∙◌, arith, length-append}
-use Rattle.std.specs.Prelude.{reverse}
+use Rattle.std.proofs.Common.{◌≡◌, ℕ, suc, ◌≤◌, Bool, true, false, cond, List, [], ◌∷◌, ◌++◌, Option, Some, None, length, map, refl, sym, ap, subst, ◌∙◌, arith, length-append}
+use Rattle.std.specs.Prelude.{codes, reverse}
 use Rattle.std.specs.List.{AllByRecursion}
 use Rattle.std.specs.Map.{lookup}
 use Rattle.std.proofs.lemmas.List.{map-append}
@@ -17,7 +17,7 @@ use Rattle.path_equal.specs.declared.below.Due.{Due}
 use Rattle.path_equal.specs.declared.lines.Walk.{Walk}
 use Rattle.path_equal.specs.States.{IsStateOf, side_in}
 use Rattle.run_ends.specs.Spots.{is_spot, spot_place, places_of, places_in, place_of, size_of, IsSpot, IsNumbered, Grows}
-use Rattle.path_equal.specs.Walks.{Pending, show_all, pending_below, pending_of, all_pending, shown_in, shown_after, state_seen, AreSpots, IsWalk, Shows, IsExpanded}
+use Rattle.path_equal.specs.Walks.{Pending, show_all, pending_below, pending_of, all_pending, result_due, root_due, roots_due, shown_in, shown_with, shown_after, state_seen, AreSpots, IsWalk, Shows, IsExpanded}
 use Rattle.run_ends.proofs.SpotLemmas.{spot_stays}
 use Rattle.run_ends.proofs.EnterLemmas.{one_spot, spot_itself, spot_tied, spot_wider}
 use Rattle.path_equal.proofs.ShowLemmas.{new_shown, show_all-append, below_shown, more_comes}
@@ -65,6 +65,9 @@ module _ (e f : Entered) (g : Grows e f) where
   pub paths_wider : (es : List (Spot × Path)) → AllByRecursion (λ x. IsSpot (size_of e) x.0) es → AllByRecursion (λ x. IsSpot (size_of f) x.0) es
   paths_wider = all_weaker (λ (x : Spot × Path). IsSpot (size_of e) x.0) (λ (x : Spot × Path). IsSpot (size_of f) x.0) (λ x. spot_wider (size_of e) (size_of f) x.0 size_grows)
 
+  pub dues_wider : (ds : List Due) → AreSpots (size_of e) ds → AreSpots (size_of f) ds
+  dues_wider = all_weaker (λ (d : Due). IsSpot (size_of e) d.spot) (λ (d : Due). IsSpot (size_of f) d.spot) (λ d. spot_wider (size_of e) (size_of f) d.spot size_grows)
+
 -- Paths that were shown
 
 same_bool : (a b : Bool) → (a ≡ true → b ≡ true) → (b ≡ true → a ≡ true) → a ≡ b
@@ -88,6 +91,34 @@ module _ (e : Entered) (numbered : IsNumbered e) (s : Spot) (here : IsSpot (size
   path_found (x ∷ xs) h =
       (λ i. elim (same_test x.0 h.0 i) [ true ↦ Some x.1 | false ↦ path_found xs h.1 i ])
       ∙ by_cond (is_spot s x.0) (Some x.1) (lookup (is_spot s) xs)
+
+-- A walk that begins
+
+module _ (s : State) (d : ℕ) where
+  root_spot : (n : ℕ) (path : Path) (place : ℕ) → IsSpot n (root_due path place d).spot
+  root_spot n path place = record { within = omega arith; inside = λ lt. absurd (omega (arith, lt)) }
+
+  roots_spots : (n : ℕ) → AreSpots n (roots_due s d)
+  roots_spots n = by s.result
+    where
+      by : (o : Option ℕ) → AreSpots n (result_due o d ++ root_due (codes "self") s.active d ∷ [])
+      by None = (root_spot n (codes "self") s.active, tt)
+      by (Some place) = (root_spot n (codes "value") place, (root_spot n (codes "self") s.active, tt))
+
+  pub begun_walk : (w : Walk) → IsNumbered w.entered → w.entered.spots.keys ≡ [] → w.paths.entries ≡ [] → w.due.items ≡ roots_due s d → IsWalk s w
+  begun_walk w numbered none paths due = record {
+    numbered = numbered;
+    values = λ k lt. absurd (omega (arith, lt, ap (λ (xs : List Spot). length xs) none));
+    paths = subst (AllByRecursion (λ (x : Spot × Path). IsSpot (size_of w.entered) x.0)) (sym paths) tt;
+    due = subst (AreSpots (size_of w.entered)) (sym due) (roots_spots (size_of w.entered));
+  }
+
+  pub begun_shown : (w : Walk) → w.paths.entries ≡ [] → w.due.items ≡ roots_due s d → w.lines.items ≡ [] → shown_after s w w.due.items ≡ state_seen s d
+  begun_shown w paths due lines = (λ i. show_all (side_in s) (all_pending w.entered (due i)) (shown_with (places_in w.entered) (paths i) (lines i))) ∙ by s.result
+    where
+      by : (o : Option ℕ) → show_all (side_in s) (all_pending w.entered (result_due o d ++ root_due (codes "self") s.active d ∷ [])) (record { places = []; lines = [] }) ≡ state_shown d (side_in s) s.active o
+      by None = refl
+      by (Some place) = refl
 
 -- One place
 

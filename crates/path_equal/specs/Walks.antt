@@ -1,16 +1,14 @@
 -- What is shown, and what is still to be shown.
-use Rattle.std.specs.Prelude.{◌≡◌, ℕ, zero, suc, List, [], ◌∷◌, ◌++◌, length, map, reverse}
+use Rattle.std.specs.Prelude.{◌≡◌, ℕ, zero, suc, List, [], ◌∷◌, ◌++◌, Option, Some, None, codes, length, map, reverse}
 use Rattle.std.specs.List.{AllByRecursion}
-use Rattle.paths.specs.Places.{Place, Side, found, children, read}
+use Rattle.paths.specs.Places.{Place, Side, found, children}
 use Rattle.paths.specs.StateLines.{Path, Shown, show_to, shown_below, state_shown}
 use Rattle.path_equal.specs.declared.state.State.{State}
-use Rattle.path_equal.specs.declared.seen.Seen.{Seen}
 use Rattle.run_ends.specs.declared.entered.Spot.{Spot}
 use Rattle.run_ends.specs.declared.entered.Entered.{Entered}
 use Rattle.path_equal.specs.declared.below.Due.{Due}
 use Rattle.path_equal.specs.declared.lines.Walk.{Walk}
 use Rattle.path_equal.specs.States.{side_in}
-use Rattle.path_equal.specs.Sights.{seen_shape}
 use Rattle.run_ends.specs.Spots.{IsSpot, IsNumbered, HasValues, spot_place, place_of, places_in, size_of}
 
 -- a place that is still to be shown, down to a depth below it
@@ -69,9 +67,13 @@ pub record IsWalk (s : State) (w : Walk) : Type 0 where
 abbrev pub root_due : Path → ℕ → ℕ → Due
 root_due path place depth = record { path = path; spot = record { home = 0; cell = place }; depth = depth }
 
--- this is read at the place that is due
-abbrev pub IsReadAt : State → Walk → Due → Seen → Type 0
-IsReadAt s w d seen = seen_shape seen ≡ read (side_in s) (place_of w.entered d.spot)
+abbrev pub result_due : Option ℕ → ℕ → List Due
+result_due None depth = []
+result_due (Some place) depth = root_due (codes "value") place depth ∷ []
+
+-- what is due at first, the last of these first
+abbrev pub roots_due : State → ℕ → List Due
+roots_due s depth = result_due s.result depth ++ root_due (codes "self") s.active depth ∷ []
 
 -- a place was shown, by one line
 pub record Shows (s : State) (d : Due) (old new : Walk) : Type 0 where

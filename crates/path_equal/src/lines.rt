@@ -1,12 +1,17 @@
 //! The lines of a state: depth first, by a stack of what is still to be shown.
 
-ghost use Rattle.std.specs.Prelude.{◌≡◌, IfOk, None, OnOk, false, true};
+ghost use Rattle.std.specs.Prelude.{◌≡◌, ◌++◌, ◌∷◌, [], IfOk, None, OnOk, codes, true};
 ghost use Rattle.asp_model.specs.Intent.{StatusShape};
 ghost use Rattle.future_table.specs.Values.{values_of};
 ghost use Rattle.indexmap.specs.IndexMap.{get};
 ghost use Rattle.paths.specs.Places.{Side};
 ghost use Rattle.paths.specs.Snapshots.{SnapshotShape};
-ghost use Rattle.paths.specs.StateLines.{is_compound, state_lines as lines_of_state};
+ghost use Rattle.paths.specs.StateLines.{
+  is_compound,
+  state_line,
+  state_lines as lines_of_state,
+  what_text,
+};
 ghost use Rattle.path_equal.specs.Sights.{Sees, seen_shape};
 ghost use Rattle.run_ends.specs.Spots.{
   Grows,
@@ -18,13 +23,14 @@ ghost use Rattle.run_ends.specs.Spots.{
   size_of,
 };
 ghost use Rattle.path_equal.specs.States.{IsStateOf, side_in};
+ghost use Rattle.path_equal.specs.Texts.{shown_by};
 ghost use Rattle.path_equal.specs.Walks.{
   AreSpots,
   IsExpanded,
-  IsReadAt,
   IsWalk,
   Shows,
   root_due,
+  roots_due,
   shown_after,
   state_seen,
 };
@@ -36,6 +42,7 @@ use crate::state::State;
 use crate::texts::{line, same_line};
 use asp_model::Word;
 use coded_cells::Place;
+use future_table::FutureTable;
 use indexmap::IndexMap;
 use run_ends::{Entered, Spot};
 use std::alloc::{AllocError, Global};
@@ -63,11 +70,18 @@ pub fn state_lines(alloc: Global, state: &State, depth: u32) -> Result<Vec<Word>
 fn all_lines(alloc: Global, state: &State, depth: u32) -> Result<Vec<Word>, AllocError>
     ensures lines { IfOk result (λ v. v.items ≡ (state_seen state.now depth).lines) }
 {
-    let mut walk = begun(alloc, state, depth)?;
+    let due = roots(alloc, state, depth)?;
+    let mut walk = begun(alloc, due);
     let shown = show_all(alloc, state, &mut walk);
-    let lines = walk.lines;
+    let lines = lines_of(walk);
     shown?;
     Ok(lines)
+}
+
+fn lines_of(walk: Walk) -> Vec<Word>
+    ensures { result.items ≡ walk.entry.lines.items }
+{
+    walk.lines
 }
 
 // Shows all that is due.
@@ -82,33 +96,50 @@ fn show_all<'a>(alloc: Global, state: &State<'a>, walk: &mut Walk<'a>) -> Result
     Ok(())
 }
 
-fn begun<'a>(alloc: Global, state: &State<'a>, depth: u32) -> Result<Walk<'a>, AllocError>
-    ensures walk { IfOk result (λ w. IsWalk state.now w) }
-    ensures whole { IfOk result
-        (λ w. shown_after state.now w w.due.items ≡ state_seen state.now depth) }
+// Nothing is shown yet.
+fn begun<'a>(alloc: Global, due: Vec<Due>) -> Walk<'a>
+    ensures numbered { IsNumbered result.entered }
+    ensures none { result.entered.spots.keys ≡ [] }
+    ensures paths { result.paths.entries ≡ [] }
+    ensures due { result.due.items ≡ due.items }
+    ensures lines { result.lines.items ≡ [] }
 {
-    let mut due = Vec::new(alloc);
-    if let Some(place) = state.result {
-        due.push(root(alloc, "value", place, depth)?)?;
-    }
-    due.push(root(alloc, "self", state.active, depth)?)?;
-    Ok(Walk {
+    Walk {
         entered: Entered::new(alloc),
         paths: IndexMap::new(alloc),
         due,
         lines: Vec::new(alloc),
-    })
+    }
 }
 
-fn root(alloc: Global, path: &str, place: Place, depth: u32) -> Result<Due, AllocError>
-    ensures { IfOk result (λ d. d ≡ root_due path.now place depth) }
+// The result, if there is one, and the active object, which is shown first.
+fn roots(alloc: Global, state: &State, depth: u32) -> Result<Vec<Due>, AllocError>
+    ensures due { IfOk result (λ v. v.items ≡ roots_due state.now depth) }
+{
+    let mut due = Vec::new(alloc);
+    if let Some(place) = state.result {
+        push_root(alloc, &mut due, "value", place, depth)?;
+    }
+    push_root(alloc, &mut due, "self", state.active, depth)?;
+    Ok(due)
+}
+
+fn push_root(
+    alloc: Global,
+    due: &mut Vec<Due>,
+    path: &str,
+    place: Place,
+    depth: u32,
+) -> Result<(), AllocError>
+    ensures { OnOk result (due.new.items ≡ due.old.items ++ root_due path.now place depth ∷ []) }
 {
     let path = Word::new(String::from_str(alloc, path)?);
     let spot = Spot {
         home: 0,
         cell: place,
     };
-    Ok(Due { path, spot, depth })
+    due.push(Due { path, spot, depth })?;
+    Ok(())
 }
 
 // Shows a place, and has what is below it shown next.
@@ -125,34 +156,42 @@ fn show<'a>(
 {
     let sight = look_at(state, walk.entered.at(due.spot));
     if !sight.seen.is_compound() {
-        return show_plain(alloc, state, walk, &due, sight.seen);
+        return push_line(alloc, state.futures, &mut walk.lines, &due.path, sight.seen);
     }
     match walk.paths.get(&due.spot) {
-        Some(first) => {
-            let line = same_line(alloc, &due.path, first)?;
-            walk.lines.push(line)?;
-            Ok(())
-        }
+        Some(first) => push_same(alloc, &mut walk.lines, &due.path, first),
         None => show_new(alloc, state, walk, due, sight),
     }
 }
 
-// A place below which nothing is.
-fn show_plain<'a>(
+// One more line, for a place with what is seen there.
+fn push_line(
     alloc: Global,
-    state: &State<'a>,
-    walk: &mut Walk<'a>,
-    due: &Due,
-    seen: Seen<'a>,
+    futures: &FutureTable,
+    lines: &mut Vec<Word>,
+    path: &Word,
+    seen: Seen,
 ) -> Result<(), AllocError>
-    requires walk { IsWalk state.now walk.old }
-    requires read { IsReadAt state.now walk.old due.now seen }
-    requires plain { is_compound (seen_shape seen) ≡ false }
-    ensures walk { OnOk result (IsWalk state.now walk.new) }
-    ensures shown { OnOk result (Shows state.now due.now walk.old walk.new) }
+    ensures { let what = what_text (shown_by (values_of futures.now) (seen_shape seen.entry)) in
+        OnOk result (lines.new.items ≡ lines.old.items ++ state_line path.now what ∷ []) }
 {
-    let line = line(alloc, state.futures, &due.path, seen)?;
-    walk.lines.push(line)?;
+    let line = line(alloc, futures, path, seen)?;
+    lines.push(line)?;
+    Ok(())
+}
+
+// One more line, for a place that was shown already, by this path.
+fn push_same(
+    alloc: Global,
+    lines: &mut Vec<Word>,
+    path: &Word,
+    first: &Word,
+) -> Result<(), AllocError>
+    ensures { let line = state_line path.now (codes "same " ++ first.now) in
+        OnOk result (lines.new.items ≡ lines.old.items ++ line ∷ []) }
+{
+    let line = same_line(alloc, path, first)?;
+    lines.push(line)?;
     Ok(())
 }
 
@@ -172,9 +211,8 @@ fn show_new<'a>(
     ensures walk { OnOk result (IsWalk state.now walk.new) }
     ensures shown { OnOk result (Shows state.now due walk.old walk.new) }
 {
-    let line = line(alloc, state.futures, &due.path, sight.seen)?;
+    push_line(alloc, state.futures, &mut walk.lines, &due.path, sight.seen)?;
     expand(alloc, &mut walk.entered, &mut walk.due, &due, sight)?;
-    walk.lines.push(line)?;
     walk.paths.insert(due.spot, due.path)?;
     Ok(())
 }

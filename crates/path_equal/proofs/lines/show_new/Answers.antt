@@ -1,4 +1,4 @@
-use Rattle.std.proofs.Common.{◌∙◌, ◌∷◌, ◌++◌, [], List, ℕ, sym, ap, subst}
+use Rattle.std.proofs.Common.{◌∙◌, ◌∷◌, ◌++◌, [], sym, ap, subst}
 use Rattle.std.specs.List.{AllByRecursion}
 use Rattle.asp_model.specs.Store.{CellShape}
 use Rattle.indexmap.proofs.CallerLemmas.{insert_entry-new}
@@ -37,9 +37,8 @@ returns-clause-shown c =
     let p = place_of old.entered due.spot in
     let seen = c.args.sight.seen in
     let entries = c.in_ok-insert.ensures.entries ∙ insert_entry-new is_spot old.paths due.spot due.path c.requires.new in
-    let line = c.in_ok-line.ensures.line ∙ ap (λ (x : CellShape). state_line due.path (what_text x)) (found_seen s p seen c.requires.sees.read) in
-    let lines = c.in_ok-push.ensures.items ∙ ap (λ (l : List ℕ). old.lines.items ++ l ∷ []) line in
-    new_done s old due (record { entered = c.expand.new.entered; paths = c.insert.new.self; due = c.expand.new.all; lines = c.push.new.self })
+    let lines = c.in_ok-push_line.ensures ∙ ap (λ (x : CellShape). old.lines.items ++ state_line due.path (what_text x) ∷ []) (found_seen s p seen c.requires.sees.read) in
+    new_done s old due (record { entered = c.expand.new.entered; paths = c.insert.new.self; due = c.expand.new.all; lines = c.push_line.new.lines })
     c.requires.walk c.requires.spot c.in_ok-expand.ensures.grows
     (c.in_ok-expand.ensures.below (side_in s) c.requires.walk.values c.requires.sees).1
     entries lines
