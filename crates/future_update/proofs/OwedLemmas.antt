@@ -140,3 +140,27 @@ passes_same h y (Some x) None = refl
 passes_same h y (Some x) (Some Forward) = refl
 passes_same h y (Some x) (Some FromHome) = refl
 passes_same h y (Some x) (Some Leave) = refl
+
+-- Whether an edge is owed, test by test: delivered, filled, chosen
+
+pub all_tests : (d f k : Bool) → d ≡ false → f ≡ true → k ≡ (not d && (f && k))
+all_tests d f k open_edge filled = λ i. not (sym open_edge i) && (sym filled i && k)
+
+pub unfilled_no : (d f k v : Bool) → v ≡ false → f ≡ false → v ≡ (not d && (f && k))
+unfilled_no true f k v e unfilled = e
+unfilled_no false f k v e unfilled = e ∙ sym (ap (λ x. x && k) unfilled)
+
+pub delivered_no : (d f k v : Bool) → v ≡ false → d ≡ true → v ≡ (not d && (f && k))
+delivered_no d f k v e delivered = e ∙ sym (ap (λ x. not x && (f && k)) delivered)
+
+-- Marks of a place, if its edge is owed
+
+pub marked_so : (a b so : Bool) → so ≡ true → elim b [ true ↦ true | false ↦ a ] ≡ (a || (so && b))
+marked_so true true so e = refl
+marked_so true false so e = refl
+marked_so false true so e = sym (ap (λ x. x && true) e)
+marked_so false false so e = sym (ap (λ x. x && false) e)
+
+pub unmarked_so : (a b so : Bool) → so ≡ false → a ≡ (a || (so && b))
+unmarked_so true b so e = refl
+unmarked_so false b so e = sym (ap (λ x. x && b) e)

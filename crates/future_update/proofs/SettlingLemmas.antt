@@ -71,6 +71,16 @@ owed_within r p owed = elim (leb_tells (length r.edges.keys) p) [
   | inr e ↦ e.1
 ]
 
+pub none_beyond : (r : Records) (p n : ℕ) → n ≡ length r.edges.keys → n ≤ p → nat_lt p n ≡ owes r p
+none_beyond r p n size le = by (owes r p) refl
+  where
+    not_less : nat_lt p n ≡ false
+    not_less = grind (arith, nat_tests)
+
+    by : (b : Bool) → owes r p ≡ b → nat_lt p n ≡ owes r p
+    by true e = let lt = owed_within r p e in absurd (omega (arith, lt, le, size))
+    by false e = not_less ∙ sym e
+
 pub ahead_begins : (r : Records) (owed : Marks) (low high : Passing) (sorted ahead : List Passing) → ((p : ℕ) → owes r p ≡ true → is_marked owed p ≡ false → range_contains passing_cmp (Included low) (Included high) (passing_of (edge_at r.edges.keys p) p) ≡ true) → AreAhead r owed sorted → ahead ≡ filter (range_contains passing_cmp (Included low) (Included high)) sorted → AreAhead r owed ahead
 ahead_begins r owed low high sorted ahead left kept e p o u =
     let k : Passing = passing_of (edge_at r.edges.keys p) p in

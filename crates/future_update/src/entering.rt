@@ -75,8 +75,21 @@ pub fn make_room(
 {
     records.reserve()?;
     passings.reserve()?;
-    owed.make_lane(edge.to)?;
-    owed.add(edge.to)
+    make_place(owed, edge.to)
+}
+
+// One more place, in a lane that is there with this call if it was not before.
+fn make_place(owed: &mut Lanes, lane: u32) -> Result<(), AllocError>
+    requires lanes { AreLanes owed.old }
+    ensures lanes { AreLanes owed.new }
+    ensures marks { SameMarks owed.old.marks owed.new.marks }
+    ensures closed { SameClosed owed.old owed.new }
+    ensures more { lane_count owed.old ≤ lane_count owed.new }
+    ensures place { OnOk result (IsGrown lane owed.old owed.new) }
+    ensures err { OnErr result (owed.new.spots.items ≡ owed.old.spots.items) }
+{
+    owed.make_lane(lane)?;
+    owed.add(lane)
 }
 
 /// Enters an edge with its answer. Nothing is ever owed along one whose answer leaves the value.
