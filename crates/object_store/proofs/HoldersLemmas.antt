@@ -3,7 +3,7 @@ use Rattle.std.proofs.Common.{◌≡◌, ℕ, zero, suc, ◌+◌, ◌<◌, Bool,
 use Rattle.asp_model.specs.Names.{FutureShape}
 use Rattle.coded_cells.specs.Cells.{CodedCell, CodedStore, cell_at, with_cell_at}
 use Rattle.std.specs.List.{AllByRecursion}
-use Rattle.object_store.specs.Index.{with_place, without_place}
+use Rattle.object_store.specs.Places.{with_place, without_place}
 use Rattle.object_store.specs.Holders.{is_future, holders_from, holders}
 use Rattle.object_store.proofs.PlaceLemmas.{with_above, with_below, with_first, without_first, without_below}
 use Rattle.object_store.proofs.IndexLemmas.{changed_so}

@@ -4,12 +4,13 @@ use Rattle.asp_model.specs.declared.name.FutureName.{FutureName}
 use Rattle.asp_model.specs.Order.{same_future_same}
 use Rattle.asp_model.specs.FutureOrder.{eq_shape}
 use Rattle.asp_model.specs.Shapes.{future_shape}
-use Rattle.std.specs.BTreeSet.{BTreeSet}
 use Rattle.indexmap.specs.IndexMap.{IndexMap, WritesThrough, get}
 use Rattle.object_store.specs.Index.{is_same, or_none}
+use Rattle.object_store.specs.Places.{places_of}
+use Rattle.object_store.specs.declared.places.Places.{Places}
 
 abbrev pub Held : Type 0
-Held = FutureName → Option (BTreeSet ℕ)
+Held = FutureName → Option Places
 
 abbrev pub changed_so : (List ℕ → List ℕ) → Bool → List ℕ → List ℕ
 changed_so change same places = elim same [ true ↦ change places | false ↦ places ]
@@ -20,7 +21,7 @@ is_same_same f g e =
     λ i. record { by = (s i).by; index = (s i).index }
 
 -- the places of one future are these, and those of the others stay
-pub changed : (f : FutureName) (change : List ℕ → List ℕ) (old new : Held) (places : BTreeSet ℕ) → places.keys ≡ change (or_none (old f)) → ((g : FutureName) → new g ≡ cond (is_same f g) (Some places) (old g)) → (g : FutureName) → or_none (new g) ≡ changed_so change (is_same f g) (or_none (old g))
+pub changed : (f : FutureName) (change : List ℕ → List ℕ) (old new : Held) (places : Places) → places_of places ≡ change (or_none (old f)) → ((g : FutureName) → new g ≡ cond (is_same f g) (Some places) (old g)) → (g : FutureName) → or_none (new g) ≡ changed_so change (is_same f g) (or_none (old g))
 changed f change old new places e updates g = by (is_same f g) refl
   where
     by : (b : Bool) → is_same f g ≡ b → or_none (new g) ≡ changed_so change b (or_none (old g))
@@ -36,9 +37,9 @@ unchanged f change old new e same g = by (is_same f g) refl
     by false p = ap or_none (same g)
 
 -- the places of one future were written through what the map lent
-pub written : {S : Type 0} (f : FutureName) (change : List ℕ → List ℕ) (old new : IndexMap FutureName (BTreeSet ℕ) S) (was places : BTreeSet ℕ) → Some was ≡ get is_same old f → places.keys ≡ change was.keys → WritesThrough is_same (is_same f) old places new → (g : FutureName) → or_none (get is_same new g) ≡ changed_so change (is_same f g) (or_none (get is_same old g))
+pub written : {S : Type 0} (f : FutureName) (change : List ℕ → List ℕ) (old new : IndexMap FutureName Places S) (was places : Places) → Some was ≡ get is_same old f → places_of places ≡ change (places_of was) → WritesThrough is_same (is_same f) old places new → (g : FutureName) → or_none (get is_same new g) ≡ changed_so change (is_same f g) (or_none (get is_same old g))
 written f change old new was places found e writes =
-    let there : IsSome (get is_same old f) = subst (λ (o : Option (BTreeSet ℕ)). IsSome o) found refl in
+    let there : IsSome (get is_same old f) = subst (λ (o : Option Places). IsSome o) found refl in
     changed f change (get is_same old) (get is_same new) places (e ∙ ap (λ o. change (or_none o)) found) (writes.3 there).0
 
 -- a future with no places is forgotten

@@ -2,7 +2,7 @@
 use Rattle.std.proofs.Common.{◌≡◌, ℕ, ◌<◌, Bool, true, false, cond, nat_eq, nat_lt, List, ◌∷◌, Less, Equal, Greater, ap, arith}
 use Rattle.std.specs.Ordering.{match_ordering, is_eq}
 use Rattle.std.proofs.lemmas.Bool.Decides.{nat_tests}
-use Rattle.object_store.specs.Index.{with_place, without_place}
+use Rattle.object_store.specs.Places.{with_place, without_place}
 
 abbrev placed : (less same : Bool) → ℕ → ℕ → List ℕ → List ℕ
 placed less same x y ys = match_ordering (cond less Less (cond same Equal Greater)) (x ∷ y ∷ ys) (y ∷ ys) (y ∷ with_place x ys)

@@ -10,7 +10,8 @@ use Rattle.asp_model.specs.Order.{same_future_same}
 use Rattle.coded_cells.specs.Cells.{CodedCell, CodedStore, Number, Object, Reference, Future, Group, cell_at, with_cell_at, with_place_at}
 use Rattle.asp_model.specs.Shapes.{future_shape}
 use Rattle.object_store.specs.Holders.{is_future, is_one_future, holders}
-use Rattle.object_store.specs.Index.{ChangesWhere, IsAlike, IsIndexed, is_given_up, is_in_cell, with_place, without_place}
+use Rattle.object_store.specs.Index.{ChangesWhere, IsAlike, IsIndexed, is_given_up, is_in_cell}
+use Rattle.object_store.specs.Places.{with_place, without_place}
 use Rattle.object_store.specs.declared.index.Index.{Index}
 use Rattle.object_store.proofs.IndexLemmas.{changed_so}
 use Rattle.object_store.proofs.HoldersLemmas.{added, left, replaced, exchanged, held_alike}

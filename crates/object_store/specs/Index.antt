@@ -1,30 +1,21 @@
 -- What an index says of each future.
 use Rattle.std.specs.Prelude.{◌≡◌, ℕ, Bool, true, false, not, ◌&&◌, List, [], Option, Some, None}
-use Rattle.std.specs.BTreeMap.{is_at}
-use Rattle.std.specs.BTreeSet.{BTreeSet, insert_key}
-use Rattle.std.specs.Set.{remove_key}
-use Rattle.std.specs.Ordering.{nat_cmp}
 use Rattle.indexmap.specs.IndexMap.{get}
 use Rattle.asp_model.specs.declared.name.FutureName.{FutureName}
 use Rattle.asp_model.specs.contracts.name.FutureNamePartialEq.TheImpl as equality
 use Rattle.asp_model.specs.Shapes.{future_shape}
 use Rattle.coded_cells.specs.Cells.{CodedCell, CodedStore}
 use Rattle.object_store.specs.Holders.{holders, is_future}
+use Rattle.object_store.specs.Places.{places_of}
 use Rattle.object_store.specs.declared.index.Index.{Index}
+use Rattle.object_store.specs.declared.places.Places.{Places}
 
 abbrev pub is_same : FutureName → FutureName → Bool
 is_same = equality.ghosts.eq
 
--- places in ascending order, with one more or without one
-abbrev pub with_place : ℕ → List ℕ → List ℕ
-with_place p places = insert_key nat_cmp places p
-
-abbrev pub without_place : ℕ → List ℕ → List ℕ
-without_place p places = remove_key (is_at (nat_cmp p)) places
-
-abbrev pub or_none : Option (BTreeSet ℕ) → List ℕ
+abbrev pub or_none : Option Places → List ℕ
 or_none None = []
-or_none (Some places) = places.keys
+or_none (Some places) = places_of places
 
 abbrev pub places_in : Index → FutureName → List ℕ
 places_in index f = or_none (get is_same index.held f)

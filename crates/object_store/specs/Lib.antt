@@ -1,5 +1,6 @@
 pub mod View
 pub mod Holders
+pub mod Places
 pub mod Index
 pub mod Stored
 pub mod Fields

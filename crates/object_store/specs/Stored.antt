@@ -1,5 +1,5 @@
 -- What every store keeps.
-use Rattle.std.specs.Prelude.{◌≡◌, ◌+◌, ◌≤◌, [], vec_len, vec_capacity}
+use Rattle.std.specs.Prelude.{◌+◌, ◌≤◌, vec_len, vec_capacity}
 use Rattle.coded_cells.specs.Cells.{CodedStore, all_coded}
 use Rattle.object_store.specs.declared.store.Store.TheInside.{Inside}
 use Rattle.object_store.specs.Index.{IsIndexed}
@@ -15,4 +15,3 @@ view_of s = record { cells = cells_of s; spare = s.spare }
 pub record IsStored (s : Inside) : Type 0 where
   pub indexed : IsIndexed s.index (cells_of s)
   pub room : vec_len s.cells + s.spare ≤ vec_capacity s.cells
-  pub none : s.none.keys ≡ []

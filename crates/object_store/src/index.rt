@@ -1,34 +1,44 @@
 //! The places that hold each future.
 
-ghost use Rattle.std.specs.Prelude.{◌≡◌, None, Some, [], false, IsOk, IsSome, IsTrue, OnErr, OnOk};
-ghost use Rattle.std.specs.Option.{option_copied};
+ghost use Rattle.std.specs.Prelude.{
+  ◌≡◌,
+  None,
+  Some,
+  [],
+  false,
+  IfOk,
+  IsOk,
+  IsSome,
+  IsTrue,
+  OnErr,
+  OnOk,
+};
 ghost use Rattle.indexmap.specs.IndexMap.{get};
-ghost use Rattle.coded_cells.specs.Cells.{coded};
+ghost use Rattle.coded_cells.specs.Cells.{all_coded, coded};
 ghost use Rattle.object_store.specs.Holders.{is_one_future as one_future, is_some_future};
 ghost use Rattle.object_store.specs.Index.{
   Changes,
   ChangesWhere,
   IsAlike,
+  IsIndexed,
   is_given_up,
   is_in_cell,
   is_same,
-  or_none,
   places_in,
-  with_place,
-  without_place,
 };
+ghost use Rattle.object_store.specs.Places.{with_place, without_place};
 
+use crate::places::Places;
 use asp_model::FutureName;
 use coded_cells::{Cell, Place};
 use indexmap::IndexMap;
 use std::alloc::{AllocError, Global};
-use std::collections::BTreeSet;
 
 /// For each future that is held the places that hold it.
 #[derive(Drop)]
 pub struct Index {
     alloc: Global,
-    held: IndexMap<FutureName, BTreeSet<Place>>,
+    held: IndexMap<FutureName, Places>,
 }
 
 impl Index {
@@ -41,11 +51,27 @@ impl Index {
         }
     }
 
-    /// The places of a future, if it is held.
-    pub fn places(&self, future: &FutureName) -> Option<&BTreeSet<Place>>
-        ensures places { or_none (option_copied result) ≡ places_in self.now future.now }
+    /// The index of a store with these cells.
+    pub fn of(alloc: Global, cells: &[Cell]) -> Result<Index, AllocError>
+        ensures indexed { IfOk result (λ index. IsIndexed index (all_coded cells.now)) }
     {
-        self.held.get(future)
+        let mut index = Index::new(alloc);
+        let mut place = 0;
+        while place < cells.len() {
+            index.hold(&cells[place], place)?;
+            place += 1;
+        }
+        Ok(index)
+    }
+
+    /// The places of a future, ascending.
+    pub fn places(&self, future: &FutureName) -> Result<Vec<Place>, AllocError>
+        ensures places { IfOk result (λ v. v.items ≡ places_in self.now future.now) }
+    {
+        match self.held.get(future) {
+            Some(places) => places.listed(self.alloc),
+            None => Ok(Vec::new(self.alloc)),
+        }
     }
 
     /// Adds a place to those of a future, if it is not there.
@@ -77,7 +103,7 @@ impl Index {
     {
         match self.held.get_mut(future) {
             Some(places) => {
-                places.remove(&place);
+                places.remove(place);
                 places.is_empty()
             }
             None => false,
@@ -125,7 +151,7 @@ impl Index {
     {
         match self.held.get_mut(future) {
             Some(places) => {
-                places.insert(place)?;
+                places.insert(self.alloc, place)?;
                 Ok(())
             }
             None => Ok(()),
@@ -138,9 +164,7 @@ impl Index {
         ensures err { OnErr result (IsAlike self.old self.new) }
     {
         let name = future.copy(self.alloc)?;
-        let mut places = BTreeSet::new(self.alloc);
-        places.insert(place)?;
-        self.held.insert(name, places)?;
+        self.held.insert(name, Places::At(place))?;
         Ok(())
     }
 }

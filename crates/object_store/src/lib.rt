@@ -5,6 +5,7 @@
 mod index;
 mod laws;
 mod objects;
+mod places;
 mod store;
 
 pub use laws::places_set_are_fields_set;

@@ -35,7 +35,6 @@ use crate::objects::set_in_cells;
 use asp_model::FutureName;
 use coded_cells::{Cell, Place};
 use std::alloc::{AllocError, Global};
-use std::collections::BTreeSet;
 use std::marker::Model;
 use std::mem;
 
@@ -46,8 +45,6 @@ pub struct Store {
     cells: Vec<Cell>,
     spare: usize,
     index: Index,
-    /// Lent for a future that is not held.
-    none: BTreeSet<Place>,
 }
 
 impl Model for Store {
@@ -76,8 +73,21 @@ impl Store {
             cells: Vec::new(alloc),
             spare: 0,
             index: Index::new(alloc),
-            none: BTreeSet::new(alloc),
         }
+    }
+
+    /// A store of these cells, with room for a few more.
+    pub fn of(alloc: Global, cells: Vec<Cell>) -> Result<Store, AllocError>
+        ensures cells { IfOk result (λ s. s.cells ≡ all_coded cells.items) }
+    {
+        let index = Index::of(alloc, &cells)?;
+        let mut store = Store {
+            cells,
+            spare: 0,
+            index,
+        };
+        store.reserve(8)?;
+        Ok(store)
     }
 
     pub fn len(&self) -> Place
@@ -165,10 +175,11 @@ impl Store {
     }
 
     /// The places whose cell is this future, ascending.
-    pub fn holders_of(&self, future: &FutureName) -> &BTreeSet<Place>
-        ensures holders { result.now.keys ≡ holders (future_shape future.now) self.now.cells }
+    pub fn holders_of(&self, future: &FutureName) -> Result<Vec<Place>, AllocError>
+        ensures holders { let places = holders (future_shape future.now) self.now.cells in
+            IfOk result (λ v. v.items ≡ places) }
     {
-        self.index.places(future).unwrap_or(&self.none)
+        self.index.places(future)
     }
 
     #[inline(always)]

@@ -1,6 +1,7 @@
 use Rattle.std.proofs.Common.{◌∙◌, sym, ap}
 use Rattle.coded_cells.specs.Cells.{coded}
-use Rattle.object_store.specs.Index.{places_in, without_place}
+use Rattle.object_store.specs.Index.{places_in}
+use Rattle.object_store.specs.Places.{without_place}
 use Rattle.object_store.proofs.IndexLemmas.{changed_so}
 use Rattle.object_store.proofs.StoredLemmas.{given_up_other, given_up_same}
 use Rattle.object_store.proofs.index.Index.give_up.Goals as goal

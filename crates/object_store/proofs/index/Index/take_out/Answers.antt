@@ -1,6 +1,7 @@
 use Rattle.std.proofs.Common.{◌∙◌, sym, ap}
 use Rattle.indexmap.specs.IndexMap.{get}
-use Rattle.object_store.specs.Index.{is_same, or_none, without_place}
+use Rattle.object_store.specs.Index.{is_same, or_none}
+use Rattle.object_store.specs.Places.{without_place}
 use Rattle.object_store.proofs.IndexLemmas.{unchanged, written}
 use Rattle.object_store.proofs.index.Index.take_out.Goals as goal
 
@@ -11,4 +12,4 @@ returns-in-None-clause-places c =
     (λ g. ap (λ m. get is_same m g) c.get_mut.follows.holds-at-none)
 
 pub returns-in-Some-clause-places : goal.returns-in-Some-clause-places
-returns-in-Some-clause-places c = written c.args.future.now (without_place c.args.place) c.args.self.now.held _ c.in-Some.places.now c.remove.new.self c.in-Some.ensures.value c.remove.ensures.keys (c.get_mut.follows.holds c.remove.new.self)
+returns-in-Some-clause-places c = written c.args.future.now (without_place c.args.place) c.args.self.now.held _ c.in-Some.places.now c.remove.new.self c.in-Some.ensures.value c.remove.ensures.places (c.get_mut.follows.holds c.remove.new.self)

@@ -1,7 +1,8 @@
 use Rattle.std.proofs.Common.{◌≡◌, ◌∙◌, sym, ap, subst, length, arith, rules, ◌++◌, ◌∷◌, []}
 use Rattle.std.proofs.lemmas.List.{length-map}
 use Rattle.coded_cells.specs.Cells.{all_coded, coded}
-use Rattle.object_store.specs.Index.{ChangesWhere, IsIndexed, is_in_cell, with_place}
+use Rattle.object_store.specs.Index.{ChangesWhere, IsIndexed, is_in_cell}
+use Rattle.object_store.specs.Places.{with_place}
 use Rattle.object_store.proofs.CellLemmas.{last_coded}
 use Rattle.object_store.proofs.StoredLemmas.{indexed_more}
 use Rattle.object_store.proofs.store.Store.append.Goals as goal
@@ -19,5 +20,4 @@ invariant_of-self-2 c =
     record {
       indexed = subst (IsIndexed new) (sym shapes) (indexed_more old new s (coded c.args.cell) c.self.invariant.indexed changes);
       room = omega (arith, c.in_ok-reserve.ensures.len, c.in_ok-reserve.ensures.ok, c.in_ok-reserve.ensures.capacity);
-      none = c.self.invariant.none;
     }

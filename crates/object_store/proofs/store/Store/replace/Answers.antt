@@ -2,7 +2,8 @@ use Rattle.std.proofs.Common.{◌≡◌, ◌<◌, ◌∙◌, length, sym, ap, su
 use Rattle.std.proofs.lemmas.List.{get_or-set_same}
 use Rattle.coded_cells.specs.declared.cells.Cell.{Cell}
 use Rattle.coded_cells.specs.Cells.{all_coded, coded, cell_at, with_cell_at}
-use Rattle.object_store.specs.Index.{ChangesWhere, IsIndexed, is_given_up, without_place}
+use Rattle.object_store.specs.Index.{ChangesWhere, IsIndexed, is_given_up}
+use Rattle.object_store.specs.Places.{without_place}
 use Rattle.object_store.specs.View.{StoreView}
 use Rattle.object_store.proofs.CellLemmas.{coded_within}
 use Rattle.coded_cells.proofs.CodedLemmas.{at_place, cell_set}
@@ -26,7 +27,6 @@ invariant_of-self-2 c =
     record {
       indexed = subst (IsIndexed new) (sym set) (indexed_replaced c.self.inside.index mid new s p (coded c.args.cell) (coded old) within here c.self.invariant.indexed c.in_ok-hold.ensures.places second);
       room = c.self.invariant.room;
-      none = c.self.invariant.none;
     }
 
 pub returns-clause-cells : goal.returns-clause-cells

@@ -21,5 +21,4 @@ invariant_of-self c =
     record {
       indexed = subst (λ (ds : List Cell). IsIndexed c.self.inside.index (all_coded ds)) (sym kept) (indexed_object c.self.inside.index s (all_coded written) p i to set c.self.invariant.indexed);
       room = c.self.invariant.room;
-      none = c.self.invariant.none;
     }

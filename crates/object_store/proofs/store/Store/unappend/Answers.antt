@@ -1,7 +1,8 @@
 use Rattle.std.proofs.Common.{◌≡◌, ◌∙◌, length, ◌++◌, ◌∷◌, [], option_to_list, sym, ap, subst, arith, rules}
 use Rattle.std.proofs.lemmas.List.{length-map}
 use Rattle.coded_cells.specs.Cells.{all_coded, coded}
-use Rattle.object_store.specs.Index.{ChangesWhere, IsIndexed, is_in_cell, without_place}
+use Rattle.object_store.specs.Index.{ChangesWhere, IsIndexed, is_in_cell}
+use Rattle.object_store.specs.Places.{without_place}
 use Rattle.object_store.proofs.CellLemmas.{last_coded}
 use Rattle.object_store.proofs.StoredLemmas.{indexed_less}
 use Rattle.object_store.proofs.store.Store.unappend.Goals as goal
@@ -20,5 +21,4 @@ invariant_of-self c =
     record {
       indexed = indexed_less old new s (coded last) (subst (IsIndexed old) shapes c.self.invariant.indexed) changes;
       room = omega (arith, c.pop.ensures.len, c.pop.ensures.capacity, c.self.invariant.room);
-      none = c.self.invariant.none;
     }
