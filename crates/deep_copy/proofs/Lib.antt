@@ -6,3 +6,4 @@ pub mod VisitLemmas
 pub mod CopyLemmas
 pub mod UnpackLemmas
 pub mod PackLemmas
+pub mod AloneLemmas

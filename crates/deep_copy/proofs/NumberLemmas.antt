@@ -3,7 +3,7 @@ use Rattle.std.proofs.Common.{◌≡◌, ℕ, suc, ◌+◌, ◌≤◌, Bool, tru
 use Rattle.std.specs.Option.{unwrap_or}
 use Rattle.std.specs.List.{position_or_len}
 use Rattle.std.proofs.lemmas.Bool.Decides.{nat_tests}
-use Rattle.asp_model.specs.Parcel.{number_in}
+use Rattle.asp_model.specs.Parcel.{has_place, number_in}
 
 first_number : (n : ℕ) (order : List ℕ) → position_or_len (nat_eq n) order ≡ number_in order n
 first_number n [] = refl
@@ -30,3 +30,18 @@ pub number_found : (n : ℕ) (order : List ℕ) → unwrap_or (position (nat_eq 
 number_found n order =
     ap (λ k. unwrap_or (cond (nat_lt k (length order)) (Some k) None) (length order)) (first_number n order)
     ∙ within_or (number_in order n) (length order) (number_most n order)
+
+sucs_equal : (m n : ℕ) → nat_eq (suc m) (suc n) ≡ nat_eq m n
+sucs_equal m n = by (nat_eq m n) refl
+  where
+    by : (b : Bool) → nat_eq m n ≡ b → nat_eq (suc m) (suc n) ≡ b
+    by true e = grind (arith, nat_tests)
+    by false e = grind (arith, nat_tests)
+
+-- a place that was not seen has the length as its number
+pub new_by_number : (n : ℕ) (order : List ℕ) → nat_eq (number_in order n) (length order) ≡ not (has_place n order)
+new_by_number n [] = refl
+new_by_number n (x ∷ xs) = elim (nat_eq n x) as (λ b. nat_eq (elim b [ true ↦ 0 | false ↦ suc (number_in xs n) ]) (suc (length xs)) ≡ not (elim b [ true ↦ true | false ↦ has_place n xs ])) [
+  | true ↦ let e : nat_eq 0 (suc (length xs)) ≡ false = grind (arith, nat_tests) in e
+  | false ↦ sucs_equal (number_in xs n) (length xs) ∙ new_by_number n xs
+]

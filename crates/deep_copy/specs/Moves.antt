@@ -14,6 +14,7 @@ raised_at size root zero = root
 raised_at size root (suc n) = raised n size
 
 abbrev pub move_of : Moves → ℕ → ℕ
+move_of (moves.ToFew order) n = number_in order.now n
 move_of (moves.ToNumber order) n = number_in order.now.keys n
 move_of (moves.Up size) n = raised n size
 move_of (moves.RootTo root size) n = raised_at size root n

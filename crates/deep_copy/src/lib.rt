@@ -9,4 +9,4 @@ mod unpacking;
 mod visiting;
 
 pub use packing::pack;
-pub use unpacking::{unpack, unpack_at};
+pub use unpacking::{unpack, unpack_alone, unpack_at};

@@ -2,7 +2,7 @@
 
 ghost use Rattle.std.specs.Prelude.{◌≡◌, ◌∷◌, [], IfOk, IfSome, length, map};
 ghost use Rattle.std.specs.Arc.{arc_value};
-ghost use Rattle.asp_model.specs.Parcel.{parcel_of};
+ghost use Rattle.asp_model.specs.Parcel.{number_in, parcel_of, visit_order as order_of};
 ghost use Rattle.coded_cells.specs.Cells.{all_coded, coded, moved_coded};
 ghost use Rattle.coded_cells.specs.Fits.{AllFitCode};
 ghost use Rattle.coded_cells.specs.Shapes.{parcel_shape, store_of};
@@ -11,10 +11,11 @@ ghost use Rattle.deep_copy.specs.Leaves.{IsLeaf, IsLoneLeaf};
 ghost use Rattle.deep_copy.specs.Moves.{move_of};
 ghost use Rattle.deep_copy.specs.declared.moves.Moves.TheVariants as moves;
 ghost use Rattle.laws.specs.Closed.{AreBelow, IsClosedParcel, IsClosedStore};
+ghost use Rattle.program_code.specs.Sound.{IsSound};
 
 use crate::copied::{code_is_sound, moved_cell, moved_places};
 use crate::moves::Moves;
-use crate::visiting::visit_order;
+use crate::visiting::{visit_few, visit_order};
 use coded_cells::{Cell, Object, Parcel, Place};
 use object_store::Store;
 use program_code::Code;
@@ -63,10 +64,41 @@ fn pack_visited(
         IfOk result (λ p. fit store.now.cells → fit (all_coded p.cells.items)) }
 {
     code_is_sound(code);
-    let order = visit_order(alloc, code, store, roots)?;
-    let moves = Moves::ToNumber(&order);
-    let cells = copied_cells(alloc, store, &moves, order.as_slice())?;
-    let roots = moved_places(alloc, &moves, roots)?;
+    match visit_few(alloc, code, store, roots)? {
+        Some(order) => numbered(alloc, code, store, roots, &Moves::ToFew(&order), &order),
+        None => {
+            let order = visit_order(alloc, code, store, roots)?;
+            let moves = Moves::ToNumber(&order);
+            numbered(alloc, code, store, roots, &moves, order.as_slice())
+        }
+    }
+}
+
+// The copies of these places, and where the roots go.
+fn numbered(
+    alloc: Global,
+    code: &Arc<Code>,
+    store: &Store,
+    roots: &[Place],
+    moves: &Moves,
+    order: &[Place],
+) -> Result<Parcel, AllocError>
+    requires sound { IsSound (arc_value code.now) }
+    requires closed { IsClosedStore (store_of (arc_value code.now) store.now.cells) }
+    requires within { AreBelow (length store.now.cells) roots.now }
+    requires below { AreBelow (length store.now.cells) order.now }
+    requires order { let s = store_of (arc_value code.now) store.now.cells in
+        order.now ≡ order_of s roots.now }
+    requires moves { move_of moves.now ≡ number_in order.now }
+    ensures parcel { let s = store_of (arc_value code.now) store.now.cells in
+        IfOk result (λ p. parcel_shape p ≡ parcel_of s roots.now) }
+    ensures code { IfOk result (λ p. arc_value p.code ≡ arc_value code.now) }
+    ensures closed { IfOk result (λ p. IsClosedParcel (parcel_shape p)) }
+    ensures fits { let fit = AllFitCode (arc_value code.now) in
+        IfOk result (λ p. fit store.now.cells → fit (all_coded p.cells.items)) }
+{
+    let cells = copied_cells(alloc, store, moves, order)?;
+    let roots = moved_places(alloc, moves, roots)?;
     let code = Arc::try_clone(code)?;
     Ok(Parcel { code, cells, roots })
 }

@@ -17,7 +17,20 @@ use crate::copied::{code_is_sound, moved_cell, moved_places};
 use crate::moves::Moves;
 use coded_cells::{Cell, Parcel, Place};
 use object_store::Store;
+use program_code::Code;
 use std::alloc::{AllocError, Global};
+use std::sync::Arc;
+
+/// The code of a parcel, and a store of its cells: what is unpacked with no cells before.
+pub fn unpack_alone(alloc: Global, parcel: Parcel) -> Result<(Arc<Code>, Store), AllocError>
+    ensures code { IfOk result (λ r. arc_value r.0 ≡ arc_value parcel.code) }
+    ensures cells { let after = unpacked_in [] (parcel_shape parcel) in
+        IfOk result (λ r. store_of (arc_value parcel.code) r.1.cells ≡ after) }
+{
+    code_is_sound(&parcel.code);
+    let store = Store::of(alloc, parcel.cells)?;
+    Ok((parcel.code, store))
+}
 
 /// Appends a parcel's cells, and answers where its roots then stand.
 pub fn unpack(alloc: Global, store: &mut Store, parcel: &Parcel) -> Result<Vec<Place>, AllocError>
@@ -120,7 +133,6 @@ fn append_moved(
     ensures fits { OnOk result (length store.new.cells < 2 ^ 64) }
     ensures err { OnErr result (store.new.cells ≡ store.old.cells) }
 {
-    make_room(store)?;
     let before = store.len();
     for cell in cells {
         if append_one(alloc, store, moves, cell).is_err() {
@@ -130,16 +142,6 @@ fn append_moved(
     }
     // Read for `fits`: the number of cells is a place.
     let _after = store.len();
-    Ok(())
-}
-
-// What an activity begins with is soon more: room for a few cells more spares moves.
-fn make_room(store: &mut Store) -> Result<(), AllocError>
-    ensures cells { store.new.cells ≡ store.old.cells }
-{
-    if store.len() == 0 {
-        store.reserve(8)?;
-    }
     Ok(())
 }
 

@@ -1,17 +1,54 @@
 //! The order of a deep copy: each place at its first visit, and before what it reaches.
 
-ghost use Rattle.std.specs.Prelude.{◌≡◌, ◌++◌, IfOk, OnOk, length, reverse};
-ghost use Rattle.asp_model.specs.Parcel.{visit_order as order_of};
+ghost use Rattle.std.specs.Prelude.{◌≡◌, ◌++◌, IfOk, IfSome, OnOk, length, not, reverse};
+ghost use Rattle.asp_model.specs.Parcel.{has_place, visit_order as order_of};
 ghost use Rattle.asp_model.specs.Store.{reached};
 ghost use Rattle.coded_cells.specs.Shapes.{cell_shape, store_of};
 ghost use Rattle.laws.specs.Closed.{AreBelow, IsClosedStore};
 
+use crate::moves::number_in_few;
 use crate::reached::note_reached;
 use coded_cells::{Cell, Place};
 use indexmap::IndexSet;
 use object_store::Store;
 use program_code::Code;
 use std::alloc::{AllocError, Global};
+
+/// What the roots reach, in the order of a depth-first visit, where that is no more than 8 places.
+pub fn visit_few(
+    alloc: Global,
+    code: &Code,
+    store: &Store,
+    roots: &[Place],
+) -> Result<Option<Vec<Place>>, AllocError>
+    requires closed { IsClosedStore (store_of code.now store.now.cells) }
+    requires within { AreBelow (length store.now.cells) roots.now }
+    ensures order { let s = store_of code.now store.now.cells in
+        IfOk result (λ r. IfSome r (λ seen. seen.items ≡ order_of s roots.now)) }
+    ensures within { let below = AreBelow (length store.now.cells) in
+        IfOk result (λ r. IfSome r (λ seen. below seen.items)) }
+{
+    let mut seen = Vec::with_capacity(alloc, 8)?;
+    let mut stack = Vec::new(alloc);
+    stack.extend_from_slice(roots)?;
+    stack.reverse();
+    while let Some(place) = stack.pop() {
+        if is_new(&seen, place) {
+            if seen.len() == 8 {
+                return Ok(None);
+            }
+            seen.push(place)?;
+            push_reached(&mut stack, code, store.cell(place))?;
+        }
+    }
+    Ok(Some(seen))
+}
+
+fn is_new(seen: &[Place], place: Place) -> bool
+    ensures { result ≡ not (has_place place seen.now) }
+{
+    number_in_few(seen, place) == seen.len()
+}
 
 /// What the roots reach, in the order of a depth-first visit.
 pub fn visit_order(
