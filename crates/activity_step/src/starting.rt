@@ -16,7 +16,6 @@ ghost use Rattle.machine_frames.specs.Services.{asked_view};
 ghost use Rattle.machine_frames.specs.Standing.{Standing, view_of};
 ghost use Rattle.coded_cells.specs.Cells.{Object as ObjectCoded};
 ghost use Rattle.coded_cells.specs.Shapes.{parcel_shape, store_of};
-ghost use Rattle.laws.specs.Closed.{IsClosedParcel};
 ghost use Rattle.activity_step.specs.Activities.{StandsFor};
 ghost use Rattle.activity_step.specs.Starting.{start_view};
 ghost use Rattle.activity_step.specs.Standings.{code_of};
@@ -25,7 +24,7 @@ use crate::activity::Activity;
 use crate::state::State;
 use asp_model::{Label, Word};
 use coded_cells::{Cell, Object, Parcel};
-use deep_copy::unpack;
+use deep_copy::unpack_alone;
 use machine_frames::{Focus, Machine};
 use object_store::Store;
 use program_code::{Code, EMPTY_NUMBER, SERVICE_NUMBER};
@@ -134,20 +133,17 @@ impl Activity {
     /// a call of this method of the object.
     pub fn made(
         alloc: Global,
-        object: &Parcel,
+        object: Parcel,
         service: Option<Label>,
     ) -> Result<Activity, AllocError>
-        requires closed { IsClosedParcel (parcel_shape object.now) }
-        ensures stands { let store = unpacked_in [] (parcel_shape object.now) in
+        ensures stands { let store = unpacked_in [] (parcel_shape object) in
             let term = start_term (option_map (λ l. l.text) service) 0 in
             IfOk result (λ x. StandsFor x (begun term store)) }
-        ensures code { IfOk result (λ x. code_of x ≡ arc_value object.now.code) }
+        ensures code { IfOk result (λ x. code_of x ≡ arc_value object.code) }
     {
         code_is_sound(&object.code);
         let machine = serving_machine(alloc, service)?;
-        let mut store = Store::new(alloc);
-        unpack(alloc, &mut store, object)?;
-        let code = Arc::try_clone(&object.code)?;
+        let (code, store) = unpack_alone(alloc, object)?;
         Ok(begin(alloc, code, machine, store))
     }
 }

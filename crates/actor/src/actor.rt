@@ -10,7 +10,6 @@ ghost use Rattle.asp_model.specs.Parcel.{unpack as unpack_in};
 ghost use Rattle.asp_model.specs.Shapes.{activity_shape as report_shape, status_shape};
 ghost use Rattle.asp_model.specs.Store.{Object as ObjectCell};
 ghost use Rattle.coded_cells.specs.Shapes.{parcel_shape, store_of};
-ghost use Rattle.laws.specs.Closed.{IsClosedParcel};
 ghost use Rattle.program_code.specs.Pieces.{tree};
 ghost use Rattle.program_code.specs.Sound.{root_of};
 ghost use Rattle.program_code.specs.Tables.{piece_at, pieces};
@@ -70,12 +69,11 @@ impl Actor {
     }
 
     /// An activity round the object that a parcel has as its root.
-    pub fn made(alloc: Global, object: &Parcel, service: Option<Label>) -> Result<Actor, AllocError>
-        requires closed { IsClosedParcel (parcel_shape object.now) }
-        ensures stands { let store = unpack_in [] (parcel_shape object.now) in
+    pub fn made(alloc: Global, object: Parcel, service: Option<Label>) -> Result<Actor, AllocError>
+        ensures stands { let store = unpack_in [] (parcel_shape object) in
             let term = start_term (option_map (λ l. l.text) service) 0 in
             IfOk result (λ x. Stands x (begun term store) []) }
-        ensures code { IfOk result (λ x. code_of x ≡ arc_value object.now.code) }
+        ensures code { IfOk result (λ x. code_of x ≡ arc_value object.code) }
     {
         Ok(Actor::begin(alloc, Activity::made(alloc, object, service)?))
     }

@@ -93,7 +93,7 @@ impl Actor {
         let number = next_number(self.creations)?;
         let created = name.created(alloc, number)?;
         let parcel = self.activity.pack(alloc, &[object])?;
-        let begun = Actor::made(alloc, &parcel, service)?;
+        let begun = Actor::made(alloc, parcel, service)?;
         let made = Box::new(alloc, begun)?;
         self.clear = 0;
         self.activity.created(alloc, created.copy(alloc)?)?;

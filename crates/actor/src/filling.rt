@@ -16,7 +16,6 @@ ghost use Rattle.actor.specs.Clear.{HasClear};
 use crate::actor::Actor;
 use crate::held::{clear_at, holds_future};
 use activity_step::Standing;
-use actor_parts::listed;
 use asp_model::FutureName;
 use coded_cells::{Parcel, Place};
 use operand_reads::strict_of;
@@ -107,7 +106,7 @@ impl Actor {
             OnOk result (Stands self.new (record a { store = filled }) rs) }
         ensures code { code_of self.new ≡ code_of self.old }
     {
-        let places = listed(alloc, self.activity.store().holders_of(future))?;
+        let places = self.activity.store().holders_of(future)?;
         self.fill_all(alloc, &places, value)
     }
 }

@@ -1,4 +1,4 @@
-use Rattle.std.proofs.Common.{rules, ◌≡◌, List, [], ap, subst, ◌∙◌}
+use Rattle.std.proofs.Common.{◌≡◌, List, [], subst}
 use Rattle.std.specs.Arc.{arc_value}
 use Rattle.std.specs.Option.{option_map}
 use Rattle.asp_model.specs.declared.word.Label.{Label}
@@ -9,7 +9,6 @@ use Rattle.asp_model.specs.Store.{Store}
 use Rattle.asp_model.specs.Term.{Tree}
 use Rattle.program_code.specs.declared.code.Node.{Node}
 use Rattle.program_code.specs.Sound.{IsSound}
-use Rattle.coded_cells.specs.Cells.{CodedStore}
 use Rattle.coded_cells.specs.Shapes.{parcel_shape, store_of}
 use Rattle.machine_frames.specs.Standing.{Standing, view_of}
 use Rattle.activity_step.specs.Activities.{StandsFor}
@@ -17,10 +16,8 @@ use Rattle.activity_step.proofs.activity.Activity.made.Goals as goal
 
 pub returns-clause-stands : goal.returns-clause-stands
 returns-clause-stands c =
-    let k : List Node = arc_value c.args.object.now.code in
+    let k : List Node = arc_value c.args.object.code in
     let sound : IsSound k = subst IsSound c.deref.ensures c.code_is_sound.ensures.sound in
-    let same : arc_value c.in_ok-code.code ≡ k = search (rules, c.in_ok-code.ensures) in
     let term : Tree = start_term (option_map (λ (l : Label). l.text) c.args.service) 0 in
-    let s : Store = unpack [] (parcel_shape c.args.object.now) in
-    let cells : store_of k c.unpack.new.store.cells ≡ s = c.in_ok-unpack.ensures.cells ∙ ap (λ (q : CodedStore). unpack (store_of k q) (parcel_shape c.args.object.now)) c.new-store.ensures.cells in
-    subst (λ (q : List Node). (t : Tree) (s : Store) → Standing q (view_of c.in_ok-machine.machine) t [] → store_of q c.unpack.new.store.cells ≡ s → StandsFor c.begin.result (begun t s)) same c.begin.ensures.stands term s (c.in_ok-machine.ensures.stands k sound) cells
+    let s : Store = unpack [] (parcel_shape c.args.object) in
+    subst (λ (q : List Node). (t : Tree) (s : Store) → Standing q (view_of c.in_ok-machine.machine) t [] → store_of q c.in_ok-code.store.cells ≡ s → StandsFor c.begin.result (begun t s)) c.in_ok-code.ensures.code c.begin.ensures.stands term s (c.in_ok-machine.ensures.stands k sound) c.in_ok-code.ensures.cells

@@ -7,4 +7,4 @@ use Rattle.actor.specs.Asking.{service_text}
 use Rattle.actor.proofs.actor.Actor.made.Goals as goal
 
 pub returns-clause-stands : goal.returns-clause-stands
-returns-clause-stands c = c.begin.ensures.stands (begun (start_term (service_text c.args.service) 0) (unpack [] (parcel_shape c.args.object.now))) c.in_ok-made.ensures.stands refl refl refl
+returns-clause-stands c = c.begin.ensures.stands (begun (start_term (service_text c.args.service) 0) (unpack [] (parcel_shape c.args.object))) c.in_ok-made.ensures.stands refl refl refl
