@@ -264,6 +264,24 @@ impl Machine {
         }
     }
 
+    /// It looks at a node whose terms that are reduced in place are done: it has settled.
+    #[inline(always)]
+    pub fn is_at_redex(&self, nodes: &[Node]) -> bool
+        requires sound { IsSound nodes.now }
+        ensures settled { (t : Tree) (vs : List ServiceShape) →
+            Standing nodes.now (view_of self.now) t vs → result ≡ true →
+            Settled nodes.now t vs (view_of self.now) }
+    {
+        let Focus::Node { number, from, done } = self.focus else {
+            return false;
+        };
+        let Some(node) = node_at(nodes, number) else {
+            return false;
+        };
+        let count = in_place_count(node, from);
+        done == count
+    }
+
     /// Goes to where the next contraction stands, or to the place that the term is.
     #[inline(always)]
     pub fn settle(&mut self, nodes: &[Node]) -> Result<(), AllocError>
