@@ -147,19 +147,23 @@ impl Activity {
         self.noted(outcome)
     }
 
-    /// One contraction of the kinds that run most, or none.
+    /// One contraction of the kinds that run most, or what the redex comes to; or nothing.
     #[inline(always)]
-    fn quick(&mut self, alloc: Global) -> Result<bool, AllocError>
+    fn quick(&mut self, alloc: Global) -> Result<Option<Advance>, AllocError>
         ensures quick { (a : ActivityShape) → StandsFor self.old a →
             IfOk result (IsQuick self.new a) }
         ensures code { code_of self.new ≡ code_of self.old }
     {
-        if !self.state.quick(alloc, &self.code)? {
-            return Ok(false);
+        let tried = self.state.quick(alloc, &self.code)?;
+        let Some(advance) = tried else {
+            return Ok(None);
+        };
+        if !is_reduction(advance) {
+            return Ok(Some(advance));
         }
         let count = self.count.checked_add(1).ok_or(AllocError)?;
         self.count = count;
-        Ok(true)
+        Ok(Some(advance))
     }
 
     /// One contraction, or what the redex comes to. What a call that is not inlined answers is kept
@@ -170,11 +174,14 @@ impl Activity {
             IfOk result (IsAfter self.new a true) }
         ensures code { code_of self.new ≡ code_of self.old }
     {
-        if self.quick(alloc)? {
-            return Ok(Advance::Reduces);
+        let tried = self.quick(alloc)?;
+        match tried {
+            Some(advance) => Ok(advance),
+            None => {
+                let advance = self.take(alloc, true)?;
+                Ok(advance)
+            }
         }
-        let advance = self.take(alloc, true)?;
-        Ok(advance)
     }
 
     /// Takes the contractions before its stop, at most so many.

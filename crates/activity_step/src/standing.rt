@@ -146,6 +146,7 @@ fn called_redex<'a>(
 
 impl Activity {
     /// Goes on to the next redex, or to the place that the term is.
+    #[inline(never)]
     fn go_on(&mut self) -> Result<(), AllocError>
         ensures stands { (a : ActivityShape) → StandsFor self.old a →
             OnOk result (StandsFor self.new a) }
@@ -167,6 +168,9 @@ impl Activity {
         ensures code { code_of self.new ≡ code_of self.old }
     {
         self.unspent()?;
+        if self.state.machine.is_at_redex(self.code.nodes()) {
+            return Ok(());
+        }
         let outcome = self.go_on();
         self.noted(outcome)
     }

@@ -1,0 +1,6 @@
+use Rattle.activity_step.proofs.state.State.quick_asked.Goals as goal
+
+pub returns : goal.returns
+returns c = record {
+  taken = λ t vs s ls h at. c.taken.ensures.taken c.args.code.now c.asked_advance.new.self t vs s ls (c.asked_advance.ensures.advance t vs s ls h at);
+}
