@@ -1,5 +1,5 @@
 -- A lease that has come back.
-use Rattle.std.specs.Prelude.{◌≡◌, ◌-◌, ℕ, List, Option, Some, None}
+use Rattle.std.specs.Prelude.{◌≡◌, ◌-◌, ℕ, true, false, List, Option, Some, None, is_some}
 use Rattle.asp_model.specs.Chase.{chase}
 use Rattle.asp_model.specs.Configuration.{Activity, requests_of}
 use Rattle.asp_model.specs.History.{HistoryShape}
@@ -8,6 +8,8 @@ use Rattle.asp_model.specs.Names.{Name}
 use Rattle.journals.specs.Journals.{RunShape}
 use Rattle.core_laws.specs.Commits.{HasRun}
 use Rattle.program_code.specs.declared.code.Node.{Node}
+use Rattle.activity_ranks.specs.declared.rank.Rank.{Rank}
+use Rattle.activity_ranks.specs.Ranks.{RankShape, rank_shape}
 use Rattle.actor.specs.declared.actor.Actor.{Actor}
 use Rattle.core_state.specs.declared.state.CoreState.{CoreState}
 use Rattle.core_state.specs.Commits.{IsReturning, IsRunCommitted}
@@ -23,3 +25,8 @@ IsArrived h code x s k n grant taken None =
     (end : Activity) × HasRun s k grant n taken end × (act_at s n grant taken end ≡ None) × IsRunCommitted h code s k n grant taken end x
 IsArrived h code x s k n grant taken (Some a) =
     (e : Effect) × (r : IsReturning h code x s k n grant taken a) × (act_at s n grant taken r.end ≡ Some e)
+
+-- by the communication that it does: where it does none, its rank is told
+abbrev pub IsRankAlone : Option Effect → RankShape → Option Rank → Type 0
+IsRankAlone act told None = is_some act ≡ true
+IsRankAlone act told (Some r) = (is_some act ≡ false) × (rank_shape r ≡ told)

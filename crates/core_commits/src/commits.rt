@@ -1,28 +1,31 @@
 //! A lease that comes back.
 
-ghost use Rattle.std.specs.Prelude.{◌≡◌, ◌-◌, IfOk, IfSome, List, OnErr, is_some};
+ghost use Rattle.std.specs.Prelude.{◌≡◌, ◌-◌, IfOk, IfSome, List, OnErr, Option, is_some};
 ghost use Rattle.std.specs.Option.{option_map};
 ghost use Rattle.asp_model.specs.Chase.{chase};
 ghost use Rattle.asp_model.specs.Configuration as model;
 ghost use Rattle.asp_model.specs.Configuration.{RequestShape};
 ghost use Rattle.asp_model.specs.History.{HistoryShape};
+ghost use Rattle.asp_model.specs.Intent.{Effect};
 ghost use Rattle.asp_model.specs.Names.{Name};
 ghost use Rattle.journals.specs.Journals.{RunShape};
 ghost use Rattle.program_code.specs.declared.code.Node.{Node as NodeShape};
 ghost use Rattle.future_table.specs.Values.{values_of};
 ghost use Rattle.operand_reads.specs.Values.{AreClosedValues};
+ghost use Rattle.rank_laws.specs.Ranked.{rank_of};
 ghost use Rattle.actor.specs.Actors.{IsClosedFor, Stands};
 ghost use Rattle.actor.specs.Stances.{stance_shape};
 ghost use Rattle.core_journal.specs.Journal.{entries_in};
 ghost use Rattle.core_state.specs.Commits.{IsSomeLease};
 ghost use Rattle.core_state.specs.Cores.{IsCore};
 ghost use Rattle.core_state.specs.Leases.{IsLease};
-ghost use Rattle.core_commits.specs.Arrivals.{IsArrived};
+ghost use Rattle.core_commits.specs.Arrivals.{IsArrived, IsRankAlone};
 ghost use Rattle.core_commits.specs.Commits.{act_of, act_within, communicates};
 
+use activity_ranks::Rank;
 use actor::{Actor, Stance};
 use core_rules::is_used;
-use core_state::{CoreState, Lease};
+use core_state::{CoreState, Lease, rank_at};
 use std::alloc::AllocError;
 
 fn communicates(stance: Stance) -> bool
@@ -31,20 +34,40 @@ fn communicates(stance: Stance) -> bool
     matches!(stance, Stance::Communicates)
 }
 
-/// Whether an activity that has come back does a communication yet: it stands at one that may be
-/// done, and one of its grant is left.
-fn may_act(state: &CoreState, grant: u64, taken: u64, actor: &Actor) -> Result<bool, AllocError>
-    requires closed { IsClosedFor actor.now }
-    requires values { AreClosedValues (values_of state.now.futures) }
-    ensures act { (a : model.Activity) (rs : List RequestShape) (n : Name) →
-        Stands actor.now a rs → let stands = act_of (chase (values_of state.now.futures)) rs n a in
-        IfOk result (λ b. b ≡ is_some (act_within (grant - taken) stands)) }
+/// Whether the communication is done at which a lease stopped: it may be, and one of the grant is
+/// left.
+fn acts(grant: u64, taken: u64, stance: Stance) -> bool
+    ensures acts { (o : Option Effect) →
+        communicates (stance_shape stance.entry) ≡ is_some o →
+        result ≡ is_some (act_within (grant - taken) o) }
 {
     if is_used(grant, taken) {
-        return Ok(false);
+        return false;
     }
+    communicates(stance)
+}
+
+/// The rank of an activity that has come back by its contractions alone; none where it does a
+/// communication yet. It is looked at once.
+fn rank_alone(
+    state: &CoreState,
+    grant: u64,
+    taken: u64,
+    actor: &Actor,
+) -> Result<Option<Rank>, AllocError>
+    requires closed { IsClosedFor actor.now }
+    requires values { AreClosedValues (values_of state.now.futures) }
+    ensures alone { (a : model.Activity) (rs : List RequestShape) (n : Name) →
+        Stands actor.now a rs → let values = values_of state.now.futures in
+        let act = act_within (grant - taken) (act_of (chase values) rs n a) in
+        IfOk result (IsRankAlone act (rank_of values rs n a)) }
+{
     let stance = actor.stance(state.alloc, &state.futures)?;
-    Ok(communicates(stance))
+    if acts(grant, taken, stance) {
+        return Ok(None);
+    }
+    let rank = rank_at(state.alloc, stance, &state.futures)?;
+    Ok(Some(rank))
 }
 
 /// A lease comes back: its activity has received what came meanwhile. It is in by its contractions
@@ -65,10 +88,10 @@ pub fn arrive(state: &mut CoreState, lease: Lease) -> Result<Option<Box<Actor>>,
     let grant = lease.grant;
     let taken = lease.taken;
     let actor = state.take_back(lease)?;
-    let acts = may_act(state, grant, taken, actor.as_ref())?;
-    if acts {
+    let alone = rank_alone(state, grant, taken, actor.as_ref())?;
+    let Some(rank) = alone else {
         return Ok(Some(actor));
-    }
-    state.come_back(number, grant, taken, actor)?;
+    };
+    state.come_back(number, grant, taken, actor, rank)?;
     Ok(None)
 }

@@ -4,7 +4,7 @@ ghost use Rattle.std.specs.Prelude.{◌≡◌, ◌++◌, IfOk, List, OnErr, OnOk
 ghost use Rattle.std.specs.Arc.{arc_value};
 ghost use Rattle.std.specs.List.{AllByRecursion};
 ghost use Rattle.asp_model.specs.Configuration as model;
-ghost use Rattle.asp_model.specs.Configuration.{RequestShape};
+ghost use Rattle.asp_model.specs.Configuration.{RequestShape, requests_of};
 ghost use Rattle.asp_model.specs.History.{HistoryShape};
 ghost use Rattle.asp_model.specs.Names.{Name};
 ghost use Rattle.asp_model.specs.Shapes.{future_shape};
@@ -53,7 +53,8 @@ fn rank_awaiting(
     }
 }
 
-fn rank_at(alloc: Global, stance: Stance, futures: &FutureTable) -> Result<Rank, AllocError>
+/// The rank of an activity that stands so.
+pub fn rank_at(alloc: Global, stance: Stance, futures: &FutureTable) -> Result<Rank, AllocError>
     ensures rank { let told = rank_stance (values_of futures.now) (stance_shape stance.entry) in
         IfOk result (λ r. rank_shape r ≡ told) }
 {
@@ -90,8 +91,8 @@ fn receive_all(alloc: Global, actor: &mut Actor, came: Vec<Request>) -> Result<(
 }
 
 impl CoreState {
-    /// Takes the activity out of a lease that comes back. It has received what came meanwhile, and
-    /// has settled. There is room in the journal for what follows.
+    /// Takes the activity out of a lease that comes back. It has received what came meanwhile; it
+    /// settled when it ran. There is room in the journal for what follows.
     pub fn take_back(&mut self, lease: Lease) -> Result<Box<Actor>, AllocError>
         requires lease { IsSomeLease self.old lease }
         ensures returning { (h : HistoryShape) (code : List NodeShape) (s : RunShape) →
@@ -108,28 +109,30 @@ impl CoreState {
         let came = self.seats.collect(lease.number);
         let here = actor.as_mut();
         receive_all(self.alloc, here, came)?;
-        here.settle()?;
         Ok(actor)
     }
 
-    /// An activity comes in by its contractions alone. What is left of its grant goes back.
+    /// An activity comes in by its contractions alone, with its rank. What is left of its grant goes
+    /// back.
     pub fn come_back(
         &mut self,
         number: u32,
         grant: u64,
         taken: u64,
         actor: Box<Actor>,
+        rank: Rank,
     ) -> Result<(), AllocError>
         requires returning { IsSomeReturning self.old number grant taken actor.value }
         ensures committed { (h : HistoryShape) (code : List NodeShape) (s : RunShape) (n : Name) →
             (r : IsReturning h code self.old s number n grant taken actor.value) →
+            let told = rank_told s.configuration.futures (requests_of s.configuration n) n r.end in
+            rank_shape rank ≡ told →
             OnOk result (IsRunCommitted h code s number n grant taken r.end self.new) }
         ensures entries { OnErr result
             (entries_in self.new.journal ≡ entries_in self.old.journal) }
     {
-        let rank = rank_of(self.alloc, actor.as_ref(), &self.futures)?;
-        self.ranks.rank(number, rank)?;
         let _came = self.seats.put(number, actor);
+        self.ranks.rank(number, rank)?;
         self.left = left_with(self.left, grant, taken);
         self.journal.note(Entry::Committed {
             number,

@@ -8,6 +8,6 @@ mod lease;
 mod lend;
 mod state;
 
-pub use come_back::rank_of;
+pub use come_back::{rank_at, rank_of};
 pub use lease::Lease;
 pub use state::CoreState;

@@ -47,6 +47,6 @@ returns-clause-returning c = λ h code s core l.
       room = omega (arith, c.in_ok-reserve.ensures.room, c.len.ensures.len);
       left = refl;
       bursts = refl;
-    }) c.settle.new.self
-    (subst (λ qs. Stands c.settle.new.self done.end (rs ++ map request_shape qs)) came (c.in_ok-settle.ensures.stands done.end (rs ++ map request_shape c.collect-came.result.items) (c.in_ok-receive_all.ensures.stands done.end rs here)))
-    (c.settle.ensures.code ∙ c.receive_all.ensures.code ∙ ap code_of c.as_mut-here.ensures.value ∙ done.coded)
+    }) c.receive_all.new.actor
+    (subst (λ qs. Stands c.receive_all.new.actor done.end (rs ++ map request_shape qs)) came (c.in_ok-receive_all.ensures.stands done.end rs here))
+    (c.receive_all.ensures.code ∙ ap code_of c.as_mut-here.ensures.value ∙ done.coded)
