@@ -17,7 +17,7 @@ use Rattle.activity_step.specs.declared.advance.Advance.{Advance}
 use Rattle.activity_step.specs.declared.advance.Advance.TheVariants as advance
 use Rattle.machine_frames.specs.Sites.{IsBefore, given_view, number_redex}
 use Rattle.activity_step.specs.Activities.{reduces}
-use Rattle.activity_step.specs.Advances.{Stands, Reduced, IsTold, IsStopped, Told, IsReduction, IsAdvance, IsTaken}
+use Rattle.activity_step.specs.Advances.{Stands, Reduced, IsTold, IsStopped, Told, IsReduction, IsAdvance, IsStop, IsTaken}
 
 -- what is no contraction is told
 pub stopped : (k : List Node) (x : State) (t : Tree) (vs : List ServiceShape) (s : Store) (ls : List LineShape) (go : Bool) (n : ℕ) (r : Redex) (a : Advance) → Stands k x t vs s ls → IsAtRedex k (view_of x.machine) t vs n r
@@ -104,3 +104,22 @@ given k x y t vs s ls number from done p z added h at is view lines = record {
   is = ap (λ (q : Store). contract q (number_redex z)) (sym h.store) ∙ is;
   after = record { machine = subst (λ (v : View). Standing k v (plug at.contexts (loc p)) vs) (sym view) (at.place p); store = refl; lines = lines ∙ ap (λ (l : List LineShape). l ++ added) h.lines };
 }
+
+-- a stop that is told is an advance that took nothing
+pub stop_advance : (k : List Node) (x : State) (t : Tree) (vs : List ServiceShape) (s : Store) (ls : List LineShape) (go : Bool) (r : Advance) → IsStop k x t vs s ls r → IsAdvance k x t vs s ls go r
+stop_advance k x t vs s ls go advance.Reduces h = absurd h
+stop_advance k x t vs s ls go (advance.Rests p) h = h
+stop_advance k x t vs s ls go (advance.Faults f) h = h
+stop_advance k x t vs s ls go (advance.Needs p) h = h
+stop_advance k x t vs s ls go (advance.Creates p) h = h
+stop_advance k x t vs s ls go advance.Sends h = h
+stop_advance k x t vs s ls go advance.Serves h = h
+
+pub stop_stays : (k : List Node) (x : State) (t : Tree) (vs : List ServiceShape) (s : Store) (ls : List LineShape) (r : Advance) → IsStop k x t vs s ls r → reduces r ≡ false
+stop_stays k x t vs s ls advance.Reduces h = absurd h
+stop_stays k x t vs s ls (advance.Rests p) h = refl
+stop_stays k x t vs s ls (advance.Faults f) h = refl
+stop_stays k x t vs s ls (advance.Needs p) h = refl
+stop_stays k x t vs s ls (advance.Creates p) h = refl
+stop_stays k x t vs s ls advance.Sends h = refl
+stop_stays k x t vs s ls advance.Serves h = refl

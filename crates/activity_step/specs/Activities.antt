@@ -1,5 +1,5 @@
 -- The activity of a configuration that an activity stands for, and where it stops.
-use Rattle.std.specs.Prelude.{◌≡◌, ◌≤◌, ℕ, suc, Bool, true, false, List, [], ◌∷◌, ◌++◌, Option, Some, None, length, reverse}
+use Rattle.std.specs.Prelude.{◌≡◌, ◌≤◌, ℕ, suc, Bool, true, false, List, [], ◌∷◌, ◌++◌, length, reverse}
 use Rattle.asp_model.specs.Term.{loc}
 use Rattle.asp_model.specs.Store.{CellShape}
 use Rattle.std.specs.Arc.{arc_value}
@@ -50,10 +50,10 @@ abbrev pub IsAfter : Activity → model.Activity → Bool → Advance → Type 0
 IsAfter x a true advance.Reduces = IsStepped x a
 IsAfter x a go r = IsStopped x a r
 
--- one contraction was taken, or where it stops is told, or nothing was done
-abbrev pub IsQuick : Activity → model.Activity → Option Advance → Type 0
-IsQuick x a (Some r) = IsAfter x a true r
-IsQuick x a None = StandsFor x a
+-- one contraction was taken, or nothing was done
+abbrev pub IsQuick : Activity → model.Activity → Bool → Type 0
+IsQuick x a true = IsStepped x a
+IsQuick x a false = StandsFor x a
 
 -- all contractions that may be taken were taken, where one more could be
 abbrev pub IsUsed : ℕ → ℕ → Advance → Type 0

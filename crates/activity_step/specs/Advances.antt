@@ -1,5 +1,5 @@
 -- What an advance makes of an activity.
-use Rattle.std.specs.Prelude.{◌≡◌, ℕ, Bool, true, false, List, ◌++◌, Option, Some, None, map, reverse}
+use Rattle.std.specs.Prelude.{◌≡◌, ℕ, Bool, true, false, List, ◌++◌, Option, map, reverse}
 use Rattle.asp_model.specs.Names.{Name, Text}
 use Rattle.asp_model.specs.Term.{Tree, loc}
 use Rattle.asp_model.specs.Split as split
@@ -76,15 +76,16 @@ IsAdvance k x t vs s ls go advance.Reduces = IsReduction k x t vs s ls go
 IsAdvance k x t vs s ls go (advance.Rests p) = Rested k x t vs s ls p
 IsAdvance k x t vs s ls go r = Told k x t vs s ls r
 
+-- what it stands at is told, and is no contraction
+abbrev pub IsStop : List Node → State → Tree → List ServiceShape → Store → List LineShape → Advance → Type 0
+IsStop k x t vs s ls advance.Reduces = ⊥
+IsStop k x t vs s ls (advance.Rests p) = Rested k x t vs s ls p
+IsStop k x t vs s ls r = Told k x t vs s ls r
+
 -- a contraction was taken, or nothing was done
 abbrev pub IsTaken : List Node → State → Tree → List ServiceShape → Store → List LineShape → Bool → Type 0
 IsTaken k x t vs s ls true = Reduced k x t vs s ls
 IsTaken k x t vs s ls false = Stands k x t vs s ls
-
--- a contraction was taken, or what the redex comes to is told, or nothing was done
-abbrev pub IsTried : List Node → State → Tree → List ServiceShape → Store → List LineShape → Option Advance → Type 0
-IsTried k x t vs s ls (Some r) = IsAdvance k x t vs s ls true r
-IsTried k x t vs s ls None = Stands k x t vs s ls
 
 -- a decision was done: the redex became this place, the cells changed so, and the output grew so
 pub record IsPerformed (k : List Node) (old new : CodedStore) (lines now : List Line) (d : Decision) (p : ℕ) : Type 0 where

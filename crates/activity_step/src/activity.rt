@@ -113,9 +113,9 @@ impl Activity {
         outcome
     }
 
-    /// One contraction, where it may be taken, or what the redex comes to.
+    /// One contraction, where it may be taken, or what the redex comes to, whatever it is.
     #[inline(never)]
-    fn take(&mut self, alloc: Global, go: bool) -> Result<Advance, AllocError>
+    fn take_any(&mut self, alloc: Global, go: bool) -> Result<Advance, AllocError>
         ensures after { (a : ActivityShape) → StandsFor self.old a →
             IfOk result (IsAfter self.new a go) }
         ensures code { code_of self.new ≡ code_of self.old }
@@ -130,6 +130,22 @@ impl Activity {
         let count = self.count.checked_add(1).ok_or(AllocError)?;
         self.count = count;
         Ok(advance)
+    }
+
+    /// One contraction, where it may be taken, or what the redex comes to.
+    #[inline(never)]
+    fn take(&mut self, alloc: Global, go: bool) -> Result<Advance, AllocError>
+        ensures after { (a : ActivityShape) → StandsFor self.old a →
+            IfOk result (IsAfter self.new a go) }
+        ensures code { code_of self.new ≡ code_of self.old }
+    {
+        match self.state.stop(&self.code) {
+            Some(advance) => Ok(advance),
+            None => {
+                let advance = self.take_any(alloc, go)?;
+                Ok(advance)
+            }
+        }
     }
 
     /// One contraction, where it may be taken, or what the redex comes to. After `AllocError` it is
@@ -147,23 +163,19 @@ impl Activity {
         self.noted(outcome)
     }
 
-    /// One contraction of the kinds that run most, or what the redex comes to; or nothing.
+    /// One contraction of the kinds that run most, or none.
     #[inline(always)]
-    fn quick(&mut self, alloc: Global) -> Result<Option<Advance>, AllocError>
+    fn quick(&mut self, alloc: Global) -> Result<bool, AllocError>
         ensures quick { (a : ActivityShape) → StandsFor self.old a →
             IfOk result (IsQuick self.new a) }
         ensures code { code_of self.new ≡ code_of self.old }
     {
-        let tried = self.state.quick(alloc, &self.code)?;
-        let Some(advance) = tried else {
-            return Ok(None);
-        };
-        if !is_reduction(advance) {
-            return Ok(Some(advance));
+        if !self.state.quick(alloc, &self.code)? {
+            return Ok(false);
         }
         let count = self.count.checked_add(1).ok_or(AllocError)?;
         self.count = count;
-        Ok(Some(advance))
+        Ok(true)
     }
 
     /// One contraction, or what the redex comes to. What a call that is not inlined answers is kept
@@ -174,14 +186,11 @@ impl Activity {
             IfOk result (IsAfter self.new a true) }
         ensures code { code_of self.new ≡ code_of self.old }
     {
-        let tried = self.quick(alloc)?;
-        match tried {
-            Some(advance) => Ok(advance),
-            None => {
-                let advance = self.take(alloc, true)?;
-                Ok(advance)
-            }
+        if self.quick(alloc)? {
+            return Ok(Advance::Reduces);
         }
+        let advance = self.take(alloc, true)?;
+        Ok(advance)
     }
 
     /// Takes the contractions before its stop, at most so many.

@@ -15,6 +15,7 @@ mod services;
 mod standing;
 mod starting;
 mod state;
+mod stops;
 mod terms;
 mod values;
 

@@ -1,11 +1,11 @@
-//! Contractions of the kinds that run most, and the communications where they stop.
+//! Contractions of the kinds that run most.
 
-ghost use Rattle.std.specs.Prelude.{◌≡◌, IfOk, IfSome, List, OnOk, Option, Some, true, ℕ};
+ghost use Rattle.std.specs.Prelude.{◌≡◌, IfOk, List, OnOk, Some, true, ℕ};
 ghost use Rattle.asp_model.specs.Configuration.{ServiceShape};
 ghost use Rattle.asp_model.specs.Contraction.{LineShape};
 ghost use Rattle.asp_model.specs.Names.{Text};
 ghost use Rattle.asp_model.specs.Store.{Store as StoreShape};
-ghost use Rattle.asp_model.specs.Term.{Active as ActiveHead, Tree};
+ghost use Rattle.asp_model.specs.Term.{Tree};
 ghost use Rattle.code_laws.specs.Nodes.{in_place};
 ghost use Rattle.program_code.specs.Classes.{class_at, class_of};
 ghost use Rattle.program_code.specs.Tables.{kind_head};
@@ -17,23 +17,15 @@ ghost use Rattle.machine_frames.specs.Rows.{AtNode, IsAtRedex};
 ghost use Rattle.machine_frames.specs.Sites.{IsBefore};
 ghost use Rattle.machine_frames.specs.Stacks.{last, piece_from};
 ghost use Rattle.machine_frames.specs.Standing.{view_of};
-ghost use Rattle.activity_step.specs.declared.advance.Advance.TheVariants as advance;
 ghost use Rattle.activity_step.specs.declared.state.State.{State as StateShape};
-ghost use Rattle.activity_step.specs.Advances.{
-  IsAdvance,
-  IsTaken,
-  IsTried,
-  Reduced,
-  Stands,
-};
+ghost use Rattle.activity_step.specs.Advances.{IsAdvance, IsTaken, Reduced, Stands};
 
 use crate::activity::is_reduction;
 use crate::advance::Advance;
 use crate::performing::add_number;
 use crate::reducing::node_in;
 use crate::state::State;
-use activity_rows::{Creation, Decision, active_row};
-use coded_cells::Place;
+use activity_rows::Decision;
 use machine_frames::{Focus, Site};
 use program_code::{Class, Code, Kind, Node};
 use std::alloc::{AllocError, Global};
@@ -47,32 +39,6 @@ fn taken(outcome: Result<Advance, AllocError>) -> Result<bool, AllocError>
 {
     let advance = outcome?;
     Ok(is_reduction(advance))
-}
-
-/// A contraction that was taken, or nothing.
-#[inline(always)]
-fn gone(outcome: Result<bool, AllocError>) -> Result<Option<Advance>, AllocError>
-    ensures tried { (k : List NodeShape) (x : StateShape) (t : Tree) (vs : List ServiceShape)
-        (s : StoreShape) (ls : List LineShape) →
-        IfOk outcome (IsTaken k x t vs s ls) → IfOk result (IsTried k x t vs s ls) }
-{
-    let went = outcome?;
-    if went {
-        Ok(Some(Advance::Reduces))
-    } else {
-        Ok(None)
-    }
-}
-
-/// What a row came to.
-#[inline(always)]
-fn told(outcome: Result<Advance, AllocError>) -> Result<Option<Advance>, AllocError>
-    ensures tried { (k : List NodeShape) (x : StateShape) (t : Tree) (vs : List ServiceShape)
-        (s : StoreShape) (ls : List LineShape) →
-        IfOk outcome (IsAdvance k x t vs s ls true) → IfOk result (IsTried k x t vs s ls) }
-{
-    let advance = outcome?;
-    Ok(Some(advance))
 }
 
 impl State {
@@ -136,39 +102,16 @@ impl State {
         taken(self.asked_advance(alloc, code, count, true))
     }
 
-    /// The object of a new activity that the redex asks for, if it is one.
-    #[inline(never)]
-    fn creation(&self, count: usize) -> Option<Place>
-        ensures creates { (k : List NodeShape) (service : Option Text) (t : Tree)
-            (vs : List ServiceShape) (s : StoreShape) (ls : List LineShape) →
-            Stands k self.now t vs s ls →
-            IsAtRedex k (view_of self.now.machine) t vs count
-            (value_redex (ActiveHead service) (last count self.now.machine.operands.items)) →
-            IfSome result (λ p. IsAdvance k self.now t vs s ls true (advance.Creates p)) }
-    {
-        let operands = self.machine.last_operands(count);
-        let Ok(creation) = active_row(&self.store, operands) else {
-            return None;
-        };
-        match creation {
-            Creation::Creates(place) => Some(place),
-            Creation::Other(_decision) => None,
-        }
-    }
-
-    /// `active(i)`, or `active(i, m)`.
+    /// Where no node is next, a service may begin with its call.
     #[inline(always)]
-    fn quick_active(&self, count: usize) -> Option<Advance>
-        ensures tried { (k : List NodeShape) (service : Option Text) (t : Tree)
-            (vs : List ServiceShape) (s : StoreShape) (ls : List LineShape) →
-            Stands k self.now t vs s ls →
-            IsAtRedex k (view_of self.now.machine) t vs count
-            (value_redex (ActiveHead service) (last count self.now.machine.operands.items)) →
-            IsTried k self.now t vs s ls result }
+    fn quick_other(&mut self, alloc: Global, code: &Code) -> Result<bool, AllocError>
+        ensures taken { (t : Tree) (vs : List ServiceShape) (s : StoreShape) (ls : List LineShape) →
+            Stands code.now self.old t vs s ls →
+            IfOk result (IsTaken code.now self.new t vs s ls) }
     {
-        match self.creation(count) {
-            Some(object) => Some(Advance::Creates(object)),
-            None => None,
+        match self.machine.focus {
+            Focus::Asked(count) => self.quick_asked(alloc, code, count),
+            _ => Ok(false),
         }
     }
 
@@ -180,14 +123,14 @@ impl State {
         code: &Code,
         kind: &Kind,
         count: usize,
-    ) -> Result<Option<Advance>, AllocError>
-        ensures tried { (t : Tree) (vs : List ServiceShape) (s : StoreShape) (ls : List LineShape) →
+    ) -> Result<bool, AllocError>
+        ensures taken { (t : Tree) (vs : List ServiceShape) (s : StoreShape) (ls : List LineShape) →
             Stands code.now self.old t vs s ls →
             IsAtRedex code.now (view_of self.old.machine) t vs count
             (value_redex (kind_head kind.now) (last count self.old.machine.operands.items)) →
-            IfOk result (IsTried code.now self.new t vs s ls) }
+            IfOk result (IsTaken code.now self.new t vs s ls) }
     {
-        told(self.value_advance(alloc, code, kind, count, true))
+        taken(self.value_advance(alloc, code, kind, count, true))
     }
 
     /// The redex of a node whose terms that are reduced in place are done, where its kind is one of
@@ -200,71 +143,39 @@ impl State {
         number: usize,
         from: usize,
         count: usize,
-    ) -> Result<Option<Advance>, AllocError>
-        ensures tried { (t : Tree) (vs : List ServiceShape) (s : StoreShape) (ls : List LineShape) →
+    ) -> Result<bool, AllocError>
+        ensures taken { (t : Tree) (vs : List ServiceShape) (s : StoreShape) (ls : List LineShape) →
             Stands code.now self.old t vs s ls →
             self.old.machine.focus ≡ focus.Node number from count →
             count ≡ in_place (piece_from code.now number from) →
-            IfOk result (IsTried code.now self.new t vs s ls) }
+            IfOk result (IsTaken code.now self.new t vs s ls) }
     {
         let Some(node) = node_in(code, number) else {
             return Err(AllocError);
         };
         match &node.kind {
-            Kind::Make(class) => gone(self.quick_make(alloc, class, number, count)),
-            Kind::Call(label) => told(self.call_advance(alloc, code, label, number, count, true)),
-            Kind::Let(_) => gone(self.quick_let(node, count)),
-            Kind::Steps => told(self.steps_advance(node, number, from, count, true)),
-            Kind::If => told(self.if_advance(alloc, code, node, count, true)),
-            Kind::Repeat => told(self.repeat_advance(number, from, count, true)),
+            Kind::Make(class) => self.quick_make(alloc, class, number, count),
+            Kind::Call(label) => taken(self.call_advance(alloc, code, label, number, count, true)),
+            Kind::Let(_) => self.quick_let(node, count),
+            Kind::Steps => taken(self.steps_advance(node, number, from, count, true)),
+            Kind::If => taken(self.if_advance(alloc, code, node, count, true)),
+            Kind::Repeat => taken(self.repeat_advance(number, from, count, true)),
             Kind::Number(n) => {
-                told(self.decided_advance(alloc, Decision::Number(*n), count, true))
+                taken(self.decided_advance(alloc, Decision::Number(*n), count, true))
             }
             Kind::Get(_) => self.quick_value(alloc, code, &node.kind, count),
             Kind::Put(_) => self.quick_value(alloc, code, &node.kind, count),
             Kind::Operate(_) => self.quick_value(alloc, code, &node.kind, count),
-            Kind::Active(_) => Ok(self.quick_active(count)),
-            Kind::Serve(_) => Ok(Some(Advance::Serves)),
-            _ => Ok(None),
+            _ => Ok(false),
         }
     }
 
-    /// The term is a place, where no frame of it is left.
+    /// Takes the next contraction where it is of a kind that runs most, or none.
     #[inline(always)]
-    fn quick_place(&self, place: Place) -> Option<Advance>
-        ensures tried { (k : List NodeShape) (t : Tree) (vs : List ServiceShape) (s : StoreShape)
-            (ls : List LineShape) →
-            Stands k self.now t vs s ls → self.now.machine.focus ≡ focus.Place place →
-            IsTried k self.now t vs s ls result }
-    {
-        if self.machine.is_alone() {
-            Some(Advance::Rests(place))
-        } else {
-            None
-        }
-    }
-
-    /// The call that a service begins with, or a place.
-    #[inline(always)]
-    fn quick_other(&mut self, alloc: Global, code: &Code) -> Result<Option<Advance>, AllocError>
-        ensures tried { (t : Tree) (vs : List ServiceShape) (s : StoreShape) (ls : List LineShape) →
+    pub fn quick(&mut self, alloc: Global, code: &Code) -> Result<bool, AllocError>
+        ensures taken { (t : Tree) (vs : List ServiceShape) (s : StoreShape) (ls : List LineShape) →
             Stands code.now self.old t vs s ls →
-            IfOk result (IsTried code.now self.new t vs s ls) }
-    {
-        match self.machine.focus {
-            Focus::Asked(count) => gone(self.quick_asked(alloc, code, count)),
-            Focus::Place(place) => Ok(self.quick_place(place)),
-            _ => Ok(None),
-        }
-    }
-
-    /// Takes the next contraction where it is of a kind that runs most, or tells where it stops; or
-    /// does nothing.
-    #[inline(always)]
-    pub fn quick(&mut self, alloc: Global, code: &Code) -> Result<Option<Advance>, AllocError>
-        ensures tried { (t : Tree) (vs : List ServiceShape) (s : StoreShape) (ls : List LineShape) →
-            Stands code.now self.old t vs s ls →
-            IfOk result (IsTried code.now self.new t vs s ls) }
+            IfOk result (IsTaken code.now self.new t vs s ls) }
     {
         let site = self.machine.reach(code.nodes())?;
         match site {
@@ -278,7 +189,7 @@ impl State {
                 value,
             } => {
                 self.quick_number(number, from, done, value)?;
-                Ok(Some(Advance::Reduces))
+                Ok(true)
             }
             Site::Other => self.quick_other(alloc, code),
         }

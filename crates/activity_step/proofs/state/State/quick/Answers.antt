@@ -17,19 +17,19 @@ found k m old new t vs x y e is h f = subst (IsSite k t vs new) is (subst (λ (q
 
 pub returns-in-Redex : goal.returns-in-Redex
 returns-in-Redex c = record {
-  tried = λ t vs s ls h.
+  taken = λ t vs s ls h.
       let k : List Node = c.args.code.now in
       let a = c.args.self.now in
       let new : View = view_of c.reach.new.self in
       let at : IsSite k t vs new (site.Redex c.in-Redex.number c.in-Redex.from c.in-Redex.done) = found k c.nodes.result.now (view_of a.machine) new t vs c.in_ok-site.site (site.Redex c.in-Redex.number c.in-Redex.from c.in-Redex.done) c.nodes.ensures.nodes c.in-Redex.is h.machine c.in_ok-site.ensures.site in
       let x : State = record { machine = c.reach.new.self; store = a.store; lines = a.lines } in
       let here : Stands k x t vs s ls = record { machine = at.0.standing; store = h.store; lines = h.lines } in
-      c.quick_redex.ensures.tried t vs s ls here at.1 (subst (IsSettledAt k new.frames) at.1 at.0.settled);
+      c.quick_redex.ensures.taken t vs s ls here at.1 (subst (IsSettledAt k new.frames) at.1 at.0.settled);
 }
 
 pub returns-in_ok-quick_number-in-Number : goal.returns-in_ok-quick_number-in-Number
 returns-in_ok-quick_number-in-Number c = record {
-  tried = λ t vs s ls h.
+  taken = λ t vs s ls h.
       let k : List Node = c.args.code.now in
       let a = c.args.self.now in
       let new : View = view_of c.reach.new.self in
@@ -44,12 +44,12 @@ returns-in_ok-quick_number-in-Number c = record {
 
 pub returns-in-Other : goal.returns-in-Other
 returns-in-Other c = record {
-  tried = λ t vs s ls h.
+  taken = λ t vs s ls h.
       let k : List Node = c.args.code.now in
       let a = c.args.self.now in
       let new : View = view_of c.reach.new.self in
-      let x : State = record { machine = c.reach.new.self; store = a.store; lines = a.lines } in
       let at : IsSite k t vs new site.Other = found k c.nodes.result.now (view_of a.machine) new t vs c.in_ok-site.site site.Other c.nodes.ensures.nodes c.in-Other.is h.machine c.in_ok-site.ensures.site in
+      let x : State = record { machine = c.reach.new.self; store = a.store; lines = a.lines } in
       let here : Stands k x t vs s ls = record { machine = at; store = h.store; lines = h.lines } in
-      c.quick_other.ensures.tried t vs s ls here;
+      c.quick_other.ensures.taken t vs s ls here;
 }

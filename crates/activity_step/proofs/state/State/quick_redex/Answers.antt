@@ -1,10 +1,10 @@
-use Rattle.std.proofs.Common.{rules, ◌≡◌, ℕ, List, [], true, Some, length, map, inl, inr, refl, sym, ap, subst, ◌∙◌, to_z, of_z, w64}
+use Rattle.std.proofs.Common.{rules, ◌≡◌, ℕ, List, [], true, Some, length, inl, inr, sym, ap, subst, ◌∙◌, to_z, of_z, w64}
 use Rattle.asp_model.specs.Term.{Number}
 use Rattle.asp_model.specs.Store as store
 use Rattle.asp_model.specs.Contraction.{allots}
 use Rattle.program_code.specs.declared.code.Kind.{Kind}
 use Rattle.program_code.specs.declared.code.Kind.TheVariants as kind
-use Rattle.program_code.specs.Tables.{kind_head, text_of}
+use Rattle.program_code.specs.Tables.{kind_head}
 use Rattle.code_laws.specs.Nodes.{operand_count}
 use Rattle.coded_cells.specs.Shapes.{store_of}
 use Rattle.activity_rows.specs.Decisions.{value_redex}
@@ -17,76 +17,72 @@ use Rattle.machine_frames.proofs.RowLemmas.{value_row}
 use Rattle.machine_frames.proofs.SpreadLemmas.{at_call}
 use Rattle.program_code.specs.Classes.{class_of}
 use Rattle.program_code.specs.declared.code.Class.{Class}
-use Rattle.asp_model.specs.Split.{Redex}
-use Rattle.std.specs.Option.{option_map}
-use Rattle.activity_step.specs.declared.advance.Advance.TheVariants as advance
-use Rattle.activity_step.proofs.AdvanceLemmas.{stopped}
 use Rattle.activity_step.proofs.TermLemmas.{simple_size}
 use Rattle.activity_step.proofs.state.State.quick_redex.Goals as goal
 
 pub returns-in-Make : goal.returns-in-Make
 returns-in-Make c = record {
-  tried = λ t vs s ls h at full.
+  taken = λ t vs s ls h at full.
       let k = c.args.code.now in
       let v : View = view_of c.args.self.now.machine in
       let n : Node = c.in-Some.node.now in
       let here : AtNode k v c.args.number c.args.from c.args.count n = record { focus = at; full = full; node = c.in-Some.ensures.piece } in
-      c.gone.ensures.tried k c.quick_make.new.self t vs s ls (c.quick_make.ensures.taken k c.args.from n t vs s ls h here c.in-Some.ensures.class (ap class_of c.in-Make.is ∙ ap (λ (x : Class). Some x) (sym c.deref.ensures)));
+      c.quick_make.ensures.taken k c.args.from n t vs s ls h here c.in-Some.ensures.class (ap class_of c.in-Make.is ∙ ap (λ (x : Class). Some x) (sym c.deref.ensures));
 }
 
 pub returns-in-Call : goal.returns-in-Call
 returns-in-Call c = record {
-  tried = λ t vs s ls h at full.
+  taken = λ t vs s ls h at full.
       let k = c.args.code.now in
       let v : View = view_of c.args.self.now.machine in
       let n : Node = c.in-Some.node.now in
       let here : AtNode k v c.args.number c.args.from c.args.count n = record { focus = at; full = full; node = c.in-Some.ensures.piece } in
-      c.told.ensures.tried k c.call_advance.new.self t vs s ls (c.call_advance.ensures.advance t vs s ls h (at_call k v c.args.number c.args.from c.args.count n c.in-Call.label t vs h.machine here c.in-Call.is));
+      c.taken.ensures.taken k c.call_advance.new.self t vs s ls (c.call_advance.ensures.advance t vs s ls h (at_call k v c.args.number c.args.from c.args.count n c.in-Call.label t vs h.machine here c.in-Call.is));
 }
 
 pub returns-in-Let : goal.returns-in-Let
 returns-in-Let c = record {
-  tried = λ t vs s ls h at full.
+  taken = λ t vs s ls h at full.
       let k = c.args.code.now in
       let v : View = view_of c.args.self.now.machine in
       let n : Node = c.in-Some.node.now in
       let here : AtNode k v c.args.number c.args.from c.args.count n = record { focus = at; full = full; node = c.in-Some.ensures.piece } in
-      c.gone-in-Let.ensures.tried k c.quick_let.new.self t vs s ls (c.quick_let.ensures.taken k c.args.number c.args.from c.in-Let.field-0 t vs s ls h here c.in-Let.is);
+      c.quick_let.ensures.taken k c.args.number c.args.from c.in-Let.field-0 t vs s ls h here c.in-Let.is;
 }
 
 pub returns-in-Steps : goal.returns-in-Steps
 returns-in-Steps c = record {
-  tried = λ t vs s ls h at full.
+  taken = λ t vs s ls h at full.
       let k = c.args.code.now in
       let v : View = view_of c.args.self.now.machine in
       let n : Node = c.in-Some.node.now in
       let here : AtNode k v c.args.number c.args.from c.args.count n = record { focus = at; full = full; node = c.in-Some.ensures.piece } in
-      c.told-in-Steps.ensures.tried k c.steps_advance.new.self t vs s ls (c.steps_advance.ensures.advance k t vs s ls h here c.in-Steps.is);
+      c.taken-in-Steps.ensures.taken k c.steps_advance.new.self t vs s ls (c.steps_advance.ensures.advance k t vs s ls h here c.in-Steps.is);
 }
 
 pub returns-in-If : goal.returns-in-If
 returns-in-If c = record {
-  tried = λ t vs s ls h at full.
+  taken = λ t vs s ls h at full.
       let k = c.args.code.now in
       let v : View = view_of c.args.self.now.machine in
       let n : Node = c.in-Some.node.now in
       let here : AtNode k v c.args.number c.args.from c.args.count n = record { focus = at; full = full; node = c.in-Some.ensures.piece } in
-      c.told-in-If.ensures.tried k c.if_advance.new.self t vs s ls (c.if_advance.ensures.advance c.args.number c.args.from t vs s ls h here c.in-If.is);
+      c.taken-in-If.ensures.taken k c.if_advance.new.self t vs s ls (c.if_advance.ensures.advance c.args.number c.args.from t vs s ls h here c.in-If.is);
 }
 
 pub returns-in-Repeat : goal.returns-in-Repeat
 returns-in-Repeat c = record {
-  tried = λ t vs s ls h at full.
+  taken = λ t vs s ls h at full.
       let k = c.args.code.now in
       let v : View = view_of c.args.self.now.machine in
       let n : Node = c.in-Some.node.now in
       let here : AtNode k v c.args.number c.args.from c.args.count n = record { focus = at; full = full; node = c.in-Some.ensures.piece } in
-      c.told-in-Repeat.ensures.tried k c.repeat_advance.new.self t vs s ls (c.repeat_advance.ensures.advance k n t vs s ls h here c.in-Repeat.is);
+      c.taken-in-Repeat.ensures.taken k c.repeat_advance.new.self t vs s ls (c.repeat_advance.ensures.advance k n t vs s ls h here c.in-Repeat.is);
 }
 
 pub returns-in-Number : goal.returns-in-Number
 returns-in-Number c = record {
-  tried = λ t vs s ls h at full.
+  taken = λ t vs s ls h at full.
       let k = c.args.code.now in
       let v : View = view_of c.args.self.now.machine in
       let n : Node = c.in-Some.node.now in
@@ -100,67 +96,35 @@ returns-in-Number c = record {
       let empty : ops ≡ [] = ap (λ (m : ℕ). last m a.machine.operands.items) none_done ∙ last_none a.machine.operands.items in
       let alone : IsAtRedex k v t vs c.args.count (value_redex (kind_head (kind.Number c.in-Number.n)) []) = subst (λ (x : List ℕ). IsAtRedex k v t vs c.args.count (value_redex (kind_head (kind.Number c.in-Number.n)) x)) empty (subst (λ (x : Kind). IsAtRedex k v t vs c.args.count (value_redex (kind_head x) ops)) is (value_row k v c.args.number c.args.from c.args.count n t vs h.machine at full c.in-Some.ensures.piece simple)) in
       let same : to_z w64 (of_z w64 c.in-Number.n) ≡ c.in-Number.n = search rules in
-      c.told-in-Number.ensures.tried k c.decided_advance.new.self t vs s ls (c.decided_advance.ensures.advance k t vs s ls (value_redex (Number c.in-Number.n) []) h alone (ap (λ z. allots (store_of k q) (store.Number z) []) (sym same)));
+      c.taken-in-Number.ensures.taken k c.decided_advance.new.self t vs s ls (c.decided_advance.ensures.advance k t vs s ls (value_redex (Number c.in-Number.n) []) h alone (ap (λ z. allots (store_of k q) (store.Number z) []) (sym same)));
 }
 
 pub returns-in-Get : goal.returns-in-Get
 returns-in-Get c = record {
-  tried = λ t vs s ls h at full.
+  taken = λ t vs s ls h at full.
       let k = c.args.code.now in
       let v : View = view_of c.args.self.now.machine in
       let n : Node = c.in-Some.node.now in
       let simple : is_simple n.kind ≡ true = ap is_simple c.in-Get.is in
-      c.quick_value.ensures.tried t vs s ls h (value_row k v c.args.number c.args.from c.args.count n t vs h.machine at full c.in-Some.ensures.piece simple);
+      c.quick_value.ensures.taken t vs s ls h (value_row k v c.args.number c.args.from c.args.count n t vs h.machine at full c.in-Some.ensures.piece simple);
 }
 
 pub returns-in-Put : goal.returns-in-Put
 returns-in-Put c = record {
-  tried = λ t vs s ls h at full.
+  taken = λ t vs s ls h at full.
       let k = c.args.code.now in
       let v : View = view_of c.args.self.now.machine in
       let n : Node = c.in-Some.node.now in
       let simple : is_simple n.kind ≡ true = ap is_simple c.in-Put.is in
-      c.quick_value-in-Put.ensures.tried t vs s ls h (value_row k v c.args.number c.args.from c.args.count n t vs h.machine at full c.in-Some.ensures.piece simple);
+      c.quick_value-in-Put.ensures.taken t vs s ls h (value_row k v c.args.number c.args.from c.args.count n t vs h.machine at full c.in-Some.ensures.piece simple);
 }
 
 pub returns-in-Operate : goal.returns-in-Operate
 returns-in-Operate c = record {
-  tried = λ t vs s ls h at full.
+  taken = λ t vs s ls h at full.
       let k = c.args.code.now in
       let v : View = view_of c.args.self.now.machine in
       let n : Node = c.in-Some.node.now in
       let simple : is_simple n.kind ≡ true = ap is_simple c.in-Operate.is in
-      c.quick_value-in-Operate.ensures.tried t vs s ls h (value_row k v c.args.number c.args.from c.args.count n t vs h.machine at full c.in-Some.ensures.piece simple);
-}
-
-pub returns-in-Active : goal.returns-in-Active
-returns-in-Active c = record {
-  tried = λ t vs s ls h at full.
-      let k = c.args.code.now in
-      let a = c.args.self.now in
-      let v : View = view_of a.machine in
-      let n : Node = c.in-Some.node.now in
-      let ops : List ℕ = last c.args.count a.machine.operands.items in
-      let is = c.in-Active.is in
-      let simple : is_simple n.kind ≡ true = ap is_simple is in
-      let here : IsAtRedex k v t vs c.args.count (value_redex (kind_head (kind.Active c.in-Active.field-0)) ops) = subst (λ (x : Kind). IsAtRedex k v t vs c.args.count (value_redex (kind_head x) ops)) is (value_row k v c.args.number c.args.from c.args.count n t vs h.machine at full c.in-Some.ensures.piece simple) in
-      c.quick_active.ensures.tried k (option_map text_of c.in-Active.field-0) t vs s ls h here;
-}
-
-pub returns-in-Serve : goal.returns-in-Serve
-returns-in-Serve c = record {
-  tried = λ t vs s ls h at full.
-      let k = c.args.code.now in
-      let a = c.args.self.now in
-      let v : View = view_of a.machine in
-      let n : Node = c.in-Some.node.now in
-      let ops : List ℕ = last c.args.count a.machine.operands.items in
-      let is = c.in-Serve.is in
-      let simple : is_simple n.kind ≡ true = ap is_simple is in
-      let here : AtNode k v c.args.number c.args.from c.args.count n = record { focus = at; full = full; node = c.in-Some.ensures.piece } in
-      let none_done : c.args.count ≡ 0 = simple_size k v c.args.number c.args.from c.args.count n here simple ∙ ap (λ (x : Kind). operand_count x (length n.children.items)) is in
-      let empty : ops ≡ [] = ap (λ (m : ℕ). last m a.machine.operands.items) none_done ∙ last_none a.machine.operands.items in
-      let redex : Redex = value_redex (kind_head (kind.Serve c.in-Serve.field-0)) [] in
-      let alone : IsAtRedex k v t vs c.args.count redex = subst (λ (x : List ℕ). IsAtRedex k v t vs c.args.count (value_redex (kind_head (kind.Serve c.in-Serve.field-0)) x)) empty (subst (λ (x : Kind). IsAtRedex k v t vs c.args.count (value_redex (kind_head x) ops)) is (value_row k v c.args.number c.args.from c.args.count n t vs h.machine at full c.in-Some.ensures.piece simple)) in
-      stopped k a t vs s ls true c.args.count redex advance.Serves h alone (map text_of c.in-Serve.field-0.items, refl);
+      c.quick_value-in-Operate.ensures.taken t vs s ls h (value_row k v c.args.number c.args.from c.args.count n t vs h.machine at full c.in-Some.ensures.piece simple);
 }

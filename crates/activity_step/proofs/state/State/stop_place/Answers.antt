@@ -1,11 +1,11 @@
 use Rattle.std.proofs.Common.{refl}
 use Rattle.machine_frames.specs.Standing.{view_of}
 use Rattle.machine_frames.proofs.RowLemmas.{rests}
-use Rattle.activity_step.proofs.state.State.quick_place.Goals as goal
+use Rattle.activity_step.proofs.state.State.stop_place.Goals as goal
 
 pub returns-then-is_alone : goal.returns-then-is_alone
 returns-then-is_alone c = record {
-  tried = λ k t vs s ls h at.
+  stop = λ k t vs s ls h at.
       let alone = c.if-is_alone.ensures.alone refl in
       record { splits = rests k (view_of c.args.self.now.machine) c.args.place t vs h.machine at alone; alone = alone; kept = h };
 }

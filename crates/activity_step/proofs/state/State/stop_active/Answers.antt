@@ -1,4 +1,4 @@
-use Rattle.std.proofs.Common.{ℕ, List, true, subst}
+use Rattle.std.proofs.Common.{ℕ, List, false, subst}
 use Rattle.asp_model.specs.Term.{Active}
 use Rattle.activity_rows.specs.declared.asks.Creation.TheVariants as creation
 use Rattle.activity_rows.specs.Asks.{IsCreation}
@@ -6,15 +6,15 @@ use Rattle.activity_rows.specs.Decisions.{value_redex}
 use Rattle.machine_frames.specs.Stacks.{last}
 use Rattle.activity_step.specs.declared.advance.Advance.TheVariants as advance
 use Rattle.activity_step.proofs.AdvanceLemmas.{stopped}
-use Rattle.activity_step.proofs.state.State.creation.Goals as goal
+use Rattle.activity_step.proofs.state.State.stop_active.Goals as goal
 
 pub returns-in-Creates : goal.returns-in-Creates
 returns-in-Creates c = record {
-  creates = λ k service t vs s ls h at.
+  stop = λ k service t vs s ls h at.
       let a = c.args.self.now in
       let q = a.store.cells in
       let ops : List ℕ = last c.args.count a.machine.operands.items in
       let p : ℕ = c.in-Creates.place in
       let told : IsCreation k q ops service (creation.Creates p) = subst (λ (l : List ℕ). IsCreation k q l service (creation.Creates p)) c.last_operands-operands.ensures.operands (subst (IsCreation k q c.last_operands-operands.result.now service) c.in-Creates.is (c.in-Ok.ensures.creation k service)) in
-      stopped k a t vs s ls true c.args.count (value_redex (Active service) ops) (advance.Creates p) h at (service, told.1);
+      stopped k a t vs s ls false c.args.count (value_redex (Active service) ops) (advance.Creates p) h at (service, told.1);
 }

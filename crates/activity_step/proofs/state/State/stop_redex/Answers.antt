@@ -1,0 +1,74 @@
+use Rattle.std.proofs.Common.{rules, ◌≡◌, ℕ, List, [], false, true, length, map, refl, sym, ap, subst, ◌∙◌}
+use Rattle.std.specs.Option.{option_map}
+use Rattle.asp_model.specs.Split.{Redex}
+use Rattle.code_laws.specs.Nodes.{in_place, operand_count}
+use Rattle.program_code.specs.Pieces.{Piece}
+use Rattle.program_code.specs.Tables.{kind_head, node_piece, piece_at, pieces, text_of}
+use Rattle.program_code.specs.declared.code.Kind.{Kind}
+use Rattle.program_code.specs.declared.code.Kind.TheVariants as kind
+use Rattle.program_code.specs.declared.code.Node.{Node}
+use Rattle.activity_rows.specs.Decisions.{value_redex}
+use Rattle.machine_frames.specs.Rows.{AtNode, IsAtRedex, is_simple}
+use Rattle.machine_frames.specs.Sequences.{later}
+use Rattle.machine_frames.specs.Stacks.{last, piece_from}
+use Rattle.machine_frames.specs.Standing.{View, view_of}
+use Rattle.machine_frames.proofs.RowLemmas.{value_row}
+use Rattle.machine_frames.proofs.SpreadLemmas.{at_call}
+use Rattle.machine_frames.proofs.StackLemmas.{last_none}
+use Rattle.activity_step.specs.declared.advance.Advance.TheVariants as advance
+use Rattle.activity_step.proofs.AdvanceLemmas.{stopped}
+use Rattle.activity_step.proofs.TermLemmas.{simple_size}
+use Rattle.activity_step.proofs.state.State.stop_redex.Goals as goal
+
+pub returns-in-Call : goal.returns-in-Call
+returns-in-Call c = record {
+  stop = λ t vs s ls h at.
+      let k = c.args.code.now in
+      let a = c.args.self.now in
+      let v : View = view_of a.machine in
+      let n : Node = c.in-Some.node.now in
+      let piece : piece_at (pieces k) c.args.number ≡ node_piece (pieces k) n = c.in-Some.ensures.piece in
+      let all : c.args.count ≡ c.in_place_count.result = search (rules, c.if-count-in_place_count.false) in
+      let full : c.args.count ≡ in_place (piece_from k c.args.number c.args.from) = all ∙ c.in_place_count.ensures.count (pieces k) ∙ ap (λ (p : Piece). in_place (later c.args.from p)) (sym piece) in
+      let here : AtNode k v c.args.number c.args.from c.args.count n = record { focus = at; full = full; node = piece } in
+      c.stop_call.ensures.stop t vs s ls h (at_call k v c.args.number c.args.from c.args.count n c.in-Call.label t vs h.machine here c.in-Call.is);
+}
+
+pub returns-in-Active : goal.returns-in-Active
+returns-in-Active c = record {
+  stop = λ t vs s ls h at.
+      let k = c.args.code.now in
+      let a = c.args.self.now in
+      let v : View = view_of a.machine in
+      let n : Node = c.in-Some.node.now in
+      let piece : piece_at (pieces k) c.args.number ≡ node_piece (pieces k) n = c.in-Some.ensures.piece in
+      let all : c.args.count ≡ c.in_place_count.result = search (rules, c.if-count-in_place_count.false) in
+      let full : c.args.count ≡ in_place (piece_from k c.args.number c.args.from) = all ∙ c.in_place_count.ensures.count (pieces k) ∙ ap (λ (p : Piece). in_place (later c.args.from p)) (sym piece) in
+      let here : AtNode k v c.args.number c.args.from c.args.count n = record { focus = at; full = full; node = piece } in
+      let ops : List ℕ = last c.args.count a.machine.operands.items in
+      let is = c.in-Active.is in
+      let simple : is_simple n.kind ≡ true = ap is_simple is in
+      let there : IsAtRedex k v t vs c.args.count (value_redex (kind_head (kind.Active c.in-Active.field-0)) ops) = subst (λ (x : Kind). IsAtRedex k v t vs c.args.count (value_redex (kind_head x) ops)) is (value_row k v c.args.number c.args.from c.args.count n t vs h.machine at full piece simple) in
+      c.stop_active.ensures.stop k (option_map text_of c.in-Active.field-0) t vs s ls h there;
+}
+
+pub returns-in-Serve : goal.returns-in-Serve
+returns-in-Serve c = record {
+  stop = λ t vs s ls h at.
+      let k = c.args.code.now in
+      let a = c.args.self.now in
+      let v : View = view_of a.machine in
+      let n : Node = c.in-Some.node.now in
+      let piece : piece_at (pieces k) c.args.number ≡ node_piece (pieces k) n = c.in-Some.ensures.piece in
+      let all : c.args.count ≡ c.in_place_count.result = search (rules, c.if-count-in_place_count.false) in
+      let full : c.args.count ≡ in_place (piece_from k c.args.number c.args.from) = all ∙ c.in_place_count.ensures.count (pieces k) ∙ ap (λ (p : Piece). in_place (later c.args.from p)) (sym piece) in
+      let here : AtNode k v c.args.number c.args.from c.args.count n = record { focus = at; full = full; node = piece } in
+      let ops : List ℕ = last c.args.count a.machine.operands.items in
+      let is = c.in-Serve.is in
+      let simple : is_simple n.kind ≡ true = ap is_simple is in
+      let none_done : c.args.count ≡ 0 = simple_size k v c.args.number c.args.from c.args.count n here simple ∙ ap (λ (x : Kind). operand_count x (length n.children.items)) is in
+      let empty : ops ≡ [] = ap (λ (m : ℕ). last m a.machine.operands.items) none_done ∙ last_none a.machine.operands.items in
+      let redex : Redex = value_redex (kind_head (kind.Serve c.in-Serve.field-0)) [] in
+      let alone : IsAtRedex k v t vs c.args.count redex = subst (λ (x : List ℕ). IsAtRedex k v t vs c.args.count (value_redex (kind_head (kind.Serve c.in-Serve.field-0)) x)) empty (subst (λ (x : Kind). IsAtRedex k v t vs c.args.count (value_redex (kind_head x) ops)) is (value_row k v c.args.number c.args.from c.args.count n t vs h.machine at full piece simple)) in
+      stopped k a t vs s ls false c.args.count redex advance.Serves h alone (map text_of c.in-Serve.field-0.items, refl);
+}
