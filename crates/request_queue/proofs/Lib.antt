@@ -1,4 +1,5 @@
 pub mod BoxLemmas
+pub mod FewLemmas
 pub mod NoteLemmas
 pub mod OldestLemmas
 pub mod PendingLemmas

@@ -2,4 +2,5 @@ pub mod Requests
 pub mod Pending
 pub mod Notes
 pub mod Kept
+pub mod Few
 pub mod Led

@@ -80,19 +80,24 @@ impl Crowd {
         self.pending.len()
     }
 
-    /// Counts a request that is kept elsewhere, and answers its number.
-    pub fn count(&mut self) -> Result<u64, AllocError>
-        ensures number { IfOk result (λ n. n ≡ self.old.arrived) }
-        ensures pending { self.new.pending ≡ self.old.pending }
-        ensures arrived { OnOk result (self.new.arrived ≡ self.old.arrived + 1) }
-        ensures err { OnErr result (self.new ≡ self.old) }
+    /// The number of the next request, where there is one.
+    pub fn next(&self) -> Result<u64, AllocError>
+        ensures number { IfOk result (λ n. n ≡ self.now.arrived) }
+        ensures room { OnOk result (self.now.arrived + 1 < 2 ^ 64) }
     {
         if self.arrived == u64::MAX {
             return Err(AllocError);
         }
-        let number = self.arrived;
+        Ok(self.arrived)
+    }
+
+    /// Counts a request that is kept elsewhere.
+    pub fn count(&mut self)
+        requires room { self.old.arrived + 1 < 2 ^ 64 }
+        ensures pending { self.new.pending ≡ self.old.pending }
+        ensures arrived { self.new.arrived ≡ self.old.arrived + 1 }
+    {
         self.arrived += 1;
-        Ok(number)
     }
 
     /// Appends a request under the next number.

@@ -2,6 +2,7 @@
 #![tactic(auto)]
 
 mod crowd;
+mod few;
 mod laws;
 mod notes;
 mod queue;

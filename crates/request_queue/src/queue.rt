@@ -18,7 +18,7 @@ ghost use Rattle.serve_rules.specs.Labels.{class_labels, label_text};
 ghost use Rattle.request_queue.specs.Pending.{but, oldest, request_at, waiting};
 
 use crate::crowd::Crowd;
-use crate::notes::{has_method, is_one_of};
+use crate::few::Few;
 use crate::request::Request;
 use asp_model::Label;
 use program_code::Class;
@@ -26,15 +26,16 @@ use serve_rules::LabelSet;
 use std::alloc::{AllocError, Global};
 use std::marker::Model;
 
+// As many requests stand in a list before any goes into the crowd.
+const MOST: usize = 4;
+
 /// The pending requests of one activity with their numbers in order of arrival, oldest first, and
 /// how many requests have arrived.
 #[derive(Drop)]
 pub struct Queue {
     alloc: Global,
-    /// The number of the first.
-    number: u64,
-    /// A request that came when none was pending. It is older than the others.
-    first: Option<Box<Request>>,
+    /// They came while none of the others was pending, so they are older than those.
+    few: Few,
     others: Crowd,
 }
 
@@ -56,8 +57,7 @@ impl Queue {
     {
         Queue {
             alloc,
-            number: 0,
-            first: None,
+            few: Few::new(alloc),
             others: Crowd::new(alloc),
         }
     }
@@ -66,10 +66,7 @@ impl Queue {
     pub fn len(&self) -> usize
         ensures len { result ≡ length self.now.pending }
     {
-        match &self.first {
-            Some(_) => self.others.len() + 1,
-            None => self.others.len(),
-        }
+        self.few.len() + self.others.len()
     }
 
     /// Appends a request under the next number.
@@ -79,13 +76,13 @@ impl Queue {
         ensures arrived { OnOk result (self.new.arrived ≡ self.old.arrived + 1) }
         ensures err { OnErr result (self.new ≡ self.old) }
     {
-        let request = Box::new(self.alloc, request)?;
-        if self.first.is_none() && self.others.len() == 0 {
-            self.number = self.others.count()?;
-            self.first = Some(request);
+        if self.others.len() == 0 && self.few.len() < MOST {
+            let number = self.others.next()?;
+            self.few.push(number, request)?;
+            self.others.count();
             Ok(())
         } else {
-            self.others.push(request)
+            self.others.push(Box::new(self.alloc, request)?)
         }
     }
 
@@ -94,12 +91,10 @@ impl Queue {
         ensures oldest { let found = oldest labels.now (waiting self.now) in
             result ≡ option_map (λ x. x.0) found }
     {
-        if let Some(first) = &self.first {
-            if labels.has(&first.label) {
-                return Some(self.number);
-            }
+        match self.few.first_of(labels) {
+            Some(number) => Some(number),
+            None => self.others.first_of(labels),
         }
-        self.others.first_of(labels)
     }
 
     /// The number of the oldest request with one of these labels. No set of them is made.
@@ -107,12 +102,10 @@ impl Queue {
         ensures oldest { let found = oldest (map label_text labels.now) (waiting self.now) in
             result ≡ option_map (λ x. x.0) found }
     {
-        if let Some(first) = &self.first {
-            if is_one_of(&first.label, labels) {
-                return Some(self.number);
-            }
+        match self.few.first_labelled(labels) {
+            Some(number) => Some(number),
+            None => self.others.first_labelled(labels),
         }
-        self.others.first_labelled(labels)
     }
 
     /// The number of the oldest request for a method of a class.
@@ -120,12 +113,10 @@ impl Queue {
         ensures oldest { let found = oldest (class_labels class.now) (waiting self.now) in
             result ≡ option_map (λ x. x.0) found }
     {
-        if let Some(first) = &self.first {
-            if has_method(class, &first.label) {
-                return Some(self.number);
-            }
+        match self.few.first_method(class) {
+            Some(number) => Some(number),
+            None => self.others.first_method(class),
         }
-        self.others.first_method(class)
     }
 
     /// Removes the request of a number, and returns it.
@@ -135,13 +126,9 @@ impl Queue {
         ensures others { self.new.pending ≡ but number self.old.pending }
         ensures arrived { self.new.arrived ≡ self.old.arrived }
     {
-        if number == self.number {
-            match self.first.take() {
-                Some(request) => Box::into_inner(request),
-                None => self.others.take(number),
-            }
-        } else {
-            self.others.take(number)
+        match self.few.take(number) {
+            Some(request) => request,
+            None => self.others.take(number),
         }
     }
 }
