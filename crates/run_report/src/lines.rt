@@ -10,6 +10,10 @@ use asp_model::{ActivityName, Fault, Line, Status, Verdict};
 use path_equal::{push_future, push_name};
 use std::alloc::{AllocError, Global};
 
+// Room in which most lines fit with their line feeds, so that each is made by one allocation.
+const ACTIVITY_ROOM: usize = 40;
+const SHORT_ROOM: usize = 24;
+
 /// How the run ended.
 pub fn verdict_line(verdict: Verdict) -> &'static str
     ensures verdict { result.now ≡ line_of_verdict (verdict_shape verdict) }
@@ -31,7 +35,8 @@ pub fn activity_line(
     ensures activity { IfOk result (λ s. string_bytes s
         ≡ activity_text name.now count (status_shape status.now)) }
 {
-    let mut text = String::from_str(alloc, "activity ")?;
+    let mut text = String::with_capacity(alloc, ACTIVITY_ROOM)?;
+    text.push_str("activity ")?;
     push_name(&mut text, name)?;
     write!(text, " {count} ")?;
     push_status(&mut text, status)?;
@@ -42,7 +47,8 @@ pub fn activity_line(
 pub fn senders_line(alloc: Global, senders: &[ActivityName]) -> Result<String, AllocError>
     ensures senders { IfOk result (λ s. string_bytes s ≡ line_of_senders senders.now) }
 {
-    let mut text = String::from_str(alloc, "senders")?;
+    let mut text = String::with_capacity(alloc, SHORT_ROOM)?;
+    text.push_str("senders")?;
     for sender in senders {
         text.push_str(" ")?;
         push_name(&mut text, sender)?;
@@ -54,13 +60,15 @@ pub fn senders_line(alloc: Global, senders: &[ActivityName]) -> Result<String, A
 pub fn output_line(alloc: Global, line: &Line) -> Result<String, AllocError>
     ensures output { IfOk result (λ s. string_bytes s ≡ line_of_output (line_shape line.now)) }
 {
+    let mut text = String::with_capacity(alloc, SHORT_ROOM)?;
     match line {
-        Line::Number(n) => format!(in alloc; "> {n}"),
+        Line::Number(n) => write!(text, "> {n}")?,
         Line::Text(word) => {
-            let text = word.as_str();
-            format!(in alloc; "| {text}")
+            text.push_str("| ")?;
+            text.push_str(word.as_str())?;
         }
     }
+    Ok(text)
 }
 
 // What an activity does at the end.
