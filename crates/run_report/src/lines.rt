@@ -12,6 +12,7 @@ use std::alloc::{AllocError, Global};
 
 // Room in which most lines fit with their line feeds, so that each is made by one allocation.
 const ACTIVITY_ROOM: usize = 40;
+
 const SHORT_ROOM: usize = 24;
 
 /// How the run ended.
