@@ -2,6 +2,7 @@
 
 use asp_model::{ActivityName, FutureName};
 use program_code::Code;
+use smallvec::SmallVec;
 use std::mem::size_of;
 use std::sync::Arc;
 
@@ -37,5 +38,6 @@ const _: () = prove!(size_of::<Cell>() == 16);
 pub struct Parcel {
     pub code: Arc<Code>,
     pub cells: Vec<Cell>,
-    pub roots: Vec<Place>,
+    /// Two of them need no memory of their own.
+    pub roots: SmallVec<Place, 2>,
 }

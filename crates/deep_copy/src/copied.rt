@@ -18,6 +18,7 @@ use crate::moves::Moves;
 use asp_model::{ActivityName, FutureName};
 use coded_cells::{Cell, Object, Place};
 use program_code::Code;
+use smallvec::SmallVec;
 use std::alloc::{AllocError, Global};
 use std::sync::Arc;
 
@@ -52,6 +53,21 @@ pub fn moved_places(
     let mut copies = Vec::with_capacity(alloc, places.len())?;
     for place in places {
         copies.push(moves.moved(*place))?;
+    }
+    Ok(copies)
+}
+
+/// The roots of a parcel, each moved.
+pub fn moved_roots(
+    alloc: Global,
+    moves: &Moves,
+    roots: &[Place],
+) -> Result<SmallVec<Place, 2>, AllocError>
+    ensures { IfOk result (λ r. r.items ≡ map (move_of moves.now) roots.now) }
+{
+    let mut copies = SmallVec::new(alloc);
+    for root in roots {
+        copies.push(moves.moved(*root))?;
     }
     Ok(copies)
 }

@@ -13,12 +13,13 @@ ghost use Rattle.deep_copy.specs.declared.moves.Moves.TheVariants as moves;
 ghost use Rattle.laws.specs.Closed.{AreBelow, IsClosedParcel, IsClosedStore};
 ghost use Rattle.program_code.specs.Sound.{IsSound};
 
-use crate::copied::{code_is_sound, moved_cell, moved_places};
+use crate::copied::{code_is_sound, moved_cell, moved_roots};
 use crate::moves::Moves;
 use crate::visiting::{visit_few, visit_order};
 use coded_cells::{Cell, Object, Parcel, Place};
 use object_store::Store;
 use program_code::Code;
+use smallvec::SmallVec;
 use std::alloc::{AllocError, Global};
 use std::sync::Arc;
 
@@ -98,7 +99,7 @@ fn numbered(
         IfOk result (λ p. fit store.now.cells → fit (all_coded p.cells.items)) }
 {
     let cells = copied_cells(alloc, store, moves, order)?;
-    let roots = moved_places(alloc, moves, roots)?;
+    let roots = moved_roots(alloc, moves, roots)?;
     let code = Arc::try_clone(code)?;
     Ok(Parcel { code, cells, roots })
 }
@@ -147,7 +148,7 @@ fn pack_leaf(alloc: Global, code: &Arc<Code>, cell: &Cell) -> Result<Parcel, All
 {
     let mut cells = Vec::with_capacity(alloc, 1)?;
     cells.push(moved_cell(alloc, &Moves::Up(0), cell)?)?;
-    let mut roots = Vec::with_capacity(alloc, 1)?;
+    let mut roots = SmallVec::new(alloc);
     roots.push(0)?;
     let code = Arc::try_clone(code)?;
     Ok(Parcel { code, cells, roots })

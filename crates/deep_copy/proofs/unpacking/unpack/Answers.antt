@@ -18,7 +18,7 @@ returns-clause-roots c =
     let p = c.args.parcel.now in
     let f : ℕ → ℕ = λ n. raised n c.len.result in
     let cells = c.in_ok-append_moved.ensures.cells ∙ ap (λ (cs : List Cell). c.args.store.now.cells ++ map (moved_coded f) (all_coded cs)) c.deref-2.ensures.value in
-    c.in_ok-roots.ensures ∙ ap (map f) c.deref.ensures.value
+    c.in_ok-roots.ensures ∙ ap (map f) c.deref.ensures
     ∙ roots_coded (arc_value p.code) c.code_is_sound.ensures.sound c.args.store.now.cells c.append_moved.new.store.cells (all_coded p.cells.items) (map (moved_coded f) (all_coded p.cells.items)) p.roots.items c.len.result c.len.ensures cells refl c.in_ok-append_moved.ensures.fits c.requires.closed
 
 pub returns-clause-closed : goal.returns-clause-closed

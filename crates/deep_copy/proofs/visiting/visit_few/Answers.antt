@@ -1,4 +1,4 @@
-use Rattle.std.proofs.Common.{◌≡◌, ◌∙◌, ◌+◌, ◌<◌, ◌++◌, ◌∷◌, [], List, ℕ, true, false, not, length, reverse, sym, ap, subst}
+use Rattle.std.proofs.Common.{◌≡◌, ◌∙◌, ◌+◌, ◌<◌, ◌++◌, List, ℕ, true, false, not, length, reverse, sym, ap, subst}
 use Rattle.asp_model.specs.Parcel.{has_place, visit_order}
 use Rattle.asp_model.specs.Store.{Store, reached, cell}
 use Rattle.laws.specs.Closed.{AreBelow}
