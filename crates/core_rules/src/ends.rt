@@ -1,6 +1,6 @@
 //! When a run ends, and how.
 
-ghost use Rattle.std.specs.Prelude.{◌≡◌, IfOk, Some};
+ghost use Rattle.std.specs.Prelude.{◌≡◌, IfOk, None, OnErr, Some};
 ghost use Rattle.asp_model.specs.Shapes.{verdict_shape};
 ghost use Rattle.core_rules.specs.Verdicts.{IsVerdictOf};
 
@@ -27,6 +27,7 @@ pub fn verdict_at_rest(ranks: &Ranks) -> Verdict
 /// The verdict with which a run stops: it does not stop before.
 pub fn over(verdict: Option<Verdict>) -> Result<Verdict, AllocError>
     ensures over { IfOk result (λ v. verdict ≡ Some v) }
+    ensures err { OnErr result (verdict ≡ None) }
 {
     match verdict {
         Some(verdict) => Ok(verdict),
