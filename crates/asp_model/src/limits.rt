@@ -24,7 +24,8 @@ pub const MOST_GRANTED: u64 = 64;
 /// The workers of a run.
 pub const MOST_WORKERS: u32 = 16;
 
-/// The seats among which a turn goes round: one for each worker of a later version, and the caller's.
+/// The seats among which a turn goes round, at most. A run takes two for each worker, and the
+/// caller's.
 pub const MOST_SEATS: u32 = 65;
 
 /// The depth to which a report shows the state of its activities.
