@@ -13,6 +13,9 @@ use Rattle.object_store.specs.Holders.{is_future, is_one_future, holders}
 use Rattle.object_store.specs.Index.{ChangesWhere, IsAlike, IsIndexed, is_given_up, is_in_cell}
 use Rattle.object_store.specs.Places.{with_place, without_place}
 use Rattle.object_store.specs.declared.index.Index.{Index}
+use Rattle.object_store.specs.declared.finder.Finder.{Finder}
+use Rattle.object_store.specs.declared.finder.Finder.TheVariants as finders
+use Rattle.object_store.specs.Finder.{Follows, IsFitting}
 use Rattle.object_store.proofs.IndexLemmas.{changed_so}
 use Rattle.object_store.proofs.HoldersLemmas.{added, left, replaced, exchanged, held_alike}
 
@@ -98,3 +101,29 @@ given_up_other c d f e = by (is_in_cell c f) (is_in_cell d f) (λ x y. clash (bo
     by true true h = absurd (h refl refl)
     by true false h = refl
     by false has h = refl
+
+-- An index, where there is one
+
+followed : (R : Index → Index → Type 0) (s t : CodedStore) → ((i j : Index) → IsIndexed i s → R i j → IsIndexed j t) → (old new : Finder) → IsFitting old s → Follows R old new → IsFitting new t
+followed R s t step old finders.Look h r = tt
+followed R s t step finders.Look (finders.Indexed j) h r = absurd r
+followed R s t step (finders.Indexed i) (finders.Indexed j) h r = step i.value j.value h r
+
+pub fitting_alike : (old new : Finder) (s : CodedStore) → IsFitting old s → Follows IsAlike old new → IsFitting new s
+fitting_alike old new s h r = followed IsAlike s s (λ i j. alike i j s) old new h r
+
+pub fitting_more : (old new : Finder) (s : CodedStore) (c : CodedCell) → IsFitting old s → Follows (ChangesWhere (is_in_cell c) (with_place (length s))) old new → IsFitting new (s ++ c ∷ [])
+fitting_more old new s c h r = followed (ChangesWhere (is_in_cell c) (with_place (length s))) s (s ++ c ∷ []) (λ i j. indexed_more i j s c) old new h r
+
+pub fitting_less : (old new : Finder) (s : CodedStore) (c : CodedCell) → IsFitting old (s ++ c ∷ []) → Follows (ChangesWhere (is_in_cell c) (without_place (length s))) old new → IsFitting new s
+fitting_less old new s c h r = followed (ChangesWhere (is_in_cell c) (without_place (length s))) (s ++ c ∷ []) s (λ i j. indexed_less i j s c) old new h r
+
+pub fitting_replaced : (old mid new : Finder) (s : CodedStore) (p : ℕ) (c d : CodedCell) → p < length s → cell_at s p ≡ d → IsFitting old s → Follows (ChangesWhere (is_in_cell c) (with_place p)) old mid → Follows (ChangesWhere (is_given_up d c) (without_place p)) mid new → IsFitting new (with_cell_at s p c)
+fitting_replaced old mid finders.Look s p c d lt here h first second = tt
+fitting_replaced old finders.Look (finders.Indexed k) s p c d lt here h first second = absurd second
+fitting_replaced finders.Look (finders.Indexed j) (finders.Indexed k) s p c d lt here h first second = absurd first
+fitting_replaced (finders.Indexed i) (finders.Indexed j) (finders.Indexed k) s p c d lt here h first second = indexed_replaced i.value j.value k.value s p c d lt here h first second
+
+pub fitting_object : (finder : Finder) (s t : CodedStore) (p i n : ℕ) → t ≡ with_cell_at s p (with_place_at i n (cell_at s p)) → IsFitting finder s → IsFitting finder t
+fitting_object finders.Look s t p i n e h = tt
+fitting_object (finders.Indexed index) s t p i n e h = indexed_object index.value s t p i n e h

@@ -2,7 +2,7 @@
 use Rattle.std.specs.Prelude.{◌+◌, ◌≤◌, vec_len, vec_capacity}
 use Rattle.coded_cells.specs.Cells.{CodedStore, all_coded}
 use Rattle.object_store.specs.declared.store.Store.TheInside.{Inside}
-use Rattle.object_store.specs.Index.{IsIndexed}
+use Rattle.object_store.specs.Finder.{IsFitting}
 use Rattle.object_store.specs.View.{StoreView}
 
 abbrev pub cells_of : Inside → CodedStore
@@ -11,7 +11,7 @@ cells_of s = all_coded s.cells.items
 abbrev pub view_of : Inside → StoreView
 view_of s = record { cells = cells_of s; spare = s.spare }
 
--- the index fits the cells, and there is room for as many cells as are spare
+-- an index fits the cells, and there is room for as many cells as are spare
 pub record IsStored (s : Inside) : Type 0 where
-  pub indexed : IsIndexed s.index (cells_of s)
+  pub fitting : IsFitting s.finder (cells_of s)
   pub room : vec_len s.cells + s.spare ≤ vec_capacity s.cells

@@ -1,7 +1,8 @@
-//! The store of an activity whose objects name their classes by number: its cells, with an index of the
-//! places that hold each future.
+//! The store of an activity whose objects name their classes by number: its cells, and a way to find the
+//! places that hold a future.
 #![tactic(auto)]
 
+mod finder;
 mod index;
 mod laws;
 mod objects;

@@ -30,7 +30,7 @@ ghost use Rattle.coded_cells.specs.Cells.{
 };
 ghost use Rattle.object_store.specs.Holders.{holders, is_some_future};
 
-use crate::index::Index;
+use crate::finder::Finder;
 use crate::objects::set_in_cells;
 use asp_model::FutureName;
 use coded_cells::{Cell, Place};
@@ -42,9 +42,10 @@ use std::mem;
 /// what it asks for.
 #[derive(Drop)]
 pub struct Store {
+    alloc: Global,
     cells: Vec<Cell>,
     spare: usize,
-    index: Index,
+    finder: Finder,
 }
 
 impl Model for Store {
@@ -70,9 +71,10 @@ impl Store {
         ensures spare { result.spare ≡ 0 }
     {
         Store {
+            alloc,
             cells: Vec::new(alloc),
             spare: 0,
-            index: Index::new(alloc),
+            finder: Finder::Look,
         }
     }
 
@@ -80,11 +82,11 @@ impl Store {
     pub fn of(alloc: Global, cells: Vec<Cell>) -> Result<Store, AllocError>
         ensures cells { IfOk result (λ s. s.cells ≡ all_coded cells.items) }
     {
-        let index = Index::of(alloc, &cells)?;
         let mut store = Store {
+            alloc,
             cells,
             spare: 0,
-            index,
+            finder: Finder::Look,
         };
         store.reserve(8)?;
         Ok(store)
@@ -117,6 +119,7 @@ impl Store {
         ensures err { OnErr result (self.new ≡ self.old) }
     {
         let spare = self.spare.max(more as usize);
+        self.finder.fit(self.alloc, &self.cells, spare)?;
         self.cells.reserve(spare)?;
         self.spare = spare;
         Ok(())
@@ -147,9 +150,9 @@ impl Store {
         ensures spare { self.new.spare ≡ self.old.spare }
         ensures err { OnErr result (self.new ≡ self.old) }
     {
-        self.index.hold(&cell, loc)?;
+        self.finder.hold(&cell, loc)?;
         let old = mem::replace(&mut self.cells[loc], cell);
-        self.index.give_up(old, &self.cells[loc], loc);
+        self.finder.give_up(old, &self.cells[loc], loc);
         Ok(())
     }
 
@@ -179,7 +182,7 @@ impl Store {
         ensures holders { let places = holders (future_shape future.now) self.now.cells in
             IfOk result (λ v. v.items ≡ places) }
     {
-        self.index.places(future)
+        self.finder.places(self.alloc, &self.cells, future)
     }
 
     #[inline(always)]
@@ -190,7 +193,8 @@ impl Store {
         ensures err { OnErr result (self.new ≡ self.old) }
     {
         self.cells.reserve(1)?;
-        self.index.hold(&cell, self.cells.len())?;
+        self.finder.fit_one(self.alloc, &self.cells, self.spare)?;
+        self.finder.hold(&cell, self.cells.len())?;
         self.cells.push_reserved(cell);
         self.spare = self.spare.saturating_sub(1);
         Ok(())
@@ -202,7 +206,7 @@ impl Store {
         ensures { self.new.cells ≡ take (length self.old.cells - 1) self.old.cells }
     {
         let last = self.cells.pop().unwrap();
-        self.index.release(&last, self.cells.len());
+        self.finder.release(&last, self.cells.len());
     }
 
     /// Takes cells out at the end, down to so many.

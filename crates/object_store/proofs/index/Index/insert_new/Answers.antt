@@ -1,4 +1,4 @@
-use Rattle.std.proofs.Common.{◌≡◌, ◌∙◌, sym, ap, cond, subst, Some}
+use Rattle.std.proofs.Common.{◌≡◌, sym, ap, cond, subst, Some}
 use Rattle.asp_model.specs.declared.name.FutureName.{FutureName}
 use Rattle.indexmap.specs.IndexMap.{get}
 use Rattle.object_store.specs.Index.{is_same, or_none}

@@ -3,8 +3,8 @@ use Rattle.std.specs.Vec.{with_items}
 use Rattle.std.proofs.lemmas.List.{take_at}
 use Rattle.coded_cells.specs.declared.cells.Cell.{Cell}
 use Rattle.coded_cells.specs.Cells.{all_coded, cell_at, with_cell_at, with_place_at}
-use Rattle.object_store.specs.Index.{IsIndexed}
-use Rattle.object_store.proofs.StoredLemmas.{indexed_object}
+use Rattle.object_store.specs.Finder.{IsFitting}
+use Rattle.object_store.proofs.StoredLemmas.{fitting_object}
 use Rattle.object_store.proofs.store.Store.set_place.Goals as goal
 
 pub invariant_of-self : goal.invariant_of-self
@@ -19,6 +19,6 @@ invariant_of-self c =
     let kept : (with_items c.self.inside.cells written).items ≡ written = take_at written (drop (length written) cs) c.self.inside.cells.len size in
     let set : all_coded written ≡ with_cell_at s p (with_place_at i to (cell_at s p)) = c.set_in_cells.ensures.cells ∙ ap (λ (xs : List Cell). with_cell_at (all_coded xs) p (with_place_at i to (cell_at (all_coded xs) p))) c.deref_mut.ensures.value in
     record {
-      indexed = subst (λ (ds : List Cell). IsIndexed c.self.inside.index (all_coded ds)) (sym kept) (indexed_object c.self.inside.index s (all_coded written) p i to set c.self.invariant.indexed);
+      fitting = subst (λ (ds : List Cell). IsFitting c.self.inside.finder (all_coded ds)) (sym kept) (fitting_object c.self.inside.finder s (all_coded written) p i to set c.self.invariant.fitting);
       room = c.self.invariant.room;
     }
