@@ -120,7 +120,7 @@ fn look_through(
     ensures places { let places = holders (future_shape future.now) (all_coded cells.now) in
         IfOk result (λ v. v.items ≡ places) }
 {
-    let mut places = Vec::new(alloc);
+    let mut places = Vec::with_capacity(alloc, 1)?;
     let mut place = 0;
     while place < cells.len() {
         if is_future(&cells[place], future) {

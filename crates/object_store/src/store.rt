@@ -88,7 +88,7 @@ impl Store {
             spare: 0,
             finder: Finder::Look,
         };
-        store.reserve(8)?;
+        store.reserve(4)?;
         Ok(store)
     }
 
