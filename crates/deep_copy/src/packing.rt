@@ -23,6 +23,9 @@ use smallvec::SmallVec;
 use std::alloc::{AllocError, Global};
 use std::sync::Arc;
 
+// Objects are mostly copied for a new activity, whose store keeps their cells and adds so many soon.
+const ROOM: usize = 4;
+
 /// The deep copy of what the roots reach, each cell once.
 pub fn pack(
     alloc: Global,
@@ -146,12 +149,19 @@ fn pack_leaf(alloc: Global, code: &Arc<Code>, cell: &Cell) -> Result<Parcel, All
     ensures roots { IfOk result (λ p. p.roots.items ≡ 0 ∷ []) }
     ensures code { IfOk result (λ p. arc_value p.code ≡ arc_value code.now) }
 {
-    let mut cells = Vec::with_capacity(alloc, 1)?;
+    let mut cells = Vec::with_capacity(alloc, room_for(cell))?;
     cells.push(moved_cell(alloc, &Moves::Up(0), cell)?)?;
     let mut roots = SmallVec::new(alloc);
     roots.push(0)?;
     let code = Arc::try_clone(code)?;
     Ok(Parcel { code, cells, roots })
+}
+
+fn room_for(leaf: &Cell) -> usize {
+    match leaf {
+        Cell::Object(_) => 1 + ROOM,
+        _ => 1,
+    }
 }
 
 fn copied_cells(
@@ -164,7 +174,7 @@ fn copied_cells(
     ensures { let copies = map (copied_cell moves.now store.now.cells) places.now in
         IfOk result (λ r. all_coded r.items ≡ copies) }
 {
-    let mut cells = Vec::with_capacity(alloc, places.len())?;
+    let mut cells = Vec::with_capacity(alloc, places.len().saturating_add(ROOM))?;
     for place in places {
         cells.push(moved_cell(alloc, moves, store.cell(*place))?)?;
     }

@@ -29,7 +29,7 @@ pub fn visit_few(
         IfOk result (λ r. IfSome r (λ seen. below seen.items)) }
 {
     let mut seen = Vec::with_capacity(alloc, 8)?;
-    let mut stack = Vec::new(alloc);
+    let mut stack = Vec::with_capacity(alloc, 8)?;
     stack.extend_from_slice(roots)?;
     stack.reverse();
     while let Some(place) = stack.pop() {

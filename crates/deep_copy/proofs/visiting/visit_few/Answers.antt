@@ -12,7 +12,7 @@ pub loop-place-init : goal.loop-place-init
 loop-place-init c =
     let cs = c.args.store.now.cells in
     let s : Store = store_of c.args.code.now cs in
-    let stack : c.reverse.new.self.items ≡ reverse c.args.roots.now = c.reverse.ensures.items ∙ ap reverse (c.in_ok-extend_from_slice.ensures.items ∙ ap (λ xs. xs ++ c.args.roots.now) c.new-stack.ensures.items) in
+    let stack : c.reverse.new.self.items ≡ reverse c.args.roots.now = c.reverse.ensures.items ∙ ap reverse (c.in_ok-extend_from_slice.ensures.items ∙ ap (λ xs. xs ++ c.args.roots.now) c.in_ok-stack.ensures.items) in
     let within = subst (λ n. AreBelow n c.args.roots.now) (sym (length-store_of c.args.code.now cs)) c.requires.within in
     begins s c.args.roots.now c.reverse.new.self.items c.in_ok-seen.seen.items stack c.in_ok-seen.ensures.items c.requires.closed within
 
@@ -26,8 +26,8 @@ loop-place-preserved c =
     let there : has_place p seen ≡ true = old_true (has_place p seen) c.is_new.result told c.if-is_new.false in
     keeps_old s c.loop-place.stack.items c.pop.new.self.items seen out p c.in-Some.ensures.items c.loop-place.invariant there
 
-pub loop-place-preserved-in-Continue-branch-4 : goal.loop-place-preserved-in-Continue-branch-4
-loop-place-preserved-in-Continue-branch-4 c =
+pub loop-place-preserved-in-Continue-branch-5 : goal.loop-place-preserved-in-Continue-branch-5
+loop-place-preserved-in-Continue-branch-5 c =
     let code = c.args.code.now in
     let cs = c.args.store.now.cells in
     let s : Store = store_of code cs in
@@ -41,8 +41,8 @@ loop-place-preserved-in-Continue-branch-4 c =
     let pushed : mid ≡ c.pop.new.self.items ++ reverse (reached (cell s p)) = c.in_ok-push_reached.ensures ∙ ap (λ d. c.pop.new.self.items ++ reverse (reached d)) here in
     subst (λ (ks : List ℕ). Going s mid ks out) (sym c.in_ok-push.ensures.items) (keeps_new s c.loop-place.stack.items c.pop.new.self.items seen out p c.in-Some.ensures.items c.loop-place.invariant mid c.requires.closed pushed absent)
 
-pub loop-place-smaller-in-Continue-branch-4 : goal.loop-place-smaller-in-Continue-branch-4
-loop-place-smaller-in-Continue-branch-4 c =
+pub loop-place-smaller-in-Continue-branch-5 : goal.loop-place-smaller-in-Continue-branch-5
+loop-place-smaller-in-Continue-branch-5 c =
     let code = c.args.code.now in
     let cs = c.args.store.now.cells in
     let s : Store = store_of code cs in
