@@ -38,7 +38,7 @@ use std::collections::BTreeMap;
 use std::marker::Model;
 
 /// Pending requests with their numbers in order of arrival, oldest first, and how many requests
-/// have arrived, here or elsewhere.
+/// have arrived, here or before.
 #[derive(Drop)]
 pub struct Crowd {
     arrived: u64,
@@ -60,13 +60,13 @@ impl Model for Crowd {
 }
 
 impl Crowd {
-    /// No request.
-    pub fn new(alloc: Global) -> Crowd
+    /// No request, where so many have arrived.
+    pub fn new(alloc: Global, arrived: u64) -> Crowd
         ensures pending { result.pending ≡ [] }
-        ensures arrived { result.arrived ≡ 0 }
+        ensures arrived { result.arrived ≡ arrived }
     {
         Crowd {
-            arrived: 0,
+            arrived,
             pending: BTreeMap::new(alloc),
             notes: Notes::new(alloc),
         }
@@ -80,24 +80,11 @@ impl Crowd {
         self.pending.len()
     }
 
-    /// The number of the next request, where there is one.
-    pub fn next(&self) -> Result<u64, AllocError>
-        ensures number { IfOk result (λ n. n ≡ self.now.arrived) }
-        ensures room { OnOk result (self.now.arrived + 1 < 2 ^ 64) }
+    /// How many requests have arrived.
+    pub fn arrived(&self) -> u64
+        ensures arrived { result ≡ self.now.arrived }
     {
-        if self.arrived == u64::MAX {
-            return Err(AllocError);
-        }
-        Ok(self.arrived)
-    }
-
-    /// Counts a request that is kept elsewhere.
-    pub fn count(&mut self)
-        requires room { self.old.arrived + 1 < 2 ^ 64 }
-        ensures pending { self.new.pending ≡ self.old.pending }
-        ensures arrived { self.new.arrived ≡ self.old.arrived + 1 }
-    {
-        self.arrived += 1;
+        self.arrived
     }
 
     /// Appends a request under the next number.

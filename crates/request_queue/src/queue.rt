@@ -15,6 +15,7 @@ ghost use Rattle.std.specs.Prelude.{
 };
 ghost use Rattle.std.specs.Option.{option_map};
 ghost use Rattle.serve_rules.specs.Labels.{class_labels, label_text};
+ghost use Rattle.request_queue.specs.Led.{arrived_of, behind};
 ghost use Rattle.request_queue.specs.Pending.{but, oldest, request_at, waiting};
 
 use crate::crowd::Crowd;
@@ -34,9 +35,11 @@ const MOST: usize = 4;
 #[derive(Drop)]
 pub struct Queue {
     alloc: Global,
-    /// They came while none of the others was pending, so they are older than those.
+    /// How many requests had arrived when the crowd was made, or have arrived where there is none.
+    arrived: u64,
+    /// They came while there was no crowd, so they are older than those in it.
     few: Few,
-    others: Crowd,
+    others: Option<Box<Crowd>>,
 }
 
 impl Model for Queue {
@@ -57,8 +60,9 @@ impl Queue {
     {
         Queue {
             alloc,
+            arrived: 0,
             few: Few::new(alloc),
-            others: Crowd::new(alloc),
+            others: None,
         }
     }
 
@@ -66,7 +70,10 @@ impl Queue {
     pub fn len(&self) -> usize
         ensures len { result ≡ length self.now.pending }
     {
-        self.few.len() + self.others.len()
+        match &self.others {
+            Some(crowd) => self.few.len() + crowd.len(),
+            None => self.few.len(),
+        }
     }
 
     /// Appends a request under the next number.
@@ -76,13 +83,35 @@ impl Queue {
         ensures arrived { OnOk result (self.new.arrived ≡ self.old.arrived + 1) }
         ensures err { OnErr result (self.new ≡ self.old) }
     {
-        if self.others.len() == 0 && self.few.len() < MOST {
-            let number = self.others.next()?;
-            self.few.push(number, request)?;
-            self.others.count();
+        if self.others.is_none() && self.few.len() < MOST {
+            if self.arrived == u64::MAX {
+                return Err(AllocError);
+            }
+            self.few.push(self.arrived, request)?;
+            self.arrived += 1;
             Ok(())
         } else {
-            self.others.push(Box::new(self.alloc, request)?)
+            self.push_behind(request)
+        }
+    }
+
+    // Appends a request to the crowd, which is made where there is none.
+    #[inline(never)]
+    fn push_behind(&mut self, request: Request) -> Result<(), AllocError>
+        ensures pending { let old = self.old in OnOk result
+            (self.new.pending ≡ old.pending ++ (old.arrived, request) ∷ []) }
+        ensures arrived { OnOk result (self.new.arrived ≡ self.old.arrived + 1) }
+        ensures err { OnErr result (self.new ≡ self.old) }
+    {
+        let request = Box::new(self.alloc, request)?;
+        match &mut self.others {
+            Some(crowd) => crowd.push(request),
+            None => {
+                let mut crowd = Box::new(self.alloc, Crowd::new(self.alloc, self.arrived))?;
+                crowd.push(request)?;
+                self.others = Some(crowd);
+                Ok(())
+            }
         }
     }
 
@@ -91,9 +120,10 @@ impl Queue {
         ensures oldest { let found = oldest labels.now (waiting self.now) in
             result ≡ option_map (λ x. x.0) found }
     {
-        match self.few.first_of(labels) {
-            Some(number) => Some(number),
-            None => self.others.first_of(labels),
+        match (self.few.first_of(labels), &self.others) {
+            (Some(number), _) => Some(number),
+            (None, Some(crowd)) => crowd.first_of(labels),
+            (None, None) => None,
         }
     }
 
@@ -102,9 +132,10 @@ impl Queue {
         ensures oldest { let found = oldest (map label_text labels.now) (waiting self.now) in
             result ≡ option_map (λ x. x.0) found }
     {
-        match self.few.first_labelled(labels) {
-            Some(number) => Some(number),
-            None => self.others.first_labelled(labels),
+        match (self.few.first_labelled(labels), &self.others) {
+            (Some(number), _) => Some(number),
+            (None, Some(crowd)) => crowd.first_labelled(labels),
+            (None, None) => None,
         }
     }
 
@@ -113,9 +144,10 @@ impl Queue {
         ensures oldest { let found = oldest (class_labels class.now) (waiting self.now) in
             result ≡ option_map (λ x. x.0) found }
     {
-        match self.few.first_method(class) {
-            Some(number) => Some(number),
-            None => self.others.first_method(class),
+        match (self.few.first_method(class), &self.others) {
+            (Some(number), _) => Some(number),
+            (None, Some(crowd)) => crowd.first_method(class),
+            (None, None) => None,
         }
     }
 
@@ -128,7 +160,25 @@ impl Queue {
     {
         match self.few.take(number) {
             Some(request) => request,
-            None => self.others.take(number),
+            None => take_behind(&mut self.arrived, &mut self.others, number),
         }
     }
+}
+
+// Removes the request of a number from a crowd, and returns it. A crowd that is empty is let go.
+#[inline(never)]
+fn take_behind(arrived: &mut u64, others: &mut Option<Box<Crowd>>, number: u64) -> Request
+    requires pending { IsSome (request_at number (behind others.old)) }
+    ensures taken { request_at number (behind others.old) ≡ Some result }
+    ensures others { behind others.new ≡ but number (behind others.old) }
+    ensures arrived { arrived_of arrived.new others.new ≡ arrived_of arrived.old others.old }
+{
+    let mut crowd = others.take().unwrap();
+    let request = crowd.take(number);
+    if crowd.len() == 0 {
+        *arrived = crowd.arrived();
+    } else {
+        *others = Some(crowd);
+    }
+    request
 }

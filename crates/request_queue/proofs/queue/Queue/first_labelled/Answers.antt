@@ -1,18 +1,20 @@
-use Rattle.std.proofs.Common.{◌∙◌, map, ap}
+use Rattle.std.proofs.Common.{◌∙◌, map, sym, ap}
 use Rattle.std.specs.Option.{option_map}
 use Rattle.serve_rules.specs.Labels.{label_text}
+use Rattle.request_queue.specs.Led.{behind}
 use Rattle.request_queue.specs.Pending.{QueueView, oldest, waiting}
-use Rattle.request_queue.proofs.FewLemmas.{led_first, led_next}
+use Rattle.request_queue.proofs.FewLemmas.{led_first, led_next, number_in}
 use Rattle.request_queue.proofs.queue.Queue.first_labelled.Goals as goal
 
-pub returns-in-Some : goal.returns-in-Some
-returns-in-Some c = record {
-  oldest = led_first (map label_text c.args.labels.now) c.self.inside.few c.self.inside.others.pending c.in-Some.number c.in-Some.ensures.oldest
+pub returns-in-Some-default : goal.returns-in-Some-default
+returns-in-Some-default c = record {
+  oldest = led_first (map label_text c.args.labels.now) c.self.inside.few (behind c.self.inside.others) c.in-Some-default.number (sym c.in-Some-default.is-0 ∙ c.first_labelled.ensures.oldest)
       ∙ ap (λ (q : QueueView). option_map (λ x. x.0) (oldest (map label_text c.args.labels.now) (waiting q))) c.self.view_is;
 }
 
-pub returns-in-None : goal.returns-in-None
-returns-in-None c = record {
-  oldest = c.first_labelled-in-None.ensures.oldest ∙ led_next (map label_text c.args.labels.now) c.self.inside.few c.self.inside.others.pending c.in-None.ensures.oldest
+pub returns-in-None-Some : goal.returns-in-None-Some
+returns-in-None-Some c = record {
+  oldest = c.first_labelled-in-None-Some.ensures.oldest ∙ ap (λ (q : QueueView). number_in (map label_text c.args.labels.now) q.pending) c.deref.ensures ∙ ap (λ o. number_in (map label_text c.args.labels.now) (behind o)) (sym c.in-None-Some.is-1)
+      ∙ led_next (map label_text c.args.labels.now) c.self.inside.few (behind c.self.inside.others) (sym c.in-None-Some.is-0 ∙ c.first_labelled.ensures.oldest)
       ∙ ap (λ (q : QueueView). option_map (λ x. x.0) (oldest (map label_text c.args.labels.now) (waiting q))) c.self.view_is;
 }
