@@ -9,22 +9,14 @@ ghost use Rattle.std.specs.Prelude.{
   ◌^◌,
   ◌∷◌,
   [],
-  ℕ,
-  IfOk,
   IsSome,
-  None,
   OnErr,
   OnOk,
   Some,
-  cond,
   length,
   map,
 };
-ghost use Rattle.std.specs.BTreeMap.{is_at};
-ghost use Rattle.std.specs.List.Sorted.{IsStrictlySortedBy};
-ghost use Rattle.std.specs.Map.{keys_of, lookup, remove_entry};
 ghost use Rattle.std.specs.Option.{option_map};
-ghost use Rattle.std.specs.Ordering.{nat_cmp};
 ghost use Rattle.serve_rules.specs.Labels.{class_labels, label_text};
 ghost use Rattle.request_queue.specs.Pending.{but, oldest, request_at, waiting};
 
@@ -146,24 +138,8 @@ impl Crowd {
         ensures others { self.new.pending ≡ but number self.old.pending }
         ensures arrived { self.new.arrived ≡ self.old.arrived }
     {
-        let request = take_out(&mut self.pending, number).unwrap();
+        let request = self.pending.remove(&number).unwrap();
         self.notes.forget(&request.label, number);
         Box::into_inner(request)
     }
-}
-
-// Takes out the request of a number. A map that is empty keeps no memory.
-fn take_out(pending: &mut BTreeMap<u64, Box<Request>>, number: u64) -> Option<Box<Request>>
-    ensures value { result ≡ lookup (is_at (nat_cmp number)) pending.old.entries }
-    ensures updates { (k : ℕ) → lookup (is_at (nat_cmp k)) pending.new.entries
-        ≡ cond (is_at (nat_cmp number) k) None (lookup (is_at (nat_cmp k)) pending.old.entries) }
-    ensures entries { let old = pending.old.entries in
-        pending.new.entries ≡ remove_entry (is_at (nat_cmp number)) old }
-    ensures ordered { IsStrictlySortedBy nat_cmp (keys_of pending.new.entries) }
-{
-    let request = pending.remove(&number);
-    if pending.is_empty() {
-        pending.clear();
-    }
-    request
 }

@@ -13,7 +13,7 @@ ghost use Rattle.std.specs.Prelude.{
   map,
   true,
 };
-ghost use Rattle.std.specs.BTreeMap.{Updates, get};
+ghost use Rattle.std.specs.BTreeMap.{get};
 ghost use Rattle.asp_model.specs.declared.word.Label.{Label};
 ghost use Rattle.asp_model.specs.Term.{has_text};
 ghost use Rattle.serve_rules.specs.Labels.{class_labels, label_text};
@@ -95,7 +95,7 @@ impl Notes {
         ensures forgotten { Changes label.now number false self.old self.new }
     {
         if self.is_last(label, number) {
-            take_out(&mut self.numbers, label);
+            self.numbers.remove(label);
         }
     }
 
@@ -219,16 +219,6 @@ pub fn is_one_of(label: &Label, labels: &[Label]) -> bool
         }
     }
     false
-}
-
-// Takes out the numbers of a label. A map that is empty keeps no memory.
-fn take_out(numbers: &mut BTreeMap<Label, BTreeSet<u64>>, label: &Label)
-    ensures updates { Updates label_order numbers.old numbers.new label.now None }
-{
-    numbers.remove(label);
-    if numbers.is_empty() {
-        numbers.clear();
-    }
 }
 
 fn first(numbers: &BTreeSet<u64>) -> Option<u64>

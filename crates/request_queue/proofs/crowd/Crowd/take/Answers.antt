@@ -18,16 +18,16 @@ invariant_of-self c =
     let n = c.args.number in
     let bs = c.self.inside.pending.entries in
     let es = unboxed bs in
-    let new = c.take_out.new.pending.entries in
+    let new = c.remove.new.self.entries in
     let r = c.unwrap-request.result.value in
-    let there : request_at n es ≡ Some r = found_unboxed n bs ∙ ap (option_map (λ b. b.value)) (sym c.take_out.ensures.value ∙ c.unwrap-request.ensures) in
-    let entries : unboxed new ≡ but n es = ap unboxed c.take_out.ensures.entries ∙ removed_unboxed (is_at (nat_cmp n)) bs in
+    let there : request_at n es ≡ Some r = found_unboxed n bs ∙ ap (option_map (λ b. b.value)) (sym c.remove.ensures.value ∙ c.unwrap-request.ensures) in
+    let entries : unboxed new ≡ but n es = ap unboxed c.remove.ensures.entries ∙ removed_unboxed (is_at (nat_cmp n)) bs in
     record {
-      ordered = subst (IsStrictlySortedBy nat_cmp) (sym (keys_unboxed new)) c.take_out.ensures.ordered;
+      ordered = subst (IsStrictlySortedBy nat_cmp) (sym (keys_unboxed new)) c.remove.ensures.ordered;
       below = subst (AreBelow c.self.inside.arrived) (sym entries) (below_less c.self.inside.arrived (is_at (nat_cmp n)) es c.self.invariant.below);
       noted = notes_less c.self.inside.notes c.forget.new.self n r es (unboxed new) there c.self.invariant.noted
           (subst (λ (x : Request). (l : Label) (k : ℕ) → is_noted c.forget.new.self l k ≡ cond (is_that x.label n l k) false (is_noted c.self.inside.notes l k)) c.deref.ensures c.forget.ensures.forgotten)
-          (updated_unboxed bs new (is_at (nat_cmp n)) None c.take_out.ensures.updates);
+          (updated_unboxed bs new (is_at (nat_cmp n)) None c.remove.ensures.updates.0);
     }
 
 pub returns : goal.returns
@@ -35,8 +35,8 @@ returns c =
     let n = c.args.number in
     let bs = c.self.inside.pending.entries in
     let r = c.unwrap-request.result.value in
-    let there : request_at n (unboxed bs) ≡ Some r = found_unboxed n bs ∙ ap (option_map (λ b. b.value)) (sym c.take_out.ensures.value ∙ c.unwrap-request.ensures) in
-    let entries : unboxed c.take_out.new.pending.entries ≡ but n (unboxed bs) = ap unboxed c.take_out.ensures.entries ∙ removed_unboxed (is_at (nat_cmp n)) bs in
+    let there : request_at n (unboxed bs) ≡ Some r = found_unboxed n bs ∙ ap (option_map (λ b. b.value)) (sym c.remove.ensures.value ∙ c.unwrap-request.ensures) in
+    let entries : unboxed c.remove.new.self.entries ≡ but n (unboxed bs) = ap unboxed c.remove.ensures.entries ∙ removed_unboxed (is_at (nat_cmp n)) bs in
     record {
       taken = ap (λ (q : QueueView). request_at n q.pending) (sym c.self.view_is) ∙ there ∙ ap Some (sym c.into_inner.ensures);
       others = entries ∙ ap (λ (q : QueueView). but n q.pending) c.self.view_is;
@@ -48,4 +48,4 @@ unwrap-request-requires c =
     let n = c.args.number in
     let bs = c.self.inside.pending.entries in
     let kept : IsSome (request_at n (unboxed bs)) = subst (λ (q : QueueView). IsSome (request_at n q.pending)) (sym c.self.view_is) c.requires.pending in
-    subst IsSome (sym c.take_out.ensures.value) (some_within (lookup (is_at (nat_cmp n)) bs) (subst IsSome (found_unboxed n bs) kept))
+    subst IsSome (sym c.remove.ensures.value) (some_within (lookup (is_at (nat_cmp n)) bs) (subst IsSome (found_unboxed n bs) kept))
