@@ -56,8 +56,8 @@ fn push_ends(
         ≡ lines.old.items ++ flat_map (end_lines depth o.futures) o.ends) }
 {
     let count = end.outcome.activities.len();
-    // (two lines at least for each activity)
-    lines.reserve(count.saturating_mul(2))?;
+    // (two lines for each activity, and most have at most one output)
+    lines.reserve(count.saturating_mul(3))?;
     for number in 0..count {
         push_end(alloc, lines, end, number, depth)?;
     }
