@@ -23,7 +23,7 @@ use Rattle.journals.specs.Communications.{is_asking}
 use Rattle.journals.specs.Owed.{need_at, need_in, needed_at}
 use Rattle.activity_rows.specs.declared.redex.Redex.{Redex as Told}
 use Rattle.activity_rows.specs.declared.redex.Redex.TheVariants as redex
-use Rattle.activity_rows.specs.Redexes.{IsRedex}
+use Rattle.activity_rows.specs.Redexes.{IsFree, IsRedex}
 use Rattle.program_code.specs.declared.code.Node.{Node}
 use Rattle.coded_cells.specs.Cells as coded
 use Rattle.coded_cells.specs.Cells.{CodedCell, CodedStore, cell_at}
@@ -118,6 +118,12 @@ module _ (chases : FutureShape → Chase) (rs : List RequestShape) (n : Name) (a
 
     at_free : stance_of chases rs n a ≡ stance_by (is_asking (contract a.store r)) (contracts rs n a cs a.store (contract a.store r))
     at_free = at_redex ∙ ap (λ (o : Option ℕ). told o (redex_ready chases a.store r)) none ∙ ap (λ (x : Ready). stance_by (quiet_by r x) (intended rs n a cs r x)) (redex_reads chases a.store r none)
+
+  -- it reads no operand, and contracts
+  pub stance_goes : IsFree r → Goes false ≡ stance_of chases rs n a
+  stance_goes f =
+      let none : first_future a.store operands ≡ None = ap (first_future a.store) (λ i. f.operands i ++ f.members a.store i) in
+      sym (at_free none ∙ ap (λ (c : Contraction). stance_by (is_asking c) (contracts rs n a cs a.store c)) (f.goes a.store).3)
 
   module _ (y : Communication) (is : contract a.store r ≡ Communicates y) where
     none_held : first_future a.store operands ≡ None

@@ -76,28 +76,31 @@ impl Actor {
         ensures code { code_of self.new ≡ code_of self.old }
         ensures given { IfOk result (IsGivenOf (code_of self.old)) }
     {
-        match self.activity.standing()? {
-            Standing::Place(place) => self.end_service(alloc, place),
-            Standing::Redex(redex) => match self.asks(redex) {
-                Asked::Creates(object, service) => {
-                    let service = copied(alloc, service)?;
-                    self.create(alloc, name, object, service)
-                }
-                Asked::Sends(to, label, arguments) => {
-                    let to = to.copy(alloc)?;
-                    let label = label.copy(alloc)?;
-                    let arguments = self.activity.pack(alloc, arguments)?;
-                    self.send(alloc, name, to, label, arguments)
-                }
-                Asked::Serves(labels) => match self.match_of(alloc, labels)? {
-                    Some(number) => self.serve(alloc, number),
-                    None => Ok(Given::Nothing),
-                },
-                Asked::Nothing => {
-                    let strict = strict_of(redex);
-                    self.reduce(alloc, name, futures, strict)
-                }
-            },
+        let redex = match self.activity.standing()? {
+            Standing::Place(place) => return self.end_service(alloc, place),
+            Standing::Redex(redex) => redex,
+        };
+        match self.asks(redex) {
+            Asked::Creates(object, service) => {
+                let service = copied(alloc, service)?;
+                return self.create(alloc, name, object, service);
+            }
+            Asked::Sends(to, label, arguments) => {
+                let to = to.copy(alloc)?;
+                let label = label.copy(alloc)?;
+                let arguments = self.activity.pack(alloc, arguments)?;
+                return self.send(alloc, name, to, label, arguments);
+            }
+            Asked::Serves(labels) => {
+                let Some(number) = self.match_of(alloc, labels)? else {
+                    return Ok(Given::Nothing);
+                };
+                return self.serve(alloc, number);
+            }
+            Asked::Nothing => {
+                let strict = strict_of(redex);
+                return self.reduce(alloc, name, futures, strict);
+            }
         }
     }
 

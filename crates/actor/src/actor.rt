@@ -2,14 +2,11 @@
 
 ghost use Rattle.std.specs.Prelude.{◌≡◌, ◌∷◌, ◌++◌, [], IfOk, List, OnOk, length, map};
 ghost use Rattle.std.specs.Arc.{arc_value};
-ghost use Rattle.std.specs.Option.{option_map};
 ghost use Rattle.asp_model.specs.Configuration as model;
 ghost use Rattle.asp_model.specs.Configuration.{RequestShape, begun};
-ghost use Rattle.asp_model.specs.Intent.{start_term};
-ghost use Rattle.asp_model.specs.Parcel.{unpack as unpack_in};
 ghost use Rattle.asp_model.specs.Shapes.{activity_shape as report_shape, status_shape};
 ghost use Rattle.asp_model.specs.Store.{Object as ObjectCell};
-ghost use Rattle.coded_cells.specs.Shapes.{parcel_shape, store_of};
+ghost use Rattle.coded_cells.specs.Shapes.{store_of};
 ghost use Rattle.program_code.specs.Pieces.{tree};
 ghost use Rattle.program_code.specs.Sound.{root_of};
 ghost use Rattle.program_code.specs.Tables.{piece_at, pieces};
@@ -20,8 +17,7 @@ ghost use Rattle.run_ends.specs.Ends.{IsSnapshotOf};
 ghost use Rattle.actor.specs.Actors.{Stands, code_of};
 
 use activity_step::{Activity, State};
-use asp_model::{ActivityName, ActivityReport, Label, Status};
-use coded_cells::Parcel;
+use asp_model::{ActivityName, ActivityReport, Status};
 use object_store::Store;
 use program_code::Code;
 use request_queue::{Queue, Request};
@@ -43,7 +39,7 @@ pub struct Actor {
 
 impl Actor {
     /// An activity that has received nothing.
-    fn begin(alloc: Global, activity: Activity) -> Actor
+    pub(crate) fn begin(alloc: Global, activity: Activity) -> Actor
         ensures stands { (a : model.Activity) → StandsFor activity a → a.sends ≡ 0 →
             a.creations ≡ 0 → a.served ≡ [] → Stands result a [] }
         ensures code { code_of result ≡ arc_value activity.code }
@@ -68,16 +64,6 @@ impl Actor {
         Ok(Actor::begin(alloc, Activity::main(alloc, code)?))
     }
 
-    /// An activity round the object that a parcel has as its root.
-    pub fn made(alloc: Global, object: Parcel, service: Option<Label>) -> Result<Actor, AllocError>
-        ensures stands { let store = unpack_in [] (parcel_shape object) in
-            let term = start_term (option_map (λ l. l.text) service) 0 in
-            IfOk result (λ x. Stands x (begun term store) []) }
-        ensures code { IfOk result (λ x. code_of x ≡ arc_value object.code) }
-    {
-        Ok(Actor::begin(alloc, Activity::made(alloc, object, service)?))
-    }
-
     /// A request that comes. It is pending behind the others.
     pub fn receive(&mut self, alloc: Global, request: Request) -> Result<(), AllocError>
         requires code { arc_value request.arguments.code ≡ code_of self.old }
@@ -86,7 +72,7 @@ impl Actor {
         ensures code { code_of self.new ≡ code_of self.old }
     {
         let sender = request.sender.copy(alloc)?;
-        self.senders.push(sender)?;
+        push_sender(&mut self.senders, sender)?;
         self.queue.push(request)?;
         Ok(())
     }
@@ -156,4 +142,16 @@ impl Actor {
         };
         (report, end)
     }
+}
+
+/// A name more. The first takes no more room than it needs, since most activities receive one
+/// request.
+fn push_sender(senders: &mut Vec<ActivityName>, sender: ActivityName) -> Result<(), AllocError>
+    ensures items { OnOk result (senders.new.items ≡ senders.old.items ++ sender ∷ []) }
+{
+    if senders.is_empty() {
+        senders.reserve_exact(1)?;
+    }
+    senders.push(sender)?;
+    Ok(())
 }

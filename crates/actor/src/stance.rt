@@ -94,6 +94,26 @@ impl Actor {
             Stands self.now a rs → let chases = chase (values_of futures.now) in
             IfOk result (λ x. stance_shape x ≡ stance_of chases rs n a) }
     {
+        match redex {
+            Redex::Goes => Ok(Stance::Contracts),
+            _ => self.asking_stance(alloc, futures, redex),
+        }
+    }
+
+    /// Where it stands at a redex that may ask something of others, or read an operand.
+    fn asking_stance<'a>(
+        &'a self,
+        alloc: Global,
+        futures: &'a FutureTable,
+        redex: Redex<'a>,
+    ) -> Result<Stance<'a>, AllocError>
+        requires closed { IsClosedFor self.now }
+        requires values { AreClosedValues (values_of futures.now) }
+        requires stands { (a : model.Activity) → StandsFor self.now.activity a → IsAt a redex }
+        ensures stance { (a : model.Activity) (rs : List RequestShape) (n : Name) →
+            Stands self.now a rs → let chases = chase (values_of futures.now) in
+            IfOk result (λ x. stance_shape x ≡ stance_of chases rs n a) }
+    {
         match self.asks(redex) {
             Asked::Creates(_object, _service) => Ok(Stance::Communicates),
             Asked::Sends(_to, _label, _arguments) => Ok(Stance::Communicates),

@@ -47,8 +47,8 @@ serve-requires-clause-pending c =
     let m = matched x.queue.pending wanted a.served h.received c.in-Some.number h.stands.queue.pending (sym c.in-Some.is ∙ c.in_ok-number-in-Serves.ensures.oldest a h.received h.stands) in
     is_there request_shape _ m.request m.there
 
-pub returns-in_ok-service-in-Creates-clause-acts : goal.returns-in_ok-service-in-Creates-clause-acts
-returns-in_ok-service-in-Creates-clause-acts c = λ a rs h.
+pub returns-in-Creates-clause-acts : goal.returns-in-Creates-clause-acts
+returns-in-Creates-clause-acts c = λ a rs h.
     let n : Name = c.args.name.now in
     let new : Actor = c.create.new.self in
     let object : ℕ = c.in-Creates.object in
@@ -58,8 +58,8 @@ returns-in_ok-service-in-Creates-clause-acts c = λ a rs h.
     let done = subst (λ (l : Option Text). IfOk c.create.result (IsDoneBy (creates n a at.contexts a.store object l) rs new)) c.in_ok-service-in-Creates.ensures (c.create.ensures.done a rs at.contexts at.redex h at.splits) in
     subst (λ (i : Intent). IfOk c.create.result (IsDoneBy i rs new)) (sym (intent_asks chases rs n a at.contexts at.redex at.splits (Creates object (lent_text c.in-Creates.service)) is)) done
 
-pub returns-in_ok-arguments-in-Sends-clause-acts : goal.returns-in_ok-arguments-in-Sends-clause-acts
-returns-in_ok-arguments-in-Sends-clause-acts c = λ a rs h.
+pub returns-in-Sends-clause-acts : goal.returns-in-Sends-clause-acts
+returns-in-Sends-clause-acts c = λ a rs h.
     let n : Name = c.args.name.now in
     let new : Actor = c.send.new.self in
     let to = c.in-Sends.to.now in
@@ -73,8 +73,8 @@ returns-in_ok-arguments-in-Sends-clause-acts c = λ a rs h.
     let labelled = subst (λ (m : Text). IfOk c.send.result (IsDoneBy (sends n a at.contexts a.store to m ks) rs new)) c.in_ok-label-in-Sends.ensures.label named in
     subst (λ (i : Intent). IfOk c.send.result (IsDoneBy i rs new)) (sym (intent_asks chases rs n a at.contexts at.redex at.splits (Sends to l ks) is)) labelled
 
-pub returns-in-Some-clause-acts : goal.returns-in-Some-clause-acts
-returns-in-Some-clause-acts c = λ a rs h.
+pub returns-in-Serves-clause-acts : goal.returns-in-Serves-clause-acts
+returns-in-Serves-clause-acts c = λ a rs h.
     let n : Name = c.args.name.now in
     let new : Actor = c.serve.new.self in
     let texts = map label_text c.in-Serves.labels.now in
@@ -85,8 +85,8 @@ returns-in-Some-clause-acts c = λ a rs h.
     let done = c.serve.ensures.done a rs at.contexts at.redex wanted h at.splits (sym c.in-Some.is ∙ c.in_ok-number-in-Serves.ensures.oldest a rs h) in
     subst (λ (i : Intent). IfOk c.serve.result (IsDoneBy i rs new)) (sym (intent_asks chases rs n a at.contexts at.redex at.splits (Serves texts) is)) done
 
-pub returns-in-None-clause-acts : goal.returns-in-None-clause-acts
-returns-in-None-clause-acts c = λ a rs h.
+pub returns-in_default-clause-acts : goal.returns-in_default-clause-acts
+returns-in_default-clause-acts c = λ a rs h.
     let n : Name = c.args.name.now in
     let old : Actor = c.args.self.now in
     let texts = map label_text c.in-Serves.labels.now in
@@ -94,6 +94,6 @@ returns-in-None-clause-acts c = λ a rs h.
     let chases : FutureShape → Chase = chase (values_of c.args.futures.now) in
     let at : IsAt a c.in-Redex.redex = is_at a c.in_ok-place.field-0 c.in-Redex.redex c.in-Redex.is (c.in_ok-place.ensures.standing a h.activity) in
     let is = subst (λ (k : Asked). IsAsked (asked_shape k) (contract a.store at.redex)) c.in-Serves.is (c.asks.ensures.asked a at.contexts at.redex h.activity at.splits) in
-    let none : oldest_match wanted a.served 0 rs ≡ None = is_none (oldest_match wanted a.served 0 rs) (sym c.in-None.is ∙ c.in_ok-number-in-Serves.ensures.oldest a rs h) in
+    let none : oldest_match wanted a.served 0 rs ≡ None = is_none (oldest_match wanted a.served 0 rs) (sym c.in_default.is ∙ c.in_ok-number-in-Serves.ensures.oldest a rs h) in
     let done = subst (λ (o : Option Numbered). IsDoneBy (serves a at.contexts o) rs old given.Nothing) (sym none) tt in
     subst (λ (i : Intent). IsDoneBy i rs old given.Nothing) (sym (intent_asks chases rs n a at.contexts at.redex at.splits (Serves texts) is)) done

@@ -15,8 +15,8 @@ returns-clause-stands c = λ a rs h.
     let q = h.queue in
     let n : ℕ = x.queue.arrived in
     let es : Entries = x.queue.pending in
-    let pending : c.push-2.new.self.pending ≡ es ++ (n, r) ∷ [] = c.in_ok-push-2.ensures.pending in
-    let arrived : c.push-2.new.self.arrived ≡ n + 1 = c.in_ok-push-2.ensures.arrived in
+    let pending : c.push.new.self.pending ≡ es ++ (n, r) ∷ [] = c.in_ok-push.ensures.pending in
+    let arrived : c.push.new.self.arrived ≡ n + 1 = c.in_ok-push.ensures.arrived in
     let size : length (rs ++ request_shape r ∷ []) ≡ length rs + 1 = length-append rs (request_shape r ∷ []) in
     let sender : c.in_ok-sender.sender ≡ r.sender = c.in_ok-sender.ensures.name in
     record {
@@ -26,7 +26,7 @@ returns-clause-stands c = λ a rs h.
       queue = record {
         pending = ap (map numbered) pending ∙ entries_more es n r a.served rs q.pending q.below q.arrived;
         arrived = omega (arith, arrived, q.arrived, size);
-        senders = c.in_ok-push.ensures.items ∙ (λ i. q.senders i ++ sender i ∷ []) ∙ sym (map-append (λ (s : RequestShape). s.sender) rs (request_shape r ∷ []));
+        senders = c.in_ok-push_sender.ensures.items ∙ (λ i. q.senders i ++ sender i ∷ []) ∙ sym (map-append (λ (s : RequestShape). s.sender) rs (request_shape r ∷ []));
         below = below_one_more a.served rs (request_shape r) q.below;
         coded = subst (AreCoded (code_of x)) (sym pending) (all_more _ es (n, r) q.coded c.requires.code);
       };
