@@ -57,25 +57,6 @@ impl Actor {
         ensures given { IfOk result (IsGivenOf (code_of self.old)) }
     {
         self.settle()?;
-        self.go_on(alloc, name, futures)
-    }
-
-    /// The reduction, once the activity has settled.
-    fn go_on(
-        &mut self,
-        alloc: Global,
-        name: &ActivityName,
-        futures: &FutureTable,
-    ) -> Result<Given, AllocError>
-        requires closed { IsClosedFor self.old }
-        requires values { AreClosedValues (values_of futures.now) }
-        requires code { AreOfCode (code_of self.old) futures.now }
-        ensures acts { (a : model.Activity) (rs : List RequestShape) → Stands self.old a rs →
-            let intended = intent (chase (values_of futures.now)) rs name.now a in
-            IfOk result (IsDoneBy intended rs self.new) }
-        ensures code { code_of self.new ≡ code_of self.old }
-        ensures given { IfOk result (IsGivenOf (code_of self.old)) }
-    {
         let redex = match self.activity.standing()? {
             Standing::Place(place) => return self.end_service(alloc, place),
             Standing::Redex(redex) => redex,

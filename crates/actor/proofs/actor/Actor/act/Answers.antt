@@ -1,6 +1,7 @@
-use Rattle.std.proofs.Common.{◌≡◌, ◌<◌, ◌∙◌, ℕ, IfOk, Option, None, map, sym, subst}
+use Rattle.std.proofs.Common.{◌≡◌, ◌<◌, List, ◌∙◌, ℕ, IfOk, Option, None, map, sym, subst}
 use Rattle.asp_model.specs.Chase.{Chase, chase}
 use Rattle.asp_model.specs.Configuration as model
+use Rattle.asp_model.specs.Configuration.{RequestShape}
 use Rattle.asp_model.specs.Contraction.{Creates, Sends, Serves, contract}
 use Rattle.asp_model.specs.Intent.{Intent, Numbered, creates, labels_served, oldest_match, sends, serves}
 use Rattle.asp_model.specs.Names.{FutureShape, Name, Text}
@@ -12,7 +13,7 @@ use Rattle.serve_rules.specs.Labels.{label_text}
 use Rattle.actor.specs.declared.actor.Actor.{Actor}
 use Rattle.actor.specs.declared.act.Given.TheVariants as given
 use Rattle.actor.specs.declared.asked.Asked.{Asked}
-use Rattle.actor.specs.Actors.{IsClosedFor}
+use Rattle.actor.specs.Actors.{IsClosedFor, Stands}
 use Rattle.actor.specs.Asking.{IsAsked, asked_shape, lent_text}
 use Rattle.actor.specs.Effects.{IsDoneBy}
 use Rattle.actor.proofs.FetchLemmas.{place_below}
@@ -21,12 +22,16 @@ use Rattle.actor.proofs.MatchLemmas.{is_none, is_there, matched}
 use Rattle.actor.proofs.RedexLemmas.{is_at, is_place}
 use Rattle.actor.proofs.StanceLemmas.{intent_asks}
 use Rattle.actor.proofs.StandLemmas.{size}
-use Rattle.actor.proofs.actor.Actor.go_on.Goals as goal
+use Rattle.actor.proofs.actor.Actor.act.Goals as goal
+
+-- it is closed once it has settled
+settled : (x y : Actor) (h : IsClosedFor x) → ((a : model.Activity) (rs : List RequestShape) → Stands x a rs → Stands y a rs) → IsClosedFor y
+settled x y h keeps = record { activity = h.activity; received = h.received; stands = keeps h.activity h.received h.stands; closed = h.closed; arguments = h.arguments }
 
 pub end_service-requires-clause-within : goal.end_service-requires-clause-within
 end_service-requires-clause-within c =
-    let x : Actor = c.args.self.now in
-    let h : IsClosedFor x = c.requires.closed in
+    let x : Actor = c.settle.new.self in
+    let h : IsClosedFor x = settled c.args.self.now x c.requires.closed (λ a rs g. c.in_ok-settle.ensures.stands a rs g) in
     let p : ℕ = c.in-Place.place in
     let at = is_place h.activity c.in_ok-place.field-0 p c.in-Place.is (c.in_ok-place.ensures.standing h.activity h.stands.activity) in
     subst (λ (n : ℕ). p < n) (size x h.activity h.received h.stands) (place_below h.activity p h.closed at)
@@ -40,15 +45,16 @@ asks-requires-clause-stands c = λ a h. is_at a c.in_ok-place.field-0 c.in-Redex
 
 pub serve-requires-clause-pending : goal.serve-requires-clause-pending
 serve-requires-clause-pending c =
-    let x : Actor = c.args.self.now in
-    let h : IsClosedFor x = c.requires.closed in
+    let x : Actor = c.settle.new.self in
+    let h : IsClosedFor x = settled c.args.self.now x c.requires.closed (λ a rs g. c.in_ok-settle.ensures.stands a rs g) in
     let a : model.Activity = h.activity in
     let wanted = labels_served (map label_text c.in-Serves.labels.now) (cell a.store a.active) in
     let m = matched x.queue.pending wanted a.served h.received c.in-Some.number h.stands.queue.pending (sym c.in-Some.is ∙ c.in_ok-number-in-Serves.ensures.oldest a h.received h.stands) in
     is_there request_shape _ m.request m.there
 
 pub returns-in-Creates-clause-acts : goal.returns-in-Creates-clause-acts
-returns-in-Creates-clause-acts c = λ a rs h.
+returns-in-Creates-clause-acts c = λ a rs was.
+    let h : Stands c.settle.new.self a rs = c.in_ok-settle.ensures.stands a rs was in
     let n : Name = c.args.name.now in
     let new : Actor = c.create.new.self in
     let object : ℕ = c.in-Creates.object in
@@ -59,7 +65,8 @@ returns-in-Creates-clause-acts c = λ a rs h.
     subst (λ (i : Intent). IfOk c.create.result (IsDoneBy i rs new)) (sym (intent_asks chases rs n a at.contexts at.redex at.splits (Creates object (lent_text c.in-Creates.service)) is)) done
 
 pub returns-in-Sends-clause-acts : goal.returns-in-Sends-clause-acts
-returns-in-Sends-clause-acts c = λ a rs h.
+returns-in-Sends-clause-acts c = λ a rs was.
+    let h : Stands c.settle.new.self a rs = c.in_ok-settle.ensures.stands a rs was in
     let n : Name = c.args.name.now in
     let new : Actor = c.send.new.self in
     let to = c.in-Sends.to.now in
@@ -74,7 +81,8 @@ returns-in-Sends-clause-acts c = λ a rs h.
     subst (λ (i : Intent). IfOk c.send.result (IsDoneBy i rs new)) (sym (intent_asks chases rs n a at.contexts at.redex at.splits (Sends to l ks) is)) labelled
 
 pub returns-in-Serves-clause-acts : goal.returns-in-Serves-clause-acts
-returns-in-Serves-clause-acts c = λ a rs h.
+returns-in-Serves-clause-acts c = λ a rs was.
+    let h : Stands c.settle.new.self a rs = c.in_ok-settle.ensures.stands a rs was in
     let n : Name = c.args.name.now in
     let new : Actor = c.serve.new.self in
     let texts = map label_text c.in-Serves.labels.now in
@@ -86,9 +94,10 @@ returns-in-Serves-clause-acts c = λ a rs h.
     subst (λ (i : Intent). IfOk c.serve.result (IsDoneBy i rs new)) (sym (intent_asks chases rs n a at.contexts at.redex at.splits (Serves texts) is)) done
 
 pub returns-in_default-clause-acts : goal.returns-in_default-clause-acts
-returns-in_default-clause-acts c = λ a rs h.
+returns-in_default-clause-acts c = λ a rs was.
+    let h : Stands c.settle.new.self a rs = c.in_ok-settle.ensures.stands a rs was in
     let n : Name = c.args.name.now in
-    let old : Actor = c.args.self.now in
+    let old : Actor = c.settle.new.self in
     let texts = map label_text c.in-Serves.labels.now in
     let wanted = labels_served texts (cell a.store a.active) in
     let chases : FutureShape → Chase = chase (values_of c.args.futures.now) in
