@@ -1,6 +1,6 @@
 //! An activity that comes in with one reduction more.
 
-ghost use Rattle.std.specs.Prelude.{◌≡◌, IfOk, List, ℕ};
+ghost use Rattle.std.specs.Prelude.{◌≡◌, List, OnOk, ℕ};
 ghost use Rattle.asp_model.specs.History.{HistoryShape};
 ghost use Rattle.asp_model.specs.Intent.{Effect};
 ghost use Rattle.asp_model.specs.Names.{Name};
@@ -15,24 +15,26 @@ use core_state::CoreState;
 use std::alloc::AllocError;
 
 /// An activity whose lease comes back does the communication at which it stands, and comes in. What
-/// that gives is answered: nobody has it yet.
+/// that gives goes where the caller says: nobody has it yet, and it is moved once.
 pub fn bring_in(
     state: &mut CoreState,
     number: u32,
     name: &ActivityName,
     mut actor: Box<Actor>,
-) -> Result<Given, AllocError>
+    given: &mut Given,
+) -> Result<(), AllocError>
     requires coming { IsComing state.old number actor.value }
     ensures giving { (h : HistoryShape) (code : List NodeShape) (s : RunShape) (n : Name)
         (grant : ℕ) (reductions : ℕ) (e : Effect) → name.now ≡ n →
         (r : IsActing h code state.old s number n grant reductions actor.value e) →
         let end = r.returning.end in
-        IfOk result (IsGivingFrom h code state.new s number n grant reductions e end) }
+        let giving = IsGivingFrom h code state.new s number n grant reductions e end in
+        OnOk result (giving given.new) }
     ensures journal { state.new.journal ≡ state.old.journal }
 {
     let here = actor.as_mut();
-    let given = here.act(state.alloc, name, &state.futures)?;
+    *given = here.act(state.alloc, name, &state.futures)?;
     here.settle()?;
     let _came = state.seats.put(number, actor);
-    Ok(given)
+    Ok(())
 }

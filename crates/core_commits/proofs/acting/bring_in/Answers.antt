@@ -37,7 +37,7 @@ returns-clause-giving c = λ h code s n grant reductions e same acting.
     let r = acting.returning in
     let taken = acting.taken in
     let left = s.left + (grant - reductions) in
-    let g = c.in_ok-given.given in
+    let g = c.in_ok-given.field-0 in
     let y : CoreState = record { alloc = x.alloc; seats = c.put-came.new.self; ranks = x.ranks; futures = x.futures; journal = x.journal; left = x.left; bursts = x.bursts } in
     let rs = requests_of s.configuration n in
     let coded = ap code_of c.as_mut-here.ensures.value ∙ r.coded in
