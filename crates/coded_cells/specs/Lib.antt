@@ -1,3 +1,4 @@
+pub mod Roots
 pub mod Cells
 pub mod Shapes
 pub mod Fits

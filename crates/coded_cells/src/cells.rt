@@ -1,8 +1,8 @@
 //! Cells, and deep copies of cells.
 
+use crate::roots::Roots;
 use asp_model::{ActivityName, FutureName};
 use program_code::Code;
-use smallvec::SmallVec;
 use std::mem::size_of;
 use std::sync::Arc;
 
@@ -38,6 +38,5 @@ const _: () = prove!(size_of::<Cell>() == 16);
 pub struct Parcel {
     pub code: Arc<Code>,
     pub cells: Vec<Cell>,
-    /// Two of them need no memory of their own.
-    pub roots: SmallVec<Place, 2>,
+    pub roots: Roots,
 }

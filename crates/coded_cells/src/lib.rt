@@ -2,5 +2,7 @@
 #![tactic(auto)]
 
 mod cells;
+mod roots;
 
 pub use cells::{Cell, Object, Parcel, Place};
+pub use roots::Roots;

@@ -16,9 +16,8 @@ ghost use Rattle.program_code.specs.Sound.{IsSound};
 
 use crate::moves::Moves;
 use asp_model::{ActivityName, FutureName};
-use coded_cells::{Cell, Object, Place};
+use coded_cells::{Cell, Object, Place, Roots};
 use program_code::Code;
-use smallvec::SmallVec;
 use std::alloc::{AllocError, Global};
 use std::sync::Arc;
 
@@ -58,18 +57,14 @@ pub fn moved_places(
 }
 
 /// The roots of a parcel, each moved.
-pub fn moved_roots(
-    alloc: Global,
-    moves: &Moves,
-    roots: &[Place],
-) -> Result<SmallVec<Place, 2>, AllocError>
+pub fn moved_roots(alloc: Global, moves: &Moves, roots: &[Place]) -> Result<Roots, AllocError>
     ensures { IfOk result (λ r. r.items ≡ map (move_of moves.now) roots.now) }
 {
-    let mut copies = SmallVec::new(alloc);
-    for root in roots {
-        copies.push(moves.moved(*root))?;
+    if let [root] = roots {
+        return Ok(Roots::one(moves.moved(*root)));
     }
-    Ok(copies)
+    let roots = moved_places(alloc, moves, roots)?;
+    Ok(Roots::of(roots))
 }
 
 fn moved_object(alloc: Global, moves: &Moves, object: &Object) -> Result<Cell, AllocError>

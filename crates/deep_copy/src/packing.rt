@@ -16,10 +16,9 @@ ghost use Rattle.program_code.specs.Sound.{IsSound};
 use crate::copied::{code_is_sound, moved_cell, moved_roots};
 use crate::moves::Moves;
 use crate::visiting::{visit_few, visit_order};
-use coded_cells::{Cell, Object, Parcel, Place};
+use coded_cells::{Cell, Object, Parcel, Place, Roots};
 use object_store::Store;
 use program_code::Code;
-use smallvec::SmallVec;
 use std::alloc::{AllocError, Global};
 use std::sync::Arc;
 
@@ -151,10 +150,12 @@ fn pack_leaf(alloc: Global, code: &Arc<Code>, cell: &Cell) -> Result<Parcel, All
 {
     let mut cells = Vec::with_capacity(alloc, room_for(cell))?;
     cells.push(moved_cell(alloc, &Moves::Up(0), cell)?)?;
-    let mut roots = SmallVec::new(alloc);
-    roots.push(0)?;
     let code = Arc::try_clone(code)?;
-    Ok(Parcel { code, cells, roots })
+    Ok(Parcel {
+        code,
+        cells,
+        roots: Roots::one(0),
+    })
 }
 
 fn room_for(leaf: &Cell) -> usize {

@@ -47,7 +47,7 @@ pub fn unpack(alloc: Global, store: &mut Store, parcel: &Parcel) -> Result<Vec<P
 {
     code_is_sound(&parcel.code);
     let moves = Moves::Up(store.len());
-    let roots = moved_places(alloc, &moves, &parcel.roots)?;
+    let roots = moved_places(alloc, &moves, parcel.roots.as_slice())?;
     append_moved(alloc, store, &moves, &parcel.cells)?;
     Ok(roots)
 }
