@@ -73,7 +73,8 @@ impl Actor {
         }
     }
 
-    /// A new activity gets a copy of the object, and this one a reference to it.
+    /// A new activity gets a copy of the object, and this one a reference to it. The new one is large,
+    /// so that its making is told from a failure where it stands (`?` would move it once more).
     pub(crate) fn create(
         &mut self,
         alloc: Global,
@@ -93,8 +94,12 @@ impl Actor {
         let number = next_number(self.creations)?;
         let created = name.created(alloc, number)?;
         let parcel = self.activity.pack(alloc, &[object])?;
-        let begun = Activity::made(alloc, parcel, service)?;
-        let made = Box::new(alloc, Actor::begin(alloc, begun))?;
+        let Ok(begun) = Activity::made(alloc, parcel, service) else {
+            return Err(AllocError);
+        };
+        let Ok(made) = Box::new(alloc, Actor::begin(alloc, begun)) else {
+            return Err(AllocError);
+        };
         self.clear = 0;
         self.activity.created(alloc, created.copy(alloc)?)?;
         self.creations = number;

@@ -22,8 +22,8 @@ returns-clause-done c = λ a rs cs r h e.
     let counted : c.in_ok-number.number ≡ suc a.creations = c.in_ok-number.ensures ∙ ap suc h.creations in
     let name : c.in_ok-created.created ≡ created_name n (suc a.creations) = c.in_ok-created.ensures.name ∙ ap (created_name n) counted in
     let for : StandsFor y (with_new_cell cs (Reference (created_name n (suc a.creations))) a) = subst (λ (m : Name). StandsFor y (with_new_cell cs (Reference m) a)) (c.in_ok-copy.ensures.name ∙ name) (c.in_ok-created-2.ensures.becomes a cs r h.activity e) in
-    let begins = subst (λ (p : ParcelShape). Stands (c.begin.result) (begun (start_term (service_text c.args.service) 0) (unpack [] p)) []) (c.in_ok-parcel.ensures.parcel a h.activity) (c.begin.ensures.stands (begun (start_term (service_text c.args.service) 0) (unpack [] (parcel_shape c.in_ok-parcel.parcel))) c.in_ok-begun.ensures.stands refl refl refl) in
-    let boxed = subst (λ (x : Actor). Stands x (begun (start_term (service_text c.args.service) 0) (unpack [] (parcel_of a.store (c.args.object ∷ [])))) []) (sym c.in_ok-made.ensures.ok) begins in (
+    let begins = subst (λ (p : ParcelShape). Stands (c.begin.result) (begun (start_term (service_text c.args.service) 0) (unpack [] p)) []) (c.in_ok-parcel.ensures.parcel a h.activity) (c.begin.ensures.stands (begun (start_term (service_text c.args.service) 0) (unpack [] (parcel_shape c.in_ok-parcel.parcel))) c.in-Ok.ensures.stands refl refl refl) in
+    let boxed = subst (λ (x : Actor). Stands x (begun (start_term (service_text c.args.service) 0) (unpack [] (parcel_of a.store (c.args.object ∷ [])))) []) (sym c.in-Ok-new.ensures.ok) begins in (
       record {
         activity = record { state = for.state; present = for.present; active = for.active; count = for.count };
         sends = h.sends;
