@@ -125,15 +125,17 @@ impl Actor {
     {
         let number = next_number(self.sends)?;
         let future = future_named(alloc, name, number)?;
-        let request = Request {
-            label,
-            arguments,
-            future: future.copy(alloc)?,
-            sender: name.copy(alloc)?,
-        };
+        let answer = future.copy(alloc)?;
+        let sender = name.copy(alloc)?;
         self.clear = 0;
         self.activity.sent(alloc, future)?;
         self.sends = number;
+        let request = Request {
+            label,
+            arguments,
+            future: answer,
+            sender,
+        };
         Ok(Given::Sent(to, request))
     }
 
@@ -149,13 +151,12 @@ impl Actor {
         ensures code { code_of self.new ≡ code_of self.old }
         ensures given { IfOk result (IsGivenOf (code_of self.old)) }
     {
-        let request = self.queue.take(number);
         let Request {
             label,
             arguments,
             future,
             sender: _,
-        } = request;
+        } = self.queue.take(number);
         self.clear = 0;
         self.activity.serves(alloc, label, future, &arguments)?;
         Ok(Given::Nothing)

@@ -19,7 +19,7 @@ returns-clause-done c = λ a rs cs r places h e is.
     let z : Actor = record x { activity = y; sends = c.in_ok-number.number; clear = 0 } in
     let counted : c.in_ok-number.number ≡ suc a.sends = c.in_ok-number.ensures ∙ ap suc h.sends in
     let named : future_shape c.in_ok-future.future ≡ record { by = n; index = suc a.sends } = c.in_ok-future.ensures.name ∙ (λ i. record { by = n; index = counted i }) in
-    let copied : future_shape c.in_ok-copy.field-0 ≡ record { by = n; index = suc a.sends } = ap (λ (f : FutureName). future_shape f) c.in_ok-copy.ensures.name ∙ named in
+    let copied : future_shape c.in_ok-answer.answer ≡ record { by = n; index = suc a.sends } = ap (λ (f : FutureName). future_shape f) c.in_ok-answer.ensures.name ∙ named in
     let b : model.Activity = with_new_cell cs (Future (record { by = n; index = suc a.sends })) a in
     let for : StandsFor y b = subst (λ (f : FutureShape). StandsFor y (with_new_cell cs (Future f) a)) named (c.in_ok-sent.ensures.becomes a cs r h.activity e) in (
       record {
@@ -29,5 +29,5 @@ returns-clause-done c = λ a rs cs r places h e is.
         queue = queue_to x z a.served rs (record { pending = refl; arrived = refl; senders = refl; code = c.in_ok-sent.ensures.code }) h.queue;
         clear = first_clear b;
       },
-      ((λ i. Some (c.args.to, record { label = c.args.label.text; sender = sym c.in_ok-copy-2.ensures.name i; future = sym copied i; arguments = sym is i })), refl, refl),
+      ((λ i. Some (c.args.to, record { label = c.args.label.text; sender = sym c.in_ok-sender.ensures.name i; future = sym copied i; arguments = sym is i })), refl, refl),
     )
