@@ -15,16 +15,21 @@ use Rattle.chase_laws.proofs.ChaseLemmas.{chase_finds}
 use Rattle.laws.proofs.DeliveryLemmas.{edge_done, need_done}
 use Rattle.chase_laws.proofs.FutureLemmas.{none_true}
 use Rattle.program_code.specs.declared.code.Node.{Node}
+use Rattle.future_update.specs.declared.edge.EdgeNames.{EdgeNames}
 use Rattle.future_update.specs.Holders.{HoldersView}
+use Rattle.future_update.specs.Names.{delivery_along, edge_named}
 use Rattle.edge_laws.proofs.RunLemmas.{holders_are_of_runs}
 use Rattle.verdict_laws.specs.Owed.{IsNeed}
 use Rattle.verdict_laws.proofs.OwedLemmas.{edges_are_first, edges_are_next, needs_are_first}
 use Rattle.rank_laws.specs.Runs.{rank_of_number}
+use Rattle.activity_ranks.specs.Numbers.{IsFirst, has_number}
 use Rattle.activity_ranks.specs.Ranks.{has_need}
 use Rattle.core_state.specs.declared.state.CoreState.{CoreState}
 use Rattle.core_deliveries.specs.Due.{AreOfRun}
 use Rattle.core_deliveries.proofs.DueLemmas.{owed_may_be_delivered}
+use Rattle.core_deliveries.proofs.NextLemmas.{is_need, owing}
 use Rattle.core_edges.specs.Deliveries.{future_of}
+use Rattle.core_edges.specs.Due.{IsDue}
 use Rattle.asp_core.specs.Calls.{MayDeliver}
 use Rattle.asp_core.specs.Delivering.{IsDueDelivery}
 use Rattle.asp_core.specs.Runs.{Stand}
@@ -80,6 +85,23 @@ module _ (h : HistoryShape) (code : List Node) (s : RunShape) (x : CoreState) (v
       edges_are_next s v.holders v.answers (numbered h code s x v st) none
       ∙ (edges_are_first s v.holders v.answers).found due.0 due.1 due.3 (sym (so due.0) ∙ due.2.1) (λ i lt. sym (so i) ∙ due.2.2 i (omega arith) lt)
       ∙ ap Some (sym due.4)
+
+  -- Nothing owed
+
+  -- who has a need is owed a value
+  pub needy_owed : (k : ℕ) → IsFirst x.ranks.needy.keys (Some k) → is_some owed ≡ true
+  needy_owed k first =
+      let o = owing s k (sym (st.core.ranks k).needy ∙ first.0) in
+      ap is_some (need_owed k o.name o.need (is_need s k o) (λ j lt. sym (st.core.ranks j).needy ∙ before j lt (has_number j x.ranks.needy.keys) refl))
+    where
+      before : (j : ℕ) → j < k → (b : Bool) → has_number j x.ranks.needy.keys ≡ b → b ≡ false
+      before j lt true has = absurd (omega (arith, lt, first.1 j has))
+      before j lt false has = refl
+
+  -- where nobody has a need, the edge that is due tells it
+  pub due_told : (o : Option EdgeNames) → ((k : ℕ) → has_need (rank_of_number s k) ≡ false) → IsDue v o → is_some owed ≡ is_some o
+  due_told None none due = ap is_some (due_owed None none due)
+  due_told (Some e) none due = ap is_some (due_owed (Some (delivery_along (edge_named e))) none (due.place, edge_named e, due.first, due.edge, refl))
 
   pub owed_may : (o : Option Delivery) → option_map delivery_shape o ≡ owed → IfSome o (λ d. MayDeliver s (delivery_shape d))
   owed_may None is = tt

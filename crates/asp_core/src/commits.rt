@@ -88,7 +88,8 @@ fn act<P: UpdatePolicy>(
         (entries_in state.new.journal ≡ entries_in state.old.journal) }
 {
     let name = state.seats.name(number).copy(state.alloc)?;
-    let given = bring_in(state, number, &name, actor)?;
+    let mut given = Given::Nothing;
+    bring_in(state, number, &name, actor, &mut given)?;
     tell(state.alloc, edges, &name, &given)?;
     come_in(state, number, grant, reductions, given)
 }

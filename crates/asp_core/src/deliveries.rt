@@ -12,6 +12,7 @@ ghost use Rattle.std.specs.Prelude.{
   alloc_error,
   false,
   is_some,
+  not,
   slice_get,
   true,
 };
@@ -147,7 +148,29 @@ fn hand<P: UpdatePolicy>(
     deliver(state, delivery)
 }
 
+/// Whether nothing is owed to an activity that is in: nobody has a need, and no edge is due.
+fn owes_nothing<P: UpdatePolicy>(state: &CoreState, edges: &Edges<P>) -> bool
+    ensures nothing { (h : HistoryShape) (code : List NodeShape) (s : RunShape) →
+        Stand h code s state.now edges.now.holders →
+        let owed = next_owed s edges.now.holders.holders edges.now.holders.answers in
+        is_some owed ≡ not result }
+{
+    match state.ranks.first_needy() {
+        Some(_) => false,
+        None => edges.next_due().is_none(),
+    }
+}
+
 impl<P: UpdatePolicy> Core<P> {
+    /// Whether `next_owed` would answer nothing. It takes no memory.
+    pub fn owes_nothing(&self) -> bool
+        requires kept { IsKept self.now }
+        ensures nothing { (s : RunShape) → IsRun self.now s →
+            is_some (owed_next self.now s) ≡ not result }
+    {
+        owes_nothing(&self.state, &self.edges)
+    }
+
     /// What is owed next to an activity that is in: needs before edges, that of the least number
     /// first, then the edge that was entered first.
     pub fn next_owed(&mut self) -> Result<Option<Delivery>, AllocError>

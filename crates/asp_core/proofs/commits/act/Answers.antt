@@ -24,15 +24,15 @@ tell-requires g c =
     let r = c.requires.acting in
     let k = c.args.number in
     let same = c.in_ok-name.ensures.name ∙ acting_name r.0 r.1 r.2 c.args.state.now k r.3 c.args.grant c.args.reductions c.args.actor.value r.4 r.7 c.name.result.now c.name.ensures.name in
-    let given = c.in_ok-given.ensures.giving r.0 r.1 r.2 r.3 c.args.grant c.args.reductions r.4 same r.7 in
-    let new = is_new_given r.0 r.1 r.2 r.5 c.args.edges.now.holders r.6 c.bring_in.new.state k r.3 c.args.grant c.args.reductions r.4 c.in_ok-given.given given.0 in
+    let given = c.in_ok-bring_in.ensures.giving r.0 r.1 r.2 r.3 c.args.grant c.args.reductions r.4 same r.7 in
+    let new = is_new_given r.0 r.1 r.2 r.5 c.args.edges.now.holders r.6 c.bring_in.new.state k r.3 c.args.grant c.args.reductions r.4 c.bring_in.new.given given.0 in
     record { fresh = new.0; unmet = new.1 }
 
 pub come_in-requires : goal.come_in-requires
 come_in-requires g c =
     let r = c.requires.acting in
     let same = c.in_ok-name.ensures.name ∙ acting_name r.0 r.1 r.2 c.args.state.now c.args.number r.3 c.args.grant c.args.reductions c.args.actor.value r.4 r.7 c.name.result.now c.name.ensures.name in
-    record { giving = (r.0, r.1, r.2, r.3, r.4, (c.in_ok-given.ensures.giving r.0 r.1 r.2 r.3 c.args.grant c.args.reductions r.4 same r.7).0) }
+    record { giving = (r.0, r.1, r.2, r.3, r.4, (c.in_ok-bring_in.ensures.giving r.0 r.1 r.2 r.3 c.args.grant c.args.reductions r.4 same r.7).0) }
 
 pub returns-clause-acted : goal.returns-clause-acted
 returns-clause-acted g c = λ h code s n e r.
@@ -45,7 +45,7 @@ returns-clause-acted g c = λ h code s n e r.
     let u = c.tell.new.edges in
     let end = r.returning.end in
     let same = c.in_ok-name.ensures.name ∙ acting_name h code s z k n m q a e r c.name.result.now c.name.ensures.name in
-    let given = c.in_ok-given.ensures.giving h code s n m q e same r in
+    let given = c.in_ok-bring_in.ensures.giving h code s n m q e same r in
     let told = c.in_ok-tell.ensures.told e given.0.hand.given in
     on_ok_weaker c.come_in.result
     (λ core. record {
