@@ -23,6 +23,20 @@ use asp_model::{FutureName, Label};
 use program_code::Node;
 use std::alloc::AllocError;
 
+/// A future more. The first takes no more room than it needs, since a service seldom serves.
+fn push_future(
+    futures: &mut Vec<Option<FutureName>>,
+    future: Option<FutureName>,
+) -> Result<(), AllocError>
+    ensures items { OnOk result (futures.new.items ≡ futures.old.items ++ future ∷ []) }
+{
+    if futures.is_empty() {
+        futures.reserve_exact(1)?;
+    }
+    futures.push(future)?;
+    Ok(())
+}
+
 impl Machine {
     /// Looks at the call of a label, of these places.
     pub fn ask(
@@ -56,8 +70,7 @@ impl Machine {
             base: self.base,
             height: self.env.len(),
         })?;
-        self.futures.push(future)?;
-        Ok(())
+        push_future(&mut self.futures, future)
     }
 
     /// Suspends the term, and looks at the call that the service begins with.
