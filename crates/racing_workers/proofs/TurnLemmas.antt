@@ -1,5 +1,5 @@
 -- What is done in a turn, and one thing after another.
-use Rattle.std.proofs.Common.{◌≡◌, ◌≢◌, ◌⊎◌, ℕ, List, Some, None, set, vec_len, sym, ap, refl, ◌∙◌, subst, ⊎_elim}
+use Rattle.std.proofs.Common.{◌≡◌, ◌≢◌, ◌⊎◌, ℕ, List, Option, Some, None, set, vec_len, sym, ap, refl, ◌∙◌, subst, ⊎_elim}
 use Rattle.std.proofs.lemmas.Option.{none-some, same_Some}
 use Rattle.asp_model.specs.History.{BeginsWith, HistoryShape}
 use Rattle.asp_model.proofs.HistoryLemmas.{begins_with_earlier, begins_with_itself}
@@ -9,10 +9,15 @@ use Rattle.asp_core.specs.Cores.{IsKept}
 use Rattle.racing_workers.specs.declared.desk.Desk.{Desk}
 use Rattle.racing_workers.specs.Desks.{IsOrderly, KeepsDesk, KeepsPlan, code_at, core_at, history_at, row_at, seats_at}
 use Rattle.racing_workers.specs.Rows.{AreApart, AreOut, IsOut, Row, row}
-use Rattle.racing_workers.specs.Turns.{IsTurn}
+use Rattle.racing_workers.specs.Turns.{HasLease, IsTurn}
 use Rattle.racing_workers.proofs.CoreLemmas.{Lends}
 use Rattle.racing_workers.proofs.OutLemmas.{lease_is_out}
 use Rattle.racing_workers.proofs.RowLemmas.{else_set, got_set}
+
+module _ {P : Type 0} (desk : Desk P) (seat : ℕ) where
+  -- a seat without a lease has nothing out
+  pub has_none : (held : Option Lease) → held ≡ None → row_at desk seat ≡ None → HasLease desk seat held
+  has_none held none free = subst (λ (o : Option Lease). HasLease desk seat o) (sym none) free
 
 module _ {P : Type 0} (answers : Answering P) (counts : Counting P) where
   pub keeps_further : (a b c : Desk P) → KeepsDesk answers counts a b → KeepsDesk answers counts b c → KeepsDesk answers counts a c

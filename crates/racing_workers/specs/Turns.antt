@@ -11,16 +11,7 @@ use Rattle.core_state.specs.declared.lease.Lease.{Lease}
 use Rattle.core_state.specs.Leases.{IsLease}
 use Rattle.racing_workers.specs.declared.desk.Desk.{Desk}
 use Rattle.racing_workers.specs.declared.desk.SharedDesk.{SharedDesk}
-use Rattle.racing_workers.specs.declared.desk.Next.{Next}
-use Rattle.racing_workers.specs.declared.desk.Next.TheVariants.{Again, End, Rest, Run}
 use Rattle.racing_workers.specs.Desks.{KeepsDesk, code_at, core_at, history_at, row_at}
-
--- the lease that a worker got
-abbrev pub lease_in : Next → Option Lease
-lease_in (Run lease) = Some lease
-lease_in Again = None
-lease_in Rest = None
-lease_in End = None
 
 module _ {P : Type 0} where
   abbrev pub desk_in : SharedDesk P → Desk P

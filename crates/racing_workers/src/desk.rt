@@ -1,10 +1,6 @@
 //! What the workers share: the core beside one row for each seat.
 
-ghost use Rattle.std.specs.Prelude.{◌≡◌};
-ghost use Rattle.racing_workers.specs.Turns.{lease_in};
-
 use asp_core::Core;
-use core_state::Lease;
 use lease_rows::Row;
 
 mod shared;
@@ -15,6 +11,8 @@ mod turns;
 pub(crate) struct Desk<P> {
     core: Core<P>,
     rows: Vec<Row>,
+    // How many seats have a lease.
+    leases: u32,
     // How many workers have a lease at their first seats, whose numbers are odd.
     busy: u32,
 }
@@ -29,7 +27,7 @@ pub(crate) struct SharedDesk<P> {
 #[derive(Drop)]
 pub(crate) enum Next {
     /// It runs the lease that it got.
-    Run(Lease),
+    Run,
     /// It takes another turn: more is owed than one turn delivers.
     Again,
     /// It rests: what is left to do, others have.
@@ -47,15 +45,5 @@ impl Next {
     /// Whether the worker rests.
     pub(crate) fn is_rest(&self) -> bool {
         matches!(self, Next::Rest)
-    }
-
-    /// The lease that it got.
-    pub(crate) fn into_lease(self) -> Option<Lease>
-        ensures lease { result ≡ lease_in self }
-    {
-        match self {
-            Next::Run(lease) => Some(lease),
-            Next::Again | Next::Rest | Next::End => None,
-        }
     }
 }

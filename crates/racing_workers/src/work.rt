@@ -19,27 +19,26 @@ use update_policy::UpdatePolicy;
 // What a worker does behind a turn at one of its seats.
 #[derive(Drop)]
 pub(crate) struct Turned {
-    pub(crate) lease: Option<Lease>,
     pub(crate) rests: bool,
     pub(crate) ends: bool,
     // Whether it may have a second lease: more is ready, and nobody waits for it.
     pub(crate) spare: bool,
 }
 
-// A turn of a worker at one of its seats, with the lease that it has there. Where others may find
-// work, one is called if not all are busy and the margin allows it; where they are to end, in any
+// A turn of a worker at one of its seats, with the lease that it has there, which another one
+// follows, or none. Where others may find work, one is called if not all are busy and the margin allows it; where they are to end, in any
 // case.
 fn take_turn<R: Wait, P: UpdatePolicy + Drop>(
     rt: &R,
     hub: &Hub<SharedDesk<P>>,
     seat: &mut Seat<SharedDesk<P>>,
     margin: &mut Margin,
-    held: Option<Lease>,
+    held: &mut Option<Lease>,
     may_rest: bool,
 ) -> Turned
     requires rows { HasRows hub.now }
-    requires seat { IsAtWork hub.now seat.old held }
-    ensures seat { IsAtWork hub.now seat.new result.lease }
+    requires seat { IsAtWork hub.now seat.old held.old }
+    ensures seat { IsAtWork hub.now seat.new held.new }
 {
     let mut desk = hub.take(rt, seat);
     let (next, more) = desk.turn(seat.number(), held, may_rest);
@@ -52,7 +51,6 @@ fn take_turn<R: Wait, P: UpdatePolicy + Drop>(
         rests: next.is_rest(),
         ends,
         spare,
-        lease: next.into_lease(),
     }
 }
 
@@ -62,46 +60,36 @@ fn take_second<R: Wait, P: UpdatePolicy + Drop>(
     hub: &Hub<SharedDesk<P>>,
     seat: &mut Seat<SharedDesk<P>>,
     margin: &mut Margin,
-    held: Option<Lease>,
+    held: &mut Option<Lease>,
     wants: bool,
-) -> Option<Lease>
+)
     requires rows { HasRows hub.now }
-    requires seat { IsAtWork hub.now seat.old held }
-    ensures seat { IsAtWork hub.now seat.new result }
+    requires seat { IsAtWork hub.now seat.old held.old }
+    ensures seat { IsAtWork hub.now seat.new held.new }
 {
-    if !wants && held.is_none() {
-        return held;
+    if wants || held.is_some() {
+        let _turned = take_turn(rt, hub, seat, margin, held, !wants);
     }
-    let Turned { lease, .. } = take_turn(rt, hub, seat, margin, held, !wants);
-    lease
 }
 
-// The lease after its work: it took contractions, and passed the gate.
-fn worked<G: Gate>(gate: &G, worker: u32, margin: &mut Margin, lease: Lease) -> Lease
-    ensures lease { (h : HistoryShape) (code : List NodeShape) → IsLease h code lease →
-        IsLease h code result }
-    ensures number { result.number ≡ lease.number }
-    ensures burst { result.burst ≡ lease.burst }
+// A lease is worked on: it takes contractions, and passes the gate.
+fn work_on<G: Gate>(gate: &G, worker: u32, margin: &mut Margin, lease: &mut Lease)
+    ensures lease { (h : HistoryShape) (code : List NodeShape) → IsLease h code lease.old →
+        IsLease h code lease.new }
+    ensures number { lease.new.number ≡ lease.old.number }
+    ensures burst { lease.new.burst ≡ lease.old.burst }
 {
-    let mut lease = lease;
     let _ran = lease.run();
     margin.add(lease.taken);
     gate.hold(worker as u64, lease.burst());
-    lease
 }
 
 // The same, if there is a lease.
-fn work_at<G: Gate>(
-    gate: &G,
-    worker: u32,
-    margin: &mut Margin,
-    held: Option<Lease>,
-) -> Option<Lease>
-    ensures worked { IsWorked held result }
+fn work_at<G: Gate>(gate: &G, worker: u32, margin: &mut Margin, held: &mut Option<Lease>)
+    ensures worked { IsWorked held.old held.new }
 {
-    match held {
-        Some(lease) => Some(worked(gate, worker, margin, lease)),
-        None => None,
+    if let Some(lease) = held {
+        work_on(gate, worker, margin, lease);
     }
 }
 
@@ -139,20 +127,22 @@ pub(crate) fn work<R: Wait, P: UpdatePolicy + Drop, G: Gate>(
     let mut two = None;
     for _ in rt.forever() {
         let may_rest = margin.is_gone();
-        let Turned {
-            lease,
-            rests,
-            ends,
-            spare,
-        } = take_turn(rt, hub, &mut seats.first, &mut margin, one, may_rest);
-        two = take_second(rt, hub, &mut seats.second, &mut margin, two, spare);
-        if ends && lease.is_none() && two.is_none() {
+        let Turned { rests, ends, spare } = take_turn(
+            rt,
+            hub,
+            &mut seats.first,
+            &mut margin,
+            &mut one,
+            may_rest,
+        );
+        take_second(rt, hub, &mut seats.second, &mut margin, &mut two, spare);
+        if ends && one.is_none() && two.is_none() {
             return;
         }
         let rests = rests && two.is_none();
         rest_if(rt, hub, &seats.first, &mut margin, rests);
-        one = work_at(gate, worker, &mut margin, lease);
-        two = work_at(gate, worker, &mut margin, two);
+        work_at(gate, worker, &mut margin, &mut one);
+        work_at(gate, worker, &mut margin, &mut two);
     }
     unreachable!()
 }

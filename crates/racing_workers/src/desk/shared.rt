@@ -3,7 +3,7 @@
 ghost use Rattle.std.specs.Prelude.{◌≡◌, ◌<◌, IfOk, None, ℕ};
 ghost use Rattle.asp_core.specs.Cores.{IsKept};
 ghost use Rattle.racing_workers.specs.Desks.{IsOrderly, core_at, row_at, seats_at};
-ghost use Rattle.racing_workers.specs.Turns.{HasLease, IsTurn, desk_in, lease_in};
+ghost use Rattle.racing_workers.specs.Turns.{HasLease, IsTurn, desk_in};
 
 use super::{Desk, Next, SharedDesk};
 use asp_core::Core;
@@ -46,12 +46,17 @@ impl<P: UpdatePolicy + Drop> SharedDesk<P> {
     }
 
     /// One turn of a worker, as at the desk.
-    pub(crate) fn turn(&mut self, seat: u32, held: Option<Lease>, may_rest: bool) -> (Next, bool)
+    pub(crate) fn turn(
+        &mut self,
+        seat: u32,
+        held: &mut Option<Lease>,
+        may_rest: bool,
+    ) -> (Next, bool)
         requires orderly { IsOrderly (desk_in self.old) }
         requires seat { seat < seats_at (desk_in self.old) }
-        requires held { HasLease (desk_in self.old) seat held }
+        requires held { HasLease (desk_in self.old) seat held.old }
         ensures turn { IsTurn P.answer P.asked seat (desk_in self.old) (desk_in self.new) }
-        ensures lease { HasLease (desk_in self.new) seat (lease_in result.0) }
+        ensures lease { HasLease (desk_in self.new) seat held.new }
     {
         self.desk.turn(seat, held, may_rest)
     }

@@ -4,7 +4,7 @@ ghost use Rattle.std.specs.Prelude.{◌≡◌, ◌<◌, IfOk, IfSome, None, Some
 ghost use Rattle.asp_core.specs.Cores.{IsKept};
 ghost use Rattle.core_state.specs.Leases.{IsLease};
 ghost use Rattle.racing_workers.specs.Desks.{IsOrderly, code_at, core_at, history_at, row_at, seats_at};
-ghost use Rattle.racing_workers.specs.Turns.{HasLease, IsTurn, MayDeliverAt, lease_in};
+ghost use Rattle.racing_workers.specs.Turns.{HasLease, IsTurn, MayDeliverAt};
 
 use super::{Desk, Next};
 use asp_core::Core;
@@ -30,6 +30,7 @@ impl<P: UpdatePolicy + Drop> Desk<P> {
         Ok(Desk {
             core,
             rows,
+            leases: 0,
             busy: 0,
         })
     }
@@ -41,6 +42,7 @@ impl<P: UpdatePolicy + Drop> Desk<P> {
         let Desk {
             core,
             rows: _,
+            leases: _,
             busy: _,
         } = self;
         core
@@ -50,12 +52,17 @@ impl<P: UpdatePolicy + Drop> Desk<P> {
     /// worker gets the activity that came back, where that is ready, or else the first that is. One
     /// that may rest gets none where another worker has a lease: that one comes back, and takes
     /// what is ready. It also tells whether others may find work, or are to end.
-    pub(crate) fn turn(&mut self, seat: u32, held: Option<Lease>, may_rest: bool) -> (Next, bool)
+    pub(crate) fn turn(
+        &mut self,
+        seat: u32,
+        held: &mut Option<Lease>,
+        may_rest: bool,
+    ) -> (Next, bool)
         requires orderly { IsOrderly self.old }
         requires seat { seat < seats_at self.old }
-        requires held { HasLease self.old seat held }
+        requires held { HasLease self.old seat held.old }
         ensures turn { IsTurn P.answer P.asked seat self.old self.new }
-        ensures lease { HasLease self.new seat (lease_in result.0) }
+        ensures lease { HasLease self.new seat held.new }
     {
         let number = self.take_in(seat, held);
         if !self.deliver_owed() {
@@ -64,22 +71,26 @@ impl<P: UpdatePolicy + Drop> Desk<P> {
         if may_rest && self.has_leases() {
             return (Next::Rest, false);
         }
-        match self.lend(seat, number) {
-            Some(lease) => (Next::Run(lease), self.core.next_ready().is_some()),
-            None if self.is_over() => (Next::End, true),
-            None => (Next::Rest, false),
+        *held = self.lend(seat, number);
+        if held.is_some() {
+            return (Next::Run, self.core.next_ready().is_some());
         }
+        if self.is_over() {
+            return (Next::End, true);
+        }
+        (Next::Rest, false)
     }
 
     // The lease comes back, if the seat has one. Its row is empty then, also where memory ran out.
-    fn take_in(&mut self, seat: u32, held: Option<Lease>) -> Option<u32>
+    fn take_in(&mut self, seat: u32, held: &mut Option<Lease>) -> Option<u32>
         requires orderly { IsOrderly self.old }
         requires seat { seat < seats_at self.old }
-        requires held { HasLease self.old seat held }
+        requires held { HasLease self.old seat held.old }
         ensures turn { IsTurn P.answer P.asked seat self.old self.new }
         ensures free { row_at self.new seat ≡ None }
+        ensures none { held.new ≡ None }
     {
-        let lease = held?;
+        let lease = held.take()?;
         let number = lease.number();
         self.commit(seat, lease);
         Some(number)
@@ -95,6 +106,7 @@ impl<P: UpdatePolicy + Drop> Desk<P> {
         ensures free { row_at self.new seat ≡ None }
     {
         clear(&mut self.rows, seat);
+        self.leases = self.leases.saturating_sub(1);
         self.busy = self.busy.saturating_sub(seat % 2);
         let _committed = self.core.commit(lease);
     }
@@ -119,6 +131,9 @@ impl<P: UpdatePolicy + Drop> Desk<P> {
         ensures turn { (n : ℕ) → IsTurn P.answer P.asked n self.old self.new }
         ensures rows { (n : ℕ) → row_at self.new n ≡ row_at self.old n }
     {
+        if self.core.owes_nothing() {
+            return false;
+        }
         let Some(delivery) = self.next_delivery() else {
             return false;
         };
@@ -189,6 +204,7 @@ impl<P: UpdatePolicy + Drop> Desk<P> {
         }
         let lease = self.core.lend(number)?;
         fill(&mut self.rows, seat, lease.number(), lease.burst());
+        self.leases = self.leases.saturating_add(1);
         self.busy = self.busy.saturating_add(seat % 2);
         Some(lease)
     }
@@ -202,12 +218,7 @@ impl<P: UpdatePolicy + Drop> Desk<P> {
 
     // Whether somebody has a lease.
     fn has_leases(&self) -> bool {
-        for row in self.rows.iter() {
-            if row.is_some() {
-                return true;
-            }
-        }
-        false
+        self.leases > 0
     }
 
     // Whether nothing is left to do: the verdict is there, or the core is spent.

@@ -1,7 +1,10 @@
 use Rattle.std.proofs.Common.{rules, alloc_error}
 use Rattle.racing_workers.proofs.CoreLemmas.{deliver_out, plan_by}
-use Rattle.racing_workers.proofs.TurnLemmas.{stood, turn_further}
+use Rattle.racing_workers.proofs.TurnLemmas.{stood, turn_further, turn_still}
 use Rattle.racing_workers.proofs.desk.Desk.deliver_next.Goals as goal
+
+pub returns-then-owes_nothing-clause-turn : goal.returns-then-owes_nothing-clause-turn
+returns-then-owes_nothing-clause-turn g c n = turn_still g.P.UpdatePolicy.answer g.P.UpdatePolicy.asked n c.args.self.now c.requires.orderly
 
 pub deliver-requires-clause-kept : goal.deliver-requires-clause-kept
 deliver-requires-clause-kept g c = (c.next_delivery.ensures.turn 0).keeps.orderly.kept
