@@ -38,6 +38,7 @@ impl Journal {
     }
 
     /// One entry more, for which there is room. It takes no memory.
+    #[inline(always)]
     pub fn note(&mut self, entry: Entry)
         requires room { 0 < room self.old }
         ensures entries { entries_in self.new ≡ entries_in self.old ++ entry_shape entry ∷ [] }

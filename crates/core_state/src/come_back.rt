@@ -54,6 +54,7 @@ fn rank_awaiting(
 }
 
 /// The rank of an activity that stands so.
+#[inline(always)]
 pub fn rank_at(alloc: Global, stance: Stance, futures: &FutureTable) -> Result<Rank, AllocError>
     ensures rank { let told = rank_stance (values_of futures.now) (stance_shape stance.entry) in
         IfOk result (λ r. rank_shape r ≡ told) }
