@@ -2,6 +2,7 @@
 #![tactic(auto)]
 
 mod ended;
+mod letting_go;
 mod prepare;
 mod programs;
 mod reports;

@@ -16,6 +16,7 @@ ghost use Rattle.asp_top.specs.Seen.{Outside, outside};
 ghost use Rattle.asp_top.specs.Stops.{StopsTask, StopsWords};
 ghost use Rattle.asp_top.specs.Ready.{IsReady, IsReadyFor, text_in};
 
+use crate::letting_go::let_go;
 use crate::programs::{checked_in, program_of};
 use crate::reports::lists_of;
 use crate::stop::Stop;
@@ -126,10 +127,13 @@ fn prepare_run<'a, R: Threads + Wait + Sync, S: Source, G: Gate>(
         IfErr result (StopsTask (outside S.told source) task) }
 {
     let checked = program_of(alloc, file, source)?;
+    let workers = settings.workers;
     let end = raced(rt, alloc, &checked, settings, policies, gate);
     drop(checked);
     let end = end?;
-    Ok(report_for(alloc, &end, depth)?)
+    let report = report_for(alloc, &end, depth);
+    let_go(rt, alloc, end, workers);
+    Ok(report?)
 }
 
 fn prepare_check<'a, S: Source>(
