@@ -66,7 +66,7 @@ def show(folder, part, options):
     words = [folder.text(part.text(size)), *MOST]
     commands = [(options.program, [*words, "--workers", str(workers)]) for workers in part.most]
     if options.parent:
-        commands.append((options.parent, words))
+        commands.append((options.parent, [*words, "--workers", "1"]))
     found = medians(commands, options.turns, part.is_clock)
     one, run = found[0]
     if run.status not in (0, 4, 5):
