@@ -180,3 +180,22 @@ longer l m place h tree same within last places =
       inside = λ i e. let lt = h.inside i (sym (same i) ∙ e) in omega (arith, lt, long);
       rising = subst IsRising (sym places) (rises l.places.items place h.rising last);
     }
+
+-- there are no more places than the next one's number
+at_least : (f : ℕ → ℕ) (n : ℕ) → ((i j : ℕ) → i < j → j < n → f i < f j) → (i : ℕ) → i < n → i ≤ f i
+at_least f n rising zero lt = omega arith
+at_least f n rising (suc i) lt =
+    let h = at_least f n rising i (omega (arith, lt)) in
+    let next = rising i (suc i) (omega arith) lt in
+    omega (arith, h, next)
+
+pub as_many : (l : Lane) (place : ℕ) → IsLane l → ((i : ℕ) → i < size_of l → place_at l i < place) → size_of l ≤ place
+as_many l place h last = by (size_of l) refl
+  where
+    by : (n : ℕ) → size_of l ≡ n → size_of l ≤ place
+    by zero e = omega (arith, e)
+    by (suc n) e =
+        let lt : n < size_of l = omega (arith, e) in
+        let at = at_least (place_at l) (size_of l) h.rising n lt in
+        let below = last n lt in
+        omega (arith, e, at, below)

@@ -17,6 +17,15 @@ use Rattle.marked_places.specs.Firsts.{IsFirstFrom}
 pub double : (h k : ℕ) → h ≡ k + 1 → 2 ^ h ≡ 2 * 2 ^ k
 double h k e = ap (λ n. 2 ^ n) e ∙ pow-add 2 k 1 ∙ omega arith
 
+-- a room that numbers of 32 bits do not fill can be doubled
+pub low_height : (h r : ℕ) → r ≡ 2 ^ h → r < 2 ^ 32 → h + 1 ≤ 32
+low_height h r power small = by (leb_tells 33 h) (eqb_tells h 32)
+  where
+    by : ((leb 33 h ≡ true) × (33 ≤ h)) ⊎ ((leb 33 h ≡ false) × (h < 33)) → ((eqb h 32 ≡ true) × (h ≡ 32)) ⊎ ((eqb h 32 ≡ false) × (h ≢ 32)) → h + 1 ≤ 32
+    by (inl e) _ = let more : 2 ^ 32 < 2 ^ h = pow_below 32 h (omega (arith, e.1)) in absurd (omega (arith, power, small, more))
+    by (inr e) (inl d) = let same : r ≡ 2 ^ 32 = power ∙ ap (λ n. 2 ^ n) d.1 in absurd (omega (arith, same, small))
+    by (inr e) (inr d) = omega (arith, e.1, d.1)
+
 -- a node above the leaves is below the room
 pub above_leaves : (i h k r : ℕ) → h ≡ k + 1 → (i + 1) * 2 ^ h ≤ 2 * r → i + 1 ≤ r
 above_leaves i h k r e le =

@@ -64,9 +64,6 @@ impl Lane {
         ensures err { OnErr result (self.new.places.items ≡ self.old.places.items) }
     {
         let ordinal = self.places.len();
-        if ordinal >= u32::MAX as usize {
-            return Err(AllocError);
-        }
         self.marks.make_room(ordinal)?;
         self.places.push(place)?;
         Ok(ordinal as u32)

@@ -28,6 +28,7 @@ ghost use Rattle.marked_places.specs.Lanes.{
 ghost use Rattle.marked_places.specs.Marks.{MarkedSo, SameMarks, is_marked};
 
 use crate::lane::Lane;
+use crate::limits::MOST_NUMBERED;
 use crate::marks::Marks;
 use std::alloc::{AllocError, Global};
 
@@ -84,7 +85,8 @@ impl Lanes {
         Ok(())
     }
 
-    /// One more place, which is not marked, in a lane.
+    /// One more place, which is not marked, in a lane. It fails when there are as many places as can be
+    /// numbered, or without memory.
     pub fn add(&mut self, lane: u32) -> Result<(), AllocError>
         requires lanes { AreLanes self.old }
         requires lane { lane < lane_count self.old }
@@ -96,7 +98,7 @@ impl Lanes {
         ensures err { OnErr result (self.new.spots.items ≡ self.old.spots.items) }
     {
         let place = self.spots.len();
-        if place >= u32::MAX as usize {
+        if place >= MOST_NUMBERED {
             return Err(AllocError);
         }
         self.marks.make_room(place)?;

@@ -4,10 +4,12 @@
 
 mod lane;
 mod lanes;
+mod limits;
 mod marks;
 mod ticks;
 
 pub use lane::Lane;
 pub use lanes::{Lanes, Spot};
+pub use limits::MOST_NUMBERED;
 pub use marks::Marks;
 pub use ticks::Ticks;

@@ -60,6 +60,7 @@ impl Marks {
     pub fn make_room(&mut self, place: usize) -> Result<(), AllocError>
         requires tree { IsTree self.old }
         requires next { place ≤ room self.old }
+        requires low { place < 2 ^ 32 }
         ensures tree { IsTree self.new }
         ensures same { SameMarks self.old self.new }
         ensures room { OnOk result (place < room self.new) }
@@ -77,6 +78,7 @@ impl Marks {
     /// Makes room up to a place, which doubles the room so often.
     pub fn reach(&mut self, place: usize) -> Result<(), AllocError>
         requires tree { IsTree self.old }
+        requires low { place < 2 ^ 32 }
         ensures tree { IsTree self.new }
         ensures same { SameMarks self.old self.new }
         ensures room { OnOk result (place < room self.new) }
@@ -92,15 +94,14 @@ impl Marks {
     // No place is marked, and the room is twice as large.
     fn larger(&self) -> Result<Marks, AllocError>
         requires tree { IsTree self.now }
+        requires small { room self.now < 2 ^ 32 }
         ensures tree { IfOk result IsTree }
         ensures room { IfOk result (λ m. room self.now < room m) }
         ensures none { IfOk result (λ m. (p : ℕ) → is_marked m p ≡ false) }
     {
-        if self.nodes.is_empty() {
+        let room = self.nodes.len() / 2;
+        if room == 0 {
             return Marks::empty(self.alloc, 0);
-        }
-        if self.height >= 32 {
-            return Err(AllocError);
         }
         Marks::empty(self.alloc, self.height + 1)
     }

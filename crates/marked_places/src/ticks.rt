@@ -12,6 +12,7 @@ ghost use Rattle.std.specs.Prelude.{
 };
 ghost use Rattle.marked_places.specs.Ticks.{AreTicks, HasRoom, is_among, size};
 
+use crate::limits::MOST_NUMBERED;
 use std::alloc::{AllocError, Global};
 
 #[derive(Drop)]
@@ -33,7 +34,8 @@ impl Ticks {
         }
     }
 
-    /// Makes room for one more thing.
+    /// Makes room for one more thing. It fails when there are as many things as can be numbered, or
+    /// without memory.
     pub fn reserve(&mut self) -> Result<(), AllocError>
         requires ticks { AreTicks self.old }
         ensures ticks { AreTicks self.new }
@@ -41,7 +43,7 @@ impl Ticks {
         ensures order { self.new.order.items ≡ self.old.order.items }
         ensures done { self.new.done.items ≡ self.old.done.items }
     {
-        if self.done.len() + 1 >= u32::MAX as usize {
+        if self.done.len() >= MOST_NUMBERED {
             return Err(AllocError);
         }
         let open = self.done.len() - self.order.len();

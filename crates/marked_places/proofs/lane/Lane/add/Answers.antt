@@ -1,9 +1,19 @@
 use Rattle.std.proofs.Common.{◌≡◌, ◌∙◌, ◌++◌, ◌∷◌, ℕ, [], arith, refl}
 use Rattle.std.proofs.lemmas.Result.{IfOk-from_err}
 use Rattle.marked_places.specs.Lanes.{size_of}
-use Rattle.marked_places.proofs.LaneLemmas.{longer, roomier}
+use Rattle.marked_places.proofs.LaneLemmas.{as_many, longer, roomier}
 use Rattle.marked_places.proofs.LanesLemmas.{on_err}
 use Rattle.marked_places.proofs.lane.Lane.add.Goals as goal
+
+pub make_room-requires-clause-low : goal.make_room-requires-clause-low
+make_room-requires-clause-low c =
+    let many = as_many c.args.self.now c.args.place c.requires.lane c.requires.last in
+    omega (arith, many, c.len-ordinal.ensures, c.ranges.place.fits)
+
+pub overflow_cast-result : goal.overflow_cast-result
+overflow_cast-result c =
+    let many = as_many c.args.self.now c.args.place c.requires.lane c.requires.last in
+    omega (arith, many, c.len-ordinal.ensures, c.ranges.place.fits)
 
 pub returns-in_err-make_room : goal.returns-in_err-make_room
 returns-in_err-make_room c =
