@@ -1,10 +1,10 @@
 -- The parts of terms as the code has them.
-use Rattle.std.specs.Prelude.{List, [], ◌∷◌, ◌++◌, map}
+use Rattle.std.specs.Prelude.{Bool, true, false, List, [], ◌∷◌, ◌++◌, map}
 use Rattle.asp_model.specs.declared.word.Label.{Label}
 use Rattle.asp_model.specs.declared.term.Term.{Term}
 use Rattle.asp_model.specs.declared.term.Method.{Method}
 use Rattle.asp_model.specs.Names.{Text}
-use Rattle.asp_model.specs.Term.{Head, Make, Tree, Trees, node, none, more, trees}
+use Rattle.asp_model.specs.Term.{Head, Hole, Let, Loc, Make, Var, Tree, Trees, node, none, more, trees}
 use Rattle.asp_model.specs.Shapes.{tree_of}
 use Rattle.code_compiler.specs.Closed.{AreClosed}
 use Rattle.name_slots.specs.Slots.{bound_in}
@@ -13,6 +13,15 @@ use Rattle.program_code.specs.Parts.{body_tree, field_label, field_tree, method_
 -- what stands in a tree's node
 abbrev pub head_at : Tree → Head
 head_at (node h ts) = h
+
+-- the node is no place, no hole and no variable, binds no name and makes no object
+abbrev pub is_plain_head : Head → Bool
+is_plain_head (Loc n) = false
+is_plain_head Hole = false
+is_plain_head (Var x) = false
+is_plain_head (Make ls ms) = false
+is_plain_head (Let x) = false
+is_plain_head h = true
 
 abbrev pub list_of : Trees → List Tree
 list_of none = []

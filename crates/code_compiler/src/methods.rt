@@ -17,6 +17,9 @@ use name_slots::{Scope, leaf_of};
 use program_code::{Capture, Child, MethodCode};
 use std::alloc::{AllocError, Global};
 
+/// The places of an object, which are its fields and what its methods captured, have numbers of 64 bits.
+const MOST_PLACES: usize = usize::MAX;
+
 /// What a method captures: the names that its body leaves free, in text order, each once.
 pub fn captured_names_of(alloc: Global, method: &Method) -> Result<Vec<Word>, AllocError>
     ensures captured { IfOk result
@@ -109,14 +112,16 @@ fn pass_use(uses: &mut Vec<usize>, captured: &[Capture], slot: usize) -> Result<
     }
 }
 
-/// Where the captured places of the next method of an object begin.
+/// Where the captured places of the next method of an object begin. It fails when the object has more
+/// places than can be numbered.
 pub fn next_start(start: usize, code: &MethodCode) -> Result<usize, AllocError>
     ensures next { IfOk result (λ n. n ≡ start + length code.now.captured.items) }
 {
-    match start.checked_add(code.captured.len()) {
-        Some(next) => Ok(next),
-        None => Err(AllocError),
+    let count = code.captured.len();
+    if count > MOST_PLACES - start {
+        return Err(AllocError);
     }
+    Ok(start + count)
 }
 
 /// The one child.

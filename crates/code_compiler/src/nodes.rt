@@ -12,7 +12,7 @@ ghost use Rattle.program_code.specs.declared.code.Node.{Node as NodeShape};
 ghost use Rattle.name_slots.specs.Slots.{names_of};
 ghost use Rattle.code_compiler.specs.Added.{AddsTerm};
 ghost use Rattle.code_compiler.specs.Compiled.{EndsTable, is_plain};
-ghost use Rattle.code_compiler.specs.Parts.{head_at};
+ghost use Rattle.code_compiler.specs.Parts.{head_at, is_plain_head};
 ghost use Rattle.program_code.specs.Parts.{field_label};
 
 use asp_model::{Label, Term, Word};
@@ -73,10 +73,10 @@ pub fn push_use(uses: &mut Vec<usize>, leaf: &Leaf) -> Result<(), AllocError>
     }
 }
 
-/// What the node of a term does, where it binds no name and makes no object. Another one, for which
-/// this is never called, is answered as want of memory.
+/// What the node of a term does. It is no variable, binds no name and makes no object.
 #[tactic(auto, using(program_code::proofs::TermTrees::trees_are))]
 pub fn kind_of(alloc: Global, term: &Term) -> Result<Kind, AllocError>
+    requires plain { is_plain_head (head_at (tree_of term.now)) ≡ true }
     ensures head { IfOk result (λ k. kind_head k ≡ head_at (tree_of term.now)) }
     ensures plain { IfOk result (λ k. is_plain k ≡ true) }
 {
@@ -99,7 +99,8 @@ pub fn kind_of(alloc: Global, term: &Term) -> Result<Kind, AllocError>
         Term::Size(_, _) => Ok(Kind::Size),
         Term::Member(_, _, _) => Ok(Kind::Member),
         Term::WaitAll(_, _) => Ok(Kind::WaitAll),
-        _ => Err(AllocError),
+        Term::Var(_, _) | Term::Make { .. } | Term::Let(_, _, _, _) => unreachable!(),
+        Term::Loc(_, _) | Term::Hole(_) => unreachable!(),
     }
 }
 

@@ -1,6 +1,18 @@
 //! Terms, node by node: children before parents, in text order.
 
-ghost use Rattle.std.specs.Prelude.{◌≡◌, ◌∷◌, ◌++◌, [], List, ℕ, length, map, IfOk, OnOk};
+ghost use Rattle.std.specs.Prelude.{
+  ◌≡◌,
+  ◌∷◌,
+  ◌++◌,
+  [],
+  List,
+  ℕ,
+  length,
+  map,
+  IfOk,
+  OnOk,
+  true,
+};
 ghost use Rattle.std.specs.Global.{Vec};
 ghost use Rattle.asp_model.specs.Shapes.{tree_of};
 ghost use Rattle.asp_model.specs.Term.{Let, Make, Tree, node, trees, two};
@@ -11,7 +23,14 @@ ghost use Rattle.program_code.specs.Parts.{body_tree, field_tree, method_head};
 ghost use Rattle.code_compiler.specs.Added.{AddsChild, AddsCode, AddsRow, AddsTerm, AddsTerms};
 ghost use Rattle.code_compiler.specs.Closed.{AreClosed, IsClosed};
 ghost use Rattle.code_compiler.specs.Compiled.{EndsTable};
-ghost use Rattle.code_compiler.specs.Parts.{AreClosedMethods, fields_below, parts_of, terms_below};
+ghost use Rattle.code_compiler.specs.Parts.{
+  AreClosedMethods,
+  fields_below,
+  head_at,
+  is_plain_head,
+  parts_of,
+  terms_below,
+};
 
 use crate::methods::{Ended, captured_names_of, end_method, next_start, only_child};
 use crate::nodes::{field_labels, kind_of, put, put_variable};
@@ -57,7 +76,7 @@ pub fn compile_term(
     }
 }
 
-/// Compiles a term whose node binds no name, and makes no object.
+/// Compiles a term whose node is no variable, binds no name and makes no object.
 #[cycle(compiling)]
 fn put_node(
     alloc: Global,
@@ -67,6 +86,7 @@ fn put_node(
     children: &mut Vec<Child>,
     term: &Term,
 ) -> Result<(), AllocError>
+    requires plain { is_plain_head (head_at (tree_of term.now)) ≡ true }
     requires closed { IsClosed (names_of scope.now) (tree_of term.now) }
     ensures adds { let t = tree_of term.now in OnOk result
         (AddsTerm scope.now uses.old uses.new nodes.old nodes.new children.old children.new t) }
@@ -79,8 +99,7 @@ fn put_node(
     Ok(())
 }
 
-/// Compiles the terms below such a node, in text order. Another node, which never comes here, is
-/// answered as want of memory.
+/// Compiles the terms below such a node, in text order.
 #[cycle(compiling)]
 fn compile_below(
     alloc: Global,
@@ -90,6 +109,7 @@ fn compile_below(
     children: &mut Vec<Child>,
     term: &Term,
 ) -> Result<(), AllocError>
+    requires plain { is_plain_head (head_at (tree_of term.now)) ≡ true }
     requires closed { IsClosed (names_of scope.now) (tree_of term.now) }
     ensures adds { let ts = parts_of (tree_of term.now) in OnOk result
         (AddsTerms scope.now uses.old uses.new nodes.old nodes.new children.old children.new ts) }
@@ -122,7 +142,8 @@ fn compile_below(
         Term::Steps(terms, _) | Term::Group(terms, _) => {
             compile_all(alloc, nodes, scope, uses, children, terms)
         }
-        _ => Err(AllocError),
+        Term::Var(_, _) | Term::Make { .. } | Term::Let(_, _, _, _) => unreachable!(),
+        Term::Loc(_, _) | Term::Hole(_) => unreachable!(),
     }
 }
 
