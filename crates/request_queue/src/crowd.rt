@@ -29,6 +29,9 @@ use std::alloc::{AllocError, Global};
 use std::collections::BTreeMap;
 use std::marker::Model;
 
+/// Requests have numbers of 64 bits. No more are taken once this many have arrived.
+pub const MOST_ARRIVALS: u64 = u64::MAX;
+
 /// Pending requests with their numbers in order of arrival, oldest first, and how many requests
 /// have arrived, here or before.
 #[derive(Drop)]
@@ -79,7 +82,8 @@ impl Crowd {
         self.arrived
     }
 
-    /// Appends a request under the next number.
+    /// Appends a request under the next number. It fails when as many have arrived as can be numbered,
+    /// or without memory.
     #[inline(never)]
     pub fn push(&mut self, request: Box<Request>) -> Result<(), AllocError>
         ensures pending { let old = self.old in OnOk result
@@ -87,7 +91,7 @@ impl Crowd {
         ensures arrived { OnOk result (self.new.arrived ≡ self.old.arrived + 1) }
         ensures err { OnErr result (self.new ≡ self.old) }
     {
-        if self.arrived == u64::MAX {
+        if self.arrived == MOST_ARRIVALS {
             return Err(AllocError);
         }
         self.notes.note(&request.label, self.arrived)?;

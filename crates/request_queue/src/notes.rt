@@ -74,7 +74,7 @@ impl Notes {
                 numbers.insert(number)?;
                 Ok(())
             }
-            None => Ok(()),
+            None => unreachable!(),
         }
     }
 

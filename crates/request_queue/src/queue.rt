@@ -18,7 +18,7 @@ ghost use Rattle.serve_rules.specs.Labels.{class_labels, label_text};
 ghost use Rattle.request_queue.specs.Led.{arrived_of, behind};
 ghost use Rattle.request_queue.specs.Pending.{but, oldest, request_at, waiting};
 
-use crate::crowd::Crowd;
+use crate::crowd::{Crowd, MOST_ARRIVALS};
 use crate::few::Few;
 use crate::request::Request;
 use asp_model::Label;
@@ -76,7 +76,8 @@ impl Queue {
         }
     }
 
-    /// Appends a request under the next number.
+    /// Appends a request under the next number. It fails when as many have arrived as can be numbered,
+    /// or without memory.
     pub fn push(&mut self, request: Request) -> Result<(), AllocError>
         ensures pending { let old = self.old in OnOk result
             (self.new.pending ≡ old.pending ++ (old.arrived, request) ∷ []) }
@@ -84,7 +85,7 @@ impl Queue {
         ensures err { OnErr result (self.new ≡ self.old) }
     {
         if self.others.is_none() && self.few.len() < MOST {
-            if self.arrived == u64::MAX {
+            if self.arrived == MOST_ARRIVALS {
                 return Err(AllocError);
             }
             self.few.push(self.arrived, request)?;
