@@ -44,7 +44,7 @@ use crate::passings::Passings;
 use crate::records::Records;
 use crate::settling::settle;
 use asp_model::{ActivityName, Delivery, FutureName};
-use marked_places::Lanes;
+use marked_places::{Lanes, MOST_NUMBERED};
 use std::alloc::{AllocError, Global};
 use std::collections::BTreeSet;
 use std::marker::Model;
@@ -237,7 +237,8 @@ impl Holders {
         self.owed.first_open()
     }
 
-    /// An activity that was not met is in from now on. The answer is its number, from 0 in order.
+    /// An activity that was not met is in from now on. The result is its number, from 0 in order. It
+    /// fails when there are as many activities as can be numbered, or without memory.
     pub fn met(&mut self, activity: &ActivityName) -> Result<u32, AllocError>
         requires new { is_met activity.now self.old.activities ≡ false }
         ensures met { OnOk result
@@ -248,7 +249,7 @@ impl Holders {
         ensures err { OnErr result (self.new ≡ self.old) }
     {
         let number = self.activities.len();
-        if number >= u32::MAX as usize {
+        if number >= MOST_NUMBERED {
             return Err(AllocError);
         }
         let lane = self.records.enter_activity(activity)?;

@@ -25,6 +25,7 @@ use crate::edge::EdgeNames;
 use crate::numbered::{Edge, Future};
 use asp_model::{ActivityName, FutureName};
 use indexmap::IndexSet;
+use marked_places::MOST_NUMBERED;
 use std::alloc::{AllocError, Global};
 
 #[derive(Drop)]
@@ -124,6 +125,7 @@ impl Names {
         }
     }
 
+    // It fails when there are as many activities as can be numbered, or without memory.
     fn add(&mut self, name: &ActivityName) -> Result<u32, AllocError>
         requires names { AreNames (names_in self.old) }
         requires new { IsNew (names_in self.old) name.now }
@@ -132,7 +134,7 @@ impl Names {
         ensures number { IfOk result (IsNumberOf (names_in self.new) name.now) }
     {
         let number = self.names.len();
-        if number >= u32::MAX as usize {
+        if number >= MOST_NUMBERED {
             return Err(AllocError);
         }
         let name = name.copy(self.alloc)?;
