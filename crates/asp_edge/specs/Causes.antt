@@ -1,6 +1,7 @@
 -- What a call of a source or a sink leaves, and why it fails.
 use Rattle.std.specs.Prelude.{◌≡◌, ℕ, ◌+◌, ◌-◌, ◌^◌, ◌<◌, ◌≤◌, min, List, ◌++◌, length, take, Option, Some, None, Result, Ok, Err, Bool, true, false, if◌then◌else◌}
 use Rattle.std.specs.Global.{Vec}
+use Rattle.asp_edge.specs.Told.{SinkTells}
 use Rattle.asp_edge.specs.declared.edge.ReadError.{ReadError}
 use Rattle.asp_edge.specs.declared.edge.ReadError.TheVariants.{Failed, TooLong, Memory}
 
@@ -15,6 +16,11 @@ counted failed count = if failed then next_number count else count
 -- the count rose in the call, or stands at its end
 abbrev pub Rose : ℕ → ℕ → Type 0
 Rose before now = next_number before ≤ now
+
+-- the bytes that an answer hands out
+abbrev pub handed : Result (Vec ℕ) ReadError → Option (List ℕ)
+handed (Ok bytes) = Some bytes.items
+handed (Err e) = None
 
 -- where a source tells its content, the bytes are all of it
 abbrev pub IsContent : Option (List ℕ) → List ℕ → Type 0
@@ -52,7 +58,11 @@ abbrev pub Appends : Option (List ℕ) → Option (List ℕ) → List ℕ → Ty
 Appends None new piece = Unit {0}
 Appends (Some old) new piece = new ≡ Some (old ++ piece)
 
--- where a sink tells its bytes, it has a front part of the piece more
-abbrev pub AppendsFront : Option (List ℕ) → Option (List ℕ) → List ℕ → Type 0
-AppendsFront None new piece = Unit {0}
-AppendsFront (Some old) new piece = (n : ℕ) × (new ≡ Some (old ++ take n piece))
+-- the sink took all of the piece
+pub record Took (before now : SinkTells) (piece : List ℕ) : Type 0 where
+  pub taken : now.taken ≡ before.taken ++ piece
+  pub told : Appends before.bytes now.bytes piece
+
+-- it took a front part of the piece
+abbrev pub TookFront : SinkTells → SinkTells → List ℕ → Type 0
+TookFront before now piece = (n : ℕ) × Took before now (take n piece)

@@ -17,9 +17,9 @@ told_bytes s = Some (sink_bytes s)
 abbrev pub sink_faults : MemorySink → ℕ
 sink_faults s = s.faults
 
--- what the sink tells
+-- what the sink tells: it has what it took
 abbrev pub memory_told : MemorySink → SinkTells
-memory_told s = record { bytes = told_bytes s; faults = sink_faults s }
+memory_told s = record { bytes = told_bytes s; taken = sink_bytes s; faults = sink_faults s }
 
 -- the numbers of the writes that fail, how many bytes such a write keeps, and the room
 abbrev pub sink_intent : MemorySink → List ℕ × ℕ × ℕ

@@ -3,7 +3,7 @@ use Rattle.std.specs.Prelude.{ℕ, List, [], ◌∷◌, Option, Some, None, Bool
 use Rattle.std.specs.List.{list_any}
 use Rattle.std.specs.Cmp.Lexicographic.{pointwise}
 use Rattle.std.specs.Global.{Vec}
-use Rattle.asp_edge.specs.Told.{SourceTells}
+use Rattle.asp_edge.specs.Told.{SourceTells, Asks}
 use Rattle.asp_edge.specs.Causes.{next_number}
 use Rattle.asp_edge.specs.declared.memory_source.MemorySource.{MemorySource}
 
@@ -17,13 +17,17 @@ content_of (file ∷ files) name =
 abbrev pub told_content : MemorySource → List ℕ → Option (List ℕ)
 told_content s = content_of s.files.items
 
+-- what was asked of it so far
+abbrev pub source_asked : MemorySource → Asks
+source_asked s = s.asked.asks
+
 -- how often it failed
 abbrev pub source_faults : MemorySource → ℕ
 source_faults s = s.faults
 
 -- what the source tells
 abbrev pub memory_told : MemorySource → SourceTells
-memory_told s = record { content = told_content s; faults = source_faults s }
+memory_told s = record { content = told_content s; asked = source_asked s; faults = source_faults s }
 
 -- the numbers of the reads that fail
 abbrev pub failing_reads : MemorySource → List ℕ

@@ -1,12 +1,18 @@
 -- What a source and a sink tell of themselves.
 use Rattle.std.specs.Prelude.{ℕ, List, Option}
 
--- the bytes under each name, where the source tells them, and how often it failed
+-- what was asked of a source, in order: each name, and the bytes if some were handed out
+abbrev pub Asks : Type 0
+Asks = List (List ℕ × Option (List ℕ))
+
+-- the bytes under each name, where the source tells them, what was asked of it so far, and how often it failed
 pub record SourceTells : Type 0 where
   pub content : List ℕ → Option (List ℕ)
+  pub asked : Asks
   pub faults : ℕ
 
--- the bytes taken so far, where the sink tells them, and how often it failed
+-- the bytes in the sink, where it tells them, those that it took so far, and how often it failed
 pub record SinkTells : Type 0 where
   pub bytes : Option (List ℕ)
+  pub taken : List ℕ
   pub faults : ℕ

@@ -1,9 +1,10 @@
-//! Sources and sinks, by what they tell and by how often they failed. What a source or a sink does
-//! not tell is left open, but each failure has its cause: the count of faults rose in that call.
+//! Sources and sinks, by what they tell and by how often they failed. Each tells what was asked of it
+//! or what it took, call by call. What a source has, or what came of the bytes, is told by some
+//! alone. Each failure has its cause: the count of faults rose in that call.
 
-ghost use Rattle.std.specs.Prelude.{◌≡◌, ℕ, List, Option, Some, IfOk, IfErr, OnOk, OnErr, vec_len, ◌≤◌, ◌<◌};
+ghost use Rattle.std.specs.Prelude.{◌≡◌, ℕ, List, [], ◌∷◌, ◌++◌, Option, Some, IfOk, IfErr, OnOk, OnErr, vec_len, ◌≤◌, ◌<◌};
 ghost use Rattle.asp_edge.specs.Told.{SourceTells, SinkTells};
-ghost use Rattle.asp_edge.specs.Causes.{Rose, IsContent, IsLonger, Appends, AppendsFront, FailedOnly};
+ghost use Rattle.asp_edge.specs.Causes.{Rose, IsContent, IsLonger, Took, TookFront, FailedOnly, handed};
 
 use thiserror::Error;
 
@@ -26,8 +27,9 @@ pub enum ReadError {
 
 /// A source of named contents.
 pub trait Source {
-    /// What it tells: the bytes under each name, where it tells them, and how often it failed. That
-    /// count stays at the last number of 64 bits.
+    /// What it tells: the bytes under each name, where it tells them; what was asked of it so far,
+    /// with what it handed out; and how often it failed. That count stays at the last number of 64
+    /// bits.
     ghost told: { Self → SourceTells };
 
     /// All bytes under a name, if there are at most so many.
@@ -36,6 +38,8 @@ pub trait Source {
         ensures bytes { IfOk result (λ v. IsContent ((told self.old).content name.now) v.items) }
         ensures short { IfOk result (λ v. vec_len v ≤ most) }
         ensures long { IfErr result (IsLonger ((told self.old).content name.now) most) }
+        ensures asked { (told self.new).asked
+            ≡ (told self.old).asked ++ (name.now, handed result) ∷ [] }
         ensures later { (told self.old).faults ≤ (told self.new).faults }
         ensures cause { IfErr result
             (FailedOnly (Rose (told self.old).faults (told self.new).faults)) };
@@ -48,16 +52,14 @@ pub struct WriteFailed;
 
 /// A sink of bytes.
 pub trait Sink {
-    /// What it tells: the bytes taken so far, where it tells them, and how often it failed. That
-    /// count stays at the last number of 64 bits.
+    /// What it tells: the bytes in it, where it tells them; those that it took so far; and how often
+    /// it failed. That count stays at the last number of 64 bits.
     ghost told: { Self → SinkTells };
 
     /// Appends the whole piece, or fails after a front part of it.
     fn write(&mut self, piece: &[u8]) -> Result<(), WriteFailed>
-        ensures all { OnOk result
-            (Appends (told self.old).bytes (told self.new).bytes piece.now) }
-        ensures front { OnErr result
-            (AppendsFront (told self.old).bytes (told self.new).bytes piece.now) }
+        ensures all { OnOk result (Took (told self.old) (told self.new) piece.now) }
+        ensures front { OnErr result (TookFront (told self.old) (told self.new) piece.now) }
         ensures later { (told self.old).faults ≤ (told self.new).faults }
         ensures cause { OnErr result (Rose (told self.old).faults (told self.new).faults) };
 }

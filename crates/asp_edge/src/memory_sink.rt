@@ -70,15 +70,15 @@ impl MemorySink {
 
 impl Sink for MemorySink {
     ghost use Rattle.std.specs.Prelude.{◌≡◌, ◌≤◌, ◌++◌, OnOk, OnErr, is_ok, not};
-    ghost use Rattle.asp_edge.specs.Causes.{Rose, next_number, counted, Appends, AppendsFront};
-    ghost use Rattle.asp_edge.specs.MemorySink.{memory_told, told_bytes, sink_bytes, sink_faults, sink_intent, next_write, takes_all, taken_of};
+    ghost use Rattle.asp_edge.specs.Causes.{Rose, next_number, counted, Took, TookFront};
+    ghost use Rattle.asp_edge.specs.MemorySink.{memory_told, sink_bytes, sink_faults, sink_intent, next_write, takes_all, taken_of};
 
     ghost told = { memory_told };
 
     fn write(&mut self, piece: &[u8]) -> Result<(), WriteFailed>
-        ensures all { OnOk result (Appends (told_bytes self.old) (told_bytes self.new) piece.now) }
+        ensures all { OnOk result (Took (memory_told self.old) (memory_told self.new) piece.now) }
         ensures front { OnErr result
-            (AppendsFront (told_bytes self.old) (told_bytes self.new) piece.now) }
+            (TookFront (memory_told self.old) (memory_told self.new) piece.now) }
         ensures later { sink_faults self.old ≤ sink_faults self.new }
         ensures cause { OnErr result (Rose (sink_faults self.old) (sink_faults self.new)) }
 

@@ -1,10 +1,10 @@
 //! A source in memory, which fails at the reads that it was told.
 
-ghost use Rattle.std.specs.Prelude.{◌≡◌, ◌≤◌, Some, IfOk, IfErr, option_map, vec_len};
-ghost use Rattle.asp_edge.specs.Causes.{Rose, IsContent, IsLonger, FailedOnly, TakesOneMore, is_failed, next_number, counted};
-ghost use Rattle.asp_edge.specs.MemorySource.{content_of, memory_told, told_content, source_faults, failing_reads, next_read, read_fails};
+ghost use Rattle.std.specs.Prelude.{◌≡◌, ◌≤◌, [], ◌∷◌, ◌++◌, Some, IfOk, IfErr, option_map, vec_len};
+ghost use Rattle.asp_edge.specs.Causes.{Rose, IsContent, IsLonger, FailedOnly, TakesOneMore, handed, is_failed, next_number, counted};
+ghost use Rattle.asp_edge.specs.MemorySource.{content_of, memory_told, told_content, source_asked, source_faults, failing_reads, next_read, read_fails};
 
-use crate::{ReadError, Source};
+use crate::{Ask, Asked, ReadError, Source};
 use asp_model::Word;
 use std::alloc::Global;
 
@@ -15,6 +15,7 @@ pub struct MemorySource {
     files: Vec<(Word, Vec<u8>)>,
     failing: Vec<u64>,
     reads: u64,
+    asked: Asked,
     faults: u64,
 }
 
@@ -24,6 +25,7 @@ impl MemorySource {
         ensures content { told_content result ≡ content_of files.items }
         ensures failing { failing_reads result ≡ failing.items }
         ensures first { next_read result ≡ 1 }
+        ensures asked { source_asked result ≡ [] }
         ensures faults { source_faults result ≡ 0 }
     {
         MemorySource {
@@ -31,6 +33,7 @@ impl MemorySource {
             files,
             failing,
             reads: 0,
+            asked: Asked::new(),
             faults: 0,
         }
     }
@@ -80,6 +83,8 @@ impl Source for MemorySource {
         ensures bytes { IfOk result (λ v. IsContent (told_content self.old name.now) v.items) }
         ensures short { IfOk result (λ v. vec_len v ≤ most) }
         ensures long { IfErr result (IsLonger (told_content self.old name.now) most) }
+        ensures asked { source_asked self.new
+            ≡ source_asked self.old ++ (name.now, handed result) ∷ [] }
         ensures later { source_faults self.old ≤ source_faults self.new }
         ensures cause { IfErr result
             (FailedOnly (Rose (source_faults self.old) (source_faults self.new))) }
@@ -93,6 +98,10 @@ impl Source for MemorySource {
         ensures next { next_read self.new ≡ next_number (next_read self.old) }
     {
         let answer = self.answer(name, most);
+        self.asked = self.asked.with(&Ask {
+            name,
+            answer: &answer,
+        });
         self.reads = self.reads.saturating_add(1);
         if let Err(ReadError::Failed) = answer {
             self.faults = self.faults.saturating_add(1);

@@ -1,11 +1,11 @@
 //! The files and the standard streams of the system. They count each fault of the system.
 
-ghost use Rattle.std.specs.Prelude.{◌≡◌, ◌≤◌, ◌<◌, ◌^◌, ◌-◌, ◌+◌, IfOk, IfErr, length, take, vec_len};
+ghost use Rattle.std.specs.Prelude.{◌≡◌, ◌≤◌, ◌<◌, ◌^◌, ◌-◌, ◌+◌, [], ◌++◌, IfOk, IfErr, length, take, vec_len};
 ghost use Rattle.std.specs.Io.KnownBytes as known;
 ghost use Rattle.asp_edge.specs.Causes.{IsContent, IsLonger, TakesOneMore, is_failed};
-ghost use Rattle.asp_edge.specs.System.{file_faults, files_told, stream_of, stream_faults, stream_told};
+ghost use Rattle.asp_edge.specs.System.{file_faults, files_asked, files_told, stream_of, stream_faults, stream_taken, stream_told};
 
-use crate::{ReadError, Sink, Source, WriteFailed};
+use crate::{Ask, Asked, Piece, ReadError, Sink, Source, Taken, WriteFailed};
 use std::alloc::Global;
 use std::fs;
 use std::io::{Read, Stderr, Stdout, Write};
@@ -14,20 +14,27 @@ use std::rt::Files;
 /// The bytes that one call of the system is asked for, at most.
 const BUFFER: usize = 4096;
 
-/// The files of the system, by their paths. It tells no content. A path that cannot be opened, a
+/// The files of the system, by their paths. It tells no content, but what was asked
+/// of it. A path that cannot be opened, a
 /// folder and a file that cannot be read are faults.
 #[derive(Drop)]
 pub struct FileSource<'a, R: Files + AllocGlobal> {
     rt: &'a R,
+    asked: Asked,
     faults: u64,
 }
 
 impl<'a, R: Files + AllocGlobal> FileSource<'a, R> {
     /// The files that this runtime opens.
     pub fn new(rt: &'a R) -> FileSource<'a, R>
+        ensures asked { files_asked result ≡ [] }
         ensures faults { file_faults result ≡ 0 }
     {
-        FileSource { rt, faults: 0 }
+        FileSource {
+            rt,
+            asked: Asked::new(),
+            faults: 0,
+        }
     }
 
     // The bytes of a file. A failure is still to be counted.
@@ -74,6 +81,10 @@ impl<'a, R: Files + AllocGlobal> Source for FileSource<'a, R> {
 
     fn read(&mut self, name: &str, most: usize) -> Result<Vec<u8>, ReadError> {
         let answer = self.read_file(name, most);
+        self.asked = self.asked.with(&Ask {
+            name,
+            answer: &answer,
+        });
         if let Err(ReadError::Failed) = answer {
             self.faults = self.faults.saturating_add(1);
             return Err(ReadError::Failed);
@@ -82,17 +93,19 @@ impl<'a, R: Files + AllocGlobal> Source for FileSource<'a, R> {
     }
 }
 
-/// A stream of bytes. It tells what its writer tells, and a standard stream tells nothing. A writer
-/// that takes nothing of a piece that is not empty is at fault.
+/// A stream of bytes. It tells what it took, and what its writer tells; a standard stream tells
+/// nothing. A writer that takes nothing of a piece that is not empty is at fault.
 #[derive(Drop)]
 pub struct StdSink<W: Write> {
     stream: W,
+    taken: Taken,
     faults: u64,
 }
 
 impl StdSink<Stdout> {
     /// Standard output.
     pub fn out(rt: &HostRuntime) -> StdSink<Stdout>
+        ensures taken { stream_taken result ≡ [] }
         ensures faults { stream_faults result ≡ 0 }
     {
         StdSink::over(rt.stdout())
@@ -102,6 +115,7 @@ impl StdSink<Stdout> {
 impl StdSink<Stderr> {
     /// Standard error.
     pub fn err(rt: &HostRuntime) -> StdSink<Stderr>
+        ensures taken { stream_taken result ≡ [] }
         ensures faults { stream_faults result ≡ 0 }
     {
         StdSink::over(rt.stderr())
@@ -112,20 +126,31 @@ impl<W: Write> StdSink<W> {
     /// A sink over a stream, with no fault so far.
     pub fn over(stream: W) -> StdSink<W>
         ensures stream { stream_of result ≡ stream }
+        ensures taken { stream_taken result ≡ [] }
         ensures faults { stream_faults result ≡ 0 }
     {
-        StdSink { stream, faults: 0 }
+        StdSink {
+            stream,
+            taken: Taken::new(),
+            faults: 0,
+        }
     }
 
     // How many bytes the stream takes now: none at a fault.
     fn take_some(&mut self, rest: &[u8]) -> usize
         ensures within { result ≤ length rest.now }
-        ensures taken { known.Appends (W.contents (stream_of self.old))
+        ensures taken { stream_taken self.new ≡ stream_taken self.old ++ take result rest.now }
+        ensures appended { known.Appends (W.contents (stream_of self.old))
             (W.contents (stream_of self.new)) (take result rest.now) }
         ensures faults { stream_faults self.new ≡ stream_faults self.old }
     {
         match self.stream.write(rest) {
-            Ok(count) => count,
+            Ok(count) => {
+                self.taken = self.taken.with(&Piece {
+                    bytes: &rest[..count],
+                });
+                count
+            }
             Err(_) => 0,
         }
     }
