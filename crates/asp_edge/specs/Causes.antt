@@ -17,10 +17,10 @@ counted failed count = if failed then next_number count else count
 abbrev pub Rose : ℕ → ℕ → Type 0
 Rose before now = next_number before ≤ now
 
--- the bytes that an answer hands out
-abbrev pub handed : Result (Vec ℕ) ReadError → Option (List ℕ)
-handed (Ok bytes) = Some bytes.items
-handed (Err e) = None
+-- an answer, with the bytes that it hands out
+abbrev pub answered : Result (Vec ℕ) ReadError → Result (List ℕ) ReadError
+answered (Ok bytes) = Ok bytes.items
+answered (Err e) = Err e
 
 -- where a source tells its content, the bytes are all of it
 abbrev pub IsContent : Option (List ℕ) → List ℕ → Type 0

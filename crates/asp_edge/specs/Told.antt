@@ -1,9 +1,10 @@
 -- What a source and a sink tell of themselves.
-use Rattle.std.specs.Prelude.{ℕ, List, Option}
+use Rattle.std.specs.Prelude.{ℕ, List, Option, Result}
+use Rattle.asp_edge.specs.declared.edge.ReadError.{ReadError}
 
--- what was asked of a source, in order: each name, and the bytes if some were handed out
+-- what was asked of a source, in order: each name, with the bytes that were handed out or why none were
 abbrev pub Asks : Type 0
-Asks = List (List ℕ × Option (List ℕ))
+Asks = List (List ℕ × Result (List ℕ) ReadError)
 
 -- the bytes under each name, where the source tells them, what was asked of it so far, and how often it failed
 pub record SourceTells : Type 0 where

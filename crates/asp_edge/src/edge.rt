@@ -4,7 +4,7 @@
 
 ghost use Rattle.std.specs.Prelude.{◌≡◌, ℕ, List, [], ◌∷◌, ◌++◌, Option, Some, IfOk, IfErr, OnOk, OnErr, vec_len, ◌≤◌, ◌<◌};
 ghost use Rattle.asp_edge.specs.Told.{SourceTells, SinkTells};
-ghost use Rattle.asp_edge.specs.Causes.{Rose, IsContent, IsLonger, Took, TookFront, FailedOnly, handed};
+ghost use Rattle.asp_edge.specs.Causes.{Rose, IsContent, IsLonger, Took, TookFront, FailedOnly, answered};
 
 use thiserror::Error;
 
@@ -28,8 +28,7 @@ pub enum ReadError {
 /// A source of named contents.
 pub trait Source {
     /// What it tells: the bytes under each name, where it tells them; what was asked of it so far,
-    /// with what it handed out; and how often it failed. That count stays at the last number of 64
-    /// bits.
+    /// with its answers; and how often it failed. That count stays at the last number of 64 bits.
     ghost told: { Self → SourceTells };
 
     /// All bytes under a name, if there are at most so many.
@@ -39,7 +38,7 @@ pub trait Source {
         ensures short { IfOk result (λ v. vec_len v ≤ most) }
         ensures long { IfErr result (IsLonger ((told self.old).content name.now) most) }
         ensures asked { (told self.new).asked
-            ≡ (told self.old).asked ++ (name.now, handed result) ∷ [] }
+            ≡ (told self.old).asked ++ (name.now, answered result) ∷ [] }
         ensures later { (told self.old).faults ≤ (told self.new).faults }
         ensures cause { IfErr result
             (FailedOnly (Rose (told self.old).faults (told self.new).faults)) };

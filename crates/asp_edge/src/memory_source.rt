@@ -1,7 +1,7 @@
 //! A source in memory, which fails at the reads that it was told.
 
 ghost use Rattle.std.specs.Prelude.{◌≡◌, ◌≤◌, [], ◌∷◌, ◌++◌, Some, IfOk, IfErr, option_map, vec_len};
-ghost use Rattle.asp_edge.specs.Causes.{Rose, IsContent, IsLonger, FailedOnly, TakesOneMore, handed, is_failed, next_number, counted};
+ghost use Rattle.asp_edge.specs.Causes.{Rose, IsContent, IsLonger, FailedOnly, TakesOneMore, answered, is_failed, next_number, counted};
 ghost use Rattle.asp_edge.specs.MemorySource.{content_of, memory_told, told_content, source_asked, source_faults, failing_reads, next_read, read_fails};
 
 use crate::{Ask, Asked, ReadError, Source};
@@ -84,7 +84,7 @@ impl Source for MemorySource {
         ensures short { IfOk result (λ v. vec_len v ≤ most) }
         ensures long { IfErr result (IsLonger (told_content self.old name.now) most) }
         ensures asked { source_asked self.new
-            ≡ source_asked self.old ++ (name.now, handed result) ∷ [] }
+            ≡ source_asked self.old ++ (name.now, answered result) ∷ [] }
         ensures later { source_faults self.old ≤ source_faults self.new }
         ensures cause { IfErr result
             (FailedOnly (Rose (source_faults self.old) (source_faults self.new))) }
