@@ -5,4 +5,4 @@ mod seat;
 mod seats;
 
 pub use seat::Seat;
-pub use seats::Seats;
+pub use seats::{MOST_ACTIVITIES, Seats};

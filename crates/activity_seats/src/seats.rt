@@ -26,6 +26,9 @@ use indexmap::IndexSet;
 use std::alloc::{AllocError, Global};
 use std::mem;
 
+/// The activities of a run, at most: each has a number of 32 bits.
+pub const MOST_ACTIVITIES: usize = 4_294_967_295;
+
 /// Activities under numbers from 0, in the order in which they were added.
 #[derive(Drop)]
 pub struct Seats<X, R> {
@@ -88,7 +91,7 @@ impl<X: Drop, R: Drop> Seats<X, R> {
         ensures kept { OnOk result (AreSeats self.new) }
     {
         let number = self.seats.len();
-        if number >= u32::MAX as usize {
+        if number >= MOST_ACTIVITIES {
             return Err(AllocError);
         }
         self.seats.push(Seat::In(here))?;
@@ -173,7 +176,7 @@ impl<X: Drop, R: Drop> Seats<X, R> {
         ensures kept { AreSeats self.new }
     {
         match self.swap(number, Seat::In(here)) {
-            Seat::In(_) => Vec::new(self.alloc),
+            Seat::In(_) => unreachable!(),
             Seat::Out(came) => {
                 self.away -= 1;
                 came
@@ -193,7 +196,7 @@ impl<X: Drop, R: Drop> Seats<X, R> {
         ensures kept { AreSeats self.new }
     {
         match self.swap(number, Seat::Out(Vec::new(self.alloc))) {
-            Seat::In(_) => Vec::new(self.alloc),
+            Seat::In(_) => unreachable!(),
             Seat::Out(came) => came,
         }
     }
@@ -210,10 +213,7 @@ impl<X: Drop, R: Drop> Seats<X, R> {
         ensures kept { AreSeats self.new }
     {
         match self.swap(number, Seat::Out(Vec::new(self.alloc))) {
-            Seat::In(here) => {
-                self.swap(number, Seat::In(here));
-                Ok(())
-            }
+            Seat::In(_) => unreachable!(),
             Seat::Out(mut rest) => {
                 rest.push(came)?;
                 self.swap(number, Seat::Out(rest));

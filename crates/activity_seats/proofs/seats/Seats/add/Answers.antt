@@ -12,8 +12,8 @@ pub returns-clause-kept : goal.returns-clause-kept
 returns-clause-kept g c =
     let old = c.args.self.now in
     let few : length old.seats.items < 2 ^ 32 - 1 = first_of (
-      omega (arith, c.if-number.false, c.len-number.ensures, old.seats.ok.0),
-      grind (arith, c.if-number.false, c.len-number.ensures, old.seats.ok.0),
+      omega (arith, c.if-number-ge-MOST_ACTIVITIES.false, c.len-number.ensures, old.seats.ok.0),
+      grind (arith, c.if-number-ge-MOST_ACTIVITIES.false, c.len-number.ensures, old.seats.ok.0),
       search rules,
     ) in
     let new : Seats g.row.X.Denot g.row.R.Denot = record { alloc = old.alloc; names = c.insert.new.self; seats = c.push.new.self; away = old.away } in

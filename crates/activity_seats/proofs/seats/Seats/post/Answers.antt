@@ -3,8 +3,8 @@ use Rattle.activity_seats.specs.Seats.{Out, seat_at, seats_in}
 use Rattle.activity_seats.proofs.SeatLemmas.{kept_set, same_box, set_twice}
 use Rattle.activity_seats.proofs.seats.Seats.post.Goals as goal
 
-pub returns-in_ok-push-in-Out-clause-posted : goal.returns-in_ok-push-in-Out-clause-posted
-returns-in_ok-push-in-Out-clause-posted g c = λ rs h.
+pub returns-clause-posted : goal.returns-clause-posted
+returns-clause-posted g c = λ rs h.
     let old = seats_in c.args.self.now in
     let k = c.args.number in
     let rest = c.in-Out.rest.items in
@@ -17,8 +17,8 @@ returns-in_ok-push-in-Out-clause-posted g c = λ rs h.
 pub returns-in_err-push-in-Out-clause-kept : goal.returns-in_err-push-in-Out-clause-kept
 returns-in_err-push-in-Out-clause-kept g c = kept_set c.args.self.now c.swap.new.self c.args.number (Out c.in-Out.rest.items) (Out c.new.result.items) c.swap.ensures.names c.swap.ensures.seats c.in-Out.ensures.was (ap (λ n. n + 1) c.swap.ensures.away) c.requires.kept
 
-pub returns-in_ok-push-in-Out-clause-kept : goal.returns-in_ok-push-in-Out-clause-kept
-returns-in_ok-push-in-Out-clause-kept g c =
+pub returns-clause-kept : goal.returns-clause-kept
+returns-clause-kept g c =
     let more = Out c.push.new.self.items in
     kept_set c.args.self.now c.swap-in-Out.new.self c.args.number (Out c.in-Out.rest.items) more (c.swap-in-Out.ensures.names ∙ c.swap.ensures.names)
     (c.swap-in-Out.ensures.seats ∙ ap (λ ss. slice_set ss c.args.number more) c.swap.ensures.seats ∙ set_twice (seats_in c.args.self.now) c.args.number _ more)
