@@ -176,7 +176,7 @@ impl Holders {
                     settle(records, passings, &mut self.owed, future, 0, u32::MAX);
                 }
             }
-            None => {}
+            None => unreachable!(),
         }
     }
 

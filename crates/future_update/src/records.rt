@@ -405,7 +405,7 @@ impl Records {
     {
         match self.homes.get_index_of(&future) {
             Some(number) => self.filled.tick(number),
-            None => {}
+            None => unreachable!(),
         }
     }
 

@@ -44,8 +44,8 @@ invariant_of-self-else-fill c =
     let f = future_of (names_of s.records) c.in-Some.future in
     kept s c.fill.new.self c.self.invariant c.fill.ensures.records c.fill.ensures.edges (c.fill.ensures.shape ∙ filled_before f (shape_of s.records) (sym c.if-fill.false ∙ c.fill.ensures.first)) c.fill.ensures.answers (keeps_same (names_of s.records) (names_of c.fill.new.self) c.fill.ensures.names)
 
-pub returns-in-None-clause-filled : goal.returns-in-None-clause-filled
-returns-in-None-clause-filled c =
+pub unreachable-requires : goal.unreachable-requires
+unreachable-requires c =
     let r = c.self.inside.records in
     let f = future_shape c.args.future.now in
     let told : IsSome (home_of f (shape_of r).homes) = subst (λ (v : HoldersView). IsSome (home_of f v.holders.homes)) (sym c.self.view_is) c.requires.told in

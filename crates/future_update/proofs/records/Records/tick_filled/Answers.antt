@@ -11,12 +11,12 @@ use Rattle.future_update.proofs.records.Records.tick_filled.Goals as goal
 pub tick-requires-clause-open : goal.tick-requires-clause-open
 tick-requires-clause-open c = sym (filled_so c.args.self.now c.requires.records c.args.future c.requires.known c.in-Some.number (sym c.in-Some.ensures.index)) ∙ c.requires.open
 
-pub returns-in-Some-clause-shape : goal.returns-in-Some-clause-shape
-returns-in-Some-clause-shape c =
+pub returns-clause-shape : goal.returns-clause-shape
+returns-clause-shape c =
     let r = c.args.self.now in
     let at : ℕ → FutureShape = λ i. future_of (names_of r) (future_at (keys r.homes) i) in
     let filled = ap (map at) c.tick.ensures.order ∙ map-append at r.filled.order.items (c.in-Some.number ∷ []) ∙ ap (λ f. (shape_of r).filled ++ future_of (names_of r) f ∷ []) (sym (found_future c.args.future r.homes.entries c.in-Some.number (sym c.in-Some.ensures.index))) in
     λ i. record (shape_of r) { filled = filled i }
 
-pub returns-in-None-clause-shape : goal.returns-in-None-clause-shape
-returns-in-None-clause-shape c = absurd (home_there c.args.self.now c.requires.records c.args.future c.requires.known c.requires.told (sym c.in-None.ensures.found))
+pub unreachable-requires : goal.unreachable-requires
+unreachable-requires c = absurd (home_there c.args.self.now c.requires.records c.args.future c.requires.known c.requires.told (sym c.in-None.ensures.found))
