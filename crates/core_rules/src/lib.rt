@@ -8,6 +8,6 @@ mod futures;
 mod lends;
 
 pub use commits::{is_used, left_with, with_communication};
-pub use ends::{over, verdict_at_rest};
+pub use ends::verdict_at_rest;
 pub use futures::future_in;
 pub use lends::is_lent;
