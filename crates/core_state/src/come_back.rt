@@ -1,6 +1,6 @@
 //! A lease that comes back.
 
-ghost use Rattle.std.specs.Prelude.{◌≡◌, ◌++◌, IfOk, List, OnErr, OnOk, map};
+ghost use Rattle.std.specs.Prelude.{◌≡◌, ◌++◌, IfOk, List, OnErr, OnOk, false, map};
 ghost use Rattle.std.specs.Arc.{arc_value};
 ghost use Rattle.std.specs.List.{AllByRecursion};
 ghost use Rattle.asp_model.specs.Configuration as model;
@@ -100,6 +100,7 @@ impl CoreState {
             IsCore h code self.old s → (l : IsLease h code lease) →
             let back = IsReturning h code self.new s lease.number l.name lease.grant lease.taken in
             IfOk result (λ b. back b.value) }
+        ensures fresh { OnOk result (lease.spent ≡ false) }
         ensures entries { entries_in self.new.journal ≡ entries_in self.old.journal }
     {
         if lease.spent {
