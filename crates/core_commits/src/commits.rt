@@ -1,6 +1,17 @@
 //! A lease that comes back.
 
-ghost use Rattle.std.specs.Prelude.{◌≡◌, ◌-◌, IfOk, IfSome, List, OnErr, Option, is_some};
+ghost use Rattle.std.specs.Prelude.{
+  ◌≡◌,
+  ◌-◌,
+  IfOk,
+  IfSome,
+  List,
+  OnErr,
+  OnOk,
+  Option,
+  false,
+  is_some,
+};
 ghost use Rattle.std.specs.Option.{option_map};
 ghost use Rattle.asp_model.specs.Chase.{chase};
 ghost use Rattle.asp_model.specs.Configuration as model;
@@ -79,6 +90,7 @@ pub fn arrive(state: &mut CoreState, lease: Lease) -> Result<Option<Box<Actor>>,
         IsCore h code state.old s → (l : IsLease h code lease) →
         let back = IsArrived h code state.new s lease.number l.name lease.grant lease.taken in
         IfOk result (λ a. back (option_map (λ b. b.value) a)) }
+    ensures fresh { OnOk result (lease.spent ≡ false) }
     ensures waits { IfOk result (λ a. IfSome a
         (λ b. entries_in state.new.journal ≡ entries_in state.old.journal)) }
     ensures entries { OnErr result
