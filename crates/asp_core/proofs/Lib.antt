@@ -11,3 +11,6 @@ pub mod LendLemmas
 pub mod LeaseLemmas
 pub mod DeliverLemmas
 pub mod EndLemmas
+pub mod HomeLemmas
+pub mod ChosenLemmas
+pub mod StopLemmas

@@ -1,5 +1,5 @@
 -- A core is the run of its journal.
-use Rattle.std.specs.Prelude.{◌≡◌, ℕ, List, false, length}
+use Rattle.std.specs.Prelude.{◌≡◌, ℕ, List, [], false, length}
 use Rattle.std.specs.Arc.{arc_value}
 use Rattle.asp_model.specs.History.{EntryShape, HistoryShape}
 use Rattle.asp_model.specs.Names.{Name}
@@ -39,3 +39,7 @@ module _ {P : Type 0} where
   -- so each core does that is not spent
   abbrev pub IsKept : Core P → Type 0
   IsKept x = x.spent ≡ false → (s : RunShape) × IsRun x s
+
+  -- nobody is out by its run
+  abbrev pub IsHome : Core P → Type 0
+  IsHome x = (s : RunShape) → IsRun x s → s.out ≡ []

@@ -3,5 +3,7 @@ pub mod Runs
 pub mod Cores
 pub mod Plans
 pub mod Calls
+pub mod Chosen
+pub mod Stopping
 pub mod Bringing
 pub mod Delivering

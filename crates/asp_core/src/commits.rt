@@ -1,6 +1,6 @@
 //! A lease that comes back.
 
-ghost use Rattle.std.specs.Prelude.{◌≡◌, Err, List, OnErr, OnOk, alloc_error, true};
+ghost use Rattle.std.specs.Prelude.{◌≡◌, Err, List, OnErr, OnOk, alloc_error, false, true};
 ghost use Rattle.asp_model.specs.History.{BeginsWith, HistoryShape};
 ghost use Rattle.asp_model.specs.Intent.{Effect};
 ghost use Rattle.asp_model.specs.Names.{Name};
@@ -25,9 +25,11 @@ ghost use Rattle.asp_core.specs.Bringing.{
   StandForLease,
 };
 ghost use Rattle.asp_core.specs.Calls.{IsCommittedBy};
+ghost use Rattle.asp_core.specs.Chosen.{StaysChosen};
 ghost use Rattle.asp_core.specs.Cores.{IsKept, IsRun, code_of, history_of};
 ghost use Rattle.asp_core.specs.Plans.{KeepsStrategies, StayByPlan};
 ghost use Rattle.asp_core.specs.Runs.{Stand};
+ghost use Rattle.asp_core.specs.Stopping.{HasStoppedOr, StaysStopped};
 
 use crate::cores::Core;
 use actor::{Actor, Given};
@@ -105,6 +107,7 @@ fn come<P: UpdatePolicy>(
         Stand h code s state.old edges.old.holders → (l : IsLease h code lease) →
         let come = IsCome h code s lease.number l.name lease.grant lease.taken in
         OnOk result (come state.new edges.old edges.new) }
+    ensures fresh { OnOk result (lease.spent ≡ false) }
     ensures answers { let strategies = strategy_in edges.new in
         OnOk result (AreAnswered P.answer P.asked strategies edges.old edges.new) }
     ensures keeps { OnOk result (KeepsStrategies edges.old edges.new) }
@@ -132,6 +135,7 @@ fn bring_back<P: UpdatePolicy>(
         (l : IsLease h code lease) →
         let back = IsBroughtBack h code s lease.number l.name lease.grant lease.taken in
         OnOk result (back state.new edges.new) }
+    ensures fresh { OnOk result (lease.spent ≡ false) }
     ensures answers { let strategies = strategy_in edges.new in
         OnOk result (AreAnswered P.answer P.asked strategies edges.old edges.new) }
     ensures keeps { OnOk result (KeepsStrategies edges.old edges.new) }
@@ -158,6 +162,9 @@ impl<P: UpdatePolicy> Core<P> {
             OnOk result (AreAnswered P.answer P.asked strategies self.old.edges self.new.edges) }
         ensures by_plan { OnOk result
             (StayByPlan P.answer P.asked self.old.edges self.new.edges) }
+        ensures chosen { OnOk result (StaysChosen self.old self.new) }
+        ensures stopped { HasStoppedOr (history_of self.old) (code_of self.old) lease →
+            OnOk result (StaysStopped (history_of self.old) (history_of self.new)) }
         ensures spent { self.old.spent ≡ true → result ≡ Err alloc_error }
         ensures gives_up { OnErr result (self.new.spent ≡ true) }
         ensures err { OnErr result (history_of self.new ≡ history_of self.old) }

@@ -83,8 +83,10 @@ impl<P: UpdatePolicy + Drop> Core<P> {
     ghost use Rattle.asp_model.specs.Shapes.{tree_of};
     ghost use Rattle.journals.specs.Journals.{begun};
     ghost use Rattle.core_state.specs.Cores.{history_begun};
-    ghost use Rattle.asp_core.specs.Cores.{IsRun, history_of};
+    ghost use Rattle.asp_core.specs.Chosen.{DeliversChosen};
+    ghost use Rattle.asp_core.specs.Cores.{IsHome, IsRun, history_of};
     ghost use Rattle.asp_core.specs.Plans.{AreByPlan};
+    ghost use Rattle.asp_core.specs.Stopping.{AllStopped};
 
     /// A core whose main activity is in, with the program as its term, and the whole budget.
     pub fn new(
@@ -102,6 +104,9 @@ impl<P: UpdatePolicy + Drop> Core<P> {
         ensures policies { IfOk result (λ x. x.edges.policies ≡ policies) }
         ensures by_plan { IfOk result
             (λ x. AreByPlan P.answer P.asked plan policies x.edges) }
+        ensures home { IfOk result IsHome }
+        ensures chosen { IfOk result DeliversChosen }
+        ensures stopped { IfOk result (λ x. AllStopped (history_of x)) }
     {
         let mut edges = Edges::new(alloc, plan, policies);
         match begin(alloc, program, budget, &mut edges) {
@@ -127,9 +132,18 @@ impl<P: UpdatePolicy + Drop> Core<P> {
 }
 
 impl<P> Core<P> {
-    ghost use Rattle.std.specs.Prelude.{◌≡◌, ◌<◌, Some, false, map, slice_get};
+    ghost use Rattle.std.specs.Prelude.{◌≡◌, ◌<◌, Some, false, map, slice_get, true};
     ghost use Rattle.asp_model.specs.Shapes.{entry_shape};
-    ghost use Rattle.asp_core.specs.Cores.{IsKept, activities_of, entries_of, names_of};
+    ghost use Rattle.journals.specs.Journals.{RunShape};
+    ghost use Rattle.journals.specs.Owed.{is_any};
+    ghost use Rattle.asp_core.specs.Cores.{
+      IsHome,
+      IsKept,
+      IsRun,
+      activities_of,
+      entries_of,
+      names_of,
+    };
 
     /// How many activities there are.
     pub fn activities(&self) -> usize
@@ -160,6 +174,18 @@ impl<P> Core<P> {
         ensures spent { result ≡ self.now.spent }
     {
         self.spent
+    }
+
+    /// Whether nobody is out.
+    pub fn is_home(&self) -> bool
+        requires kept { IsKept self.now }
+        ensures home { result ≡ true → IsHome self.now }
+        ensures out { (s : RunShape) → IsRun self.now s → result ≡ false → is_any s.out ≡ true }
+    {
+        if self.spent {
+            return true;
+        }
+        !self.state.seats.is_any_out()
     }
 
     /// The edges along which futures went.

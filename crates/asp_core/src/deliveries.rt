@@ -35,10 +35,12 @@ ghost use Rattle.core_edges.specs.Deliveries.{future_of};
 ghost use Rattle.core_edges.specs.Labels.{AreByLabels};
 ghost use Rattle.core_edges.specs.Strategies.{KeepsOthers, strategy_in};
 ghost use Rattle.asp_core.specs.Calls.{HasGoneOn, MayDeliver, owed_next};
+ghost use Rattle.asp_core.specs.Chosen.{StaysChosen};
 ghost use Rattle.asp_core.specs.Cores.{IsKept, IsRun, code_of, history_of};
 ghost use Rattle.asp_core.specs.Delivering.{IsDueDelivery, IsHanded, StandForDelivery};
 ghost use Rattle.asp_core.specs.Plans.{KeepsStrategies, StayByPlan};
 ghost use Rattle.asp_core.specs.Runs.{Stand, StandForSome};
+ghost use Rattle.asp_core.specs.Stopping.{StaysStopped};
 
 use crate::cores::Core;
 use asp_model::{Delivery, FutureName};
@@ -222,6 +224,11 @@ impl<P: UpdatePolicy> Core<P> {
             OnOk result (AreAnswered P.answer P.asked strategies self.old.edges self.new.edges) }
         ensures by_plan { OnOk result
             (StayByPlan P.answer P.asked self.old.edges self.new.edges) }
+        ensures chosen { (s : RunShape) → IsRun self.old s →
+            owed_next self.old s ≡ Some (delivery_shape delivery.now) →
+            OnOk result (StaysChosen self.old self.new) }
+        ensures stopped { OnOk result
+            (StaysStopped (history_of self.old) (history_of self.new)) }
         ensures spent { self.old.spent ≡ true → result ≡ Err alloc_error }
         ensures gives_up { OnErr result (self.new.spent ≡ true) }
         ensures err { OnErr result (history_of self.new ≡ history_of self.old) }

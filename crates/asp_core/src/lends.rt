@@ -5,8 +5,10 @@ ghost use Rattle.asp_model.specs.History.{BeginsWith};
 ghost use Rattle.journals.specs.Journals.{RunShape};
 ghost use Rattle.core_state.specs.Lending.{IsNextReady};
 ghost use Rattle.asp_core.specs.Calls.{IsLentBy};
+ghost use Rattle.asp_core.specs.Chosen.{StaysChosen};
 ghost use Rattle.asp_core.specs.Cores.{IsKept, IsRun, activities_of, code_of, history_of};
 ghost use Rattle.asp_core.specs.Plans.{StayByPlan};
+ghost use Rattle.asp_core.specs.Stopping.{StaysStopped};
 
 use crate::cores::Core;
 use core_state::Lease;
@@ -34,6 +36,8 @@ impl<P: UpdatePolicy> Core<P> {
         ensures lent { (s : RunShape) → IsRun self.old s →
             IsLentBy self.old s number result self.new }
         ensures by_plan { StayByPlan P.answer P.asked self.old.edges self.new.edges }
+        ensures chosen { StaysChosen self.old self.new }
+        ensures stopped { StaysStopped (history_of self.old) (history_of self.new) }
         ensures spent { self.old.spent ≡ true → (result ≡ None) × (self.new ≡ self.old) }
         ensures kept { IsKept self.new }
         ensures begins { BeginsWith (history_of self.new) (history_of self.old) }

@@ -6,6 +6,7 @@ use Rattle.core_edges.specs.Strategies.{strategy_in}
 use Rattle.core_edges.proofs.AnswerLemmas.{none_answered}
 use Rattle.core_commits.specs.Arrivals.{IsArrived}
 use Rattle.asp_core.specs.Bringing.{HasActed, IsComeBy}
+use Rattle.asp_core.proofs.DeliverLemmas.{on_ok_is}
 use Rattle.asp_core.proofs.LeaseLemmas.{lease_acting}
 use Rattle.asp_core.proofs.PlanLemmas.{keeps_itself}
 use Rattle.asp_core.proofs.commits.come.Goals as goal
@@ -62,3 +63,9 @@ returns-in-Some-clause-entries g c =
     let z = c.arrive.new.state in
     let waits : entries_in z.journal ≡ entries_in x.journal = subst (λ o. IfSome o (λ b. entries_in z.journal ≡ entries_in x.journal)) c.in-Some.is c.in_ok-arrive.ensures.waits in
     on_err_weaker c.act.result (λ same. same ∙ waits) c.act.ensures.entries
+
+pub returns-in-None-clause-fresh : goal.returns-in-None-clause-fresh
+returns-in-None-clause-fresh g c = c.in_ok-arrive.ensures.fresh
+
+pub returns-in-Some-clause-fresh : goal.returns-in-Some-clause-fresh
+returns-in-Some-clause-fresh g c = on_ok_is c.act.result c.in_ok-arrive.ensures.fresh

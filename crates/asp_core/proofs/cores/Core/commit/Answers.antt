@@ -4,7 +4,9 @@ use Rattle.core_commits.specs.Arrivals.{act_at}
 use Rattle.asp_core.specs.Cores.{code_of, history_of}
 use Rattle.asp_core.specs.Runs.{counted}
 use Rattle.asp_core.proofs.CoreLemmas.{begins_before, begins_same, has_gone_on, entered, run_kept, runs, same_history}
+use Rattle.asp_core.proofs.ChosenLemmas.{stays_chosen}
 use Rattle.asp_core.proofs.PlanLemmas.{by_plan_on}
+use Rattle.asp_core.proofs.StopLemmas.{comes_stopped}
 use Rattle.asp_core.proofs.cores.Core.commit.Goals as goal
 
 pub returns-in_err-bring_back-clause-begins : goal.returns-in_err-bring_back-clause-begins
@@ -46,3 +48,25 @@ pub returns-clause-by_plan : goal.returns-clause-by_plan
 returns-clause-by_plan g c =
     let r = c.requires.kept c.if-self.false in
     by_plan_on g.P.UpdatePolicy.answer g.P.UpdatePolicy.asked c.args.self.now r.0 c.bring_back.new.edges r.1 c.in_ok-bring_back.ensures.keeps c.in_ok-bring_back.ensures.answers
+
+pub returns-clause-chosen : goal.returns-clause-chosen
+returns-clause-chosen g c =
+    let x = c.args.self.now in
+    let lease = c.args.lease in
+    let new = record x { state = c.bring_back.new.state; edges = c.bring_back.new.edges; spent = false } in
+    let r = c.requires.kept c.if-self.false in
+    let back = c.in_ok-bring_back.ensures.back (history_of x) (code_of x) r.0 r.1.stand r.1.labels c.requires.lease in
+    let e = Committed lease.number (counted lease.taken (act_at r.0 c.requires.lease.name lease.grant lease.taken back.end)) in
+    let answers = c.in_ok-bring_back.ensures.answers in
+    stays_chosen x new r.0 back.after e answers.given r.1 (runs x new e back.after refl refl refl back.stand back.labels) (entered x new e back.after refl refl refl back.stand back.labels) answers.kept tt
+
+pub returns-clause-stopped : goal.returns-clause-stopped
+returns-clause-stopped g c = λ has.
+    let x = c.args.self.now in
+    let lease = c.args.lease in
+    let new = record x { state = c.bring_back.new.state; edges = c.bring_back.new.edges; spent = false } in
+    let r = c.requires.kept c.if-self.false in
+    let name = c.requires.lease.name in
+    let back = c.in_ok-bring_back.ensures.back (history_of x) (code_of x) r.0 r.1.stand r.1.labels c.requires.lease in
+    let e = Committed lease.number (counted lease.taken (act_at r.0 name lease.grant lease.taken back.end)) in
+    comes_stopped x new r.0 (code_of x) lease name back.end r.1 (has c.in_ok-bring_back.ensures.fresh) back.has_run (entered x new e back.after refl refl refl back.stand back.labels)
