@@ -20,23 +20,24 @@ use Rattle.rank_laws.specs.Runs.{is_ready}
 use Rattle.core_commits.specs.Arrivals.{act_at}
 use Rattle.core_state.specs.declared.lease.Lease.{Lease}
 use Rattle.core_state.specs.Cores.{with_entry}
-use Rattle.core_state.specs.Leases.{IsLease}
+use Rattle.core_state.specs.Leases.{HasStopped, IsLease}
 use Rattle.asp_core.specs.declared.cores.Core.{Core}
 use Rattle.asp_core.specs.Cores.{IsRun, activities_of, code_of, history_of}
 use Rattle.asp_core.specs.Calls.{HasEntered, HasGoneOn, IsCommittedBy, IsLentBy}
 use Rattle.asp_core.specs.Runs.{counted}
 use Rattle.asp_core.proofs.LendLemmas.{ready_seat}
+use Rattle.asp_core.proofs.StopLemmas.{stops_there}
 use Rattle.core_drives.specs.declared.drivers.Driver.{Driver}
 use Rattle.core_drives.specs.Driving.{IsDriving, IsHeldAt}
 use Rattle.core_drives.specs.Steps.{ComesIn, Commits, Delivers, IsStepped, Lends, entered_if}
 
-apart_of : (k j : ℕ) → is_at (nat_cmp k) j ≡ false → j ≢ k
+pub apart_of : (k j : ℕ) → is_at (nat_cmp k) j ≡ false → j ≢ k
 apart_of k j other same = true_false (is_at (nat_cmp k) k) (number_itself k) (ap (λ q. is_at (nat_cmp k) q) (sym same) ∙ other)
 
-same_number : (k : ℕ) → (k == k) ≡ true
+pub same_number : (k : ℕ) → (k == k) ≡ true
 same_number k = grind arith
 
-differ : (j k : ℕ) → j ≢ k → (j == k) ≡ false
+pub differ : (j k : ℕ) → j ≢ k → (j == k) ≡ false
 differ j k apart = false_from_ne_true (j == k) (λ e. apart (eqb-true j k e))
 
 -- Who is out
@@ -86,7 +87,7 @@ back_other s t k r j apart e = ap (grant_of j) (committed_out s t k r _ _ e) ∙
 
 -- Leases
 
-lease_on : (h : HistoryShape) (code : List Node) (x : EntryShape) (l : Lease) → stays_out l.number (x ∷ []) ≡ true → IsLease h code l → IsLease (with_entry h x) code l
+abbrev pub lease_on : (h : HistoryShape) (code : List Node) (x : EntryShape) (l : Lease) → stays_out l.number (x ∷ []) ≡ true → IsLease h code l → IsLease (with_entry h x) code l
 lease_on h code x l stays is = record {
   run = is.run;
   lent = leases_last h.program h.budget h.entries x l.number l.burst is.run stays is.lent;
@@ -179,29 +180,31 @@ module _ {P : Type 0} where
       by true ready = absurd (out (ready_seat (history_of x) (code_of x) s x.state x.edges.holders is.stand k ready))
       by false ready = refl
 
-  pub lend_entered : (x y : Core P) (s : RunShape) (k : ℕ) → IsRun x s → is_ready s k ≡ true → HasEntered x (Lent k) y → IsStepped (Lends k) (history_of x) (history_of y)
-  lend_entered x y s k is ready more = record { run = s; lawful = is.stand.core.run; enters = more ∙ sym (ap (λ b. entered_if b (Lent k) (history_of x)) ready) }
+  pub lend_entered : (x y : Core P) (s : RunShape) (k : ℕ) → IsRun x s → is_ready s k ≡ true → HasEntered x (Lent k) y → (ran : ℕ → Bool) → IsStepped (Lends k) ran (history_of x) (history_of y)
+  lend_entered x y s k is ready more ran = record { run = s; lawful = is.stand.core.run; enters = more ∙ sym (ap (λ b. entered_if b (Lent k) (history_of x)) ready) }
 
-  pub lend_left : (x : Core P) (s : RunShape) (k : ℕ) → IsRun x s → is_ready s k ≡ false → IsStepped (Lends k) (history_of x) (history_of x)
-  lend_left x s k is ready = record { run = s; lawful = is.stand.core.run; enters = sym (ap (λ b. entered_if b (Lent k) (history_of x)) ready) }
+  pub lend_left : (x : Core P) (s : RunShape) (k : ℕ) → IsRun x s → is_ready s k ≡ false → (ran : ℕ → Bool) → IsStepped (Lends k) ran (history_of x) (history_of x)
+  lend_left x s k is ready ran = record { run = s; lawful = is.stand.core.run; enters = sym (ap (λ b. entered_if b (Lent k) (history_of x)) ready) }
 
-  pub delivery_entered : (x y : Core P) (s : RunShape) (d : DeliveryShape) → IsRun x s → is_some (delivered d s) ≡ true → HasEntered x (Delivered d) y → IsStepped (Delivers d) (history_of x) (history_of y)
-  delivery_entered x y s d is may more = record { run = s; lawful = is.stand.core.run; enters = more ∙ sym (ap (λ b. entered_if b (Delivered d) (history_of x)) may) }
+  pub delivery_entered : (x y : Core P) (s : RunShape) (d : DeliveryShape) → IsRun x s → is_some (delivered d s) ≡ true → HasEntered x (Delivered d) y → (ran : ℕ → Bool) → IsStepped (Delivers d) ran (history_of x) (history_of y)
+  delivery_entered x y s d is may more ran = record { run = s; lawful = is.stand.core.run; enters = more ∙ sym (ap (λ b. entered_if b (Delivered d) (history_of x)) may) }
 
-  pub delivery_left : (x : Core P) (s : RunShape) (d : DeliveryShape) → IsRun x s → is_some (delivered d s) ≡ false → IsStepped (Delivers d) (history_of x) (history_of x)
-  delivery_left x s d is may = record { run = s; lawful = is.stand.core.run; enters = sym (ap (λ b. entered_if b (Delivered d) (history_of x)) may) }
+  pub delivery_left : (x : Core P) (s : RunShape) (d : DeliveryShape) → IsRun x s → is_some (delivered d s) ≡ false → (ran : ℕ → Bool) → IsStepped (Delivers d) ran (history_of x) (history_of x)
+  delivery_left x s d is may ran = record { run = s; lawful = is.stand.core.run; enters = sym (ap (λ b. entered_if b (Delivered d) (history_of x)) may) }
 
-  pub commit_entered : (x y : Core P) (s : RunShape) (k : ℕ) (l : Lease) (n : Name) → IsRun x s → l.number ≡ k → IsCommittedBy x s l n y → IsStepped (Commits k) (history_of x) (history_of y)
-  commit_entered x y s k l n is number by =
-      subst (λ q. IsStepped (Commits q) (history_of x) (history_of y)) number
-      (record {
-        run = s;
-        lawful = is.stand.core.run;
-        enters = subst (λ g. ComesIn s l.number g (history_of x) (history_of y)) (sym by.has_run.out) (n, l.taken, by.end, by.has_run, by.on.entered);
-      })
+  pub commit_entered : (x y : Core P) (s : RunShape) (k : ℕ) (l : Lease) (n : Name) → IsRun x s → l.number ≡ k → (ran : ℕ → Bool) → (ran k ≡ true → HasStopped (history_of x) (code_of x) l)
+      → IsCommittedBy x s l n y → IsStepped (Commits k) ran (history_of x) (history_of y)
+  commit_entered x y s k l n is number ran has by = record {
+    run = s;
+    lawful = is.stand.core.run;
+    enters =
+        subst (λ q. ComesIn s q (ran k) (grant_of q s.out) (history_of x) (history_of y)) number
+        (subst (λ g. ComesIn s l.number (ran k) g (history_of x) (history_of y)) (sym by.has_run.out)
+        (n, l.taken, by.end, by.has_run, λ so. stops_there (history_of x) (code_of x) s l n by.end is.stand.core.run (has so) by.has_run, by.on.entered));
+  }
 
-  pub commit_left : (x : Core P) (s : RunShape) (k : ℕ) → IsRun x s → grant_of k s.out ≡ None → IsStepped (Commits k) (history_of x) (history_of x)
-  commit_left x s k is free = record { run = s; lawful = is.stand.core.run; enters = subst (λ g. ComesIn s k g (history_of x) (history_of x)) (sym free) refl }
+  pub commit_left : (x : Core P) (s : RunShape) (k : ℕ) → IsRun x s → grant_of k s.out ≡ None → (ran : ℕ → Bool) → IsStepped (Commits k) ran (history_of x) (history_of x)
+  commit_left x s k is free ran = record { run = s; lawful = is.stand.core.run; enters = subst (λ g. ComesIn s k (ran k) g (history_of x) (history_of x)) (sym free) refl }
 
 -- Leases by their numbers
 

@@ -14,7 +14,7 @@ use Rattle.asp_core.specs.declared.cores.Core.{Core}
 use Rattle.asp_core.specs.Cores.{IsRun, history_of}
 use Rattle.core_drives.specs.Driven.{IsDriven}
 use Rattle.core_drives.specs.declared.steps.Step.{Step}
-use Rattle.core_drives.specs.Steps.{Commits, ComesIn, Delivers, Enters, IsStepped, Lead, Lends, Runs, StepShape, entered_if, step_shape}
+use Rattle.core_drives.specs.Steps.{Commits, ComesIn, Delivers, Enters, IsStepped, Lead, Lends, Runs, StepShape, entered_if, nobody, ran_after, step_shape}
 
 -- Steps keep the program
 
@@ -22,27 +22,28 @@ if_program : (b : Bool) (e : EntryShape) (h : HistoryShape) → (entered_if b e 
 if_program true e h = refl
 if_program false e h = refl
 
-in_program : (s : RunShape) (k : ℕ) (g : Option ℕ) (old new : HistoryShape) → ComesIn s k g old new → new.program ≡ old.program
-in_program s k None old new is = ap (λ (h : HistoryShape). h.program) is
-in_program s k (Some g) old new is = ap (λ (h : HistoryShape). h.program) is.4
+in_program : (s : RunShape) (k : ℕ) (b : Bool) (g : Option ℕ) (old new : HistoryShape) → ComesIn s k b g old new → new.program ≡ old.program
+in_program s k b None old new is = ap (λ (h : HistoryShape). h.program) is
+in_program s k b (Some g) old new is = ap (λ (h : HistoryShape). h.program) is.5
 
-step_program : (s : RunShape) (x : StepShape) (old new : HistoryShape) → Enters s x old new → new.program ≡ old.program
-step_program s (Lends k) old new is = ap (λ (h : HistoryShape). h.program) is ∙ if_program _ _ old
-step_program s (Runs k) old new is = ap (λ (h : HistoryShape). h.program) is
-step_program s (Commits k) old new is = in_program s k _ old new is
-step_program s (Delivers d) old new is = ap (λ (h : HistoryShape). h.program) is ∙ if_program _ _ old
+step_program : (s : RunShape) (x : StepShape) (ran : ℕ → Bool) (old new : HistoryShape) → Enters s x ran old new → new.program ≡ old.program
+step_program s (Lends k) ran old new is = ap (λ (h : HistoryShape). h.program) is ∙ if_program _ _ old
+step_program s (Runs k) ran old new is = ap (λ (h : HistoryShape). h.program) is
+step_program s (Commits k) ran old new is = in_program s k _ _ old new is
+step_program s (Delivers d) ran old new is = ap (λ (h : HistoryShape). h.program) is ∙ if_program _ _ old
 
-pub lead_program : (xs : List StepShape) (old new : HistoryShape) → Lead xs old new → new.program ≡ old.program
-lead_program [] old new is = ap (λ (h : HistoryShape). h.program) is
-lead_program (x ∷ xs) old new is = lead_program xs is.0 new is.2 ∙ step_program is.1.run x old is.0 is.1.enters
+pub lead_program : (xs : List StepShape) (ran : ℕ → Bool) (old new : HistoryShape) → Lead xs ran old new → new.program ≡ old.program
+lead_program [] ran old new is = ap (λ (h : HistoryShape). h.program) is
+lead_program (x ∷ xs) ran old new is = lead_program xs (ran_after x ran) is.0 new is.2 ∙ step_program is.1.run x ran old is.0 is.1.enters
 
 -- one step, and those that are left
-pub lead_more : (xs : List Step) (i : ℕ) (x : Step) (old mid new : HistoryShape) → i < length xs → x ≡ get_or xs i x → IsStepped (step_shape x) old mid → Lead (map step_shape (drop (i + 1) xs)) mid new → Lead (map step_shape (drop i xs)) old new
-lead_more xs i x old mid new within is stepped rest =
-    subst (λ q. Lead (map step_shape q) old new) (sym (drop_more xs i x within ∙ ap (λ y. y ∷ drop (i + 1) xs) (sym is))) (mid, stepped, rest)
+pub lead_more : (xs : List Step) (i : ℕ) (x : Step) (ran : ℕ → Bool) (old mid new : HistoryShape) → i < length xs → x ≡ get_or xs i x → IsStepped (step_shape x) ran old mid → Lead (map step_shape (drop (i + 1) xs)) (ran_after (step_shape x) ran) mid new
+    → Lead (map step_shape (drop i xs)) ran old new
+lead_more xs i x ran old mid new within is stepped rest =
+    subst (λ q. Lead (map step_shape q) ran old new) (sym (drop_more xs i x within ∙ ap (λ y. y ∷ drop (i + 1) xs) (sym is))) (mid, stepped, rest)
 
 module _ {P : Type 0} where
-  pub driven_so : (program : Tree) (budget : ℕ) (steps : List StepShape) (x : Core P) (s : RunShape) → Lead steps (history_begun program budget) (history_of x) → IsRun x s → (history_of x).program ≡ program → IsDriven program budget steps x
+  pub driven_so : (program : Tree) (budget : ℕ) (steps : List StepShape) (x : Core P) (s : RunShape) → Lead steps nobody (history_begun program budget) (history_of x) → IsRun x s → (history_of x).program ≡ program → IsDriven program budget steps x
   driven_so program budget steps x s leads is same =
       let h : HistoryShape = history_of x in
       record {

@@ -1,3 +1,4 @@
 pub mod BeginLemmas
 pub mod DriveLemmas
+pub mod RunLemmas
 pub mod EndLemmas

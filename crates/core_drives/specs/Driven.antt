@@ -14,7 +14,7 @@ use Rattle.verdict_laws.specs.Outcomes.{IsReplayedEnd}
 use Rattle.core_state.specs.Cores.{history_begun}
 use Rattle.asp_core.specs.declared.cores.Core.{Core}
 use Rattle.asp_core.specs.Cores.{IsRun, history_of}
-use Rattle.core_drives.specs.Steps.{Lead, StepShape}
+use Rattle.core_drives.specs.Steps.{Lead, StepShape, nobody}
 
 -- where nothing can step and each received from one sender at most, every lawful journal of the program leaves
 -- beginnings of its lists, and each that nothing can step after agrees with it
@@ -25,7 +25,7 @@ OneSenderIsEnough program c = IsStuck c → ((m : Name) → HasOneSender (sender
 
 -- the steps lead from the start to its journal, and its run agrees with the replay of its own sender lists and counts
 pub record IsDriven {P : Type 0} (program : Tree) (budget : ℕ) (steps : List StepShape) (x : Core P) : Type 0 where
-  pub leads : Lead steps (history_begun program budget) (history_of x)
+  pub leads : Lead steps nobody (history_begun program budget) (history_of x)
   pub run : RunShape
   pub is : IsRun x run
   pub replayed : IsReplayedEnd program run.configuration

@@ -1,16 +1,18 @@
 //! A core with the leases that are out.
 
-ghost use Rattle.std.specs.Prelude.{◌≡◌, OnOk, map};
+ghost use Rattle.std.specs.Prelude.{◌≡◌, Bool, OnOk, map, ℕ};
 ghost use Rattle.asp_model.specs.Shapes.{delivery_shape};
 ghost use Rattle.asp_core.specs.Cores.{code_of, history_of};
 ghost use Rattle.asp_core.specs.Plans.{StayByPlan};
-ghost use Rattle.core_drives.specs.Driving.{IsDriving};
+ghost use Rattle.core_drives.specs.Driving.{HaveRun, IsDriving};
 ghost use Rattle.core_drives.specs.Steps.{
   Commits,
   Delivers,
   IsStepped,
   Lead,
   Lends,
+  Runs,
+  ran_after,
   step_shape,
 };
 
@@ -35,8 +37,11 @@ impl<P: UpdatePolicy> Driver<P> {
         ensures driving { OnOk result (IsDriving self.new) }
         ensures by_plan { OnOk result
             (StayByPlan P.answer P.asked self.old.core.edges self.new.core.edges) }
-        ensures stepped { let step = Lends number in
-            OnOk result (IsStepped step (history_of self.old.core) (history_of self.new.core)) }
+        ensures stepped { (ran : ℕ → Bool) → let step = Lends number in
+            let old = history_of self.old.core in
+            OnOk result (IsStepped step ran old (history_of self.new.core)) }
+        ensures ran { (ran : ℕ → Bool) → HaveRun ran self.old → let step = Lends number in
+            OnOk result (HaveRun (ran_after step ran) self.new) }
     {
         if number as usize >= self.core.activities() {
             return Ok(());
@@ -53,6 +58,8 @@ impl<P: UpdatePolicy> Driver<P> {
         ensures by_plan { OnOk result
             (StayByPlan P.answer P.asked self.old.core.edges self.new.core.edges) }
         ensures same { OnOk result (self.new.core ≡ self.old.core) }
+        ensures ran { (ran : ℕ → Bool) → HaveRun ran self.old → let step = Runs number in
+            OnOk result (HaveRun (ran_after step ran) self.new) }
     {
         if let Some(mut lease) = self.leases.remove(&number) {
             lease.run()?;
@@ -66,8 +73,12 @@ impl<P: UpdatePolicy> Driver<P> {
         ensures driving { OnOk result (IsDriving self.new) }
         ensures by_plan { OnOk result
             (StayByPlan P.answer P.asked self.old.core.edges self.new.core.edges) }
-        ensures stepped { let step = Commits number in
-            OnOk result (IsStepped step (history_of self.old.core) (history_of self.new.core)) }
+        ensures stepped { (ran : ℕ → Bool) → HaveRun ran self.old →
+            let step = Commits number in
+            let old = history_of self.old.core in
+            OnOk result (IsStepped step ran old (history_of self.new.core)) }
+        ensures ran { (ran : ℕ → Bool) → HaveRun ran self.old → let step = Commits number in
+            OnOk result (HaveRun (ran_after step ran) self.new) }
     {
         match self.leases.remove(&number) {
             Some(lease) => self.core.commit(lease),
@@ -80,8 +91,12 @@ impl<P: UpdatePolicy> Driver<P> {
         ensures driving { OnOk result (IsDriving self.new) }
         ensures by_plan { OnOk result
             (StayByPlan P.answer P.asked self.old.core.edges self.new.core.edges) }
-        ensures stepped { let step = Delivers (delivery_shape delivery.now) in
-            OnOk result (IsStepped step (history_of self.old.core) (history_of self.new.core)) }
+        ensures stepped { (ran : ℕ → Bool) → let step = Delivers (delivery_shape delivery.now) in
+            let old = history_of self.old.core in
+            OnOk result (IsStepped step ran old (history_of self.new.core)) }
+        ensures ran { (ran : ℕ → Bool) → HaveRun ran self.old →
+            let step = Delivers (delivery_shape delivery.now) in
+            OnOk result (HaveRun (ran_after step ran) self.new) }
     {
         if self.core.may_deliver(delivery) {
             self.core.deliver(delivery)
@@ -96,8 +111,13 @@ impl<P: UpdatePolicy> Driver<P> {
         ensures driving { OnOk result (IsDriving self.new) }
         ensures by_plan { OnOk result
             (StayByPlan P.answer P.asked self.old.core.edges self.new.core.edges) }
-        ensures stepped { let step = step_shape step.now in
-            OnOk result (IsStepped step (history_of self.old.core) (history_of self.new.core)) }
+        ensures stepped { (ran : ℕ → Bool) → HaveRun ran self.old →
+            let step = step_shape step.now in
+            let old = history_of self.old.core in
+            OnOk result (IsStepped step ran old (history_of self.new.core)) }
+        ensures ran { (ran : ℕ → Bool) → HaveRun ran self.old →
+            let step = step_shape step.now in
+            OnOk result (HaveRun (ran_after step ran) self.new) }
     {
         match step {
             Step::Lend(number) => self.lend(*number),
@@ -113,8 +133,10 @@ impl<P: UpdatePolicy> Driver<P> {
         ensures driving { OnOk result (IsDriving self.new) }
         ensures by_plan { OnOk result
             (StayByPlan P.answer P.asked self.old.core.edges self.new.core.edges) }
-        ensures leads { let steps = map step_shape steps.now in
-            OnOk result (Lead steps (history_of self.old.core) (history_of self.new.core)) }
+        ensures leads { (ran : ℕ → Bool) → HaveRun ran self.old →
+            let steps = map step_shape steps.now in
+            let old = history_of self.old.core in
+            OnOk result (Lead steps ran old (history_of self.new.core)) }
     {
         for step in steps {
             self.step(step)?;
