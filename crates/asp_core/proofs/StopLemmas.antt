@@ -1,14 +1,14 @@
 -- A lease that has stopped comes back, and those before it had.
-use Rattle.std.proofs.Common.{◌≡◌, ◌∙◌, ◌++◌, ◌∷◌, [], ℕ, zero, suc, false, List, Option, Some, None, refl, sym, ap, subst}
+use Rattle.std.proofs.Common.{◌≡◌, ◌∙◌, ◌++◌, ◌∷◌, [], ℕ, zero, suc, List, Some, None, refl, sym, ap, subst}
 use Rattle.asp_model.specs.Configuration.{Activity}
 use Rattle.asp_model.specs.Contraction.{Becomes, Breaks, Communicates, Contraction, Faults, LineShape, Needs, contract}
 use Rattle.asp_model.specs.History.{Committed, EntryShape, HistoryShape}
 use Rattle.asp_model.specs.Names.{Name}
-use Rattle.asp_model.specs.Split.{Context, Redex, Split, Splits, Stands, plug, split}
+use Rattle.asp_model.specs.Split.{Context, Redex, Split, Splits, Stands, plug}
 use Rattle.asp_model.specs.Store.{Store}
 use Rattle.asp_model.specs.Term.{Tree}
 use Rattle.journals.specs.Journals.{RunShape, all_entered, begun, entered, run_of}
-use Rattle.chase_laws.proofs.FutureLemmas.{no_some, some_is}
+use Rattle.chase_laws.proofs.FutureLemmas.{some_is}
 use Rattle.laws.specs.Reached.{IsAt}
 use Rattle.lease_laws.proofs.LeaseLemmas.{leases_stay}
 use Rattle.program_code.specs.declared.code.Node.{Node}
@@ -16,7 +16,6 @@ use Rattle.activity_step.specs.Activities.{IsStopAt}
 use Rattle.activity_step.specs.Local.{IsLocalStep, LocalRun}
 use Rattle.core_laws.specs.Commits.{HasRun}
 use Rattle.core_state.specs.declared.lease.Lease.{Lease}
-use Rattle.core_state.specs.Cores.{with_entry}
 use Rattle.core_state.specs.Leases.{HasStopped}
 use Rattle.core_commits.specs.Arrivals.{act_at}
 use Rattle.asp_core.specs.declared.cores.Core.{Core}

@@ -1,4 +1,4 @@
-use Rattle.std.proofs.Common.{◌∙◌, false, true, not, sym, ap}
+use Rattle.std.proofs.Common.{◌∙◌, sym}
 use Rattle.chase_laws.proofs.FutureLemmas.{none_true}
 use Rattle.core_ends.proofs.VerdictLemmas.{none_away, some_away}
 use Rattle.asp_core.specs.Cores.{code_of, history_of}
