@@ -20,7 +20,6 @@ use Rattle.chase_laws.proofs.FutureLemmas.{no_some, some_is, true_false}
 use Rattle.lease_laws.specs.Numbered.{AreNumbered}
 use Rattle.lease_laws.proofs.NumberLemmas.{journals_are_numbered}
 use Rattle.program_code.specs.declared.code.Node.{Node}
-use Rattle.future_table.specs.Values.{AreOfCode, values_of}
 use Rattle.request_queue.specs.declared.request.Request.{Request}
 use Rattle.activity_seats.specs.declared.seats.Seats.{Seats}
 use Rattle.activity_seats.specs.Seats.{AreSeats, In, IsTaken, Out, SeatShape, names_in, seat_at, seats_in}
@@ -30,8 +29,7 @@ use Rattle.core_state.specs.declared.state.CoreState.{CoreState}
 use Rattle.core_state.specs.Cores.{IsCore}
 use Rattle.core_state.proofs.LendLemmas.{is_here}
 use Rattle.core_state.proofs.ListLemmas.{got_within, name_got, name_within, number_case}
-use Rattle.replay_one.specs.declared.population.Population.{Population}
-use Rattle.replay_one.specs.Population.{IsReachedPopulation, StandsAt, found_in}
+use Rattle.step_ends.specs.Activities.{StandForReached, StandsAt, actor_at}
 use Rattle.core_ends.specs.Gathering.{AreApart, AreBefore, IsBrought, OthersStay}
 use Rattle.core_ends.specs.Runs.{IsHome}
 
@@ -88,7 +86,7 @@ module _ (ns : List Name) (apart : AreApart ns) (seats : List (SeatShape Actor R
       by (Some (Out came)) is same = still_before (λ a e. no_some (ap seat_in (sym is ∙ e))) same
       by None is same = still_before (λ a e. no_some (ap seat_in (sym is ∙ e))) same
 
--- The population
+-- The activities
 
 module _ (h : HistoryShape) (code : List Node) (x : CoreState) (s : RunShape) (home : IsHome h code x s) where
   abbrev c : Configuration
@@ -109,10 +107,10 @@ module _ (h : HistoryShape) (code : List Node) (x : CoreState) (s : RunShape) (h
   pub are_seats : AreSeats x.seats
   are_seats = core.populated.kept
 
-  module _ (p : Population) (futures : p.futures ≡ x.futures) (all : AreBefore (names_in x.seats) (seats_in x.seats) (length (seats_in x.seats)) (trees.get name_cmp p.activities)) where
+  module _ (m : trees.BTreeMap Name (Box Actor)) (all : AreBefore (names_in x.seats) (seats_in x.seats) (length (seats_in x.seats)) (trees.get name_cmp m)) where
     record IsFoundAt (n : Name) (a : model.Activity) : Type 0 where
       pub actor : Actor
-      pub found : found_in p n ≡ Some actor
+      pub found : actor_at m.entries n ≡ Some actor
       pub stands : Stands actor a (requests_of c n)
       pub coded : code_of actor ≡ code
 
@@ -128,27 +126,27 @@ module _ (h : HistoryShape) (code : List Node) (x : CoreState) (s : RunShape) (h
           coded = here.2.coded;
         }
 
-    nobody : (n : Name) → find name_cmp n c.activities ≡ None → found_in p n ≡ None
+    nobody : (n : Name) → find name_cmp n c.activities ≡ None → actor_at m.entries n ≡ None
     nobody n at = ap unboxed (all.none n (λ k lt named. true_false (is_some (find name_cmp n c.activities)) (numbered.there k n (named_so k n named)) (ap is_some at)))
 
-    stands_by : (n : Name) (o : Option model.Activity) → find name_cmp n c.activities ≡ o → StandsAt (found_in p n) o (requests_of c n)
+    stands_by : (n : Name) (o : Option model.Activity) → find name_cmp n c.activities ≡ o → StandsAt (actor_at m.entries n) o (requests_of c n)
     stands_by n None at = subst (λ q. StandsAt q None (requests_of c n)) (sym (nobody n at)) tt
     stands_by n (Some a) at = let f = somebody n a at in subst (λ q. StandsAt q (Some a) (requests_of c n)) (sym f.found) f.stands
 
-    coded_by : (n : Name) (y : Actor) → found_in p n ≡ Some y → (o : Option model.Activity) → find name_cmp n c.activities ≡ o → code_of y ≡ code
+    coded_by : (n : Name) (y : Actor) → actor_at m.entries n ≡ Some y → (o : Option model.Activity) → find name_cmp n c.activities ≡ o → code_of y ≡ code
     coded_by n y is None at = no_some (sym (nobody n at) ∙ is)
     coded_by n y is (Some a) at = let f = somebody n a at in ap code_of (some_is (sym is ∙ f.found)) ∙ f.coded
 
-    pub reached_population : IsReachedPopulation p h.program c
-    reached_population = record {
+    pub reached_home : StandForReached m.entries x.futures h.program c
+    reached_home = record {
       bare = core.bare;
       reached = journals_reach h.program h.budget h.entries s core.run;
       population = record {
         activities = λ n. stands_by n (find name_cmp n c.activities) refl;
-        futures = ap (λ t. values_of t) futures ∙ core.populated.futures;
+        futures = core.populated.futures;
         code = code;
         actors = λ n y is. coded_by n y is (find name_cmp n c.activities) refl;
-        values = subst (AreOfCode code) (sym futures) core.populated.values;
+        values = core.populated.values;
       };
     }
 

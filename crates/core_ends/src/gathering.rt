@@ -19,11 +19,11 @@ use activity_seats::Seats;
 use actor::Actor;
 use asp_model::ActivityName;
 use core_state::CoreState;
-use replay_one::{Population, run_end_of};
 use request_queue::Request;
 use run_ends::RunEnd;
 use std::alloc::{AllocError, Global};
 use std::collections::BTreeMap;
+use step_ends::run_end_of;
 
 /// Takes the activity of a number, with its name.
 fn bring(
@@ -89,15 +89,7 @@ pub fn end(state: CoreState) -> Result<RunEnd, AllocError>
     let activities = activities_of(alloc, &mut seats);
     drop(seats);
     match activities {
-        Ok(activities) => {
-            let passed = BTreeMap::new(alloc);
-            let population = Population {
-                activities,
-                futures,
-                passed,
-            };
-            run_end_of(alloc, population)
-        }
+        Ok(activities) => run_end_of(alloc, activities, futures),
         Err(error) => {
             drop(futures);
             Err(error)

@@ -16,7 +16,7 @@ use Rattle.asp_model.specs.Shapes.{activity_shape, outcome_shape}
 use Rattle.schedules.specs.Divergence.{Row, divergence_of, first_difference, row_of, rows_given, rows_shown}
 use Rattle.replay_one.specs.Listed.{AreReplayable}
 use Rattle.replay_one.specs.Rows.{list_shape}
-use Rattle.replay_one.proofs.ReportLemmas.{map_map}
+use Rattle.step_ends.proofs.ReportLemmas.{map_map}
 
 abbrev pub difference_in : List ActivityReport → List (Name × Vec Name) → List (Name × ℕ) → Option Name
 difference_in reports lists counts = first_difference (map (λ (a : ActivityReport). row_of (activity_shape a)) reports) (rows_given (map list_shape lists) counts)

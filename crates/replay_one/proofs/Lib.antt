@@ -5,7 +5,6 @@ pub mod LookLemmas
 pub mod GiveLemmas
 pub mod LocalLemmas
 pub mod RunLemmas
-pub mod ReportLemmas
 pub mod PlainLemmas
 pub mod DifferenceLemmas
 pub mod ListedLemmas

@@ -29,9 +29,11 @@ use Rattle.replay_one.specs.declared.bounds.Next.TheVariants as next
 use Rattle.replay_one.specs.declared.population.Population.{Population}
 use Rattle.replay_one.specs.Bounds.{IsNextAt}
 use Rattle.actor.specs.Passing.{HasPassed, IsPassedFor}
-use Rattle.replay_one.specs.Population.{HasPassedIn, IsPopulation, StandsAt, found_in}
+use Rattle.replay_one.specs.Population.{HasPassedIn, IsPopulation, found_in}
+use Rattle.step_ends.specs.Activities.{StandsAt}
 use Rattle.replay_one.specs.Round.{CanStep, Leaves, SendsTo}
-use Rattle.replay_one.proofs.PopulationLemmas.{found_stands, stands_none}
+use Rattle.replay_one.proofs.PopulationLemmas.{found_stands}
+use Rattle.step_ends.proofs.ReportLemmas.{stands_none}
 
 -- Intents by their outlook
 

@@ -4,8 +4,8 @@ use Rattle.std.specs.List.{list_any}
 use Rattle.asp_model.specs.Term.{Tree, locations}
 use Rattle.asp_model.specs.Configuration.{Configuration, start}
 use Rattle.asp_model.specs.Status.{End, Blocked, Budget, IsStuck, is_awaiting, statuses_of, verdict_of}
-use Rattle.asp_model.specs.Replay.{CountsShape, Fits, counts_of, plain_run, replay, total}
-use Rattle.asp_model.specs.Outcome.{OutcomeShape, counts_in, lists_in, outcome_of}
+use Rattle.asp_model.specs.Replay.{CountsShape, Fits, counts_of, lists_of, plain_run, replay, total}
+use Rattle.asp_model.specs.Outcome.{ActivityReportShape, OutcomeShape, activity_report, counts_in, lists_in, outcome_of}
 use Rattle.asp_model.specs.Step.{ListsShape}
 use Rattle.asp_model.specs.Names.{Name, main_name}
 use Rattle.chase_laws.proofs.FutureLemmas.{no_some}
@@ -20,7 +20,15 @@ use Rattle.replay_one.specs.Correct.{IsReplayed, IsSpent}
 use Rattle.replay_one.specs.Population.{IsPopulation, passed_in}
 use Rattle.replay_one.specs.Schedule.{noted_in, ready_in, watches_in}
 use Rattle.replay_one.specs.Round.{IsRunAt}
-use Rattle.replay_one.proofs.ReportLemmas.{counts_shown, lists_shown}
+use Rattle.step_ends.proofs.ReportLemmas.{map_map}
+
+-- What an outcome shows
+
+lists_shown : (c : Configuration) → lists_in (outcome_of c) ≡ lists_of c
+lists_shown c = map_map (λ (r : ActivityReportShape). (r.name, r.senders)) (activity_report c) c.activities
+
+counts_shown : (c : Configuration) → counts_in (outcome_of c) ≡ counts_of c
+counts_shown c = map_map (λ (r : ActivityReportShape). (r.name, r.count)) (activity_report c) c.activities
 
 -- the machine at the start
 pub begins_run : (b : Bounds) (m : Machine) (program copied : Tree) → copied ≡ program → locations program ≡ [] → IsPopulation m.population (start copied) → ready_in m.schedule main_name ≡ true → ((n : Name) → passed_in m.population n ≡ None) → IsRunAt b m program (start program)

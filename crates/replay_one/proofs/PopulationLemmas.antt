@@ -5,7 +5,6 @@ use Rattle.std.specs.Map.{lookup}
 use Rattle.std.specs.BTreeMap as trees
 use Rattle.std.specs.BTreeMap.{BTreeMap, is_at}
 use Rattle.std.specs.Global.{Box}
-use Rattle.std.specs.Option.{option_map}
 use Rattle.asp_model.specs.declared.name.FutureName.{FutureName}
 use Rattle.asp_model.specs.Names.{Name, FutureShape, name_cmp, future_cmp}
 use Rattle.asp_model.specs.Term.{Tree}
@@ -31,21 +30,16 @@ use Rattle.actor.specs.declared.actor.Actor.{Actor}
 use Rattle.actor.specs.Actors.{IsClosedFor, Stands, code_of}
 use Rattle.replay_one.specs.declared.population.Population.{Population}
 use Rattle.replay_one.proofs.ScheduleLemmas.{apart_at}
-use Rattle.replay_one.specs.Population.{AreActorsOf, IsPassing, IsPopulation, IsReachedPopulation, StandsAt, found_in, with_activity, with_request, with_value}
+use Rattle.replay_one.specs.Population.{AreActorsOf, IsPassing, IsPopulation, IsReachedPopulation, found_in, with_activity, with_request, with_value}
+use Rattle.step_ends.specs.Activities.{StandsAt}
+use Rattle.step_ends.proofs.ReportLemmas as ends
+use Rattle.step_ends.proofs.ReportLemmas.{stands_no, stands_none, unboxed}
 
 -- What stands at a name
 
 pub stands_as : (x : Actor) (p : Option model.Activity) (rs : List RequestShape) → StandsAt (Some x) p rs → (a : model.Activity) × (p ≡ Some a) × Stands x a rs
 stands_as x None rs h = absurd h
 stands_as x (Some a) rs h = (a, refl, h)
-
-pub stands_none : (p : Option model.Activity) (rs : List RequestShape) → StandsAt None p rs → p ≡ None
-stands_none None rs h = refl
-stands_none (Some a) rs h = absurd h
-
-pub stands_no : (o : Option Actor) (rs : List RequestShape) → StandsAt o None rs → o ≡ None
-stands_no None rs h = refl
-stands_no (Some x) rs h = absurd h
 
 stands_here : (o : Option Actor) (p : Option model.Activity) (rs : List RequestShape) (x : Actor) (a : model.Activity) → o ≡ Some x → p ≡ Some a → Stands x a rs → StandsAt o p rs
 stands_here o p rs x a e f h = subst (λ q. StandsAt q p rs) (sym e) (subst (λ q. StandsAt (Some x) q rs) (sym f) h)
@@ -66,9 +60,6 @@ there_found p c n a h e = by (found_in p n) refl (subst (λ o. StandsAt (found_i
     by (Some x) q s = (x, q, s)
 
 -- Boxes
-
-abbrev pub unboxed : Option (Box Actor) → Option Actor
-unboxed = option_map (λ b. b.value)
 
 pub in_box : {o : Option (Box Actor)} {x : Box Actor} → o ≡ Some x → unboxed o ≡ Some x.value
 in_box e = ap unboxed e
@@ -147,7 +138,7 @@ nobody_yet k p none f = (
 -- What is closed
 
 pub values_closed : (p : Population) (program : Tree) (c : Configuration) → IsReachedPopulation p program c → AreClosedValues (values_of p.futures)
-values_closed p program c h = subst AreClosedValues (sym h.population.futures) (reached_are_closed program c h.bare h.reached).values
+values_closed p program c h = ends.values_closed p.activities.entries p.futures program c h
 
 pub actor_closed : (p : Population) (program : Tree) (c : Configuration) (n : Name) (x : Actor) → IsReachedPopulation p program c → found_in p n ≡ Some x → IsClosedFor x
 actor_closed p program c n x h e =

@@ -3,7 +3,6 @@ pub mod Bounds
 pub mod Population
 pub mod Schedule
 pub mod Round
-pub mod Ends
 pub mod Rows
 pub mod Listed
 pub mod Correct

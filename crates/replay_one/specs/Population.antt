@@ -1,29 +1,27 @@
 -- The configuration that a population of activities stands for.
 use Rattle.std.specs.Prelude.{◌≡◌, ◌≢◌, ◌⊎◌, ◌≤◌, ◌-◌, ℕ, List, [], Option, Some, None}
-use Rattle.std.specs.FinMap.{find, put}
+use Rattle.std.specs.FinMap.{put}
 use Rattle.std.specs.Map.{lookup}
 use Rattle.std.specs.BTreeMap.{is_at}
-use Rattle.std.specs.Option.{option_map}
 use Rattle.asp_model.specs.Names.{Name, FutureShape, name_cmp, future_cmp}
 use Rattle.asp_model.specs.Term.{Tree, locations}
 use Rattle.asp_model.specs.Parcel.{ParcelShape}
 use Rattle.asp_model.specs.Chase.{chase}
 use Rattle.asp_model.specs.Configuration as model
-use Rattle.asp_model.specs.Configuration.{Configuration, RequestShape, requests_of}
+use Rattle.asp_model.specs.Configuration.{Configuration, RequestShape}
 use Rattle.asp_model.specs.Intent.{Effect, Acts}
 use Rattle.asp_model.specs.Step.{intent_in, with_sent}
 use Rattle.program_code.specs.declared.code.Node.{Node}
 use Rattle.program_code.specs.Pieces.{tree}
 use Rattle.program_code.specs.Sound.{root_of}
 use Rattle.program_code.specs.Tables.{piece_at, pieces}
-use Rattle.future_table.specs.Values.{AreOfCode, values_of}
 use Rattle.laws.specs.Reached.{IsReached, IsAt}
 use Rattle.activity_step.specs.Local.{LocalRun}
 use Rattle.actor.specs.declared.actor.Actor.{Actor}
 use Rattle.actor.specs.declared.act.Given.{Given}
-use Rattle.actor.specs.Actors.{Stands, code_of}
 use Rattle.actor.specs.Effects.{IsGiven, IsGivenOf}
 use Rattle.actor.specs.Passing.{HasPassed}
+use Rattle.step_ends.specs.Activities.{RunCode, StandFor, StandForReached, StandForSome, actor_at}
 use Rattle.replay_one.specs.declared.population.Population.{Population}
 
 -- the term that the last node of a table stands for
@@ -31,34 +29,22 @@ abbrev pub term_of : List Node → Tree
 term_of k = tree [] (piece_at (pieces k) (root_of k))
 
 abbrev pub found_in : Population → Name → Option Actor
-found_in p n = option_map (λ b. b.value) (lookup (is_at (name_cmp n)) p.activities.entries)
-
--- nobody is there, or the one stands for the other
-abbrev pub StandsAt : Option Actor → Option model.Activity → List RequestShape → Type 0
-StandsAt None None rs = Unit {0}
-StandsAt (Some x) (Some a) rs = Stands x a rs
-StandsAt x a rs = ⊥
+found_in p = actor_at p.activities.entries
 
 -- all activities run this code
 abbrev pub AreActorsOf : List Node → Population → Type 0
-AreActorsOf k p = (n : Name) (x : Actor) → found_in p n ≡ Some x → code_of x ≡ k
+AreActorsOf k p = RunCode k p.activities.entries
 
 -- the population stands for the configuration, and its activities and values are of one code
-pub record IsPopulation (p : Population) (c : Configuration) : Type 0 where
-  pub activities : (n : Name) → StandsAt (found_in p n) (find name_cmp n c.activities) (requests_of c n)
-  pub futures : values_of p.futures ≡ c.futures
-  pub code : List Node
-  pub actors : AreActorsOf code p
-  pub values : AreOfCode code p.futures
+abbrev pub IsPopulation : Population → Configuration → Type 0
+IsPopulation p c = StandFor p.activities.entries p.futures c
 
 -- and that is reached by a program without places
-pub record IsReachedPopulation (p : Population) (program : Tree) (c : Configuration) : Type 0 where
-  pub bare : locations program ≡ []
-  pub reached : IsReached program c
-  pub population : IsPopulation p c
+abbrev pub IsReachedPopulation : Population → Tree → Configuration → Type 0
+IsReachedPopulation p program c = StandForReached p.activities.entries p.futures program c
 
 abbrev pub IsReachedBySome : Population → Type 0
-IsReachedBySome p = (program : Tree) × (c : Configuration) × IsReachedPopulation p program c
+IsReachedBySome p = StandForSome p.activities.entries p.futures
 
 -- Members that are passed
 

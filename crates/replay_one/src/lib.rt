@@ -6,7 +6,6 @@
 mod bounds;
 mod difference;
 mod listed;
-mod outcome;
 mod population;
 mod replays;
 mod round;
@@ -15,8 +14,6 @@ mod schedule;
 mod splitting;
 
 pub use listed::{are_replayable, counts_in, lists_in};
-pub use outcome::run_end_of;
-pub use population::Population;
 pub use replays::{ReplayStop, replay};
 pub use run::run_plain;
 pub use splitting::{splits_are_redexes, splits_one_way, splits_plug_back};

@@ -14,13 +14,14 @@ ghost use Rattle.replay_one.specs.Population.{IsReachedPopulation};
 ghost use Rattle.replay_one.specs.Round.{IsRunAt, IsRunSomewhere};
 
 use crate::bounds::Bounds;
-use crate::outcome::run_end_of;
+use crate::population::Population;
 use crate::round::Machine;
 use asp_check::Checked;
 use code_compiler::compile;
 use run_ends::RunEnd;
 use std::alloc::{AllocError, Global};
 use std::sync::Arc;
+use step_ends::run_end_of;
 
 impl Machine {
     /// Takes at most so many reductions, until nobody can take one.
@@ -61,7 +62,12 @@ pub fn run_within(
     let code = Arc::new(alloc, compile(alloc, program)?)?;
     let mut machine = Machine::start(alloc, code)?;
     machine.run(alloc, bounds, total)?;
-    run_end_of(alloc, machine.population)
+    let Population {
+        activities,
+        futures,
+        passed: _,
+    } = machine.population;
+    run_end_of(alloc, activities, futures)
 }
 
 /// Runs a program with at most as many reductions as the budget says.

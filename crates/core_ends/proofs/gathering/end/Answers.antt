@@ -1,6 +1,4 @@
-use Rattle.std.proofs.Common.{refl}
-use Rattle.replay_one.specs.declared.population.Population.{Population}
-use Rattle.core_ends.proofs.EndLemmas.{are_apart, reached_population}
+use Rattle.core_ends.proofs.EndLemmas.{are_apart, reached_home}
 use Rattle.core_ends.proofs.gathering.end.Goals as goal
 
 pub activities_of-activities-requires-clause-apart : goal.activities_of-activities-requires-clause-apart
@@ -9,15 +7,12 @@ activities_of-activities-requires-clause-apart c = let r = c.requires.home in ar
 pub run_end_of-requires : goal.run_end_of-requires
 run_end_of-requires c =
     let r = c.requires.home in
-    let p : Population = record { activities = c.in-Ok.activities; futures = c.args.state.futures; passed = c.new-passed.result } in
-    record { reached = (r.0.program, r.2.configuration, reached_population r.0 r.1 c.args.state r.2 r.3 p refl c.in-Ok.ensures.all) }
+    record { reached = (r.0.program, r.2.configuration, reached_home r.0 r.1 c.args.state r.2 r.3 c.in-Ok.activities c.in-Ok.ensures.all) }
 
 pub returns-in-Ok-clause-end : goal.returns-in-Ok-clause-end
 returns-in-Ok-clause-end c = λ h code s home.
-    let p : Population = record { activities = c.in-Ok.activities; futures = c.args.state.futures; passed = c.new-passed.result } in
-    c.run_end_of.ensures.end h.program s.configuration (reached_population h code c.args.state s home p refl c.in-Ok.ensures.all)
+    c.run_end_of.ensures.end h.program s.configuration (reached_home h code c.args.state s home c.in-Ok.activities c.in-Ok.ensures.all)
 
 pub returns-in-Ok-clause-outcome : goal.returns-in-Ok-clause-outcome
 returns-in-Ok-clause-outcome c = λ h code s home.
-    let p : Population = record { activities = c.in-Ok.activities; futures = c.args.state.futures; passed = c.new-passed.result } in
-    c.run_end_of.ensures.outcome h.program s.configuration (reached_population h code c.args.state s home p refl c.in-Ok.ensures.all)
+    c.run_end_of.ensures.outcome h.program s.configuration (reached_home h code c.args.state s home c.in-Ok.activities c.in-Ok.ensures.all)

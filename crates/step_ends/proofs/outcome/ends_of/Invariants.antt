@@ -2,9 +2,9 @@ use Rattle.std.proofs.Common.{List}
 use Rattle.program_code.specs.declared.code.Node.{Node}
 use Rattle.future_table.specs.Values.{values_of}
 use Rattle.paths.specs.Outcomes.{EndShape}
-use Rattle.replay_one.specs.Ends.{AreClosedStates, AreEndsFor}
-use Rattle.replay_one.proofs.ReportLemmas.{IsPart}
-use Rattle.replay_one.proofs.outcome.ends_of.Given as goal
+use Rattle.step_ends.specs.Ends.{AreClosedStates, AreEndsFor}
+use Rattle.step_ends.proofs.ReportLemmas.{IsPart}
+use Rattle.step_ends.proofs.outcome.ends_of.Given as goal
 
 abbrev pub invariant-loop-name : goal.invariant-loop-name
 invariant-loop-name l = AreClosedStates l.name-iterator

@@ -1,6 +1,6 @@
 //! What a run leaves: how each activity stands, its state, and the verdict.
 
-ghost use Rattle.std.specs.Prelude.{◌≡◌, List, IfOk, map};
+ghost use Rattle.std.specs.Prelude.{◌≡◌, ◌<◌, List, IfOk, length, map};
 ghost use Rattle.std.specs.Arc.{arc_value};
 ghost use Rattle.std.specs.List.{list_any};
 ghost use Rattle.asp_model.specs.Names.{Name};
@@ -23,14 +23,9 @@ ghost use Rattle.actor.specs.Actors.{IsClosedFor, Stands, code_of};
 ghost use Rattle.paths.specs.Outcomes.{EndShape, whole_outcome_of};
 ghost use Rattle.program_code.specs.declared.code.Node.{Node as NodeShape};
 ghost use Rattle.run_ends.specs.Ends.{IsEndOf};
-ghost use Rattle.replay_one.specs.Ends.{AreClosedStates, AreEndsBy, AreEndsFor, IsEndBy, end_with};
-ghost use Rattle.replay_one.specs.Population.{
-  IsPopulation,
-  IsReachedBySome,
-  IsReachedPopulation,
-};
+ghost use Rattle.step_ends.specs.Activities.{RunCode, StandForReached, StandForSome};
+ghost use Rattle.step_ends.specs.Ends.{AreClosedStates, AreEndsBy, AreEndsFor, IsEndBy, end_with};
 
-use crate::population::Population;
 use actor::{Actor, Outlook};
 use asp_model::{ActivityName, ActivityReport, Outcome, Status, Verdict};
 use future_table::FutureTable;
@@ -137,38 +132,38 @@ fn verdict_among(reports: &[ActivityReport]) -> Verdict
 }
 
 /// The code that the activities run.
-fn code_of_all(population: &Population) -> Result<Arc<Code>, AllocError>
-    ensures code { (c : Configuration) → (p : IsPopulation population.now c) →
-        IfOk result (λ k. arc_value k ≡ p.code) }
+fn code_of_all(activities: &BTreeMap<ActivityName, Box<Actor>>) -> Result<Arc<Code>, AllocError>
+    requires some { 0 < length activities.now.entries }
+    ensures code { (k : List NodeShape) → RunCode k activities.now.entries →
+        IfOk result (λ c. arc_value c ≡ k) }
 {
-    match population.activities.first_key_value() {
+    match activities.first_key_value() {
         Some((_name, actor)) => Arc::try_clone(actor.as_ref().code()),
-        // There is always main.
-        None => Err(AllocError),
+        None => unreachable!(),
     }
 }
 
-/// What the activities leave.
-pub fn run_end_of(alloc: Global, population: Population) -> Result<RunEnd, AllocError>
-    requires reached { IsReachedBySome population }
+/// What activities and filled futures of a run leave: each activity's report and state, and the
+/// verdict.
+pub fn run_end_of(
+    alloc: Global,
+    activities: BTreeMap<ActivityName, Box<Actor>>,
+    futures: FutureTable,
+) -> Result<RunEnd, AllocError>
+    requires reached { StandForSome activities.entries futures }
     ensures end { (program : Tree) (c : Configuration) →
-        IsReachedPopulation population program c →
+        StandForReached activities.entries futures program c →
         IfOk result (λ r. IsEndOf r (whole_outcome_of c)) }
     ensures outcome { (program : Tree) (c : Configuration) →
-        IsReachedPopulation population program c →
+        StandForReached activities.entries futures program c →
         IfOk result (λ r. outcome_shape r.outcome ≡ outcome_shown c) }
 {
-    let count = population.activities.len();
-    let code = code_of_all(&population)?;
-    let Population {
-        activities,
-        futures,
-        passed: _,
-    } = population;
-    let (activities, states) = ends_of(alloc, count, activities, &futures)?;
+    let count = activities.len();
+    let code = code_of_all(&activities)?;
+    let (reports, states) = ends_of(alloc, count, activities, &futures)?;
     let outcome = Outcome {
-        verdict: verdict_among(&activities),
-        activities,
+        verdict: verdict_among(&reports),
+        activities: reports,
     };
     Ok(RunEnd {
         outcome,

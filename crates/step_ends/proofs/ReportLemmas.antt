@@ -1,46 +1,61 @@
--- The ends of the activities of a population are those of its configuration.
-use Rattle.std.proofs.Common.{◌≡◌, ◌≢◌, ◌||◌, ◌∷◌, ◌++◌, [], Bool, T, List, Option, Some, None, map, refl, sym, ap, subst, ◌∙◌, inl, inr, ⊎_elim}
+-- The ends of activities are those of the configuration that they stand for.
+use Rattle.std.proofs.Common.{◌≡◌, ◌≢◌, ◌<◌, ◌||◌, ◌∷◌, ◌++◌, [], Bool, T, List, Option, Some, None, is_some, length, map, refl, sym, ap, subst, ◌∙◌, inl, inr, ⊎_elim, arith}
 use Rattle.std.specs.List.{list_any, AllByRecursion}
 use Rattle.std.proofs.lemmas.List.{append_assoc, append-nil, map-append}
 use Rattle.std.specs.List.Sorted.{IsStrictlySortedBy}
 use Rattle.std.specs.FinMap.{find, is_sorted}
 use Rattle.std.specs.Map.{keys_of}
+use Rattle.std.specs.Option.{option_map}
 use Rattle.std.specs.Global.{Box}
 use Rattle.std.specs.Ordering.{ordering_reverse}
 use Rattle.std.specs.declared.cmp.Ordering.{Ordering}
 use Rattle.std.specs.declared.cmp.Ordering.TheVariants.{Less, Equal, Greater}
 use Rattle.asp_model.specs.declared.outcome.ActivityReport.{ActivityReport}
-use Rattle.asp_model.specs.Names.{Name, name_cmp}
+use Rattle.asp_model.specs.declared.name.FutureName.{FutureName}
+use Rattle.asp_model.specs.Names.{Name, main_name, name_cmp}
 use Rattle.asp_model.specs.Order.{name_cmp_same}
 use Rattle.asp_model.specs.Chase.{Values, chase}
 use Rattle.asp_model.specs.Configuration as model
 use Rattle.asp_model.specs.Configuration.{Configuration, RequestShape, requests_of}
 use Rattle.asp_model.specs.Intent.{Rests, Done, intent}
 use Rattle.asp_model.specs.Status.{status_of, status_of_intent, statuses_of, verdict_of}
-use Rattle.asp_model.specs.Replay.{counts_of, lists_of}
-use Rattle.asp_model.specs.Outcome.{ActivityReportShape, activity_report, counts_in, lists_in, outcome_of}
+use Rattle.asp_model.specs.Outcome.{ActivityReportShape, activity_report, outcome_of}
 use Rattle.asp_model.specs.Shapes.{activity_shape, status_shape}
 use Rattle.asp_model.specs.Term.{Tree}
+use Rattle.coded_cells.specs.declared.cells.Parcel.{Parcel}
 use Rattle.future_table.specs.Values.{values_of}
 use Rattle.program_code.specs.declared.code.Node.{Node}
 use Rattle.paths.specs.Snapshots.{snapshot_of}
 use Rattle.paths.specs.Outcomes.{EndShape, end_of, whole_outcome_of, reported}
 use Rattle.run_ends.specs.declared.ends.EndState.{EndState}
 use Rattle.run_ends.specs.Ends.{AreSnapshotsOf, IsSnapshotOf}
-use Rattle.laws.specs.Reached.{IsAt}
+use Rattle.laws.specs.Reached.{IsAt, IsThere}
 use Rattle.laws.specs.Closed.{IsClosed}
 use Rattle.laws.proofs.ClosedLaws.{reached_are_closed}
 use Rattle.laws.proofs.EntryLemmas.{In, entry_found, first_of_both, second_of_both}
 use Rattle.laws.proofs.NameLemmas.{name_total, name_case}
-use Rattle.chase_laws.proofs.FutureLemmas.{no_some}
+use Rattle.chase_laws.proofs.FutureLemmas.{no_some, true_false}
 use Rattle.laws.proofs.NamesLaws.{entries_ascend}
+use Rattle.laws.proofs.WholeLemmas.{reached_are_sound}
+use Rattle.operand_reads.specs.Values.{AreClosedValues}
 use Rattle.actor.specs.declared.actor.Actor.{Actor}
 use Rattle.actor.specs.Actors.{Stands, code_of}
-use Rattle.replay_one.specs.declared.population.Population.{Population}
-use Rattle.replay_one.specs.Population.{IsReachedPopulation, StandsAt}
-use Rattle.replay_one.specs.Ends.{AreClosedStates, AreEndsBy, AreEndsFor, IsEndBy, IsEndFor, end_with}
-use Rattle.replay_one.proofs.EntryLemmas.{absent_below, absent_less, find_head, find_skip, lookup_find, sorted_by}
-use Rattle.replay_one.proofs.PopulationLemmas.{stands_no, stands_none, unboxed}
+use Rattle.step_ends.specs.Activities.{StandForReached, StandsAt, actor_at}
+use Rattle.step_ends.specs.Ends.{AreClosedStates, AreEndsBy, AreEndsFor, IsEndBy, IsEndFor, end_with}
+use Rattle.step_ends.proofs.EntryLemmas.{absent_below, absent_less, find_head, find_skip, lookup_find, sorted_by}
+
+-- What stands at a name
+
+abbrev pub unboxed : Option (Box Actor) → Option Actor
+unboxed = option_map (λ b. b.value)
+
+pub stands_none : (p : Option model.Activity) (rs : List RequestShape) → StandsAt None p rs → p ≡ None
+stands_none None rs h = refl
+stands_none (Some a) rs h = absurd h
+
+pub stands_no : (o : Option Actor) (rs : List RequestShape) → StandsAt o None rs → o ≡ None
+stands_no None rs h = refl
+stands_no (Some x) rs h = absurd h
 
 pub list_any_map : {X Y : Type 0} (p : Y → Bool) (f : X → Y) (xs : List X) → list_any p (map f xs) ≡ list_any (λ x. p (f x)) xs
 list_any_map p f [] = refl
@@ -154,22 +169,44 @@ closed_paired c [] (y ∷ ys) k h t = absurd h
 closed_paired c (x ∷ xs) [] k h t = absurd h
 closed_paired c (x ∷ xs) (y ∷ ys) k h t = (record { activity = y.1; received = requests_of c y.0; stands = h.1; closed = k.activities y.0 y.1 (t y (inl refl)); arguments = k.arguments y.0 }, closed_paired c xs ys k h.2 (λ z i. t z (inr i)))
 
-module _ (p : Population) (program : Tree) (c : Configuration) (h : IsReachedPopulation p program c) (sorted : IsStrictlySortedBy name_cmp (keys_of p.activities.entries)) where
-  population_paired : ArePaired c p.activities.entries c.activities
-  population_paired = paired c p.activities.entries c.activities (sorted_by p.activities.entries sorted) (entries_ascend program c h.reached).activities
-      (λ n. subst (λ o. StandsAt (unboxed o) (find name_cmp n c.activities) (requests_of c n)) (lookup_find n p.activities.entries) (h.population.activities n))
+-- nobody is at a name among none
+nobody_at : (xs : List (Name × Box Actor)) (n : Name) → xs ≡ [] → actor_at xs n ≡ None
+nobody_at xs n none = ap (λ ys. actor_at ys n) none
 
-  all_there : AreThere c c.activities
-  all_there y i = entry_found c.activities y (entries_ascend program c h.reached).activities i
+module _ (xs : List (Name × Box Actor)) (futures : List (FutureName × Parcel)) (program : Tree) (c : Configuration) (h : StandForReached xs futures program c) where
+  -- the main activity at least
+  pub somebody : 0 < length xs
+  somebody = by xs refl
+    where
+      main : IsThere c main_name
+      main = (reached_are_sound program c h.reached).created main_name (inl refl)
 
-  population_coded : AreCoded h.population.code p.activities.entries
-  population_coded = coded h.population.code p.activities.entries (sorted_by p.activities.entries sorted) (λ n x e. h.population.actors n x (ap unboxed (lookup_find n p.activities.entries) ∙ e))
+      by : (ys : List (Name × Box Actor)) → xs ≡ ys → 0 < length ys
+      by [] none =
+          let there = find name_cmp main_name c.activities in
+          let rs : List RequestShape = requests_of c main_name in
+          absurd (true_false (is_some there) main (ap is_some (stands_none there rs (subst (λ o. StandsAt o there rs) (nobody_at xs main_name none) (h.population.activities main_name)))))
+      by (y ∷ ys) is = omega arith
 
-  pub population_ends : AreEndsFor h.population.code (values_of p.futures) p.activities.entries (map (end_of c) c.activities)
-  population_ends = subst (λ (vs : Values). AreEndsFor h.population.code vs p.activities.entries (map (end_of c) c.activities)) (sym h.population.futures) (ends_paired h.population.code c p.activities.entries c.activities population_coded population_paired all_there)
+  pub values_closed : AreClosedValues (values_of futures)
+  values_closed = subst AreClosedValues (sym h.population.futures) (reached_are_closed program c h.bare h.reached).values
 
-  pub population_closed : AreClosedStates p.activities.entries
-  population_closed = closed_paired c p.activities.entries c.activities (reached_are_closed program c h.bare h.reached) population_paired all_there
+  module _ (sorted : IsStrictlySortedBy name_cmp (keys_of xs)) where
+    all_paired : ArePaired c xs c.activities
+    all_paired = paired c xs c.activities (sorted_by xs sorted) (entries_ascend program c h.reached).activities
+        (λ n. subst (λ o. StandsAt (unboxed o) (find name_cmp n c.activities) (requests_of c n)) (lookup_find n xs) (h.population.activities n))
+
+    all_there : AreThere c c.activities
+    all_there y i = entry_found c.activities y (entries_ascend program c h.reached).activities i
+
+    all_coded : AreCoded h.population.code xs
+    all_coded = coded h.population.code xs (sorted_by xs sorted) (λ n x e. h.population.actors n x (ap unboxed (lookup_find n xs) ∙ e))
+
+    pub all_ends : AreEndsFor h.population.code (values_of futures) xs (map (end_of c) c.activities)
+    all_ends = subst (λ (vs : Values). AreEndsFor h.population.code vs xs (map (end_of c) c.activities)) (sym h.population.futures) (ends_paired h.population.code c xs c.activities all_coded all_paired all_there)
+
+    pub all_closed : AreClosedStates xs
+    all_closed = closed_paired c xs c.activities (reached_are_closed program c h.bare h.reached) all_paired all_there
 
 -- One end after the other
 
@@ -236,9 +273,3 @@ statuses_shown c xs e = sym (map_map (λ (r : ActivityReportShape). r.status) ac
 -- a whole outcome without the states
 pub reported_is : (c : Configuration) → reported (whole_outcome_of c) ≡ outcome_of c
 reported_is c = ap (λ (rs : List ActivityReportShape). record { verdict = verdict_of c; activities = rs }) (map_map (λ (e : EndShape). e.report) (end_of c) c.activities)
-
-pub lists_shown : (c : Configuration) → lists_in (outcome_of c) ≡ lists_of c
-lists_shown c = map_map (λ (r : ActivityReportShape). (r.name, r.senders)) (activity_report c) c.activities
-
-pub counts_shown : (c : Configuration) → counts_in (outcome_of c) ≡ counts_of c
-counts_shown c = map_map (λ (r : ActivityReportShape). (r.name, r.count)) (activity_report c) c.activities

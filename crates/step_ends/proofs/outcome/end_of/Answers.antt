@@ -3,7 +3,7 @@ use Rattle.program_code.specs.declared.code.Node.{Node}
 use Rattle.paths.specs.Snapshots.{snapshot_of}
 use Rattle.run_ends.specs.Ends.{IsSnapshotOf}
 use Rattle.actor.specs.Actors.{IsClosedFor, Stands, code_of}
-use Rattle.replay_one.proofs.outcome.end_of.Goals as goal
+use Rattle.step_ends.proofs.outcome.end_of.Goals as goal
 
 pub status_of-requires-clause-closed : goal.status_of-requires-clause-closed
 status_of-requires-clause-closed c =

@@ -8,9 +8,9 @@ use Rattle.future_table.specs.Values.{values_of}
 use Rattle.paths.specs.Outcomes.{EndShape}
 use Rattle.run_ends.specs.declared.ends.EndState.{EndState}
 use Rattle.actor.specs.declared.actor.Actor.{Actor}
-use Rattle.replay_one.specs.Ends.{AreClosedStates}
-use Rattle.replay_one.proofs.ReportLemmas.{IsPart, all_made, none_made, one_made}
-use Rattle.replay_one.proofs.outcome.ends_of.Goals as goal
+use Rattle.step_ends.specs.Ends.{AreClosedStates}
+use Rattle.step_ends.proofs.ReportLemmas.{IsPart, all_made, none_made, one_made}
+use Rattle.step_ends.proofs.outcome.ends_of.Goals as goal
 
 -- at equal entries, reports and states
 moved : (k : List Node) (values : Values) (es : List EndShape) (xs ys : List (Name × Box Actor)) (rs qs : List ActivityReport) (ss ts : List EndState) → xs ≡ ys → rs ≡ qs → ss ≡ ts → IsPart k values xs es rs ss → IsPart k values ys es qs ts

@@ -1,4 +1,4 @@
--- The ends of the activities of a population.
+-- The ends of activities.
 use Rattle.std.specs.Prelude.{◌≡◌, List, [], ◌∷◌, map}
 use Rattle.std.specs.Global.{Box}
 use Rattle.std.specs.List.{AllByRecursion}
