@@ -1,8 +1,3 @@
-pub mod TextLemmas
-pub mod SightLemmas
-pub mod BelowLemmas
-pub mod ShowLemmas
-pub mod WalkLemmas
 pub mod ReadLemmas
 pub mod ViewLemmas
 pub mod SearchLemmas

@@ -33,11 +33,11 @@ use Rattle.paths.specs.Snapshots.{SnapshotShape, roots_in, result_in, number_if,
 use Rattle.path_equal.specs.declared.labels.Root.{Root}
 use Rattle.path_equal.specs.declared.labels.Root.TheVariants as root
 use Rattle.path_equal.specs.declared.labels.PathLabel as labels
-use Rattle.path_equal.specs.declared.state.State.{State}
+use Rattle.state_lines.specs.declared.state.State.{State}
 use Rattle.path_equal.specs.Reading.{FoundShape, found_of, root_in, root_shape, label_shape, labels_shape, nth_of, child_cell, captured_in}
 use Rattle.path_equal.specs.Reading as reading
-use Rattle.path_equal.specs.States.{IsStateOf, side_in}
-use Rattle.path_equal.proofs.TextLemmas.{blank_field, blank_method}
+use Rattle.state_lines.specs.States.{IsStateOf, side_in}
+use Rattle.state_lines.proofs.TextLemmas.{blank_field, blank_method}
 
 -- Items of lists
 

@@ -1,10 +1,5 @@
 -- in reading order
-pub mod States
 pub mod Views
-pub mod Sights
-pub mod Texts
-pub mod Walks
-pub mod Below
 pub mod Reading
 pub mod Searches
 pub mod Held

@@ -20,7 +20,7 @@ use Rattle.path_equal.specs.declared.labels.PathLabel as labels
 use Rattle.path_equal.specs.declared.reading.Found.{Found}
 use Rattle.path_equal.specs.declared.reading.Found.TheVariants as found
 use Rattle.run_ends.specs.declared.entered.At.{At}
-use Rattle.path_equal.specs.declared.state.State.{State}
+use Rattle.state_lines.specs.declared.state.State.{State}
 use Rattle.run_ends.specs.Reads.{IsAt}
 
 -- What is found

@@ -1,28 +1,13 @@
--- Which activity of a whole outcome a state is.
-use Rattle.std.specs.Prelude.{◌≡◌, ℕ, true, List, map, Option, Some, None, slice_get}
+-- Activities of a whole outcome by their names.
+use Rattle.std.specs.Prelude.{◌≡◌, ℕ, true, List, map, Some, slice_get}
 use Rattle.std.specs.FinMap.{is_sorted}
 use Rattle.asp_model.specs.declared.outcome.ActivityReport.{ActivityReport}
 use Rattle.asp_model.specs.Names.{Name, name_cmp}
 use Rattle.asp_model.specs.Outcome.{counts_in}
 use Rattle.asp_model.specs.Shapes.{activity_shape}
-use Rattle.future_table.specs.Values.{values_of}
 use Rattle.paths.specs.Outcomes.{EndShape, WholeOutcome, reported}
-use Rattle.path_equal.specs.declared.state.State.{State}
-use Rattle.path_equal.specs.States.{IsStateOf, IsTermOf}
-
--- what is read of it, over the outcome's futures
-pub record IsSeenAs (o : WholeOutcome) (e : EndShape) (s : State) : Type 0 where
-  pub state : IsStateOf s e.snapshot e.report.status
-  pub term : IsTermOf s e.snapshot
-  pub futures : values_of s.futures.now ≡ o.futures
-
--- there is none, or its state is read
-abbrev pub IsSeen : WholeOutcome → Option EndShape → Option State → Type 0
-IsSeen o None None = Unit {0}
-IsSeen o (Some e) (Some s) = IsSeenAs o e s
-IsSeen o e s = ⊥
-
--- By names
+use Rattle.state_lines.specs.declared.state.State.{State}
+use Rattle.state_lines.specs.Views.{IsSeenAs}
 
 -- an activity of that name stands at this number
 pub record IsNamedAt (rs : List ActivityReport) (name : Name) (n : ℕ) : Type 0 where

@@ -23,16 +23,15 @@ ghost use Rattle.path_equal.specs.Reading.{
   child_cell,
   label_shape,
 };
-ghost use Rattle.path_equal.specs.Sights.{Sees, seen_shape};
+ghost use Rattle.state_lines.specs.Sights.{Sees, seen_shape};
 ghost use Rattle.run_ends.specs.Reads.{IsAt, seen_value};
 
 use crate::labels::PathLabel;
-use crate::seen::Seen;
-use crate::sights::Sight;
 use asp_model::Label;
 use coded_cells::{Parcel, Place};
 use program_code::MethodCode;
 use run_ends::At;
+use state_lines::{Seen, Sight};
 
 /// Where a step leads to from a place, if its label is there.
 pub fn child<'a>(at: At<'a>, sight: Sight<'a>, label: &PathLabel) -> Option<At<'a>>

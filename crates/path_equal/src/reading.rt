@@ -13,20 +13,18 @@ ghost use Rattle.path_equal.specs.Reading.{
   root_in,
   root_shape,
 };
-ghost use Rattle.path_equal.specs.Sights.{seen_shape};
-ghost use Rattle.path_equal.specs.States.{IsStateOf, IsTermOf, side_in};
-ghost use Rattle.path_equal.specs.Texts.{shown_by};
+ghost use Rattle.state_lines.specs.Sights.{seen_shape};
+ghost use Rattle.state_lines.specs.States.{IsStateOf, IsTermOf, side_in};
+ghost use Rattle.state_lines.specs.Texts.{shown_by};
 
 use crate::children::child;
 use crate::labels::{PathLabel, Root};
-use crate::seen::Seen;
-use crate::sights::look_at;
 use crate::stack::nth_place;
-use crate::state::State;
 use asp_model::{ActivityName, FutureName};
 use coded_cells::Place;
 use future_table::FutureTable;
 use run_ends::{At, awaited};
+use state_lines::{Seen, State, look_at};
 
 /// What is found at the end of a path.
 #[derive(Clone, Copy)]

@@ -5,6 +5,6 @@ mod lines;
 mod report;
 mod summary;
 
-pub use path_equal::push_name;
 pub use report::render;
+pub use state_lines::push_name;
 pub use summary::summarize;

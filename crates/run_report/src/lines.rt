@@ -3,11 +3,11 @@
 ghost use Rattle.std.specs.Prelude.{◌≡◌, string_bytes, IfOk, OnOk};
 ghost use Rattle.asp_model.specs.Report.{fault_text as text_of_fault, status_text, verdict_line as line_of_verdict, senders_line as line_of_senders, output_line as line_of_output};
 ghost use Rattle.asp_model.specs.Shapes.{fault_shape, line_shape, status_shape, verdict_shape};
-ghost use Rattle.path_equal.specs.Texts.{AddsText};
+ghost use Rattle.state_lines.specs.Texts.{AddsText};
 ghost use Rattle.run_report.specs.Pieces.{activity_text};
 
 use asp_model::{ActivityName, Fault, Line, Status, Verdict};
-use path_equal::{push_future, push_name};
+use state_lines::{push_future, push_name};
 use std::alloc::{AllocError, Global};
 
 // Room in which most lines fit with their line feeds, so that each is made by one allocation.

@@ -14,8 +14,8 @@ ghost use Rattle.run_report.specs.Ends.{lines_at, states_at};
 
 use crate::lines::{activity_line, output_line, senders_line, verdict_line};
 use asp_model::{ActivityReport, Line, Word};
-use path_equal::{state_at, state_lines};
 use run_ends::RunEnd;
+use state_lines::{state_at, state_lines};
 use std::alloc::{AllocError, Global};
 
 /// The lines of the report, without their line feeds. With a depth, the lines that show the state of

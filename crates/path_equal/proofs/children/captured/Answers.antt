@@ -3,9 +3,9 @@ use Rattle.program_code.specs.declared.code.Class.{Class}
 use Rattle.program_code.specs.declared.code.MethodCode.{MethodCode}
 use Rattle.coded_cells.specs.Shapes.{class_object}
 use Rattle.paths.specs.PathLabels.{To_captured}
-use Rattle.path_equal.specs.declared.seen.Seen.{Seen}
+use Rattle.state_lines.specs.declared.seen.Seen.{Seen}
 use Rattle.path_equal.specs.Reading.{captured_in, child_cell}
-use Rattle.path_equal.specs.Sights.{seen_shape}
+use Rattle.state_lines.specs.Sights.{seen_shape}
 use Rattle.path_equal.proofs.ReadLemmas.{captured_cell}
 use Rattle.path_equal.proofs.children.captured.Goals as goal
 

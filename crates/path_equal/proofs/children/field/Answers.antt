@@ -2,9 +2,9 @@ use Rattle.std.proofs.Common.{List, ℕ, Option, ◌∙◌, sym, ap, slice_get}
 use Rattle.program_code.specs.declared.code.Class.{Class}
 use Rattle.coded_cells.specs.Shapes.{class_object}
 use Rattle.paths.specs.PathLabels.{To_field}
-use Rattle.path_equal.specs.declared.seen.Seen.{Seen}
+use Rattle.state_lines.specs.declared.seen.Seen.{Seen}
 use Rattle.path_equal.specs.Reading.{child_cell, nth_of}
-use Rattle.path_equal.specs.Sights.{seen_shape}
+use Rattle.state_lines.specs.Sights.{seen_shape}
 use Rattle.path_equal.proofs.ReadLemmas.{field_cell}
 use Rattle.path_equal.proofs.children.field.Goals as goal
 

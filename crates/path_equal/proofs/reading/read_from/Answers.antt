@@ -2,9 +2,9 @@ use Rattle.std.proofs.Common.{Option, Some, ◌∙◌, ap, arith}
 use Rattle.asp_model.specs.Store.{CellShape}
 use Rattle.paths.specs.Places.{Place, found_at}
 use Rattle.path_equal.specs.Reading.{found_of}
-use Rattle.path_equal.specs.States.{side_in}
+use Rattle.state_lines.specs.States.{side_in}
 use Rattle.path_equal.proofs.ReadLemmas.{leads_all}
-use Rattle.path_equal.proofs.SightLemmas.{found_seen}
+use Rattle.state_lines.proofs.SightLemmas.{found_seen}
 use Rattle.path_equal.proofs.reading.read_from.Goals as goal
 
 pub returns : goal.returns

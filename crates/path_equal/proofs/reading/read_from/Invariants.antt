@@ -3,7 +3,7 @@ use Rattle.paths.specs.PathLabels.{leads_by}
 use Rattle.paths.specs.Places.{Place, In_store}
 use Rattle.path_equal.specs.Reading.{labels_shape}
 use Rattle.run_ends.specs.Reads.{IsAt}
-use Rattle.path_equal.specs.States.{side_in}
+use Rattle.state_lines.specs.States.{side_in}
 use Rattle.path_equal.proofs.reading.read_from.Given as goal
 
 abbrev pub invariant-loop-label : goal.invariant-loop-label

@@ -1,7 +1,0 @@
-use Rattle.std.proofs.Common.{◌≡◌, ◌++◌, take}
-use Rattle.std.specs.Prelude.{string_bytes}
-use Rattle.path_equal.specs.Texts.{labels_text, method_labels}
-use Rattle.path_equal.proofs.texts.push_methods.Given as goal
-
-abbrev pub invariant-loop-method : goal.invariant-loop-method
-invariant-loop-method l = string_bytes l.text ≡ string_bytes l.fn.text ++ labels_text (method_labels (take l.method-index l.methods))

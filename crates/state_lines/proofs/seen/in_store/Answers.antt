@@ -1,0 +1,18 @@
+use Rattle.std.proofs.Common.{◌∙◌, sym, ap, arith}
+use Rattle.coded_cells.specs.Cells.{CodedCell}
+use Rattle.coded_cells.specs.Shapes.{cell_of, store_of}
+use Rattle.coded_cells.proofs.CodedLemmas.{cell-store_of, length-store_of}
+use Rattle.state_lines.proofs.SightLemmas.{cell_past}
+use Rattle.state_lines.proofs.seen.in_store.Goals as goal
+
+pub returns-then-place-len : goal.returns-then-place-len
+returns-then-place-len c =
+    let code = c.args.code.now in
+    let cs = c.args.store.now.cells in
+    record { cell = cell_past (store_of code cs) c.args.place (omega (arith, length-store_of code cs)) }
+
+pub returns : goal.returns
+returns c =
+    let code = c.args.code.now in
+    let cs = c.args.store.now.cells in
+    record { cell = c.see.ensures.cell ∙ ap (λ (d : CodedCell). cell_of code d) c.cell.ensures.cell ∙ sym (cell-store_of code cs c.args.place) }

@@ -1,0 +1,65 @@
+//! Cells as they are read.
+
+ghost use Rattle.std.specs.Prelude.{◌≡◌};
+ghost use Rattle.asp_model.specs.Store.{cell as cell_in};
+ghost use Rattle.coded_cells.specs.Shapes.{cell_shape, parcel_shape, store_of};
+ghost use Rattle.paths.specs.StateLines.{is_compound};
+ghost use Rattle.state_lines.specs.Sights.{seen_shape};
+
+use asp_model::{ActivityName, FutureName};
+use coded_cells::{Cell, Object, Parcel, Place};
+use object_store::Store;
+use program_code::Code;
+
+/// A cell as it is read. Past the end of a store or a value the number 0 is read.
+#[derive(Clone, Copy)]
+pub enum Seen<'a> {
+    Number(i64),
+    /// An object, and the code that has its class.
+    Object(&'a Object, &'a Code),
+    Reference(&'a ActivityName),
+    Future(&'a FutureName),
+    /// The members, in order.
+    Group(&'a [Place]),
+}
+
+impl Seen<'_> {
+    /// Whether it has something below: an object or a group.
+    pub fn is_compound(self) -> bool
+        ensures compound { result ≡ is_compound (seen_shape self.entry) }
+    {
+        matches!(self, Seen::Object(..) | Seen::Group(_))
+    }
+}
+
+fn see<'a>(code: &'a Code, cell: &'a Cell) -> Seen<'a>
+    ensures cell { seen_shape result ≡ cell_shape code.now cell.now }
+{
+    match cell {
+        Cell::Number(n) => Seen::Number(*n),
+        Cell::Object(object) => Seen::Object(object, code),
+        Cell::Reference(name) => Seen::Reference(name),
+        Cell::Future(future) => Seen::Future(future),
+        Cell::Group(members) => Seen::Group(members),
+    }
+}
+
+/// A cell of a store.
+pub fn in_store<'a>(code: &'a Code, store: &'a Store, place: Place) -> Seen<'a>
+    ensures cell { seen_shape result ≡ cell_in (store_of code.now store.now.cells) place }
+{
+    if place >= store.len() {
+        return Seen::Number(0);
+    }
+    see(code, store.cell(place))
+}
+
+/// A cell of a value.
+pub fn in_value(value: &Parcel, place: Place) -> Seen<'_>
+    ensures cell { seen_shape result ≡ cell_in (parcel_shape value.now).cells place }
+{
+    if place >= value.cells.len() {
+        return Seen::Number(0);
+    }
+    see(&value.code, &value.cells[place])
+}
