@@ -58,6 +58,7 @@ impl<H: Lends> Hub<H> {
         };
         let mut slots = Vec::new(alloc);
         slots.push(Some(value))?;
+        // A table is refused if it cannot have its memory, and for no other reason.
         let Ok((table, place)) = Table::new(alloc, &[0], slots, &about) else {
             return Err(AllocError);
         };
