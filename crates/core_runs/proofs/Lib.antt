@@ -1,1 +1,2 @@
+pub mod OutAfterLemmas
 pub mod OverLemmas

@@ -1,34 +1,39 @@
 -- Histories that begin with others, and the end of a run.
-use Rattle.std.proofs.Common.{◌≡◌, ◌∙◌, ◌++◌, ◌∷◌, [], ℕ, Bool, true, false, List, Option, Some, None, Result, Ok, Err, OnOk, IfOk, is_some, refl, sym, ap, subst}
+use Rattle.std.proofs.Common.{◌≡◌, ◌∙◌, ◌++◌, [], ℕ, Bool, true, false, List, Option, Some, Result, Ok, Err, OnOk, OnErr, IfOk, refl, sym, ap, subst}
+use Rattle.std.proofs.lemmas.Bool.{true≢false}
 use Rattle.std.proofs.lemmas.List.{append-nil, append_assoc}
-use Rattle.std.specs.Option.{IfSome, option_map}
-use Rattle.asp_model.specs.History.{BeginsWith, EntryShape, HistoryShape}
+use Rattle.std.specs.Option.{IfSome}
+use Rattle.asp_model.specs.History.{BeginsWith, HistoryShape}
 use Rattle.asp_model.specs.Outcome.{outcome_of}
 use Rattle.asp_model.specs.declared.journal.Delivery.{Delivery}
-use Rattle.asp_model.specs.declared.outcome.Verdict.{Verdict}
-use Rattle.asp_model.specs.Shapes.{delivery_shape, outcome_shape, verdict_shape}
+use Rattle.asp_model.specs.Shapes.{delivery_shape, outcome_shape}
 use Rattle.asp_model.specs.Term.{Tree}
 use Rattle.journals.specs.Edges.{HoldersShape}
-use Rattle.journals.specs.Journals.{RunShape, run_of}
+use Rattle.journals.specs.Journals.{RunShape}
 use Rattle.laws.proofs.NameLemmas.{is_there}
-use Rattle.chase_laws.proofs.FutureLemmas.{no_some}
 use Rattle.paths.specs.Outcomes.{whole_outcome_of}
 use Rattle.run_ends.specs.declared.ends.RunEnd.{RunEnd}
 use Rattle.run_ends.specs.Ends.{IsEndOf}
 use Rattle.verdict_laws.proofs.OutcomeLemmas.{journals_end, verdicts_spend}
 use Rattle.core_state.specs.declared.lease.Lease.{Lease}
 use Rattle.core_state.specs.Cores.{history_begun}
-use Rattle.core_state.specs.Leases.{IsLease}
+use Rattle.core_state.specs.Leases.{HasStopped}
+use Rattle.program_code.specs.declared.code.Node.{Node}
+use Rattle.update_policy.specs.declared.plan.Plan.{Plan}
+use Rattle.update_policy.specs.declared.strategy.Policies.{Policies}
 use Rattle.update_policy.specs.Plans.{plan_shape, strategy_by}
 use Rattle.core_edges.specs.Answers.{Answering, AreAsked, Counting}
 use Rattle.core_edges.specs.Strategies.{strategy_in}
 use Rattle.core_ends.specs.Runs.{IsEndOfRun}
 use Rattle.asp_core.specs.declared.cores.Core.{Core}
-use Rattle.asp_core.specs.Cores.{IsKept, IsRun, code_of, history_of}
+use Rattle.asp_core.specs.Chosen.{AreChosen, ChosenAreDelivered, StaysChosen}
+use Rattle.asp_core.specs.Cores.{IsHome, IsKept, IsRun, code_of, history_of}
 use Rattle.asp_core.specs.Calls.{IsLentBy, MayDeliver, verdict_of}
-use Rattle.asp_core.specs.Plans.{StayByPlan}
+use Rattle.asp_core.specs.Plans.{AreByPlan, StayByPlan}
+use Rattle.asp_core.specs.Stopping.{HasStoppedOr, StaysStopped}
+use Rattle.asp_core.proofs.ChosenLemmas.{lazy_delivers_nothing, over_delivered}
 use Rattle.core_runs.specs.Over.{IsOver}
-use Rattle.core_runs.specs.Plans.{IsEndAsPlanned}
+use Rattle.core_runs.specs.Plans.{IsEndAsChosen, IsEndAsPlanned, IsEndByPlan}
 
 -- Histories
 
@@ -44,6 +49,13 @@ begins_then a b c first then = (
   then.1 ∙ first.1,
   (first.2.0 ++ then.2.0, then.2.1 ∙ ap (λ xs. xs ++ then.2.0) first.2.1 ∙ append_assoc a.entries first.2.0 then.2.0),
 )
+
+-- Leases
+
+-- one that was run has stopped, unless it is spent
+pub ran_stopped : {A E : Type 0} (r : Result A E) (h : HistoryShape) (code : List Node) (l : Lease) → OnOk r (HasStopped h code l) → OnErr r (l.spent ≡ true) → HasStoppedOr h code l
+ran_stopped (Ok x) h code l stops gives_up fresh = stops
+ran_stopped (Err e) h code l stops gives_up fresh = absurd (true≢false (sym gives_up ∙ fresh))
 
 -- Cores
 
@@ -72,40 +84,41 @@ module _ {P : Type 0} where
         budgeted = (verdicts_spend h.program h.budget h.entries s x.edges.holders.holders x.edges.holders.answers v.0 is.stand.core.run v.1).1;
       }
 
-  -- who answers something was not spent
-  pub lent_fresh : {Y : Type 0} (x : Core P) → IsKept x → (o : Option Lease) (l : Lease) → o ≡ Some l → (x.spent ≡ true → (o ≡ None) × Y) → (s : RunShape) × IsRun x s
-  lent_fresh x kept o l is none = fresh_run x kept (λ spent. no_some (sym (none spent).0 ∙ is))
+  pub lent_as : (x y : Core P) (s : RunShape) (k : ℕ) (o : Option Lease) (l : Lease) → o ≡ Some l → IsLentBy x s k o y → IsLentBy x s k (Some l) y
+  lent_as x y s k o l is lent = subst (λ q. IsLentBy x s k q y) is lent
 
-  pub lent_by : (x y : Core P) (s : RunShape) (k : ℕ) (o : Option Lease) (l : Lease) → o ≡ Some l → IsLentBy x s k o y → IsLease (history_of y) (code_of y) l
-  lent_by x y s k o l is lent = (subst (λ q. IsLentBy x s k q y) is lent).3.lease
+  -- one whose call answers something was not spent
+  pub owed_run : {A E : Type 0} (x : Core P) → IsKept x → (v : A) (e : E) → (x.spent ≡ true → Ok v ≡ Err e) → (s : RunShape) × IsRun x s
+  owed_run {A} {E} x kept v e none = fresh_run x kept (λ spent. subst (λ (q : Result A E). OnOk q ⊥) (sym (none spent)) tt)
 
   -- what is owed may be delivered
   pub owed_may : (x y : Core P) (o : Option Delivery) (d : Delivery) → o ≡ Some d → y ≡ x → ((s : RunShape) → IsRun x s → IfSome o (λ e. MayDeliver s (delivery_shape e))) → (s : RunShape) → IsRun y s → MayDeliver s (delivery_shape d)
   owed_may x y o d is same may s run = subst (λ q. IfSome q (λ e. MayDeliver s (delivery_shape e))) is (may s (subst (λ c. IsRun c s) same run))
 
-  pub judged_over : (x : Core P) → IsKept x → (o : Option Verdict) (v : Verdict) → o ≡ Some v → (x.spent ≡ true → o ≡ None) → ((s : RunShape) → IsRun x s → option_map verdict_shape o ≡ verdict_of x s) → IsOver x
-  judged_over x kept o v is none told =
-      let f = fresh_run x kept (λ spent. no_some (sym (none spent) ∙ is)) in
-      record { run = f.0; is = f.1; told = λ s i. ap is_some (sym (told s i) ∙ ap (option_map verdict_shape) is) }
-
   -- a core that goes on from another
   pub record IsGoing (answers : Answering P) (counts : Counting P) (first now : Core P) : Type 0 where
     pub kept : IsKept now
     pub begins : BeginsWith (history_of now) (history_of first)
+    pub home : IsHome now
     pub code : code_of now ≡ code_of first
     pub by_plan : StayByPlan answers counts first.edges now.edges
+    pub chosen : StaysChosen first now
+    pub stopped : StaysStopped (history_of first) (history_of now)
 
   module _ (answers : Answering P) (counts : Counting P) where
-    pub going_first : (x : Core P) → IsKept x → IsGoing answers counts x x
-    going_first x kept = record { kept = kept; begins = begins_itself (history_of x); code = refl; by_plan = λ plan policies is. is }
+    pub going_first : (x : Core P) → IsKept x → IsHome x → IsGoing answers counts x x
+    going_first x kept home = record { kept = kept; home = home; begins = begins_itself (history_of x); code = refl; by_plan = λ plan policies is. is; chosen = λ is. is; stopped = λ is. is }
 
-    pub going_on : (x y z : Core P) → IsGoing answers counts x y → IsKept z → BeginsWith (history_of z) (history_of y) → code_of z ≡ code_of y → StayByPlan answers counts y.edges z.edges
-        → IsGoing answers counts x z
-    going_on x y z going kept begins code stay = record {
+    pub going_on : (x y z : Core P) → IsGoing answers counts x y → IsKept z → IsHome z → BeginsWith (history_of z) (history_of y) → code_of z ≡ code_of y → StayByPlan answers counts y.edges z.edges
+        → StaysChosen y z → StaysStopped (history_of y) (history_of z) → IsGoing answers counts x z
+    going_on x y z going kept home begins code stay chosen stopped = record {
       kept = kept;
+      home = home;
       begins = begins_then (history_of x) (history_of y) (history_of z) going.begins begins;
       code = code ∙ going.code;
       by_plan = λ plan policies is. stay plan policies (going.by_plan plan policies is);
+      chosen = λ is. chosen (going.chosen is);
+      stopped = λ is. stopped (going.stopped is);
     }
 
     pub going_end : {E : Type 0} (r : Result (Core P) E) (x y : Core P) (Q : Core P → Type 0) → IfOk r (λ z. z ≡ y) → Q y → IfOk r Q
@@ -113,10 +126,10 @@ module _ {P : Type 0} where
     going_end (Err e) x y Q same is = tt
 
     -- the end of a run by a plan
-    pub ended_by_plan : {E : Type 0} (x : Core P) (over : IsOver x) (r : Result RunEnd E) → IfOk r (λ q. IsEndOf q (whole_outcome_of over.run.configuration)) → IfOk r (λ q. outcome_shape q.outcome ≡ outcome_of over.run.configuration)
-        → IsEndAsPlanned answers counts x r
+    planned_end : (x : Core P) (over : IsOver x) (q : RunEnd) → IsEndOf q (whole_outcome_of over.run.configuration) → outcome_shape q.outcome ≡ outcome_of over.run.configuration
+        → (plan : Plan) (policies : Policies P) → AreByPlan answers counts plan policies x.edges → IsEndByPlan answers counts plan policies (history_of x).program (history_of x).budget q
     unfolding run_ended
-    ended_by_plan x over (Ok q) end outcome plan policies by = record {
+    planned_end x over q end outcome plan policies by = record {
       end = run_ended x over.run over q over.is end outcome;
       strategies = strategy_in x.edges;
       labels = λ m k p st. over.is.labels m k p st ∙ ap (λ o. strategy_by (plan_shape o) p.label) by.same;
@@ -124,7 +137,25 @@ module _ {P : Type 0} where
       after = x.edges.policies;
       asked = subst (λ (h : HoldersShape). AreAsked answers counts (strategy_in x.edges) h.edges x.edges.holders.answers policies x.edges.policies) over.is.stand.edges.holders by.asked;
     }
+
+    pub ended_by_plan : {E : Type 0} (x : Core P) (over : IsOver x) (r : Result RunEnd E) → IfOk r (λ q. IsEndOf q (whole_outcome_of over.run.configuration)) → IfOk r (λ q. outcome_shape q.outcome ≡ outcome_of over.run.configuration)
+        → IsEndAsPlanned answers counts x r
+    ended_by_plan x over (Ok q) end outcome plan policies by = planned_end x over q end outcome plan policies by
     ended_by_plan x over (Err e) end outcome plan policies by = tt
+
+    -- and by what the policies chose
+    pub ended_by_choice : {E : Type 0} (x : Core P) (over : IsOver x) (r : Result RunEnd E) → IfOk r (λ q. IsEndOf q (whole_outcome_of over.run.configuration)) → IfOk r (λ q. outcome_shape q.outcome ≡ outcome_of over.run.configuration)
+        → IsEndAsChosen answers counts x r
+    unfolding planned_end run_ended
+    ended_by_choice x over (Ok q) end outcome plan policies by chosen stopped =
+        let choices = x.edges.holders.answers in record {
+          planned = planned_end x over q end outcome plan policies by;
+          chosen = subst (λ (h : HoldersShape). AreChosen (history_of x).entries h choices) over.is.stand.edges.holders chosen;
+          delivered = subst (λ (h : HoldersShape). ChosenAreDelivered h choices) over.is.stand.edges.holders (over_delivered x over.run over.is (over.told over.run over.is));
+          lazy = λ leaves. lazy_delivers_nothing P answers counts (strategy_in x.edges) (history_of x).entries x.edges.holders.holders choices policies x.edges.policies leaves by.asked chosen;
+          stopped = stopped;
+        }
+    ended_by_choice x over (Err e) end outcome plan policies by chosen stopped = tt
 
   -- the end is that of the run of its history
   pub outcome_ended : {E : Type 0} (x : Core P) (over : IsOver x) (r : Result RunEnd E) → IfOk r (λ q. IsEndOf q (whole_outcome_of over.run.configuration)) → IfOk r (λ q. outcome_shape q.outcome ≡ outcome_of over.run.configuration)

@@ -1,4 +1,4 @@
-use Rattle.core_runs.proofs.OverLemmas.{ended_by_plan, outcome_ended}
+use Rattle.core_runs.proofs.OverLemmas.{ended_by_choice, ended_by_plan, outcome_ended}
 use Rattle.core_runs.proofs.finishing.end_of_run.Goals as goal
 
 pub returns-clause-end : goal.returns-clause-end
@@ -10,3 +10,8 @@ pub returns-clause-by_plan : goal.returns-clause-by_plan
 returns-clause-by_plan g c =
     let over = c.requires.over in
     ended_by_plan g.P.UpdatePolicy.answer g.P.UpdatePolicy.asked c.args.core over c.outcome.result (c.outcome.ensures.end over.run over.is) (c.outcome.ensures.outcome over.run over.is)
+
+pub returns-clause-chosen : goal.returns-clause-chosen
+returns-clause-chosen g c =
+    let over = c.requires.over in
+    ended_by_choice g.P.UpdatePolicy.answer g.P.UpdatePolicy.asked c.args.core over c.outcome.result (c.outcome.ensures.end over.run over.is) (c.outcome.ensures.outcome over.run over.is)

@@ -11,3 +11,9 @@ returns-in-Ok-clause-code g c = c.in-Ok.ensures.code
 
 pub returns-in-Ok-clause-by_plan : goal.returns-in-Ok-clause-by_plan
 returns-in-Ok-clause-by_plan g c = c.in-Ok.ensures.by_plan
+
+pub returns-in-Ok-clause-chosen : goal.returns-in-Ok-clause-chosen
+returns-in-Ok-clause-chosen g c = c.in-Ok.ensures.chosen
+
+pub returns-in-Ok-clause-stopped : goal.returns-in-Ok-clause-stopped
+returns-in-Ok-clause-stopped g c = c.in-Ok.ensures.stopped
