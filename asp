@@ -1,6 +1,8 @@
 #!/bin/bash
 # Runs the program on the words given: as `rt ci` proved and built it, or without proof where it has not
-# since the sources changed. Ends with the program's status, and with 126 where there is no answer.
+# since the sources changed. What was built without proof is kept in out/, and runs at once until a source
+# changes. Ends with the program's status, and with 126 where there is no answer.
+set -o pipefail
 root=$(dirname "$(readlink -f "$0")")
 program=$root/crates/asp/out/asp
 if [[ -x $program && -z $(find "$root/crates" "$root/crates.txt" -name out -prune -o -newer "$program" \
@@ -8,11 +10,26 @@ if [[ -x $program && -z $(find "$root/crates" "$root/crates.txt" -name out -prun
     exec "$program" "$@"
 fi
 
-echo "asp: this answer comes from a build without proof, in a minute or two; rt ci proves and builds the program for good" >&2
 give_up() {
     echo "asp: no answer without proof: $1" >&2
     exit 126
 }
+# The sum of all files of the crates and of their list.
+sum_of_sources() {
+    (cd "$root" && find crates crates.txt -name out -prune -o -type f -print0 | LC_ALL=C sort -z \
+        | xargs -0 sha256sum | sha256sum | cut -d ' ' -f 1)
+}
+sum=$(sum_of_sources) || give_up "the sources cannot be read"
+kept=$root/out/unproved/asp-$sum
+if [[ -x $kept ]]; then
+    echo "asp: this answer comes from a build without proof, kept in out/; rt ci proves and builds the program for good" >&2
+    "$kept" "$@"
+    status=$?
+    ((status < 126)) || give_up "the program that was kept ended with status $status"
+    exit $status
+fi
+
+echo "asp: this answer comes from a build without proof, in a minute or two; rt ci proves and builds the program for good" >&2
 room=$(mktemp -d) || exit 126
 trap 'rm -rf "$room"' EXIT
 # A copy of the sources alone: a word may name a file of the crate's folder, and not be the caller's.
@@ -46,11 +63,31 @@ for word; do
     fi
 done
 
+# While the program runs, it stands in the try's folder under this name. A link to it outlives the try.
+catch() {
+    while kill -0 $$; do
+        for it in "$above"/*/*/program; do
+            [[ -e $it ]] && ln "$it" "$room/built" && return
+        done
+        sleep 0.02
+    done
+}
+catch 2>/dev/null &
+catcher=$!
 cd "$room/crates/asp" || exit 126
 TMPDIR=$above rt try --seconds 600 "${data[@]}" -- "${words[@]}" >"$room/out" 2>"$room/said" </dev/null
+kill $catcher 2>/dev/null
 if [[ ! $(tail -n 1 "$room/said") =~ ^run=ended\ status=([0-9]+)\ .*proved=no$ ]]; then
     give_up "$(sed -n 's/^checked: no-answer: //p' "$room/said" | grep . || tail -n 3 "$room/said")"
 fi
+status=${BASH_REMATCH[1]}
 cat "$room/out" || exit 126
 sed -E '/^(rt|interpreter|checked|races): |^run=/d' "$room/said" >&2
-exit "${BASH_REMATCH[1]}"
+
+# It is kept if it runs by itself, and if no source has changed since.
+printf 'print(1)' >"$room/one.asp"
+if [[ $("$room/built" "$room/one.asp" 2>/dev/null) == *'> 1' && $(sum_of_sources) == "$sum" ]]; then
+    rm -rf "$root/out/unproved"
+    mkdir -p "$root/out/unproved" && cp "$room/built" "$kept.new" && mv "$kept.new" "$kept"
+fi
+exit "$status"
