@@ -34,8 +34,7 @@ use Rattle.path_equal.specs.declared.labels.Root.{Root}
 use Rattle.path_equal.specs.declared.labels.Root.TheVariants as root
 use Rattle.path_equal.specs.declared.labels.PathLabel as labels
 use Rattle.state_lines.specs.declared.state.State.{State}
-use Rattle.path_equal.specs.Reading.{FoundShape, found_of, root_in, root_shape, label_shape, labels_shape, nth_of, child_cell, captured_in}
-use Rattle.path_equal.specs.Reading as reading
+use Rattle.path_equal.specs.Reading.{blank_found, found_of, root_in, root_shape, label_shape, labels_shape, nth_of, child_cell, captured_in}
 use Rattle.state_lines.specs.States.{IsStateOf, side_in}
 use Rattle.state_lines.proofs.TextLemmas.{blank_field, blank_method}
 
@@ -264,6 +263,7 @@ module _ (a : Side) (path : List labels.PathLabel) (i : ℕ) (x : labels.PathLab
 pub leads_all : (a : Side) (path : List labels.PathLabel) (q : Place) (n : ℕ) → n ≡ length path → Some q ≡ leads_by a (labels_shape (drop n path)) q
 leads_all a path q n e = sym (ap (λ (ts : List labels.PathLabel). leads_by a (labels_shape ts) q) (ap (λ k. drop k path) e ∙ drop-length path))
 
-pub object_found : (awaited : FutureShape → FutureShape) (code : List Node) (ns : List ℕ) (k : Option Class) → reading.Object ≡ found_of (Some (told awaited (class_object code ns k)))
+-- what is found at an object, whatever futures await
+pub object_found : (awaited : FutureShape → FutureShape) (code : List Node) (ns : List ℕ) (k : Option Class) → blank_found (class_object code ns k) ≡ found_of (Some (told awaited (class_object code ns k)))
 object_found awaited code ns None = refl
 object_found awaited code ns (Some k) = refl

@@ -3,10 +3,12 @@ use Rattle.std.specs.Prelude.{◌≡◌, ℕ, ℤ, true, false, List, [], ◌∷
 use Rattle.std.specs.List.{flat_map}
 use Rattle.asp_model.specs.Names.{Name, FutureShape, Text, same_text}
 use Rattle.asp_model.specs.Shapes.{future_shape}
-use Rattle.asp_model.specs.Store.{CellShape, reached}
+use Rattle.asp_model.specs.Store.{CellShape, MethodShape, moved_cell, reached}
 use Rattle.asp_model.specs.Store as store
 use Rattle.asp_model.specs.Term.{locations}
 use Rattle.program_code.specs.declared.code.MethodCode.{MethodCode}
+use Rattle.program_code.specs.Classes.{class_at}
+use Rattle.coded_cells.specs.Shapes.{class_object}
 use Rattle.deep_copy.specs.Reached.{used_places}
 use Rattle.paths.specs.Places.{Place, Side}
 use Rattle.paths.specs.PathLabels.{PathLabel, To_field, To_member, To_captured, number_by}
@@ -27,25 +29,30 @@ use Rattle.run_ends.specs.Reads.{IsAt}
 
 pub data FoundShape : Type 0 where
   Number : (n : ℤ) → FoundShape
-  Object : FoundShape
+  -- an object: the labels of its fields, and its methods, with each place in a body set to 0
+  Object : (fields : List Text) (methods : List MethodShape) → FoundShape
   Reference : (activity : Name) → FoundShape
   -- a group of so many members
   Group : (size : ℕ) → FoundShape
   Unfilled : (future : FutureShape) → FoundShape
   Nothing : FoundShape
 
--- what a path found, without labels and places
+-- what a path found, without places
 abbrev pub found_of : Option CellShape → FoundShape
 found_of None = Nothing
 found_of (Some (store.Number n)) = Number n
-found_of (Some (store.Object fields methods)) = Object
+found_of (Some (store.Object fields methods)) = Object (map (λ x. x.label) fields) methods
 found_of (Some (store.Reference n)) = Reference n
 found_of (Some (store.Future f)) = Unfilled f
 found_of (Some (store.Group ns)) = Group (length ns)
 
+-- what shows of a cell of code, which is no future
+abbrev pub blank_found : CellShape → FoundShape
+blank_found c = found_of (Some (moved_cell (λ n. 0) c))
+
 abbrev pub found_shape : Found → FoundShape
 found_shape (found.Number n) = Number n
-found_shape found.Object = Object
+found_shape (found.Object o k) = blank_found (class_object k.now o.now.places.items (class_at k.now o.now.class))
 found_shape (found.Reference n) = Reference n.now
 found_shape (found.Group size) = Group size
 found_shape (found.Unfilled f) = Unfilled (future_shape f.now)

@@ -21,8 +21,9 @@ use crate::children::child;
 use crate::labels::{PathLabel, Root};
 use crate::stack::nth_place;
 use asp_model::{ActivityName, FutureName};
-use coded_cells::Place;
+use coded_cells::{Object, Place};
 use future_table::FutureTable;
+use program_code::Code;
 use run_ends::{At, awaited};
 use state_lines::{Seen, State, look_at};
 
@@ -30,7 +31,8 @@ use state_lines::{Seen, State, look_at};
 #[derive(Clone, Copy)]
 pub enum Found<'a> {
     Number(i64),
-    Object,
+    /// An object, and the code that has its class, with the labels of its fields and its methods.
+    Object(&'a Object, &'a Code),
     Reference(&'a ActivityName),
     /// A group of so many members.
     Group(usize),
@@ -81,13 +83,14 @@ fn read_from<'a>(state: &State<'a>, place: Place, path: &[PathLabel]) -> Found<'
     found_as(state.futures, look_at(state, at).seen)
 }
 
+#[tactic(auto, using(crate::proofs::ReadLemmas::object_found))]
 fn found_as<'a>(futures: &'a FutureTable, seen: Seen<'a>) -> Found<'a>
     ensures found { let shown = shown_by (values_of futures.now) (seen_shape seen.entry) in
         found_shape result ≡ found_of (Some shown) }
 {
     match seen {
         Seen::Number(number) => Found::Number(number),
-        Seen::Object(..) => Found::Object,
+        Seen::Object(object, code) => Found::Object(object, code),
         Seen::Reference(name) => Found::Reference(name),
         Seen::Future(future) => Found::Unfilled(awaited(futures, future)),
         Seen::Group(members) => Found::Group(members.len()),
