@@ -2,7 +2,7 @@
 use Rattle.std.proofs.Common.{◌≡◌, ℕ, List, None, false, refl, sym, subst, ◌∙◌, ◌⊎◌, inl, inr}
 use Rattle.std.specs.Prelude.{nat_eq}
 use Rattle.command_line.specs.Task.{task_of}
-use Rattle.asp_top.specs.Seen.{Call, Rises}
+use Rattle.asp_top.specs.Seen.{Call, SomeReadFails, Fails}
 use Rattle.asp_top.specs.Correct.{IsReported}
 use Rattle.asp_top.specs.Refusals.{Refusal, Usage, Unread, LongProgram, NoProgram, Unchecked, LongReport, NoReport, Diverges, NoMemory, status_of_refusal}
 use Rattle.asp_top.specs.Endings.{Ends, Written, Refused, Unheard, Unwritten, IsCause, OfWords, OfMemory, OfTask, OfProgram, OfReport}
@@ -14,11 +14,11 @@ usage_cause c (OfWords u n) = n
 usage_cause c (OfMemory u) = absurd cc
 usage_cause c (OfTask other o h) = absurd h
 
-unread_cause : (c : Call) (name : List ℕ) → IsCause c (Unread name) → Rises c.outside.faults
+unread_cause : (c : Call) (name : List ℕ) → IsCause c (Unread name) → SomeReadFails c.outside
 unread_cause c name (OfWords u n) = absurd cc
 unread_cause c name (OfMemory u) = absurd cc
-unread_cause c name (OfTask task o (OfProgram n rises)) = rises
-unread_cause c name (OfTask task o (OfReport program given n rises)) = rises
+unread_cause c name (OfTask task o (OfProgram n fails)) = (0, name, fails)
+unread_cause c name (OfTask task o (OfReport program given n fails)) = (1, name, fails)
 
 usage_of : (c : Call) (r : Refusal) → status_of_refusal r ≡ 2 → IsCause c r → task_of c.words ≡ None
 usage_of c Usage e h = usage_cause c h
@@ -42,7 +42,7 @@ unfit_of c (NoReport line) e h = absurd cc
 unfit_of c (Diverges activity) e h = absurd cc
 unfit_of c NoMemory e h = absurd cc
 
-unread_of : (c : Call) (r : Refusal) → status_of_refusal r ≡ 6 → IsCause c r → Rises c.outside.faults
+unread_of : (c : Call) (r : Refusal) → status_of_refusal r ≡ 6 → IsCause c r → SomeReadFails c.outside
 unread_of c Usage e h = absurd cc
 unread_of c (Unread name) e h = unread_cause c name h
 unread_of c LongProgram e h = absurd cc
@@ -93,13 +93,13 @@ usage_only {c} {status} ends h = let x = cause c status 2 ends h (λ r. no_repor
 pub program_only : {c : Call} {status : ℕ} → Ends c status → status ≡ 3 → IsUnfit c
 program_only {c} {status} ends h = let x = cause c status 3 ends h (λ r. no_report 3 3 refl r refl) refl in unfit_of c x.refusal x.status x.holds
 
-pub read_fault_only : {c : Call} {status : ℕ} → Ends c status → status ≡ 6 → Rises c.outside.faults
+pub read_fault_only : {c : Call} {status : ℕ} → Ends c status → status ≡ 6 → SomeReadFails c.outside
 read_fault_only {c} {status} ends h = let x = cause c status 6 ends h (λ r. no_report 6 6 refl r refl) refl in unread_of c x.refusal x.status x.holds
 
 pub replay_only : {c : Call} {status : ℕ} → Ends c status → status ≡ 9 → IsNotReplayed c
 replay_only {c} {status} ends h = let x = cause c status 9 ends h (λ r. no_report 9 9 refl r refl) refl in unreplayed_of c x.refusal x.status x.holds
 
-pub write_fault_only : {c : Call} {status : ℕ} → Ends c status → status ≡ 7 → Rises c.out.faults ⊎ Rises c.err.faults
+pub write_fault_only : {c : Call} {status : ℕ} → Ends c status → status ≡ 7 → Fails c.out ⊎ Fails c.err
 write_fault_only {c} {status} (Written text a took still) h = absurd (no_report status 7 h (answers_reported c.outside a.task text status a.answer) refl)
 write_fault_only (Refused r holds u t e) h = absurd (not_seven r (sym e ∙ h))
 write_fault_only (Unheard r holds u t e) h = inr t.0

@@ -1,5 +1,5 @@
 -- Which status is to come.
-use Rattle.std.proofs.Common.{◌≡◌, ℕ, ◌<◌, ◌≤◌, List, Option, Some, None, length, sym, ap, subst, ◌∙◌, ◌⊎◌, inl, inr, arith}
+use Rattle.std.proofs.Common.{◌≡◌, ℕ, ◌<◌, ◌≤◌, List, Option, Some, None, Ok, Err, length, sym, ap, subst, ◌∙◌, ◌⊎◌, inl, inr, arith}
 use Rattle.asp_model.specs.declared.limits.TheConstants.{MOST_PROGRAM_BYTES, MOST_REPORT_BYTES}
 use Rattle.asp_model.specs.Marked.{Marked, plain}
 use Rattle.asp_model.specs.Step.{ListsShape}
@@ -8,56 +8,68 @@ use Rattle.asp_model.specs.ReadReport.{read_report, Reads, BadLine}
 use Rattle.asp_grammar.specs.Programs.{IsProgramText}
 use Rattle.asp_check.specs.Faults.{IsChecked}
 use Rattle.asp_edge.specs.Causes.{IsContent}
+use Rattle.asp_edge.specs.declared.edge.ReadError.TheVariants.{TooLong}
 use Rattle.command_line.specs.Task.{TaskShape, Runs, Checks, Replays, Makes, task_of}
-use Rattle.asp_top.specs.Seen.{Call, Outside, Rises, IsUntouched, Takes, IsLong}
+use Rattle.asp_top.specs.Seen.{Call, Outside, SomeReadFails, IsLong, IsLongContent, IsUntouched, Takes}
 use Rattle.asp_top.specs.Programs.{IsFile, IsText, IsProgramOf, HasProgram, HasReport}
 use Rattle.asp_top.specs.Correct.{Answers, IsReported}
 use Rattle.asp_top.specs.Refusals.{Refusal, Usage, Unread, LongProgram, NoProgram, Unchecked, LongReport, NoReport, Diverges, NoMemory, status_of_refusal, message_of}
 use Rattle.asp_top.specs.Endings.{Ends, Written, Refused, Unheard, Unwritten, IsCause, OfWords, OfMemory, OfTask, HoldsFor, IsUnread, OfProgram, OfReport, NamesProgram, NamesReport}
 use Rattle.asp_top.specs.Statuses.{CouldNot}
-use Rattle.asp_top.specs.Expected.{IsToldText, MayReplay, MayAnswer, AsksUnfit, AsksNoReplay, RefusesReport, Completes, RefusesProgram, RefusesPrograms, RefusesReports, IsUsageEnd}
+use Rattle.asp_top.specs.Expected.{Has, HasText, MayReplay, MayAnswer, AsksUnfit, AsksNoReplay, RefusesReport, Completes, RefusesProgram, RefusesPrograms, RefusesReports, IsUsageEnd}
+use Rattle.asp_top.proofs.AskLemmas.{one_answer}
 use Rattle.asp_top.proofs.StatusLemmas.{answers_reported, same_task}
 
--- a file that could not be read is a fault of the source
-unread_for : (o : Outside) (task : TaskShape) (name : List ℕ) → IsUnread o task name → Rises o.faults
-unread_for o task name (OfProgram n rises) = rises
-unread_for o task name (OfReport program given n rises) = rises
+-- a file that could not be read is a read that failed
+unread_for : (o : Outside) (task : TaskShape) (name : List ℕ) → IsUnread o task name → SomeReadFails o
+unread_for o task name (OfProgram n fails) = (0, name, fails)
+unread_for o task name (OfReport program given n fails) = (1, name, fails)
 
--- What is told is one text
+-- What the source has is one text
 
-too_long : (content : Option (List ℕ)) (bytes : List ℕ) (most : ℕ) → content ≡ Some bytes → length bytes ≤ most → IsLong most content → ⊥
-too_long content bytes most e h l = let beyond : most < length bytes = subst (IsLong most) e l in omega arith
+long_if : (o : Outside) (place : ℕ) (name bytes : List ℕ) (most : ℕ) → Has o place name bytes → IsLong o place name most → most < length bytes
+long_if o place name bytes most (inl e) l = subst (IsLongContent most) e l.content
+long_if o place name bytes most (inr g) l =
+    let no : Ok bytes ≡ Err (TooLong l.taken) = one_answer o place name name (Ok bytes) (Err (TooLong l.taken)) g l.gave in absurd cc
 
-same_file : (o : Outside) (name : List ℕ) (most : ℕ) (bytes other : List ℕ) → o.content name ≡ Some bytes → IsFile o name most other → other ≡ bytes
-same_file o name most bytes other e f = subst (λ (c : Option (List ℕ)). IsContent c other) e f.told
+too_long : (o : Outside) (place : ℕ) (name bytes : List ℕ) (most : ℕ) → Has o place name bytes → length bytes ≤ most → IsLong o place name most → ⊥
+too_long o place name bytes most e h l = let beyond : most < length bytes = long_if o place name bytes most e l in omega (arith, beyond, h)
 
-same_text : (o : Outside) (task : TaskShape) (bytes other : List ℕ) → IsToldText o task bytes → IsText o task other → other ≡ bytes
-same_text o (Runs file settings depth) bytes other e f = same_file o file MOST_PROGRAM_BYTES bytes other e.0 f
-same_text o (Checks file) bytes other e f = same_file o file MOST_PROGRAM_BYTES bytes other e.0 f
-same_text o (Replays file name depth) bytes other e f = same_file o file MOST_PROGRAM_BYTES bytes other e.0 f
+same_file : (o : Outside) (place : ℕ) (name : List ℕ) (most : ℕ) (bytes other : List ℕ) → Has o place name bytes → IsFile o place name most other → other ≡ bytes
+same_file o place name most bytes other (inl e) f = subst (λ (c : Option (List ℕ)). IsContent c other) e f.told
+same_file o place name most bytes other (inr g) f =
+    let e : Ok other ≡ Ok bytes = one_answer o place name name (Ok other) (Ok bytes) f.gave g in cc
+
+same_text : (o : Outside) (task : TaskShape) (bytes other : List ℕ) → HasText o task bytes → IsText o task other → other ≡ bytes
+same_text o (Runs file settings depth) bytes other e f = same_file o 0 file MOST_PROGRAM_BYTES bytes other e.0 f
+same_text o (Checks file) bytes other e f = same_file o 0 file MOST_PROGRAM_BYTES bytes other e.0 f
+same_text o (Replays file name depth) bytes other e f = same_file o 0 file MOST_PROGRAM_BYTES bytes other e.0 f
 same_text o (Makes pairs settings) bytes other e f = f ∙ sym e
+
+has_named : (o : Outside) (place : ℕ) (file name bytes : List ℕ) → file ≡ name → Has o place file bytes → Has o place name bytes
+has_named o place file name bytes n h = subst (λ (l : List ℕ). Has o place l bytes) n h
 
 -- A program that a call may answer
 
 -- no file of the program is too long
-program_fits : (o : Outside) (task : TaskShape) (bytes name : List ℕ) → IsToldText o task bytes → NamesProgram task name → IsLong MOST_PROGRAM_BYTES (o.content name) → ⊥
-program_fits o (Runs file settings depth) bytes name e n l = too_long (o.content name) bytes MOST_PROGRAM_BYTES (ap o.content (sym n) ∙ e.0) e.1 l
-program_fits o (Checks file) bytes name e n l = too_long (o.content name) bytes MOST_PROGRAM_BYTES (ap o.content (sym n) ∙ e.0) e.1 l
-program_fits o (Replays file report depth) bytes name e n l = too_long (o.content name) bytes MOST_PROGRAM_BYTES (ap o.content (sym n) ∙ e.0) e.1 l
+program_fits : (o : Outside) (task : TaskShape) (bytes name : List ℕ) → HasText o task bytes → NamesProgram task name → IsLong o 0 name MOST_PROGRAM_BYTES → ⊥
+program_fits o (Runs file settings depth) bytes name e n l = too_long o 0 name bytes MOST_PROGRAM_BYTES (has_named o 0 file name bytes n e.0) e.1 l
+program_fits o (Checks file) bytes name e n l = too_long o 0 name bytes MOST_PROGRAM_BYTES (has_named o 0 file name bytes n e.0) e.1 l
+program_fits o (Replays file report depth) bytes name e n l = too_long o 0 name bytes MOST_PROGRAM_BYTES (has_named o 0 file name bytes n e.0) e.1 l
 program_fits o (Makes pairs settings) bytes name e n l = n
 
-report_fits : (o : Outside) (task : TaskShape) (program : Marked) (name : List ℕ) → MayReplay o task program → NamesReport task name → IsLong MOST_REPORT_BYTES (o.content name) → ⊥
+report_fits : (o : Outside) (task : TaskShape) (program : Marked) (name : List ℕ) → MayReplay o task program → NamesReport task name → IsLong o 1 name MOST_REPORT_BYTES → ⊥
 report_fits o (Runs file settings depth) program name m n l = n
 report_fits o (Checks file) program name m n l = n
-report_fits o (Replays file report depth) program name m n l = too_long (o.content name) m.0 MOST_REPORT_BYTES (ap o.content (sym n) ∙ m.1.0) m.1.1 l
+report_fits o (Replays file report depth) program name m n l = too_long o 1 name m.0 MOST_REPORT_BYTES (has_named o 1 report name m.0 n m.1.0) m.1.1 l
 report_fits o (Makes pairs settings) program name m n l = n
 
--- the bytes of a told report are read as the lists and counts that fit
-report_reads : (o : Outside) (task : TaskShape) (program : Marked) (name bytes : List ℕ) (line : ℕ) → MayReplay o task program → NamesReport task name → IsFile o name MOST_REPORT_BYTES bytes → read_report bytes ≡ BadLine line → ⊥
+-- the bytes of a report that the source has are read as the lists and counts that fit
+report_reads : (o : Outside) (task : TaskShape) (program : Marked) (name bytes : List ℕ) (line : ℕ) → MayReplay o task program → NamesReport task name → IsFile o 1 name MOST_REPORT_BYTES bytes → read_report bytes ≡ BadLine line → ⊥
 report_reads o (Runs file settings depth) program name bytes line m n f e = n
 report_reads o (Checks file) program name bytes line m n f e = n
 report_reads o (Replays file report depth) program name bytes line m n f e =
-    let same : bytes ≡ m.0 = same_file o name MOST_REPORT_BYTES m.0 bytes (ap o.content (sym n) ∙ m.1.0) f in
+    let same : bytes ≡ m.0 = same_file o 1 name MOST_REPORT_BYTES m.0 bytes (has_named o 1 report name m.0 n m.1.0) f in
     let no : Reads m.2.lists m.2.counts ≡ BadLine line = sym m.2.reads ∙ ap read_report (sym same) ∙ e in
     absurd cc
 report_reads o (Makes pairs settings) program name bytes line m n f e = n
@@ -68,27 +80,27 @@ one_reading program lists others counts more e fits =
     let c : counts ≡ more = cc in
     subst (λ (x : ListsShape). Fits (plain program) x more) l (subst (λ (x : CountsShape). Fits (plain program) lists x) c fits)
 
-report_replays : (o : Outside) (task : TaskShape) (program : Marked) (name : List ℕ) (lists : ListsShape) (counts : CountsShape) → MayReplay o task program → NamesReport task name → HasReport o name lists counts → (Fits (plain program) lists counts → ⊥) → ⊥
+report_replays : (o : Outside) (task : TaskShape) (program : Marked) (name : List ℕ) (lists : ListsShape) (counts : CountsShape) → MayReplay o task program → NamesReport task name → HasReport o 1 name lists counts → (Fits (plain program) lists counts → ⊥) → ⊥
 report_replays o (Runs file settings depth) program name lists counts m n r unfit = n
 report_replays o (Checks file) program name lists counts m n r unfit = n
 report_replays o (Replays file report depth) program name lists counts m n r unfit =
-    let same : r.bytes ≡ m.0 = same_file o name MOST_REPORT_BYTES m.0 r.bytes (ap o.content (sym n) ∙ m.1.0) r.file in
+    let same : r.bytes ≡ m.0 = same_file o 1 name MOST_REPORT_BYTES m.0 r.bytes (has_named o 1 report name m.0 n m.1.0) r.file in
     let e : Reads m.2.lists m.2.counts ≡ Reads lists counts = sym m.2.reads ∙ ap read_report (sym same) ∙ r.reads in
     unfit (one_reading program m.2.lists lists m.2.counts counts e m.2.fits)
 report_replays o (Makes pairs settings) program name lists counts m n r unfit = n
 
 module _ (c : Call) (m : MayAnswer c) where
   reads_as : (other : List ℕ) → IsText c.outside m.task other → IsProgramText other m.program
-  reads_as other t = subst (λ (l : List ℕ). IsProgramText l m.program) (sym (same_text c.outside m.task m.bytes other m.told t)) m.is.is_read
+  reads_as other t = subst (λ (l : List ℕ). IsProgramText l m.program) (sym (same_text c.outside m.task m.bytes other m.had t)) m.is.is_read
 
   same_program : (program : Marked) → HasProgram c.outside m.task program → program ≡ m.program
   same_program program h = h.is.only m.program (reads_as h.bytes h.text)
 
   nothing_holds : (r : Refusal) (status : ℕ) → HoldsFor c.outside m.task r → status ≡ status_of_refusal r → status ≡ 8
   nothing_holds Usage status h e = absurd h
-  nothing_holds (Unread name) status (OfProgram n rises) e = absurd (m.heard rises)
-  nothing_holds (Unread name) status (OfReport program given n rises) e = absurd (m.heard rises)
-  nothing_holds LongProgram status h e = absurd (program_fits c.outside m.task m.bytes h.name m.told h.named h.long)
+  nothing_holds (Unread name) status (OfProgram n fails) e = absurd (m.read (0, name, fails))
+  nothing_holds (Unread name) status (OfReport program given n fails) e = absurd (m.read (1, name, fails))
+  nothing_holds LongProgram status h e = absurd (program_fits c.outside m.task m.bytes h.name m.had h.named h.long)
   nothing_holds (NoProgram fault) status h e = absurd (h.2.none m.program (reads_as h.0 h.1))
   nothing_holds (Unchecked fault) status h e = absurd (h.2.none m.program (reads_as h.0 h.1) m.is.checked)
   nothing_holds LongReport status h e = absurd (report_fits c.outside m.task m.program h.name m.replays h.named h.long)
@@ -134,21 +146,21 @@ given_in o (Replays file name depth) text status a = (a.0.program, a.0.given)
 given_in o (Makes pairs settings) text status a = (a.0.program, a.0.given)
 
 -- a file whose bytes are too long, or no checked program, is none
-not_given : (o : Outside) (file bytes other : List ℕ) (program : Marked) → o.content file ≡ Some bytes → (MOST_PROGRAM_BYTES < length bytes) ⊎ ((program : Marked) → IsProgramText bytes program → IsChecked program → ⊥)
-    → IsFile o file MOST_PROGRAM_BYTES other → IsProgramOf other program → ⊥
-not_given o file bytes other program told (inl long) f is =
-    let same : other ≡ bytes = same_file o file MOST_PROGRAM_BYTES bytes other told f in
+not_given : (o : Outside) (file bytes other : List ℕ) (program : Marked) → Has o 0 file bytes → (MOST_PROGRAM_BYTES < length bytes) ⊎ ((program : Marked) → IsProgramText bytes program → IsChecked program → ⊥)
+    → IsFile o 0 file MOST_PROGRAM_BYTES other → IsProgramOf other program → ⊥
+not_given o file bytes other program had (inl long) f is =
+    let same : other ≡ bytes = same_file o 0 file MOST_PROGRAM_BYTES bytes other had f in
     let short : length bytes ≤ MOST_PROGRAM_BYTES = subst (λ (l : List ℕ). length l ≤ MOST_PROGRAM_BYTES) same f.within in
     omega (arith, long, short)
-not_given o file bytes other program told (inr none) f is =
-    let same : other ≡ bytes = same_file o file MOST_PROGRAM_BYTES bytes other told f in
+not_given o file bytes other program had (inr none) f is =
+    let same : other ≡ bytes = same_file o 0 file MOST_PROGRAM_BYTES bytes other had f in
     none program (subst (λ (l : List ℕ). IsProgramText l program) same is.is_read) is.checked
 
 module _ (c : Call) (a : AsksUnfit c) where
   never_has : (task : TaskShape) → NamesProgram task a.name → (program : Marked) → HasProgram c.outside task program → ⊥
-  never_has (Runs file settings depth) n program h = not_given c.outside file a.bytes h.bytes program (ap c.outside.content n ∙ a.told) a.unfit h.text h.is
-  never_has (Checks file) n program h = not_given c.outside file a.bytes h.bytes program (ap c.outside.content n ∙ a.told) a.unfit h.text h.is
-  never_has (Replays file report depth) n program h = not_given c.outside file a.bytes h.bytes program (ap c.outside.content n ∙ a.told) a.unfit h.text h.is
+  never_has (Runs file settings depth) n program h = not_given c.outside file a.bytes h.bytes program (has_named c.outside 0 a.name file a.bytes (sym n) a.had) a.unfit h.text h.is
+  never_has (Checks file) n program h = not_given c.outside file a.bytes h.bytes program (has_named c.outside 0 a.name file a.bytes (sym n) a.had) a.unfit h.text h.is
+  never_has (Replays file report depth) n program h = not_given c.outside file a.bytes h.bytes program (has_named c.outside 0 a.name file a.bytes (sym n) a.had) a.unfit h.text h.is
   never_has (Makes pairs settings) n program h = n
 
   unfit_end : (r : Refusal) (status : ℕ) → HoldsFor c.outside a.task r → status ≡ status_of_refusal r → RefusesProgram c status ⊎ CouldNot c status
@@ -187,16 +199,16 @@ module _ (c : Call) (a : AsksNoReplay c) where
   abbrev AsksReplay : TaskShape
   AsksReplay = Replays a.file a.name a.depth
 
-  never_replays : (program : Marked) (lists : ListsShape) (counts : CountsShape) → HasProgram c.outside AsksReplay program → HasReport c.outside a.name lists counts → Fits (plain program) lists counts → ⊥
+  never_replays : (program : Marked) (lists : ListsShape) (counts : CountsShape) → HasProgram c.outside AsksReplay program → HasReport c.outside 1 a.name lists counts → Fits (plain program) lists counts → ⊥
   never_replays program lists counts given r fits =
-      let same : r.bytes ≡ a.report = same_file c.outside a.name MOST_REPORT_BYTES a.report r.bytes a.told r.file in
+      let same : r.bytes ≡ a.report = same_file c.outside 1 a.name MOST_REPORT_BYTES a.report r.bytes a.had r.file in
       elim a.unfit [
         | inl long ↦ let short : length a.report ≤ MOST_REPORT_BYTES = subst (λ (l : List ℕ). length l ≤ MOST_REPORT_BYTES) same r.file.within in omega (arith, long, short)
         | inr none ↦ none program given (record { lists = lists; counts = counts; reads = ap read_report (sym same) ∙ r.reads; fits = fits })
       ]
 
-  told_as : (name other : List ℕ) → a.name ≡ name → IsFile c.outside name MOST_REPORT_BYTES other → other ≡ a.report
-  told_as name other n f = same_file c.outside name MOST_REPORT_BYTES a.report other (ap c.outside.content (sym n) ∙ a.told) f
+  told_as : (name other : List ℕ) → a.name ≡ name → IsFile c.outside 1 name MOST_REPORT_BYTES other → other ≡ a.report
+  told_as name other n f = same_file c.outside 1 name MOST_REPORT_BYTES a.report other (has_named c.outside 1 a.name name a.report n a.had) f
 
   -- the refusals that a task may hold, each with what was taken
   no_replay_end : (r : Refusal) (status : ℕ) → HoldsFor c.outside AsksReplay r → IsUntouched c.out → Takes c.err (message_of r) → status ≡ status_of_refusal r → End status
@@ -209,7 +221,7 @@ module _ (c : Call) (a : AsksNoReplay c) where
     program = h.program;
     given = h.given;
     refusal = LongReport;
-    cause = subst (IsLong MOST_REPORT_BYTES) (ap c.outside.content (sym h.named) ∙ a.told) h.long;
+    cause = long_if c.outside 1 h.name a.report MOST_REPORT_BYTES (has_named c.outside 1 a.name h.name a.report h.named a.had) h.long;
     told = t;
     untouched = u;
     answered = e;

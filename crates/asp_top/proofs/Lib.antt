@@ -1,5 +1,6 @@
 pub mod SinkLemmas
 pub mod StopLemmas
+pub mod AskLemmas
 pub mod PrepareLemmas
 pub mod OutcomeLemmas
 pub mod EndsLemmas

@@ -76,7 +76,7 @@ module _ (c : Checked) (settings : SettingsShape) (end : RunEnd) (h : IsEndOfRun
     within,
   )
 
-pub replay_is : (o : Outside) (file name : List ℕ) (depth : Option ℕ) (c : Checked) (lists : ListsShape) (counts : CountsShape) (outcome : OutcomeShape) (text : List ℕ) (status : ℕ) → IsInFile o file (program_in c) → HasReport o name lists counts
+pub replay_is : (o : Outside) (file name : List ℕ) (depth : Option ℕ) (c : Checked) (lists : ListsShape) (counts : CountsShape) (outcome : OutcomeShape) (text : List ℕ) (status : ℕ) → IsInFile o file (program_in c) → HasReport o 1 name lists counts
     → Fits (tree_of c.program.root) lists counts → outcome ≡ outcome_of (replay (tree_of c.program.root) lists counts) → text ≡ report_to depth (whole_outcome_of (replay (tree_of c.program.root) lists counts)) → status ≡ exit_status outcome
     → Answers o (Replays file name depth) text status
 replay_is o file name depth c lists counts outcome text status given old fits is e s = (

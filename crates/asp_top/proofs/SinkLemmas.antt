@@ -3,11 +3,18 @@ use Rattle.std.proofs.Common.{◌≡◌, ℕ, zero, suc, ◌+◌, ◌<◌, List,
 use Rattle.std.proofs.lemmas.List.{map-append, take_more, take_at, take-append-drop, append-nil}
 use Rattle.std.proofs.lemmas.List.Folds.{concat-append}
 use Rattle.std.specs.List.{concat}
-use Rattle.asp_edge.specs.Causes.{Appends, AppendsFront}
+use Rattle.asp_edge.specs.Told.{SinkTells}
+use Rattle.asp_edge.specs.Causes.{Appends, Took, TookFront}
 
-pub appends_then : (a b c : Option (List ℕ)) (x y : List ℕ) → Appends a b x → Appends b c y → Appends a c (x ++ y)
+appends_then : (a b c : Option (List ℕ)) (x y : List ℕ) → Appends a b x → Appends b c y → Appends a c (x ++ y)
 appends_then None b c x y h g = tt
 appends_then (Some o) b c x y h g = let P : Option (List ℕ) → Type 0 = λ d. Appends d c y in subst P h g ∙ ap Some (append_assoc o x y)
+
+pub took_then : (a b c : SinkTells) (x y : List ℕ) → Took a b x → Took b c y → Took a c (x ++ y)
+took_then a b c x y h g = record {
+  taken = g.taken ∙ ap (λ (l : List ℕ). l ++ y) h.taken ∙ append_assoc a.taken x y;
+  told = appends_then a.bytes b.bytes c.bytes x y h.told g.told;
+}
 
 -- one more piece
 pub concat_more : {X : Type 0} (f : X → List ℕ) (xs : List X) (i : ℕ) (x : X) → i < length xs → x ≡ get_or xs i x → concat (map f (take (i + 1) xs)) ≡ concat (map f (take i xs)) ++ f x
@@ -30,14 +37,10 @@ front_of x y z n =
     ap (λ (l : List ℕ). x ++ (l ++ z)) (sym (take-append-drop n y)) ∙ ap (λ (l : List ℕ). x ++ l) (append_assoc (take n y) (drop n y) z) ∙ sym (append_assoc x (take n y) (drop n y ++ z)) in
     ap (take (length (x ++ take n y))) whole ∙ take_at (x ++ take n y) (drop n y ++ z) (length (x ++ take n y)) refl
 
-front_then : (a b c : Option (List ℕ)) (x y z : List ℕ) → Appends a b x → AppendsFront b c y → AppendsFront a c (x ++ (y ++ z))
-front_then None b c x y z h g = tt
-front_then (Some o) b c x y z h g =
-    let P : Option (List ℕ) → Type 0 = λ d. AppendsFront d c y in
-    let k : (n : ℕ) × (c ≡ Some ((o ++ x) ++ take n y)) = subst P h g in
-    (length (x ++ take k.0 y), k.1 ∙ ap Some (append_assoc o x (take k.0 y) ∙ ap (λ (l : List ℕ). o ++ l) (sym (front_of x y z k.0))))
+front_then : (a b c : SinkTells) (x y z : List ℕ) → Took a b x → TookFront b c y → TookFront a c (x ++ (y ++ z))
+front_then a b c x y z h g = (length (x ++ take g.0 y), subst (Took a c) (sym (front_of x y z g.0)) (took_then a b c x (take g.0 y) h g.1))
 
 -- a sink that failed in a piece has taken a front part of the whole
-pub fails_in : {X : Type 0} (f : X → List ℕ) (xs : List X) (i : ℕ) (x : X) (a b c : Option (List ℕ)) → i < length xs → x ≡ get_or xs i x → Appends a b (concat (map f (take i xs))) → AppendsFront b c (f x) → AppendsFront a c (concat (map f xs))
+pub fails_in : {X : Type 0} (f : X → List ℕ) (xs : List X) (i : ℕ) (x : X) (a b c : SinkTells) → i < length xs → x ≡ get_or xs i x → Took a b (concat (map f (take i xs))) → TookFront b c (f x) → TookFront a c (concat (map f xs))
 fails_in f xs i x a b c h e told front =
-    subst (AppendsFront a c) (sym (concat_at f xs i x h e)) (front_then a b c (concat (map f (take i xs))) (f x) (concat (map f (drop (suc i) xs))) told front)
+    subst (TookFront a c) (sym (concat_at f xs i x h e)) (front_then a b c (concat (map f (take i xs))) (f x) (concat (map f (drop (suc i) xs))) told front)

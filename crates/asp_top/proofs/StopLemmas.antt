@@ -1,7 +1,8 @@
 -- The causes of stops.
-use Rattle.std.proofs.Common.{◌≡◌, ℕ, ◌≤◌, List, Option, Some, None, Result, Ok, Err, sym, subst, ◌∙◌, ◌⊎◌, inl, inr, refl, ap, arith}
+use Rattle.std.proofs.Common.{◌≡◌, ℕ, List, Result, Ok, Err, sym, subst, ◌∙◌, ◌⊎◌, inl, inr, refl, ap}
 use Rattle.std.specs.Prelude.{IfOk, IfErr, OnErr}
 use Rattle.std.specs.Result.{IsErrAnd}
+use Rattle.asp_model.specs.declared.limits.TheConstants.{MOST_PROGRAM_BYTES}
 use Rattle.asp_model.specs.declared.term.Program.{Program}
 use Rattle.asp_model.specs.Marked.{Marked}
 use Rattle.asp_model.specs.Shapes.{marked_of}
@@ -15,13 +16,11 @@ use Rattle.asp_check.specs.declared.fault.CheckError.{CheckError}
 use Rattle.asp_check.specs.declared.fault.CheckError.TheVariants as check
 use Rattle.asp_check.specs.declared.fault.CheckFault.{CheckFault}
 use Rattle.asp_check.specs.Faults.{IsChecked, IsFirstFault}
-use Rattle.asp_edge.specs.Causes.{Rose, IsLonger}
-use Rattle.asp_edge.specs.declared.edge.ReadError.TheVariants as reads
 use Rattle.asp_top.specs.declared.stop.Stop.{Stop}
-use Rattle.asp_top.specs.Seen.{Sight, IsLong}
-use Rattle.asp_top.specs.Refusals.{Refusal, NoMemory, status_of_refusal, message_of}
-use Rattle.asp_top.specs.Programs.{IsProgramOf}
-use Rattle.asp_top.specs.Stops.{StopsAt, syntax_stop, check_stop, program_in}
+use Rattle.asp_top.specs.Seen.{Sight, Outside}
+use Rattle.asp_top.specs.Refusals.{Refusal, Usage, Unread, LongProgram, NoProgram, Unchecked, LongReport, NoReport, Diverges, NoMemory, status_of_refusal, message_of}
+use Rattle.asp_top.specs.Programs.{IsFile, IsProgramOf}
+use Rattle.asp_top.specs.Stops.{IsCheckedFile, RefusedAt, RefusedInFile, StopsAt, StopsInFile, syntax_stop, check_stop, program_in, refusal_of}
 use Rattle.asp_top.specs.Ready.{Told, ToldRefusal}
 
 -- a fault that was found stops there
@@ -60,14 +59,26 @@ pub if_failed : {T E : Type 0} (r : Result T E) (P : Type 0) → P → OnErr r P
 if_failed (Ok x) P h = tt
 if_failed (Err e) P h = h
 
--- a count that rose after it had not fallen
-pub rose_later : (a b c : ℕ) → a ≤ b → Rose b c → Rose a c
-rose_later a b c h r = omega (arith, h, r)
+-- what a text is, or why it is refused, is so of the file that it is
 
--- more bytes than the most were taken
-pub is_long : (content : Option (List ℕ)) (most taken : ℕ) → IsLonger content most (reads.TooLong taken) → IsLong most content
-is_long None most taken h = tt
-is_long (Some bytes) most taken h = omega (arith, h.0, h.1)
+pub in_file : (o : Outside) (name bytes : List ℕ) (r : Result Checked Stop) → IsFile o 0 name MOST_PROGRAM_BYTES bytes → IfOk r (λ c. IsProgramOf bytes (program_in c)) → IfOk r (IsCheckedFile o name)
+in_file o name bytes (Ok c) f h = record { bytes = bytes; text = f; is = h }
+in_file o name bytes (Err s) f h = tt
+
+refused_in_file : (o : Outside) (name bytes : List ℕ) (r : Refusal) → IsFile o 0 name MOST_PROGRAM_BYTES bytes → RefusedAt bytes r → RefusedInFile o name r
+refused_in_file o name bytes Usage f h = absurd h
+refused_in_file o name bytes (Unread other) f h = absurd h
+refused_in_file o name bytes LongProgram f h = absurd h
+refused_in_file o name bytes (NoProgram fault) f h = (bytes, f, h)
+refused_in_file o name bytes (Unchecked fault) f h = (bytes, f, h)
+refused_in_file o name bytes LongReport f h = absurd h
+refused_in_file o name bytes (NoReport line) f h = absurd h
+refused_in_file o name bytes (Diverges activity) f h = absurd h
+refused_in_file o name bytes NoMemory f h = tt
+
+pub stops_in_file : (o : Outside) (name bytes : List ℕ) (r : Result Checked Stop) → IsFile o 0 name MOST_PROGRAM_BYTES bytes → IfErr r (StopsAt bytes) → IfErr r (StopsInFile o name)
+stops_in_file o name bytes (Ok c) f h = tt
+stops_in_file o name bytes (Err s) f h = refused_in_file o name bytes (refusal_of s) f h
 
 pub if_named : {S E : Type 0} (f : S → List ℕ) (r : Result S E) (a b : List ℕ) → a ≡ b → IfOk r (λ s. f s ≡ a) → IfOk r (λ s. f s ≡ b)
 if_named f (Ok s) a b e h = h ∙ e

@@ -46,7 +46,7 @@ Answers o (Runs file settings depth) report status = (r : ReplayOf o (Runs file 
     × IsWithin settings.budget r.counts (end_of r)
 -- `asp FILE --replay REPORT`: the report of the replay under those that the file REPORT reads as
 Answers o (Replays file name depth) report status = (r : ReplayOf o (Replays file name depth))
-    × Tells (report_at depth) (end_of r) report status × HasReport o name r.lists r.counts
+    × Tells (report_at depth) (end_of r) report status × HasReport o 1 name r.lists r.counts
 -- `asp --make N`: the summary of a replay of the generated program
 Answers o (Makes pairs settings) summary status = (r : ReplayOf o (Makes pairs settings))
     × Tells (λ c. summary_of pairs (outcome_of c)) (end_of r) summary status × IsWithin settings.budget r.counts (end_of r)

@@ -1,6 +1,9 @@
 -- What two calls say of each other.
 use Rattle.std.specs.Prelude.{◌≡◌, ◌⊎◌, ℕ, List, Option}
+use Rattle.asp_model.specs.Names.{Name}
 use Rattle.asp_model.specs.Marked.{plain}
+use Rattle.asp_model.specs.Replay.{senders_in}
+use Rattle.laws.specs.Joins.{HasOneSender}
 use Rattle.command_line.specs.Settings.{SettingsShape}
 use Rattle.command_line.specs.Task.{Runs}
 use Rattle.asp_top.specs.Seen.{Outside}
@@ -19,3 +22,12 @@ EndedRunsPrintTheSame = (o p : Outside) (file name : List ℕ) (settings others 
     → (b : Answers p (Runs name others depth) other code)
     → IsEnded status → IsEnded code
     → plain a.0.program ≡ plain b.0.program → a.0.lists ≡ b.0.lists → report ≡ other
+
+-- and so do two of which the first shows that no activity received from two senders, whatever the lists of the other
+abbrev pub OneSenderPrintsTheSame : Type 0
+OneSenderPrintsTheSame = (o p : Outside) (file name : List ℕ) (settings others : SettingsShape)
+    → (depth : Option ℕ) (report other : List ℕ) (status code : ℕ)
+    → (a : Answers o (Runs file settings depth) report status)
+    → (b : Answers p (Runs name others depth) other code)
+    → IsEnded status → IsEnded code
+    → plain a.0.program ≡ plain b.0.program → ((m : Name) → HasOneSender (senders_in a.0.lists m)) → report ≡ other

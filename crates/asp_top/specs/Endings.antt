@@ -13,7 +13,7 @@ use Rattle.asp_grammar.specs.Programs.{IsProgramText}
 use Rattle.asp_check.specs.declared.fault.CheckFault.{CheckFault}
 use Rattle.asp_check.specs.Faults.{IsChecked, IsFirstFault}
 use Rattle.command_line.specs.Task.{TaskShape, Runs, Checks, Replays, Makes, task_of}
-use Rattle.asp_top.specs.Seen.{Call, Outside, Rises, IsUntouched, Takes, TakesFront, IsLong}
+use Rattle.asp_top.specs.Seen.{Call, Outside, ReadFails, IsLong, IsUntouched, Takes, TakesFront}
 use Rattle.asp_top.specs.Refusals.{Refusal, Usage, Unread, LongProgram, NoProgram, Unchecked, LongReport, NoReport, Diverges, NoMemory, status_of_refusal, message_of, write_message}
 use Rattle.asp_top.specs.Programs.{IsFile, IsText, HasProgram, HasReport}
 use Rattle.asp_top.specs.Correct.{Answers}
@@ -46,7 +46,7 @@ NamesReport task name = ⊥
 pub record HasLongProgram (o : Outside) (task : TaskShape) : Type 0 where
   pub name : List ℕ
   pub named : NamesProgram task name
-  pub long : IsLong MOST_PROGRAM_BYTES (o.content name)
+  pub long : IsLong o 0 name MOST_PROGRAM_BYTES
 
 -- the task has a program and names a report that is too long
 pub record HasLongReport (o : Outside) (task : TaskShape) : Type 0 where
@@ -54,7 +54,7 @@ pub record HasLongReport (o : Outside) (task : TaskShape) : Type 0 where
   pub given : HasProgram o task program
   pub name : List ℕ
   pub named : NamesReport task name
-  pub long : IsLong MOST_REPORT_BYTES (o.content name)
+  pub long : IsLong o 1 name MOST_REPORT_BYTES
 
 -- the task has a program and names a file that is no report: this is the first line that cannot
 -- stand in its place
@@ -64,7 +64,7 @@ pub record HasBadLine (o : Outside) (task : TaskShape) (line : ℕ) : Type 0 whe
   pub name : List ℕ
   pub named : NamesReport task name
   pub bytes : List ℕ
-  pub file : IsFile o name MOST_REPORT_BYTES bytes
+  pub file : IsFile o 1 name MOST_REPORT_BYTES bytes
   pub reads : read_report bytes ≡ BadLine line
 
 -- the task has a program and names a report that does not fit it: this is the least activity that
@@ -76,15 +76,15 @@ pub record HasDivergence (o : Outside) (task : TaskShape) (activity : Name) : Ty
   pub named : NamesReport task name
   pub lists : ListsShape
   pub counts : CountsShape
-  pub old : HasReport o name lists counts
+  pub old : HasReport o 1 name lists counts
   pub least : IsLeastDiverging (plain program) lists counts activity
   pub unfit : Fits (plain program) lists counts → ⊥
 
 -- a file could not be read: the program's, or the report of a task that has a program
 pub data IsUnread (o : Outside) (task : TaskShape) (name : List ℕ) : Type 0 where
-  OfProgram : NamesProgram task name → Rises o.faults → IsUnread o task name
+  OfProgram : NamesProgram task name → ReadFails o 0 name → IsUnread o task name
   OfReport : (program : Marked) → HasProgram o task program
-      → NamesReport task name → Rises o.faults → IsUnread o task name
+      → NamesReport task name → ReadFails o 1 name → IsUnread o task name
 
 -- the cause of a refusal of a task
 abbrev pub HoldsFor : Outside → TaskShape → Refusal → Type 0

@@ -1,5 +1,5 @@
 -- Which status is to come: all of it follows from `Ends`.
-use Rattle.std.specs.Prelude.{◌≡◌, ◌⊎◌, ℕ, ◌≤◌, ◌<◌, List, length, Option, Some}
+use Rattle.std.specs.Prelude.{◌≡◌, ◌⊎◌, ℕ, ◌≤◌, ◌<◌, List, length, Option, Some, Ok}
 use Rattle.asp_model.specs.declared.limits.TheConstants.{MOST_PROGRAM_BYTES, MOST_REPORT_BYTES}
 use Rattle.asp_model.specs.Marked.{Marked, plain}
 use Rattle.asp_model.specs.Step.{ListsShape}
@@ -9,23 +9,27 @@ use Rattle.asp_grammar.specs.Programs.{IsProgramText}
 use Rattle.asp_check.specs.Faults.{IsChecked}
 use Rattle.load_gen.specs.Generated.{generated}
 use Rattle.command_line.specs.Task.{TaskShape, Runs, Checks, Replays, Makes, task_of}
-use Rattle.asp_top.specs.Seen.{Call, Outside, Rises, IsUntouched, Takes}
+use Rattle.asp_top.specs.Seen.{Call, Outside, Gave, SomeReadFails, IsUntouched, Takes, Fails}
 use Rattle.asp_top.specs.Refusals.{Refusal, LongReport, NoReport, Diverges, message_of}
 use Rattle.asp_top.specs.Programs.{IsProgramOf, HasProgram}
 use Rattle.asp_top.specs.Correct.{IsReported}
 use Rattle.asp_top.specs.Endings.{NamesProgram}
 use Rattle.asp_top.specs.Statuses.{CouldNot, IsUnfit}
 
--- a file is told, with these bytes and at most so many
-abbrev pub IsTold : Outside → List ℕ → ℕ → List ℕ → Type 0
-IsTold o name most bytes = (o.content name ≡ Some bytes) × (length bytes ≤ most)
+-- the source tells these bytes under the name, or hands them out when it is asked for it at this place
+abbrev pub Has : Outside → ℕ → List ℕ → List ℕ → Type 0
+Has o place name bytes = (o.content name ≡ Some bytes) ⊎ Gave o place name (Ok bytes)
 
--- the text of the program is told, and short enough
-abbrev pub IsToldText : Outside → TaskShape → List ℕ → Type 0
-IsToldText o (Runs file settings depth) bytes = IsTold o file MOST_PROGRAM_BYTES bytes
-IsToldText o (Checks file) bytes = IsTold o file MOST_PROGRAM_BYTES bytes
-IsToldText o (Replays file name depth) bytes = IsTold o file MOST_PROGRAM_BYTES bytes
-IsToldText o (Makes pairs settings) bytes = bytes ≡ generated pairs
+-- and at most so many
+abbrev pub HasShort : Outside → ℕ → List ℕ → ℕ → List ℕ → Type 0
+HasShort o place name most bytes = Has o place name bytes × (length bytes ≤ most)
+
+-- the source has these bytes for the text of the program, and they are short enough
+abbrev pub HasText : Outside → TaskShape → List ℕ → Type 0
+HasText o (Runs file settings depth) bytes = HasShort o 0 file MOST_PROGRAM_BYTES bytes
+HasText o (Checks file) bytes = HasShort o 0 file MOST_PROGRAM_BYTES bytes
+HasText o (Replays file name depth) bytes = HasShort o 0 file MOST_PROGRAM_BYTES bytes
+HasText o (Makes pairs settings) bytes = bytes ≡ generated pairs
 
 -- a report in these bytes reads as lists and counts that fit the program
 pub record IsReportOf (program : Marked) (bytes : List ℕ) : Type 0 where
@@ -34,38 +38,38 @@ pub record IsReportOf (program : Marked) (bytes : List ℕ) : Type 0 where
   pub reads : read_report bytes ≡ Reads lists counts
   pub fits : Fits (plain program) lists counts
 
--- a report that is named is told, short enough, and fits the program
+-- the source has the report that is named, and it is short enough and fits the program
 abbrev pub MayReplay : Outside → TaskShape → Marked → Type 0
 MayReplay o (Replays file name depth) program =
-    (bytes : List ℕ) × IsTold o name MOST_REPORT_BYTES bytes × IsReportOf program bytes
+    (bytes : List ℕ) × HasShort o 1 name MOST_REPORT_BYTES bytes × IsReportOf program bytes
 MayReplay o task program = Unit {0}
 
--- the words ask for a task, its files are told, short enough, a checked program and a report that
--- fits it, and neither the source nor a sink fails
+-- the words ask for a task, the source has its files, and they are short enough, a checked program and a report
+-- that fits it; no read fails, and no sink
 pub record MayAnswer (c : Call) : Type 0 where
   pub task : TaskShape
   pub asked : task_of c.words ≡ Some task
   pub bytes : List ℕ
-  pub told : IsToldText c.outside task bytes
+  pub had : HasText c.outside task bytes
   pub program : Marked
   pub is : IsProgramOf bytes program
   pub replays : MayReplay c.outside task program
-  pub heard : Rises c.outside.faults → ⊥
-  pub out_takes : Rises c.out.faults → ⊥
-  pub err_takes : Rises c.err.faults → ⊥
+  pub read : SomeReadFails c.outside → ⊥
+  pub out_takes : Fails c.out → ⊥
+  pub err_takes : Fails c.err → ⊥
 
--- the words name a file for the program that is told and is too long, or no checked program
+-- the words name a file for the program that the source has, and it is too long, or no checked program
 pub record AsksUnfit (c : Call) : Type 0 where
   pub task : TaskShape
   pub asked : task_of c.words ≡ Some task
   pub name : List ℕ
   pub named : NamesProgram task name
   pub bytes : List ℕ
-  pub told : c.outside.content name ≡ Some bytes
+  pub had : Has c.outside 0 name bytes
   pub unfit : (MOST_PROGRAM_BYTES < length bytes)
       ⊎ ((program : Marked) → IsProgramText bytes program → IsChecked program → ⊥)
 
--- the words ask for a replay, and the report is told and is too long, or shows no lists and counts
+-- the words ask for a replay, and the source has the report, and it is too long, or shows no lists and counts
 -- that fit the program in the file
 pub record AsksNoReplay (c : Call) : Type 0 where
   pub file : List ℕ
@@ -73,7 +77,7 @@ pub record AsksNoReplay (c : Call) : Type 0 where
   pub depth : Option ℕ
   pub asked : task_of c.words ≡ Some (Replays file name depth)
   pub report : List ℕ
-  pub told : c.outside.content name ≡ Some report
+  pub had : Has c.outside 1 name report
   pub unfit : (MOST_REPORT_BYTES < length report) ⊎ ((program : Marked)
       → HasProgram c.outside (Replays file name depth) program → IsReportOf program report → ⊥)
 

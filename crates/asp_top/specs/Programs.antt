@@ -1,5 +1,5 @@
 -- The files that a task names, and the program that it asks for.
-use Rattle.std.specs.Prelude.{◌≡◌, ℕ, ◌≤◌, List, length}
+use Rattle.std.specs.Prelude.{◌≡◌, ℕ, ◌≤◌, List, [], ◌∷◌, length, Option, Some, None, Ok, is_ok, false}
 use Rattle.asp_model.specs.declared.limits.TheConstants.{MOST_PROGRAM_BYTES, MOST_REPORT_BYTES}
 use Rattle.asp_model.specs.Marked.{Marked}
 use Rattle.asp_model.specs.Step.{ListsShape}
@@ -7,21 +7,24 @@ use Rattle.asp_model.specs.Replay.{CountsShape}
 use Rattle.asp_model.specs.ReadReport.{read_report, Reads}
 use Rattle.asp_grammar.specs.Programs.{IsProgramText}
 use Rattle.asp_check.specs.Faults.{IsChecked}
+use Rattle.asp_edge.specs.Told.{Asks}
 use Rattle.asp_edge.specs.Causes.{IsContent}
 use Rattle.load_gen.specs.Generated.{generated}
-use Rattle.command_line.specs.Task.{TaskShape, Runs, Checks, Replays, Makes}
-use Rattle.asp_top.specs.Seen.{Outside}
+use Rattle.command_line.specs.Task.{TaskShape, Runs, Checks, Replays, Makes, task_of}
+use Rattle.asp_top.specs.Seen.{Outside, Asked, Gave}
 
--- the file of this name has these bytes, and at most so many
-pub record IsFile (o : Outside) (name : List ℕ) (most : ℕ) (bytes : List ℕ) : Type 0 where
+-- the file of this name, which was asked for at this place, has these bytes, and at most so many: the source
+-- handed them out, and they are the content where it tells that
+pub record IsFile (o : Outside) (place : ℕ) (name : List ℕ) (most : ℕ) (bytes : List ℕ) : Type 0 where
+  pub gave : Gave o place name (Ok bytes)
   pub told : IsContent (o.content name) bytes
   pub within : length bytes ≤ most
 
--- the text of the program: the bytes of its file, or the generated text
+-- the text of the program: the bytes of its file, which is asked for first, or the generated text
 abbrev pub IsText : Outside → TaskShape → List ℕ → Type 0
-IsText o (Runs file settings depth) bytes = IsFile o file MOST_PROGRAM_BYTES bytes
-IsText o (Checks file) bytes = IsFile o file MOST_PROGRAM_BYTES bytes
-IsText o (Replays file report depth) bytes = IsFile o file MOST_PROGRAM_BYTES bytes
+IsText o (Runs file settings depth) bytes = IsFile o 0 file MOST_PROGRAM_BYTES bytes
+IsText o (Checks file) bytes = IsFile o 0 file MOST_PROGRAM_BYTES bytes
+IsText o (Replays file report depth) bytes = IsFile o 0 file MOST_PROGRAM_BYTES bytes
 IsText o (Makes pairs settings) bytes = bytes ≡ generated pairs
 
 -- the bytes are this program and no other, and it is checked
@@ -38,15 +41,45 @@ pub record IsProgramAmong (IsOne : List ℕ → Type 0) (program : Marked) : Typ
 
 -- the program in the file of this name
 abbrev pub IsInFile : Outside → List ℕ → Marked → Type 0
-IsInFile o name program = IsProgramAmong (IsFile o name MOST_PROGRAM_BYTES) program
+IsInFile o name program = IsProgramAmong (IsFile o 0 name MOST_PROGRAM_BYTES) program
 
 -- the program that a task asks for
 abbrev pub HasProgram : Outside → TaskShape → Marked → Type 0
 HasProgram o task program = IsProgramAmong (IsText o task) program
 
--- the file of this name is short enough, and a report with these sender lists and counts
-pub record HasReport (o : Outside) (name : List ℕ)
+-- the file of this name, which was asked for at this place, is short enough, and a report with these sender
+-- lists and counts
+pub record HasReport (o : Outside) (place : ℕ) (name : List ℕ)
     (lists : ListsShape) (counts : CountsShape) : Type 0 where
   pub bytes : List ℕ
-  pub file : IsFile o name MOST_REPORT_BYTES bytes
+  pub file : IsFile o place name MOST_REPORT_BYTES bytes
   pub reads : read_report bytes ≡ Reads lists counts
+
+-- Which files are asked for
+
+-- the files that a task names, in their order
+abbrev pub files_of : TaskShape → List (List ℕ)
+files_of (Runs file settings depth) = file ∷ []
+files_of (Checks file) = file ∷ []
+files_of (Replays file report depth) = file ∷ report ∷ []
+files_of (Makes pairs settings) = []
+
+abbrev pub files_in : Option TaskShape → List (List ℕ)
+files_in None = []
+files_in (Some task) = files_of task
+
+-- these names were asked for in turn, each once, and nothing after an answer that has no bytes
+abbrev pub InTurn : List (List ℕ) → Asks → Type 0
+InTurn names [] = Unit {0}
+InTurn [] (ask ∷ asks) = ⊥
+InTurn (name ∷ names) (ask ∷ asks) = (ask.0 ≡ name) × InTurn names asks × (is_ok ask.1 ≡ false → asks ≡ [])
+
+-- what was asked in the call were these names in turn
+pub record AsksInTurn (o : Outside) (names : List (List ℕ)) : Type 0 where
+  pub asks : Asks
+  pub asked : Asked o asks
+  pub turn : InTurn names asks
+
+-- nothing was asked in the call but the files that the words name, in turn: the program's, and then the report
+abbrev pub ReadsFiles : List (List ℕ) → Outside → Type 0
+ReadsFiles words o = AsksInTurn o (files_in (task_of words))

@@ -8,7 +8,7 @@ use Rattle.asp_model.specs.Replay.{total}
 use Rattle.asp_syntax.specs.declared.error.SyntaxFault.{SyntaxFault}
 use Rattle.asp_check.specs.declared.fault.CheckFault.{CheckFault}
 use Rattle.command_line.specs.Task.{TaskShape, Runs, Checks, Replays, Makes, task_of}
-use Rattle.asp_top.specs.Seen.{Call, Outside, Rises, Takes}
+use Rattle.asp_top.specs.Seen.{Call, Outside, SomeReadFails, Takes, Fails}
 use Rattle.asp_top.specs.Refusals.{LongProgram, NoProgram, Unchecked, LongReport, NoReport, Diverges}
 use Rattle.asp_top.specs.Correct.{Answers, end_of}
 use Rattle.asp_top.specs.Endings.{IsCause}
@@ -88,7 +88,7 @@ abbrev pub IsNotReplayed : Call → Type 0
 IsNotReplayed c = IsCause c LongReport ⊎ ((line : ℕ) × IsCause c (NoReport line))
     ⊎ ((activity : Name) × IsCause c (Diverges activity))
 
--- the source failed, a sink failed, or memory ran out
+-- a read failed, a sink failed, or memory ran out
 abbrev pub CouldNot : Call → ℕ → Type 0
-CouldNot c status = ((status ≡ 6) × Rises c.outside.faults)
-    ⊎ ((status ≡ 7) × (Rises c.out.faults ⊎ Rises c.err.faults)) ⊎ (status ≡ 8)
+CouldNot c status = ((status ≡ 6) × SomeReadFails c.outside)
+    ⊎ ((status ≡ 7) × (Fails c.out ⊎ Fails c.err)) ⊎ (status ≡ 8)

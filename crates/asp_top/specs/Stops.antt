@@ -1,5 +1,5 @@
 -- Why there is nothing to write: for private functions alone.
-use Rattle.std.specs.Prelude.{◌≡◌, ℕ, List}
+use Rattle.std.specs.Prelude.{◌≡◌, ℕ, List, [], ◌∷◌, Result}
 use Rattle.std.specs.declared.alloc.Global.{Global}
 use Rattle.std.specs.declared.string.String.{String}
 use Rattle.asp_model.specs.declared.limits.TheConstants.{MOST_PROGRAM_BYTES, MOST_REPORT_BYTES}
@@ -9,6 +9,7 @@ use Rattle.asp_model.specs.declared.outcome.Lists.{Lists}
 use Rattle.asp_model.specs.declared.outcome.Counts.{Counts}
 use Rattle.asp_model.specs.ReadReport.{read_report, BadLine}
 use Rattle.asp_check.specs.declared.checked.Checked.{Checked}
+use Rattle.asp_edge.specs.declared.edge.ReadError.{ReadError}
 use Rattle.replay_one.specs.Listed.{AreReplayable}
 use Rattle.asp_syntax.specs.declared.error.SyntaxError.{SyntaxError}
 use Rattle.asp_syntax.specs.declared.error.SyntaxError.TheVariants as syntax
@@ -23,7 +24,7 @@ use Rattle.command_line.specs.declared.error.WordsError.TheVariants as words
 use Rattle.command_line.specs.Task.{TaskShape}
 use Rattle.asp_top.specs.declared.stop.Stop.{Stop}
 use Rattle.asp_top.specs.declared.stop.Stop.TheVariants as stops
-use Rattle.asp_top.specs.Seen.{Outside, Rises, IsLong, bytes_of}
+use Rattle.asp_top.specs.Seen.{Outside, Asked, ReadFails, IsLong, bytes_of}
 use Rattle.asp_top.specs.Programs.{IsFile, IsInFile, HasReport}
 use Rattle.asp_top.specs.Refusals.{Refusal, Usage, Unread, LongProgram, NoProgram, Unchecked, LongReport, NoReport, Diverges, NoMemory}
 use Rattle.asp_top.specs.Endings.{IsFaultyText, IsUncheckedText, Holds, HoldsFor}
@@ -81,29 +82,34 @@ StopsAt bytes s = RefusedAt bytes (refusal_of s)
 
 -- the cause of a stop at the file of a program
 abbrev pub RefusedInFile : Outside → List ℕ → Refusal → Type 0
-RefusedInFile o file (Unread name) = (file ≡ name) × Rises o.faults
-RefusedInFile o file LongProgram = IsLong MOST_PROGRAM_BYTES (o.content file)
+RefusedInFile o file (Unread name) = (file ≡ name) × ReadFails o 0 name
+RefusedInFile o file LongProgram = IsLong o 0 file MOST_PROGRAM_BYTES
 RefusedInFile o file (NoProgram fault) =
-    (bytes : List ℕ) × IsFile o file MOST_PROGRAM_BYTES bytes × IsFaultyText bytes fault
+    (bytes : List ℕ) × IsFile o 0 file MOST_PROGRAM_BYTES bytes × IsFaultyText bytes fault
 RefusedInFile o file (Unchecked fault) =
-    (bytes : List ℕ) × IsFile o file MOST_PROGRAM_BYTES bytes × IsUncheckedText bytes fault
+    (bytes : List ℕ) × IsFile o 0 file MOST_PROGRAM_BYTES bytes × IsUncheckedText bytes fault
 RefusedInFile o file NoMemory = Unit {0}
 RefusedInFile o file r = ⊥
 
 abbrev pub StopsInFile : Outside → List ℕ → Stop → Type 0
 StopsInFile o file s = RefusedInFile o file (refusal_of s)
 
+-- in the call the source was asked for this name alone, once
+pub record AsksOnce (o : Outside) (name : List ℕ) : Type 0 where
+  pub answer : Result (List ℕ) ReadError
+  pub asked : Asked o ((name, answer) ∷ [])
+
 -- the file is a report with these lists and counts, and they can be replayed
 pub record IsReplayable (o : Outside) (name : List ℕ) (log : Lists × Counts) : Type 0 where
-  pub old : HasReport o name (lists_shape log.0) (counts_shape log.1)
+  pub old : HasReport o 0 name (lists_shape log.0) (counts_shape log.1)
   pub replayable : AreReplayable (lists_shape log.0) (counts_shape log.1)
 
 -- the cause of a stop at the file of a report
 abbrev pub RefusedInReport : Outside → List ℕ → Refusal → Type 0
-RefusedInReport o report (Unread name) = (report ≡ name) × Rises o.faults
-RefusedInReport o report LongReport = IsLong MOST_REPORT_BYTES (o.content report)
+RefusedInReport o report (Unread name) = (report ≡ name) × ReadFails o 0 name
+RefusedInReport o report LongReport = IsLong o 0 report MOST_REPORT_BYTES
 RefusedInReport o report (NoReport line) =
-    (bytes : List ℕ) × IsFile o report MOST_REPORT_BYTES bytes × (read_report bytes ≡ BadLine line)
+    (bytes : List ℕ) × IsFile o 0 report MOST_REPORT_BYTES bytes × (read_report bytes ≡ BadLine line)
 RefusedInReport o report NoMemory = Unit {0}
 RefusedInReport o report r = ⊥
 

@@ -10,5 +10,5 @@ mod stop;
 mod top;
 mod writing;
 
-pub use ended::ended_runs_print_the_same;
+pub use ended::{ended_runs_print_the_same, one_sender_prints_the_same};
 pub use top::run_asp;

@@ -12,8 +12,9 @@ ghost use Rattle.run_report.specs.Summary.{summary_of};
 ghost use Rattle.command_line.specs.Task.{Runs, Checks, Replays, Makes, IsWithin};
 ghost use Rattle.command_line.specs.Settings.{IsSettings};
 ghost use Rattle.command_line.specs.Shapes.{settings_shape, task_shape};
-ghost use Rattle.asp_top.specs.Seen.{Outside, outside};
-ghost use Rattle.asp_top.specs.Stops.{StopsTask, StopsWords};
+ghost use Rattle.asp_top.specs.Seen.{Outside, bytes_of, outside};
+ghost use Rattle.asp_top.specs.Programs.{AsksInTurn, ReadsFiles, files_of};
+ghost use Rattle.asp_top.specs.Stops.{AsksOnce, StopsTask, StopsWords};
 ghost use Rattle.asp_top.specs.Ready.{IsReady, IsReadyFor, text_in};
 
 use crate::letting_go::let_go;
@@ -125,6 +126,7 @@ fn prepare_run<'a, R: Threads + Wait + Sync, S: Source, G: Gate>(
         IfOk result (IsReady (outside S.told source) task) }
     ensures stop { let task = Runs file.entry.now (settings_shape settings) depth in
         IfErr result (StopsTask (outside S.told source) task) }
+    ensures asked { AsksOnce (outside S.told source) file.entry.now }
 {
     let checked = program_of(alloc, file, source)?;
     let workers = settings.workers;
@@ -143,6 +145,7 @@ fn prepare_check<'a, S: Source>(
 ) -> Result<Prepared, Stop<'a>>
     ensures answer { IfOk result (IsReady (outside S.told source) (Checks file.entry.now)) }
     ensures stop { IfErr result (StopsTask (outside S.told source) (Checks file.entry.now)) }
+    ensures asked { AsksOnce (outside S.told source) file.entry.now }
 {
     drop(program_of(alloc, file, source)?);
     Ok(checked_text(alloc)?)
@@ -159,6 +162,8 @@ fn prepare_replay<'a, S: Source>(
         IfOk result (IsReady (outside S.told source) task) }
     ensures stop { let task = Replays file.entry.now report.entry.now depth in
         IfErr result (StopsTask (outside S.told source) task) }
+    ensures reads { let task = Replays file.entry.now report.entry.now depth in
+        AsksInTurn (outside S.told source) (files_of task) }
 {
     let checked = program_of(alloc, file, source)?;
     match lists_of(alloc, report, source) {
@@ -210,6 +215,7 @@ fn prepare_task<'a, R: Threads + Wait + Sync, S: Source, G: Gate>(
     requires within { IsWithin (task_shape task) }
     ensures answer { IfOk result (IsReady (outside S.told source) (task_shape task.entry)) }
     ensures stop { IfErr result (StopsTask (outside S.told source) (task_shape task.entry)) }
+    ensures reads { AsksInTurn (outside S.told source) (files_of (task_shape task.entry)) }
 {
     match task {
         Task::Run {
@@ -240,6 +246,7 @@ pub fn prepare<'a, R: Threads + Wait + Sync, S: Source, G: Gate>(
 ) -> Result<Prepared, Stop<'a>>
     ensures answer { IfOk result (IsReadyFor words.entry.now (outside S.told source)) }
     ensures stop { IfErr result (StopsWords words.entry.now (outside S.told source)) }
+    ensures reads { ReadsFiles (bytes_of words.entry.now) (outside S.told source) }
 {
     let task = read_words(alloc, words)?;
     prepare_task(rt, alloc, task, source, policies, gate)

@@ -3,7 +3,7 @@
 ghost use Rattle.std.specs.Prelude.{◌≡◌, ◌≤◌, IfOk, IfErr};
 ghost use Rattle.asp_top.specs.Seen.{outside};
 ghost use Rattle.asp_top.specs.Programs.{IsProgramOf};
-ghost use Rattle.asp_top.specs.Stops.{IsCheckedFile, StopsAt, StopsInFile, program_in};
+ghost use Rattle.asp_top.specs.Stops.{AsksOnce, IsCheckedFile, StopsAt, StopsInFile, program_in};
 
 use crate::stop::Stop;
 use asp_check::{Checked, check};
@@ -29,6 +29,7 @@ pub fn program_of<'a, S: Source>(
 ) -> Result<Checked, Stop<'a>>
     ensures program { IfOk result (IsCheckedFile (outside S.told source) name.entry.now) }
     ensures stop { IfErr result (StopsInFile (outside S.told source) name.entry.now) }
+    ensures asked { AsksOnce (outside S.told source) name.entry.now }
     ensures same { (S.told source.new).content ≡ (S.told source.old).content }
     ensures later { (S.told source.old).faults ≤ (S.told source.new).faults }
 {

@@ -2,7 +2,7 @@
 
 ghost use Rattle.std.specs.Prelude.{IfOk, IfErr};
 ghost use Rattle.asp_top.specs.Seen.{outside};
-ghost use Rattle.asp_top.specs.Stops.{IsReplayable, StopsInReport};
+ghost use Rattle.asp_top.specs.Stops.{AsksOnce, IsReplayable, StopsInReport};
 
 use crate::stop::Stop;
 use asp_edge::{ReadError, Source};
@@ -18,6 +18,7 @@ pub fn lists_of<'a, S: Source>(
 ) -> Result<(Lists, Counts), Stop<'a>>
     ensures log { IfOk result (IsReplayable (outside S.told source) name.entry.now) }
     ensures stop { IfErr result (StopsInReport (outside S.told source) name.entry.now) }
+    ensures asked { AsksOnce (outside S.told source) name.entry.now }
 {
     match source.read(name, MOST_REPORT_BYTES) {
         Ok(bytes) => Ok(read_report(alloc, &bytes)?),

@@ -2,7 +2,8 @@
 
 ghost use Rattle.std.specs.Prelude.{◌≡◌, ◌⊎◌, None};
 ghost use Rattle.command_line.specs.Task.{task_of};
-ghost use Rattle.asp_top.specs.Seen.{Rises, bytes_of, outside, saw, sight};
+ghost use Rattle.asp_top.specs.Seen.{Fails, SomeReadFails, bytes_of, outside, saw, sight};
+ghost use Rattle.asp_top.specs.Programs.{ReadsFiles};
 ghost use Rattle.asp_top.specs.Correct.{Reports};
 ghost use Rattle.asp_top.specs.Endings.{Ends};
 ghost use Rattle.asp_top.specs.Statuses.{IsNotReplayed, IsUnfit, SaysBlocked, SaysBudget, SaysEnd};
@@ -28,7 +29,8 @@ fn run_words<R: Threads + Wait + Sync, S: Source, O: Sink, E: Sink, G: Gate>(
     policies: Policies,
     gate: &G,
 ) -> u8
-    ensures { Ends (saw S.told O.told E.told words.now source out err) result }
+    ensures ends { Ends (saw S.told O.told E.told words.now source out err) result }
+    ensures reads { ReadsFiles (bytes_of words.now) (outside S.told source) }
 {
     match prepare(rt, alloc, words, source, policies, gate) {
         Ok(prepared) => write_prepared(&prepared, out, err),
@@ -56,8 +58,11 @@ pub fn run_asp<R: AllocGlobal + Threads + Wait + Sync, S: Source, O: Sink, E: Si
     policies: Policies,
     gate: &G,
 ) -> u8
-    // How the call ends, in full: the status, and what `out` and `err` took.
+    // How the call ends: the status, what the source handed out, and what `out` and `err` took.
     ensures ends { Ends (saw S.told O.told E.told words.now source out err) result }
+
+    // Which files are read.
+    ensures reads { ReadsFiles (bytes_of words.now) (outside S.told source) }
 
     // The main theorem.
     ensures report { Reports (saw S.told O.told E.told words.now source out err) result }
@@ -72,9 +77,9 @@ pub fn run_asp<R: AllocGlobal + Threads + Wait + Sync, S: Source, O: Sink, E: Si
     ensures usage_only { result ≡ 2 → task_of (bytes_of words.now) ≡ None }
     ensures program_only { result ≡ 3
         → IsUnfit (saw S.told O.told E.told words.now source out err) }
-    ensures read_fault_only { result ≡ 6 → Rises (outside S.told source).faults }
+    ensures read_fault_only { result ≡ 6 → SomeReadFails (outside S.told source) }
     ensures write_fault_only { result ≡ 7
-        → Rises (sight O.told out).faults ⊎ Rises (sight E.told err).faults }
+        → Fails (sight O.told out) ⊎ Fails (sight E.told err) }
     ensures replay_only { result ≡ 9
         → IsNotReplayed (saw S.told O.told E.told words.now source out err) }
 

@@ -1,7 +1,7 @@
 //! What is written: messages, and a text that is ready.
 
 ghost use Rattle.std.specs.Prelude.{◌≡◌, ◌≤◌, string_bytes, IfOk, IfErr, OnOk, OnErr};
-ghost use Rattle.asp_top.specs.Seen.{Rises, Takes, TakesSome, sight};
+ghost use Rattle.asp_top.specs.Seen.{Fails, Takes, TakesSome, sight};
 ghost use Rattle.asp_top.specs.Refusals.{kind_text as text_of_kind, check_text as text_of_check, fault_line, message_of, Diverges, NoMemory, NoReport, Unread};
 ghost use Rattle.asp_top.specs.Stops.{refusal_of};
 ghost use Rattle.asp_top.specs.Ready.{Told, ToldOf, ToldRefusal, WrittenOf, text_of_all};
@@ -128,7 +128,7 @@ fn write_all<O: Sink>(out: &mut O, pieces: &[String]) -> Result<(), WriteFailed>
     ensures all { OnOk result (Takes (sight O.told out) (text_of_all pieces.now)) }
     ensures front { OnErr result (TakesSome (sight O.told out) (text_of_all pieces.now)) }
     ensures later { (O.told out.old).faults ≤ (O.told out.new).faults }
-    ensures cause { OnErr result (Rises (sight O.told out).faults) }
+    ensures cause { OnErr result (Fails (sight O.told out)) }
 {
     for piece in pieces {
         out.write(piece.as_bytes())?;

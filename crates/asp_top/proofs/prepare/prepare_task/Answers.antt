@@ -1,9 +1,11 @@
-use Rattle.std.proofs.Common.{sym, subst}
+use Rattle.std.proofs.Common.{[], refl, sym, subst}
 use Rattle.std.specs.Prelude.{IfOk}
 use Rattle.command_line.specs.declared.task.Task.{Task}
 use Rattle.command_line.specs.Shapes.{task_shape}
 use Rattle.asp_top.specs.Seen.{outside_between}
+use Rattle.asp_top.specs.Programs.{AsksInTurn, files_of}
 use Rattle.asp_top.specs.Ready.{IsReady}
+use Rattle.asp_top.proofs.AskLemmas.{in_turn_none, in_turn_once}
 use Rattle.asp_top.proofs.prepare.prepare_task.Goals as goal
 
 pub returns-in-Run-clause-answer : goal.returns-in-Run-clause-answer
@@ -20,3 +22,23 @@ pub returns-in-Make-clause-answer : goal.returns-in-Make-clause-answer
 returns-in-Make-clause-answer g c =
     let o = outside_between g.S.Source.told c.args.source.now c.args.source.now in
     subst (λ (t : Task). IfOk c.prepare_made.result (IsReady o (task_shape t))) (sym c.in-Make.is) (c.prepare_made.ensures.answer o)
+
+pub returns-in-Run-clause-reads : goal.returns-in-Run-clause-reads
+returns-in-Run-clause-reads g c =
+    let o = outside_between g.S.Source.told c.args.source.now c.prepare_run.new.source in
+    subst (λ (t : Task). AsksInTurn o (files_of (task_shape t))) (sym c.in-Run.is) (in_turn_once o _ [] c.prepare_run.ensures.asked)
+
+pub returns-in-Check-clause-reads : goal.returns-in-Check-clause-reads
+returns-in-Check-clause-reads g c =
+    let o = outside_between g.S.Source.told c.args.source.now c.prepare_check.new.source in
+    subst (λ (t : Task). AsksInTurn o (files_of (task_shape t))) (sym c.in-Check.is) (in_turn_once o _ [] c.prepare_check.ensures.asked)
+
+pub returns-in-Replay-clause-reads : goal.returns-in-Replay-clause-reads
+returns-in-Replay-clause-reads g c =
+    let o = outside_between g.S.Source.told c.args.source.now c.prepare_replay.new.source in
+    subst (λ (t : Task). AsksInTurn o (files_of (task_shape t))) (sym c.in-Replay.is) c.prepare_replay.ensures.reads
+
+pub returns-in-Make-clause-reads : goal.returns-in-Make-clause-reads
+returns-in-Make-clause-reads g c =
+    let o = outside_between g.S.Source.told c.args.source.now c.args.source.now in
+    subst (λ (t : Task). AsksInTurn o (files_of (task_shape t))) (sym c.in-Make.is) (in_turn_none o [] refl)

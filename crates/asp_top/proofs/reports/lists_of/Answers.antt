@@ -1,9 +1,13 @@
-use Rattle.std.proofs.Common.{◌≡◌, rules, ap, ◌∙◌}
+use Rattle.std.proofs.Common.{◌≡◌, ◌≤◌, rules, length, refl, ap, subst, List, ℕ, ◌∙◌}
 use Rattle.asp_model.specs.declared.limits.TheConstants.{MOST_REPORT_BYTES}
 use Rattle.asp_model.specs.ReadReport.{read_report}
 use Rattle.asp_top.specs.Seen.{outside_between}
+use Rattle.sender_log.specs.Answers.{TellsOf}
 use Rattle.asp_top.specs.Programs.{IsFile}
-use Rattle.asp_top.proofs.PrepareLemmas.{report_is_replayable}
+use Rattle.asp_top.specs.Stops.{StopsInReport, log_stop}
+use Rattle.asp_top.proofs.AskLemmas.{first_file, first_fails, first_long}
+use Rattle.asp_top.proofs.StopLemmas.{stops_if}
+use Rattle.asp_top.proofs.PrepareLemmas.{report_is_replayable, report_refused}
 use Rattle.asp_top.proofs.reports.lists_of.Goals as goal
 
 pub returns-in_ok-read_report-in-Ok-clause-log : goal.returns-in_ok-read_report-in-Ok-clause-log
@@ -12,6 +16,28 @@ returns-in_ok-read_report-in-Ok-clause-log g c =
     let bytes = c.in-Ok.bytes.items in
     let r = c.in_ok-read_report-in-Ok.field-0 in
     let read = c.in_ok-read_report-in-Ok.ensures in
-    let told : IsFile o c.args.name.now MOST_REPORT_BYTES bytes = record { told = c.in-Ok.ensures.bytes; within = search rules } in
+    let short : length bytes ≤ MOST_REPORT_BYTES = search rules in
+    let file : IsFile o 0 c.args.name.now MOST_REPORT_BYTES bytes = first_file o c.args.name.now MOST_REPORT_BYTES bytes c.in-Ok.ensures.asked c.in-Ok.ensures.bytes short in
     let same : bytes ≡ c.deref.result.now = search rules in
-    report_is_replayable o c.args.name.now bytes r told (ap read_report same ∙ read.ok) read.same read.ascending read.within
+    report_is_replayable o c.args.name.now bytes r file (ap read_report same ∙ read.ok) read.same read.ascending read.within
+
+pub returns-in_err-read_report-in-Ok-clause-stop : goal.returns-in_err-read_report-in-Ok-clause-stop
+returns-in_err-read_report-in-Ok-clause-stop g c =
+    let o = outside_between g.S.Source.told c.args.source.now c.read.new.self in
+    let bytes = c.in-Ok.bytes.items in
+    let e = c.in_err-read_report-in-Ok.field-0.0 in
+    let short : length bytes ≤ MOST_REPORT_BYTES = search rules in
+    let file : IsFile o 0 c.args.name.now MOST_REPORT_BYTES bytes = first_file o c.args.name.now MOST_REPORT_BYTES bytes c.in-Ok.ensures.asked c.in-Ok.ensures.bytes short in
+    let same : c.deref.result.now ≡ bytes = search rules in
+    stops_if (StopsInReport o c.args.name.now) c.from_residual.result (log_stop e) c.from_residual.ensures.1
+    (report_refused o c.args.name.now bytes e file (subst (λ (l : List ℕ). TellsOf (read_report l) e) same c.in_err-read_report-in-Ok.ensures.bad_line))
+
+pub returns-in-Err-Failed-clause-stop : goal.returns-in-Err-Failed-clause-stop
+returns-in-Err-Failed-clause-stop g c =
+    let o = outside_between g.S.Source.told c.args.source.now c.read.new.self in
+    (refl, first_fails o c.args.name.now c.in-Err-Failed.field-0 c.in-Err-Failed.field-0-is c.in-Err-Failed.ensures.asked c.in-Err-Failed.ensures.cause)
+
+pub returns-in-Err-TooLong-clause-stop : goal.returns-in-Err-TooLong-clause-stop
+returns-in-Err-TooLong-clause-stop g c =
+    let o = outside_between g.S.Source.told c.args.source.now c.read.new.self in
+    first_long o c.args.name.now MOST_REPORT_BYTES c.in-Err-TooLong.field-0 _ c.in-Err-TooLong.field-0-is c.in-Err-TooLong.ensures.asked c.in-Err-TooLong.ensures.long
