@@ -1,20 +1,24 @@
 -- Who is out after a call of the core.
-use Rattle.std.proofs.Common.{◌≡◌, ◌≢◌, ◌&&◌, not, ℕ, Bool, true, false, Option, Some, None, Result, Ok, Err, OnOk, OnErr, IfOk, IfSome, sym, ap, refl, ◌∙◌, subst}
+use Rattle.std.proofs.Common.{◌≡◌, ◌≢◌, ◌&&◌, ◌∷◌, not, ℕ, Bool, true, false, Option, Some, None, Result, Ok, Err, OnOk, OnErr, IfOk, IfSome, sym, ap, refl, ◌∙◌, subst}
 use Rattle.std.proofs.lemmas.Bool.{true≢false}
 use Rattle.std.proofs.lemmas.Option.{none-some}
+use Rattle.std.specs.Option.{option_map}
 use Rattle.asp_model.specs.History.{Delivered, DeliveryShape, HistoryShape, Lent}
 use Rattle.asp_model.specs.Shapes.{delivery_shape}
 use Rattle.asp_model.specs.declared.journal.Delivery.{Delivery}
-use Rattle.journals.specs.Journals.{RunShape}
+use Rattle.journals.specs.Journals.{RunShape, granted, out_but}
 use Rattle.core_state.specs.declared.lease.Lease.{Lease}
 use Rattle.core_state.specs.Leases.{IsLease}
 use Rattle.core_state.proofs.ListLemmas.{numbers_apart}
 use Rattle.core_edges.specs.Answers.{Answering, Counting}
 use Rattle.asp_core.specs.declared.cores.Core.{Core}
-use Rattle.asp_core.specs.Calls.{HasGoneOn, IsCommittedBy, IsLentBy, MayDeliver}
+use Rattle.asp_core.specs.Calls.{HasGoneOn, IsCommittedBy, IsLentBy, MayDeliver, owed_next}
+use Rattle.asp_core.specs.Chosen.{StaysChosen}
 use Rattle.asp_core.specs.Cores.{IsKept, IsRun, code_of, history_of}
-use Rattle.asp_core.specs.Plans.{AreByPlan, StayByPlan}
-use Rattle.racing_workers.specs.Desks.{KeepsPlan}
+use Rattle.asp_core.specs.Plans.{StayByPlan}
+use Rattle.asp_core.specs.Stopping.{StaysStopped}
+use Rattle.core_runs.proofs.OutAfterLemmas.{ComesFrom, comes_back, comes_delivered, comes_lent, comes_same}
+use Rattle.racing_workers.specs.Desks.{KeepsUnlessSpent}
 use Rattle.racing_workers.specs.Rows.{IsOut}
 use Rattle.racing_workers.proofs.OutLemmas.{out_lasts, ready_is_in}
 
@@ -46,6 +50,19 @@ module _ {P A E : Type 0} (old new : Core P) (kept : IsKept old) (r : Result A E
           (out_lasts (history_of old) _ k burst (ap (λ b. not b && true) (numbers_apart k l.number other)) out)
       by_result s (Err v) c x = same x
 
+  -- and who comes back is out no more
+  pub commit_comes : (l : Lease) (lease : IsLease (history_of old) (code_of old) l)
+      → ((s : RunShape) → IsRun old s → (x : IsLease (history_of old) (code_of old) l) → OnOk r (IsCommittedBy old s l x.name new))
+      → (old.spent ≡ true → r ≡ Err e) → OnErr r (new.spent ≡ true) → ComesFrom old new (λ s. out_but l.number s.out)
+  commit_comes l lease committed spent gives_up =
+      run_or_spent old kept old.spent refl
+      (λ is t run. absurd (true≢false (sym (when_err (spent is) gives_up) ∙ run.fresh)))
+      (λ s run. by_result s run r (committed s run lease) gives_up)
+    where
+      by_result : (s : RunShape) → IsRun old s → (q : Result A E) → OnOk q (IsCommittedBy old s l lease.name new) → OnErr q (new.spent ≡ true) → ComesFrom old new (λ s. out_but l.number s.out)
+      by_result s run (Ok v) c x = comes_back old new s l.number _ run c.on.entered
+      by_result s run (Err v) c x = λ t is. absurd (true≢false (sym x ∙ is.fresh))
+
   -- all stay out by a delivery
   pub deliver_out : (d : DeliveryShape)
       → ((s : RunShape) → IsRun old s → OnOk r (HasGoneOn old (Delivered d) new))
@@ -63,12 +80,35 @@ module _ {P A E : Type 0} (old new : Core P) (kept : IsKept old) (r : Result A E
       by_result (Ok v) c x = subst (λ (h : HistoryShape). IsOut h k burst) (sym c.entered) (out_lasts (history_of old) (Delivered d) k burst refl out)
       by_result (Err v) c x = same x
 
+  -- and nobody else is
+  pub deliver_comes : (d : DeliveryShape)
+      → ((s : RunShape) → IsRun old s → OnOk r (HasGoneOn old (Delivered d) new))
+      → (old.spent ≡ true → r ≡ Err e) → OnErr r (new.spent ≡ true) → ComesFrom old new (λ s. s.out)
+  deliver_comes d delivered spent gives_up =
+      run_or_spent old kept old.spent refl
+      (λ is t run. absurd (true≢false (sym (when_err (spent is) gives_up) ∙ run.fresh)))
+      (λ s run. by_result s run r (delivered s run) gives_up)
+    where
+      by_result : (s : RunShape) → IsRun old s → (q : Result A E) → OnOk q (HasGoneOn old (Delivered d) new) → OnErr q (new.spent ≡ true) → ComesFrom old new (λ s. s.out)
+      by_result s run (Ok v) c x = comes_delivered old new s d run c.entered
+      by_result s run (Err v) c x = λ t is. absurd (true≢false (sym x ∙ is.fresh))
+
+  -- what is owed next was chosen
+  pub deliver_chosen : (d : DeliveryShape) → ((s : RunShape) → IsRun old s → owed_next old s ≡ Some d)
+      → ((s : RunShape) → IsRun old s → owed_next old s ≡ Some d → OnOk r (StaysChosen old new))
+      → (old.spent ≡ true → r ≡ Err e) → OnOk r (StaysChosen old new)
+  deliver_chosen d owed chosen spent =
+      run_or_spent old kept old.spent refl
+      (λ is. subst (λ (q : Result A E). OnOk q (StaysChosen old new)) (sym (spent is)) tt)
+      (λ s run. chosen s run (owed s run))
+
 -- a lend that gives a lease: it is out, nobody was who has this number, and all others stay out
 pub record Lends {P : Type 0} (old new : Core P) (k : ℕ) (l : Lease) : Type 0 where
   pub lease : IsLease (history_of new) (code_of new) l
   pub number : l.number ≡ k
   pub free : (burst : ℕ) → IsOut (history_of old) k burst → ⊥
   pub others : (j burst : ℕ) → IsOut (history_of old) j burst → IsOut (history_of new) j burst
+  pub comes : ComesFrom old new (λ s. (k, granted s) ∷ s.out)
 
 module _ {P : Type 0} (old new : Core P) (kept : IsKept old) (k : ℕ) (r : Option Lease)
     (lent : (s : RunShape) → IsRun old s → IsLentBy old s k r new) (spent : old.spent ≡ true → (r ≡ None) × (new ≡ old)) where
@@ -79,6 +119,7 @@ module _ {P : Type 0} (old new : Core P) (kept : IsKept old) (k : ℕ) (r : Opti
         lease = x.3.lease;
         number = x.3.number;
         free = free;
+        comes = comes_lent old new s k run x.2;
         others = λ j burst out. subst (λ (h : HistoryShape). IsOut h j burst) (sym x.1)
             (out_lasts (history_of old) (Lent k) j burst (ap (λ b. not b && true) (numbers_apart j k (λ same. free burst (subst (λ (i : ℕ). IsOut (history_of old) i burst) same out)))) out);
       })
@@ -99,26 +140,57 @@ module _ {P E : Type 0} (old new : Core P) (r : Result (Option Delivery) E) wher
       subst (λ (q : Result (Option Delivery) E). IfOk q (λ p. IfSome p (λ x. MayDeliver s (delivery_shape x)))) is
       (may s (subst (λ (x : Core P). IsRun x s) before run))
 
--- A call keeps the plan, unless the core is spent
+  -- it is what is owed next
+  pub owed_is : (o : Option Delivery) → r ≡ Ok o → OnOk r (new ≡ old)
+      → ((s : RunShape) → IsRun old s → IfOk r (λ p. option_map delivery_shape p ≡ owed_next old s))
+      → IfSome o (λ d. (s : RunShape) → IsRun new s → owed_next new s ≡ Some (delivery_shape d))
+  owed_is None is same next = tt
+  owed_is (Some d) is same next = λ s run.
+      let before : new ≡ old = subst (λ (q : Result (Option Delivery) E). OnOk q (new ≡ old)) is same in
+      let told = subst (λ (q : Result (Option Delivery) E). IfOk q (λ p. option_map delivery_shape p ≡ owed_next old s)) is (next s (subst (λ (x : Core P). IsRun x s) before run)) in
+      ap (λ (x : Core P). owed_next x s) before ∙ sym told
+
+  -- and who is out stays so
+  pub owed_comes : OnOk r (new ≡ old) → OnErr r (new.spent ≡ true) → ComesFrom old new (λ s. s.out)
+  owed_comes same gives_up = by r same gives_up
+    where
+      by : (q : Result (Option Delivery) E) → OnOk q (new ≡ old) → OnErr q (new.spent ≡ true) → ComesFrom old new (λ s. s.out)
+      by (Ok o) is x = comes_same old new is
+      by (Err e) is x = λ t run. absurd (true≢false (sym x ∙ run.fresh))
+
+-- What a core keeps by a call, unless it is spent
 module _ {P : Type 0} (answers : Answering P) (counts : Counting P) (old new : Core P) where
   -- it was not spent before, where that would leave it spent
   was_fresh : (b : Bool) → old.spent ≡ b → (old.spent ≡ true → new.spent ≡ true) → new.spent ≡ false → old.spent ≡ false
   was_fresh true is stays fresh = absurd (true≢false (sym (stays is) ∙ fresh))
   was_fresh false is stays fresh = is
 
-  pub plan_by : {A E : Type 0} (r : Result A E) (e : E) → (old.spent ≡ true → r ≡ Err e) → OnErr r (new.spent ≡ true) → OnOk r (StayByPlan answers counts old.edges new.edges) → KeepsPlan answers counts old new
-  plan_by {A} {E} (Ok x) e spent err stay fresh = (
-    was_fresh old.spent refl (λ is. absurd (subst (λ (q : Result A E). OnOk q ⊥) (sym (spent is)) tt)) fresh,
-    stay,
-  )
-  plan_by (Err x) e spent err stay fresh = absurd (true≢false (sym err ∙ fresh))
+  pub keeps_by : {A E : Type 0} (r : Result A E) (e : E) → (old.spent ≡ true → r ≡ Err e) → OnErr r (new.spent ≡ true) → OnOk r (StayByPlan answers counts old.edges new.edges) → OnOk r (StaysChosen old new)
+      → OnOk r (StaysStopped (history_of old) (history_of new)) → KeepsUnlessSpent answers counts old new
+  keeps_by {A} {E} (Ok x) e spent err stay chosen stopped fresh = record {
+    fresh = was_fresh old.spent refl (λ is. absurd (subst (λ (q : Result A E). OnOk q ⊥) (sym (spent is)) tt)) fresh;
+    plan = stay;
+    chosen = chosen;
+    stopped = stopped;
+  }
+  keeps_by (Err x) e spent err stay chosen stopped fresh = absurd (true≢false (sym err ∙ fresh))
 
-  pub plan_lent : {A : Type 0} → (old.spent ≡ true → A × (new ≡ old)) → StayByPlan answers counts old.edges new.edges → KeepsPlan answers counts old new
-  plan_lent spent stay fresh = (was_fresh old.spent refl (λ is. ap (λ (x : Core P). x.spent) (spent is).1 ∙ is) fresh, stay)
+  pub keeps_lent : {A : Type 0} → (old.spent ≡ true → A × (new ≡ old)) → StayByPlan answers counts old.edges new.edges → StaysChosen old new → StaysStopped (history_of old) (history_of new)
+      → KeepsUnlessSpent answers counts old new
+  keeps_lent spent stay chosen stopped fresh = record {
+    fresh = was_fresh old.spent refl (λ is. ap (λ (x : Core P). x.spent) (spent is).1 ∙ is) fresh;
+    plan = stay;
+    chosen = chosen;
+    stopped = stopped;
+  }
 
-  pub plan_owed : {A E : Type 0} (r : Result A E) (e : E) → (old.spent ≡ true → r ≡ Err e) → OnErr r (new.spent ≡ true) → OnOk r (new ≡ old) → KeepsPlan answers counts old new
-  plan_owed r e spent err same = plan_by r e spent err (stays r same)
+  pub keeps_owed : {A E : Type 0} (r : Result A E) (e : E) → (old.spent ≡ true → r ≡ Err e) → OnErr r (new.spent ≡ true) → OnOk r (new ≡ old) → KeepsUnlessSpent answers counts old new
+  keeps_owed r e spent err same =
+      keeps_by r e spent err
+      (as_before (λ (c : Core P). StayByPlan answers counts old.edges c.edges) (λ plan policies is. is) r same)
+      (as_before (λ (c : Core P). StaysChosen old c) (λ chosen. chosen) r same)
+      (as_before (λ (c : Core P). StaysStopped (history_of old) (history_of c)) (λ stopped. stopped) r same)
     where
-      stays : {A E : Type 0} (q : Result A E) → OnOk q (new ≡ old) → OnOk q (StayByPlan answers counts old.edges new.edges)
-      stays (Ok x) is = λ plan policies. subst (λ (c : Core P). AreByPlan answers counts plan policies c.edges) (sym is)
-      stays (Err x) is = is
+      as_before : {A E : Type 0} (Q : Core P → Type 0) → Q old → (q : Result A E) → OnOk q (new ≡ old) → OnOk q (Q new)
+      as_before Q was (Ok x) is = subst Q (sym is) was
+      as_before Q was (Err x) is = is

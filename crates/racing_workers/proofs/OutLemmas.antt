@@ -1,19 +1,24 @@
 -- What becomes of who is out, and when its lease may come back.
-use Rattle.std.proofs.Common.{◌≡◌, ◌++◌, ◌∷◌, [], ℕ, true, List, Some, sym, ◌∙◌, subst}
+use Rattle.std.proofs.Common.{◌≡◌, ◌≢◌, ◌⊎◌, ◌==◌, ◌++◌, ◌∷◌, [], ℕ, Bool, true, false, List, Some, None, Result, OnOk, OnErr, inl, inr, refl, sym, ◌∙◌, subst}
+use Rattle.std.proofs.lemmas.Bool.{eqb-true}
 use Rattle.std.proofs.lemmas.Option.{none-some}
 use Rattle.asp_model.specs.Term.{Tree}
 use Rattle.asp_model.specs.History.{BeginsWith, EntryShape, HistoryShape}
-use Rattle.journals.specs.Journals.{RunShape, granted, run_of}
+use Rattle.journals.specs.Journals.{RunShape, grant_of, granted, out_but, run_of}
 use Rattle.lease_laws.specs.Leases.{burst_out, stays_out}
 use Rattle.lease_laws.proofs.BurstLemmas.{leases_are_one, leases_go_on, leases_last}
-use Rattle.lease_laws.proofs.LeaseLemmas.{leases_stay}
+use Rattle.lease_laws.proofs.LeaseLemmas.{grant_but, leases_stay}
 use Rattle.program_code.specs.declared.code.Node.{Node}
 use Rattle.rank_laws.specs.Runs.{is_ready}
 use Rattle.core_state.specs.declared.lease.Lease.{Lease}
 use Rattle.core_state.specs.Cores.{with_entry}
-use Rattle.core_state.specs.Leases.{IsLease}
+use Rattle.core_state.specs.Leases.{HasStopped, IsLease}
 use Rattle.core_state.proofs.LendLemmas.{readies}
+use Rattle.core_state.proofs.ListLemmas.{numbers_apart}
+use Rattle.core_state.proofs.PopulateLemmas.{grant_gone}
+use Rattle.core_runs.proofs.OverLemmas.{ran_stopped}
 use Rattle.racing_workers.specs.Rows.{IsOut}
+use Rattle.racing_workers.specs.Turns.{IsFinished}
 
 pub lease_is_out : (h : HistoryShape) (code : List Node) (l : Lease) → IsLease h code l → IsOut h l.number l.burst
 lease_is_out h code l x = record { run = x.run; lent = x.lent; name = x.name; named = x.named }
@@ -36,7 +41,7 @@ ready_is_in h s k burst run ready o =
 
 -- a lease is one of a longer history by which it is out still
 module _ (code : List Node) (l : Lease) (program : Tree) (budget : ℕ) (entries : List EntryShape) where
-  pub lease_by : (rest : List EntryShape) → IsLease (record { program = program; budget = budget; entries = entries }) code l
+  lease_by : (rest : List EntryShape) → IsLease (record { program = program; budget = budget; entries = entries }) code l
       → IsOut (record { program = program; budget = budget; entries = entries ++ rest }) l.number l.burst
       → IsLease (record { program = program; budget = budget; entries = entries ++ rest }) code l
   lease_by rest x o =
@@ -52,9 +57,37 @@ module _ (code : List Node) (l : Lease) (program : Tree) (budget : ℕ) (entries
         done = x.done;
       }
 
-pub lease_goes_on : (h g : HistoryShape) (code : List Node) (l : Lease) → BeginsWith g h → IsLease h code l → IsOut g l.number l.burst → IsLease g code l
-lease_goes_on h g code l begins x o =
+  finished_by : (rest : List EntryShape) → IsFinished (record { program = program; budget = budget; entries = entries }) code l
+      → IsOut (record { program = program; budget = budget; entries = entries ++ rest }) l.number l.burst
+      → IsFinished (record { program = program; budget = budget; entries = entries ++ rest }) code l
+  unfolding lease_by
+  finished_by rest x o = (
+    lease_by rest x.0 o,
+    λ fresh.
+        let s = x.1 fresh in record { lease = lease_by rest s.lease o; fresh = s.fresh; advance = s.advance; stop = s.stop; used = s.used },
+  )
+
+pub finished_goes_on : (h g : HistoryShape) (code : List Node) (l : Lease) → BeginsWith g h → IsFinished h code l → IsOut g l.number l.burst → IsFinished g code l
+finished_goes_on h g code l begins x o =
     let same : g ≡ record { program = h.program; budget = h.budget; entries = h.entries ++ begins.2.0 } =
     λ i. record { program = begins.0 i; budget = begins.1 i; entries = begins.2.1 i } in
-    subst (λ z. IsLease z code l) (sym same)
-    (lease_by code l h.program h.budget h.entries begins.2.0 x (subst (λ z. IsOut z l.number l.burst) same o))
+    subst (λ z. IsFinished z code l) (sym same)
+    (finished_by code l h.program h.budget h.entries begins.2.0 x (subst (λ z. IsOut z l.number l.burst) same o))
+
+-- a lease that was run is finished
+pub finished : {A E : Type 0} (r : Result A E) (h : HistoryShape) (code : List Node) (l : Lease) → IsLease h code l → OnOk r (HasStopped h code l) → OnErr r (l.spent ≡ true) → IsFinished h code l
+finished r h code l lease stops gives_up = (lease, ran_stopped r h code l stops gives_up)
+
+-- who is out after a lend was out before, or it is that one
+pub lent_or : (j k g grant : ℕ) (xs : List (ℕ × ℕ)) → grant_of j ((k, g) ∷ xs) ≡ Some grant → (j ≡ k) ⊎ (grant_of j xs ≡ Some grant)
+lent_or j k g grant xs is = by (j == k) refl is
+  where
+    by : (b : Bool) → (j == k) ≡ b → elim b [ true ↦ Some g | false ↦ grant_of j xs ] ≡ Some grant → (j ≡ k) ⊎ (grant_of j xs ≡ Some grant)
+    by true same e = inl (eqb-true j k same)
+    by false same e = inr e
+
+-- who is out after one came back is another, and was out before
+pub back_or : (j k grant : ℕ) (xs : List (ℕ × ℕ)) → grant_of j (out_but k xs) ≡ Some grant → (j ≢ k) × (grant_of j xs ≡ Some grant)
+back_or j k grant xs is =
+    let other : j ≢ k = λ same. none-some grant (sym (grant_gone k xs) ∙ subst (λ (i : ℕ). grant_of i (out_but k xs) ≡ Some grant) same is) in
+    (other, sym (grant_but j k xs (numbers_apart j k other)) ∙ is)

@@ -4,10 +4,13 @@ use Rattle.asp_model.specs.History.{HistoryShape}
 use Rattle.program_code.specs.declared.code.Node.{Node}
 use Rattle.core_edges.specs.Answers.{Answering, Counting}
 use Rattle.asp_core.specs.declared.cores.Core.{Core}
-use Rattle.asp_core.specs.Cores.{IsKept, code_of, history_of}
+use Rattle.journals.specs.Journals.{RunShape}
+use Rattle.asp_core.specs.Cores.{IsKept, IsRun, code_of, history_of}
+use Rattle.asp_core.specs.Chosen.{StaysChosen}
 use Rattle.asp_core.specs.Plans.{StayByPlan}
+use Rattle.asp_core.specs.Stopping.{StaysStopped}
 use Rattle.racing_workers.specs.declared.desk.Desk.{Desk}
-use Rattle.racing_workers.specs.Rows.{AreApart, AreOut, Row, row}
+use Rattle.racing_workers.specs.Rows.{AreApart, AreHeld, AreOut, Row, row}
 
 module _ {P : Type 0} where
   abbrev pub core_at : Desk P → Core P
@@ -27,19 +30,29 @@ module _ {P : Type 0} where
   abbrev pub seats_at : Desk P → ℕ
   seats_at desk = vec_len desk.rows
 
-  -- the core is the run of its journal unless it is spent, and what stands in the rows is out and apart
+  -- the core is the run of its journal unless it is spent; what stands in the rows is out and apart; and while the
+  -- core is not spent, all that is out stands there: no lease is lost
   pub record IsOrderly (desk : Desk P) : Type 0 where
     pub kept : IsKept (core_at desk)
     pub out : AreOut (history_at desk) desk.rows.items
     pub apart : AreApart desk.rows.items
+    pub held : (s : RunShape) → IsRun (core_at desk) s → AreHeld s (seats_at desk) desk.rows.items
 
-  -- a core that is not spent was not before, and keeps the plan and the policies by which its edges are answered
-  abbrev pub KeepsPlan : Answering P → Counting P → (old new : Core P) → Type 0
-  KeepsPlan answers counts old new = new.spent ≡ false → (old.spent ≡ false) × StayByPlan answers counts old.edges new.edges
+  -- what a core that is not spent keeps of an earlier one: that was not spent either, its edges are still answered by
+  -- the same plan and policies, values still go along those edges alone for which they chose it, and each lease that
+  -- came back had stopped
+  pub record KeepsCore (answers : Answering P) (counts : Counting P) (old new : Core P) : Type 0 where
+    pub fresh : old.spent ≡ false
+    pub plan : StayByPlan answers counts old.edges new.edges
+    pub chosen : StaysChosen old new
+    pub stopped : StaysStopped (history_of old) (history_of new)
 
-  -- what a desk keeps of the first one: the code, for how many seats it is, and the plan; and it is orderly
+  abbrev pub KeepsUnlessSpent : Answering P → Counting P → (old new : Core P) → Type 0
+  KeepsUnlessSpent answers counts old new = new.spent ≡ false → KeepsCore answers counts old new
+
+  -- what a desk keeps of the first one: the code, for how many seats it is, and its core; and it is orderly
   pub record KeepsDesk (answers : Answering P) (counts : Counting P) (first desk : Desk P) : Type 0 where
     pub code : code_at desk ≡ code_at first
     pub seats : seats_at desk ≡ seats_at first
-    pub plan : KeepsPlan answers counts (core_at first) (core_at desk)
+    pub core : KeepsUnlessSpent answers counts (core_at first) (core_at desk)
     pub orderly : IsOrderly desk

@@ -1,9 +1,9 @@
 -- What each seat has out, in rows by the seats' numbers.
-use Rattle.std.specs.Prelude.{◌≡◌, ◌≢◌, ℕ, List, Some}
+use Rattle.std.specs.Prelude.{◌≡◌, ◌≢◌, ◌<◌, ℕ, List, Some}
 use Rattle.asp_model.specs.History.{HistoryShape}
 use Rattle.asp_model.specs.Names.{Name}
 use Rattle.asp_model.specs.Step.{name_at}
-use Rattle.journals.specs.Journals.{RunShape}
+use Rattle.journals.specs.Journals.{RunShape, grant_of}
 use Rattle.lease_laws.specs.Leases.{IsLentAt}
 pub use Rattle.lease_rows.specs.Rows.{Row, row}
 
@@ -17,6 +17,11 @@ pub record IsOut (h : HistoryShape) (k burst : ℕ) : Type 0 where
 -- what stands in a row is out
 abbrev pub AreOut : HistoryShape → List Row → Type 0
 AreOut h rows = (seat : ℕ) (x : ℕ × ℕ) → row rows seat ≡ Some x → IsOut h x.0 x.1
+
+-- who is out by a run has its lease in the row of one of so many seats
+abbrev pub AreHeld : RunShape → (seats : ℕ) → List Row → Type 0
+AreHeld s seats rows = (k grant : ℕ) → grant_of k s.out ≡ Some grant
+    → (seat : ℕ) × (burst : ℕ) × (seat < seats) × (row rows seat ≡ Some (k, burst))
 
 -- no two seats have the same activity
 abbrev pub AreApart : List Row → Type 0

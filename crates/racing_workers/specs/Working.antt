@@ -13,17 +13,17 @@ use Rattle.racing_workers.specs.declared.desk.Desk.{Desk}
 use Rattle.racing_workers.specs.declared.desk.SharedDesk.{SharedDesk}
 use Rattle.racing_workers.specs.declared.seats.Seats.{Seats}
 use Rattle.racing_workers.specs.Desks.{code_at, history_at, seats_at}
-use Rattle.racing_workers.specs.Turns.{desk_in}
+use Rattle.racing_workers.specs.Turns.{IsFinished, desk_in}
 
 module _ {P : Type 0} where
   -- the desk that the hub was made with
   abbrev pub opened_at : Hub (SharedDesk P) → Desk P
   opened_at hub = desk_in (opened_with hub)
 
-  -- the seat has this lease out, or nothing
-  abbrev pub HasOut : Hub (SharedDesk P) → Seat (SharedDesk P) → Option Lease → Type 0
-  HasOut hub seat None = out_with seat ≡ None
-  HasOut hub seat (Some l) = (out_with seat ≡ Some (l.number, l.burst)) × IsLease (seen_by seat) (code_at (opened_at hub)) l
+  -- the seat has this lease out, which is as is said, or nothing
+  abbrev pub HasOut : (HistoryShape → List Node → Lease → Type 0) → Hub (SharedDesk P) → Seat (SharedDesk P) → Option Lease → Type 0
+  HasOut Is hub seat None = out_with seat ≡ None
+  HasOut Is hub seat (Some l) = (out_with seat ≡ Some (l.number, l.burst)) × Is (seen_by seat) (code_at (opened_at hub)) l
 
   -- the hub's desk has a row for each seat
   abbrev pub HasRows : Hub (SharedDesk P) → Type 0
@@ -35,10 +35,10 @@ module _ {P : Type 0} where
       IsOf hub seat × (seat.parts ≡ parts) × (taken_by seat ≡ None) × (out_with seat ≡ None)
       × BeginsWith (seen_by seat) (history_at (opened_at hub))
 
-  -- such a seat of one part, but it has this lease out, or nothing
-  abbrev pub IsAtWork : Hub (SharedDesk P) → Seat (SharedDesk P) → Option Lease → Type 0
-  IsAtWork hub seat held =
-      IsOf hub seat × (seat.parts ≡ 1) × (taken_by seat ≡ None) × HasOut hub seat held
+  -- such a seat of one part, but it has this lease out, which is as is said, or nothing
+  abbrev pub IsAtWork : (HistoryShape → List Node → Lease → Type 0) → Hub (SharedDesk P) → Seat (SharedDesk P) → Option Lease → Type 0
+  IsAtWork Is hub seat held =
+      IsOf hub seat × (seat.parts ≡ 1) × (taken_by seat ≡ None) × HasOut Is hub seat held
       × BeginsWith (seen_by seat) (history_at (opened_at hub))
 
   -- both seats of a worker have nothing out
@@ -49,10 +49,10 @@ module _ {P : Type 0} where
   abbrev pub AllReady : Hub (SharedDesk P) → List (CachePadded (Seats P)) → Type 0
   AllReady hub seats = All (λ p. AreReady hub (padded_value p)) seats
 
--- a lease after its work is the same, and still a lease
+-- a lease after its work is the same, and it was run
 abbrev pub IsWorked : Option Lease → Option Lease → Type 0
 IsWorked None None = Unit {0}
 IsWorked None (Some k) = ⊥
 IsWorked (Some l) None = ⊥
 IsWorked (Some l) (Some k) =
-    (k.number ≡ l.number) × (k.burst ≡ l.burst) × ((h : HistoryShape) (code : List Node) → IsLease h code l → IsLease h code k)
+    (k.number ≡ l.number) × (k.burst ≡ l.burst) × ((h : HistoryShape) (code : List Node) → IsLease h code l → IsFinished h code k)

@@ -5,6 +5,7 @@ ghost use Rattle.asp_model.specs.History.{HistoryShape};
 ghost use Rattle.program_code.specs.declared.code.Node.{Node as NodeShape};
 ghost use Rattle.core_state.specs.Leases.{IsLease};
 ghost use Rattle.turn_hub.specs.Seats.{IsOf, taken_by};
+ghost use Rattle.racing_workers.specs.Turns.{IsFinished};
 ghost use Rattle.racing_workers.specs.Working.{AreReady, HasRows, IsAtWork, IsWorked};
 
 use crate::desk::SharedDesk;
@@ -25,8 +26,8 @@ pub(crate) struct Turned {
     pub(crate) spare: bool,
 }
 
-// A turn of a worker at one of its seats, with the lease that it has there, which another one
-// follows, or none. Where others may find work, one is called if not all are busy and the margin
+// A turn of a worker at one of its seats, with the lease that it has there, which has stopped, and
+// which another one follows, or none. Where others may find work, one is called if not all are busy and the margin
 // allows it; where they are to end, in any case.
 fn take_turn<R: Wait, P: UpdatePolicy + Drop>(
     rt: &R,
@@ -37,8 +38,8 @@ fn take_turn<R: Wait, P: UpdatePolicy + Drop>(
     may_rest: bool,
 ) -> Turned
     requires rows { HasRows hub.now }
-    requires seat { IsAtWork hub.now seat.old held.old }
-    ensures seat { IsAtWork hub.now seat.new held.new }
+    requires seat { IsAtWork IsFinished hub.now seat.old held.old }
+    ensures seat { IsAtWork IsLease hub.now seat.new held.new }
 {
     let mut desk = hub.take(rt, seat);
     let (next, more) = desk.turn(seat.number(), held, may_rest);
@@ -64,18 +65,18 @@ fn take_second<R: Wait, P: UpdatePolicy + Drop>(
     wants: bool,
 )
     requires rows { HasRows hub.now }
-    requires seat { IsAtWork hub.now seat.old held.old }
-    ensures seat { IsAtWork hub.now seat.new held.new }
+    requires seat { IsAtWork IsFinished hub.now seat.old held.old }
+    ensures seat { IsAtWork IsLease hub.now seat.new held.new }
 {
     if wants || held.is_some() {
         let _turned = take_turn(rt, hub, seat, margin, held, !wants);
     }
 }
 
-// A lease is worked on: it takes contractions, and passes the gate.
+// A lease is run, so it has stopped then, unless memory ran out. It passes the gate.
 fn work_on<G: Gate>(gate: &G, worker: u32, margin: &mut Margin, lease: &mut Lease)
     ensures lease { (h : HistoryShape) (code : List NodeShape) → IsLease h code lease.old →
-        IsLease h code lease.new }
+        IsFinished h code lease.new }
     ensures number { lease.new.number ≡ lease.old.number }
     ensures burst { lease.new.burst ≡ lease.old.burst }
 {

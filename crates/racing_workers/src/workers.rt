@@ -4,8 +4,10 @@ ghost use Rattle.std.specs.Prelude.{◌≡◌, ◌+◌, ◌*◌, ◌<◌, ◌≤
 ghost use Rattle.crossbeam_utils.specs.Padded.{padded_value};
 ghost use Rattle.asp_model.specs.History.{BeginsWith};
 ghost use Rattle.asp_model.specs.declared.limits.TheConstants.{MOST_WORKERS};
-ghost use Rattle.asp_core.specs.Cores.{IsKept, history_of};
+ghost use Rattle.asp_core.specs.Chosen.{StaysChosen};
+ghost use Rattle.asp_core.specs.Cores.{IsHome, IsKept, history_of};
 ghost use Rattle.asp_core.specs.Plans.{StayByPlan};
+ghost use Rattle.asp_core.specs.Stopping.{StaysStopped};
 ghost use Rattle.turn_hub.specs.Seats.{seats_of};
 ghost use Rattle.racing_workers.specs.Desks.{core_at, history_at};
 ghost use Rattle.racing_workers.specs.Working.{AllReady, AreReady, HasRows, IsReady, opened_at};
@@ -26,9 +28,9 @@ use update_policy::UpdatePolicy;
 // Seats of two workers lie apart in memory.
 type PaddedSeats<P> = CachePadded<Seats<P>>;
 
-/// Has so many workers race for the core, until each of them finds the verdict or want of memory.
-/// The core comes back where it is not spent, with all that they entered. What they leave is for the
-/// caller to finish.
+/// Has so many workers race for the core, of which nobody is out, until each of them finds the
+/// verdict or that memory ran out. The core comes back if it is not spent, with all that they
+/// entered, and nobody is out then. What they leave is for the caller to finish.
 pub fn race<R: Threads + Wait + Sync, P: UpdatePolicy + Send + Drop, G: Gate>(
     rt: &R,
     alloc: Global,
@@ -38,9 +40,13 @@ pub fn race<R: Threads + Wait + Sync, P: UpdatePolicy + Send + Drop, G: Gate>(
 ) -> Result<Core<P>, AllocError>
     requires workers { (0 < workers) × (workers ≤ MOST_WORKERS) }
     requires kept { IsKept core }
+    requires home { IsHome core }
     ensures kept { IfOk result IsKept }
+    ensures home { IfOk result IsHome }
     ensures begins { IfOk result (λ c. BeginsWith (history_of c) (history_of core)) }
     ensures by_plan { IfOk result (λ c. StayByPlan P.answer P.asked core.edges c.edges) }
+    ensures chosen { IfOk result (λ c. StaysChosen core c) }
+    ensures stopped { IfOk result (λ c. StaysStopped (history_of core) (history_of c)) }
 {
     let desk = SharedDesk::new(alloc, core, workers * 2 + 1)?;
     let (hub, mut first) = Hub::new(alloc, desk, workers * 2 + 1)?;
@@ -192,11 +198,17 @@ fn closed<P: UpdatePolicy + Drop>(
     requires ready { All (λ s. IsReady hub 1 s) all.items }
     requires some { 0 < vec_len all }
     requires parts { sum_by (λ s. s.parts) all.items ≡ seats_of hub }
+    requires rows { HasRows hub }
     ensures kept { IfOk result IsKept }
+    ensures home { IfOk result IsHome }
     ensures begins { let first = history_at (opened_at hub) in
         IfOk result (λ c. BeginsWith (history_of c) first) }
     ensures by_plan { let first = core_at (opened_at hub) in
         IfOk result (λ c. StayByPlan P.answer P.asked first.edges c.edges) }
+    ensures chosen { let first = core_at (opened_at hub) in
+        IfOk result (λ c. StaysChosen first c) }
+    ensures stopped { let first = history_at (opened_at hub) in
+        IfOk result (λ c. StaysStopped first (history_of c)) }
 {
     let core = hub.close(all).into_core();
     if core.is_spent() {

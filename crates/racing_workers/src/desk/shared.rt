@@ -1,9 +1,10 @@
 //! What a desk tells a hub.
 
 ghost use Rattle.std.specs.Prelude.{◌≡◌, ◌<◌, IfOk, None, ℕ};
-ghost use Rattle.asp_core.specs.Cores.{IsKept};
+ghost use Rattle.asp_core.specs.Cores.{IsHome, IsKept};
+ghost use Rattle.core_state.specs.Leases.{IsLease};
 ghost use Rattle.racing_workers.specs.Desks.{IsOrderly, core_at, row_at, seats_at};
-ghost use Rattle.racing_workers.specs.Turns.{HasLease, IsTurn, desk_in};
+ghost use Rattle.racing_workers.specs.Turns.{HasLease, IsFinished, IsTurn, desk_in};
 
 use super::{Desk, Next, SharedDesk};
 use asp_core::Core;
@@ -27,6 +28,7 @@ impl<P: UpdatePolicy + Drop> SharedDesk<P> {
     /// A desk for so many seats, which have nothing out.
     pub(crate) fn new(alloc: Global, core: Core<P>, seats: u32) -> Result<Self, AllocError>
         requires kept { IsKept core }
+        requires home { IsHome core }
         ensures core { IfOk result (λ x. core_at (desk_in x) ≡ core) }
         ensures seats { IfOk result (λ x. seats_at (desk_in x) ≡ seats) }
         ensures empty { IfOk result (λ x. (n : ℕ) → row_at (desk_in x) n ≡ None) }
@@ -54,9 +56,9 @@ impl<P: UpdatePolicy + Drop> SharedDesk<P> {
     ) -> (Next, bool)
         requires orderly { IsOrderly (desk_in self.old) }
         requires seat { seat < seats_at (desk_in self.old) }
-        requires held { HasLease (desk_in self.old) seat held.old }
+        requires held { HasLease IsFinished (desk_in self.old) seat held.old }
         ensures turn { IsTurn P.answer P.asked seat (desk_in self.old) (desk_in self.new) }
-        ensures lease { HasLease (desk_in self.new) seat held.new }
+        ensures lease { HasLease IsLease (desk_in self.new) seat held.new }
     {
         self.desk.turn(seat, held, may_rest)
     }

@@ -1,10 +1,10 @@
 //! What a worker does at the desk while it has the turn.
 
 ghost use Rattle.std.specs.Prelude.{◌≡◌, ◌<◌, IfOk, IfSome, None, Some, ℕ};
-ghost use Rattle.asp_core.specs.Cores.{IsKept};
+ghost use Rattle.asp_core.specs.Cores.{IsHome, IsKept};
 ghost use Rattle.core_state.specs.Leases.{IsLease};
 ghost use Rattle.racing_workers.specs.Desks.{IsOrderly, code_at, core_at, history_at, row_at, seats_at};
-ghost use Rattle.racing_workers.specs.Turns.{HasLease, IsTurn, MayDeliverAt};
+ghost use Rattle.racing_workers.specs.Turns.{HasLease, IsFinished, IsOwedAt, IsTurn, MayDeliverAt};
 
 use super::{Desk, Next};
 use asp_core::Core;
@@ -21,6 +21,7 @@ impl<P: UpdatePolicy + Drop> Desk<P> {
     /// A desk for so many seats, which have nothing out.
     pub(crate) fn new(alloc: Global, core: Core<P>, seats: u32) -> Result<Desk<P>, AllocError>
         requires kept { IsKept core }
+        requires home { IsHome core }
         ensures core { IfOk result (λ desk. core_at desk ≡ core) }
         ensures seats { IfOk result (λ desk. seats_at desk ≡ seats) }
         ensures empty { IfOk result (λ desk. (n : ℕ) → row_at desk n ≡ None) }
@@ -60,9 +61,9 @@ impl<P: UpdatePolicy + Drop> Desk<P> {
     ) -> (Next, bool)
         requires orderly { IsOrderly self.old }
         requires seat { seat < seats_at self.old }
-        requires held { HasLease self.old seat held.old }
+        requires held { HasLease IsFinished self.old seat held.old }
         ensures turn { IsTurn P.answer P.asked seat self.old self.new }
-        ensures lease { HasLease self.new seat held.new }
+        ensures lease { HasLease IsLease self.new seat held.new }
     {
         let number = self.take_in(seat, held);
         if !self.deliver_owed() {
@@ -85,7 +86,7 @@ impl<P: UpdatePolicy + Drop> Desk<P> {
     fn take_in(&mut self, seat: u32, held: &mut Option<Lease>) -> Option<u32>
         requires orderly { IsOrderly self.old }
         requires seat { seat < seats_at self.old }
-        requires held { HasLease self.old seat held.old }
+        requires held { HasLease IsFinished self.old seat held.old }
         ensures turn { IsTurn P.answer P.asked seat self.old self.new }
         ensures free { row_at self.new seat ≡ None }
         ensures none { held.new ≡ None }
@@ -96,12 +97,12 @@ impl<P: UpdatePolicy + Drop> Desk<P> {
         Some(number)
     }
 
-    // The seat's lease is committed.
+    // The seat's lease, which has stopped, is committed.
     fn commit(&mut self, seat: u32, lease: Lease)
         requires orderly { IsOrderly self.old }
         requires seat { seat < seats_at self.old }
         requires row { row_at self.old seat ≡ Some (lease.number, lease.burst) }
-        requires lease { IsLease (history_at self.old) (code_at self.old) lease }
+        requires lease { IsFinished (history_at self.old) (code_at self.old) lease }
         ensures turn { IsTurn P.answer P.asked seat self.old self.new }
         ensures free { row_at self.new seat ≡ None }
     {
@@ -146,6 +147,7 @@ impl<P: UpdatePolicy + Drop> Desk<P> {
         ensures turn { (n : ℕ) → IsTurn P.answer P.asked n self.old self.new }
         ensures rows { (n : ℕ) → row_at self.new n ≡ row_at self.old n }
         ensures may { IfSome result (MayDeliverAt self.new) }
+        ensures owed { IfSome result (IsOwedAt self.new) }
     {
         let Ok(owed) = self.core.next_owed() else {
             return None;
@@ -159,7 +161,7 @@ impl<P: UpdatePolicy + Drop> Desk<P> {
         requires seat { seat < seats_at self.old }
         requires free { row_at self.old seat ≡ None }
         ensures turn { IsTurn P.answer P.asked seat self.old self.new }
-        ensures lease { HasLease self.new seat result }
+        ensures lease { HasLease IsLease self.new seat result }
     {
         match self.lend_again(seat, number) {
             Some(lease) => Some(lease),
@@ -173,7 +175,7 @@ impl<P: UpdatePolicy + Drop> Desk<P> {
         requires seat { seat < seats_at self.old }
         requires free { row_at self.old seat ≡ None }
         ensures turn { IsTurn P.answer P.asked seat self.old self.new }
-        ensures lease { HasLease self.new seat result }
+        ensures lease { HasLease IsLease self.new seat result }
     {
         let number = number?;
         self.lend_one(seat, number)
@@ -185,7 +187,7 @@ impl<P: UpdatePolicy + Drop> Desk<P> {
         requires seat { seat < seats_at self.old }
         requires free { row_at self.old seat ≡ None }
         ensures turn { IsTurn P.answer P.asked seat self.old self.new }
-        ensures lease { HasLease self.new seat result }
+        ensures lease { HasLease IsLease self.new seat result }
     {
         let number = self.core.next_ready()?;
         self.lend_one(seat, number)
@@ -197,7 +199,7 @@ impl<P: UpdatePolicy + Drop> Desk<P> {
         requires seat { seat < seats_at self.old }
         requires free { row_at self.old seat ≡ None }
         ensures turn { IsTurn P.answer P.asked seat self.old self.new }
-        ensures lease { HasLease self.new seat result }
+        ensures lease { HasLease IsLease self.new seat result }
     {
         if number as usize >= self.core.activities() {
             return None;

@@ -3,7 +3,7 @@ use Rattle.asp_model.specs.History.{BeginsWith, HistoryShape}
 use Rattle.asp_model.proofs.HistoryLemmas.{begins_with_earlier}
 use Rattle.turn_hub.specs.Seats.{seen_by}
 use Rattle.racing_workers.specs.Desks.{row_at}
-use Rattle.racing_workers.specs.Turns.{HasLease, desk_in}
+use Rattle.racing_workers.specs.Turns.{HasLease, IsFinished, desk_in}
 use Rattle.racing_workers.specs.Working.{opened_at}
 use Rattle.racing_workers.proofs.SeatLemmas.{brought, taken_along, turned}
 use Rattle.racing_workers.proofs.TurnLemmas.{keeps_further}
@@ -13,7 +13,7 @@ pub turn-next-requires-clause-held : goal.turn-next-requires-clause-held
 turn-next-requires-clause-held g c =
     let e = c.take-desk.ensures in
     let same = c.number.ensures.number ∙ e.seat.3 in
-    subst (λ (n : ℕ). HasLease (desk_in c.take-desk.result) n c.args.held.now) (sym same)
+    subst (λ (n : ℕ). HasLease IsFinished (desk_in c.take-desk.result) n c.args.held.now) (sym same)
     (brought g.P.UpdatePolicy.answer g.P.UpdatePolicy.asked c.args.hub.now c.args.seat.now c.take-desk.result _ c.args.held.now c.requires.seat.3 e.out e.history e.kept)
 
 pub give-requires-clause-kept : goal.give-requires-clause-kept

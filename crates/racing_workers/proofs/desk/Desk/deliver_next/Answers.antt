@@ -1,5 +1,7 @@
-use Rattle.std.proofs.Common.{rules, alloc_error}
-use Rattle.racing_workers.proofs.CoreLemmas.{deliver_out, plan_by}
+use Rattle.std.proofs.Common.{rules, Option, IfSome, alloc_error, subst}
+use Rattle.asp_model.specs.declared.journal.Delivery.{Delivery}
+use Rattle.racing_workers.specs.Turns.{IsOwedAt}
+use Rattle.racing_workers.proofs.CoreLemmas.{deliver_chosen, deliver_comes, deliver_out, keeps_by}
 use Rattle.racing_workers.proofs.TurnLemmas.{stood, turn_further, turn_still}
 use Rattle.racing_workers.proofs.desk.Desk.deliver_next.Goals as goal
 
@@ -14,7 +16,10 @@ returns-clause-turn g c n =
     let e = c.deliver.ensures in
     let before = c.next_delivery.ensures.turn n in
     let orderly = before.keeps.orderly in
-    let plan = plan_by g.P.UpdatePolicy.answer g.P.UpdatePolicy.asked c.next_delivery.new.self.core c.deliver.new.self c.deliver.result alloc_error e.spent e.gives_up e.by_plan in
+    let owed = subst (λ (o : Option Delivery). IfSome o (IsOwedAt c.next_delivery.new.self)) c.in-Some.is c.next_delivery.ensures.owed in
+    let chosen = deliver_chosen c.next_delivery.new.self.core c.deliver.new.self orderly.kept c.deliver.result alloc_error _ owed e.chosen e.spent in
+    let plan = keeps_by g.P.UpdatePolicy.answer g.P.UpdatePolicy.asked c.next_delivery.new.self.core c.deliver.new.self c.deliver.result alloc_error e.spent e.gives_up e.by_plan chosen e.stopped in
     turn_further g.P.UpdatePolicy.answer g.P.UpdatePolicy.asked n c.args.self.now c.next_delivery.new.self _ before
     (stood g.P.UpdatePolicy.answer g.P.UpdatePolicy.asked n c.next_delivery.new.self _ orderly e.begins e.code e.kept plan (search rules) (search rules)
-    (deliver_out _ _ orderly.kept c.deliver.result alloc_error _ e.delivered e.spent e.err))
+    (deliver_out _ _ orderly.kept c.deliver.result alloc_error _ e.delivered e.spent e.err)
+    (deliver_comes _ _ orderly.kept c.deliver.result alloc_error _ e.delivered e.spent e.gives_up))

@@ -1,4 +1,5 @@
-use Rattle.std.proofs.Common.{rules, sym, ◌∙◌}
+use Rattle.std.proofs.Common.{rules, ap, sym, ◌∙◌}
+use Rattle.journals.specs.Journals.{grant_of}
 use Rattle.std.proofs.lemmas.Option.{none-some}
 use Rattle.racing_workers.proofs.desk.Desk.new.Goals as goal
 
@@ -8,4 +9,5 @@ returns-clause-orderly g c =
       kept = search rules;
       out = λ n x is. absurd (none-some x (sym (empty n) ∙ is));
       apart = λ m n x y ne is also. absurd (none-some x (sym (empty m) ∙ is));
+      held = λ s is k grant out. absurd (none-some grant (ap (grant_of k) (sym (c.requires.home s is)) ∙ out));
     }
