@@ -27,8 +27,8 @@ pub(crate) struct Turned {
 }
 
 // A turn of a worker at one of its seats, with the lease that it has there, which has stopped, and
-// which another one follows, or none. Where others may find work, one is called if not all are busy and the margin
-// allows it; where they are to end, in any case.
+// which another one follows, or none. Where others may find work, one is called if not all are
+// busy and the margin allows it; where they are to end, in any case.
 fn take_turn<R: Wait, P: UpdatePolicy + Drop>(
     rt: &R,
     hub: &Hub<SharedDesk<P>>,
