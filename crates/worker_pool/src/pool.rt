@@ -4,11 +4,13 @@ ghost use Rattle.std.specs.Prelude.{◌≡◌, ◌<◌, ◌≤◌, IfOk};
 ghost use Rattle.asp_model.specs.History.{BeginsWith};
 ghost use Rattle.asp_model.specs.Shapes.{outcome_shape, tree_of};
 ghost use Rattle.asp_model.specs.declared.limits.TheConstants.{MOST_REDUCTIONS, MOST_WORKERS};
-ghost use Rattle.asp_core.specs.Cores.{IsKept, history_of};
+ghost use Rattle.asp_core.specs.Chosen.{StaysChosen};
+ghost use Rattle.asp_core.specs.Cores.{IsHome, IsKept, history_of};
 ghost use Rattle.asp_core.specs.Plans.{StayByPlan};
+ghost use Rattle.asp_core.specs.Stopping.{StaysStopped};
 ghost use Rattle.core_ends.specs.Runs.{IsEndOfRun};
 ghost use Rattle.core_runs.specs.Over.{IsOver};
-ghost use Rattle.core_runs.specs.Plans.{IsEndByPlan};
+ghost use Rattle.core_runs.specs.Plans.{IsEndByChoice, IsEndByPlan};
 ghost use Rattle.worker_pool.specs.Senders.{OneSenderIsEnough};
 
 use asp_check::Checked;
@@ -30,8 +32,8 @@ pub struct Settings {
     pub plan: Plan,
 }
 
-/// Runs the core by so many workers, until its verdict is there. What the workers leave, the caller
-/// does: all of it, where no thread can be started.
+/// Runs a core of which nobody is out by so many workers, until its verdict is there. What the
+/// workers leave, the caller does: all of it, if no thread can be started.
 pub fn run_core<R: Threads + Wait + Sync, P: UpdatePolicy + Send + Drop, G: Gate>(
     rt: &R,
     alloc: Global,
@@ -41,9 +43,12 @@ pub fn run_core<R: Threads + Wait + Sync, P: UpdatePolicy + Send + Drop, G: Gate
 ) -> Result<Core<P>, AllocError>
     requires workers { (0 < workers) × (workers ≤ MOST_WORKERS) }
     requires kept { IsKept core }
+    requires home { IsHome core }
     ensures begins { IfOk result (λ c. BeginsWith (history_of c) (history_of core)) }
     ensures over { IfOk result IsOver }
     ensures by_plan { IfOk result (λ c. StayByPlan P.answer P.asked core.edges c.edges) }
+    ensures chosen { IfOk result (λ c. StaysChosen core c) }
+    ensures stopped { IfOk result (λ c. StaysStopped (history_of core) (history_of c)) }
 {
     let core = race(rt, alloc, core, workers, gate)?;
     finish(core)
@@ -64,6 +69,8 @@ pub fn run<R: Threads + Wait + Sync, P: UpdatePolicy + Send + Drop, G: Gate>(
     ensures end { IfOk result (IsEndOfRun (tree_of program.now.program.root) settings.budget) }
     ensures by_plan { let term = tree_of program.now.program.root in
         IfOk result (IsEndByPlan P.answer P.asked settings.plan policies term settings.budget) }
+    ensures chosen { let term = tree_of program.now.program.root in
+        IfOk result (IsEndByChoice P.answer P.asked settings.plan policies term settings.budget) }
     ensures alone { let program = tree_of program.now.program.root in
         IfOk result (λ r. (e : IsEndOfRun program settings.budget r) →
         OneSenderIsEnough program (outcome_shape r.outcome) e.run.configuration) }
