@@ -4,5 +4,6 @@
 mod commands;
 mod faults_of_the_outside;
 mod policies_asked;
+mod raced_cores;
 mod racing;
 mod replays;

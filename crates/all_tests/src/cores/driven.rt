@@ -80,6 +80,7 @@ fn ended(rt: &impl Abort, alloc: Global, program: &Checked, core: Core) -> Resul
 fn finished(rt: &impl Abort, alloc: Global, program: &Checked, core: Core) -> Result<Shown, Fail>
     requires kept { IsKept core }
 {
+    assert!(rt; core.is_home(), "somebody is out");
     let core = finish(core)?;
     let told = told(alloc, &core);
     let report = ended(rt, alloc, program, core)?;

@@ -1,0 +1,95 @@
+//! Cores that workers run, and what they deliver along edges.
+
+use crate::boxes::usual_policies;
+use crate::drops::{drop_checked, drop_core};
+use crate::programs::checked;
+use crate::texts::PASSING;
+use asp_check::Checked;
+use asp_core::Core;
+use asp_model::{Delivery, Entry};
+use std::alloc::{AllocError, Global};
+use std::sync::Wait;
+use std::test::Fail;
+use std::thread::Threads;
+use update_policy::{Plan, Strategy};
+use worker_pool::{OpenGate, run_core};
+
+const BUDGET: u64 = 1000;
+
+const WORKERS: u32 = 2;
+
+/// How many edges a run left, and how many values went along edges, and to where they were needed.
+#[derive(Drop)]
+struct Passed {
+    edges: usize,
+    along_edges: u64,
+    where_needed: u64,
+}
+
+fn raced<R: Threads + Wait + Sync>(
+    rt: &R,
+    alloc: Global,
+    program: &Checked,
+    strategy: Strategy,
+) -> Result<Core, AllocError> {
+    let policies = usual_policies(alloc)?;
+    let plan = Plan::of(alloc, strategy);
+    let core = Core::new(alloc, program, BUDGET, plan, policies)?;
+    run_core(rt, alloc, core, WORKERS, &OpenGate)
+}
+
+fn count(passed: &mut Passed, delivery: &Delivery) {
+    match delivery {
+        Delivery::Edge { .. } => passed.along_edges = passed.along_edges.saturating_add(1),
+        Delivery::Need { .. } => passed.where_needed = passed.where_needed.saturating_add(1),
+    }
+}
+
+fn passed_in(core: &Core) -> Passed {
+    let mut passed = Passed {
+        edges: core.edges().holders().len(),
+        along_edges: 0,
+        where_needed: 0,
+    };
+    for entry in core.journal() {
+        if let Entry::Delivered(delivery) = entry {
+            count(&mut passed, delivery);
+        }
+    }
+    passed
+}
+
+// A future passes three activities unread.
+fn passed<R: Threads + Wait + Sync>(
+    rt: &R,
+    alloc: Global,
+    strategy: Strategy,
+) -> Result<Passed, Fail> {
+    let program = checked(alloc, PASSING)?;
+    let core = raced(rt, alloc, &program, strategy);
+    drop_checked(program);
+    let core = core?;
+    let passed = passed_in(&core);
+    drop_core(core);
+    Ok(passed)
+}
+
+#[test]
+fn lazily_nothing_goes_along_an_edge(rt: HostRuntime) -> Result<(), Fail> {
+    let alloc = rt.alloc();
+    let passed = passed(&rt, alloc, Strategy::Lazy)?;
+    assert!(rt; passed.edges > 0);
+    assert!(rt; passed.where_needed > 0);
+    assert_eq!(rt; passed.along_edges, 0);
+    Ok(())
+}
+
+#[test]
+fn eagerly_values_go_along_edges(rt: HostRuntime) -> Result<(), Fail> {
+    let alloc = rt.alloc();
+    let forward = passed(&rt, alloc, Strategy::Forward)?;
+    assert!(rt; forward.along_edges > 0);
+    let message = passed(&rt, alloc, Strategy::Message)?;
+    assert!(rt; message.along_edges > 0);
+    Ok(())
+}
