@@ -1,5 +1,4 @@
-//! Terms over the terms below them. A node over other than as many terms as it asks for, which no
-//! program has, is answered as want of memory.
+//! Terms over the terms below them.
 
 ghost use Rattle.std.specs.Prelude.{◌≡◌, IfOk, [], map};
 ghost use Rattle.asp_model.specs.Term.{Make, more, node, none, trees};
@@ -9,21 +8,22 @@ ghost use Rattle.code_decoder.specs.Decoded.{trees_then};
 ghost use Rattle.program_code.specs.Parts.{body_tree, field_label, field_tree, method_head};
 
 use crate::copies::{copy_labels, copy_service};
+use crate::errors::DecodeError;
 use crate::split::{both, first_of, only};
 use asp_model::{Label, Mark, Method, Term};
 use program_code::Kind;
-use std::alloc::{AllocError, Global};
+use std::alloc::Global;
 
 /// A node over these terms.
 #[tactic(auto, using(program_code::proofs::TermTrees::rows_are))]
-pub fn built(alloc: Global, kind: &Kind, terms: Vec<Term>) -> Result<Term, AllocError>
+pub fn built(alloc: Global, kind: &Kind, terms: Vec<Term>) -> Result<Term, DecodeError>
     ensures term { IfOk result
         (λ r. tree_of r ≡ node (kind_head kind.now) (trees (map tree_of terms.items))) }
 {
     match kind {
         Kind::Number(_) | Kind::Serve(_) | Kind::Echo(_) => {
             if !terms.is_empty() {
-                return Err(AllocError);
+                return Err(DecodeError::Unfit);
             }
             over_none(alloc, kind)
         }
@@ -33,19 +33,19 @@ pub fn built(alloc: Global, kind: &Kind, terms: Vec<Term>) -> Result<Term, Alloc
         }
         Kind::Call(_) | Kind::If => match first_of(terms) {
             Some((first, others)) => over_first(alloc, kind, first, others),
-            None => Err(AllocError),
+            None => Err(DecodeError::Unfit),
         },
         Kind::Steps => Ok(Term::Steps(terms, Mark::blank(alloc))),
         Kind::Group => Ok(Term::Group(terms, Mark::blank(alloc))),
         _ => match only(terms) {
             Some(term) => over_one(alloc, kind, term),
-            None => Err(AllocError),
+            None => Err(DecodeError::Unfit),
         },
     }
 }
 
 #[tactic(auto, using(program_code::proofs::TermTrees::leaves_are))]
-fn over_none(alloc: Global, kind: &Kind) -> Result<Term, AllocError>
+fn over_none(alloc: Global, kind: &Kind) -> Result<Term, DecodeError>
     ensures term { IfOk result (λ r. tree_of r ≡ node (kind_head kind.now) none) }
 {
     match kind {
@@ -58,12 +58,12 @@ fn over_none(alloc: Global, kind: &Kind) -> Result<Term, AllocError>
             let text = text.copy(alloc)?;
             Ok(Term::Echo(text, Mark::blank(alloc)))
         }
-        _ => Err(AllocError),
+        _ => Err(DecodeError::Unfit),
     }
 }
 
 #[tactic(auto, using(program_code::proofs::TermTrees::ones_are))]
-fn over_one(alloc: Global, kind: &Kind, term: Term) -> Result<Term, AllocError>
+fn over_one(alloc: Global, kind: &Kind, term: Term) -> Result<Term, DecodeError>
     ensures term { IfOk result
         (λ r. tree_of r ≡ node (kind_head kind.now) (more (tree_of term) none)) }
 {
@@ -82,7 +82,7 @@ fn over_one(alloc: Global, kind: &Kind, term: Term) -> Result<Term, AllocError>
         Kind::Print => Ok(Term::Print(term, Mark::blank(alloc))),
         Kind::Size => Ok(Term::Size(term, Mark::blank(alloc))),
         Kind::WaitAll => Ok(Term::WaitAll(term, Mark::blank(alloc))),
-        _ => Err(AllocError),
+        _ => Err(DecodeError::Unfit),
     }
 }
 
@@ -92,7 +92,7 @@ fn over_two(
     kind: &Kind,
     first: Box<Term>,
     second: Box<Term>,
-) -> Result<Term, AllocError>
+) -> Result<Term, DecodeError>
     ensures term { let below = more (tree_of first.value) (more (tree_of second.value) none) in
         IfOk result (λ r. tree_of r ≡ node (kind_head kind.now) below) }
 {
@@ -111,7 +111,7 @@ fn over_two(
             Ok(Term::Scatter(first, label, second, Mark::blank(alloc)))
         }
         Kind::Member => Ok(Term::Member(first, second, Mark::blank(alloc))),
-        _ => Err(AllocError),
+        _ => Err(DecodeError::Unfit),
     }
 }
 
@@ -121,7 +121,7 @@ fn over_first(
     kind: &Kind,
     first: Term,
     others: Vec<Term>,
-) -> Result<Term, AllocError>
+) -> Result<Term, DecodeError>
     ensures term { IfOk result (λ r. tree_of r
         ≡ node (kind_head kind.now) (more (tree_of first) (trees (map tree_of others.items)))) }
 {
@@ -135,7 +135,7 @@ fn over_first(
             let (second, third) = both(alloc, others)?;
             Ok(Term::If(first, second, third, Mark::blank(alloc)))
         }
-        _ => Err(AllocError),
+        _ => Err(DecodeError::Unfit),
     }
 }
 
@@ -146,7 +146,7 @@ pub fn object(
     labels: &[Label],
     terms: Vec<Term>,
     methods: Vec<Method>,
-) -> Result<Term, AllocError>
+) -> Result<Term, DecodeError>
     ensures term { IfOk result (λ r. tree_of r
         ≡ node (Make (map text_of labels.now) (map method_head methods.items))
         (trees_then (map tree_of terms.items) (trees (map body_tree methods.items)))) }
@@ -163,7 +163,7 @@ fn labelled(
     alloc: Global,
     labels: &[Label],
     mut terms: Vec<Term>,
-) -> Result<Vec<(Label, Term)>, AllocError>
+) -> Result<Vec<(Label, Term)>, DecodeError>
     ensures labels { IfOk result (λ r. map field_label r.items ≡ map text_of labels.now) }
     ensures terms { IfOk result (λ r. map field_tree r.items ≡ map tree_of terms.items) }
 {
@@ -173,12 +173,12 @@ fn labelled(
         let label = label.copy(alloc)?;
         match terms.pop() {
             Some(term) => fields.push((label, term))?,
-            None => return Err(AllocError),
+            None => return Err(DecodeError::Unfit),
         }
     }
     if terms.is_empty() {
         Ok(fields)
     } else {
-        Err(AllocError)
+        Err(DecodeError::Unfit)
     }
 }

@@ -11,6 +11,7 @@ ghost use Rattle.coded_cells.specs.Shapes.{cell_shape, class_object};
 ghost use Rattle.code_decoder.specs.Decoded.{plain_object};
 
 use crate::decoder::method_over;
+use crate::errors::DecodeError;
 use crate::seen::seen_places;
 use asp_model::{Label, Method, Place};
 use coded_cells::Cell;
@@ -18,7 +19,7 @@ use program_code::{Code, MethodCode};
 use std::alloc::{AllocError, Global};
 
 /// The cell that a coded one stands for.
-pub fn cell_of(alloc: Global, code: &Code, cell: &Cell) -> Result<asp_model::Cell, AllocError>
+pub fn cell_of(alloc: Global, code: &Code, cell: &Cell) -> Result<asp_model::Cell, DecodeError>
     ensures cell { IfOk result (λ r. plain_shape r ≡ cell_shape code.now cell.now) }
 {
     match cell {
@@ -49,7 +50,7 @@ fn object_of(
     code: &Code,
     class: usize,
     places: &[usize],
-) -> Result<asp_model::Object, AllocError>
+) -> Result<asp_model::Object, DecodeError>
     ensures object { let k = class_at code.now class in
         IfOk result (λ r. plain_object r ≡ class_object code.now places.now k) }
 {
@@ -91,7 +92,7 @@ fn methods_of(
     number: usize,
     methods: &[MethodCode],
     places: &[usize],
-) -> Result<Vec<Method>, AllocError>
+) -> Result<Vec<Method>, DecodeError>
     requires below { MethodsBelow number methods.now }
     requires within { number ≤ length code.now }
     requires sound { MethodsSound (pieces code.now) methods.now }
@@ -110,7 +111,7 @@ fn stored(
     code: &Code,
     method: &MethodCode,
     places: &[usize],
-) -> Result<Method, AllocError>
+) -> Result<Method, DecodeError>
     requires below { IsBelow (length code.now) method.now.body }
     requires sound { IsSoundMethod (pieces code.now) method.now }
     ensures method { IfOk result

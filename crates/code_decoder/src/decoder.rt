@@ -10,10 +10,11 @@ ghost use Rattle.program_code.specs.Parts.{body_tree, method_head};
 
 use crate::built::{built, object};
 use crate::copies::copy_words;
+use crate::errors::DecodeError;
 use crate::seen::{Seen, captured_in, seen_in, seen_term};
 use asp_model::{Method, Term};
 use program_code::{Child, Code, Kind, MethodCode};
-use std::alloc::{AllocError, Global};
+use std::alloc::Global;
 
 /// The term of a child.
 #[cycle(decoder)]
@@ -22,13 +23,13 @@ pub fn child_term<'a>(
     code: &'a Code,
     kept: &[Seen<'a>],
     child: &'a Child,
-) -> Result<Term, AllocError>
+) -> Result<Term, DecodeError>
     requires below { IsBelow (length code.now) child.now }
     ensures term { IfOk result
         (λ r. tree_of r ≡ shown_child (map seen_tree kept.now) (pieces code.now) child.now) }
 {
     match child {
-        Child::Leaf(leaf) => seen_term(alloc, seen_in(kept, leaf)),
+        Child::Leaf(leaf) => Ok(seen_term(alloc, seen_in(kept, leaf))?),
         Child::Node(number) => node_term(alloc, code, kept, *number),
     }
 }
@@ -40,7 +41,7 @@ pub fn node_term<'a>(
     code: &'a Code,
     kept: &[Seen<'a>],
     number: usize,
-) -> Result<Term, AllocError>
+) -> Result<Term, DecodeError>
     requires within { number < length code.now }
     ensures term { IfOk result
         (λ r. tree_of r ≡ shown (map seen_tree kept.now) (piece_at (pieces code.now) number)) }
@@ -60,7 +61,7 @@ pub fn push_terms<'a>(
     children: &'a [Child],
     number: usize,
     terms: &mut Vec<Term>,
-) -> Result<(), AllocError>
+) -> Result<(), DecodeError>
     requires below { AllBelow number children.now }
     requires within { number ≤ length code.now }
     ensures terms { let shown = map (shown_child (map seen_tree kept.now) (pieces code.now)) children.now in
@@ -81,7 +82,7 @@ pub fn finished<'a>(
     kind: &'a Kind,
     number: usize,
     terms: Vec<Term>,
-) -> Result<Term, AllocError>
+) -> Result<Term, DecodeError>
     requires below { KindBelow number kind.now }
     requires within { number ≤ length code.now }
     ensures term { IfOk result (λ r. tree_of r
@@ -103,7 +104,7 @@ fn methods_of<'a>(
     kept: &[Seen<'a>],
     methods: &'a [MethodCode],
     number: usize,
-) -> Result<Vec<Method>, AllocError>
+) -> Result<Vec<Method>, DecodeError>
     requires below { MethodsBelow number methods.now }
     requires within { number ≤ length code.now }
     ensures heads { IfOk result (λ r. map method_head r.items ≡ map head_of methods.now) }
@@ -123,7 +124,7 @@ fn method_of<'a>(
     code: &'a Code,
     kept: &[Seen<'a>],
     method: &'a MethodCode,
-) -> Result<Method, AllocError>
+) -> Result<Method, DecodeError>
     requires below { IsBelow (length code.now) method.now.body }
     ensures head { IfOk result (λ r. method_head r ≡ head_of method.now) }
     ensures body { let shown = shown_body (map seen_tree kept.now) (pieces code.now) in
@@ -140,7 +141,7 @@ pub fn method_over<'a>(
     code: &'a Code,
     captured: &[Seen<'a>],
     method: &'a MethodCode,
-) -> Result<Method, AllocError>
+) -> Result<Method, DecodeError>
     requires below { IsBelow (length code.now) method.now.body }
     ensures head { IfOk result (λ r. method_head r ≡ head_of method.now) }
     ensures body { let ps = pieces code.now in

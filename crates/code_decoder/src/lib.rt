@@ -6,9 +6,11 @@ mod built;
 mod cells;
 mod copies;
 mod decoder;
+mod errors;
 mod seen;
 mod split;
 mod terms;
 
 pub use cells::cell_of;
+pub use errors::DecodeError;
 pub use terms::{call_of, context_of, location, redex_of, term_of};

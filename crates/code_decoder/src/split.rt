@@ -2,8 +2,9 @@
 
 ghost use Rattle.std.specs.Prelude.{◌≡◌, ◌∷◌, [], IfOk, IfSome};
 
+use crate::errors::DecodeError;
 use asp_model::Term;
-use std::alloc::{AllocError, Global};
+use std::alloc::Global;
 
 /// The one term of these.
 pub fn only(mut terms: Vec<Term>) -> Option<Term>
@@ -15,8 +16,8 @@ pub fn only(mut terms: Vec<Term>) -> Option<Term>
     terms.pop()
 }
 
-/// The two terms of these, each on its own. Where they are not two, it answers want of memory.
-pub fn both(alloc: Global, mut terms: Vec<Term>) -> Result<(Box<Term>, Box<Term>), AllocError>
+/// The two terms of these, each on its own. `Unfit` where they are not two.
+pub fn both(alloc: Global, mut terms: Vec<Term>) -> Result<(Box<Term>, Box<Term>), DecodeError>
     ensures { IfOk result (λ t. terms.items ≡ t.0.value ∷ t.1.value ∷ []) }
 {
     let second = boxed(alloc, terms.pop())?;
@@ -24,12 +25,12 @@ pub fn both(alloc: Global, mut terms: Vec<Term>) -> Result<(Box<Term>, Box<Term>
     Ok((first, second))
 }
 
-fn boxed(alloc: Global, term: Option<Term>) -> Result<Box<Term>, AllocError>
+fn boxed(alloc: Global, term: Option<Term>) -> Result<Box<Term>, DecodeError>
     ensures { IfOk result (λ b. term ≡ Some b.value) }
 {
     match term {
         Some(term) => Ok(Box::new(alloc, term)?),
-        None => Err(AllocError),
+        None => Err(DecodeError::Unfit),
     }
 }
 

@@ -20,6 +20,7 @@ ghost use Rattle.code_decoder.specs.Decoded.{
 };
 
 use crate::decoder::{child_term, finished, node_term, push_terms};
+use crate::errors::DecodeError;
 use crate::seen::{Seen, seen_places};
 use crate::split::first_of;
 use asp_model::{Label, Mark, Term};
@@ -32,7 +33,7 @@ pub fn term_of(
     code: &Code,
     places: &[usize],
     child: &Child,
-) -> Result<Term, AllocError>
+) -> Result<Term, DecodeError>
     requires below { IsBelow (length code.now) child.now }
     ensures term { let p = piece_of (pieces code.now) child.now in
         IfOk result (λ r. IsTermIn places.now p (tree_of r)) }
@@ -51,7 +52,7 @@ pub fn redex_of(
     number: usize,
     from: usize,
     done: &[usize],
-) -> Result<Term, AllocError>
+) -> Result<Term, DecodeError>
     requires within { number < length code.now }
     ensures redex { let p = later from (piece_at (pieces code.now) number) in
         IfOk result (λ r. IsRedexIn places.now done.now p (tree_of r)) }
@@ -69,7 +70,7 @@ pub fn context_of(
     number: usize,
     from: usize,
     done: &[usize],
-) -> Result<Term, AllocError>
+) -> Result<Term, DecodeError>
     requires within { number < length code.now }
     ensures context { let p = later from (piece_at (pieces code.now) number) in
         IfOk result (λ r. IsContextIn places.now done.now p (tree_of r)) }
@@ -98,10 +99,9 @@ pub fn location(alloc: Global, place: usize) -> Term
     Term::Loc(place as u128, Mark::blank(alloc))
 }
 
-/// A call of these places, the receiver first. A call without a receiver is answered as want of
-/// memory.
+/// A call of these places, the receiver first. `Unfit` where there is none.
 #[tactic(auto, using(program_code::proofs::TermTrees::trees_are))]
-pub fn call_of(alloc: Global, label: &Label, places: &[usize]) -> Result<Term, AllocError>
+pub fn call_of(alloc: Global, label: &Label, places: &[usize]) -> Result<Term, DecodeError>
     ensures call { IfOk result
         (λ r. tree_of r ≡ node (Call label.now.text) (trees (map loc places.now))) }
 {
@@ -112,7 +112,7 @@ pub fn call_of(alloc: Global, label: &Label, places: &[usize]) -> Result<Term, A
             let label = label.copy(alloc)?;
             Ok(Term::Call(receiver, label, arguments, Mark::blank(alloc)))
         }
-        None => Err(AllocError),
+        None => Err(DecodeError::Unfit),
     }
 }
 
@@ -124,7 +124,7 @@ fn node_behind<'a>(
     number: usize,
     from: usize,
     terms: Vec<Term>,
-) -> Result<Term, AllocError>
+) -> Result<Term, DecodeError>
     requires within { number < length code.now }
     ensures behind { let p = later from (piece_at (pieces code.now) number) in
         IfOk result (λ r. IsBehind (map seen_tree kept.now) p (map tree_of terms.items) (tree_of r)) }
@@ -156,7 +156,7 @@ fn ordinary<'a>(
     number: usize,
     gone: usize,
     mut terms: Vec<Term>,
-) -> Result<Term, AllocError>
+) -> Result<Term, DecodeError>
     requires children { AllBelow number node.now.children.items }
     requires methods { KindBelow number node.now.kind }
     requires within { number ≤ length code.now }
@@ -188,7 +188,7 @@ fn rolled<'a>(
     node: &'a Node,
     number: usize,
     mut terms: Vec<Term>,
-) -> Result<Term, AllocError>
+) -> Result<Term, DecodeError>
     requires children { AllBelow number node.now.children.items }
     requires within { number < length code.now }
     ensures rolled { let below = pieces_of (pieces code.now) node.now.children.items in
@@ -201,7 +201,7 @@ fn rolled<'a>(
                 terms.push(child_term(alloc, code, kept, child)?)?;
                 with_itself(alloc, code, kept, number, terms)
             }
-            None => Err(AllocError),
+            None => Err(DecodeError::Unfit),
         }
     } else if terms.len() == 1 {
         with_itself(alloc, code, kept, number, terms)
@@ -216,7 +216,7 @@ fn with_itself<'a>(
     kept: &[Seen<'a>],
     number: usize,
     mut terms: Vec<Term>,
-) -> Result<Term, AllocError>
+) -> Result<Term, DecodeError>
     requires within { number < length code.now }
     ensures rolled { let itself = piece_at (pieces code.now) number in
         IfOk result (λ r. tree_of r
@@ -227,7 +227,7 @@ fn with_itself<'a>(
 }
 
 #[tactic(auto, using(program_code::proofs::TermTrees::trees_are))]
-fn sequence(alloc: Global, terms: Vec<Term>) -> Result<Term, AllocError>
+fn sequence(alloc: Global, terms: Vec<Term>) -> Result<Term, DecodeError>
     ensures term { IfOk result (λ r. tree_of r ≡ node Steps (trees (map tree_of terms.items))) }
 {
     Ok(Term::Steps(terms, Mark::blank(alloc)))

@@ -9,10 +9,10 @@ ghost use Rattle.machine_frames.specs.Standing.{IsFocus, taken};
 use crate::cursor::{behind, last_of};
 use crate::groups::{called_term, dealt_term};
 use asp_model::Term;
-use code_decoder::{call_of, location, redex_of};
+use code_decoder::{DecodeError, call_of, location, redex_of};
 use machine_frames::{Focus, Machine};
 use program_code::Code;
-use std::alloc::{AllocError, Global};
+use std::alloc::Global;
 
 /// How many operands are the focus's own.
 pub fn taken_by(focus: Focus) -> usize
@@ -28,7 +28,7 @@ pub fn taken_by(focus: Focus) -> usize
 }
 
 /// The term that the machine looks at.
-pub fn focus_term(alloc: Global, code: &Code, machine: &Machine) -> Result<Term, AllocError>
+pub fn focus_term(alloc: Global, code: &Code, machine: &Machine) -> Result<Term, DecodeError>
     ensures inner { let ns = drop machine.now.base machine.now.env.items in
         let own = last (taken machine.now.focus) machine.now.operands.items in
         (t : Tree) → IsFocus code.now machine.now.asked.text ns own machine.now.focus t →
@@ -37,7 +37,7 @@ pub fn focus_term(alloc: Global, code: &Code, machine: &Machine) -> Result<Term,
     match machine.focus {
         Focus::Node { number, from, done } => {
             if number >= code.nodes().len() {
-                return Err(AllocError);
+                return Err(DecodeError::Unfit);
             }
             let places = behind(&machine.env, machine.base);
             let own = last_of(&machine.operands, done);

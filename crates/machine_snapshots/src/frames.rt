@@ -10,20 +10,20 @@ ghost use Rattle.machine_snapshots.specs.Shown.{IsSegment, hole_tree};
 use crate::cursor::{Cursor, behind, below, last_of, up_to, waiting};
 use crate::groups::calling_term;
 use asp_model::Term;
-use code_decoder::context_of;
+use code_decoder::{DecodeError, context_of};
 use machine_frames::{Form, Frame};
 use program_code::Code;
-use std::alloc::{AllocError, Global};
+use std::alloc::Global;
 
 /// A node round the next of its terms, as a term with a hole.
-fn node_term(alloc: Global, code: &Code, cursor: &Cursor, frame: Frame) -> Result<Term, AllocError>
+fn node_term(alloc: Global, code: &Code, cursor: &Cursor, frame: Frame) -> Result<Term, DecodeError>
     ensures context { let ns = drop frame.base (take frame.height cursor.now.env.now) in
         let done = last frame.done cursor.now.operands.now in
         (c : Context) → IsWaiting code.now ns done frame.node frame.from c →
         IfOk result (λ r. tree_of r ≡ hole_tree c) }
 {
     if frame.node >= code.nodes().len() {
-        return Err(AllocError);
+        return Err(DecodeError::Unfit);
     }
     let places = behind(up_to(cursor.env, frame.height), frame.base);
     let done = last_of(cursor.operands, frame.done);
@@ -31,7 +31,12 @@ fn node_term(alloc: Global, code: &Code, cursor: &Cursor, frame: Frame) -> Resul
 }
 
 /// The context that a frame is, as a term with a hole.
-fn frame_term(alloc: Global, code: &Code, cursor: &Cursor, frame: Frame) -> Result<Term, AllocError>
+fn frame_term(
+    alloc: Global,
+    code: &Code,
+    cursor: &Cursor,
+    frame: Frame,
+) -> Result<Term, DecodeError>
     ensures context { let ns = drop frame.base (take frame.height cursor.now.env.now) in
         let done = last frame.done cursor.now.operands.now in
         (c : Context) → IsItem code.now ns done frame.form frame.node frame.from (Waits c) →
@@ -43,7 +48,7 @@ fn frame_term(alloc: Global, code: &Code, cursor: &Cursor, frame: Frame) -> Resu
             let own = last_of(cursor.operands, frame.done);
             calling_term(alloc, code, spread, frame.node, frame.from, own)
         }
-        Form::Service => Err(AllocError),
+        Form::Service => Err(DecodeError::Unfit),
     }
 }
 
@@ -53,7 +58,7 @@ pub fn segment<'a>(
     code: &Code,
     start: Cursor<'a>,
     first: Vec<Term>,
-) -> Result<(Vec<Term>, Cursor<'a>), AllocError>
+) -> Result<(Vec<Term>, Cursor<'a>), DecodeError>
     ensures segment { (items : List Item) →
         IsStack code.now (reverse start.entry.frames.now) start.entry.env.now start.entry.operands.now items →
         IfOk result (λ r. IsSegment code.now items (map tree_of first.items) (map tree_of r.0.items)

@@ -21,7 +21,7 @@ ghost use Rattle.machine_snapshots.specs.Shown.{hole_tree};
 
 use crate::cursor::last_of;
 use asp_model::{Label, Mark, Term};
-use code_decoder::{call_of, location};
+use code_decoder::{DecodeError, call_of, location};
 use machine_frames::{Round, Spread, call_label, in_place_count, node_at, results_in, round_at};
 use program_code::Code;
 use std::alloc::{AllocError, Global};
@@ -68,11 +68,11 @@ fn found_in<'a>(
 }
 
 /// The places of a call.
-fn places_of(alloc: Global, own: &[usize], round: Round) -> Result<Vec<usize>, AllocError>
+fn places_of(alloc: Global, own: &[usize], round: Round) -> Result<Vec<usize>, DecodeError>
     ensures places { IfOk result (λ ns. ns.items ≡ round_in round own.now) }
 {
     if round.receiver >= own.len() || round.first > round.end || round.end > own.len() {
-        return Err(AllocError);
+        return Err(DecodeError::Unfit);
     }
     let mut places = Vec::new(alloc);
     places.push(own[round.receiver])?;
@@ -89,7 +89,7 @@ fn with_calls(
     own: &[usize],
     first: usize,
     before: Vec<Term>,
-) -> Result<Vec<Term>, AllocError>
+) -> Result<Vec<Term>, DecodeError>
     ensures calls { (k : List NodeShape) (number : ℕ) (l : IsLaid k spread number members own.now) →
         length l.given ≡ found.entry.given →
         let left = drop first (rounds spread l.given l.receivers l.beside) in
@@ -99,7 +99,7 @@ fn with_calls(
     let mut terms = before;
     for i in first..members {
         let Some(round) = round_at(spread, 0, found.given, members, i) else {
-            return Err(AllocError);
+            return Err(DecodeError::Unfit);
         };
         let places = places_of(alloc, own, round)?;
         terms.push(call_of(alloc, found.label, &places)?)?;
@@ -126,12 +126,12 @@ pub fn dealt_term(
     number: usize,
     members: usize,
     own: &[usize],
-) -> Result<Term, AllocError>
+) -> Result<Term, DecodeError>
     ensures term { (t : Tree) → IsDealt code.now spread own.now number members t →
         IfOk result (λ r. tree_of r ≡ t) }
 {
     let Some(found) = found_in(code, spread, number, members, own) else {
-        return Err(AllocError);
+        return Err(DecodeError::Unfit);
     };
     let results = locations(alloc, found.results)?;
     let first = found.results.len();
@@ -148,17 +148,17 @@ pub fn calling_term(
     number: usize,
     members: usize,
     own: &[usize],
-) -> Result<Term, AllocError>
+) -> Result<Term, DecodeError>
     ensures context { (c : Context) → IsCalling code.now spread own.now number members c →
         IfOk result (λ r. tree_of r ≡ hole_tree c) }
 {
     let Some(found) = found_in(code, spread, number, members, own) else {
-        return Err(AllocError);
+        return Err(DecodeError::Unfit);
     };
     let mut results = locations(alloc, found.results)?;
     results.push(Term::Hole(Mark::blank(alloc)))?;
     let Some(first) = found.results.len().checked_add(1) else {
-        return Err(AllocError);
+        return Err(DecodeError::Unfit);
     };
     let terms = with_calls(alloc, spread, members, found, own, first, results)?;
     Ok(Term::Group(terms, Mark::blank(alloc)))
@@ -170,16 +170,16 @@ pub fn called_term(
     code: &Code,
     number: usize,
     own: &[usize],
-) -> Result<Term, AllocError>
+) -> Result<Term, DecodeError>
     ensures term { (t : Tree) → IsCalled code.now own.now number t →
         IfOk result (λ r. tree_of r ≡ t) }
 {
     let nodes = code.nodes();
     let Some(node) = node_at(nodes, number) else {
-        return Err(AllocError);
+        return Err(DecodeError::Unfit);
     };
     let Some(label) = call_label(node) else {
-        return Err(AllocError);
+        return Err(DecodeError::Unfit);
     };
     call_of(alloc, label, own)
 }

@@ -15,6 +15,7 @@ use crate::cursor::{Cursor, all_but, below, innermost};
 use crate::focus::{focus_term, taken_by};
 use crate::frames::segment;
 use asp_model::{FutureName, Term};
+use code_decoder::DecodeError;
 use machine_frames::Machine;
 use program_code::Code;
 use std::alloc::{AllocError, Global};
@@ -36,7 +37,7 @@ pub struct Shown {
 }
 
 /// The terms of a machine over this code.
-pub fn show(alloc: Global, code: &Code, machine: &Machine) -> Result<Shown, AllocError>
+pub fn show(alloc: Global, code: &Code, machine: &Machine) -> Result<Shown, DecodeError>
     ensures shown { (t : Tree) (vs : List ServiceShape) →
         Standing code.now (view_of machine.now) t vs → IfOk result
         (λ r. IsShown t vs (map tree_of r.term.items) (map service_shown r.services.items)) }
@@ -59,7 +60,7 @@ fn services(
     code: &Code,
     start: Cursor,
     names: &[Option<FutureName>],
-) -> Result<Vec<Suspended>, AllocError>
+) -> Result<Vec<Suspended>, DecodeError>
     ensures services { let futures = reverse (map (option_map future_shape) names.now) in
         (items : List Item) → IsAlone (reverse start.entry.frames.now) →
         IsStack code.now (reverse start.entry.frames.now) start.entry.env.now start.entry.operands.now items →
@@ -70,7 +71,7 @@ fn services(
     let mut futures = names;
     while let Some((frame, others)) = innermost(cursor.frames) {
         let Some((future, older)) = newest(futures) else {
-            return Err(AllocError);
+            return Err(DecodeError::Unfit);
         };
         futures = older;
         let inner = below(&cursor, frame, others);
