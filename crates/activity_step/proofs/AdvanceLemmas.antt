@@ -8,14 +8,14 @@ use Rattle.asp_model.specs.Store.{Store}
 use Rattle.asp_model.specs.Configuration.{ServiceShape}
 use Rattle.asp_model.specs.Contraction.{LineShape, Becomes, contract}
 use Rattle.asp_model.specs.Shapes.{line_shape}
-use Rattle.program_code.specs.declared.code.Node.{Node}
-use Rattle.coded_cells.specs.Shapes.{store_of}
-use Rattle.machine_frames.specs.Rows.{place_view, IsAtRedex, Contracts}
-use Rattle.machine_frames.specs.Standing.{View, Standing, view_of}
+use Rattle.code_table.specs.declared.code.Node.{Node}
+use Rattle.code_table.specs.Shapes.{store_of}
+use Rattle.step_machine.specs.Rows.{place_view, IsAtRedex, Contracts}
+use Rattle.step_machine.specs.Standing.{View, Standing, view_of}
 use Rattle.activity_step.specs.declared.state.State.{State}
 use Rattle.activity_step.specs.declared.advance.Advance.{Advance}
 use Rattle.activity_step.specs.declared.advance.Advance.TheVariants as advance
-use Rattle.machine_frames.specs.Sites.{IsBefore, given_view, number_redex}
+use Rattle.step_machine.specs.Sites.{IsBefore, given_view, number_redex}
 use Rattle.activity_step.specs.Activities.{reduces}
 use Rattle.activity_step.specs.Advances.{Stands, Reduced, IsTold, IsStopped, Told, IsReduction, IsAdvance, IsStop, IsTaken}
 

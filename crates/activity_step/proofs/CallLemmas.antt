@@ -5,25 +5,25 @@ use Rattle.asp_model.specs.Names.{Name, Text}
 use Rattle.asp_model.specs.Term.{Call, Tree}
 use Rattle.asp_model.specs.Configuration.{ServiceShape}
 use Rattle.asp_model.specs.Contraction.{Communicates, Sends, call_row, contract}
-use Rattle.program_code.specs.declared.code.MethodCode.{MethodCode}
-use Rattle.program_code.specs.declared.code.Node.{Node}
-use Rattle.coded_cells.specs.Cells.{CodedStore, cell_at}
-use Rattle.coded_cells.specs.Shapes.{cell_of, store_of}
-use Rattle.coded_cells.proofs.CodedLemmas.{cell-store_of}
-use Rattle.activity_rows.specs.declared.calls.Callee.{Callee}
-use Rattle.activity_rows.specs.declared.calls.Callee.TheVariants as callee
-use Rattle.activity_rows.specs.declared.decision.Decision.{Decision}
-use Rattle.activity_rows.specs.Decisions.{Leads, decided, read, value_redex}
-use Rattle.activity_rows.proofs.ReadLemmas.{call_reads}
-use Rattle.machine_frames.specs.Rows.{Contracts, called_view}
-use Rattle.machine_frames.specs.Stacks.{last}
-use Rattle.machine_frames.specs.Standing.{View, Standing}
-use Rattle.machine_frames.specs.Items.{contexts_of}
-use Rattle.machine_frames.specs.Spreads.{IsAtCall, spread_view}
-use Rattle.machine_frames.specs.declared.frames.Spread.TheVariants as spread
-use Rattle.machine_frames.proofs.SpreadLemmas.{group_call}
-use Rattle.machine_frames.specs.declared.frames.Focus.TheVariants as focus
-use Rattle.machine_frames.proofs.RowLemmas.{AtAsked, asked, call_enters}
+use Rattle.code_table.specs.declared.code.MethodCode.{MethodCode}
+use Rattle.code_table.specs.declared.code.Node.{Node}
+use Rattle.code_table.specs.Cells.{CodedStore, cell_at}
+use Rattle.code_table.specs.Shapes.{cell_of, store_of}
+use Rattle.code_table.proofs.CodedLemmas.{cell-store_of}
+use Rattle.step_rows.specs.declared.calls.Callee.{Callee}
+use Rattle.step_rows.specs.declared.calls.Callee.TheVariants as callee
+use Rattle.step_rows.specs.declared.decision.Decision.{Decision}
+use Rattle.step_rows.specs.Decisions.{Leads, decided, read, value_redex}
+use Rattle.step_rows.proofs.ReadLemmas.{call_reads}
+use Rattle.step_machine.specs.Rows.{Contracts, called_view}
+use Rattle.step_machine.specs.Stacks.{last}
+use Rattle.step_machine.specs.Standing.{View, Standing}
+use Rattle.step_machine.specs.Items.{contexts_of}
+use Rattle.step_machine.specs.Spreads.{IsAtCall, spread_view}
+use Rattle.step_machine.specs.declared.frames.Spread.TheVariants as spread
+use Rattle.step_machine.proofs.SpreadLemmas.{group_call}
+use Rattle.step_machine.specs.declared.frames.Focus.TheVariants as focus
+use Rattle.step_machine.proofs.RowLemmas.{AtAsked, asked, call_enters}
 use Rattle.asp_model.specs.Split.{Splits}
 use Rattle.activity_step.specs.Called.{IsCalled}
 

@@ -6,7 +6,7 @@ use Rattle.std.proofs.lemmas.List.{length-reverse, reverse-append, reverse-rever
 use Rattle.asp_model.specs.Names.{FutureShape}
 use Rattle.asp_model.specs.Configuration.{ServiceShape}
 use Rattle.asp_model.specs.Intent.{newest, but_newest}
-use Rattle.machine_frames.specs.Items.{Item, Waits, Suspends, futures_of, services_of}
+use Rattle.step_machine.specs.Items.{Item, Waits, Suspends, futures_of, services_of}
 
 newest_last : (xs : List ServiceShape) (y : ServiceShape) → newest (xs ++ y ∷ []) ≡ Some y
 newest_last [] y = refl

@@ -11,22 +11,22 @@ use Rattle.asp_model.specs.Store as store
 use Rattle.asp_model.specs.Store.{CellShape, Field, MethodShape, Store}
 use Rattle.asp_model.specs.Configuration.{ServiceShape}
 use Rattle.asp_model.specs.Contraction.{Becomes, LineShape, TextLine, allots, fields_at}
-use Rattle.program_code.specs.declared.code.Class.{Class}
-use Rattle.program_code.specs.declared.code.Kind.{Kind}
-use Rattle.program_code.specs.declared.code.Kind.TheVariants as kind
-use Rattle.program_code.specs.declared.code.MethodCode.{MethodCode}
-use Rattle.program_code.specs.declared.code.Node.{Node}
-use Rattle.program_code.specs.Classes.{class_at, class_of}
-use Rattle.program_code.specs.Pieces.{Piece, Pieces, Bodies, no_method, method, object, piece}
-use Rattle.program_code.specs.Sound.{IsSound, empty_number}
-use Rattle.program_code.specs.Tables.{bodies_of, kind_piece, labels_of, pieces, pieces_of, piece_at, seen_methods}
-use Rattle.program_code.proofs.TableLemmas.{node_here, class_seen, class_past}
-use Rattle.coded_cells.specs.Cells.{CodedCell, CodedStore}
-use Rattle.coded_cells.specs.Shapes.{cell_of, class_object, store_of}
-use Rattle.coded_cells.proofs.CodedLemmas.{length-store_of, store_of-append}
-use Rattle.machine_frames.specs.Rows.{AtNode}
-use Rattle.machine_frames.specs.Standing.{View, Standing}
-use Rattle.machine_frames.proofs.RowLemmas.{IsAtObject, object_row}
+use Rattle.code_table.specs.declared.code.Class.{Class}
+use Rattle.code_table.specs.declared.code.Kind.{Kind}
+use Rattle.code_table.specs.declared.code.Kind.TheVariants as kind
+use Rattle.code_table.specs.declared.code.MethodCode.{MethodCode}
+use Rattle.code_table.specs.declared.code.Node.{Node}
+use Rattle.code_table.specs.Classes.{class_at, class_of}
+use Rattle.code_table.specs.Pieces.{Piece, Pieces, Bodies, no_method, method, object, piece}
+use Rattle.code_table.specs.Sound.{IsSound, empty_number}
+use Rattle.code_table.specs.Tables.{bodies_of, kind_piece, labels_of, pieces, pieces_of, piece_at, seen_methods}
+use Rattle.code_table.proofs.TableLemmas.{node_here, class_seen, class_past}
+use Rattle.code_table.specs.Cells.{CodedCell, CodedStore}
+use Rattle.code_table.specs.Shapes.{cell_of, class_object, store_of}
+use Rattle.code_table.proofs.CodedLemmas.{length-store_of, store_of-append}
+use Rattle.step_machine.specs.Rows.{AtNode}
+use Rattle.step_machine.specs.Standing.{View, Standing}
+use Rattle.step_machine.proofs.RowLemmas.{IsAtObject, object_row}
 
 -- a cell that is added
 pub allotted : (k : List Node) (old new : CodedStore) (c : CodedCell) (p : ℕ) (lines : List LineShape) → p ≡ length old → new ≡ old ++ c ∷ [] → allots (store_of k old) (cell_of k c) lines ≡ Becomes (loc p) (store_of k new) lines
@@ -62,7 +62,7 @@ empty_seen k None x e at s = refl
 empty_seen k (Some c) x e at s =
     let ps : List Piece = pieces k in
     let us : Pieces = pieces_of ps x.children.items in
-    let same : object (labels_of c) us (bodies_of ps c.methods.items) ≡ object [] Rattle.program_code.specs.Pieces.nothing no_method = sym (class_piece ps x.kind us c (sym e)) ∙ sym at ∙ s.empty in
+    let same : object (labels_of c) us (bodies_of ps c.methods.items) ≡ object [] Rattle.code_table.specs.Pieces.nothing no_method = sym (class_piece ps x.kind us c (sym e)) ∙ sym at ∙ s.empty in
     let none : c.methods.items ≡ [] = no_methods ps c.methods.items (ap bodies_in same) in
     λ i. store.Object (no_fields (labels_of c) i) (seen_methods ps (none i) (drop-nil (length c.fields.items) i))
 

@@ -8,14 +8,14 @@ use Rattle.asp_model.specs.Term.{Tree, loc}
 use Rattle.asp_model.specs.Store.{Store}
 use Rattle.asp_model.specs.Shapes.{future_shape, line_shape}
 use Rattle.std.specs.Option.{option_map}
-use Rattle.coded_cells.specs.Cells.{CodedCell}
-use Rattle.coded_cells.specs.Shapes.{cell_of, store_of}
-use Rattle.coded_cells.proofs.CodedLemmas.{length-store_of, store_of-append}
-use Rattle.machine_frames.specs.Rows.{IsAtRedex, place_view}
-use Rattle.machine_frames.specs.Services.{IsAtSome}
-use Rattle.machine_frames.specs.Standing.{View, Standing, view_of}
-use Rattle.machine_frames.proofs.RowLemmas.{some_redex}
-use Rattle.program_code.specs.declared.code.Node.{Node}
+use Rattle.code_table.specs.Cells.{CodedCell}
+use Rattle.code_table.specs.Shapes.{cell_of, store_of}
+use Rattle.code_table.proofs.CodedLemmas.{length-store_of, store_of-append}
+use Rattle.step_machine.specs.Rows.{IsAtRedex, place_view}
+use Rattle.step_machine.specs.Services.{IsAtSome}
+use Rattle.step_machine.specs.Standing.{View, Standing, view_of}
+use Rattle.step_machine.proofs.RowLemmas.{some_redex}
+use Rattle.code_table.specs.declared.code.Node.{Node}
 use Rattle.asp_model.specs.Configuration as model
 use Rattle.asp_model.specs.Configuration.{ServiceShape}
 use Rattle.activity_step.specs.declared.activity.Activity.{Activity}
@@ -91,7 +91,7 @@ after_step x a true advance.Serves g e s = absurd (false≢true e)
 after_step x a false r g e s = absurd (false≢true g)
 
 -- the advance that took a contraction
-pub reduced_advance : (k : List Rattle.program_code.specs.declared.code.Node.Node) (y : State) (a : model.Activity) (go : Bool) (r : Advance) → IsAdvance k y a.term (reverse a.services) a.store a.lines go r → go ≡ true → reduces r ≡ true → Reduced k y a.term (reverse a.services) a.store a.lines
+pub reduced_advance : (k : List Rattle.code_table.specs.declared.code.Node.Node) (y : State) (a : model.Activity) (go : Bool) (r : Advance) → IsAdvance k y a.term (reverse a.services) a.store a.lines go r → go ≡ true → reduces r ≡ true → Reduced k y a.term (reverse a.services) a.store a.lines
 reduced_advance k y a true advance.Reduces t g e = t
 reduced_advance k y a true (advance.Rests p) t g e = absurd (false≢true e)
 reduced_advance k y a true (advance.Faults f) t g e = absurd (false≢true e)

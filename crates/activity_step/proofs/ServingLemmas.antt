@@ -12,14 +12,14 @@ use Rattle.asp_model.specs.Configuration as model
 use Rattle.asp_model.specs.Configuration.{ServiceShape}
 use Rattle.asp_model.specs.Intent.{but_newest, newest}
 use Rattle.asp_model.specs.Shapes.{future_shape, line_shape}
-use Rattle.program_code.specs.declared.code.Node.{Node}
-use Rattle.program_code.specs.Sound.{IsSound, empty_number}
-use Rattle.coded_cells.specs.Shapes.{store_of}
-use Rattle.machine_frames.specs.Items.{contexts_of}
-use Rattle.machine_frames.specs.Rows.{without_last}
-use Rattle.machine_frames.specs.Services.{IsAtSome, IsResumed, suspended_view}
-use Rattle.machine_frames.specs.Standing.{Standing, View, view_of}
-use Rattle.machine_frames.proofs.ServiceLemmas.{Resumed, resumes, suspends}
+use Rattle.code_table.specs.declared.code.Node.{Node}
+use Rattle.code_table.specs.Sound.{IsSound, empty_number}
+use Rattle.code_table.specs.Shapes.{store_of}
+use Rattle.step_machine.specs.Items.{contexts_of}
+use Rattle.step_machine.specs.Rows.{without_last}
+use Rattle.step_machine.specs.Services.{IsAtSome, IsResumed, suspended_view}
+use Rattle.step_machine.specs.Standing.{Standing, View, view_of}
+use Rattle.step_machine.proofs.ServiceLemmas.{Resumed, resumes, suspends}
 use Rattle.activity_step.specs.declared.activity.Activity.{Activity}
 use Rattle.activity_step.specs.Activities.{StandsFor}
 use Rattle.activity_step.specs.Standings.{going_on, serving}

@@ -8,31 +8,31 @@ use Rattle.asp_model.specs.declared.word.Label.{Label}
 use Rattle.asp_model.specs.Term.{Call, Group, If, Let, Repeat, Steps, more, none}
 use Rattle.asp_model.specs.Split.{Splits}
 use Rattle.asp_model.specs.Configuration as model
-use Rattle.program_code.specs.declared.code.Kind.{Kind}
-use Rattle.program_code.specs.declared.code.Kind.TheVariants as kind
-use Rattle.program_code.specs.declared.code.Node.{Node}
-use Rattle.program_code.specs.Fitting.{Runs}
-use Rattle.program_code.specs.Pieces.{Bodies, Piece, Pieces, also, nothing, object, piece}
-use Rattle.program_code.specs.Tables.{bodies_of, kind_head, kind_piece, labels_of, pieces, pieces_of, piece_at, text_of}
+use Rattle.code_table.specs.declared.code.Kind.{Kind}
+use Rattle.code_table.specs.declared.code.Kind.TheVariants as kind
+use Rattle.code_table.specs.declared.code.Node.{Node}
+use Rattle.code_table.specs.Fitting.{Runs}
+use Rattle.code_table.specs.Pieces.{Bodies, Piece, Pieces, also, nothing, object, piece}
+use Rattle.code_table.specs.Tables.{bodies_of, kind_head, kind_piece, labels_of, pieces, pieces_of, piece_at, text_of}
 use Rattle.code_laws.specs.Nodes.{after, in_place, nth, operand_count, redex_in}
 use Rattle.code_laws.proofs.BranchLemmas.{let_enters, repetition_goes_on, sequence_goes_on}
-use Rattle.machine_frames.specs.Sequences.{later}
-use Rattle.machine_frames.specs.Items.{contexts_of}
-use Rattle.machine_frames.specs.Calls.{called_label}
-use Rattle.machine_frames.specs.Spreads.{IsAtCall, IsAtResults}
-use Rattle.machine_frames.specs.Views.{all_done}
-use Rattle.machine_frames.specs.declared.frames.Spread.{Spread}
-use Rattle.machine_frames.proofs.CallLemmas.{at_calls, called, results}
-use Rattle.machine_frames.specs.Rows.{AtNode, IsAtIf, IsAtRedex, is_simple}
-use Rattle.machine_frames.specs.Stacks.{last, piece_from}
-use Rattle.machine_frames.specs.Standing.{View, Standing}
-use Rattle.machine_frames.specs.declared.frames.Focus.TheVariants as focus
-use Rattle.machine_frames.proofs.StackLemmas.{last_none, last_size}
-use Rattle.machine_frames.proofs.RowLemmas.{AtAsked, Found, asked, found, let_from, object_from, sequence_from, value_row}
-use Rattle.activity_rows.specs.declared.redex.Redex.{Redex}
-use Rattle.activity_rows.specs.declared.redex.Redex.TheVariants as redex
-use Rattle.activity_rows.specs.Decisions.{value_redex}
-use Rattle.activity_rows.specs.Redexes.{IsFree, IsRedex}
+use Rattle.step_machine.specs.Sequences.{later}
+use Rattle.step_machine.specs.Items.{contexts_of}
+use Rattle.step_machine.specs.Calls.{called_label}
+use Rattle.step_machine.specs.Spreads.{IsAtCall, IsAtResults}
+use Rattle.step_machine.specs.Views.{all_done}
+use Rattle.step_machine.specs.declared.frames.Spread.{Spread}
+use Rattle.step_machine.proofs.CallLemmas.{at_calls, called, results}
+use Rattle.step_machine.specs.Rows.{AtNode, IsAtIf, IsAtRedex, is_simple}
+use Rattle.step_machine.specs.Stacks.{last, piece_from}
+use Rattle.step_machine.specs.Standing.{View, Standing}
+use Rattle.step_machine.specs.declared.frames.Focus.TheVariants as focus
+use Rattle.step_machine.proofs.StackLemmas.{last_none, last_size}
+use Rattle.step_machine.proofs.RowLemmas.{AtAsked, Found, asked, found, let_from, object_from, sequence_from, value_row}
+use Rattle.step_rows.specs.declared.redex.Redex.{Redex}
+use Rattle.step_rows.specs.declared.redex.Redex.TheVariants as redex
+use Rattle.step_rows.specs.Decisions.{value_redex}
+use Rattle.step_rows.specs.Redexes.{IsFree, IsRedex}
 use Rattle.activity_step.specs.Shown.{IsShown, goes}
 use Rattle.activity_step.specs.Standings.{IsAt}
 use Rattle.activity_step.proofs.TermLemmas.{choice_at, node_is, simple_size}

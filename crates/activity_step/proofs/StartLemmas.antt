@@ -3,18 +3,18 @@ use Rattle.std.proofs.Common.{◌≡◌, ◌+◌, ℕ, zero, suc, List, None, So
 use Rattle.asp_model.specs.Names.{Text}
 use Rattle.asp_model.specs.Term.{Head, Make, Repeat, Serve, Var, Tree, Trees, node, none, more, Environment, binders, node_in, put_in, put_below}
 use Rattle.asp_model.specs.Intent.{start_term}
-use Rattle.program_code.specs.declared.code.Capture.{Capture}
-use Rattle.program_code.specs.declared.code.Leaf.{Leaf}
-use Rattle.program_code.specs.declared.code.Leaf.TheVariants as leaves
-use Rattle.program_code.specs.declared.code.Node.{Node}
-use Rattle.program_code.specs.Fitting.{IsNode, Fits, AllFit, BodiesFit, Runs, captured_names, body_scope, body_height, slots_from, term_in}
-use Rattle.program_code.specs.Pieces.{Piece, variable, piece, object, Pieces, nothing, also, Bodies, no_method, method, heads_of, at_slot, leaf_tree, captured_trees, tree, below, bodies}
-use Rattle.program_code.specs.Sound.{IsSound, root_of, service_number}
-use Rattle.program_code.specs.Tables.{pieces, piece_at}
-use Rattle.machine_frames.specs.Standing.{Standing}
-use Rattle.machine_frames.specs.Services.{Below, asked_view}
-use Rattle.machine_frames.proofs.RowLemmas.{stand_node}
-use Rattle.machine_frames.proofs.ServiceLemmas.{asks}
+use Rattle.code_table.specs.declared.code.Capture.{Capture}
+use Rattle.code_table.specs.declared.code.Leaf.{Leaf}
+use Rattle.code_table.specs.declared.code.Leaf.TheVariants as leaves
+use Rattle.code_table.specs.declared.code.Node.{Node}
+use Rattle.code_table.specs.Fitting.{IsNode, Fits, AllFit, BodiesFit, Runs, captured_names, body_scope, body_height, slots_from, term_in}
+use Rattle.code_table.specs.Pieces.{Piece, variable, piece, object, Pieces, nothing, also, Bodies, no_method, method, heads_of, at_slot, leaf_tree, captured_trees, tree, below, bodies}
+use Rattle.code_table.specs.Sound.{IsSound, root_of, service_number}
+use Rattle.code_table.specs.Tables.{pieces, piece_at}
+use Rattle.step_machine.specs.Standing.{Standing}
+use Rattle.step_machine.specs.Services.{Below, asked_view}
+use Rattle.step_machine.proofs.RowLemmas.{stand_node}
+use Rattle.step_machine.proofs.ServiceLemmas.{asks}
 use Rattle.activity_step.specs.Starting.{start_view}
 
 -- Putting in no names changes nothing

@@ -4,19 +4,19 @@ use Rattle.asp_model.specs.Names.{Text}
 use Rattle.asp_model.specs.Term.{Tree}
 use Rattle.asp_model.specs.Store.{Store, Number, cell}
 use Rattle.asp_model.specs.Configuration.{ServiceShape}
-use Rattle.program_code.specs.declared.code.Child.{Child}
-use Rattle.program_code.specs.declared.code.Kind.{Kind}
-use Rattle.program_code.specs.declared.code.Kind.TheVariants as kind
-use Rattle.program_code.specs.declared.code.Node.{Node}
-use Rattle.program_code.specs.Pieces.{Piece}
-use Rattle.program_code.specs.Tables.{kind_piece, pieces, pieces_of, piece_at, piece_of}
+use Rattle.code_table.specs.declared.code.Child.{Child}
+use Rattle.code_table.specs.declared.code.Kind.{Kind}
+use Rattle.code_table.specs.declared.code.Kind.TheVariants as kind
+use Rattle.code_table.specs.declared.code.Node.{Node}
+use Rattle.code_table.specs.Pieces.{Piece}
+use Rattle.code_table.specs.Tables.{kind_piece, pieces, pieces_of, piece_at, piece_of}
 use Rattle.code_laws.specs.Nodes.{nth, in_place, operand_count}
-use Rattle.machine_frames.specs.Sequences.{later}
+use Rattle.step_machine.specs.Sequences.{later}
 use Rattle.code_laws.proofs.NodeLemmas.{part_count, node_in_place}
-use Rattle.machine_frames.specs.Rows.{AtNode, IsAtIf, Contracts, chosen, bound_view, child_view, node_view, is_simple}
-use Rattle.machine_frames.specs.Stacks.{last}
-use Rattle.machine_frames.specs.Standing.{View, Standing}
-use Rattle.machine_frames.proofs.RowLemmas.{let_row, if_at, if_row_here, steps_last, steps_more, repeat_row, again_row, simple_from}
+use Rattle.step_machine.specs.Rows.{AtNode, IsAtIf, Contracts, chosen, bound_view, child_view, node_view, is_simple}
+use Rattle.step_machine.specs.Stacks.{last}
+use Rattle.step_machine.specs.Standing.{View, Standing}
+use Rattle.step_machine.proofs.RowLemmas.{let_row, if_at, if_row_here, steps_last, steps_more, repeat_row, again_row, simple_from}
 
 pub node_is : (k : List Node) (v : View) (number from n : ℕ) (x : Node) (q : Kind) → AtNode k v number from n x → x.kind ≡ q → piece_at (pieces k) number ≡ kind_piece (pieces k) q (pieces_of (pieces k) x.children.items)
 node_is k v number from n x q at is = at.node ∙ ap (λ (q : Kind). kind_piece (pieces k) q (pieces_of (pieces k) x.children.items)) is

@@ -9,13 +9,13 @@ use Rattle.asp_model.specs.Configuration.{ServiceShape}
 use Rattle.asp_model.specs.Contraction.{Contraction, LineShape, Becomes, Faults, Needs, Communicates, Creates, Sends, Serves, contract}
 use Rattle.asp_model.specs.Shapes.{fault_shape, line_shape}
 use Rattle.asp_model.specs.declared.outcome.Line.{Line}
-use Rattle.program_code.specs.declared.code.Node.{Node}
-use Rattle.coded_cells.specs.Cells.{CodedStore}
-use Rattle.coded_cells.specs.Shapes.{store_of}
-use Rattle.activity_rows.specs.declared.decision.Decision.{Decision}
-use Rattle.activity_rows.specs.Decisions.{decided}
-use Rattle.machine_frames.specs.Standing.{Standing, view_of}
-use Rattle.machine_frames.specs.Views.{IsAlone}
+use Rattle.code_table.specs.declared.code.Node.{Node}
+use Rattle.code_table.specs.Cells.{CodedStore}
+use Rattle.code_table.specs.Shapes.{store_of}
+use Rattle.step_rows.specs.declared.decision.Decision.{Decision}
+use Rattle.step_rows.specs.Decisions.{decided}
+use Rattle.step_machine.specs.Standing.{Standing, view_of}
+use Rattle.step_machine.specs.Views.{IsAlone}
 use Rattle.activity_step.specs.declared.state.State.{State}
 use Rattle.activity_step.specs.declared.advance.Advance.{Advance}
 use Rattle.activity_step.specs.declared.advance.Advance.TheVariants as advance

@@ -1,13 +1,13 @@
 -- The redex that a node tells whose terms that are reduced in place are done.
 use Rattle.std.specs.Prelude.{◌≡◌, ℕ, Bool, true, false, List, [], ◌∷◌}
-use Rattle.program_code.specs.declared.code.Kind.{Kind}
-use Rattle.program_code.specs.declared.code.Kind.TheVariants as kind
-use Rattle.program_code.specs.Tables.{kind_head}
-use Rattle.activity_rows.specs.declared.redex.Redex.{Redex}
-use Rattle.activity_rows.specs.declared.redex.Redex.TheVariants as redex
-use Rattle.activity_rows.specs.Decisions.{value_redex}
-use Rattle.activity_rows.specs.Redexes.{IsRedex}
-use Rattle.machine_frames.specs.Rows.{is_simple}
+use Rattle.code_table.specs.declared.code.Kind.{Kind}
+use Rattle.code_table.specs.declared.code.Kind.TheVariants as kind
+use Rattle.code_table.specs.Tables.{kind_head}
+use Rattle.step_rows.specs.declared.redex.Redex.{Redex}
+use Rattle.step_rows.specs.declared.redex.Redex.TheVariants as redex
+use Rattle.step_rows.specs.Decisions.{value_redex}
+use Rattle.step_rows.specs.Redexes.{IsRedex}
+use Rattle.step_machine.specs.Rows.{is_simple}
 
 -- it contracts, whatever stands at its places
 abbrev pub goes : Kind → Bool

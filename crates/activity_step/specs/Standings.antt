@@ -9,9 +9,9 @@ use Rattle.asp_model.specs.Parcel.{ParcelShape, unpack, unpacked_roots}
 use Rattle.asp_model.specs.Configuration as model
 use Rattle.asp_model.specs.Configuration.{ServiceShape}
 use Rattle.asp_model.specs.Intent.{but_newest}
-use Rattle.program_code.specs.declared.code.Node.{Node}
-use Rattle.activity_rows.specs.declared.redex.Redex.{Redex}
-use Rattle.activity_rows.specs.Redexes.{IsRedex}
+use Rattle.code_table.specs.declared.code.Node.{Node}
+use Rattle.step_rows.specs.declared.redex.Redex.{Redex}
+use Rattle.step_rows.specs.Redexes.{IsRedex}
 use Rattle.activity_step.specs.declared.activity.Activity.{Activity}
 use Rattle.activity_step.specs.declared.standing.Standing.{Standing}
 use Rattle.activity_step.specs.declared.standing.Standing.TheVariants as standing

@@ -1,7 +1,7 @@
 -- Where an activity begins.
 use Rattle.std.specs.Prelude.{ℕ, []}
-use Rattle.machine_frames.specs.declared.frames.Focus.TheVariants as focus
-use Rattle.machine_frames.specs.Standing.{View}
+use Rattle.step_machine.specs.declared.frames.Focus.TheVariants as focus
+use Rattle.step_machine.specs.Standing.{View}
 
 -- at a node, in no frames and an empty environment
 abbrev pub start_view : ℕ → View

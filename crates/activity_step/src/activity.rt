@@ -11,9 +11,8 @@ ghost use Rattle.activity_step.specs.Advances.{Stands};
 use crate::advance::Advance;
 use crate::state::State;
 use asp_model::{FutureName, Line};
-use coded_cells::Place;
+use code_table::{Code, Place};
 use object_store::Store;
-use program_code::Code;
 use std::alloc::{AllocError, Global};
 use std::sync::Arc;
 

@@ -2,15 +2,15 @@
 
 ghost use Rattle.std.specs.Prelude.{◌≡◌, IfNone, IfSome, List};
 ghost use Rattle.asp_model.specs.Contraction.{Contraction};
-ghost use Rattle.program_code.specs.declared.code.Node.{Node as NodeShape};
-ghost use Rattle.coded_cells.specs.Cells.{CodedStore};
-ghost use Rattle.activity_rows.specs.Decisions.{decided};
+ghost use Rattle.code_table.specs.declared.code.Node.{Node as NodeShape};
+ghost use Rattle.code_table.specs.Cells.{CodedStore};
+ghost use Rattle.step_rows.specs.Decisions.{decided};
 ghost use Rattle.activity_step.specs.Advances.{IsStopped, IsTold};
 ghost use Rattle.activity_step.specs.declared.advance.Advance.TheVariants as advance;
 
-use activity_rows::Decision;
 use asp_model::Fault;
-use coded_cells::Place;
+use code_table::Place;
+use step_rows::Decision;
 
 /// What the redex of an activity comes to.
 #[derive(Clone, Copy)]

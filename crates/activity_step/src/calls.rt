@@ -7,25 +7,24 @@ ghost use Rattle.asp_model.specs.Contraction.{LineShape};
 ghost use Rattle.asp_model.specs.Names.{Text};
 ghost use Rattle.asp_model.specs.Store.{Store as StoreShape};
 ghost use Rattle.asp_model.specs.Term.{Active as ActiveHead, Tree};
-ghost use Rattle.program_code.specs.declared.code.Node.{Node as NodeShape};
-ghost use Rattle.activity_rows.specs.Decisions.{value_redex};
-ghost use Rattle.machine_frames.specs.declared.frames.Focus.TheVariants as focus;
-ghost use Rattle.machine_frames.specs.Rows.{IsAtRedex};
-ghost use Rattle.machine_frames.specs.Spreads.{IsAtCall};
-ghost use Rattle.machine_frames.specs.Stacks.{last};
-ghost use Rattle.machine_frames.specs.Standing.{view_of};
+ghost use Rattle.code_table.specs.declared.code.Node.{Node as NodeShape};
+ghost use Rattle.step_rows.specs.Decisions.{value_redex};
+ghost use Rattle.step_machine.specs.declared.frames.Focus.TheVariants as focus;
+ghost use Rattle.step_machine.specs.Rows.{IsAtRedex};
+ghost use Rattle.step_machine.specs.Spreads.{IsAtCall};
+ghost use Rattle.step_machine.specs.Stacks.{last};
+ghost use Rattle.step_machine.specs.Standing.{view_of};
 ghost use Rattle.activity_step.specs.Called.{IsCalled};
 ghost use Rattle.activity_step.specs.Advances.{IsAdvance, Stands};
 
 use crate::advance::Advance;
 use crate::state::State;
-use activity_rows::{Callee, Creation, active_row, callee_of, look};
 use asp_model::Label;
-use coded_cells::Place;
-use machine_frames::{Machine, Spread};
+use code_table::{Code, Place};
 use object_store::Store;
-use program_code::Code;
 use std::alloc::{AllocError, Global};
+use step_machine::{Machine, Spread};
+use step_rows::{Callee, Creation, active_row, callee_of, look};
 
 /// The first operand, and the others.
 #[inline(always)]

@@ -5,13 +5,13 @@ ghost use Rattle.asp_model.specs.Configuration.{Activity as ActivityShape};
 ghost use Rattle.asp_model.specs.Shapes.{future_shape};
 ghost use Rattle.asp_model.specs.Split.{Context, Redex, Splits, split};
 ghost use Rattle.asp_model.specs.Store.{Future as FutureCell, Reference as ReferenceCell};
-ghost use Rattle.coded_cells.specs.Shapes.{cell_shape};
+ghost use Rattle.code_table.specs.Shapes.{cell_shape};
 ghost use Rattle.activity_step.specs.Activities.{StandsFor, with_new_cell};
 ghost use Rattle.activity_step.specs.Standings.{code_of};
 
 use crate::activity::Activity;
 use asp_model::{ActivityName, FutureName};
-use coded_cells::Cell;
+use code_table::Cell;
 use std::alloc::{AllocError, Global};
 
 impl Activity {

@@ -6,20 +6,20 @@ ghost use Rattle.asp_model.specs.Configuration.{ServiceShape};
 ghost use Rattle.asp_model.specs.Contraction.{LineShape};
 ghost use Rattle.asp_model.specs.Store.{Store as StoreShape};
 ghost use Rattle.asp_model.specs.Term.{Tree};
-ghost use Rattle.program_code.specs.declared.code.Kind.TheVariants as kind;
-ghost use Rattle.program_code.specs.declared.code.Node.{Node as NodeShape};
-ghost use Rattle.machine_frames.specs.declared.frames.Focus.TheVariants as focus;
-ghost use Rattle.machine_frames.specs.Rows.{AtNode};
-ghost use Rattle.machine_frames.specs.Standing.{view_of};
+ghost use Rattle.code_table.specs.declared.code.Kind.TheVariants as kind;
+ghost use Rattle.code_table.specs.declared.code.Node.{Node as NodeShape};
+ghost use Rattle.step_machine.specs.declared.frames.Focus.TheVariants as focus;
+ghost use Rattle.step_machine.specs.Rows.{AtNode};
+ghost use Rattle.step_machine.specs.Standing.{view_of};
 ghost use Rattle.activity_step.specs.Advances.{IsAdvance, Stands};
 
 use crate::advance::Advance;
 use crate::reducing::node_in;
 use crate::state::State;
-use activity_rows::{Scattering, scatter_row};
-use machine_frames::{Spread, call_label};
-use program_code::Code;
+use code_table::Code;
 use std::alloc::{AllocError, Global};
+use step_machine::{Spread, call_label};
+use step_rows::{Scattering, scatter_row};
 
 impl State {
     /// `scatter(i, m, k)`.

@@ -5,23 +5,22 @@ ghost use Rattle.asp_model.specs.Configuration.{ServiceShape};
 ghost use Rattle.asp_model.specs.Contraction.{LineShape};
 ghost use Rattle.asp_model.specs.Store.{Store as StoreShape};
 ghost use Rattle.asp_model.specs.Term.{Echo as EchoHead, Group as GroupHead, Tree};
-ghost use Rattle.program_code.specs.Classes.{class_at, class_of};
-ghost use Rattle.program_code.specs.Sound.{IsSound};
-ghost use Rattle.program_code.specs.declared.code.Node.{Node as NodeShape};
+ghost use Rattle.code_table.specs.Classes.{class_at, class_of};
+ghost use Rattle.code_table.specs.Sound.{IsSound};
+ghost use Rattle.code_table.specs.declared.code.Node.{Node as NodeShape};
 ghost use Rattle.code_laws.specs.Places.{captured_places, kept_places};
-ghost use Rattle.activity_rows.specs.Decisions.{value_redex};
-ghost use Rattle.machine_frames.specs.Rows.{AtNode, IsAtRedex};
-ghost use Rattle.machine_frames.specs.Stacks.{last};
-ghost use Rattle.machine_frames.specs.Standing.{view_of};
+ghost use Rattle.step_rows.specs.Decisions.{value_redex};
+ghost use Rattle.step_machine.specs.Rows.{AtNode, IsAtRedex};
+ghost use Rattle.step_machine.specs.Stacks.{last};
+ghost use Rattle.step_machine.specs.Standing.{view_of};
 ghost use Rattle.activity_step.specs.Advances.{IsAdvance, Stands};
 
 use crate::advance::Advance;
 use crate::state::State;
 use asp_model::{Line, Word};
-use coded_cells::{Cell, Object, Place};
-use machine_frames::Machine;
-use program_code::{Capture, Class, EMPTY_NUMBER, MethodCode};
+use code_table::{Capture, Cell, Class, EMPTY_NUMBER, MethodCode, Object, Place};
 use std::alloc::{AllocError, Global};
+use step_machine::Machine;
 
 fn push_captured(
     machine: &Machine,

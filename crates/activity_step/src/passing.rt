@@ -4,13 +4,13 @@ ghost use Rattle.std.specs.Prelude.{◌≡◌, ◌<◌, Err, IfOk, OnErr, OnOk, 
 ghost use Rattle.std.specs.Arc.{arc_value};
 ghost use Rattle.asp_model.specs.Configuration.{Activity as ActivityShape};
 ghost use Rattle.asp_model.specs.Parcel.{parcel_of, unpack_at as unpacked_at};
-ghost use Rattle.coded_cells.specs.Shapes.{parcel_shape, store_of};
-ghost use Rattle.laws.specs.Closed.{AreBelow, IsClosedParcel, IsClosedStore, IsClosedValue};
+ghost use Rattle.code_table.specs.Shapes.{parcel_shape, store_of};
+ghost use Rattle.law_steps.specs.Closed.{AreBelow, IsClosedParcel, IsClosedStore, IsClosedValue};
 ghost use Rattle.activity_step.specs.Activities.{StandsFor};
 ghost use Rattle.activity_step.specs.Standings.{code_of};
 
 use crate::activity::Activity;
-use coded_cells::{Parcel, Place};
+use code_table::{Parcel, Place};
 use deep_copy::unpack_at;
 use std::alloc::{AllocError, Global};
 

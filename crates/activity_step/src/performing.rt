@@ -3,16 +3,16 @@
 ghost use Rattle.std.specs.Prelude.{◌≡◌, ◌++◌, ◌∷◌, [], IfOk, List, length, map};
 ghost use Rattle.asp_model.specs.Shapes.{line_shape};
 ghost use Rattle.asp_model.specs.Contraction.{NumberLine};
-ghost use Rattle.program_code.specs.declared.code.Node.{Node as NodeShape};
-ghost use Rattle.coded_cells.specs.Cells.{Group as group_of, Object as object_with, coded};
-ghost use Rattle.activity_rows.specs.declared.decision.Decision.TheVariants as decision;
+ghost use Rattle.code_table.specs.declared.code.Node.{Node as NodeShape};
+ghost use Rattle.code_table.specs.Cells.{Group as group_of, Object as object_with, coded};
+ghost use Rattle.step_rows.specs.declared.decision.Decision.TheVariants as decision;
 ghost use Rattle.activity_step.specs.Advances.{IsPerformed};
 
-use activity_rows::{Decision, look};
 use asp_model::Line;
-use coded_cells::{Cell, Object, Place};
+use code_table::{Cell, Object, Place};
 use object_store::Store;
 use std::alloc::{AllocError, Global};
+use step_rows::{Decision, look};
 
 /// The same cell.
 fn copy_of(alloc: Global, cell: &Cell) -> Result<Cell, AllocError>

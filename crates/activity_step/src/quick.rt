@@ -7,16 +7,16 @@ ghost use Rattle.asp_model.specs.Names.{Text};
 ghost use Rattle.asp_model.specs.Store.{Store as StoreShape};
 ghost use Rattle.asp_model.specs.Term.{Tree};
 ghost use Rattle.code_laws.specs.Nodes.{in_place};
-ghost use Rattle.program_code.specs.Classes.{class_at, class_of};
-ghost use Rattle.program_code.specs.Tables.{kind_head};
-ghost use Rattle.program_code.specs.declared.code.Kind.TheVariants as kind;
-ghost use Rattle.program_code.specs.declared.code.Node.{Node as NodeShape};
-ghost use Rattle.activity_rows.specs.Decisions.{value_redex};
-ghost use Rattle.machine_frames.specs.declared.frames.Focus.TheVariants as focus;
-ghost use Rattle.machine_frames.specs.Rows.{AtNode, IsAtRedex};
-ghost use Rattle.machine_frames.specs.Sites.{IsBefore};
-ghost use Rattle.machine_frames.specs.Stacks.{last, piece_from};
-ghost use Rattle.machine_frames.specs.Standing.{view_of};
+ghost use Rattle.code_table.specs.Classes.{class_at, class_of};
+ghost use Rattle.code_table.specs.Tables.{kind_head};
+ghost use Rattle.code_table.specs.declared.code.Kind.TheVariants as kind;
+ghost use Rattle.code_table.specs.declared.code.Node.{Node as NodeShape};
+ghost use Rattle.step_rows.specs.Decisions.{value_redex};
+ghost use Rattle.step_machine.specs.declared.frames.Focus.TheVariants as focus;
+ghost use Rattle.step_machine.specs.Rows.{AtNode, IsAtRedex};
+ghost use Rattle.step_machine.specs.Sites.{IsBefore};
+ghost use Rattle.step_machine.specs.Stacks.{last, piece_from};
+ghost use Rattle.step_machine.specs.Standing.{view_of};
 ghost use Rattle.activity_step.specs.declared.state.State.{State as StateShape};
 ghost use Rattle.activity_step.specs.Advances.{IsAdvance, IsTaken, Reduced, Stands};
 
@@ -25,10 +25,10 @@ use crate::advance::Advance;
 use crate::performing::add_number;
 use crate::reducing::node_in;
 use crate::state::State;
-use activity_rows::Decision;
-use machine_frames::{Focus, Site};
-use program_code::{Class, Code, Kind, Node};
+use code_table::{Class, Code, Kind, Node};
 use std::alloc::{AllocError, Global};
+use step_machine::{Focus, Site};
+use step_rows::Decision;
 
 /// Whether a contraction was taken.
 #[inline(always)]

@@ -5,23 +5,23 @@ ghost use Rattle.asp_model.specs.Configuration.{ServiceShape};
 ghost use Rattle.asp_model.specs.Contraction.{LineShape};
 ghost use Rattle.asp_model.specs.Store.{Store as StoreShape};
 ghost use Rattle.asp_model.specs.Term.{Tree};
-ghost use Rattle.program_code.specs.Classes.{class_at, class_of};
-ghost use Rattle.program_code.specs.Sound.{IsSound};
-ghost use Rattle.program_code.specs.Tables.{kind_head, node_piece, piece_at, pieces};
+ghost use Rattle.code_table.specs.Classes.{class_at, class_of};
+ghost use Rattle.code_table.specs.Sound.{IsSound};
+ghost use Rattle.code_table.specs.Tables.{kind_head, node_piece, piece_at, pieces};
 ghost use Rattle.code_laws.specs.Nodes.{in_place, operand_count};
-ghost use Rattle.activity_rows.specs.Decisions.{value_redex};
-ghost use Rattle.machine_frames.specs.declared.frames.Focus.TheVariants as focus;
-ghost use Rattle.machine_frames.specs.Rows.{IsAtRedex};
-ghost use Rattle.machine_frames.specs.Stacks.{last, piece_from};
-ghost use Rattle.machine_frames.specs.Standing.{view_of};
+ghost use Rattle.step_rows.specs.Decisions.{value_redex};
+ghost use Rattle.step_machine.specs.declared.frames.Focus.TheVariants as focus;
+ghost use Rattle.step_machine.specs.Rows.{IsAtRedex};
+ghost use Rattle.step_machine.specs.Stacks.{last, piece_from};
+ghost use Rattle.step_machine.specs.Standing.{view_of};
 ghost use Rattle.activity_step.specs.Advances.{IsAdvance, Stands};
 
 use crate::advance::Advance;
 use crate::state::State;
-use activity_rows::Decision;
-use machine_frames::{Focus, node_at};
-use program_code::{Code, Kind, Node};
+use code_table::{Code, Kind, Node};
 use std::alloc::{AllocError, Global};
+use step_machine::{Focus, node_at};
+use step_rows::Decision;
 
 /// The node with a number.
 #[inline(always)]

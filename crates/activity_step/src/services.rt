@@ -19,17 +19,16 @@ ghost use Rattle.asp_model.specs.Configuration.{Activity as ActivityShape, Servi
 ghost use Rattle.asp_model.specs.Intent.{newest};
 ghost use Rattle.asp_model.specs.Shapes.{future_shape};
 ghost use Rattle.asp_model.specs.Split.{Context, Redex, Splits, Stands, split};
-ghost use Rattle.coded_cells.specs.Shapes.{parcel_shape};
-ghost use Rattle.laws.specs.Closed.{IsClosedParcel};
+ghost use Rattle.code_table.specs.Shapes.{parcel_shape};
+ghost use Rattle.law_steps.specs.Closed.{IsClosedParcel};
 ghost use Rattle.activity_step.specs.Activities.{StandsFor};
 ghost use Rattle.activity_step.specs.Standings.{code_of, going_on, serving};
 
 use crate::activity::Activity;
 use crate::starting::code_is_sound;
 use asp_model::{FutureName, Label};
-use coded_cells::Parcel;
+use code_table::{EMPTY_NUMBER, Parcel};
 use deep_copy::unpack;
-use program_code::EMPTY_NUMBER;
 use std::alloc::{AllocError, Global};
 use std::mem;
 

@@ -13,9 +13,9 @@ ghost use Rattle.std.specs.Prelude.{
   true,
 };
 ghost use Rattle.asp_model.specs.Configuration.{Activity as ActivityShape};
-ghost use Rattle.program_code.specs.declared.code.Node.{Node as NodeShape};
-ghost use Rattle.machine_frames.specs.declared.frames.Focus.TheVariants as focus;
-ghost use Rattle.machine_frames.specs.Standing.{Standing as IsStanding, View, view_of};
+ghost use Rattle.code_table.specs.declared.code.Node.{Node as NodeShape};
+ghost use Rattle.step_machine.specs.declared.frames.Focus.TheVariants as focus;
+ghost use Rattle.step_machine.specs.Standing.{Standing as IsStanding, View, view_of};
 ghost use Rattle.activity_step.specs.Activities.{StandsFor};
 ghost use Rattle.activity_step.specs.Shown.{IsShown};
 ghost use Rattle.activity_step.specs.Standings.{IsAt, IsStandingAt, code_of};
@@ -23,11 +23,10 @@ ghost use Rattle.activity_step.specs.Standings.{IsAt, IsStandingAt, code_of};
 use crate::activity::Activity;
 use crate::calls::first_and_others;
 use crate::reducing::node_in;
-use activity_rows::Redex;
-use coded_cells::Place;
-use machine_frames::{Focus, Machine, Spread, call_label, have_results, in_place_count};
-use program_code::{Code, Kind};
+use code_table::{Code, Kind, Place};
 use std::alloc::AllocError;
+use step_machine::{Focus, Machine, Spread, call_label, have_results, in_place_count};
+use step_rows::Redex;
 
 /// Where an activity stands.
 #[derive(Clone, Copy)]

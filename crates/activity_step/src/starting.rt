@@ -8,14 +8,14 @@ ghost use Rattle.asp_model.specs.Intent.{start_term};
 ghost use Rattle.asp_model.specs.Parcel.{unpack as unpacked_in};
 ghost use Rattle.asp_model.specs.Store.{Object as ObjectCell, Store as StoreShape};
 ghost use Rattle.asp_model.specs.Term.{Tree};
-ghost use Rattle.program_code.specs.Pieces.{tree};
-ghost use Rattle.program_code.specs.Sound.{IsSound, root_of};
-ghost use Rattle.program_code.specs.Tables.{piece_at, pieces};
-ghost use Rattle.program_code.specs.declared.code.Node.{Node as NodeShape};
-ghost use Rattle.machine_frames.specs.Services.{asked_view};
-ghost use Rattle.machine_frames.specs.Standing.{Standing, view_of};
-ghost use Rattle.coded_cells.specs.Cells.{Object as ObjectCoded};
-ghost use Rattle.coded_cells.specs.Shapes.{parcel_shape, store_of};
+ghost use Rattle.code_table.specs.Pieces.{tree};
+ghost use Rattle.code_table.specs.Sound.{IsSound, root_of};
+ghost use Rattle.code_table.specs.Tables.{piece_at, pieces};
+ghost use Rattle.code_table.specs.declared.code.Node.{Node as NodeShape};
+ghost use Rattle.step_machine.specs.Services.{asked_view};
+ghost use Rattle.step_machine.specs.Standing.{Standing, view_of};
+ghost use Rattle.code_table.specs.Cells.{Object as ObjectCoded};
+ghost use Rattle.code_table.specs.Shapes.{parcel_shape, store_of};
 ghost use Rattle.activity_step.specs.Activities.{StandsFor};
 ghost use Rattle.activity_step.specs.Starting.{start_view};
 ghost use Rattle.activity_step.specs.Standings.{code_of};
@@ -23,13 +23,12 @@ ghost use Rattle.activity_step.specs.Standings.{code_of};
 use crate::activity::Activity;
 use crate::state::State;
 use asp_model::{Label, Word};
-use coded_cells::{Cell, Object, Parcel};
+use code_table::{Cell, Code, EMPTY_NUMBER, Object, Parcel, SERVICE_NUMBER};
 use deep_copy::unpack_alone;
-use machine_frames::{Focus, Machine};
 use object_store::Store;
-use program_code::{Code, EMPTY_NUMBER, SERVICE_NUMBER};
 use std::alloc::{AllocError, Global};
 use std::sync::Arc;
+use step_machine::{Focus, Machine};
 
 /// A machine that looks at a node, in no frames and an empty environment.
 fn machine_at(alloc: Global, number: usize) -> Machine

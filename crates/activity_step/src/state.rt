@@ -1,8 +1,8 @@
 //! The state of an activity that contractions change.
 
 use asp_model::Line;
-use machine_frames::Machine;
 use object_store::Store;
+use step_machine::Machine;
 
 /// Its term, its store, and its output in order.
 #[derive(Drop)]

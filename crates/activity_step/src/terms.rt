@@ -6,21 +6,20 @@ ghost use Rattle.asp_model.specs.Contraction.{LineShape};
 ghost use Rattle.asp_model.specs.Names.{Text};
 ghost use Rattle.asp_model.specs.Store.{Number as NumberCell, Store as StoreShape, cell as cell_in};
 ghost use Rattle.asp_model.specs.Term.{Tree};
-ghost use Rattle.program_code.specs.declared.code.Kind.TheVariants as kind;
-ghost use Rattle.program_code.specs.declared.code.Node.{Node as NodeShape};
-ghost use Rattle.coded_cells.specs.Shapes.{store_of};
-ghost use Rattle.machine_frames.specs.Rows.{AtNode, chosen};
-ghost use Rattle.machine_frames.specs.Stacks.{last};
-ghost use Rattle.machine_frames.specs.Standing.{view_of};
+ghost use Rattle.code_table.specs.declared.code.Kind.TheVariants as kind;
+ghost use Rattle.code_table.specs.declared.code.Node.{Node as NodeShape};
+ghost use Rattle.code_table.specs.Shapes.{store_of};
+ghost use Rattle.step_machine.specs.Rows.{AtNode, chosen};
+ghost use Rattle.step_machine.specs.Stacks.{last};
+ghost use Rattle.step_machine.specs.Standing.{view_of};
 ghost use Rattle.activity_step.specs.Advances.{IsAdvance, Stands};
 
 use crate::advance::Advance;
 use crate::state::State;
-use activity_rows::{Test, one, test_row};
-use coded_cells::Place;
-use machine_frames::child_at;
-use program_code::{Code, Node};
+use code_table::{Code, Node, Place};
 use std::alloc::{AllocError, Global};
+use step_machine::child_at;
+use step_rows::{Test, one, test_row};
 
 impl State {
     /// The one operand of the redex.

@@ -6,21 +6,21 @@ ghost use Rattle.asp_model.specs.Contraction.{LineShape, contract};
 ghost use Rattle.asp_model.specs.Split.{Redex};
 ghost use Rattle.asp_model.specs.Store.{Store as StoreShape};
 ghost use Rattle.asp_model.specs.Term.{Tree};
-ghost use Rattle.program_code.specs.Tables.{kind_head};
-ghost use Rattle.program_code.specs.declared.code.Node.{Node as NodeShape};
-ghost use Rattle.coded_cells.specs.Shapes.{store_of};
-ghost use Rattle.activity_rows.specs.Decisions.{decided, value_redex};
-ghost use Rattle.machine_frames.specs.Rows.{IsAtRedex};
-ghost use Rattle.machine_frames.specs.Stacks.{last};
-ghost use Rattle.machine_frames.specs.Standing.{view_of};
+ghost use Rattle.code_table.specs.Tables.{kind_head};
+ghost use Rattle.code_table.specs.declared.code.Node.{Node as NodeShape};
+ghost use Rattle.code_table.specs.Shapes.{store_of};
+ghost use Rattle.step_rows.specs.Decisions.{decided, value_redex};
+ghost use Rattle.step_machine.specs.Rows.{IsAtRedex};
+ghost use Rattle.step_machine.specs.Stacks.{last};
+ghost use Rattle.step_machine.specs.Standing.{view_of};
 ghost use Rattle.activity_step.specs.Advances.{IsAdvance, Stands};
 
 use crate::advance::{Advance, stop_of};
 use crate::performing::perform;
 use crate::state::State;
-use activity_rows::{Decision, decide};
-use program_code::{Code, Kind};
+use code_table::{Code, Kind};
 use std::alloc::{AllocError, Global};
+use step_rows::{Decision, decide};
 
 impl State {
     /// Does what the redex of the last operands comes to, or tells it.

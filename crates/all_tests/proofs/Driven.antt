@@ -5,7 +5,7 @@ use Rattle.asp_core.specs.declared.cores.Core.{Core}
 use Rattle.asp_core.specs.Cores.{IsKept}
 use Rattle.core_drives.specs.Driven.{IsDriven}
 use Rattle.core_drives.specs.Steps.{StepShape}
-use Rattle.core_runs.specs.Over.{IsOver}
+use Rattle.asp_core.specs.Over.{IsOver}
 
 module _ {P : Type 0} where
   pub driven_kept : (program : Tree) (budget : ℕ) (steps : List StepShape) (x : Core P) → IsDriven program budget steps x → IsKept x

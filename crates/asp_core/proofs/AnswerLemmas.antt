@@ -4,7 +4,7 @@ use Rattle.std.proofs.lemmas.List.{length-append}
 use Rattle.asp_model.specs.History.{ChoiceShape}
 use Rattle.asp_model.specs.Names.{FutureShape, same_future}
 use Rattle.asp_model.specs.Shapes.{future_shape}
-use Rattle.journals.specs.Edges.{EdgeShape}
+use Rattle.def_journals.specs.Edges.{EdgeShape}
 use Rattle.update_policy.specs.declared.strategy.Policies.{Policies}
 use Rattle.update_policy.specs.declared.strategy.Strategy.{Strategy}
 use Rattle.std.specs.Map.{lookup}

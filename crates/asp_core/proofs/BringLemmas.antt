@@ -7,25 +7,25 @@ use Rattle.asp_model.specs.History.{Committed, HistoryShape}
 use Rattle.asp_model.specs.Intent.{Effect, Intent, intent}
 use Rattle.asp_model.specs.Names.{FutureShape, Name, name_cmp}
 use Rattle.asp_model.specs.Step.{with_effect}
-use Rattle.journals.specs.Communications.{is_communication}
-use Rattle.journals.specs.Edges.{after_events}
-use Rattle.journals.specs.Journals.{RunShape}
-use Rattle.journals.specs.Owed.{need_of, need_to}
-use Rattle.journals.specs.Passing.{effect_events, entry_events}
-use Rattle.chase_laws.proofs.MapLemmas as Maps
-use Rattle.laws.proofs.NameLemmas.{name_same, name_total}
-use Rattle.chase_laws.proofs.FutureLemmas.{no_some}
-use Rattle.program_code.specs.declared.code.Node.{Node}
+use Rattle.def_journals.specs.Communications.{is_communication}
+use Rattle.def_journals.specs.Edges.{after_events}
+use Rattle.def_journals.specs.Journals.{RunShape}
+use Rattle.def_journals.specs.Owed.{need_of, need_to}
+use Rattle.def_journals.specs.Passing.{effect_events, entry_events}
+use Rattle.law_chases.proofs.MapLemmas as Maps
+use Rattle.law_steps.proofs.NameLemmas.{name_same, name_total}
+use Rattle.law_chases.proofs.FutureLemmas.{no_some}
+use Rattle.code_table.specs.declared.code.Node.{Node}
 use Rattle.future_update.specs.Holders.{IsTurned}
 use Rattle.core_edges.specs.declared.edges.Edges.{Edges}
 use Rattle.core_edges.specs.Labels.{AreByLabels}
 use Rattle.core_edges.specs.Strategies.{KeepsEdges}
-use Rattle.core_laws.specs.Commits.{HasRun, made_by, returned, with_activity}
-use Rattle.core_laws.proofs.EventLemmas.{acts_are_events, runs_are_silent}
+use Rattle.law_core.specs.Commits.{HasRun, made_by, returned, with_activity}
+use Rattle.law_core.proofs.EventLemmas.{acts_are_events, runs_are_silent}
 use Rattle.core_state.specs.declared.state.CoreState.{CoreState}
 use Rattle.core_state.specs.Cores.{with_entry}
-use Rattle.core_commits.specs.Arrivals.{act_at}
-use Rattle.core_commits.specs.Commits.{act_by, act_of, act_within}
+use Rattle.core_state.specs.Arrivals.{act_at}
+use Rattle.core_state.specs.Commits.{act_by, act_of, act_within}
 use Rattle.asp_core.specs.Bringing.{IsBroughtBack, IsCome, IsComeBy}
 use Rattle.asp_core.specs.Runs.{Stand, counted}
 use Rattle.asp_core.proofs.PlanLemmas.{labels_kept}

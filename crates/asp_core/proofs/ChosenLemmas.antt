@@ -6,16 +6,16 @@ use Rattle.asp_model.specs.History.{ChoiceShape, Committed, Delivered, DeliveryS
 use Rattle.asp_model.specs.Names.{FutureShape, Name, same_future, same_name}
 use Rattle.asp_model.specs.Status.{VerdictShape}
 use Rattle.asp_model.specs.Status as status
-use Rattle.journals.specs.Edges.{Begins, Delivers, EdgeShape, Event, Fills, HoldersShape, Passes, Receives, after_event, after_events, has_edge, has_filled, has_received, has_value, home_of, is_chosen, is_home, is_no_edge, is_owed, with_edge, with_edges, with_held, with_received}
-use Rattle.journal_laws.specs.EdgesKept.{IsKnownEdge}
-use Rattle.journals.specs.Journals.{RunShape, grant_of, is_in}
-use Rattle.journals.specs.Owed.{first_edge, first_need, goes_on, is_any, need_delivery, need_to, next_owed, or_else}
-use Rattle.journals.specs.Passing.{entry_events}
-use Rattle.chase_laws.proofs.FutureLemmas.{no_some, none_true, some_is}
-use Rattle.laws.specs.Linked.{Each}
-use Rattle.laws.proofs.EachLemmas.{each_both, each_weaker}
-use Rattle.lease_laws.proofs.GrowingLemmas.{holders_go_on}
-use Rattle.marked_places.proofs.LanesLemmas.{get_append}
+use Rattle.def_journals.specs.Edges.{Begins, Delivers, EdgeShape, Event, Fills, HoldersShape, Passes, Receives, after_event, after_events, has_edge, has_filled, has_received, has_value, home_of, is_chosen, is_home, is_no_edge, is_owed, with_edge, with_edges, with_held, with_received}
+use Rattle.law_journals.specs.EdgesKept.{IsKnownEdge}
+use Rattle.def_journals.specs.Journals.{RunShape, grant_of, is_in}
+use Rattle.def_journals.specs.Owed.{first_edge, first_need, goes_on, is_any, need_delivery, need_to, next_owed, or_else}
+use Rattle.def_journals.specs.Passing.{entry_events}
+use Rattle.law_chases.proofs.FutureLemmas.{no_some, none_true, some_is}
+use Rattle.law_steps.specs.Linked.{Each}
+use Rattle.law_steps.proofs.EachLemmas.{each_both, each_weaker}
+use Rattle.law_journals.proofs.GrowingLemmas.{holders_go_on}
+use Rattle.core_sets.proofs.LanesLemmas.{get_append}
 use Rattle.update_policy.specs.declared.strategy.Policies.{Policies}
 use Rattle.update_policy.specs.declared.strategy.Strategy.{Strategy}
 use Rattle.core_edges.specs.Answers.{Answering, AreAsked, Counting}
@@ -24,7 +24,7 @@ use Rattle.asp_core.specs.Calls.{HasEntered, verdict_of}
 use Rattle.asp_core.specs.Chosen.{AlwaysLeaves, AreChosen, ChosenAreDelivered, DeliversChosen, IsAlongNoEdge, IsChosen, IsChosenDelivery, IsChosenEntry, LazyDeliversNothing, StaysChosen}
 use Rattle.asp_core.specs.Cores.{IsRun, code_of, entries_of, history_of}
 use Rattle.asp_core.specs.Runs.{holders_left}
-use Rattle.verdict_laws.proofs.OwedLemmas.{in_named}
+use Rattle.law_core.proofs.OwedLemmas.{in_named}
 use Rattle.asp_core.proofs.DueLemmas.{each_got}
 use Rattle.asp_core.proofs.EndLemmas.{home}
 use Rattle.asp_core.proofs.StandLemmas.{known, numbered}

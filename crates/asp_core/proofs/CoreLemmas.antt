@@ -3,8 +3,8 @@ use Rattle.std.proofs.Common.{◌≡◌, ◌∙◌, ◌∷◌, [], true, false, 
 use Rattle.std.proofs.lemmas.List.{append-nil}
 use Rattle.std.specs.Arc.{arc_value}
 use Rattle.asp_model.specs.History.{BeginsWith, EntryShape, HistoryShape}
-use Rattle.journals.specs.Journals.{RunShape}
-use Rattle.chase_laws.proofs.FutureLemmas.{none_true}
+use Rattle.def_journals.specs.Journals.{RunShape}
+use Rattle.law_chases.proofs.FutureLemmas.{none_true}
 use Rattle.core_edges.specs.Labels.{AreByLabels}
 use Rattle.core_state.specs.Cores.{program_of, with_entry}
 use Rattle.asp_core.specs.declared.cores.Core.{Core}

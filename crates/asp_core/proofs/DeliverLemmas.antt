@@ -7,27 +7,27 @@ use Rattle.asp_model.specs.declared.journal.Delivery.{Delivery}
 use Rattle.asp_model.specs.Configuration.{Configuration}
 use Rattle.asp_model.specs.History.{DeliveryShape, Edge, HistoryShape, Need}
 use Rattle.asp_model.specs.Names.{FutureShape, Name, future_cmp, name_cmp}
-use Rattle.journals.specs.Deliveries.{edge_delivered, need_delivered}
-use Rattle.journals.specs.Edges.{HoldersShape, has_filled}
-use Rattle.journals.specs.Journals.{RunShape, is_in, over}
-use Rattle.journals.specs.Owed.{next_owed}
-use Rattle.chase_laws.proofs.ChaseLemmas.{chase_finds}
-use Rattle.laws.proofs.DeliveryLemmas.{edge_done, need_done}
-use Rattle.chase_laws.proofs.FutureLemmas.{none_true}
-use Rattle.program_code.specs.declared.code.Node.{Node}
+use Rattle.def_journals.specs.Deliveries.{edge_delivered, need_delivered}
+use Rattle.def_journals.specs.Edges.{HoldersShape, has_filled}
+use Rattle.def_journals.specs.Journals.{RunShape, is_in, over}
+use Rattle.def_journals.specs.Owed.{next_owed}
+use Rattle.law_chases.proofs.ChaseLemmas.{chase_finds}
+use Rattle.law_steps.proofs.DeliveryLemmas.{edge_done, need_done}
+use Rattle.law_chases.proofs.FutureLemmas.{none_true}
+use Rattle.code_table.specs.declared.code.Node.{Node}
 use Rattle.future_update.specs.declared.edge.EdgeNames.{EdgeNames}
 use Rattle.future_update.specs.Holders.{HoldersView}
 use Rattle.future_update.specs.Names.{delivery_along, edge_named}
-use Rattle.edge_laws.proofs.RunLemmas.{holders_are_of_runs}
-use Rattle.verdict_laws.specs.Owed.{IsNeed}
-use Rattle.verdict_laws.proofs.OwedLemmas.{edges_are_first, edges_are_next, needs_are_first}
-use Rattle.rank_laws.specs.Runs.{rank_of_number}
-use Rattle.activity_ranks.specs.Numbers.{IsFirst, has_number}
-use Rattle.activity_ranks.specs.Ranks.{has_need}
+use Rattle.law_journals.proofs.RunLemmas.{holders_are_of_runs}
+use Rattle.law_core.specs.Owed.{IsNeed}
+use Rattle.law_core.proofs.OwedLemmas.{edges_are_first, edges_are_next, needs_are_first}
+use Rattle.law_core.specs.Runs.{rank_of_number}
+use Rattle.core_ranks.specs.Numbers.{IsFirst, has_number}
+use Rattle.core_ranks.specs.Ranks.{has_need}
 use Rattle.core_state.specs.declared.state.CoreState.{CoreState}
-use Rattle.core_deliveries.specs.Due.{AreOfRun}
-use Rattle.core_deliveries.proofs.DueLemmas.{owed_may_be_delivered}
-use Rattle.core_deliveries.proofs.NextLemmas.{is_need, owing}
+use Rattle.core_state.specs.Due.{AreOfRun}
+use Rattle.core_state.proofs.DueLemmas.{owed_may_be_delivered}
+use Rattle.core_state.proofs.NextLemmas.{is_need, owing}
 use Rattle.core_edges.specs.Deliveries.{future_of}
 use Rattle.core_edges.specs.Due.{IsDue}
 use Rattle.asp_core.specs.Calls.{MayDeliver}

@@ -2,20 +2,20 @@
 use Rattle.std.proofs.Common.{◌≡◌, ◌&&◌, ℕ, zero, suc, not, List, [], ◌∷◌, Option, Some, None, is_some, is_none, slice_get, refl, sym, ap, subst, ◌∙◌, arith}
 use Rattle.std.specs.Option.{option_map}
 use Rattle.asp_model.specs.Names.{Name}
-use Rattle.journals.specs.Edges.{EdgeShape, owed_at}
-use Rattle.journals.specs.Journals.{RunShape, grant_of, is_in}
-use Rattle.journals.specs.Owed.{first_edge}
-use Rattle.journal_laws.specs.EdgesKept.{IsKnownEdge}
-use Rattle.chase_laws.proofs.FutureLemmas.{no_some, some_is}
-use Rattle.laws.specs.Linked.{Each}
-use Rattle.laws.specs.Reached.{IsThere}
-use Rattle.lease_laws.specs.Numbered.{AreNumbered}
+use Rattle.def_journals.specs.Edges.{EdgeShape, owed_at}
+use Rattle.def_journals.specs.Journals.{RunShape, grant_of, is_in}
+use Rattle.def_journals.specs.Owed.{first_edge}
+use Rattle.law_journals.specs.EdgesKept.{IsKnownEdge}
+use Rattle.law_chases.proofs.FutureLemmas.{no_some, some_is}
+use Rattle.law_steps.specs.Linked.{Each}
+use Rattle.law_steps.specs.Reached.{IsThere}
+use Rattle.law_journals.specs.Numbered.{AreNumbered}
 use Rattle.future_update.specs.declared.edge.EdgeNames.{EdgeNames}
 use Rattle.future_update.specs.Names.{delivery_along, edge_named}
 use Rattle.future_update.specs.Holders.{HoldersView, is_out, is_receiver_out, owed_to_one_in}
 use Rattle.core_edges.specs.Due.{IsDue}
-use Rattle.verdict_laws.specs.Owed.{is_due, is_in_to}
-use Rattle.verdict_laws.proofs.OwedLemmas.{edges_are_first, in_named}
+use Rattle.law_core.specs.Owed.{is_due, is_in_to}
+use Rattle.law_core.proofs.OwedLemmas.{edges_are_first, in_named}
 use Rattle.asp_core.specs.Runs.{AreToldOut}
 
 pub each_got : {X : Type 0} (P : X → Type 0) (xs : List X) (p : ℕ) (x : X) → Each P xs → slice_get xs p ≡ Some x → P x

@@ -3,10 +3,10 @@ use Rattle.std.proofs.Common.{◌≡◌, ◌∙◌, ◌∷◌, ◌||◌, Bool, t
 use Rattle.std.specs.Option.{option_map}
 use Rattle.asp_model.specs.History.{HistoryShape}
 use Rattle.asp_model.specs.Status.{verdict_of}
-use Rattle.journals.specs.Journals.{RunShape}
-use Rattle.journals.specs.Owed.{first_edge, goes_on, is_any, next_owed, verdict_told}
-use Rattle.chase_laws.proofs.FutureLemmas.{none_true}
-use Rattle.program_code.specs.declared.code.Node.{Node}
+use Rattle.def_journals.specs.Journals.{RunShape}
+use Rattle.def_journals.specs.Owed.{first_edge, goes_on, is_any, next_owed, verdict_told}
+use Rattle.law_chases.proofs.FutureLemmas.{none_true}
+use Rattle.code_table.specs.declared.code.Node.{Node}
 use Rattle.future_update.specs.declared.edge.EdgeNames.{EdgeNames}
 use Rattle.future_update.specs.Names.{delivery_along, edge_named}
 use Rattle.future_update.specs.Holders.{HoldersView}

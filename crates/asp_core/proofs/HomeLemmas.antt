@@ -3,13 +3,13 @@ use Rattle.std.proofs.Common.{◌≡◌, ◌∙◌, ◌==◌, ◌&&◌, ◌+◌,
 use Rattle.asp_model.specs.History.{Committed, Delivered, EntryShape, Lent}
 use Rattle.asp_model.specs.Names.{Name}
 use Rattle.asp_model.specs.Step.{name_at}
-use Rattle.journals.specs.Journals.{RunShape, grant_of}
-use Rattle.chase_laws.proofs.FutureLemmas.{no_some, none_true, some_is}
-use Rattle.lease_laws.specs.Leases.{burst_from, burst_out, bursts_in, stays_out}
-use Rattle.lease_laws.proofs.BurstLemmas.{leases_are_one}
+use Rattle.def_journals.specs.Journals.{RunShape, grant_of}
+use Rattle.law_chases.proofs.FutureLemmas.{no_some, none_true, some_is}
+use Rattle.law_journals.specs.Leases.{burst_from, burst_out, bursts_in, stays_out}
+use Rattle.law_journals.proofs.BurstLemmas.{leases_are_one}
 use Rattle.request_queue.specs.declared.request.Request.{Request}
-use Rattle.activity_seats.specs.Seats.{In, Out, SeatShape, seat_at}
-use Rattle.actor.specs.declared.actor.Actor.{Actor}
+use Rattle.core_seats.specs.Seats.{In, Out, SeatShape, seat_at}
+use Rattle.step_activity.specs.declared.actor.Actor.{Actor}
 use Rattle.core_state.specs.Cores.{IsSeated}
 use Rattle.asp_core.specs.declared.cores.Core.{Core}
 use Rattle.asp_core.specs.Cores.{IsHome, IsRun, code_of, entries_of, history_of}

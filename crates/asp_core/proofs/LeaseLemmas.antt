@@ -6,22 +6,22 @@ use Rattle.asp_model.specs.History.{HistoryShape}
 use Rattle.asp_model.specs.Intent.{Effect}
 use Rattle.asp_model.specs.Names.{Name}
 use Rattle.asp_model.specs.Step.{name_at}
-use Rattle.journals.specs.Journals.{RunShape}
-use Rattle.chase_laws.proofs.FutureLemmas.{some_is}
-use Rattle.lease_laws.proofs.LeaseLemmas.{leases_stay}
-use Rattle.program_code.specs.declared.code.Node.{Node}
-use Rattle.activity_seats.specs.Seats.{names_in}
-use Rattle.actor.specs.declared.actor.Actor.{Actor}
+use Rattle.def_journals.specs.Journals.{RunShape}
+use Rattle.law_chases.proofs.FutureLemmas.{some_is}
+use Rattle.law_journals.proofs.LeaseLemmas.{leases_stay}
+use Rattle.code_table.specs.declared.code.Node.{Node}
+use Rattle.core_seats.specs.Seats.{names_in}
+use Rattle.step_activity.specs.declared.actor.Actor.{Actor}
 use Rattle.future_update.specs.Holders.{HoldersView}
-use Rattle.core_laws.specs.Commits.{made_by}
+use Rattle.law_core.specs.Commits.{made_by}
 use Rattle.core_state.specs.declared.lease.Lease.{Lease}
 use Rattle.core_state.specs.declared.state.CoreState.{CoreState}
 use Rattle.core_state.specs.Leases.{IsLease}
 use Rattle.core_state.proofs.ListLemmas.{name_got, within_name}
-use Rattle.core_state.specs.Commits.{IsSomeReturning}
-use Rattle.core_commits.specs.Arrivals.{IsArrived, act_at}
-use Rattle.core_commits.specs.Commits.{IsActing}
-use Rattle.core_commits.proofs.CommitLemmas.{come_acting, one_left}
+use Rattle.core_state.specs.Returning.{IsSomeReturning}
+use Rattle.core_state.specs.Arrivals.{IsArrived, act_at}
+use Rattle.core_state.specs.Commits.{IsActing}
+use Rattle.core_state.proofs.CommitLemmas.{come_acting, one_left}
 use Rattle.core_edges.specs.declared.edges.Edges.{Edges}
 use Rattle.asp_core.specs.Bringing.{IsCome, IsComeBy}
 use Rattle.asp_core.specs.Runs.{Stand, as_met}

@@ -4,10 +4,10 @@ use Rattle.std.proofs.lemmas.List.{length-map}
 use Rattle.asp_model.specs.History.{HistoryShape}
 use Rattle.asp_model.specs.Names.{Name}
 use Rattle.asp_model.specs.Step.{name_at}
-use Rattle.journals.specs.Journals.{RunShape}
-use Rattle.rank_laws.specs.Runs.{is_ready}
-use Rattle.program_code.specs.declared.code.Node.{Node}
-use Rattle.activity_seats.specs.Seats.{seats_in}
+use Rattle.def_journals.specs.Journals.{RunShape}
+use Rattle.law_core.specs.Runs.{is_ready}
+use Rattle.code_table.specs.declared.code.Node.{Node}
+use Rattle.core_seats.specs.Seats.{seats_in}
 use Rattle.future_update.specs.Holders.{HoldersView}
 use Rattle.core_state.specs.declared.state.CoreState.{CoreState}
 use Rattle.core_state.specs.Lending.{IsNextReady}

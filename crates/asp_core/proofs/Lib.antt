@@ -1,3 +1,6 @@
+-- in reading order
+pub mod VerdictLemmas
+pub mod EndOfRunLemmas
 pub mod OutLemmas
 pub mod DueLemmas
 pub mod StandLemmas
@@ -14,3 +17,5 @@ pub mod EndLemmas
 pub mod HomeLemmas
 pub mod ChosenLemmas
 pub mod StopLemmas
+pub mod OutAfterLemmas
+pub mod OverLemmas

@@ -6,24 +6,24 @@ use Rattle.asp_model.specs.History.{HistoryShape}
 use Rattle.asp_model.specs.Intent.{Effect}
 use Rattle.asp_model.specs.Names.{Name, name_cmp}
 use Rattle.asp_model.specs.Step.{name_at}
-use Rattle.journals.specs.Journals.{RunShape}
-use Rattle.chase_laws.proofs.FutureLemmas.{none_true}
-use Rattle.laws.proofs.WholeLemmas.{reached_are_sound, sound_intents}
-use Rattle.laws.specs.Steps.{IsNewTo}
-use Rattle.program_code.specs.declared.code.Node.{Node}
-use Rattle.actor.specs.declared.act.Given.{Given}
-use Rattle.actor.specs.declared.act.Given.TheVariants as given
-use Rattle.actor.specs.declared.actor.Actor.{Actor}
-use Rattle.actor.specs.Effects.{IsGiven}
+use Rattle.def_journals.specs.Journals.{RunShape}
+use Rattle.law_chases.proofs.FutureLemmas.{none_true}
+use Rattle.law_steps.proofs.WholeLemmas.{reached_are_sound, sound_intents}
+use Rattle.law_steps.specs.Steps.{IsNewTo}
+use Rattle.code_table.specs.declared.code.Node.{Node}
+use Rattle.step_activity.specs.declared.act.Given.{Given}
+use Rattle.step_activity.specs.declared.act.Given.TheVariants as given
+use Rattle.step_activity.specs.declared.actor.Actor.{Actor}
+use Rattle.step_activity.specs.Effects.{IsGiven}
 use Rattle.future_update.specs.Holders.{HoldersView, is_met}
-use Rattle.core_laws.specs.Commits.{with_activity}
-use Rattle.core_laws.proofs.NewcomerLemmas.{absent_before}
+use Rattle.law_core.specs.Commits.{with_activity}
+use Rattle.law_core.proofs.NewcomerLemmas.{absent_before}
 use Rattle.core_state.specs.declared.state.CoreState.{CoreState}
-use Rattle.core_commits.specs.Commits.{IsActing, IsGiving}
-use Rattle.core_commits.proofs.ActLemmas.{reached}
-use Rattle.core_commits.proofs.HandLemmas.{made_is}
-use Rattle.edge_laws.specs.Fresh.{IsFresh}
-use Rattle.edge_laws.proofs.RunLemmas.{effects_are_fresh, holders_are_of_runs, holders_stay}
+use Rattle.core_state.specs.Commits.{IsActing, IsGiving}
+use Rattle.core_state.proofs.ActLemmas.{reached}
+use Rattle.core_state.proofs.HandLemmas.{made_is}
+use Rattle.law_journals.specs.Fresh.{IsFresh}
+use Rattle.law_journals.proofs.RunLemmas.{effects_are_fresh, holders_are_of_runs, holders_stay}
 use Rattle.core_edges.specs.Given.{IsSomeFresh}
 use Rattle.asp_core.specs.Bringing.{IsUnmet}
 use Rattle.asp_core.specs.Runs.{Stand, holders_left}

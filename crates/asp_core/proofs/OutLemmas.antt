@@ -3,11 +3,11 @@ use Rattle.std.proofs.Common.{◌≡◌, ◌≢◌, ◌==◌, ◌&&◌, ◌||◌
 use Rattle.std.proofs.lemmas.List.{map-append}
 use Rattle.asp_model.specs.Names.{Name, same_name}
 use Rattle.asp_model.specs.Step.{name_at}
-use Rattle.journals.specs.Journals.{RunShape, grant_of, out_but}
-use Rattle.laws.proofs.NameLemmas.{name_itself, names_apart, names_tied}
-use Rattle.chase_laws.proofs.FutureLemmas.{no_some, none_true, some_is}
-use Rattle.lease_laws.proofs.LeaseLemmas.{grant_but}
-use Rattle.lease_laws.proofs.NameListLemmas.{number_stays}
+use Rattle.def_journals.specs.Journals.{RunShape, grant_of, out_but}
+use Rattle.law_steps.proofs.NameLemmas.{name_itself, names_apart, names_tied}
+use Rattle.law_chases.proofs.FutureLemmas.{no_some, none_true, some_is}
+use Rattle.law_journals.proofs.LeaseLemmas.{grant_but}
+use Rattle.law_journals.proofs.NameListLemmas.{number_stays}
 use Rattle.core_state.proofs.PopulateLemmas.{grant_gone}
 use Rattle.future_update.specs.Holders.{IsTurned, is_met, is_named, is_number, is_out}
 use Rattle.asp_core.specs.Runs.{AreToldOut, as_met}

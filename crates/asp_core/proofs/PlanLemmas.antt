@@ -4,26 +4,26 @@ use Rattle.asp_model.specs.Configuration.{Configuration, RequestShape}
 use Rattle.asp_model.specs.History.{ChoiceShape, DeliveryShape, Edge, EntryShape, Need}
 use Rattle.asp_model.specs.Names.{FutureShape, Name}
 use Rattle.asp_model.specs.Term.{Tree}
-use Rattle.journals.specs.Deliveries.{edge_delivered, need_delivered}
-use Rattle.journals.specs.Edges.{EdgeShape, HoldersShape, home_of, no_holders}
-use Rattle.journals.specs.Journals.{RunShape, delivered, over, run_of}
-use Rattle.journals.specs.Passing.{holders_of}
-use Rattle.journal_laws.specs.EdgesKept.{IsKnownEdge}
-use Rattle.journal_laws.proofs.JournalLemmas.{journals_reach}
-use Rattle.laws.specs.Kept.{Stands}
-use Rattle.laws.specs.Linked.{Each}
-use Rattle.laws.proofs.DeliveryLemmas.{edge_done, need_done}
-use Rattle.laws.proofs.EachLemmas.{each_weaker}
-use Rattle.chase_laws.proofs.FutureLemmas.{no_some, none_true, some_is}
-use Rattle.laws.proofs.WholeLemmas.{reached_are_sound}
+use Rattle.def_journals.specs.Deliveries.{edge_delivered, need_delivered}
+use Rattle.def_journals.specs.Edges.{EdgeShape, HoldersShape, home_of, no_holders}
+use Rattle.def_journals.specs.Journals.{RunShape, delivered, over, run_of}
+use Rattle.def_journals.specs.Passing.{holders_of}
+use Rattle.law_journals.specs.EdgesKept.{IsKnownEdge}
+use Rattle.law_journals.proofs.JournalLemmas.{journals_reach}
+use Rattle.law_steps.specs.Kept.{Stands}
+use Rattle.law_steps.specs.Linked.{Each}
+use Rattle.law_steps.proofs.DeliveryLemmas.{edge_done, need_done}
+use Rattle.law_steps.proofs.EachLemmas.{each_weaker}
+use Rattle.law_chases.proofs.FutureLemmas.{no_some, none_true, some_is}
+use Rattle.law_steps.proofs.WholeLemmas.{reached_are_sound}
 use Rattle.request_queue.specs.Requests.{request_shape}
-use Rattle.actor.specs.declared.act.Given.{Given}
-use Rattle.actor.specs.declared.act.Given.TheVariants as given
+use Rattle.step_activity.specs.declared.act.Given.{Given}
+use Rattle.step_activity.specs.declared.act.Given.TheVariants as given
 use Rattle.update_policy.specs.declared.plan.Plan.{Plan}
 use Rattle.update_policy.specs.declared.strategy.Policies.{Policies}
 use Rattle.update_policy.specs.declared.strategy.Strategy.{Strategy}
 use Rattle.update_policy.specs.Plans.{plan_shape, strategy_by}
-use Rattle.edge_laws.proofs.RunLemmas.{holders_are_of_runs, homes_are_of_begun}
+use Rattle.law_journals.proofs.RunLemmas.{holders_are_of_runs, homes_are_of_begun}
 use Rattle.core_edges.specs.declared.edges.Edges.{Edges}
 use Rattle.core_edges.specs.Answers.{Answering, AreAnswered, AreAsked, Counting, IsAsked}
 use Rattle.core_edges.specs.Given.{AreLearned, IsSomeFresh}

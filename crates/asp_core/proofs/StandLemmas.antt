@@ -4,20 +4,20 @@ use Rattle.asp_model.specs.Configuration.{Configuration}
 use Rattle.asp_model.specs.History.{Committed, Delivered, DeliveryShape, EntryShape, HistoryShape, Lent}
 use Rattle.asp_model.specs.Names.{Name}
 use Rattle.asp_model.specs.Step.{name_at}
-use Rattle.journals.specs.Edges.{HoldersShape, after_events}
-use Rattle.journals.specs.Journals.{RunShape, grant_of, granted}
-use Rattle.journals.specs.Passing.{entry_events}
-use Rattle.journal_laws.specs.EdgesKept.{IsKnownEdge, sends_in}
-use Rattle.journal_laws.proofs.BoundLemmas.{edges_are_bounded}
-use Rattle.journal_laws.proofs.KnownLemmas.{edges_are_known}
-use Rattle.laws.specs.Linked.{Each}
-use Rattle.lease_laws.specs.Entries.{with_lease}
-use Rattle.lease_laws.specs.Numbered.{AreNumbered}
-use Rattle.lease_laws.proofs.GrowingLemmas.{holders_go_on}
-use Rattle.lease_laws.proofs.NumberLemmas.{journals_are_numbered}
-use Rattle.program_code.specs.declared.code.Node.{Node}
+use Rattle.def_journals.specs.Edges.{HoldersShape, after_events}
+use Rattle.def_journals.specs.Journals.{RunShape, grant_of, granted}
+use Rattle.def_journals.specs.Passing.{entry_events}
+use Rattle.law_journals.specs.EdgesKept.{IsKnownEdge, sends_in}
+use Rattle.law_journals.proofs.BoundLemmas.{edges_are_bounded}
+use Rattle.law_journals.proofs.KnownLemmas.{edges_are_known}
+use Rattle.law_steps.specs.Linked.{Each}
+use Rattle.law_journals.specs.Entered.{with_lease}
+use Rattle.law_journals.specs.Numbered.{AreNumbered}
+use Rattle.law_journals.proofs.GrowingLemmas.{holders_go_on}
+use Rattle.law_journals.proofs.NumberLemmas.{journals_are_numbered}
+use Rattle.code_table.specs.declared.code.Node.{Node}
 use Rattle.future_update.specs.Holders.{HoldersView, IsTurned, is_out}
-use Rattle.core_laws.specs.Commits.{returned}
+use Rattle.law_core.specs.Commits.{returned}
 use Rattle.core_state.specs.declared.state.CoreState.{CoreState}
 use Rattle.core_state.specs.Cores.{IsCore, with_entry}
 use Rattle.asp_core.specs.Runs.{AreToldOut, Stand, as_met}

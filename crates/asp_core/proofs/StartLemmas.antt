@@ -2,10 +2,10 @@
 use Rattle.std.proofs.Common.{◌≡◌, ◌∙◌, ◌∷◌, [], ℕ, false, List, length, sym, ap, subst}
 use Rattle.asp_model.specs.Names.{main_name}
 use Rattle.asp_model.specs.Term.{Tree}
-use Rattle.journals.specs.Edges.{HoldersShape, no_holders}
-use Rattle.journals.specs.Journals.{begun}
-use Rattle.chase_laws.proofs.FutureLemmas.{no_some}
-use Rattle.program_code.specs.declared.code.Node.{Node}
+use Rattle.def_journals.specs.Edges.{HoldersShape, no_holders}
+use Rattle.def_journals.specs.Journals.{begun}
+use Rattle.law_chases.proofs.FutureLemmas.{no_some}
+use Rattle.code_table.specs.declared.code.Node.{Node}
 use Rattle.future_update.specs.Holders.{HoldersView, is_out}
 use Rattle.core_state.specs.declared.state.CoreState.{CoreState}
 use Rattle.core_state.specs.Cores.{IsCore, history_begun, program_of}

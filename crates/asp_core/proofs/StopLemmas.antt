@@ -7,17 +7,17 @@ use Rattle.asp_model.specs.Names.{Name}
 use Rattle.asp_model.specs.Split.{Context, Redex, Split, Splits, Stands, plug}
 use Rattle.asp_model.specs.Store.{Store}
 use Rattle.asp_model.specs.Term.{Tree}
-use Rattle.journals.specs.Journals.{RunShape, all_entered, begun, entered, run_of}
-use Rattle.chase_laws.proofs.FutureLemmas.{some_is}
-use Rattle.laws.specs.Reached.{IsAt}
-use Rattle.lease_laws.proofs.LeaseLemmas.{leases_stay}
-use Rattle.program_code.specs.declared.code.Node.{Node}
+use Rattle.def_journals.specs.Journals.{RunShape, all_entered, begun, entered, run_of}
+use Rattle.law_chases.proofs.FutureLemmas.{some_is}
+use Rattle.law_steps.specs.Reached.{IsAt}
+use Rattle.law_journals.proofs.LeaseLemmas.{leases_stay}
+use Rattle.code_table.specs.declared.code.Node.{Node}
 use Rattle.activity_step.specs.Activities.{IsStopAt}
 use Rattle.activity_step.specs.Local.{IsLocalStep, LocalRun}
-use Rattle.core_laws.specs.Commits.{HasRun}
+use Rattle.law_core.specs.Commits.{HasRun}
 use Rattle.core_state.specs.declared.lease.Lease.{Lease}
 use Rattle.core_state.specs.Leases.{HasStopped}
-use Rattle.core_commits.specs.Arrivals.{act_at}
+use Rattle.core_state.specs.Arrivals.{act_at}
 use Rattle.asp_core.specs.declared.cores.Core.{Core}
 use Rattle.asp_core.specs.Calls.{HasEntered}
 use Rattle.asp_core.specs.Cores.{IsRun, history_of}

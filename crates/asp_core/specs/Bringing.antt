@@ -5,24 +5,24 @@ use Rattle.asp_model.specs.History.{Committed, HistoryShape}
 use Rattle.asp_model.specs.Intent.{Acts, Effect}
 use Rattle.asp_model.specs.Names.{Name}
 use Rattle.asp_model.specs.Step.{intent_in, with_effect}
-use Rattle.journals.specs.Edges.{after_events}
-use Rattle.journals.specs.Journals.{RunShape}
-use Rattle.journals.specs.Passing.{effect_events}
-use Rattle.laws.specs.Steps.{IsNewTo}
-use Rattle.program_code.specs.declared.code.Node.{Node}
-use Rattle.actor.specs.declared.actor.Actor.{Actor}
-use Rattle.actor.specs.declared.act.Given.{Given}
-use Rattle.actor.specs.declared.act.Given.TheVariants as given
-use Rattle.actor.specs.Effects.{IsGiven}
+use Rattle.def_journals.specs.Edges.{after_events}
+use Rattle.def_journals.specs.Journals.{RunShape}
+use Rattle.def_journals.specs.Passing.{effect_events}
+use Rattle.law_steps.specs.Steps.{IsNewTo}
+use Rattle.code_table.specs.declared.code.Node.{Node}
+use Rattle.step_activity.specs.declared.actor.Actor.{Actor}
+use Rattle.step_activity.specs.declared.act.Given.{Given}
+use Rattle.step_activity.specs.declared.act.Given.TheVariants as given
+use Rattle.step_activity.specs.Effects.{IsGiven}
 use Rattle.future_update.specs.Holders.{HoldersView, is_met}
-use Rattle.core_laws.specs.Commits.{HasRun, made_by, with_activity}
+use Rattle.law_core.specs.Commits.{HasRun, made_by, with_activity}
 use Rattle.core_state.specs.declared.lease.Lease.{Lease}
 use Rattle.core_state.specs.declared.state.CoreState.{CoreState}
 use Rattle.core_state.specs.Cores.{with_entry}
 use Rattle.core_state.specs.Leases.{IsLease}
-use Rattle.core_state.specs.Commits.{IsRunCommitted}
-use Rattle.core_commits.specs.Arrivals.{act_at}
-use Rattle.core_commits.specs.Commits.{IsActCommitted, IsActing}
+use Rattle.core_state.specs.Returning.{IsRunCommitted}
+use Rattle.core_state.specs.Arrivals.{act_at}
+use Rattle.core_state.specs.Commits.{IsActCommitted, IsActing}
 use Rattle.core_edges.specs.declared.edges.Edges.{Edges}
 use Rattle.core_edges.specs.Labels.{AreByLabels}
 use Rattle.asp_core.specs.Runs.{Stand, as_met, counted}

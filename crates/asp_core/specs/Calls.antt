@@ -4,16 +4,16 @@ use Rattle.asp_model.specs.Configuration.{Activity}
 use Rattle.asp_model.specs.History.{Committed, DeliveryShape, EntryShape, Lent}
 use Rattle.asp_model.specs.Names.{Name}
 use Rattle.asp_model.specs.Status.{VerdictShape}
-use Rattle.journal_laws.specs.EdgesKept.{sends_in}
-use Rattle.journals.specs.Journals.{RunShape, delivered}
-use Rattle.journals.specs.Owed.{next_owed, verdict_told}
-use Rattle.lease_laws.specs.Entries.{with_lease}
-use Rattle.rank_laws.specs.Runs.{is_ready}
-use Rattle.core_laws.specs.Commits.{HasRun}
+use Rattle.law_journals.specs.EdgesKept.{sends_in}
+use Rattle.def_journals.specs.Journals.{RunShape, delivered}
+use Rattle.def_journals.specs.Owed.{next_owed, verdict_told}
+use Rattle.law_journals.specs.Entered.{with_lease}
+use Rattle.law_core.specs.Runs.{is_ready}
+use Rattle.law_core.specs.Commits.{HasRun}
 use Rattle.core_state.specs.declared.lease.Lease.{Lease}
 use Rattle.core_state.specs.Cores.{with_entry}
 use Rattle.core_state.specs.Lending.{IsNewLease}
-use Rattle.core_commits.specs.Arrivals.{act_at}
+use Rattle.core_state.specs.Arrivals.{act_at}
 use Rattle.asp_core.specs.declared.cores.Core.{Core}
 use Rattle.asp_core.specs.Cores.{IsRun, code_of, history_of}
 use Rattle.asp_core.specs.Runs.{counted}

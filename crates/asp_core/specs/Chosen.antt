@@ -3,8 +3,8 @@ use Rattle.std.specs.Prelude.{◌≡◌, ℕ, true, List, Some, slice_get}
 use Rattle.asp_model.specs.History.{ChoiceShape, Leave, DeliveryShape, Edge, Need, EntryShape, Lent, Committed}
 use Rattle.asp_model.specs.History.{Delivered}
 use Rattle.asp_model.specs.Names.{FutureShape, Name}
-use Rattle.journals.specs.Edges.{EdgeShape, HoldersShape, has_edge, has_filled, is_chosen}
-use Rattle.laws.specs.Linked.{Each}
+use Rattle.def_journals.specs.Edges.{EdgeShape, HoldersShape, has_edge, has_filled, is_chosen}
+use Rattle.law_steps.specs.Linked.{Each}
 use Rattle.update_policy.specs.declared.strategy.Policies.{Policies}
 use Rattle.update_policy.specs.declared.strategy.Strategy.{Strategy}
 use Rattle.core_edges.specs.Answers.{Answering, AreAsked, Counting}

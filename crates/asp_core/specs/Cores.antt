@@ -3,10 +3,10 @@ use Rattle.std.specs.Prelude.{◌≡◌, ℕ, List, [], false, length}
 use Rattle.std.specs.Arc.{arc_value}
 use Rattle.asp_model.specs.History.{EntryShape, HistoryShape}
 use Rattle.asp_model.specs.Names.{Name}
-use Rattle.journals.specs.Journals.{RunShape}
-use Rattle.program_code.specs.declared.code.Node.{Node}
-use Rattle.activity_seats.specs.Seats.{names_in, seats_in}
-use Rattle.core_journal.specs.Journal.{entries_in}
+use Rattle.def_journals.specs.Journals.{RunShape}
+use Rattle.code_table.specs.declared.code.Node.{Node}
+use Rattle.core_seats.specs.Seats.{names_in, seats_in}
+use Rattle.core_state.specs.Journal.{entries_in}
 use Rattle.core_edges.specs.Labels.{AreByLabels}
 use Rattle.core_state.specs.Cores.{program_of}
 use Rattle.asp_core.specs.declared.cores.Core.{Core}

@@ -2,11 +2,11 @@
 use Rattle.std.specs.Prelude.{◌≡◌, ℕ, false, List, Option, Some, None}
 use Rattle.asp_model.specs.History.{Delivered, DeliveryShape, HistoryShape}
 use Rattle.future_update.specs.Names.{delivery_along}
-use Rattle.journals.specs.Edges.{EdgeShape}
-use Rattle.journals.specs.Journals.{RunShape}
-use Rattle.program_code.specs.declared.code.Node.{Node}
+use Rattle.def_journals.specs.Edges.{EdgeShape}
+use Rattle.def_journals.specs.Journals.{RunShape}
+use Rattle.code_table.specs.declared.code.Node.{Node}
 use Rattle.future_update.specs.Holders.{HoldersView, edge_in, owed_to_one_in}
-use Rattle.marked_places.specs.Firsts.{IsFirstFrom}
+use Rattle.core_sets.specs.Firsts.{IsFirstFrom}
 use Rattle.core_edges.specs.declared.edges.Edges.{Edges}
 use Rattle.core_edges.specs.Labels.{AreByLabels}
 use Rattle.core_state.specs.declared.state.CoreState.{CoreState}

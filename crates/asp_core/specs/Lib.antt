@@ -1,4 +1,7 @@
 -- in reading order
+pub mod Verdicts
+pub mod Gathering
+pub mod EndOfRun
 pub mod Runs
 pub mod Cores
 pub mod Plans
@@ -7,3 +10,5 @@ pub mod Chosen
 pub mod Stopping
 pub mod Bringing
 pub mod Delivering
+pub mod Over
+pub mod PlannedEnds

@@ -1,7 +1,7 @@
 -- What a core keeps of the plan and the policies that it was given.
 use Rattle.std.specs.Prelude.{◌≡◌, true, is_some}
 use Rattle.asp_model.specs.Names.{FutureShape}
-use Rattle.journals.specs.Edges.{home_of}
+use Rattle.def_journals.specs.Edges.{home_of}
 use Rattle.update_policy.specs.declared.plan.Plan.{Plan}
 use Rattle.update_policy.specs.declared.strategy.Policies.{Policies}
 use Rattle.core_edges.specs.declared.edges.Edges.{Edges}

@@ -4,10 +4,10 @@ use Rattle.asp_model.specs.History.{HistoryShape}
 use Rattle.asp_model.specs.Intent.{Effect}
 use Rattle.asp_model.specs.Names.{Name}
 use Rattle.asp_model.specs.Step.{name_at}
-use Rattle.journals.specs.Edges.{HoldersShape}
-use Rattle.journals.specs.Journals.{RunShape, grant_of}
-use Rattle.journals.specs.Passing.{holders_of}
-use Rattle.program_code.specs.declared.code.Node.{Node}
+use Rattle.def_journals.specs.Edges.{HoldersShape}
+use Rattle.def_journals.specs.Journals.{RunShape, grant_of}
+use Rattle.def_journals.specs.Passing.{holders_of}
+use Rattle.code_table.specs.declared.code.Node.{Node}
 use Rattle.future_update.specs.Holders.{HoldersView, is_out}
 use Rattle.core_state.specs.declared.state.CoreState.{CoreState}
 use Rattle.core_state.specs.Cores.{IsCore}

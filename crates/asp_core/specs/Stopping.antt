@@ -3,14 +3,14 @@ use Rattle.std.specs.Prelude.{◌≡◌, ℕ, false, List, [], ◌∷◌, Some}
 use Rattle.asp_model.specs.Configuration.{Activity}
 use Rattle.asp_model.specs.History.{Committed, Delivered, EntryShape, HistoryShape, Lent}
 use Rattle.asp_model.specs.Names.{Name}
-use Rattle.journals.specs.Journals.{RunShape, begun, entered}
-use Rattle.program_code.specs.declared.code.Node.{Node}
+use Rattle.def_journals.specs.Journals.{RunShape, begun, entered}
+use Rattle.code_table.specs.declared.code.Node.{Node}
 use Rattle.activity_step.specs.declared.advance.Advance.{Advance}
 use Rattle.activity_step.specs.Activities.{IsStopAt, IsUsed}
-use Rattle.core_laws.specs.Commits.{HasRun}
+use Rattle.law_core.specs.Commits.{HasRun}
 use Rattle.core_state.specs.declared.lease.Lease.{Lease}
 use Rattle.core_state.specs.Leases.{HasStopped}
-use Rattle.core_commits.specs.Arrivals.{act_at}
+use Rattle.core_state.specs.Arrivals.{act_at}
 use Rattle.asp_core.specs.Runs.{counted}
 
 -- it has stopped, unless it is spent

@@ -4,12 +4,12 @@ ghost use Rattle.std.specs.Prelude.{◌≡◌, Err, List, OnErr, OnOk, alloc_err
 ghost use Rattle.asp_model.specs.History.{BeginsWith, HistoryShape};
 ghost use Rattle.asp_model.specs.Intent.{Effect};
 ghost use Rattle.asp_model.specs.Names.{Name};
-ghost use Rattle.journals.specs.Journals.{RunShape};
-ghost use Rattle.program_code.specs.declared.code.Node.{Node as NodeShape};
-ghost use Rattle.actor.specs.Effects.{IsGiven};
-ghost use Rattle.core_journal.specs.Journal.{entries_in};
+ghost use Rattle.def_journals.specs.Journals.{RunShape};
+ghost use Rattle.code_table.specs.declared.code.Node.{Node as NodeShape};
+ghost use Rattle.step_activity.specs.Effects.{IsGiven};
+ghost use Rattle.core_state.specs.Journal.{entries_in};
 ghost use Rattle.core_state.specs.Leases.{IsLease};
-ghost use Rattle.core_commits.specs.Commits.{IsActing};
+ghost use Rattle.core_state.specs.Commits.{IsActing};
 ghost use Rattle.core_edges.specs.Answers.{AreAnswered};
 ghost use Rattle.core_edges.specs.Given.{IsSomeFresh};
 ghost use Rattle.core_edges.specs.Labels.{AreByLabels};
@@ -32,13 +32,11 @@ ghost use Rattle.asp_core.specs.Runs.{Stand};
 ghost use Rattle.asp_core.specs.Stopping.{HasStoppedOr, StaysStopped};
 
 use crate::cores::Core;
-use actor::{Actor, Given};
 use asp_model::ActivityName;
-use core_commits::{arrive, bring_in, come_in};
 use core_edges::Edges;
-use core_rules::with_communication;
-use core_state::{CoreState, Lease};
+use core_state::{CoreState, Lease, arrive, bring_in, come_in, with_communication};
 use std::alloc::{AllocError, Global};
+use step_activity::{Actor, Given};
 use update_policy::UpdatePolicy;
 
 /// The edges are told what a communication of an activity gives, and whom it makes.

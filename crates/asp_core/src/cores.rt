@@ -4,16 +4,16 @@ ghost use Rattle.std.specs.Prelude.{◌≡◌, ◌∷◌, [], IfOk, OnOk, false}
 ghost use Rattle.std.specs.Arc.{arc_value};
 ghost use Rattle.asp_model.specs.Names.{main_name};
 ghost use Rattle.asp_model.specs.Shapes.{tree_of};
-ghost use Rattle.journals.specs.Journals.{begun as start_of};
+ghost use Rattle.def_journals.specs.Journals.{begun as start_of};
 ghost use Rattle.core_edges.specs.Strategies.{KeepsEdges};
 ghost use Rattle.core_state.specs.Cores.{IsCore, history_begun, program_of};
 
 use asp_check::Checked;
 use asp_model::{ActivityName, Entry};
 use code_compiler::compile;
+use code_table::Code;
 use core_edges::Edges;
 use core_state::CoreState;
-use program_code::Code;
 use std::alloc::{AllocError, Global};
 use std::sync::Arc;
 use update_policy::{Plan, Policies, PolicyBox, UpdatePolicy};
@@ -81,7 +81,7 @@ fn begin<P: UpdatePolicy>(
 impl<P: UpdatePolicy + Drop> Core<P> {
     ghost use Rattle.std.specs.Prelude.{◌≡◌, IfOk};
     ghost use Rattle.asp_model.specs.Shapes.{tree_of};
-    ghost use Rattle.journals.specs.Journals.{begun};
+    ghost use Rattle.def_journals.specs.Journals.{begun};
     ghost use Rattle.core_state.specs.Cores.{history_begun};
     ghost use Rattle.asp_core.specs.Chosen.{DeliversChosen};
     ghost use Rattle.asp_core.specs.Cores.{IsHome, IsRun, history_of};
@@ -134,8 +134,8 @@ impl<P: UpdatePolicy + Drop> Core<P> {
 impl<P> Core<P> {
     ghost use Rattle.std.specs.Prelude.{◌≡◌, ◌<◌, Some, false, map, slice_get, true};
     ghost use Rattle.asp_model.specs.Shapes.{entry_shape};
-    ghost use Rattle.journals.specs.Journals.{RunShape};
-    ghost use Rattle.journals.specs.Owed.{is_any};
+    ghost use Rattle.def_journals.specs.Journals.{RunShape};
+    ghost use Rattle.def_journals.specs.Owed.{is_any};
     ghost use Rattle.asp_core.specs.Cores.{
       IsHome,
       IsKept,

@@ -22,13 +22,13 @@ ghost use Rattle.asp_model.specs.History.{BeginsWith, Delivered, HistoryShape, N
 ghost use Rattle.asp_model.specs.Names.{Name, future_cmp};
 ghost use Rattle.asp_model.specs.Shapes.{delivery_shape, future_shape};
 ghost use Rattle.future_table.specs.Values.{values_of};
-ghost use Rattle.journals.specs.Edges.{after_events};
-ghost use Rattle.journals.specs.Journals.{RunShape, delivered};
-ghost use Rattle.journals.specs.Owed.{next_owed};
-ghost use Rattle.journals.specs.Passing.{entry_events};
-ghost use Rattle.program_code.specs.declared.code.Node.{Node as NodeShape};
-ghost use Rattle.activity_seats.specs.Seats.{IsKnown, names_in};
-ghost use Rattle.core_journal.specs.Journal.{entries_in};
+ghost use Rattle.def_journals.specs.Edges.{after_events};
+ghost use Rattle.def_journals.specs.Journals.{RunShape, delivered};
+ghost use Rattle.def_journals.specs.Owed.{next_owed};
+ghost use Rattle.def_journals.specs.Passing.{entry_events};
+ghost use Rattle.code_table.specs.declared.code.Node.{Node as NodeShape};
+ghost use Rattle.core_seats.specs.Seats.{IsKnown, names_in};
+ghost use Rattle.core_state.specs.Journal.{entries_in};
 ghost use Rattle.core_state.specs.Cores.{IsSomeCore};
 ghost use Rattle.core_edges.specs.Answers.{AreAnswered};
 ghost use Rattle.core_edges.specs.Deliveries.{future_of};
@@ -44,9 +44,8 @@ ghost use Rattle.asp_core.specs.Stopping.{StaysStopped};
 
 use crate::cores::Core;
 use asp_model::{Delivery, FutureName};
-use core_deliveries::{Needed, deliver, may_deliver, next_need};
 use core_edges::Edges;
-use core_state::CoreState;
+use core_state::{CoreState, Needed, deliver, may_deliver, next_need};
 use std::alloc::{AllocError, Global};
 use update_policy::UpdatePolicy;
 

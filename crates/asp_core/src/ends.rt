@@ -4,8 +4,8 @@ ghost use Rattle.std.specs.Prelude.{◌≡◌, Err, IfOk, None, alloc_error, is_
 ghost use Rattle.std.specs.Option.{option_map};
 ghost use Rattle.asp_model.specs.Outcome.{outcome_of};
 ghost use Rattle.asp_model.specs.Shapes.{outcome_shape, verdict_shape};
-ghost use Rattle.journals.specs.Journals.{RunShape};
-ghost use Rattle.paths.specs.Outcomes.{whole_outcome_of};
+ghost use Rattle.def_journals.specs.Journals.{RunShape};
+ghost use Rattle.def_paths.specs.Outcomes.{whole_outcome_of};
 ghost use Rattle.run_ends.specs.Ends.{IsEndOf};
 ghost use Rattle.asp_core.specs.Calls.{verdict_of};
 ghost use Rattle.asp_core.specs.Cores.{IsKept, IsRun};
@@ -28,7 +28,7 @@ impl<P: UpdatePolicy + Drop> Core<P> {
         if self.spent {
             return None;
         }
-        core_ends::verdict(&self.state, self.edges.next_due().is_some())
+        crate::verdicts::verdict(&self.state, self.edges.next_due().is_some())
     }
 
     /// The end of the run, with the states of its activities.
@@ -55,6 +55,6 @@ impl<P: UpdatePolicy + Drop> Core<P> {
         } = self;
         drop(code);
         drop(edges);
-        core_ends::end(state)
+        crate::gathering::end(state)
     }
 }

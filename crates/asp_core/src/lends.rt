@@ -2,7 +2,7 @@
 
 ghost use Rattle.std.specs.Prelude.{◌≡◌, ◌<◌, IfSome, None, true};
 ghost use Rattle.asp_model.specs.History.{BeginsWith};
-ghost use Rattle.journals.specs.Journals.{RunShape};
+ghost use Rattle.def_journals.specs.Journals.{RunShape};
 ghost use Rattle.core_state.specs.Lending.{IsNextReady};
 ghost use Rattle.asp_core.specs.Calls.{IsLentBy};
 ghost use Rattle.asp_core.specs.Chosen.{StaysChosen};

@@ -1,2 +1,3 @@
+-- in reading order
 pub mod Mapped
 pub mod HistoryLemmas

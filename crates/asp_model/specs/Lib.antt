@@ -1,4 +1,5 @@
 -- in reading order
+pub mod Paths
 pub mod Names
 pub mod Order
 pub mod Term

@@ -6,6 +6,7 @@ mod journal;
 mod limits;
 mod name;
 mod outcome;
+mod path;
 mod store;
 mod term;
 mod word;
@@ -19,6 +20,7 @@ pub use name::{ActivityName, FutureName};
 pub use outcome::{
     ActivityReport, Counts, Fault, Line, Lists, Outcome, Status, Verdict, exit_number,
 };
+pub use path::CreationPath;
 pub use store::{Cell, Object, Parcel, Request};
 pub use term::{Mark, Method, Place, Program, Sign, Term};
 pub use word::{Label, Word};

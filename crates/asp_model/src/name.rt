@@ -10,7 +10,7 @@ ghost use Rattle.std.specs.Ordering.{as_partial_cmp};
 ghost use Rattle.asp_model.specs.Order.{same_name_same};
 ghost use Rattle.asp_model.specs.Names.{created_name, main_name, name_cmp, same_name};
 
-use creation_path::CreationPath;
+use crate::path::CreationPath;
 use std::alloc::{AllocError, Global};
 use std::cmp::Ordering;
 use std::hash::{Hash, Hasher};

@@ -5,12 +5,12 @@ use Rattle.asp_model.specs.Names.{Text}
 use Rattle.asp_model.specs.Term.{SignShape, MethodHead}
 use Rattle.asp_model.specs.Marked.{Marked, all_marked}
 use Rattle.asp_model.specs.Shapes.{MarkedMethod}
-use Rattle.asp_tokens.specs.declared.token.Token.{Token}
-use Rattle.asp_tokens.specs.declared.token.Token.TheVariants as tokens
-use Rattle.asp_tokens.specs.Tokens.{Lexeme, lexeme, tokens_in}
-use Rattle.asp_grammar.specs.Nodes.{PartShape, terms_at, named_mark, method}
-use Rattle.asp_grammar.specs.Signs.{IsHead, head, parameter, IsService, no_service, service, IsLabels, first_label, and_label, IsLabelPart, no_labels, labels}
-use Rattle.asp_grammar.specs.Grammar.{IsPrim, number, variable, parentheses, object, word, active, serve, choice, echo, group_none, group, scatter, member, IsPost, prim, get, call_none, call, IsArgs, argument, and_argument, IsFields, field, and_field, IsMethods, first_method, and_method, IsFieldPart, no_fields, fields, IsMethodPart, no_methods, methods, IsProd, post, times, IsSum, prod, plus, IsTest, sum, test, IsExpr, tested, assign, IsSeq, last, then, bind}
+use Rattle.syntax_tokens.specs.declared.token.Token.{Token}
+use Rattle.syntax_tokens.specs.declared.token.Token.TheVariants as tokens
+use Rattle.syntax_tokens.specs.Tokens.{Lexeme, lexeme, tokens_in}
+use Rattle.syntax_grammar.specs.Nodes.{PartShape, terms_at, named_mark, method}
+use Rattle.syntax_grammar.specs.Signs.{IsHead, head, parameter, IsService, no_service, service, IsLabels, first_label, and_label, IsLabelPart, no_labels, labels}
+use Rattle.syntax_grammar.specs.Grammar.{IsPrim, number, variable, parentheses, object, word, active, serve, choice, echo, group_none, group, scatter, member, IsPost, prim, get, call_none, call, IsArgs, argument, and_argument, IsFields, field, and_field, IsMethods, first_method, and_method, IsFieldPart, no_fields, fields, IsMethodPart, no_methods, methods, IsProd, post, times, IsSum, prod, plus, IsTest, sum, test, IsExpr, tested, assign, IsSeq, last, then, bind}
 use Rattle.asp_print.specs.Tokens.{behind_each, between, name_pieces, service_tokens, method_part, sign_of, tokens_of, pieces_of}
 use Rattle.asp_print.specs.Parts.{field_tokens, method_tokens}
 use Rattle.asp_print.proofs.PieceLemmas.{both, behind_more, grown, between_is, method_part_is, pieces_all, steps_are, parentheses_tokens, put_tokens, put_is_get, word_laid, product_sign, sum_sign, test_sign, make_tokens}

@@ -5,12 +5,12 @@ use Rattle.asp_model.specs.Names.{Text}
 use Rattle.asp_model.specs.Term.{MethodHead, Call, Group}
 use Rattle.asp_model.specs.Marked.{Marked, MarkedList, marked, and_marked}
 use Rattle.asp_model.specs.Shapes.{MarkedMethod}
-use Rattle.asp_tokens.specs.declared.token.Token.{Token}
-use Rattle.asp_tokens.specs.declared.token.Token.TheVariants as tokens
-use Rattle.asp_tokens.specs.Tokens.{Lexeme, lexeme}
-use Rattle.asp_grammar.specs.Nodes.{PartShape, part, terms_at, in_parentheses, word_at, if_at, let_at, active_at, scatter_at, member_at, mark_at, named_mark, called, method, with_parameter}
-use Rattle.asp_grammar.specs.Signs.{IsHead, head, parameter, IsService, no_service, service, IsLabels, first_label, and_label, IsLabelPart, no_labels, labels}
-use Rattle.asp_grammar.specs.Grammar.{IsPrim, number, variable, parentheses, object, word, active, serve, choice, echo, group_none, group, scatter, member, IsPost, prim, get, call_none, call, IsArgs, argument, and_argument, IsFields, field, and_field, IsMethods, first_method, and_method, IsFieldPart, no_fields, fields, IsMethodPart, no_methods, methods, IsProd, post, times, IsSum, prod, plus, IsTest, sum, test, IsExpr, tested, assign, IsSeq, last, then, bind}
+use Rattle.syntax_tokens.specs.declared.token.Token.{Token}
+use Rattle.syntax_tokens.specs.declared.token.Token.TheVariants as tokens
+use Rattle.syntax_tokens.specs.Tokens.{Lexeme, lexeme}
+use Rattle.syntax_grammar.specs.Nodes.{PartShape, part, terms_at, in_parentheses, word_at, if_at, let_at, active_at, scatter_at, member_at, mark_at, named_mark, called, method, with_parameter}
+use Rattle.syntax_grammar.specs.Signs.{IsHead, head, parameter, IsService, no_service, service, IsLabels, first_label, and_label, IsLabelPart, no_labels, labels}
+use Rattle.syntax_grammar.specs.Grammar.{IsPrim, number, variable, parentheses, object, word, active, serve, choice, echo, group_none, group, scatter, member, IsPost, prim, get, call_none, call, IsArgs, argument, and_argument, IsFields, field, and_field, IsMethods, first_method, and_method, IsFieldPart, no_fields, fields, IsMethodPart, no_methods, methods, IsProd, post, times, IsSum, prod, plus, IsTest, sum, test, IsExpr, tested, assign, IsSeq, last, then, bind}
 use Rattle.asp_print.specs.Places.{moved}
 use Rattle.asp_print.proofs.MovingLemmas.{moved_all, moved_part, moved_field, moved_method, along, split, all_moved, terms_moved, parentheses_moved, put_moved, may_put_moved, object_moved}
 

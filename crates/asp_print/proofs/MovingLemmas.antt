@@ -6,10 +6,10 @@ use Rattle.asp_model.specs.Term as term
 use Rattle.asp_model.specs.Term.{MethodHead}
 use Rattle.asp_model.specs.Marked.{Marked, MarkedList, marked, no_marked, and_marked, all_marked}
 use Rattle.asp_model.specs.Shapes.{MarkedMethod, make_shape}
-use Rattle.asp_tokens.specs.declared.token.Token.{Token}
-use Rattle.asp_tokens.specs.Tokens.{Lexeme, lexeme}
-use Rattle.asp_grammar.specs.Nodes.{PartShape, part, put_to, is_get, terms_at, in_parentheses, named_mark, mark_at, method}
-use Rattle.asp_grammar.specs.Grammar.{may_put}
+use Rattle.syntax_tokens.specs.declared.token.Token.{Token}
+use Rattle.syntax_tokens.specs.Tokens.{Lexeme, lexeme}
+use Rattle.syntax_grammar.specs.Nodes.{PartShape, part, put_to, is_get, terms_at, in_parentheses, named_mark, mark_at, method}
+use Rattle.syntax_grammar.specs.Grammar.{may_put}
 use Rattle.asp_print.specs.Tokens.{enclosed, laid, tokens_of, pieces_of}
 use Rattle.asp_print.specs.Places.{moved, moved_below}
 

@@ -13,8 +13,8 @@ use Rattle.asp_model.specs.declared.term.Term.TheFolds.{the_lemmas, fold-roll-Te
 use Rattle.asp_model.specs.Names.{Text}
 use Rattle.asp_model.specs.Marked.{Marked, all_marked}
 use Rattle.asp_model.specs.Shapes.{MarkedMethod, marked_of, method_of, mark_shape, field_of, make_shape, sign_shape, term_step, method_step}
-use Rattle.asp_tokens.specs.declared.token.Token.{Token}
-use Rattle.asp_tokens.specs.declared.token.Token.TheVariants as tokens
+use Rattle.syntax_tokens.specs.declared.token.Token.{Token}
+use Rattle.syntax_tokens.specs.declared.token.Token.TheVariants as tokens
 use Rattle.asp_print.specs.Tokens.{access_tokens, between, call_tokens, choice_tokens, enclosed, let_tokens, method_part, node_tokens, pieces_of, scatter_tokens, sign_of, word_tokens}
 use Rattle.asp_print.specs.Parts.{field_tokens, method_tokens, term_tokens, label_piece, field_piece, method_piece, object_pieces}
 use Rattle.asp_print.proofs.PieceLemmas.{make_node}

@@ -6,12 +6,12 @@ use Rattle.asp_model.specs.Term as term
 use Rattle.asp_model.specs.Term.{Head, SignShape}
 use Rattle.asp_model.specs.Marked.{MarkShape, Marked, marked, no_marked, and_marked, all_marked}
 use Rattle.asp_model.specs.Shapes.{MarkedMethod, make_shape}
-use Rattle.asp_tokens.specs.declared.token.Token.{Token}
-use Rattle.asp_tokens.specs.declared.token.Token.TheVariants as tokens
-use Rattle.asp_tokens.specs.Tokens.{Lexeme, lexeme, tokens_in}
-use Rattle.asp_grammar.specs.Nodes.{put_to, is_get, terms_at, in_parentheses}
-use Rattle.asp_grammar.specs.Signs.{IsProductSign, multiplies, divides, leaves, IsSumSign, adds, subtracts, IsTestSign, is_less, is_same, IsWord, clones, repeats, prints, sizes, awaits}
-use Rattle.asp_grammar.specs.Grammar.{may_put}
+use Rattle.syntax_tokens.specs.declared.token.Token.{Token}
+use Rattle.syntax_tokens.specs.declared.token.Token.TheVariants as tokens
+use Rattle.syntax_tokens.specs.Tokens.{Lexeme, lexeme, tokens_in}
+use Rattle.syntax_grammar.specs.Nodes.{put_to, is_get, terms_at, in_parentheses}
+use Rattle.syntax_grammar.specs.Signs.{IsProductSign, multiplies, divides, leaves, IsSumSign, adds, subtracts, IsTestSign, is_less, is_same, IsWord, clones, repeats, prints, sizes, awaits}
+use Rattle.syntax_grammar.specs.Grammar.{may_put}
 use Rattle.asp_print.specs.Tokens.{enclosed, behind_each, between, first, sign_of, field_pieces, behind_fields, method_pieces, method_part, word_tokens, laid, tokens_of, pieces_of, node_tokens}
 use Rattle.asp_print.specs.Parts.{field_tokens, method_tokens, object_tokens}
 

@@ -2,11 +2,11 @@
 use Rattle.std.proofs.Common.{◌≡◌, ℕ, zero, suc, ◌+◌, ◌<◌, Bool, List, [], ◌∷◌, ◌++◌, length, take, refl, sym, ap, ◌∙◌, arith, if◌then◌else◌}
 use Rattle.std.specs.Prelude.{◌==◌}
 use Rattle.std.proofs.lemmas.Bool.{ne_eqb, eq-eqb}
-use Rattle.asp_tokens.specs.Tokens.{Lexeme, lexeme, tokens_in}
-use Rattle.asp_tokens.specs.Levels.{WalkShape, walk, walked, flat, level_after}
+use Rattle.syntax_tokens.specs.Tokens.{Lexeme, lexeme, tokens_in}
+use Rattle.syntax_tokens.specs.Levels.{WalkShape, walk, walked, flat, level_after}
 use Rattle.asp_print.proofs.MovingLemmas.{moved_all, moved_lexeme}
-use Rattle.asp_tokens.proofs.WordLemmas.{Each, IsGood}
-use Rattle.asp_tokens.proofs.LexerLemmas.{Rises}
+use Rattle.syntax_tokens.proofs.WordLemmas.{Each, IsGood}
+use Rattle.syntax_tokens.proofs.LexerLemmas.{Rises}
 
 pub good_before : (n : ℕ) (ls : List Lexeme) (l : Lexeme) → Rises n (ls ++ l ∷ []) → Each IsGood (tokens_in ls)
 good_before n [] l h = tt

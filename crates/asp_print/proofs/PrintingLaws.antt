@@ -3,12 +3,12 @@ use Rattle.std.proofs.Common.{◌≡◌, ℕ, ◌≤◌, true, List, [], ◌∷�
 use Rattle.std.proofs.lemmas.List.{take-append-drop}
 use Rattle.asp_model.specs.declared.limits.TheConstants.{MOST_LEVEL}
 use Rattle.asp_model.specs.Marked.{Marked}
-use Rattle.asp_tokens.specs.declared.token.Token.{Token}
-use Rattle.asp_tokens.specs.declared.token.Token.TheVariants as tokens
-use Rattle.asp_tokens.specs.Tokens.{Lexeme, lexeme, lexemes_of, tokens_in}
-use Rattle.asp_grammar.specs.Grammar.{IsProgram}
-use Rattle.asp_grammar.specs.Programs.{IsProgramText}
-use Rattle.asp_tokens.specs.Texts.{text_of}
+use Rattle.syntax_tokens.specs.declared.token.Token.{Token}
+use Rattle.syntax_tokens.specs.declared.token.Token.TheVariants as tokens
+use Rattle.syntax_tokens.specs.Tokens.{Lexeme, lexeme, lexemes_of, tokens_in}
+use Rattle.syntax_grammar.specs.Grammar.{IsProgram}
+use Rattle.syntax_grammar.specs.Programs.{IsProgramText}
+use Rattle.syntax_tokens.specs.Texts.{text_of}
 use Rattle.asp_print.specs.Tokens.{tokens_of}
 use Rattle.asp_print.specs.Places.{moved}
 use Rattle.asp_print.specs.Correct.{IsTextOf}
@@ -16,8 +16,8 @@ use Rattle.asp_print.proofs.PieceLemmas.{both, steps_are}
 use Rattle.asp_print.proofs.GrammarLemmas.{seq_tokens}
 use Rattle.asp_print.proofs.MovingLemmas.{moved_all, split, terms_moved, tokens_moved, unplaced_again}
 use Rattle.asp_print.proofs.GrammarMoves.{seq_moved}
-use Rattle.asp_tokens.proofs.WordLemmas.{Each, IsGood, text_reads_as}
-use Rattle.asp_tokens.proofs.LexerLemmas.{Rises, lexemes_rise}
+use Rattle.syntax_tokens.proofs.WordLemmas.{Each, IsGood, text_reads_as}
+use Rattle.syntax_tokens.proofs.LexerLemmas.{Rises, lexemes_rise}
 use Rattle.asp_print.proofs.PlaceLemmas.{good_before, place_in, found, level_moved}
 
 module _ (ls : List Lexeme) (program : Marked) (p : IsProgram true ls program) where

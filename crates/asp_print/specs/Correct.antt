@@ -1,7 +1,7 @@
 -- What the public contract says.
 use Rattle.std.specs.Prelude.{◌≡◌, ℕ, List}
 use Rattle.asp_model.specs.Marked.{Marked}
-use Rattle.asp_grammar.specs.Programs.{IsProgramText}
+use Rattle.syntax_grammar.specs.Programs.{IsProgramText}
 use Rattle.asp_print.specs.Places.{unplaced}
 
 -- the bytes are a program text, and its program is this one, places aside

@@ -1,5 +1,5 @@
 -- in reading order
-pub use Rattle.asp_tokens.specs.Texts
+pub use Rattle.syntax_tokens.specs.Texts
 pub mod Tokens
 pub mod Places
 pub mod Correct

@@ -11,9 +11,9 @@ use Rattle.asp_model.specs.Names.{Text}
 use Rattle.asp_model.specs.Term.{MethodHead}
 use Rattle.asp_model.specs.Marked.{Marked}
 use Rattle.asp_model.specs.Shapes.{MarkedMethod, marked_of}
-use Rattle.asp_tokens.specs.declared.token.Token.{Token}
-use Rattle.asp_tokens.specs.declared.token.Token.TheVariants as tokens
-use Rattle.asp_tokens.specs.Texts.{token_text}
+use Rattle.syntax_tokens.specs.declared.token.Token.{Token}
+use Rattle.syntax_tokens.specs.declared.token.Token.TheVariants as tokens
+use Rattle.syntax_tokens.specs.Texts.{token_text}
 use Rattle.asp_print.specs.declared.text.Point.{Point}
 use Rattle.asp_print.specs.declared.text.Point.TheVariants as points
 use Rattle.asp_print.specs.Tokens.{between, head_tokens, method_part, tokens_of}

@@ -4,8 +4,8 @@ use Rattle.asp_model.specs.Names.{Text}
 use Rattle.asp_model.specs.Term as term
 use Rattle.asp_model.specs.Term.{Head, SignShape, MethodHead}
 use Rattle.asp_model.specs.Marked.{MarkShape, Marked, MarkedList, marked, no_marked, and_marked}
-use Rattle.asp_tokens.specs.declared.token.Token.{Token}
-use Rattle.asp_tokens.specs.declared.token.Token.TheVariants as tokens
+use Rattle.syntax_tokens.specs.declared.token.Token.{Token}
+use Rattle.syntax_tokens.specs.declared.token.Token.TheVariants as tokens
 
 -- in so many pairs of parentheses
 abbrev pub enclosed : ℕ → List Token → List Token

@@ -3,7 +3,7 @@
 
 ghost use Rattle.std.specs.Prelude.{◌∷◌, [], ◌++◌, OnOk, map, replicate};
 ghost use Rattle.asp_model.specs.Shapes.{sign_shape};
-ghost use Rattle.asp_tokens.specs.declared.token.Token.TheVariants as tokens;
+ghost use Rattle.syntax_tokens.specs.declared.token.Token.TheVariants as tokens;
 ghost use Rattle.asp_print.specs.Tokens.{access_tokens, between, head_tokens, led_by, service_tokens, sign_of, word_tokens};
 ghost use Rattle.asp_print.specs.Parts.{Writes, head_of, label_piece, label_text, name_piece};
 

@@ -2,7 +2,7 @@
 
 ghost use Rattle.std.specs.Prelude.{◌≡◌, IfOk, string_bytes};
 ghost use Rattle.asp_model.specs.Shapes.{marked_of};
-ghost use Rattle.asp_tokens.specs.Texts.{text_of};
+ghost use Rattle.syntax_tokens.specs.Texts.{text_of};
 ghost use Rattle.asp_print.specs.Tokens.{tokens_of};
 ghost use Rattle.asp_print.specs.Correct.{IsPrintOf};
 

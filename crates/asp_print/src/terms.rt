@@ -2,7 +2,7 @@
 
 ghost use Rattle.std.specs.Prelude.{◌≡◌, ◌++◌, OnOk, map, string_bytes};
 ghost use Rattle.asp_model.specs.Shapes.{mark_shape, marked_of};
-ghost use Rattle.asp_tokens.specs.declared.token.Token.TheVariants as tokens;
+ghost use Rattle.syntax_tokens.specs.declared.token.Token.TheVariants as tokens;
 ghost use Rattle.asp_print.specs.Tokens.{between, mark_of, method_part, node_tokens, service_tokens, word_tokens};
 ghost use Rattle.asp_print.specs.Parts.{Writes, field_piece, label_text, method_piece, point_token, term_tokens, word_bytes};
 

@@ -2,7 +2,7 @@
 #![tactic(auto, using(crate::proofs::WritingLemmas::writing))]
 
 ghost use Rattle.std.specs.Prelude.{◌≡◌, ◌∷◌, [], ◌++◌, OnOk, replicate, string_bytes};
-ghost use Rattle.asp_tokens.specs.declared.token.Token.TheVariants as tokens;
+ghost use Rattle.syntax_tokens.specs.declared.token.Token.TheVariants as tokens;
 ghost use Rattle.asp_print.specs.Parts.{with_blank, Writes, point_token, lead_tokens};
 
 use asp_model::Word;

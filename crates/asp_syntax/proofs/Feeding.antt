@@ -6,9 +6,9 @@ use Rattle.asp_model.specs.declared.limits.TheConstants.{MOST_LEVEL}
 use Rattle.asp_model.specs.declared.term.Term.{Term}
 use Rattle.asp_model.specs.Marked.{Marked}
 use Rattle.asp_model.specs.Shapes.{marked_of}
-use Rattle.asp_tokens.specs.declared.token.Token.{Token}
-use Rattle.asp_tokens.specs.declared.token.Token.TheVariants as tokens
-use Rattle.asp_tokens.specs.declared.token.Cursor.{Cursor}
+use Rattle.syntax_tokens.specs.declared.token.Token.{Token}
+use Rattle.syntax_tokens.specs.declared.token.Token.TheVariants as tokens
+use Rattle.syntax_tokens.specs.declared.token.Cursor.{Cursor}
 use Rattle.asp_syntax.specs.declared.error.SyntaxKind.{SyntaxKind}
 use Rattle.asp_syntax.specs.declared.error.SyntaxKind.TheVariants.{Unexpected, TooDeep, NotAField}
 use Rattle.asp_syntax.specs.declared.error.SyntaxFault.{SyntaxFault}
@@ -16,20 +16,20 @@ use Rattle.asp_syntax.specs.declared.error.SyntaxError.{SyntaxError}
 use Rattle.asp_syntax.specs.declared.error.SyntaxError.TheVariants as errors
 use Rattle.std.specs.declared.alloc.Global.{Global}
 use Rattle.std.specs.declared.boxed.Box.{Box}
-use Rattle.asp_tokens.specs.declared.levels.Walk.{Walk}
+use Rattle.syntax_tokens.specs.declared.levels.Walk.{Walk}
 use Rattle.syntax_states.specs.declared.state.State.{State}
-use Rattle.asp_tokens.specs.Tokens.{Lexeme, Between, lexemes_of}
-use Rattle.asp_tokens.specs.Levels.{WalkShape, walked}
+use Rattle.syntax_tokens.specs.Tokens.{Lexeme, Between, lexemes_of}
+use Rattle.syntax_tokens.specs.Levels.{WalkShape, walked}
 use Rattle.asp_syntax.specs.Faults.{FirstFault}
 use Rattle.asp_syntax.specs.Correct.{IsProgramText, IfFault, IsOkWith}
-use Rattle.asp_tokens.specs.Cursors.{goes_on, from, lexeme_of, lexemes}
-use Rattle.asp_grammar.specs.States.{ModeShape, OpenShape, StateShape, At, Done}
-use Rattle.asp_grammar.specs.Machine.{step}
+use Rattle.syntax_tokens.specs.Cursors.{goes_on, from, lexeme_of, lexemes}
+use Rattle.syntax_grammar.specs.States.{ModeShape, OpenShape, StateShape, At, Done}
+use Rattle.syntax_grammar.specs.Machine.{step}
 use Rattle.asp_syntax.specs.Read.{judged, bad, verdict, fault_at, onto, read, read_all}
 use Rattle.asp_syntax.specs.Answers.{judgement, is_deep, Judges, GoesOn, Feeds, Reads}
-use Rattle.asp_tokens.proofs.Endings.{text_ends}
-use Rattle.asp_grammar.specs.Depth.{parentheses_in}
-use Rattle.asp_grammar.proofs.Shallow.{IsShallow, shallow_few}
+use Rattle.syntax_tokens.proofs.Endings.{text_ends}
+use Rattle.syntax_grammar.specs.Depth.{parentheses_in}
+use Rattle.syntax_grammar.proofs.Shallow.{IsShallow, shallow_few}
 use Rattle.syntax_states.specs.Shapes.{state_shape}
 use Rattle.syntax_states.specs.Answers.{left}
 use Rattle.asp_syntax.proofs.First.{Answer, answers, comes_on}

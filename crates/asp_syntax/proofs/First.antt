@@ -4,27 +4,27 @@ use Rattle.std.proofs.lemmas.Bool.{ltb-true, ltb-false}
 use Rattle.std.specs.Prelude.{nat_lt}
 use Rattle.asp_model.specs.declared.limits.TheConstants.{MOST_LEVEL}
 use Rattle.asp_model.specs.Marked.{Marked}
-use Rattle.asp_tokens.specs.declared.token.Token.{Token}
-use Rattle.asp_tokens.specs.declared.token.Token.TheVariants as tokens
+use Rattle.syntax_tokens.specs.declared.token.Token.{Token}
+use Rattle.syntax_tokens.specs.declared.token.Token.TheVariants as tokens
 use Rattle.asp_syntax.specs.declared.error.SyntaxKind.{SyntaxKind}
 use Rattle.asp_syntax.specs.declared.error.SyntaxKind.TheVariants.{BadByte, BadNumber, Unexpected, TooDeep, NotAField}
 use Rattle.asp_syntax.specs.declared.error.SyntaxFault.{SyntaxFault}
-use Rattle.asp_tokens.specs.Tokens.{Lexeme}
-use Rattle.asp_grammar.specs.Grammar.{IsProgram, Begins}
-use Rattle.asp_grammar.specs.States.{ModeShape, OpenShape, StateShape, At, Done}
-use Rattle.asp_grammar.specs.Closings.{◌>>=◌}
-use Rattle.asp_grammar.specs.Machine.{step, run, start}
-use Rattle.asp_tokens.specs.Levels.{WalkShape, walked, walk, flat, level_after}
+use Rattle.syntax_tokens.specs.Tokens.{Lexeme}
+use Rattle.syntax_grammar.specs.Grammar.{IsProgram, Begins}
+use Rattle.syntax_grammar.specs.States.{ModeShape, OpenShape, StateShape, At, Done}
+use Rattle.syntax_grammar.specs.Closings.{◌>>=◌}
+use Rattle.syntax_grammar.specs.Machine.{step, run, start}
+use Rattle.syntax_tokens.specs.Levels.{WalkShape, walked, walk, flat, level_after}
 use Rattle.asp_syntax.specs.Faults.{number_of, IsFault, Clean, nowhere, nor_here, FirstFault}
-use Rattle.asp_tokens.specs.Cursors.{goes_on}
+use Rattle.syntax_tokens.specs.Cursors.{goes_on}
 use Rattle.asp_syntax.specs.Read.{judged, bad, verdict, onto, read, read_all}
-use Rattle.asp_tokens.proofs.Endings.{EndsWell}
-use Rattle.asp_grammar.proofs.Running.{run_append}
-use Rattle.asp_grammar.proofs.Running as running
-use Rattle.asp_grammar.proofs.Complete as complete
-use Rattle.asp_grammar.proofs.Sound.{sound}
-use Rattle.asp_grammar.proofs.Viable.{viable}
-use Rattle.asp_grammar.proofs.Stepping.{strict_step, differs, end_not, done_end}
+use Rattle.syntax_tokens.proofs.Endings.{EndsWell}
+use Rattle.syntax_grammar.proofs.Running.{run_append}
+use Rattle.syntax_grammar.proofs.Running as running
+use Rattle.syntax_grammar.proofs.Complete as complete
+use Rattle.syntax_grammar.proofs.Sound.{sound}
+use Rattle.syntax_grammar.proofs.Viable.{viable}
+use Rattle.syntax_grammar.proofs.Stepping.{strict_step, differs, end_not, done_end}
 
 one_more : (s : Bool) (ls : List Lexeme) (x : StateShape) (l : Lexeme) (z : Option StateShape) → run s start ls ≡ Some x → step s x l ≡ z → run s start (ls ++ l ∷ []) ≡ z
 one_more s ls x l None h g = running.goes_on s start x ls (l ∷ []) None h (ap (λ (z : Option StateShape). z >>= λ y. run s y []) g)

@@ -4,24 +4,24 @@ use Rattle.std.specs.Prelude.{nat_lt}
 use Rattle.std.proofs.lemmas.Bool.{ltb-false}
 use Rattle.asp_model.specs.declared.limits.TheConstants.{MOST_LEVEL}
 use Rattle.asp_model.specs.Marked.{Marked}
-use Rattle.asp_tokens.specs.declared.token.Token.{Token}
-use Rattle.asp_tokens.specs.declared.token.Token.TheVariants as tokens
+use Rattle.syntax_tokens.specs.declared.token.Token.{Token}
+use Rattle.syntax_tokens.specs.declared.token.Token.TheVariants as tokens
 use Rattle.asp_syntax.specs.declared.error.SyntaxKind.{SyntaxKind}
 use Rattle.asp_syntax.specs.declared.error.SyntaxKind.TheVariants.{BadByte, BadNumber, Unexpected, TooDeep, NotAField}
 use Rattle.asp_syntax.specs.declared.error.SyntaxFault.{SyntaxFault}
-use Rattle.asp_tokens.specs.Tokens.{Lexeme}
-use Rattle.asp_grammar.specs.Grammar.{IsProgram, Begins}
-use Rattle.asp_grammar.specs.States.{StateShape, At, Done}
-use Rattle.asp_grammar.specs.Closings.{◌>>=◌}
-use Rattle.asp_grammar.specs.Machine.{step, run, start}
-use Rattle.asp_tokens.specs.Levels.{WalkShape, walked, walk, flat, level_after}
+use Rattle.syntax_tokens.specs.Tokens.{Lexeme}
+use Rattle.syntax_grammar.specs.Grammar.{IsProgram, Begins}
+use Rattle.syntax_grammar.specs.States.{StateShape, At, Done}
+use Rattle.syntax_grammar.specs.Closings.{◌>>=◌}
+use Rattle.syntax_grammar.specs.Machine.{step, run, start}
+use Rattle.syntax_tokens.specs.Levels.{WalkShape, walked, walk, flat, level_after}
 use Rattle.asp_syntax.specs.Faults.{IsFault}
 use Rattle.asp_syntax.specs.Read.{verdict, onto, read, read_all}
-use Rattle.asp_tokens.proofs.Endings.{EndsWell}
-use Rattle.asp_grammar.proofs.Running.{run_append}
-use Rattle.asp_grammar.proofs.Complete.{complete}
-use Rattle.asp_grammar.proofs.Sound.{sound}
-use Rattle.asp_grammar.proofs.Stepping.{strict_step, IsNone, none_steps, done_end}
+use Rattle.syntax_tokens.proofs.Endings.{EndsWell}
+use Rattle.syntax_grammar.proofs.Running.{run_append}
+use Rattle.syntax_grammar.proofs.Complete.{complete}
+use Rattle.syntax_grammar.proofs.Sound.{sound}
+use Rattle.syntax_grammar.proofs.Stepping.{strict_step, IsNone, none_steps, done_end}
 use Rattle.asp_syntax.proofs.First.{Answer, answers, shallow, comes_on, ends_next, last_one}
 
 strict_run : (ls : List Lexeme) (x y : StateShape) → run true x ls ≡ Some y → run false x ls ≡ Some y

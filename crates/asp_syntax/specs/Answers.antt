@@ -6,12 +6,12 @@ use Rattle.asp_model.specs.declared.limits.TheConstants.{MOST_LEVEL}
 use Rattle.asp_model.specs.declared.term.Term.{Term}
 use Rattle.asp_model.specs.Marked.{Marked}
 use Rattle.asp_model.specs.Shapes.{marked_of}
-use Rattle.asp_tokens.specs.declared.levels.Walk.{Walk}
-use Rattle.asp_tokens.specs.Tokens.{Lexeme}
-use Rattle.asp_tokens.specs.Levels.{WalkShape, walked}
-use Rattle.asp_tokens.specs.WalkShapes.{walk_shape}
-use Rattle.asp_grammar.specs.States.{StateShape}
-use Rattle.asp_grammar.specs.Machine.{step}
+use Rattle.syntax_tokens.specs.declared.levels.Walk.{Walk}
+use Rattle.syntax_tokens.specs.Tokens.{Lexeme}
+use Rattle.syntax_tokens.specs.Levels.{WalkShape, walked}
+use Rattle.syntax_tokens.specs.WalkShapes.{walk_shape}
+use Rattle.syntax_grammar.specs.States.{StateShape}
+use Rattle.syntax_grammar.specs.Machine.{step}
 use Rattle.syntax_states.specs.declared.state.State.{State}
 use Rattle.syntax_states.specs.Answers.{left}
 use Rattle.asp_syntax.specs.declared.error.SyntaxFault.{SyntaxFault}

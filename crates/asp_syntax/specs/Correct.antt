@@ -1,5 +1,5 @@
 -- What the public contract says.
-pub use Rattle.asp_grammar.specs.Programs.{IsProgramText}
+pub use Rattle.syntax_grammar.specs.Programs.{IsProgramText}
 use Rattle.std.specs.Prelude.{◌≡◌, Result, Ok, Err}
 use Rattle.asp_model.specs.declared.term.Program.{Program}
 use Rattle.asp_model.specs.Marked.{Marked}

@@ -1,13 +1,13 @@
 -- The faults of a text, apart from how it is read.
 use Rattle.std.specs.Prelude.{◌≡◌, ℕ, ◌≤◌, ◌<◌, true, false, List, [], ◌∷◌, ◌++◌}
 use Rattle.asp_model.specs.declared.limits.TheConstants.{MOST_LEVEL}
-use Rattle.asp_tokens.specs.declared.token.Token.TheVariants as tokens
+use Rattle.syntax_tokens.specs.declared.token.Token.TheVariants as tokens
 use Rattle.asp_syntax.specs.declared.error.SyntaxKind.{SyntaxKind}
 use Rattle.asp_syntax.specs.declared.error.SyntaxKind.TheVariants.{BadByte, BadNumber, Unexpected, TooDeep, NotAField}
 use Rattle.asp_syntax.specs.declared.error.SyntaxFault.{SyntaxFault}
-use Rattle.asp_tokens.specs.Tokens.{Lexeme}
-use Rattle.asp_grammar.specs.Grammar.{Begins}
-use Rattle.asp_tokens.specs.Levels.{level_after}
+use Rattle.syntax_tokens.specs.Tokens.{Lexeme}
+use Rattle.syntax_grammar.specs.Grammar.{Begins}
+use Rattle.syntax_tokens.specs.Levels.{level_after}
 
 -- of two faults at one place that with the lesser number is answered
 abbrev pub number_of : SyntaxKind → ℕ

@@ -1,10 +1,10 @@
 -- in reading order
-pub use Rattle.asp_tokens.specs.Bytes
-pub use Rattle.asp_tokens.specs.Tokens
-pub use Rattle.asp_tokens.specs.Levels
-pub use Rattle.asp_grammar.specs.Nodes
-pub use Rattle.asp_grammar.specs.Signs
-pub use Rattle.asp_grammar.specs.Grammar
+pub use Rattle.syntax_tokens.specs.Bytes
+pub use Rattle.syntax_tokens.specs.Tokens
+pub use Rattle.syntax_tokens.specs.Levels
+pub use Rattle.syntax_grammar.specs.Nodes
+pub use Rattle.syntax_grammar.specs.Signs
+pub use Rattle.syntax_grammar.specs.Grammar
 pub mod Faults
 pub mod Correct
 pub mod Read

@@ -2,15 +2,15 @@
 use Rattle.std.specs.Prelude.{ℕ, nat_lt, Bool, true, false, List, [], ◌∷◌, Option, Some, None, Result, Ok, Err}
 use Rattle.asp_model.specs.declared.limits.TheConstants.{MOST_LEVEL}
 use Rattle.asp_model.specs.Marked.{Marked}
-use Rattle.asp_tokens.specs.declared.token.Token.{Token}
-use Rattle.asp_tokens.specs.declared.token.Token.TheVariants as tokens
+use Rattle.syntax_tokens.specs.declared.token.Token.{Token}
+use Rattle.syntax_tokens.specs.declared.token.Token.TheVariants as tokens
 use Rattle.asp_syntax.specs.declared.error.SyntaxKind.{SyntaxKind}
 use Rattle.asp_syntax.specs.declared.error.SyntaxKind.TheVariants.{BadByte, BadNumber, Unexpected, TooDeep, NotAField}
 use Rattle.asp_syntax.specs.declared.error.SyntaxFault.{SyntaxFault}
-use Rattle.asp_tokens.specs.Tokens.{Lexeme}
-use Rattle.asp_grammar.specs.States.{StateShape, At, Done}
-use Rattle.asp_grammar.specs.Machine.{step, start}
-use Rattle.asp_tokens.specs.Levels.{WalkShape, walked, flat}
+use Rattle.syntax_tokens.specs.Tokens.{Lexeme}
+use Rattle.syntax_grammar.specs.States.{StateShape, At, Done}
+use Rattle.syntax_grammar.specs.Machine.{step, start}
+use Rattle.syntax_tokens.specs.Levels.{WalkShape, walked, flat}
 
 abbrev pub field : Option StateShape → Option SyntaxKind
 field None = Some NotAField

@@ -4,13 +4,13 @@ ghost use Rattle.std.specs.Prelude.{◌≡◌, ◌≤◌, None, IfOk, OnOk};
 ghost use Rattle.asp_model.specs.declared.limits.TheConstants.{MOST_LEVEL};
 ghost use Rattle.asp_model.specs.Marked.{Marked};
 ghost use Rattle.asp_model.specs.Shapes.{marked_of};
-ghost use Rattle.asp_tokens.specs.Tokens.{lexemes_of};
-ghost use Rattle.asp_tokens.specs.Cursors.{lexeme_of};
-ghost use Rattle.asp_tokens.specs.Ordered.{IsOrdered};
-ghost use Rattle.asp_tokens.specs.WalkShapes.{walk_shape};
-ghost use Rattle.asp_tokens.specs.Levels.{flat};
-ghost use Rattle.asp_grammar.specs.Machine.{start};
-ghost use Rattle.asp_grammar.specs.Depth.{parentheses_in};
+ghost use Rattle.syntax_tokens.specs.Tokens.{lexemes_of};
+ghost use Rattle.syntax_tokens.specs.Cursors.{lexeme_of};
+ghost use Rattle.syntax_tokens.specs.Ordered.{IsOrdered};
+ghost use Rattle.syntax_tokens.specs.WalkShapes.{walk_shape};
+ghost use Rattle.syntax_tokens.specs.Levels.{flat};
+ghost use Rattle.syntax_grammar.specs.Machine.{start};
+ghost use Rattle.syntax_grammar.specs.Depth.{parentheses_in};
 ghost use Rattle.syntax_states.specs.Shapes.{state_shape};
 ghost use Rattle.asp_syntax.specs.Faults.{FirstFault};
 ghost use Rattle.asp_syntax.specs.Correct.{IsProgramText, IfFault, IsOkWith};
@@ -19,10 +19,10 @@ ghost use Rattle.asp_syntax.specs.Answers.{Judges, UnlessDeep, GoesOn, Feeds, Re
 
 use crate::error::{SyntaxError, SyntaxFault, SyntaxKind};
 use asp_model::{MOST_LEVEL, Program, Term};
-use asp_tokens::{Cursor, Token, Walk, flat_walk, scan, walk_on};
-use open_terms::{Stop, stopped};
 use std::alloc::Global;
 use syntax_states::{State, start_state, step};
+use syntax_terms::{Stop, stopped};
+use syntax_tokens::{Cursor, Token, Walk, flat_walk, scan, walk_on};
 
 /// The program that a text is, or its first fault. Time and memory are linear in the text, and only
 /// levels are nested.

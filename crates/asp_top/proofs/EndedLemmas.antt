@@ -6,17 +6,17 @@ use Rattle.asp_model.specs.Configuration.{Configuration, start}
 use Rattle.asp_model.specs.Marked.{plain}
 use Rattle.asp_model.specs.Step.{ListsShape}
 use Rattle.asp_model.specs.Replay.{replay, senders_in}
-use Rattle.paths.specs.Outcomes.{whole_outcome_of}
-use Rattle.report_laws.specs.Depths.{report_to}
-use Rattle.laws.specs.Reached.{RunsTo}
-use Rattle.laws.specs.Joins.{HasOneSender, IsOneSenderEnd}
-use Rattle.laws.proofs.StepLemmas.{listed_is_free}
-use Rattle.laws.proofs.ReplayLemmas.{replays_are_runs}
-use Rattle.laws.proofs.SenderLemmas.{one_sender_ends}
+use Rattle.def_paths.specs.Outcomes.{whole_outcome_of}
+use Rattle.law_reports.specs.Depths.{report_to}
+use Rattle.law_steps.specs.Reached.{RunsTo}
+use Rattle.law_steps.specs.Joins.{HasOneSender, IsOneSenderEnd}
+use Rattle.law_steps.proofs.StepLemmas.{listed_is_free}
+use Rattle.law_steps.proofs.ReplayLemmas.{replays_are_runs}
+use Rattle.law_steps.proofs.SenderLemmas.{one_sender_ends}
 use Rattle.command_line.specs.Settings.{SettingsShape}
 use Rattle.command_line.specs.Task.{Runs}
-use Rattle.outcome_laws.specs.Outcomes.{IsEndReport}
-use Rattle.outcome_laws.proofs.ReportLaws.{end_reports_agree}
+use Rattle.law_outcomes.specs.Outcomes.{IsEndReport}
+use Rattle.law_outcomes.proofs.ReportLaws.{end_reports_agree}
 use Rattle.asp_top.specs.Seen.{Outside}
 use Rattle.asp_top.specs.Correct.{Answers, end_of}
 use Rattle.asp_top.specs.Ended.{IsEnded, EndedRunsPrintTheSame, OneSenderPrintsTheSame}

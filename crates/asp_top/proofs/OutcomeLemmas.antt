@@ -10,13 +10,13 @@ use Rattle.asp_model.specs.Report.{text_of}
 use Rattle.asp_model.specs.ReadReport.{read_report, Reads}
 use Rattle.asp_model.specs.Shapes.{outcome_shape, tree_of}
 use Rattle.asp_check.specs.declared.checked.Checked.{Checked}
-use Rattle.paths.specs.Outcomes.{whole_outcome_of}
-use Rattle.report_laws.specs.Depths.{report_to}
-use Rattle.outcome_laws.proofs.ReportLaws.{replay_reports_are_read}
-use Rattle.outcome_laws.proofs.ProgramLaws.{program_texts_are_printable}
+use Rattle.def_paths.specs.Outcomes.{whole_outcome_of}
+use Rattle.law_reports.specs.Depths.{report_to}
+use Rattle.law_outcomes.proofs.ReportLaws.{replay_reports_are_read}
+use Rattle.law_outcomes.proofs.ProgramLaws.{program_texts_are_printable}
 use Rattle.run_ends.specs.declared.ends.RunEnd.{RunEnd}
 use Rattle.run_report.specs.Summary.{summary_of}
-use Rattle.core_ends.specs.Runs.{IsEndOfRun}
+use Rattle.asp_core.specs.EndOfRun.{IsEndOfRun}
 use Rattle.load_gen.specs.Generated.{generated}
 use Rattle.command_line.specs.Settings.{IsSettings, SettingsShape}
 use Rattle.command_line.specs.Task.{Runs, Replays, Makes}

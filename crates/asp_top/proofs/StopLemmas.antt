@@ -8,7 +8,7 @@ use Rattle.asp_model.specs.Marked.{Marked}
 use Rattle.asp_model.specs.Shapes.{marked_of}
 use Rattle.asp_syntax.specs.declared.error.SyntaxError.{SyntaxError}
 use Rattle.asp_syntax.specs.declared.error.SyntaxError.TheVariants as syntax
-use Rattle.asp_tokens.specs.Tokens.{lexemes_of}
+use Rattle.syntax_tokens.specs.Tokens.{lexemes_of}
 use Rattle.asp_syntax.specs.Faults.{FirstFault}
 use Rattle.asp_syntax.specs.Correct.{IsProgramText, IfFault, IsOkWith}
 use Rattle.asp_check.specs.declared.checked.Checked.{Checked}

@@ -8,8 +8,8 @@ use Rattle.asp_model.specs.Replay.{CountsShape, Fits, replay, total}
 use Rattle.asp_model.specs.Outcome.{outcome_of, exit_status}
 use Rattle.asp_model.specs.Report.{with_feed}
 use Rattle.asp_model.specs.ReadReport.{read_report, Reads}
-use Rattle.paths.specs.Outcomes.{whole_outcome_of}
-use Rattle.report_laws.specs.Depths.{report_to}
+use Rattle.def_paths.specs.Outcomes.{whole_outcome_of}
+use Rattle.law_reports.specs.Depths.{report_to}
 use Rattle.run_report.specs.Summary.{summary_of}
 use Rattle.command_line.specs.Task.{TaskShape, Runs, Checks, Replays, Makes, task_of}
 use Rattle.asp_top.specs.Seen.{Call, Outside, IsUntouched, Takes}

@@ -3,7 +3,7 @@ use Rattle.std.specs.Prelude.{◌≡◌, ◌⊎◌, ℕ, List, Option}
 use Rattle.asp_model.specs.Names.{Name}
 use Rattle.asp_model.specs.Marked.{plain}
 use Rattle.asp_model.specs.Replay.{senders_in}
-use Rattle.laws.specs.Joins.{HasOneSender}
+use Rattle.law_steps.specs.Joins.{HasOneSender}
 use Rattle.command_line.specs.Settings.{SettingsShape}
 use Rattle.command_line.specs.Task.{Runs}
 use Rattle.asp_top.specs.Seen.{Outside}

@@ -7,9 +7,9 @@ use Rattle.asp_model.specs.Step.{ListsShape}
 use Rattle.asp_model.specs.Replay.{CountsShape, Fits, IsLeastDiverging}
 use Rattle.asp_model.specs.ReadReport.{read_report, BadLine}
 use Rattle.asp_syntax.specs.declared.error.SyntaxFault.{SyntaxFault}
-use Rattle.asp_tokens.specs.Tokens.{lexemes_of}
+use Rattle.syntax_tokens.specs.Tokens.{lexemes_of}
 use Rattle.asp_syntax.specs.Faults.{FirstFault}
-use Rattle.asp_grammar.specs.Programs.{IsProgramText}
+use Rattle.syntax_grammar.specs.Programs.{IsProgramText}
 use Rattle.asp_check.specs.declared.fault.CheckFault.{CheckFault}
 use Rattle.asp_check.specs.Faults.{IsChecked, IsFirstFault}
 use Rattle.command_line.specs.Task.{TaskShape, Runs, Checks, Replays, Makes, task_of}

@@ -5,7 +5,7 @@ use Rattle.asp_model.specs.Marked.{Marked}
 use Rattle.asp_model.specs.Step.{ListsShape}
 use Rattle.asp_model.specs.Replay.{CountsShape}
 use Rattle.asp_model.specs.ReadReport.{read_report, Reads}
-use Rattle.asp_grammar.specs.Programs.{IsProgramText}
+use Rattle.syntax_grammar.specs.Programs.{IsProgramText}
 use Rattle.asp_check.specs.Faults.{IsChecked}
 use Rattle.asp_edge.specs.Told.{Asks}
 use Rattle.asp_edge.specs.Causes.{IsContent}

@@ -4,9 +4,9 @@ ghost use Rattle.std.specs.Prelude.{◌≡◌, ◌≤◌, IfOk, IfErr, codes, ma
 ghost use Rattle.asp_model.specs.Report.{text_of, with_feed};
 ghost use Rattle.asp_model.specs.Outcome.{exit_status};
 ghost use Rattle.asp_model.specs.Shapes.{outcome_shape, tree_of};
-ghost use Rattle.core_ends.specs.Runs.{IsEndOfRun};
-ghost use Rattle.paths.specs.Outcomes.{WholeOutcome};
-ghost use Rattle.report_laws.specs.Depths.{report_to};
+ghost use Rattle.asp_core.specs.EndOfRun.{IsEndOfRun};
+ghost use Rattle.def_paths.specs.Outcomes.{WholeOutcome};
+ghost use Rattle.law_reports.specs.Depths.{report_to};
 ghost use Rattle.run_ends.specs.Ends.{IsEndOf};
 ghost use Rattle.run_report.specs.Summary.{summary_of};
 ghost use Rattle.command_line.specs.Task.{Runs, Checks, Replays, Makes, IsWithin};

@@ -7,18 +7,18 @@ use Rattle.asp_model.specs.Names.{Text}
 use Rattle.asp_model.specs.Term.{Head, Tree, Trees, node, none, more, leaf, trees, Environment, binders, child_count}
 use Rattle.asp_model.specs.Term as term
 use Rattle.asp_model.specs.Readable.{HasArity}
-use Rattle.program_code.specs.declared.code.Child.{Child}
-use Rattle.program_code.specs.declared.code.Child.TheVariants as child
-use Rattle.program_code.specs.declared.code.Kind.{Kind}
-use Rattle.program_code.specs.declared.code.Kind.TheVariants as kind
-use Rattle.program_code.specs.declared.code.Leaf.{Leaf}
-use Rattle.program_code.specs.declared.code.Node.{Node}
-use Rattle.program_code.specs.Pieces.{Piece, piece, Pieces, nothing, also, count, tree, below}
-use Rattle.program_code.specs.Fitting.{IsNode, names, LeafFits, leaf_name, Fits, AllFit}
-use Rattle.program_code.specs.Uses.{leaf_use, uses, uses_below}
-use Rattle.program_code.specs.Tables.{piece_at, piece_of, pieces_of, kind_head, kind_piece, node_piece, pieces}
-use Rattle.program_code.specs.Sound.{AllBelow, KindBelow, KindSound}
-use Rattle.program_code.proofs.GrowthLemmas.{last_piece, ordered_put, all_below_more, all_below_append, children_kept, sound_put}
+use Rattle.code_table.specs.declared.code.Child.{Child}
+use Rattle.code_table.specs.declared.code.Child.TheVariants as child
+use Rattle.code_table.specs.declared.code.Kind.{Kind}
+use Rattle.code_table.specs.declared.code.Kind.TheVariants as kind
+use Rattle.code_table.specs.declared.code.Leaf.{Leaf}
+use Rattle.code_table.specs.declared.code.Node.{Node}
+use Rattle.code_table.specs.Pieces.{Piece, piece, Pieces, nothing, also, count, tree, below}
+use Rattle.code_table.specs.Fitting.{IsNode, names, LeafFits, leaf_name, Fits, AllFit}
+use Rattle.code_table.specs.Uses.{leaf_use, uses, uses_below}
+use Rattle.code_table.specs.Tables.{piece_at, piece_of, pieces_of, kind_head, kind_piece, node_piece, pieces}
+use Rattle.code_table.specs.Sound.{AllBelow, KindBelow, KindSound}
+use Rattle.code_table.proofs.GrowthLemmas.{last_piece, ordered_put, all_below_more, all_below_append, children_kept, sound_put}
 use Rattle.code_compiler.proofs.ScopeLemmas.{leaf_is}
 use Rattle.code_compiler.specs.Closed.{IsClosed, AreClosed}
 use Rattle.code_compiler.specs.Compiled.{Body, names_in, SameScope, IsPlain, IsTable, Grows, variables, StandFor, Adds, EndsTable}

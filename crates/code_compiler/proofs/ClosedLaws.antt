@@ -11,12 +11,12 @@ use Rattle.asp_model.specs.Term as term
 use Rattle.asp_model.specs.Term.{Tree, Trees, MethodHead, node, none, more, trees, binders, child_count}
 use Rattle.asp_model.specs.Readable.{HasArity}
 use Rattle.asp_model.specs.Shapes.{tree_of}
-use Rattle.program_code.specs.Fitting.{head_names}
-use Rattle.name_slots.specs.Slots.{bound_in}
-use Rattle.program_code.specs.Parts.{body_tree, field_label, field_tree, method_head}
+use Rattle.code_table.specs.Fitting.{head_names}
+use Rattle.code_compiler.specs.Slots.{bound_in}
+use Rattle.code_table.specs.Parts.{body_tree, field_label, field_tree, method_head}
 use Rattle.code_compiler.specs.Closed.{IsClosed, AreClosed}
 use Rattle.code_compiler.specs.Parts.{terms_below, fields_below, bodies_below, AreClosedMethods}
-use Rattle.program_code.proofs.TermTrees.{make_is, call_is, steps_is, group_is}
+use Rattle.code_table.proofs.TermTrees.{make_is, call_is, steps_is, group_is}
 
 -- lists of terms
 

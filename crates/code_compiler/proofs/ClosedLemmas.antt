@@ -4,8 +4,8 @@ use Rattle.std.proofs.lemmas.Slice.Eq.{bytes_eq-Decides}
 use Rattle.asp_model.specs.Names.{Text, same_text}
 use Rattle.asp_model.specs.Term.{Head, Loc, Hole, Var, Tree, Trees, node, none, more, binders, child_count, has_text}
 use Rattle.asp_model.specs.Readable.{HasArity, IsReadable, AreReadable, is_written}
-use Rattle.sound_programs.specs.Proper.{is_proper_node, IsProper, AreProper}
-use Rattle.sound_programs.proofs.ScopeLemmas.{or_cases, or_left, or_right, text_both, Within}
+use Rattle.law_programs.specs.Proper.{is_proper_node, IsProper, AreProper}
+use Rattle.law_programs.proofs.ScopeLemmas.{or_cases, or_left, or_right, text_both, Within}
 use Rattle.code_compiler.specs.Closed.{is_closed_node, IsClosed, AreClosed}
 use Rattle.code_compiler.specs.Free.{with_name, with_free, free_in, free_below}
 use Rattle.code_compiler.specs.Compiled.{AreAmong}

@@ -11,12 +11,12 @@ use Rattle.asp_model.specs.declared.term.Term.TheVariants.{Make, Loc, Hole, Var,
 use Rattle.asp_model.specs.Names.{Text}
 use Rattle.asp_model.specs.Term.{trees}
 use Rattle.asp_model.specs.Shapes.{tree_of}
-use Rattle.program_code.specs.Fitting.{head_names}
-use Rattle.name_slots.specs.Slots.{bound_in}
-use Rattle.program_code.specs.Parts.{body_tree, field_label, field_tree, method_head}
+use Rattle.code_table.specs.Fitting.{head_names}
+use Rattle.code_compiler.specs.Slots.{bound_in}
+use Rattle.code_table.specs.Parts.{body_tree, field_label, field_tree, method_head}
 use Rattle.code_compiler.specs.Free.{with_free, free_in, free_below}
 use Rattle.code_compiler.specs.Parts.{terms_below, fields_below, bodies_below}
-use Rattle.program_code.proofs.TermTrees.{make_is, loc_is, hole_is, var_is, number_is, get_is, put_is, call_is, clone_is, active_is, serve_is, let_is, steps_is, if_is, repeat_is, operate_is, print_is, echo_is, group_is, scatter_is, size_is, member_is, waitall_is}
+use Rattle.code_table.proofs.TermTrees.{make_is, loc_is, hole_is, var_is, number_is, get_is, put_is, call_is, clone_is, active_is, serve_is, let_is, steps_is, if_is, repeat_is, operate_is, print_is, echo_is, group_is, scatter_is, size_is, member_is, waitall_is}
 
 pub loc_free : (b acc : List Text) (n : ℕ) (m : Mark) → free_in b acc (tree_of (Loc n m)) ≡ acc
 loc_free b acc n m = ap (free_in b acc) (loc_is n m)

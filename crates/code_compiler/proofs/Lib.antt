@@ -1,3 +1,5 @@
+-- in reading order
+pub mod SlotLemmas
 pub mod FreeLemmas
 pub mod ClosedLemmas
 pub mod ClosedLaws

@@ -6,20 +6,20 @@ use Rattle.std.specs.List.{flat_map}
 use Rattle.asp_model.specs.Names.{Text}
 use Rattle.asp_model.specs.Term.{MethodHead, Tree, Trees, node, none, more, trees, Environment}
 use Rattle.asp_model.specs.Term as term
-use Rattle.program_code.specs.declared.code.Capture.{Capture}
-use Rattle.program_code.specs.declared.code.Child.{Child}
-use Rattle.program_code.specs.declared.code.Child.TheVariants as child
-use Rattle.program_code.specs.declared.code.Class.{Class}
-use Rattle.program_code.specs.declared.code.Kind.TheVariants as kind
-use Rattle.program_code.specs.declared.code.MethodCode.{MethodCode}
-use Rattle.program_code.specs.declared.code.Node.{Node}
-use Rattle.program_code.specs.Pieces.{Piece, Pieces, nothing, also, Bodies, count, heads_of, captured_trees, tree, below, bodies}
-use Rattle.program_code.specs.Fitting.{Fits, BodiesFit, captured_names, head_names, body_scope, body_height, slots_from}
-use Rattle.program_code.specs.Uses.{use_at, uses, uses_below, uses_in}
-use Rattle.program_code.specs.Tables.{labels_of, head_of, piece_of, pieces_of, bodies_of, node_piece, pieces}
-use Rattle.program_code.specs.Sound.{IsBelow, AllBelow, MethodsSound, StartFrom, KindSound}
-use Rattle.program_code.proofs.GrowthLemmas.{all_below_more, methods_below_more, methods_below_append, bodies_kept, methods_sound_kept}
-use Rattle.name_slots.proofs.SlotLemmas.{length-slots}
+use Rattle.code_table.specs.declared.code.Capture.{Capture}
+use Rattle.code_table.specs.declared.code.Child.{Child}
+use Rattle.code_table.specs.declared.code.Child.TheVariants as child
+use Rattle.code_table.specs.declared.code.Class.{Class}
+use Rattle.code_table.specs.declared.code.Kind.TheVariants as kind
+use Rattle.code_table.specs.declared.code.MethodCode.{MethodCode}
+use Rattle.code_table.specs.declared.code.Node.{Node}
+use Rattle.code_table.specs.Pieces.{Piece, Pieces, nothing, also, Bodies, count, heads_of, captured_trees, tree, below, bodies}
+use Rattle.code_table.specs.Fitting.{Fits, BodiesFit, captured_names, head_names, body_scope, body_height, slots_from}
+use Rattle.code_table.specs.Uses.{use_at, uses, uses_below, uses_in}
+use Rattle.code_table.specs.Tables.{labels_of, head_of, piece_of, pieces_of, bodies_of, node_piece, pieces}
+use Rattle.code_table.specs.Sound.{IsBelow, AllBelow, MethodsSound, StartFrom, KindSound}
+use Rattle.code_table.proofs.GrowthLemmas.{all_below_more, methods_below_more, methods_below_append, bodies_kept, methods_sound_kept}
+use Rattle.code_compiler.proofs.SlotLemmas.{length-slots}
 use Rattle.code_compiler.specs.Compiled.{Body, variables, scope_of, StandFor, Adds, heads_of_code, captured_count, AddsMethods, IsMethod}
 use Rattle.code_compiler.proofs.ScopeLemmas.{captured_are}
 use Rattle.code_compiler.proofs.AddLemmas.{then, trees_append, grows_not, grows_more, longer, same_self, same_then, OnePiece, one_piece, put_adds, put_grows, stays, count_stand}

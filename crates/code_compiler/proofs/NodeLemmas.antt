@@ -3,9 +3,9 @@ use Rattle.std.proofs.Common.{◌≡◌, ℕ, suc, true, T, List, [], ◌∷◌,
 use Rattle.asp_model.specs.Names.{Text}
 use Rattle.asp_model.specs.Term.{Head, Tree, Trees, node, none, more, trees, child_count}
 use Rattle.asp_model.specs.Readable.{HasArity}
-use Rattle.program_code.specs.declared.code.Kind.{Kind}
-use Rattle.program_code.specs.declared.code.Kind.TheVariants as kind
-use Rattle.program_code.specs.Tables.{kind_head}
+use Rattle.code_table.specs.declared.code.Kind.{Kind}
+use Rattle.code_table.specs.declared.code.Kind.TheVariants as kind
+use Rattle.code_table.specs.Tables.{kind_head}
 use Rattle.code_compiler.specs.Closed.{IsClosed}
 use Rattle.code_compiler.specs.Compiled.{IsPlain, is_plain}
 use Rattle.code_compiler.specs.Parts.{head_at, list_of, parts_of}

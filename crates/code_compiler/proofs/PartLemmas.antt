@@ -16,7 +16,7 @@ use Rattle.code_compiler.specs.Parts.{parts_of, terms_below}
 use Rattle.code_compiler.proofs.ClosedLaws.{steps_closed, group_closed}
 use Rattle.code_compiler.proofs.NodeLemmas.{parts_trees}
 use Rattle.code_compiler.proofs.SizeLemmas.{steps_size, group_size}
-use Rattle.program_code.proofs.TermTrees.{put_is, call_is, steps_is, operate_is, group_is, scatter_is, member_is}
+use Rattle.code_table.proofs.TermTrees.{put_is, call_is, steps_is, operate_is, group_is, scatter_is, member_is}
 
 abbrev parts : Term → List Tree
 parts t = parts_of (tree_of t)

@@ -2,16 +2,16 @@
 use Rattle.std.proofs.Common.{◌≡◌, ℕ, ◌+◌, ◌<◌, List, [], ◌∷◌, ◌++◌, length, refl, sym, ap, subst, ◌∙◌, arith}
 use Rattle.asp_model.specs.Names.{Text}
 use Rattle.asp_model.specs.Term.{Tree, Environment}
-use Rattle.program_code.specs.declared.code.Child.{Child}
-use Rattle.program_code.specs.declared.code.Child.TheVariants as child
-use Rattle.program_code.specs.declared.code.Leaf.{Leaf}
-use Rattle.program_code.specs.declared.code.Leaf.TheVariants as leaves
-use Rattle.program_code.specs.declared.code.Node.{Node}
-use Rattle.program_code.specs.Pieces.{Piece, tree}
-use Rattle.program_code.specs.Fitting.{LeafFits, Fits}
-use Rattle.program_code.specs.Tables.{piece_at, piece_of, pieces}
-use Rattle.program_code.specs.Sound.{IsSound, root_of}
-use Rattle.program_code.proofs.GrowthLemmas.{number_kept}
+use Rattle.code_table.specs.declared.code.Child.{Child}
+use Rattle.code_table.specs.declared.code.Child.TheVariants as child
+use Rattle.code_table.specs.declared.code.Leaf.{Leaf}
+use Rattle.code_table.specs.declared.code.Leaf.TheVariants as leaves
+use Rattle.code_table.specs.declared.code.Node.{Node}
+use Rattle.code_table.specs.Pieces.{Piece, tree}
+use Rattle.code_table.specs.Fitting.{LeafFits, Fits}
+use Rattle.code_table.specs.Tables.{piece_at, piece_of, pieces}
+use Rattle.code_table.specs.Sound.{IsSound, root_of}
+use Rattle.code_table.proofs.GrowthLemmas.{number_kept}
 use Rattle.code_compiler.specs.Compiled.{Body, variables, Grows, IsTable, IsPrelude, IsRoot, Adds, EndsTable}
 use Rattle.code_compiler.proofs.AddLemmas.{OnePiece, one_piece}
 

@@ -4,12 +4,12 @@ use Rattle.std.proofs.lemmas.List.{append-nil}
 use Rattle.std.specs.List.{flat_map}
 use Rattle.asp_model.specs.Names.{Text}
 use Rattle.asp_model.specs.Term.{Environment, Var, leaf, has_text}
-use Rattle.program_code.specs.declared.code.Capture.{Capture}
-use Rattle.program_code.specs.declared.code.Leaf.{Leaf}
-use Rattle.program_code.specs.declared.code.Leaf.TheVariants as leaves
-use Rattle.program_code.specs.Pieces.{at_slot, leaf_tree, captured_trees}
-use Rattle.program_code.specs.Fitting.{text_at, captured_names, leaf_name, LeafFits, CapturesFit}
-use Rattle.program_code.specs.Uses.{leaf_use, use_at}
+use Rattle.code_table.specs.declared.code.Capture.{Capture}
+use Rattle.code_table.specs.declared.code.Leaf.{Leaf}
+use Rattle.code_table.specs.declared.code.Leaf.TheVariants as leaves
+use Rattle.code_table.specs.Pieces.{at_slot, leaf_tree, captured_trees}
+use Rattle.code_table.specs.Fitting.{text_at, captured_names, leaf_name, LeafFits, CapturesFit}
+use Rattle.code_table.specs.Uses.{leaf_use, use_at}
 use Rattle.code_compiler.specs.Compiled.{AreAmong, variables}
 
 -- What a method captured

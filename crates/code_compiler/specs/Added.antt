@@ -3,12 +3,12 @@ use Rattle.std.specs.Prelude.{ℕ, List, [], ◌∷◌, map}
 use Rattle.std.specs.Global.{Vec}
 use Rattle.asp_model.specs.declared.term.Method.{Method}
 use Rattle.asp_model.specs.Term.{Tree}
-use Rattle.program_code.specs.declared.code.Child.{Child}
-use Rattle.program_code.specs.declared.code.MethodCode.{MethodCode}
-use Rattle.program_code.specs.declared.code.Node.{Node}
-use Rattle.name_slots.specs.Slots.{environment}
-use Rattle.program_code.specs.Parts.{body_tree, method_head}
-use Rattle.name_slots.specs.declared.scope.Scope.{Scope}
+use Rattle.code_table.specs.declared.code.Child.{Child}
+use Rattle.code_table.specs.declared.code.MethodCode.{MethodCode}
+use Rattle.code_table.specs.declared.code.Node.{Node}
+use Rattle.code_compiler.specs.Slots.{environment}
+use Rattle.code_table.specs.Parts.{body_tree, method_head}
+use Rattle.code_compiler.specs.declared.scope.Scope.{Scope}
 use Rattle.code_compiler.specs.Compiled.{Body, Adds, AddsMethods}
 
 -- a body that has used these slots so far

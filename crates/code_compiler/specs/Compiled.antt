@@ -4,17 +4,17 @@ use Rattle.std.specs.List.{flat_map}
 use Rattle.asp_model.specs.Names.{Text}
 use Rattle.asp_model.specs.Term.{MethodHead, Serve, Repeat, Var, Tree, none, leaf, trees, Environment, has_text}
 use Rattle.asp_model.specs.Readable.{HasArity}
-use Rattle.program_code.specs.declared.code.Child.{Child}
-use Rattle.program_code.specs.declared.code.Child.TheVariants as child
-use Rattle.program_code.specs.declared.code.Kind.{Kind}
-use Rattle.program_code.specs.declared.code.Kind.TheVariants as kind
-use Rattle.program_code.specs.declared.code.MethodCode.{MethodCode}
-use Rattle.program_code.specs.declared.code.Node.{Node}
-use Rattle.program_code.specs.Pieces.{piece, object, Pieces, nothing, also, no_method, tree, below, bodies}
-use Rattle.program_code.specs.Fitting.{names, Fits, captured_names, AllFit, BodiesFit, CapturesFit}
-use Rattle.program_code.specs.Uses.{use_at, uses_below, uses_in}
-use Rattle.program_code.specs.Tables.{piece_at, pieces_of, bodies_of, pieces, kind_head, head_of}
-use Rattle.program_code.specs.Sound.{IsOrdered, ClassesSound, AllBelow, MethodsBelow, MethodsSound, StartFrom, root_of, serve_number, service_number, empty_number}
+use Rattle.code_table.specs.declared.code.Child.{Child}
+use Rattle.code_table.specs.declared.code.Child.TheVariants as child
+use Rattle.code_table.specs.declared.code.Kind.{Kind}
+use Rattle.code_table.specs.declared.code.Kind.TheVariants as kind
+use Rattle.code_table.specs.declared.code.MethodCode.{MethodCode}
+use Rattle.code_table.specs.declared.code.Node.{Node}
+use Rattle.code_table.specs.Pieces.{piece, object, Pieces, nothing, also, no_method, tree, below, bodies}
+use Rattle.code_table.specs.Fitting.{names, Fits, captured_names, AllFit, BodiesFit, CapturesFit}
+use Rattle.code_table.specs.Uses.{use_at, uses_below, uses_in}
+use Rattle.code_table.specs.Tables.{piece_at, pieces_of, bodies_of, pieces, kind_head, head_of}
+use Rattle.code_table.specs.Sound.{IsOrdered, ClassesSound, AllBelow, MethodsBelow, MethodsSound, StartFrom, root_of, serve_number, service_number, empty_number}
 
 -- Bodies
 

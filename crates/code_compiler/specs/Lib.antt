@@ -1,4 +1,5 @@
 -- in reading order
+pub mod Slots
 pub mod Closed
 pub mod Free
 pub mod Parts

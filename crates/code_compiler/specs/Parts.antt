@@ -7,8 +7,8 @@ use Rattle.asp_model.specs.Names.{Text}
 use Rattle.asp_model.specs.Term.{Head, Hole, Let, Loc, Make, Var, Tree, Trees, node, none, more, trees}
 use Rattle.asp_model.specs.Shapes.{tree_of}
 use Rattle.code_compiler.specs.Closed.{AreClosed}
-use Rattle.name_slots.specs.Slots.{bound_in}
-use Rattle.program_code.specs.Parts.{body_tree, field_label, field_tree, method_head}
+use Rattle.code_compiler.specs.Slots.{bound_in}
+use Rattle.code_table.specs.Parts.{body_tree, field_label, field_tree, method_head}
 
 -- what stands in a tree's node
 abbrev pub head_at : Tree → Head

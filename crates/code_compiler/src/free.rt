@@ -3,10 +3,10 @@
 ghost use Rattle.std.specs.Prelude.{◌≡◌, ◌∷◌, ◌++◌, [], map, OnOk};
 ghost use Rattle.asp_model.specs.Term.{has_text};
 ghost use Rattle.asp_model.specs.Shapes.{tree_of};
-ghost use Rattle.name_slots.specs.Slots.{bound_in};
+ghost use Rattle.code_compiler.specs.Slots.{bound_in};
 ghost use Rattle.code_compiler.specs.Free.{free_below, free_in, with_free};
 ghost use Rattle.code_compiler.specs.Parts.{bodies_below, fields_below, terms_below};
-ghost use Rattle.program_code.specs.Parts.{body_tree};
+ghost use Rattle.code_table.specs.Parts.{body_tree};
 
 use asp_model::{Label, Method, Term, Word};
 use std::alloc::{AllocError, Global};

@@ -2,19 +2,19 @@
 
 ghost use Rattle.std.specs.Prelude.{◌≡◌, ◌+◌, ◌∷◌, ◌++◌, [], length, IfOk, OnOk};
 ghost use Rattle.std.specs.List.{flat_map};
-ghost use Rattle.program_code.specs.Fitting.{CapturesFit, captured_names};
-ghost use Rattle.program_code.specs.Uses.{use_at};
-ghost use Rattle.name_slots.specs.Slots.{bound_in, environment, names_of};
-ghost use Rattle.program_code.specs.Parts.{body_tree, method_head};
+ghost use Rattle.code_table.specs.Fitting.{CapturesFit, captured_names};
+ghost use Rattle.code_table.specs.Uses.{use_at};
+ghost use Rattle.code_compiler.specs.Slots.{bound_in, environment, names_of};
+ghost use Rattle.code_table.specs.Parts.{body_tree, method_head};
 ghost use Rattle.code_compiler.specs.Added.{body_of};
 ghost use Rattle.code_compiler.specs.Compiled.{AreAmong, IsMethod};
 ghost use Rattle.code_compiler.specs.Free.{free_in};
 
 use crate::free::{note_term, push_head, push_words};
 use crate::nodes::push_use;
+use crate::scope::{Scope, leaf_of};
 use asp_model::{Method, Word};
-use name_slots::{Scope, leaf_of};
-use program_code::{Capture, Child, MethodCode};
+use code_table::{Capture, Child, MethodCode};
 use std::alloc::{AllocError, Global};
 
 /// The places of an object, which are its fields and what its methods captured, have numbers of 64 bits.

@@ -5,19 +5,19 @@ ghost use Rattle.std.specs.Global.{Vec};
 ghost use Rattle.std.specs.Option.{option_map};
 ghost use Rattle.asp_model.specs.Shapes.{tree_of};
 ghost use Rattle.asp_model.specs.Term.{Var, has_text, leaf};
-ghost use Rattle.program_code.specs.Tables.{kind_head, text_of};
-ghost use Rattle.program_code.specs.Uses.{leaf_use};
-ghost use Rattle.program_code.specs.declared.code.Child.TheVariants as child;
-ghost use Rattle.program_code.specs.declared.code.Node.{Node as NodeShape};
-ghost use Rattle.name_slots.specs.Slots.{names_of};
+ghost use Rattle.code_table.specs.Tables.{kind_head, text_of};
+ghost use Rattle.code_table.specs.Uses.{leaf_use};
+ghost use Rattle.code_table.specs.declared.code.Child.TheVariants as child;
+ghost use Rattle.code_table.specs.declared.code.Node.{Node as NodeShape};
+ghost use Rattle.code_compiler.specs.Slots.{names_of};
 ghost use Rattle.code_compiler.specs.Added.{AddsTerm};
 ghost use Rattle.code_compiler.specs.Compiled.{EndsTable, is_plain};
 ghost use Rattle.code_compiler.specs.Parts.{head_at, is_plain_head};
-ghost use Rattle.program_code.specs.Parts.{field_label};
+ghost use Rattle.code_table.specs.Parts.{field_label};
 
+use crate::scope::{Scope, leaf_of};
 use asp_model::{Label, Term, Word};
-use name_slots::{Scope, leaf_of};
-use program_code::{Child, Kind, Leaf, Node};
+use code_table::{Child, Kind, Leaf, Node};
 use std::alloc::{AllocError, Global};
 
 /// Puts a node behind the others, and its number behind the children.
@@ -74,7 +74,7 @@ pub fn push_use(uses: &mut Vec<usize>, leaf: &Leaf) -> Result<(), AllocError>
 }
 
 /// What the node of a term does. It is no variable, binds no name and makes no object.
-#[tactic(auto, using(program_code::proofs::TermTrees::trees_are))]
+#[tactic(auto, using(code_table::proofs::TermTrees::trees_are))]
 pub fn kind_of(alloc: Global, term: &Term) -> Result<Kind, AllocError>
     requires plain { is_plain_head (head_at (tree_of term.now)) ≡ true }
     ensures head { IfOk result (λ k. kind_head k ≡ head_at (tree_of term.now)) }

@@ -3,17 +3,17 @@
 ghost use Rattle.std.specs.Prelude.{◌≡◌, [], IfOk, OnOk};
 ghost use Rattle.asp_model.specs.Term.{locations};
 ghost use Rattle.asp_model.specs.Shapes.{tree_of};
-ghost use Rattle.program_code.specs.Pieces.{tree};
-ghost use Rattle.program_code.specs.Sound.{root_of};
-ghost use Rattle.program_code.specs.Tables.{piece_at, pieces};
+ghost use Rattle.code_table.specs.Pieces.{tree};
+ghost use Rattle.code_table.specs.Sound.{root_of};
+ghost use Rattle.code_table.specs.Tables.{piece_at, pieces};
 ghost use Rattle.code_compiler.specs.Closed.{IsClosed};
 ghost use Rattle.code_compiler.specs.Compiled.{Grows, IsPrelude, IsRoot};
 
+use crate::scope::Scope;
 use crate::terms::compile_term;
 use asp_check::Checked;
 use asp_model::Term;
-use name_slots::Scope;
-use program_code::{Child, Class, Code, Kind, Node, SERVE_NUMBER};
+use code_table::{Child, Class, Code, Kind, Node, SERVE_NUMBER};
 use std::alloc::{AllocError, Global};
 
 /// The code of a program, which stands for the program's term, where no place stands. `AllocError`

@@ -16,10 +16,10 @@ ghost use Rattle.std.specs.Prelude.{
 ghost use Rattle.std.specs.Global.{Vec};
 ghost use Rattle.asp_model.specs.Shapes.{tree_of};
 ghost use Rattle.asp_model.specs.Term.{Let, Make, Tree, node, trees, two};
-ghost use Rattle.program_code.specs.Tables.{text_of};
-ghost use Rattle.program_code.specs.declared.code.Node.{Node as NodeShape};
-ghost use Rattle.name_slots.specs.Slots.{bound_in, names_of};
-ghost use Rattle.program_code.specs.Parts.{body_tree, field_tree, method_head};
+ghost use Rattle.code_table.specs.Tables.{text_of};
+ghost use Rattle.code_table.specs.declared.code.Node.{Node as NodeShape};
+ghost use Rattle.code_compiler.specs.Slots.{bound_in, names_of};
+ghost use Rattle.code_table.specs.Parts.{body_tree, field_tree, method_head};
 ghost use Rattle.code_compiler.specs.Added.{AddsChild, AddsCode, AddsRow, AddsTerm, AddsTerms};
 ghost use Rattle.code_compiler.specs.Closed.{AreClosed, IsClosed};
 ghost use Rattle.code_compiler.specs.Compiled.{EndsTable};
@@ -34,9 +34,9 @@ ghost use Rattle.code_compiler.specs.Parts.{
 
 use crate::methods::{Ended, captured_names_of, end_method, next_start, only_child};
 use crate::nodes::{field_labels, kind_of, put, put_variable};
+use crate::scope::{Scope, bound_with, head_slots};
 use asp_model::{Label, Method, Term, Word};
-use name_slots::{Scope, bound_with, head_slots};
-use program_code::{Child, Class, Kind, MethodCode, Node};
+use code_table::{Child, Class, Kind, MethodCode, Node};
 use std::alloc::{AllocError, Global};
 
 /// Compiles a term of a body. Its nodes come behind the others, and its child behind the children.

@@ -5,12 +5,12 @@ use Rattle.asp_model.specs.Names.{Text}
 use Rattle.asp_model.specs.Term.{Tree, Environment, loc, put_in}
 use Rattle.asp_model.specs.Store.{Store}
 use Rattle.asp_model.specs.Contraction.{Becomes, bindings, invoked, method_found}
-use Rattle.program_code.specs.declared.code.Capture.{Capture}
-use Rattle.program_code.specs.declared.code.MethodCode.{MethodCode}
-use Rattle.program_code.specs.Pieces.{Piece, tree}
-use Rattle.program_code.specs.Fitting.{slots_from, placed, captured_names, head_names, body_scope, body_height, Fits, Runs, term_in}
-use Rattle.program_code.specs.Tables.{head_of, piece_of, with_places}
-use Rattle.program_code.specs.Sound.{IsSoundMethod}
+use Rattle.code_table.specs.declared.code.Capture.{Capture}
+use Rattle.code_table.specs.declared.code.MethodCode.{MethodCode}
+use Rattle.code_table.specs.Pieces.{Piece, tree}
+use Rattle.code_table.specs.Fitting.{slots_from, placed, captured_names, head_names, body_scope, body_height, Fits, Runs, term_in}
+use Rattle.code_table.specs.Tables.{head_of, piece_of, with_places}
+use Rattle.code_table.specs.Sound.{IsSoundMethod}
 use Rattle.code_laws.proofs.ScopeLemmas.{under_from}
 use Rattle.std.proofs.lemmas.List.{length-map}
 

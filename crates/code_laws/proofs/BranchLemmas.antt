@@ -6,8 +6,8 @@ use Rattle.asp_model.specs.Names.{Text}
 use Rattle.asp_model.specs.Term.{Let, Steps, If, Repeat, Tree, Trees, Environment, loc, put_in}
 use Rattle.asp_model.specs.Store.{Store, cell}
 use Rattle.asp_model.specs.Contraction.{Becomes, if_row, row}
-use Rattle.program_code.specs.Pieces.{Piece, piece, Pieces, nothing, also, count, tree}
-use Rattle.program_code.specs.Fitting.{placed, Fits, Under, Runs, term_in}
+use Rattle.code_table.specs.Pieces.{Piece, piece, Pieces, nothing, also, count, tree}
+use Rattle.code_table.specs.Fitting.{placed, Fits, Under, Runs, term_in}
 use Rattle.code_laws.specs.Nodes.{nth, after, behind_in, sequel, unrolled}
 use Rattle.code_laws.proofs.TwiceLemmas.{put_twice}
 use Rattle.code_laws.proofs.ScopeLemmas.{under_more, placed_more}

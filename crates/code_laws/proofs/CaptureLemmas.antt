@@ -2,11 +2,11 @@
 use Rattle.std.proofs.Common.{◌≡◌, ℕ, zero, suc, ◌+◌, ◌<◌, ◌||◌, Bool, true, false, List, [], ◌∷◌, ◌++◌, length, map, ◌⊎◌, refl, sym, ap, subst, ◌∙◌, inl, inr, arith}
 use Rattle.asp_model.specs.Names.{Text, same_text}
 use Rattle.asp_model.specs.Term.{MethodHead, Var, Make, Tree, node, none, more, leaf, loc, Environment, binders, has_text, without, variable_or, put_in, put_below}
-use Rattle.program_code.specs.declared.code.Leaf.{Leaf}
-use Rattle.program_code.specs.declared.code.Leaf.TheVariants as leaves
-use Rattle.program_code.specs.declared.code.Capture.{Capture}
-use Rattle.program_code.specs.Pieces.{Piece, variable, piece, object, Pieces, nothing, also, Bodies, no_method, method, count, heads_of, at_slot, leaf_tree, captured_trees, tree, below, bodies}
-use Rattle.program_code.specs.Fitting.{slots_from, names, captured_names, text_at, leaf_name, LeafFits, CapturesFit, head_names, body_scope, body_height, Fits, AllFit, BodiesFit}
+use Rattle.code_table.specs.declared.code.Leaf.{Leaf}
+use Rattle.code_table.specs.declared.code.Leaf.TheVariants as leaves
+use Rattle.code_table.specs.declared.code.Capture.{Capture}
+use Rattle.code_table.specs.Pieces.{Piece, variable, piece, object, Pieces, nothing, also, Bodies, no_method, method, count, heads_of, at_slot, leaf_tree, captured_trees, tree, below, bodies}
+use Rattle.code_table.specs.Fitting.{slots_from, names, captured_names, text_at, leaf_name, LeafFits, CapturesFit, head_names, body_scope, body_height, Fits, AllFit, BodiesFit}
 use Rattle.code_laws.proofs.TwiceLemmas.{keep, without_cons, look_without}
 use Rattle.code_laws.proofs.ScopeLemmas.{names_from, names_inner, found_named}
 

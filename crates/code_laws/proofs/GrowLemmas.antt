@@ -3,8 +3,8 @@ use Rattle.std.proofs.Common.{◌≡◌, ℕ, ◌≤◌, List, ◌++◌, length,
 use Rattle.std.proofs.lemmas.List.{take-take, take-append-le}
 use Rattle.asp_model.specs.Names.{Text}
 use Rattle.asp_model.specs.Term.{Environment, loc, put_in, put_below}
-use Rattle.program_code.specs.Pieces.{Piece, tree}
-use Rattle.program_code.specs.Fitting.{Under, term_in}
+use Rattle.code_table.specs.Pieces.{Piece, tree}
+use Rattle.code_table.specs.Fitting.{Under, term_in}
 use Rattle.code_laws.specs.Nodes.{terms_below, rest, behind_in}
 use Rattle.code_laws.proofs.ScopeLemmas.{placed_more, placed_cut}
 use Rattle.asp_model.specs.Term.{binders}

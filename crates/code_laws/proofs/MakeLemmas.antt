@@ -6,14 +6,14 @@ use Rattle.asp_model.specs.Names.{Text}
 use Rattle.asp_model.specs.Term.{Make, MethodHead, Tree, Trees, Environment, more, loc, without, variable_or, put_in, put_below}
 use Rattle.asp_model.specs.Store.{MethodShape, Field, Object, Store}
 use Rattle.asp_model.specs.Contraction.{fields_at, methods_with, allots, row}
-use Rattle.program_code.specs.declared.code.Leaf.{Leaf}
-use Rattle.program_code.specs.declared.code.Leaf.TheVariants as leaves
-use Rattle.program_code.specs.declared.code.Capture.{Capture}
-use Rattle.program_code.specs.declared.code.Class.{Class}
-use Rattle.program_code.specs.declared.code.MethodCode.{MethodCode}
-use Rattle.program_code.specs.Pieces.{Piece, object, Pieces, nothing, also, Bodies, no_method, method, count, heads_of, at_slot, leaf_tree, captured_trees, tree, below, bodies}
-use Rattle.program_code.specs.Fitting.{placed, captured_names, LeafFits, CapturesFit, head_names, body_scope, body_height, BodiesFit, Runs}
-use Rattle.program_code.specs.Tables.{text_of, labels_of, bodies_of, with_places, seen_methods, object_of}
+use Rattle.code_table.specs.declared.code.Leaf.{Leaf}
+use Rattle.code_table.specs.declared.code.Leaf.TheVariants as leaves
+use Rattle.code_table.specs.declared.code.Capture.{Capture}
+use Rattle.code_table.specs.declared.code.Class.{Class}
+use Rattle.code_table.specs.declared.code.MethodCode.{MethodCode}
+use Rattle.code_table.specs.Pieces.{Piece, object, Pieces, nothing, also, Bodies, no_method, method, count, heads_of, at_slot, leaf_tree, captured_trees, tree, below, bodies}
+use Rattle.code_table.specs.Fitting.{placed, captured_names, LeafFits, CapturesFit, head_names, body_scope, body_height, BodiesFit, Runs}
+use Rattle.code_table.specs.Tables.{text_of, labels_of, bodies_of, with_places, seen_methods, object_of}
 use Rattle.code_laws.specs.Places.{leaf_place, captured_places, kept_places}
 use Rattle.code_laws.specs.Nodes.{rest, behind_in, bodies_in}
 use Rattle.code_laws.proofs.ScopeLemmas.{in_slot, located, names_from}

@@ -4,13 +4,13 @@ use Rattle.std.proofs.lemmas.Bool.{false≢true}
 use Rattle.asp_model.specs.Names.{Text}
 use Rattle.asp_model.specs.Term.{Head, Make, Call, Group, Let, Steps, If, Repeat, none, child_count, Environment}
 use Rattle.asp_model.specs.Readable.{HasArity}
-use Rattle.program_code.specs.declared.code.Child.{Child}
-use Rattle.program_code.specs.declared.code.Kind.{Kind}
-use Rattle.program_code.specs.declared.code.Kind.TheVariants as kind
-use Rattle.program_code.specs.declared.code.Node.{Node}
-use Rattle.program_code.specs.Pieces.{Piece, piece, Pieces, count, below}
-use Rattle.program_code.specs.Fitting.{IsNode, Runs}
-use Rattle.program_code.specs.Tables.{this_or, piece_at, piece_of, pieces_of, kind_piece, node_piece, forest, pieces}
+use Rattle.code_table.specs.declared.code.Child.{Child}
+use Rattle.code_table.specs.declared.code.Kind.{Kind}
+use Rattle.code_table.specs.declared.code.Kind.TheVariants as kind
+use Rattle.code_table.specs.declared.code.Node.{Node}
+use Rattle.code_table.specs.Pieces.{Piece, piece, Pieces, count, below}
+use Rattle.code_table.specs.Fitting.{IsNode, Runs}
+use Rattle.code_table.specs.Tables.{this_or, piece_at, piece_of, pieces_of, kind_piece, node_piece, forest, pieces}
 use Rattle.code_laws.specs.Nodes.{IsTerm, parts, nth, in_place, operand_count, is_strict, behind_in}
 use Rattle.code_laws.proofs.OpenLemmas.{count_below}
 use Rattle.code_laws.proofs.TurnLemmas.{none_behind}

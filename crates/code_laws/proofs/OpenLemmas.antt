@@ -5,8 +5,8 @@ use Rattle.asp_model.specs.Names.{Text}
 use Rattle.asp_model.specs.Term.{Head, Loc, Var, Make, Call, Let, Group, Tree, Trees, node, none, more, loc, locs_then, child_count, Environment, binders, without, put_in, put_below}
 use Rattle.asp_model.specs.Readable.{HasArity}
 use Rattle.asp_model.specs.Split.{reduced_count}
-use Rattle.program_code.specs.Pieces.{Pieces, nothing, also, count, tree, below}
-use Rattle.program_code.specs.Fitting.{slots_from, placed, head_names, IsNode, Fits, AllFit, Runs, term_in}
+use Rattle.code_table.specs.Pieces.{Pieces, nothing, also, count, tree, below}
+use Rattle.code_table.specs.Fitting.{slots_from, placed, head_names, IsNode, Fits, AllFit, Runs, term_in}
 use Rattle.code_laws.specs.Nodes.{nth, rest}
 use Rattle.code_laws.proofs.CaptureLemmas.{without_none}
 
@@ -118,7 +118,7 @@ part_fits xs scope h [] (also p ps) (suc n) f lt =
 part_fits xs scope h (ys ∷ bound) (also p ps) (suc n) f lt = let less : n < count ps = omega (arith, lt) in part_fits xs scope h bound ps n f.1 less
 
 -- a term below a node in which nothing is bound stands in the node's own environment
-pub part_runs : (xs : List Text) (scope : Environment) (ns : List ℕ) (bound : List (List Text)) (ps : Pieces) (n : ℕ) → length xs ≤ length ns → Rattle.program_code.specs.Fitting.Under (length ns) scope
+pub part_runs : (xs : List Text) (scope : Environment) (ns : List ℕ) (bound : List (List Text)) (ps : Pieces) (n : ℕ) → length xs ≤ length ns → Rattle.code_table.specs.Fitting.Under (length ns) scope
     → AllFit xs scope (length ns) bound ps → n < count ps → first_bound (drop n bound) ≡ [] → Runs xs scope ns (nth n ps)
 part_runs xs scope ns bound ps n low within f lt e =
     let here : Fits xs scope (length ns + 0) (nth n ps) =

@@ -4,7 +4,7 @@ use Rattle.std.proofs.Math.ListN.{get_or-append}
 use Rattle.std.proofs.lemmas.List.{get_or-take}
 use Rattle.asp_model.specs.Names.{Text, same_text}
 use Rattle.asp_model.specs.Term.{Environment, has_text, location_of}
-use Rattle.program_code.specs.Fitting.{slots_from, names, placed, Under}
+use Rattle.code_table.specs.Fitting.{slots_from, names, placed, Under}
 use Rattle.code_laws.proofs.TwiceLemmas.{look, look_cons, missing_named}
 
 -- Names

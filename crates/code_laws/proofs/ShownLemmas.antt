@@ -3,11 +3,11 @@ use Rattle.std.proofs.Common.{◌≡◌, ℕ, zero, suc, ◌+◌, ◌<◌, ◌�
 use Rattle.std.proofs.lemmas.List.{length-map, length-take-le}
 use Rattle.asp_model.specs.Names.{Text, same_text}
 use Rattle.asp_model.specs.Term.{MethodHead, Var, Hole, Make, Tree, Trees, node, none, more, leaf, loc, Environment, binders, has_text, location_of, without, variable_or, put_in, put_below}
-use Rattle.program_code.specs.declared.code.Leaf.{Leaf}
-use Rattle.program_code.specs.declared.code.Leaf.TheVariants as leaves
-use Rattle.program_code.specs.declared.code.Capture.{Capture}
-use Rattle.program_code.specs.Pieces.{Piece, variable, piece, object, Pieces, nothing, also, Bodies, no_method, method, count, heads_of, at_slot, leaf_tree, captured_trees, tree, below, bodies}
-use Rattle.program_code.specs.Fitting.{slots_from, names, placed, captured_names, head_names, body_scope, body_height, LeafFits, CapturesFit, Fits, AllFit, BodiesFit, Under, Runs, term_in}
+use Rattle.code_table.specs.declared.code.Leaf.{Leaf}
+use Rattle.code_table.specs.declared.code.Leaf.TheVariants as leaves
+use Rattle.code_table.specs.declared.code.Capture.{Capture}
+use Rattle.code_table.specs.Pieces.{Piece, variable, piece, object, Pieces, nothing, also, Bodies, no_method, method, count, heads_of, at_slot, leaf_tree, captured_trees, tree, below, bodies}
+use Rattle.code_table.specs.Fitting.{slots_from, names, placed, captured_names, head_names, body_scope, body_height, LeafFits, CapturesFit, Fits, AllFit, BodiesFit, Under, Runs, term_in}
 use Rattle.code_laws.specs.Nodes.{IsTerm, head_in, terms_below, rest, behind_in}
 use Rattle.code_laws.specs.Shown.{tree_or, shown_leaf, shown_captures, shown, shown_below, shown_bodies, shown_terms}
 use Rattle.code_laws.proofs.TwiceLemmas.{look, look_cons, or_else, look_append, look_without, named_found}

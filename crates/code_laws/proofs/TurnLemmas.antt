@@ -3,9 +3,9 @@ use Rattle.std.proofs.Common.{◌≡◌, ℕ, suc, ◌+◌, ◌<◌, ◌≤◌, 
 use Rattle.asp_model.specs.Names.{Text}
 use Rattle.asp_model.specs.Term.{Head, Loc, Var, Make, Tree, Trees, node, none, more, loc, locs_then, child_count, Environment, binders, put_below}
 use Rattle.asp_model.specs.Split.{Context, Splits, split, plug, plugged, reduced_count}
-use Rattle.program_code.specs.declared.code.Leaf.{Leaf}
-use Rattle.program_code.specs.Pieces.{Piece, variable, piece, object, Pieces, count, heads_of, below, bodies}
-use Rattle.program_code.specs.Fitting.{placed, head_names, IsNode, Runs, term_in}
+use Rattle.code_table.specs.declared.code.Leaf.{Leaf}
+use Rattle.code_table.specs.Pieces.{Piece, variable, piece, object, Pieces, count, heads_of, below, bodies}
+use Rattle.code_table.specs.Fitting.{placed, head_names, IsNode, Runs, term_in}
 use Rattle.code_laws.specs.Places.{leaf_place}
 use Rattle.code_laws.specs.Nodes.{IsTerm, head_in, parts, nth, in_place, rest, behind_in, redex_in, context_in}
 use Rattle.code_laws.specs.Splitting.{redex_node, is_loc, IsRedex, IsContext, AreContexts}

@@ -3,7 +3,7 @@ use Rattle.std.proofs.lemmas.Slice.Eq.{bytes_eq-Decides}
 use Rattle.std.proofs.Common.{◌≡◌, ℕ, ◌||◌, Bool, true, false, cond, List, [], ◌∷◌, ◌++◌, Option, Some, None, refl, sym, ap, subst, ◌∙◌, T}
 use Rattle.asp_model.specs.Names.{Text, same_text}
 use Rattle.asp_model.specs.Term.{Tree, Trees, node, none, more, Var, Environment, has_text, location_of, without, binders, variable_or, put_in, put_below, loc}
-use Rattle.program_code.specs.Fitting.{names}
+use Rattle.code_table.specs.Fitting.{names}
 
 pub text_same : (x y : Text) → same_text x y ≡ true → x ≡ y
 text_same x y e = (bytes_eq-Decides x y).0 e

@@ -5,12 +5,12 @@ use Rattle.asp_model.specs.Term.{Let, Make, Steps, If, Repeat, Tree, Environment
 use Rattle.asp_model.specs.Split.{Context, Splits, split, plug, plugged}
 use Rattle.asp_model.specs.Store.{Store, cell}
 use Rattle.asp_model.specs.Contraction.{Becomes, allots, if_row, method_found, row}
-use Rattle.program_code.specs.declared.code.Class.{Class}
-use Rattle.program_code.specs.declared.code.MethodCode.{MethodCode}
-use Rattle.program_code.specs.Pieces.{Piece, piece, object, Pieces, count, heads_of}
-use Rattle.program_code.specs.Fitting.{names, captured_names, body_scope, Under, Runs, term_in}
-use Rattle.program_code.specs.Tables.{labels_of, head_of, bodies_of, piece_of, with_places, object_of}
-use Rattle.program_code.specs.Sound.{IsSoundMethod}
+use Rattle.code_table.specs.declared.code.Class.{Class}
+use Rattle.code_table.specs.declared.code.MethodCode.{MethodCode}
+use Rattle.code_table.specs.Pieces.{Piece, piece, object, Pieces, count, heads_of}
+use Rattle.code_table.specs.Fitting.{names, captured_names, body_scope, Under, Runs, term_in}
+use Rattle.code_table.specs.Tables.{labels_of, head_of, bodies_of, piece_of, with_places, object_of}
+use Rattle.code_table.specs.Sound.{IsSoundMethod}
 use Rattle.code_laws.specs.Places.{kept_places}
 use Rattle.code_laws.specs.Nodes.{IsTerm, nth, after, parts, in_place, behind_in, redex_in, context_in, sequel, unrolled}
 use Rattle.code_laws.specs.Splitting.{redex_node, AreContexts}

@@ -3,10 +3,10 @@ use Rattle.std.specs.Prelude.{ℕ, Bool, true, false, zero, suc, List, [], lengt
 use Rattle.asp_model.specs.Names.{Text}
 use Rattle.asp_model.specs.Term.{Head, Hole, If, Let, Make, Repeat, Steps, Tree, Trees, none, more, Environment, binders, loc, put_below}
 use Rattle.asp_model.specs.Split.{Context, Redex, reduced_count}
-use Rattle.program_code.specs.declared.code.Kind.{Kind}
-use Rattle.program_code.specs.declared.code.Kind.TheVariants as kind
-use Rattle.program_code.specs.Pieces.{Piece, variable, piece, object, Pieces, nothing, also, Bodies, no_method, method, count, heads_of, tree, below, bodies}
-use Rattle.program_code.specs.Fitting.{placed}
+use Rattle.code_table.specs.declared.code.Kind.{Kind}
+use Rattle.code_table.specs.declared.code.Kind.TheVariants as kind
+use Rattle.code_table.specs.Pieces.{Piece, variable, piece, object, Pieces, nothing, also, Bodies, no_method, method, count, heads_of, tree, below, bodies}
+use Rattle.code_table.specs.Fitting.{placed}
 use Rattle.code_laws.specs.Places.{captured_places}
 
 -- Nodes

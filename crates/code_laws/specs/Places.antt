@@ -1,9 +1,9 @@
 -- The places of variables, and what objects capture, in an environment.
 use Rattle.std.specs.Prelude.{ℕ, List, [], ◌∷◌, ◌++◌, map, get_or}
-use Rattle.program_code.specs.declared.code.Leaf.{Leaf}
-use Rattle.program_code.specs.declared.code.Leaf.TheVariants as leaves
-use Rattle.program_code.specs.declared.code.Capture.{Capture}
-use Rattle.program_code.specs.declared.code.MethodCode.{MethodCode}
+use Rattle.code_table.specs.declared.code.Leaf.{Leaf}
+use Rattle.code_table.specs.declared.code.Leaf.TheVariants as leaves
+use Rattle.code_table.specs.declared.code.Capture.{Capture}
+use Rattle.code_table.specs.declared.code.MethodCode.{MethodCode}
 
 abbrev pub slot : Leaf → ℕ
 slot (leaves.Own x k) = k

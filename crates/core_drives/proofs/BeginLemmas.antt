@@ -4,8 +4,8 @@ use Rattle.std.specs.BTreeMap.{is_at}
 use Rattle.std.specs.Map.{lookup}
 use Rattle.std.specs.Ordering.{nat_cmp}
 use Rattle.asp_model.specs.Term.{Tree}
-use Rattle.journals.specs.Journals.{begun}
-use Rattle.chase_laws.proofs.FutureLemmas.{none_true}
+use Rattle.def_journals.specs.Journals.{begun}
+use Rattle.law_chases.proofs.FutureLemmas.{none_true}
 use Rattle.core_state.specs.Cores.{history_begun}
 use Rattle.asp_core.specs.Cores.{IsRun, code_of, history_of}
 use Rattle.core_drives.specs.declared.drivers.Driver.{Driver}

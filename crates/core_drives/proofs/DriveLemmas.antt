@@ -7,17 +7,17 @@ use Rattle.std.specs.Ordering.{nat_cmp}
 use Rattle.asp_model.specs.Configuration.{Configuration}
 use Rattle.asp_model.specs.History.{Committed, Delivered, DeliveryShape, Edge, EntryShape, HistoryShape, Lent, Need}
 use Rattle.asp_model.specs.Names.{Name}
-use Rattle.journals.specs.Journals.{RunShape, back, committed, delivered, entered, grant_of, granted, out_but, over, reduced, run_of}
-use Rattle.chase_laws.proofs.FutureLemmas.{no_some, some_is, true_false}
-use Rattle.lease_laws.specs.Entries.{with_lease}
-use Rattle.lease_laws.specs.Leases.{stays_out}
-use Rattle.lease_laws.proofs.BurstLemmas.{leases_last}
-use Rattle.lease_laws.proofs.GrowingLemmas.{entries_go_on}
-use Rattle.lease_laws.proofs.LeaseLemmas.{grant_but}
-use Rattle.program_code.specs.declared.code.Node.{Node}
-use Rattle.activity_ranks.proofs.NumberLemmas.{number_case, number_itself}
-use Rattle.rank_laws.specs.Runs.{is_ready}
-use Rattle.core_commits.specs.Arrivals.{act_at}
+use Rattle.def_journals.specs.Journals.{RunShape, back, committed, delivered, entered, grant_of, granted, out_but, over, reduced, run_of}
+use Rattle.law_chases.proofs.FutureLemmas.{no_some, some_is, true_false}
+use Rattle.law_journals.specs.Entered.{with_lease}
+use Rattle.law_journals.specs.Leases.{stays_out}
+use Rattle.law_journals.proofs.BurstLemmas.{leases_last}
+use Rattle.law_journals.proofs.GrowingLemmas.{entries_go_on}
+use Rattle.law_journals.proofs.LeaseLemmas.{grant_but}
+use Rattle.code_table.specs.declared.code.Node.{Node}
+use Rattle.core_ranks.proofs.NumberLemmas.{number_case, number_itself}
+use Rattle.law_core.specs.Runs.{is_ready}
+use Rattle.core_state.specs.Arrivals.{act_at}
 use Rattle.core_state.specs.declared.lease.Lease.{Lease}
 use Rattle.core_state.specs.Cores.{with_entry}
 use Rattle.core_state.specs.Leases.{HasStopped, IsLease}

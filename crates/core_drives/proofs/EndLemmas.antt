@@ -3,12 +3,12 @@ use Rattle.std.proofs.Common.{◌≡◌, ◌∙◌, ◌+◌, ◌<◌, ℕ, Bool,
 use Rattle.std.proofs.lemmas.List.{drop_more}
 use Rattle.asp_model.specs.History.{EntryShape, HistoryShape}
 use Rattle.asp_model.specs.Term.{Tree}
-use Rattle.journals.specs.Journals.{RunShape}
-use Rattle.journal_laws.proofs.JournalLemmas.{journals_reach}
-use Rattle.path_laws.proofs.ReplayLemmas.{one_sender_is_enough}
-use Rattle.laws.specs.Reached.{IsReached}
-use Rattle.verdict_laws.specs.Outcomes.{IsReplayedEnd}
-use Rattle.verdict_laws.proofs.OutcomeLemmas.{journals_end}
+use Rattle.def_journals.specs.Journals.{RunShape}
+use Rattle.law_journals.proofs.JournalLemmas.{journals_reach}
+use Rattle.law_paths.proofs.ReplayLemmas.{one_sender_is_enough}
+use Rattle.law_steps.specs.Reached.{IsReached}
+use Rattle.law_core.specs.Outcomes.{IsReplayedEnd}
+use Rattle.law_core.proofs.OutcomeLemmas.{journals_end}
 use Rattle.core_state.specs.Cores.{history_begun}
 use Rattle.asp_core.specs.declared.cores.Core.{Core}
 use Rattle.asp_core.specs.Cores.{IsRun, history_of}

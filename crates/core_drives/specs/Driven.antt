@@ -7,10 +7,10 @@ use Rattle.asp_model.specs.Names.{Name, same_name}
 use Rattle.asp_model.specs.Replay.{lists_of, senders_in}
 use Rattle.asp_model.specs.Status.{IsStuck}
 use Rattle.asp_model.specs.Term.{Tree}
-use Rattle.journals.specs.Journals.{RunShape, run_of}
-use Rattle.laws.specs.Joins.{HasOneSender}
-use Rattle.paths.specs.Agree.{Agrees}
-use Rattle.verdict_laws.specs.Outcomes.{IsReplayedEnd}
+use Rattle.def_journals.specs.Journals.{RunShape, run_of}
+use Rattle.law_steps.specs.Joins.{HasOneSender}
+use Rattle.def_paths.specs.Agree.{Agrees}
+use Rattle.law_core.specs.Outcomes.{IsReplayedEnd}
 use Rattle.core_state.specs.Cores.{history_begun}
 use Rattle.asp_core.specs.declared.cores.Core.{Core}
 use Rattle.asp_core.specs.Cores.{IsRun, history_of}

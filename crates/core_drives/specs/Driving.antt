@@ -3,8 +3,8 @@ use Rattle.std.specs.Prelude.{◌≡◌, ℕ, Bool, true, List, Option, Some, No
 use Rattle.std.specs.BTreeMap.{get}
 use Rattle.std.specs.Ordering.{nat_cmp}
 use Rattle.asp_model.specs.History.{HistoryShape}
-use Rattle.journals.specs.Journals.{RunShape, grant_of}
-use Rattle.program_code.specs.declared.code.Node.{Node}
+use Rattle.def_journals.specs.Journals.{RunShape, grant_of}
+use Rattle.code_table.specs.declared.code.Node.{Node}
 use Rattle.core_state.specs.declared.lease.Lease.{Lease}
 use Rattle.core_state.specs.Leases.{HasStopped, IsLease}
 use Rattle.asp_core.specs.Cores.{IsRun, code_of, history_of}

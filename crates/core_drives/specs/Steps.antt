@@ -5,10 +5,10 @@ use Rattle.asp_model.specs.Configuration.{Activity}
 use Rattle.asp_model.specs.History.{Committed, Delivered, DeliveryShape, EntryShape, HistoryShape, Lent}
 use Rattle.asp_model.specs.Names.{Name}
 use Rattle.asp_model.specs.Shapes.{delivery_shape}
-use Rattle.journals.specs.Journals.{RunShape, delivered, grant_of, run_of}
-use Rattle.rank_laws.specs.Runs.{is_ready}
-use Rattle.core_laws.specs.Commits.{HasRun}
-use Rattle.core_commits.specs.Arrivals.{act_at}
+use Rattle.def_journals.specs.Journals.{RunShape, delivered, grant_of, run_of}
+use Rattle.law_core.specs.Runs.{is_ready}
+use Rattle.law_core.specs.Commits.{HasRun}
+use Rattle.core_state.specs.Arrivals.{act_at}
 use Rattle.core_state.specs.Cores.{with_entry}
 use Rattle.asp_core.specs.Runs.{counted}
 use Rattle.asp_core.specs.Stopping.{StopsAt}

@@ -3,7 +3,7 @@ use Rattle.std.proofs.Common.{◌≡◌, List, [], ◌∷◌, ◌++◌, Result, 
 use Rattle.std.specs.Prelude.{OnOk}
 use Rattle.asp_model.specs.Names.{FutureShape}
 use Rattle.asp_model.specs.History.{ChoiceShape}
-use Rattle.journals.specs.Edges.{EdgeShape}
+use Rattle.def_journals.specs.Edges.{EdgeShape}
 use Rattle.update_policy.specs.declared.strategy.Policies.{Policies}
 use Rattle.update_policy.specs.declared.strategy.Strategy.{Strategy}
 use Rattle.core_edges.specs.declared.edges.Edges.{Edges}

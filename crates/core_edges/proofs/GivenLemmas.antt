@@ -7,19 +7,19 @@ use Rattle.asp_model.specs.Configuration as model
 use Rattle.asp_model.specs.Configuration.{RequestShape}
 use Rattle.asp_model.specs.Intent.{Effect}
 use Rattle.asp_model.specs.Shapes.{future_shape}
-use Rattle.coded_cells.specs.Cells.{CodedStore}
-use Rattle.coded_cells.specs.Shapes.{parcel_shape, store_of}
-use Rattle.coded_cells.specs.declared.cells.Parcel.{Parcel}
+use Rattle.code_table.specs.Cells.{CodedStore}
+use Rattle.code_table.specs.Shapes.{parcel_shape, store_of}
+use Rattle.code_table.specs.declared.cells.Parcel.{Parcel}
 use Rattle.asp_model.specs.declared.name.FutureName.{FutureName}
 use Rattle.request_queue.specs.declared.request.Request.{Request}
 use Rattle.request_queue.specs.Requests.{request_shape}
-use Rattle.journals.specs.Edges.{Fills, HoldersShape, after_event, after_events, has_filled}
-use Rattle.journals.specs.Passing.{effect_events, filled_events, made_events, passes_all, sent_events}
+use Rattle.def_journals.specs.Edges.{Fills, HoldersShape, after_event, after_events, has_filled}
+use Rattle.def_journals.specs.Passing.{effect_events, filled_events, made_events, passes_all, sent_events}
 use Rattle.future_update.specs.Changes.{once_filled}
-use Rattle.actor.specs.declared.act.Given.TheVariants as given
-use Rattle.actor.specs.declared.actor.Actor.{Actor}
-use Rattle.actor.specs.Actors.{Stands, code_of}
-use Rattle.actor.specs.Effects.{IsGiven, IsMade}
+use Rattle.step_activity.specs.declared.act.Given.TheVariants as given
+use Rattle.step_activity.specs.declared.actor.Actor.{Actor}
+use Rattle.step_activity.specs.Actors.{Stands, code_of}
+use Rattle.step_activity.specs.Effects.{IsGiven, IsMade}
 use Rattle.core_edges.specs.Passing.{futures_held, with_passed}
 use Rattle.core_edges.proofs.PassingLemmas.{passes_are}
 

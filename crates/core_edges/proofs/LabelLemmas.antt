@@ -5,9 +5,9 @@ use Rattle.asp_model.specs.Configuration.{Configuration, RequestShape}
 use Rattle.asp_model.specs.Intent.{Effect}
 use Rattle.asp_model.specs.Step.{with_effect}
 use Rattle.update_policy.specs.Plans.{plan_shape, strategy_by}
-use Rattle.laws.specs.Steps.{IsNewTo}
-use Rattle.chase_laws.proofs.FutureLemmas.{no_some, some_is}
-use Rattle.laws.proofs.SoundLemmas.{came}
+use Rattle.law_steps.specs.Steps.{IsNewTo}
+use Rattle.law_chases.proofs.FutureLemmas.{no_some, some_is}
+use Rattle.law_steps.proofs.SoundLemmas.{came}
 use Rattle.core_edges.specs.declared.edges.Edges.{Edges}
 use Rattle.core_edges.specs.Labels.{AreByLabels}
 use Rattle.core_edges.specs.Strategies.{IsLearned, strategy_in}

@@ -7,8 +7,8 @@ use Rattle.std.proofs.lemmas.List.Folds.{list_any_at}
 use Rattle.std.proofs.lemmas.List.Quantifiers.{position-Some}
 use Rattle.std.proofs.lemmas.Option.{slice_get-get_or}
 use Rattle.asp_model.specs.History.{DeliveryShape, Edge, Need}
-use Rattle.journals.specs.Edges.{Delivers, EdgeShape, HoldersShape, after_event, after_events, has_edge, same_edge}
-use Rattle.chase_laws.proofs.FutureLemmas.{no_some, none_true}
+use Rattle.def_journals.specs.Edges.{Delivers, EdgeShape, HoldersShape, after_event, after_events, has_edge, same_edge}
+use Rattle.law_chases.proofs.FutureLemmas.{no_some, none_true}
 use Rattle.future_update.specs.Names.{edge_between}
 use Rattle.future_update.proofs.PlaceLemmas.{same_edge_same}
 use Rattle.future_update.specs.Holders.{is_delivered, place_in, with_delivery}

@@ -5,21 +5,21 @@ use Rattle.std.proofs.lemmas.List.{map-append}
 use Rattle.asp_model.specs.Names.{Name, FutureShape}
 use Rattle.asp_model.specs.History.{ChoiceShape, DeliveryShape, Edge, Need}
 use Rattle.asp_model.specs.Configuration.{RequestShape}
-use Rattle.program_code.specs.declared.code.Node.{Node}
-use Rattle.program_code.specs.declared.code.Class.{Class}
-use Rattle.program_code.specs.Classes.{class_at}
-use Rattle.coded_cells.specs.Cells as coded
-use Rattle.coded_cells.specs.Cells.{CodedCell, CodedStore, all_coded, cell_at}
-use Rattle.coded_cells.specs.declared.cells.Cell.{Cell}
-use Rattle.coded_cells.specs.Shapes.{cell_of, class_object, store_of}
-use Rattle.journals.specs.Edges.{Begins, EdgeShape, HoldersShape, Passes, Receives, after_event, after_events, home_of, is_no_edge, with_edge, with_edges, with_held}
-use Rattle.journals.specs.Passing.{future_in, futures_in, passes_all}
+use Rattle.code_table.specs.declared.code.Node.{Node}
+use Rattle.code_table.specs.declared.code.Class.{Class}
+use Rattle.code_table.specs.Classes.{class_at}
+use Rattle.code_table.specs.Cells as coded
+use Rattle.code_table.specs.Cells.{CodedCell, CodedStore, all_coded, cell_at}
+use Rattle.code_table.specs.declared.cells.Cell.{Cell}
+use Rattle.code_table.specs.Shapes.{cell_of, class_object, store_of}
+use Rattle.def_journals.specs.Edges.{Begins, EdgeShape, HoldersShape, Passes, Receives, after_event, after_events, home_of, is_no_edge, with_edge, with_edges, with_held}
+use Rattle.def_journals.specs.Passing.{future_in, futures_in, passes_all}
 use Rattle.future_update.specs.Changes.{once_received}
 use Rattle.future_update.specs.Names.{edge_between}
 use Rattle.update_policy.specs.declared.strategy.Strategy.{Strategy}
 use Rattle.update_policy.specs.Strategies.{IsAlikeBeside, policy_of}
 use Rattle.future_update.specs.Holders.{answered}
-use Rattle.core_rules.specs.Futures.{future_of}
+use Rattle.core_edges.specs.Futures.{future_of}
 use Rattle.core_edges.specs.declared.edges.Edges.{Edges}
 use Rattle.core_edges.specs.Answers.{Answering, AreAnswered, AreAsked, Counting, IsAsked}
 use Rattle.core_edges.specs.Deliveries.{IsNoted, events_along}

@@ -2,7 +2,7 @@
 use Rattle.std.specs.Prelude.{◌≡◌, ◌≤◌, ◌+◌, ℕ, List, [], ◌∷◌, ◌++◌}
 use Rattle.asp_model.specs.Names.{Name, FutureShape}
 use Rattle.asp_model.specs.History.{ChoiceShape}
-use Rattle.journals.specs.Edges.{EdgeShape}
+use Rattle.def_journals.specs.Edges.{EdgeShape}
 use Rattle.update_policy.specs.declared.strategy.Policies.{Policies}
 use Rattle.update_policy.specs.declared.strategy.Strategy.{Strategy}
 use Rattle.update_policy.specs.Strategies.{IsAlikeBeside, policy_of}

@@ -3,10 +3,10 @@ use Rattle.std.specs.Prelude.{◌≡◌, List, [], ◌∷◌}
 use Rattle.asp_model.specs.Names.{FutureShape}
 use Rattle.asp_model.specs.Parcel.{ParcelShape}
 use Rattle.asp_model.specs.History.{Delivered, DeliveryShape, Edge, Need}
-use Rattle.journals.specs.Edges.{Delivers, Event, HoldersShape, after_events}
-use Rattle.journals.specs.Journals.{RunShape}
-use Rattle.journals.specs.Passing.{entry_events}
-use Rattle.laws.specs.Reached.{HasValue}
+use Rattle.def_journals.specs.Edges.{Delivers, Event, HoldersShape, after_events}
+use Rattle.def_journals.specs.Journals.{RunShape}
+use Rattle.def_journals.specs.Passing.{entry_events}
+use Rattle.law_steps.specs.Reached.{HasValue}
 use Rattle.core_edges.specs.declared.edges.Edges.{Edges}
 use Rattle.core_edges.specs.Strategies.{KeepsOthers}
 

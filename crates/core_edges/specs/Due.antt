@@ -1,6 +1,6 @@
 -- The edge that is due: the first one that is owed to an activity that is in.
 use Rattle.std.specs.Prelude.{◌≡◌, ℕ, false, Option, Some, None}
-use Rattle.marked_places.specs.Firsts.{IsFirstFrom}
+use Rattle.core_sets.specs.Firsts.{IsFirstFrom}
 use Rattle.future_update.specs.declared.edge.EdgeNames.{EdgeNames}
 use Rattle.future_update.specs.Names.{edge_named}
 use Rattle.future_update.specs.Holders.{HoldersView, edge_in, owed_to_one_in}

@@ -3,11 +3,11 @@ use Rattle.std.specs.Prelude.{◌≡◌}
 use Rattle.asp_model.specs.Names.{FutureShape}
 use Rattle.asp_model.specs.Intent.{Effect}
 use Rattle.asp_model.specs.Shapes.{future_shape}
-use Rattle.journals.specs.Edges.{HoldersShape}
-use Rattle.actor.specs.declared.act.Given.{Given}
-use Rattle.actor.specs.declared.act.Given.TheVariants as given
-use Rattle.actor.specs.Effects.{IsGiven}
-use Rattle.edge_laws.specs.Fresh.{IsFresh}
+use Rattle.def_journals.specs.Edges.{HoldersShape}
+use Rattle.step_activity.specs.declared.act.Given.{Given}
+use Rattle.step_activity.specs.declared.act.Given.TheVariants as given
+use Rattle.step_activity.specs.Effects.{IsGiven}
+use Rattle.law_journals.specs.Fresh.{IsFresh}
 use Rattle.core_edges.specs.declared.edges.Edges.{Edges}
 use Rattle.core_edges.specs.Strategies.{IsLearned, strategy_in}
 

@@ -3,7 +3,7 @@ use Rattle.std.specs.Prelude.{◌≡◌, ℕ}
 use Rattle.asp_model.specs.Names.{Name}
 use Rattle.asp_model.specs.Configuration.{Configuration, RequestShape}
 use Rattle.update_policy.specs.Plans.{plan_shape, strategy_by}
-use Rattle.laws.specs.Kept.{Stands}
+use Rattle.law_steps.specs.Kept.{Stands}
 use Rattle.core_edges.specs.declared.edges.Edges.{Edges}
 use Rattle.core_edges.specs.Strategies.{strategy_in}
 

@@ -1,4 +1,5 @@
 -- in reading order
+pub mod Futures
 pub mod Strategies
 pub mod Labels
 pub mod Answers

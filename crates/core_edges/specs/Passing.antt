@@ -2,10 +2,10 @@
 use Rattle.std.specs.Prelude.{◌≡◌, List, [], ◌∷◌, Some}
 use Rattle.std.specs.List.{flat_map}
 use Rattle.asp_model.specs.Names.{Name, FutureShape}
-use Rattle.coded_cells.specs.Cells.{CodedCell, CodedStore, Future}
+use Rattle.code_table.specs.Cells.{CodedCell, CodedStore, Future}
 use Rattle.asp_model.specs.Configuration.{RequestShape}
-use Rattle.journals.specs.Edges.{HoldersShape, after_events, home_of, with_edges, with_held}
-use Rattle.journals.specs.Passing.{sent_events}
+use Rattle.def_journals.specs.Edges.{HoldersShape, after_events, home_of, with_edges, with_held}
+use Rattle.def_journals.specs.Passing.{sent_events}
 use Rattle.core_edges.specs.declared.edges.Edges.{Edges}
 use Rattle.core_edges.specs.Answers.{Answering, AreAnswered, Counting}
 use Rattle.core_edges.specs.Strategies.{IsLearned, KeepsOthers, strategy_in}

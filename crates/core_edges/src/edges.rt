@@ -18,11 +18,11 @@ ghost use Rattle.asp_model.specs.Intent.{Effect};
 ghost use Rattle.asp_model.specs.Names.{FutureShape, Name};
 ghost use Rattle.asp_model.specs.Shapes.{delivery_shape};
 ghost use Rattle.asp_model.specs.Step.{with_effect};
-ghost use Rattle.coded_cells.specs.Shapes.{parcel_shape};
-ghost use Rattle.journals.specs.Edges.{after_events, no_holders};
-ghost use Rattle.journals.specs.Passing.{effect_events};
-ghost use Rattle.laws.specs.Steps.{IsNewTo};
-ghost use Rattle.actor.specs.Effects.{IsGiven};
+ghost use Rattle.code_table.specs.Shapes.{parcel_shape};
+ghost use Rattle.def_journals.specs.Edges.{after_events, no_holders};
+ghost use Rattle.def_journals.specs.Passing.{effect_events};
+ghost use Rattle.law_steps.specs.Steps.{IsNewTo};
+ghost use Rattle.step_activity.specs.Effects.{IsGiven};
 ghost use Rattle.future_update.specs.Holders.{IsTurned, is_met};
 ghost use Rattle.core_edges.specs.Answers.{AreAnswered};
 ghost use Rattle.core_edges.specs.Deliveries.{IsAfterDelivery};
@@ -31,12 +31,12 @@ ghost use Rattle.core_edges.specs.Given.{AreLearned, IsSomeFresh};
 ghost use Rattle.core_edges.specs.Labels.{AreByLabels};
 ghost use Rattle.core_edges.specs.Strategies.{KeepsEdges, KeepsOthers, strategy_in};
 
-use actor::Given;
 use asp_model::{ActivityName, Delivery, FutureName};
-use coded_cells::Parcel;
+use code_table::Parcel;
 use future_update::{EdgeNames, Holders};
 use std::alloc::{AllocError, Global};
 use std::collections::BTreeMap;
+use step_activity::Given;
 use update_policy::{Plan, Policies, PolicyBox, Strategy, UpdatePolicy};
 
 /// The edges of a core, and the policies that are asked about them. No call ties `AllocError` to

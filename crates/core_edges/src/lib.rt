@@ -2,6 +2,7 @@
 #![tactic(auto)]
 
 mod edges;
+mod futures;
 mod passing;
 
 pub use edges::Edges;

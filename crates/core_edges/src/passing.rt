@@ -3,10 +3,10 @@
 ghost use Rattle.std.specs.Prelude.{◌≡◌, [], None, OnOk};
 ghost use Rattle.std.specs.Bool.{OnFalse};
 ghost use Rattle.asp_model.specs.Shapes.{delivery_shape, future_shape};
-ghost use Rattle.coded_cells.specs.Cells.{all_coded, coded};
-ghost use Rattle.coded_cells.specs.Shapes.{parcel_shape};
-ghost use Rattle.journals.specs.Edges.{Receives, after_event, home_of};
-ghost use Rattle.journals.specs.Passing.{futures_in};
+ghost use Rattle.code_table.specs.Cells.{all_coded, coded};
+ghost use Rattle.code_table.specs.Shapes.{parcel_shape};
+ghost use Rattle.def_journals.specs.Edges.{Receives, after_event, home_of};
+ghost use Rattle.def_journals.specs.Passing.{futures_in};
 ghost use Rattle.request_queue.specs.Requests.{request_shape};
 ghost use Rattle.core_edges.specs.Answers.{AreAnswered};
 ghost use Rattle.core_edges.specs.Deliveries.{IsNoted};
@@ -21,9 +21,9 @@ ghost use Rattle.core_edges.specs.Passing.{
 ghost use Rattle.core_edges.specs.Strategies.{IsLearned, KeepsLearning, KeepsOthers, strategy_in};
 
 use crate::edges::Edges;
+use crate::futures::future_in;
 use asp_model::{ActivityName, Delivery, FutureName};
-use coded_cells::{Cell, Parcel};
-use core_rules::future_in;
+use code_table::{Cell, Parcel};
 use object_store::Store;
 use request_queue::Request;
 use std::alloc::{AllocError, Global};

@@ -5,25 +5,25 @@ use Rattle.asp_model.specs.Names.{Name, main_name}
 use Rattle.asp_model.specs.Step.{name_at}
 use Rattle.asp_model.specs.Store.{Object}
 use Rattle.asp_model.specs.Term.{Tree, locations}
-use Rattle.journals.specs.Journals.{begun}
-use Rattle.laws.specs.Closed.{IsClosed}
-use Rattle.laws.proofs.ClosedLaws.{reached_are_closed}
-use Rattle.chase_laws.proofs.FutureLemmas.{no_some, some_is}
-use Rattle.laws.proofs.ReachedLemmas.{start_is_reached}
-use Rattle.operand_reads.specs.Values.{AreClosedValues}
-use Rattle.program_code.specs.declared.code.Node.{Node}
+use Rattle.def_journals.specs.Journals.{begun}
+use Rattle.law_steps.specs.Closed.{IsClosed}
+use Rattle.law_steps.proofs.ClosedLaws.{reached_are_closed}
+use Rattle.law_chases.proofs.FutureLemmas.{no_some, some_is}
+use Rattle.law_steps.proofs.ReachedLemmas.{start_is_reached}
+use Rattle.step_reads.specs.Values.{AreClosedValues}
+use Rattle.code_table.specs.declared.code.Node.{Node}
 use Rattle.future_table.specs.Values.{AreOfCode, values_of}
 use Rattle.asp_model.specs.declared.name.FutureName.{FutureName}
-use Rattle.coded_cells.specs.declared.cells.Parcel.{Parcel}
-use Rattle.activity_ranks.specs.Ranks.{IsRanked, Rests}
+use Rattle.code_table.specs.declared.cells.Parcel.{Parcel}
+use Rattle.core_ranks.specs.Ranks.{IsRanked, Rests}
 use Rattle.request_queue.specs.declared.request.Request.{Request}
-use Rattle.activity_seats.specs.declared.seats.Seats.{Seats}
-use Rattle.activity_seats.specs.Seats.{AreSeats, In, IsFound, names_in, seats_in}
-use Rattle.core_journal.specs.Journal.{entries_in, room}
-use Rattle.actor.specs.declared.actor.Actor.{Actor}
-use Rattle.actor.specs.Actors.{IsClosedFor, Stands, code_of}
-use Rattle.rank_laws.specs.Ranked.{rank_of}
-use Rattle.rank_laws.specs.Runs.{rank_of_number}
+use Rattle.core_seats.specs.declared.seats.Seats.{Seats}
+use Rattle.core_seats.specs.Seats.{AreSeats, In, IsFound, names_in, seats_in}
+use Rattle.core_state.specs.Journal.{entries_in, room}
+use Rattle.step_activity.specs.declared.actor.Actor.{Actor}
+use Rattle.step_activity.specs.Actors.{IsClosedFor, Stands, code_of}
+use Rattle.law_core.specs.Ranked.{rank_of}
+use Rattle.law_core.specs.Runs.{rank_of_number}
 use Rattle.core_state.specs.declared.state.CoreState.{CoreState}
 use Rattle.core_state.specs.Cores.{IsCore, IsSeated, count_in, history_begun}
 

@@ -8,38 +8,38 @@ use Rattle.asp_model.specs.History.{HistoryShape, Committed}
 use Rattle.asp_model.specs.Intent as intents
 use Rattle.asp_model.specs.Intent.{Acts, Intent, intent}
 use Rattle.asp_model.specs.Names.{Name, FutureShape, name_cmp}
-use Rattle.journals.specs.Communications.{is_communication}
-use Rattle.journals.specs.Journals.{RunShape, run_of}
-use Rattle.journals.specs.Owed.{need_of}
-use Rattle.journal_laws.proofs.BudgetLemmas.{budgets_are_kept}
-use Rattle.journal_laws.proofs.JournalLemmas.{journals_reach}
-use Rattle.laws.specs.Closed.{IsClosed}
-use Rattle.laws.proofs.ClosedLaws.{reached_are_closed}
-use Rattle.chase_laws.proofs.MapLemmas as Maps
-use Rattle.laws.proofs.NameLemmas.{name_total, name_same}
-use Rattle.lease_laws.specs.Numbered.{AreNumbered}
-use Rattle.lease_laws.proofs.BurstLemmas.{bursts_are_counted}
-use Rattle.lease_laws.proofs.GrowingLemmas.{entries_go_on}
-use Rattle.lease_laws.proofs.NumberLemmas.{journals_are_numbered}
-use Rattle.core_laws.specs.Commits.{returned, with_activity}
-use Rattle.core_laws.proofs.CommitLemmas.{runs_are_commits}
-use Rattle.program_code.specs.declared.code.Node.{Node}
+use Rattle.def_journals.specs.Communications.{is_communication}
+use Rattle.def_journals.specs.Journals.{RunShape, run_of}
+use Rattle.def_journals.specs.Owed.{need_of}
+use Rattle.law_journals.proofs.BudgetLemmas.{budgets_are_kept}
+use Rattle.law_journals.proofs.JournalLemmas.{journals_reach}
+use Rattle.law_steps.specs.Closed.{IsClosed}
+use Rattle.law_steps.proofs.ClosedLaws.{reached_are_closed}
+use Rattle.law_chases.proofs.MapLemmas as Maps
+use Rattle.law_steps.proofs.NameLemmas.{name_total, name_same}
+use Rattle.law_journals.specs.Numbered.{AreNumbered}
+use Rattle.law_journals.proofs.BurstLemmas.{bursts_are_counted}
+use Rattle.law_journals.proofs.GrowingLemmas.{entries_go_on}
+use Rattle.law_journals.proofs.NumberLemmas.{journals_are_numbered}
+use Rattle.law_core.specs.Commits.{returned, with_activity}
+use Rattle.law_core.proofs.CommitLemmas.{runs_are_commits}
+use Rattle.code_table.specs.declared.code.Node.{Node}
 use Rattle.future_table.specs.Values.{AreOfCode, values_of}
-use Rattle.operand_reads.specs.Values.{AreClosedValues}
+use Rattle.step_reads.specs.Values.{AreClosedValues}
 use Rattle.request_queue.specs.declared.request.Request.{Request}
 use Rattle.request_queue.specs.Requests.{request_shape}
-use Rattle.activity_ranks.specs.Ranks.{Rests, IsRanked, OthersStay, RankShape}
-use Rattle.activity_seats.specs.Seats.{AreSeats, In, Out, SeatShape, names_in, seat_at, seats_in, with_seat}
-use Rattle.core_journal.specs.Journal.{entries_in, room}
-use Rattle.actor.specs.declared.actor.Actor.{Actor}
-use Rattle.actor.specs.Actors.{IsClosedFor, Stands, code_of}
-use Rattle.actor.specs.Stances as stances
-use Rattle.rank_laws.specs.Ranked.{rank_by, rank_in, rank_of, rank_unless}
-use Rattle.rank_laws.specs.Runs.{rank_of_number}
+use Rattle.core_ranks.specs.Ranks.{Rests, IsRanked, OthersStay, RankShape}
+use Rattle.core_seats.specs.Seats.{AreSeats, In, Out, SeatShape, names_in, seat_at, seats_in, with_seat}
+use Rattle.core_state.specs.Journal.{entries_in, room}
+use Rattle.step_activity.specs.declared.actor.Actor.{Actor}
+use Rattle.step_activity.specs.Actors.{IsClosedFor, Stands, code_of}
+use Rattle.step_activity.specs.Stances as stances
+use Rattle.law_core.specs.Ranked.{rank_by, rank_in, rank_of, rank_unless}
+use Rattle.law_core.specs.Runs.{rank_of_number}
 use Rattle.core_state.specs.declared.lease.Lease.{Lease}
 use Rattle.core_state.specs.declared.state.CoreState.{CoreState}
 use Rattle.core_state.specs.Leases.{IsLease}
-use Rattle.core_state.specs.Commits.{IsReturning, IsRunCommitted, rank_stance}
+use Rattle.core_state.specs.Returning.{IsReturning, IsRunCommitted, rank_stance}
 use Rattle.core_state.specs.Cores.{IsCore, IsPopulated, IsSeated, count_in, with_entry}
 use Rattle.core_state.proofs.ListLemmas.{got_other, got_set, got_within, number_case}
 use Rattle.core_state.proofs.PopulateLemmas.{comes_back}

@@ -3,14 +3,14 @@ use Rattle.std.proofs.Common.{◌≡◌, ◌-◌, ◌+◌, ◌≤◌, ◌^◌, �
 use Rattle.asp_model.specs.Configuration.{Activity, RequestShape, requests_of}
 use Rattle.asp_model.specs.History.{HistoryShape}
 use Rattle.asp_model.specs.Step.{name_at}
-use Rattle.lease_laws.specs.Leases.{IsLentAt}
-use Rattle.program_code.specs.declared.code.Node.{Node}
+use Rattle.law_journals.specs.Leases.{IsLentAt}
+use Rattle.code_table.specs.declared.code.Node.{Node}
 use Rattle.activity_step.specs.declared.advance.Advance.{Advance}
 use Rattle.activity_step.specs.declared.advance.Advance.TheVariants as advance
 use Rattle.activity_step.specs.Activities.{IsUsed}
 use Rattle.activity_step.specs.Local.{LocalRun}
-use Rattle.actor.specs.Actors.{Stands, code_of}
-use Rattle.actor.specs.Running.{IsRunBy}
+use Rattle.step_activity.specs.Actors.{Stands, code_of}
+use Rattle.step_activity.specs.Running.{IsRunBy}
 use Rattle.core_state.specs.declared.lease.Lease.{Lease}
 use Rattle.core_state.specs.Leases.{HasStopped, IsLease}
 

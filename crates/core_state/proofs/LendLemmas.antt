@@ -8,27 +8,27 @@ use Rattle.asp_model.specs.Names.{Name}
 use Rattle.asp_model.specs.Status.{is_running, status_of}
 use Rattle.asp_model.specs.Step.{name_at}
 use Rattle.asp_model.specs.declared.limits.TheConstants.{MOST_GRANTED}
-use Rattle.journals.specs.Journals.{RunShape, grant_of, granted, may_lend, run_of}
-use Rattle.journals.specs.Owed.{need_to}
-use Rattle.chase_laws.proofs.FutureLemmas.{no_some, none_true}
-use Rattle.lease_laws.specs.Entries.{with_lease}
-use Rattle.lease_laws.specs.Leases.{IsLentAt, bursts_in}
-use Rattle.lease_laws.proofs.BurstLemmas.{bursts_are_counted, leases_begin, leases_last}
-use Rattle.lease_laws.proofs.EntryLemmas.{lends_are_entered}
-use Rattle.lease_laws.proofs.GrowingLemmas.{entries_go_on}
-use Rattle.lease_laws.proofs.LeaseLemmas.{leases_stay}
-use Rattle.program_code.specs.declared.code.Node.{Node}
+use Rattle.def_journals.specs.Journals.{RunShape, grant_of, granted, may_lend, run_of}
+use Rattle.def_journals.specs.Owed.{need_to}
+use Rattle.law_chases.proofs.FutureLemmas.{no_some, none_true}
+use Rattle.law_journals.specs.Entered.{with_lease}
+use Rattle.law_journals.specs.Leases.{IsLentAt, bursts_in}
+use Rattle.law_journals.proofs.BurstLemmas.{bursts_are_counted, leases_begin, leases_last}
+use Rattle.law_journals.proofs.EntryLemmas.{lends_are_entered}
+use Rattle.law_journals.proofs.GrowingLemmas.{entries_go_on}
+use Rattle.law_journals.proofs.LeaseLemmas.{leases_stay}
+use Rattle.code_table.specs.declared.code.Node.{Node}
 use Rattle.future_table.specs.Values.{AreOfCode, values_of}
 use Rattle.request_queue.specs.declared.request.Request.{Request}
-use Rattle.activity_ranks.specs.Numbers.{IsFirst, has_number}
-use Rattle.activity_ranks.specs.Ranks.{Goes, IsRanked, OthersStay, RankShape, Rests, goes, rested}
-use Rattle.activity_seats.specs.Seats.{AreSeats, In, IsTaken, Out, SeatShape, names_in, seat_at, seats_in, with_seat}
-use Rattle.core_journal.specs.Journal.{entries_in, room}
+use Rattle.core_ranks.specs.Numbers.{IsFirst, has_number}
+use Rattle.core_ranks.specs.Ranks.{Goes, IsRanked, OthersStay, RankShape, Rests, goes, rested}
+use Rattle.core_seats.specs.Seats.{AreSeats, In, IsTaken, Out, SeatShape, names_in, seat_at, seats_in, with_seat}
+use Rattle.core_state.specs.Journal.{entries_in, room}
 use Rattle.activity_step.specs.Local.{LocalRun}
-use Rattle.actor.specs.declared.actor.Actor.{Actor}
-use Rattle.actor.specs.Actors.{Stands, code_of}
-use Rattle.rank_laws.specs.Runs.{is_ready, may_go, rank_of_number}
-use Rattle.rank_laws.proofs.RunLemmas.{lends_keep_ranks, ranks_tell_ready}
+use Rattle.step_activity.specs.declared.actor.Actor.{Actor}
+use Rattle.step_activity.specs.Actors.{Stands, code_of}
+use Rattle.law_core.specs.Runs.{is_ready, may_go, rank_of_number}
+use Rattle.law_core.proofs.RunLemmas.{lends_keep_ranks, ranks_tell_ready}
 use Rattle.core_state.specs.declared.lease.Lease.{Lease}
 use Rattle.core_state.specs.declared.state.CoreState.{CoreState}
 use Rattle.core_state.specs.Cores.{IsAway, IsCore, IsHere, IsSeated, count_in, with_entry}

@@ -1,3 +1,4 @@
+-- in reading order
 pub mod ListLemmas
 pub mod LeaseLemmas
 pub mod LendLemmas
@@ -6,3 +7,15 @@ pub mod ReturnLemmas
 pub mod ReturnRankLemmas
 pub mod ComeBackLemmas
 pub mod BeginLemmas
+pub mod HandLemmas
+pub mod ActLemmas
+pub mod StandLemmas
+pub mod OtherLemmas
+pub mod CommitLemmas
+pub mod DeliveryLemmas
+pub mod ReceivingLemmas
+pub mod NextLemmas
+pub mod NeedLemmas
+pub mod EdgeLemmas
+pub mod TargetLemmas
+pub mod DueLemmas

@@ -3,8 +3,8 @@ use Rattle.std.proofs.Common.{◌≡◌, ◌≢◌, ◌==◌, ◌<◌, ℕ, zero
 use Rattle.std.proofs.lemmas.Bool.{eqb-true, false_from_ne_true}
 use Rattle.asp_model.specs.Names.{Name}
 use Rattle.asp_model.specs.Step.{name_at}
-use Rattle.chase_laws.proofs.FutureLemmas.{no_some, true_false}
-use Rattle.activity_seats.specs.Seats.{In, Out, SeatShape}
+use Rattle.law_chases.proofs.FutureLemmas.{no_some, true_false}
+use Rattle.core_seats.specs.Seats.{In, Out, SeatShape}
 use Rattle.core_state.specs.Cores.{count_in}
 
 -- the model's lists of names are read as all lists are

@@ -9,22 +9,22 @@ use Rattle.asp_model.specs.History.{HistoryShape, Committed}
 use Rattle.asp_model.specs.Names.{Name, FutureShape, name_cmp, future_cmp}
 use Rattle.asp_model.specs.Parcel.{ParcelShape}
 use Rattle.asp_model.specs.Step.{name_at, with_sent}
-use Rattle.journals.specs.Journals.{RunShape, grant_of, out_but}
-use Rattle.chase_laws.proofs.MapLemmas as Maps
-use Rattle.laws.proofs.NameLemmas.{name_total, name_same}
-use Rattle.chase_laws.proofs.FutureLemmas.{no_some, some_is}
-use Rattle.lease_laws.specs.Numbered.{AreNumbered}
-use Rattle.lease_laws.proofs.BurstLemmas.{leases_last}
-use Rattle.lease_laws.proofs.LeaseLemmas.{grant_but}
-use Rattle.program_code.specs.declared.code.Node.{Node}
+use Rattle.def_journals.specs.Journals.{RunShape, grant_of, out_but}
+use Rattle.law_chases.proofs.MapLemmas as Maps
+use Rattle.law_steps.proofs.NameLemmas.{name_total, name_same}
+use Rattle.law_chases.proofs.FutureLemmas.{no_some, some_is}
+use Rattle.law_journals.specs.Numbered.{AreNumbered}
+use Rattle.law_journals.proofs.BurstLemmas.{leases_last}
+use Rattle.law_journals.proofs.LeaseLemmas.{grant_but}
+use Rattle.code_table.specs.declared.code.Node.{Node}
 use Rattle.future_table.specs.Values.{AreOfCode, values_of}
 use Rattle.request_queue.specs.declared.request.Request.{Request}
 use Rattle.request_queue.specs.Requests.{request_shape}
-use Rattle.activity_seats.specs.Seats.{AreSeats, In, Out, SeatShape, names_in, seat_at, seats_in, with_seat}
-use Rattle.actor.specs.declared.actor.Actor.{Actor}
-use Rattle.actor.specs.Actors.{Stands, code_of}
+use Rattle.core_seats.specs.Seats.{AreSeats, In, Out, SeatShape, names_in, seat_at, seats_in, with_seat}
+use Rattle.step_activity.specs.declared.actor.Actor.{Actor}
+use Rattle.step_activity.specs.Actors.{Stands, code_of}
 use Rattle.core_state.specs.declared.state.CoreState.{CoreState}
-use Rattle.core_state.specs.Commits.{IsPopulatedBut}
+use Rattle.core_state.specs.Returning.{IsPopulatedBut}
 use Rattle.core_state.specs.Cores.{IsHere, IsPopulated, IsSeated, with_entry}
 use Rattle.core_state.proofs.ListLemmas.{got_other, got_set, name_got, number_case, numbers_apart}
 

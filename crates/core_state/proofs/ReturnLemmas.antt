@@ -4,25 +4,25 @@ use Rattle.asp_model.specs.Configuration.{Configuration, requests_of}
 use Rattle.asp_model.specs.History.{HistoryShape, Committed}
 use Rattle.asp_model.specs.Intent.{Acts, Effect}
 use Rattle.asp_model.specs.Step.{intent_in, with_effect}
-use Rattle.journals.specs.Journals.{RunShape, grant_of, run_of}
-use Rattle.journal_laws.proofs.JournalLemmas.{journals_reach}
-use Rattle.laws.specs.Reached.{IsAt, IsReached}
-use Rattle.laws.specs.Sound.{IsSound}
-use Rattle.chase_laws.proofs.FutureLemmas.{no_some}
-use Rattle.laws.proofs.WholeLemmas.{reached_are_sound}
-use Rattle.lease_laws.specs.Leases.{IsOutSince}
-use Rattle.lease_laws.specs.Numbered.{AreNumbered}
-use Rattle.lease_laws.proofs.BurstLemmas.{leases_are_one}
-use Rattle.lease_laws.proofs.GrowingLemmas.{entries_go_on}
-use Rattle.lease_laws.proofs.LeaseLemmas.{leases_stay}
-use Rattle.lease_laws.proofs.NumberLemmas.{journals_are_numbered}
-use Rattle.core_laws.specs.Commits.{HasRun, made_by, returned, with_activity}
-use Rattle.core_laws.proofs.CommitLemmas.{acts_are_commits, runs_are_commits}
-use Rattle.program_code.specs.declared.code.Node.{Node}
+use Rattle.def_journals.specs.Journals.{RunShape, grant_of, run_of}
+use Rattle.law_journals.proofs.JournalLemmas.{journals_reach}
+use Rattle.law_steps.specs.Reached.{IsAt, IsReached}
+use Rattle.law_steps.specs.Sound.{IsSound}
+use Rattle.law_chases.proofs.FutureLemmas.{no_some}
+use Rattle.law_steps.proofs.WholeLemmas.{reached_are_sound}
+use Rattle.law_journals.specs.Leases.{IsOutSince}
+use Rattle.law_journals.specs.Numbered.{AreNumbered}
+use Rattle.law_journals.proofs.BurstLemmas.{leases_are_one}
+use Rattle.law_journals.proofs.GrowingLemmas.{entries_go_on}
+use Rattle.law_journals.proofs.LeaseLemmas.{leases_stay}
+use Rattle.law_journals.proofs.NumberLemmas.{journals_are_numbered}
+use Rattle.law_core.specs.Commits.{HasRun, made_by, returned, with_activity}
+use Rattle.law_core.proofs.CommitLemmas.{acts_are_commits, runs_are_commits}
+use Rattle.code_table.specs.declared.code.Node.{Node}
 use Rattle.request_queue.specs.declared.request.Request.{Request}
 use Rattle.request_queue.specs.Requests.{request_shape}
-use Rattle.activity_seats.specs.Seats.{In, Out, SeatShape, seat_at}
-use Rattle.actor.specs.declared.actor.Actor.{Actor}
+use Rattle.core_seats.specs.Seats.{In, Out, SeatShape, seat_at}
+use Rattle.step_activity.specs.declared.actor.Actor.{Actor}
 use Rattle.core_state.specs.declared.lease.Lease.{Lease}
 use Rattle.core_state.specs.declared.state.CoreState.{CoreState}
 use Rattle.core_state.specs.Leases.{IsLease}

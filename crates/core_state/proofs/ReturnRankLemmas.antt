@@ -7,20 +7,20 @@ use Rattle.asp_model.specs.Intent.{Acts, Effect}
 use Rattle.asp_model.specs.Names.{Name, FutureShape, name_cmp}
 use Rattle.asp_model.specs.Parcel.{ParcelShape}
 use Rattle.asp_model.specs.Step.{intent_in, name_at, with_effect}
-use Rattle.journals.specs.Journals.{RunShape, grant_of, out_but}
-use Rattle.laws.specs.Reached.{IsAt}
-use Rattle.laws.specs.Sound.{IsSound}
-use Rattle.chase_laws.proofs.MapLemmas as Maps
-use Rattle.laws.proofs.NameLemmas.{is_there, name_total, name_same}
-use Rattle.lease_laws.specs.Numbered.{AreNumbered}
-use Rattle.lease_laws.proofs.LeaseLemmas.{grant_but}
-use Rattle.lease_laws.proofs.NameListLemmas.{number_stays}
-use Rattle.core_laws.specs.Commits.{with_activity}
-use Rattle.activity_ranks.specs.Ranks.{Goes, Rests}
-use Rattle.rank_laws.specs.Ranked.{rank_in}
-use Rattle.rank_laws.specs.Keeping.{shifted_by}
-use Rattle.rank_laws.specs.Runs.{rank_named, rank_of_number, rank_unless_out}
-use Rattle.rank_laws.proofs.RankLemmas.{receivers_rank, steps_keep_ranks, writes_keep_ranks}
+use Rattle.def_journals.specs.Journals.{RunShape, grant_of, out_but}
+use Rattle.law_steps.specs.Reached.{IsAt}
+use Rattle.law_steps.specs.Sound.{IsSound}
+use Rattle.law_chases.proofs.MapLemmas as Maps
+use Rattle.law_steps.proofs.NameLemmas.{is_there, name_total, name_same}
+use Rattle.law_journals.specs.Numbered.{AreNumbered}
+use Rattle.law_journals.proofs.LeaseLemmas.{grant_but}
+use Rattle.law_journals.proofs.NameListLemmas.{number_stays}
+use Rattle.law_core.specs.Commits.{with_activity}
+use Rattle.core_ranks.specs.Ranks.{Goes, Rests}
+use Rattle.law_core.specs.Ranked.{rank_in}
+use Rattle.law_core.specs.Keeping.{shifted_by}
+use Rattle.law_core.specs.Runs.{rank_named, rank_of_number, rank_unless_out}
+use Rattle.law_core.proofs.RankLemmas.{receivers_rank, steps_keep_ranks, writes_keep_ranks}
 use Rattle.core_state.proofs.ListLemmas.{numbers_apart}
 use Rattle.core_state.proofs.PopulateLemmas.{grant_gone}
 

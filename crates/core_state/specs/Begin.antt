@@ -3,13 +3,13 @@ use Rattle.std.specs.Prelude.{◌≡◌, ℕ, List, [], ◌∷◌}
 use Rattle.asp_model.specs.Configuration.{begun as activity_begun}
 use Rattle.asp_model.specs.Store.{Object}
 use Rattle.asp_model.specs.Term.{locations}
-use Rattle.program_code.specs.declared.code.Node.{Node}
+use Rattle.code_table.specs.declared.code.Node.{Node}
 use Rattle.future_table.specs.Values.{values_of}
-use Rattle.activity_ranks.specs.Ranks.{IsRanked, Rests}
-use Rattle.activity_seats.specs.Seats.{AreSeats, names_in, seats_in}
-use Rattle.core_journal.specs.Journal.{entries_in}
-use Rattle.actor.specs.declared.actor.Actor.{Actor}
-use Rattle.actor.specs.Actors.{Stands, code_of}
+use Rattle.core_ranks.specs.Ranks.{IsRanked, Rests}
+use Rattle.core_seats.specs.Seats.{AreSeats, names_in, seats_in}
+use Rattle.core_state.specs.Journal.{entries_in}
+use Rattle.step_activity.specs.declared.actor.Actor.{Actor}
+use Rattle.step_activity.specs.Actors.{Stands, code_of}
 use Rattle.core_state.specs.declared.state.CoreState.{CoreState}
 use Rattle.core_state.specs.Cores.{program_of}
 

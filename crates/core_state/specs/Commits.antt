@@ -1,69 +1,71 @@
--- What a commit makes of a core.
-use Rattle.std.specs.Prelude.{◌≡◌, ◌≢◌, ◌≤◌, ◌<◌, ◌+◌, ◌-◌, ◌^◌, ℕ, List, [], Some, None, length}
-use Rattle.asp_model.specs.Configuration.{Activity, requests_of}
+-- What the commit of a lease leaves.
+use Rattle.std.specs.Prelude.{◌≡◌, ◌≤◌, ◌+◌, ◌-◌, ℕ, zero, suc, Bool, true, false, List, Option, Some, None}
+use Rattle.asp_model.specs.Chase.{Chase}
+use Rattle.asp_model.specs.Configuration.{Activity, RequestShape}
 use Rattle.asp_model.specs.History.{Committed, HistoryShape}
-use Rattle.asp_model.specs.Names.{Name}
-use Rattle.asp_model.specs.Step.{name_at}
-use Rattle.asp_model.specs.Term.{locations}
-use Rattle.journals.specs.Journals.{RunShape, grant_of, run_of}
-use Rattle.lease_laws.specs.Leases.{bursts_in}
-use Rattle.core_laws.specs.Commits.{HasRun, returned, with_activity}
-use Rattle.program_code.specs.declared.code.Node.{Node}
-use Rattle.future_table.specs.Values.{AreOfCode, values_of}
-use Rattle.activity_seats.specs.Seats.{AreSeats, Out, names_in, seat_at, seats_in}
-use Rattle.core_journal.specs.Journal.{entries_in, room}
-use Rattle.actor.specs.declared.actor.Actor.{Actor}
-use Rattle.actor.specs.Actors.{Stands, code_of}
-use Rattle.asp_model.specs.Chase.{Values}
-use Rattle.activity_ranks.specs.Ranks.{RankShape, Goes, HasNeed}
-use Rattle.rank_laws.specs.Ranked.{rank_resting}
-use Rattle.actor.specs.Stances as stances
-use Rattle.actor.specs.Stances.{StanceShape}
-use Rattle.core_state.specs.declared.lease.Lease.{Lease}
-use Rattle.core_state.specs.Leases.{IsLease}
+use Rattle.asp_model.specs.Intent.{Acts, Effect, Intent, Rests, intent}
+use Rattle.asp_model.specs.Names.{FutureShape, Name}
+use Rattle.asp_model.specs.Step.{intent_in, with_effect}
+use Rattle.def_journals.specs.Communications.{is_communication}
+use Rattle.def_journals.specs.Journals.{RunShape}
+use Rattle.def_journals.specs.Owed.{need_of}
+use Rattle.law_core.specs.Commits.{made_by, returned, with_activity}
+use Rattle.code_table.specs.declared.code.Node.{Node}
+use Rattle.step_activity.specs.declared.act.Given.{Given}
+use Rattle.step_activity.specs.declared.actor.Actor.{Actor}
+use Rattle.step_activity.specs.Stances as stances
+use Rattle.step_activity.specs.Stances.{StanceShape}
 use Rattle.core_state.specs.declared.state.CoreState.{CoreState}
-use Rattle.core_state.specs.Cores.{AreRanked, IsCore, IsSeated, with_entry}
+use Rattle.core_state.specs.Returning.{IsReturning}
+use Rattle.core_state.specs.Cores.{IsCore, with_entry}
+use Rattle.core_state.specs.Handing.{IsToHand, came_in}
 
--- all but one are where the run has them
-pub record IsPopulatedBut (h : HistoryShape) (code : List Node) (x : CoreState) (s : RunShape) (k : ℕ) : Type 0 where
-  pub kept : AreSeats x.seats
-  pub names : names_in x.seats ≡ s.names
-  pub seats : (j : ℕ) (n : Name) → j ≢ k → name_at s.names j ≡ Some n → IsSeated h code s j n (seat_at x.seats j)
-  pub named_out : (j : ℕ) → name_at s.names j ≡ None → grant_of j s.out ≡ None
-  pub futures : values_of x.futures ≡ s.configuration.futures
-  pub values : AreOfCode code x.futures
+abbrev pub communicates : StanceShape → Bool
+communicates (stances.Goes b) = b
+communicates x = false
 
--- a lease comes back: its box is empty, and the actor has received all and stands where its contractions led
-pub record IsReturning (h : HistoryShape) (code : List Node) (x : CoreState) (s : RunShape) (k : ℕ) (n : Name) (grant taken : ℕ) (a : Actor) : Type 0 where
-  pub bare : locations h.program ≡ []
-  pub small : h.budget < 2 ^ 64
-  pub run : run_of h.program h.budget h.entries ≡ Some s
-  pub entries : entries_in x.journal ≡ h.entries
-  pub populated : IsPopulatedBut h code x s k
-  pub away : seat_at x.seats k ≡ Some (Out [])
-  pub ranks : AreRanked x s
-  pub left : x.left ≡ s.left
-  pub bursts : x.bursts ≡ bursts_in h.entries
-  pub room : length (seats_in x.seats) + 3 ≤ room x.journal
-  pub end : Activity
-  pub has_run : HasRun s k grant n taken end
-  pub within : taken ≤ grant
-  pub stands : Stands a end (requests_of s.configuration n)
-  pub coded : code_of a ≡ code
+-- by whether it is a communication
+abbrev pub act_by : Bool → Intent → Option Effect
+act_by true (Acts e) = Some e
+act_by true (Rests status) = None
+act_by false p = None
 
-abbrev pub IsSomeReturning : CoreState → ℕ → ℕ → ℕ → Actor → Type 0
-IsSomeReturning x k grant taken a = (h : HistoryShape) × (code : List Node) × (s : RunShape) × (n : Name) × IsReturning h code x s k n grant taken a
+-- the communication at which an activity stands, where it may be done and nothing is owed to it before
+abbrev pub act_of : (FutureShape → Chase) → List RequestShape → Name → Activity → Option Effect
+act_of chases rs n a = elim (need_of chases a) [ Some x ↦ None | None ↦ act_by (is_communication chases a) (intent chases rs n a) ]
 
--- somebody has a lease of this core
-abbrev pub IsSomeLease : CoreState → Lease → Type 0
-IsSomeLease x l = (h : HistoryShape) × (code : List Node) × (s : RunShape) × IsCore h code x s × IsLease h code l
+-- where so much of a grant is left
+abbrev pub act_within : ℕ → Option Effect → Option Effect
+act_within zero o = None
+act_within (suc rest) o = o
 
--- the rank of an activity that stands so
-abbrev pub rank_stance : Values → StanceShape → RankShape
-rank_stance values (stances.Needs f place) = HasNeed
-rank_stance values (stances.Goes communicates) = Goes
-rank_stance values (stances.Rests status) = rank_resting values status
+-- one comes in with these reductions, of which the last had an effect
+abbrev pub IsActCommitted : (h : HistoryShape) (code : List Node) (s : RunShape) (k : ℕ) (n : Name) (grant reductions : ℕ) (end : Activity) (e : Effect) → CoreState → Type 0
+IsActCommitted h code s k n grant reductions end e new =
+    IsCore (with_entry h (Committed k reductions)) code new (returned s k (grant - reductions) (with_effect n e (with_activity n end s.configuration)) (made_by e.made))
 
--- its contractions alone were committed
-abbrev pub IsRunCommitted : (h : HistoryShape) (code : List Node) (s : RunShape) (k : ℕ) (n : Name) (grant taken : ℕ) (end : Activity) → CoreState → Type 0
-IsRunCommitted h code s k n grant taken end new = IsCore (with_entry h (Committed k taken)) code new (returned s k (grant - taken) (with_activity n end s.configuration) [])
+-- an activity has come back and intends an effect, for which one of its grant is left
+pub record IsActing (h : HistoryShape) (code : List Node) (x : CoreState) (s : RunShape) (k : ℕ) (n : Name) (grant reductions : ℕ) (a : Actor) (e : Effect) : Type 0 where
+  pub taken : ℕ
+  pub more : reductions ≡ suc taken
+  pub within : suc taken ≤ grant
+  pub returning : IsReturning h code x s k n grant taken a
+  pub intends : intent_in (with_activity n returning.end s.configuration) n ≡ Acts e
+
+-- it has come in so, with that effect, and nobody has what it gives
+pub record IsGiving (h : HistoryShape) (code : List Node) (x : CoreState) (s : RunShape) (k : ℕ) (n : Name) (grant reductions : ℕ) (e : Effect) (g : Given) : Type 0 where
+  pub before : CoreState
+  pub actor : Actor
+  pub acting : IsActing h code before s k n grant reductions actor e
+  pub hand : IsToHand (with_entry h (Committed k reductions)) code x (came_in s k (s.left + (grant - reductions)) (with_activity n e.own s.configuration)) e g
+  pub journal : x.journal ≡ before.journal
+  pub ranks : x.ranks ≡ before.ranks
+  pub left : x.left ≡ before.left
+  pub bursts : x.bursts ≡ before.bursts
+
+-- after contractions that led here
+abbrev pub IsGivingFrom : (h : HistoryShape) (code : List Node) (x : CoreState) (s : RunShape) (k : ℕ) (n : Name) (grant reductions : ℕ) (e : Effect) → Activity → Given → Type 0
+IsGivingFrom h code x s k n grant reductions e end g = (r : IsGiving h code x s k n grant reductions e g) × (r.acting.returning.end ≡ end)
+
+abbrev pub IsSomeGiving : CoreState → ℕ → ℕ → ℕ → Given → Type 0
+IsSomeGiving x k grant reductions g = (h : HistoryShape) × (code : List Node) × (s : RunShape) × (n : Name) × (e : Effect) × IsGiving h code x s k n grant reductions e g

@@ -8,22 +8,22 @@ use Rattle.asp_model.specs.History.{EntryShape, HistoryShape}
 use Rattle.asp_model.specs.Names.{Name}
 use Rattle.asp_model.specs.Step.{name_at}
 use Rattle.asp_model.specs.Term.{Tree, locations}
-use Rattle.journals.specs.Journals.{RunShape, grant_of, run_of}
-use Rattle.laws.specs.Reached.{IsAt}
-use Rattle.lease_laws.specs.Leases.{IsLentAt, bursts_in}
-use Rattle.program_code.specs.declared.code.Node.{Node}
-use Rattle.program_code.specs.Pieces.{tree}
-use Rattle.program_code.specs.Sound.{root_of}
-use Rattle.program_code.specs.Tables.{piece_at, pieces}
+use Rattle.def_journals.specs.Journals.{RunShape, grant_of, run_of}
+use Rattle.law_steps.specs.Reached.{IsAt}
+use Rattle.law_journals.specs.Leases.{IsLentAt, bursts_in}
+use Rattle.code_table.specs.declared.code.Node.{Node}
+use Rattle.code_table.specs.Pieces.{tree}
+use Rattle.code_table.specs.Sound.{root_of}
+use Rattle.code_table.specs.Tables.{piece_at, pieces}
 use Rattle.future_table.specs.Values.{AreOfCode, values_of}
 use Rattle.request_queue.specs.declared.request.Request.{Request}
 use Rattle.request_queue.specs.Requests.{request_shape}
-use Rattle.activity_ranks.specs.Ranks.{IsRanked}
-use Rattle.activity_seats.specs.Seats.{AreSeats, In, Out, SeatShape, names_in, seat_at, seats_in}
-use Rattle.core_journal.specs.Journal.{entries_in, room}
-use Rattle.actor.specs.declared.actor.Actor.{Actor}
-use Rattle.actor.specs.Actors.{Stands, code_of}
-use Rattle.rank_laws.specs.Runs.{rank_of_number}
+use Rattle.core_ranks.specs.Ranks.{IsRanked}
+use Rattle.core_seats.specs.Seats.{AreSeats, In, Out, SeatShape, names_in, seat_at, seats_in}
+use Rattle.core_state.specs.Journal.{entries_in, room}
+use Rattle.step_activity.specs.declared.actor.Actor.{Actor}
+use Rattle.step_activity.specs.Actors.{Stands, code_of}
+use Rattle.law_core.specs.Runs.{rank_of_number}
 use Rattle.core_state.specs.declared.state.CoreState.{CoreState}
 
 -- the program that a table of code stands for

@@ -5,14 +5,14 @@ use Rattle.asp_model.specs.Configuration.{RequestShape, requests_of}
 use Rattle.asp_model.specs.History.{HistoryShape}
 use Rattle.asp_model.specs.Names.{Name}
 use Rattle.asp_model.specs.Step.{name_at}
-use Rattle.journals.specs.Journals.{RunShape, granted}
-use Rattle.laws.specs.Reached.{IsAt}
-use Rattle.lease_laws.specs.Leases.{IsLentAt}
-use Rattle.program_code.specs.declared.code.Node.{Node}
+use Rattle.def_journals.specs.Journals.{RunShape, granted}
+use Rattle.law_steps.specs.Reached.{IsAt}
+use Rattle.law_journals.specs.Leases.{IsLentAt}
+use Rattle.code_table.specs.declared.code.Node.{Node}
 use Rattle.activity_step.specs.declared.advance.Advance.{Advance}
 use Rattle.activity_step.specs.Activities.{IsStopAt, IsUsed}
 use Rattle.activity_step.specs.Local.{LocalRun}
-use Rattle.actor.specs.Actors.{Stands, code_of}
+use Rattle.step_activity.specs.Actors.{Stands, code_of}
 use Rattle.core_state.specs.declared.lease.Lease.{Lease}
 
 -- so far it took contractions that need no other, from the activity as it was lent

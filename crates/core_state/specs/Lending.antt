@@ -1,11 +1,11 @@
 -- What a lend gives and leaves, and who is next.
 use Rattle.std.specs.Prelude.{◌≡◌, ◌≤◌, ℕ, true, false, List, Option, Some, None}
 use Rattle.asp_model.specs.History.{HistoryShape, Lent}
-use Rattle.journals.specs.Journals.{RunShape}
-use Rattle.lease_laws.specs.Entries.{with_lease}
-use Rattle.lease_laws.specs.Leases.{bursts_in}
-use Rattle.program_code.specs.declared.code.Node.{Node}
-use Rattle.rank_laws.specs.Runs.{is_ready}
+use Rattle.def_journals.specs.Journals.{RunShape}
+use Rattle.law_journals.specs.Entered.{with_lease}
+use Rattle.law_journals.specs.Leases.{bursts_in}
+use Rattle.code_table.specs.declared.code.Node.{Node}
+use Rattle.law_core.specs.Runs.{is_ready}
 use Rattle.core_state.specs.declared.lease.Lease.{Lease}
 use Rattle.core_state.specs.declared.state.CoreState.{CoreState}
 use Rattle.core_state.specs.Leases.{IsLease}

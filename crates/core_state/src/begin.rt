@@ -5,23 +5,23 @@ ghost use Rattle.std.specs.Arc.{arc_value};
 ghost use Rattle.asp_model.specs.Configuration.{begun as activity_begun};
 ghost use Rattle.asp_model.specs.Store.{Object as ObjectCell};
 ghost use Rattle.asp_model.specs.Term.{locations};
-ghost use Rattle.journals.specs.Journals.{begun};
-ghost use Rattle.program_code.specs.declared.code.Node.{Node as NodeShape};
-ghost use Rattle.actor.specs.Actors.{Stands, code_of};
+ghost use Rattle.def_journals.specs.Journals.{begun};
+ghost use Rattle.code_table.specs.declared.code.Node.{Node as NodeShape};
+ghost use Rattle.step_activity.specs.Actors.{Stands, code_of};
 ghost use Rattle.core_state.specs.Begin.{IsEmpty, IsMain, IsSomeMain};
 ghost use Rattle.core_state.specs.Cores.{IsCore, history_begun, program_of};
 
 use crate::come_back::rank_of;
+use crate::journal::Journal;
 use crate::state::CoreState;
-use activity_ranks::Ranks;
-use activity_seats::Seats;
-use actor::Actor;
 use asp_model::ActivityName;
-use core_journal::Journal;
+use code_table::Code;
+use core_ranks::Ranks;
+use core_seats::Seats;
 use future_table::FutureTable;
-use program_code::Code;
 use std::alloc::{AllocError, Global};
 use std::sync::Arc;
+use step_activity::Actor;
 
 /// The main activity, which has settled.
 fn main_actor(alloc: Global, code: Arc<Code>) -> Result<Box<Actor>, AllocError>

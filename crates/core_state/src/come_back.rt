@@ -9,16 +9,16 @@ ghost use Rattle.asp_model.specs.History.{HistoryShape};
 ghost use Rattle.asp_model.specs.Names.{Name};
 ghost use Rattle.asp_model.specs.Shapes.{future_shape};
 ghost use Rattle.future_table.specs.Values.{values_of};
-ghost use Rattle.journals.specs.Journals.{RunShape};
-ghost use Rattle.operand_reads.specs.Values.{AreClosedValues};
-ghost use Rattle.program_code.specs.declared.code.Node.{Node as NodeShape};
-ghost use Rattle.activity_ranks.specs.Ranks.{rank_shape};
-ghost use Rattle.rank_laws.specs.Ranked.{rank_awaiting as awaiting_rank, rank_of as rank_told};
-ghost use Rattle.actor.specs.Actors.{IsClosedFor, Stands, code_of};
-ghost use Rattle.actor.specs.Stances.{stance_shape};
+ghost use Rattle.def_journals.specs.Journals.{RunShape};
+ghost use Rattle.step_reads.specs.Values.{AreClosedValues};
+ghost use Rattle.code_table.specs.declared.code.Node.{Node as NodeShape};
+ghost use Rattle.core_ranks.specs.Ranks.{rank_shape};
+ghost use Rattle.law_core.specs.Ranked.{rank_awaiting as awaiting_rank, rank_of as rank_told};
+ghost use Rattle.step_activity.specs.Actors.{IsClosedFor, Stands, code_of};
+ghost use Rattle.step_activity.specs.Stances.{stance_shape};
 ghost use Rattle.request_queue.specs.Requests.{request_shape};
-ghost use Rattle.core_journal.specs.Journal.{entries_in};
-ghost use Rattle.core_state.specs.Commits.{
+ghost use Rattle.core_state.specs.Journal.{entries_in};
+ghost use Rattle.core_state.specs.Returning.{
   IsReturning,
   IsRunCommitted,
   IsSomeLease,
@@ -29,14 +29,14 @@ ghost use Rattle.core_state.specs.Cores.{IsCore};
 ghost use Rattle.core_state.specs.Leases.{IsLease};
 
 use crate::lease::Lease;
+use crate::spending::left_with;
 use crate::state::CoreState;
-use activity_ranks::Rank;
-use actor::{Actor, Stance};
 use asp_model::{Entry, FutureName};
-use core_rules::left_with;
+use core_ranks::Rank;
 use future_table::FutureTable;
 use request_queue::Request;
 use std::alloc::{AllocError, Global};
+use step_activity::{Actor, Stance};
 
 /// Who awaits a future without a value waits for it; round a cycle nothing comes.
 fn rank_awaiting(

@@ -2,11 +2,11 @@
 
 ghost use Rattle.std.specs.Prelude.{◌≡◌, ◌⊎◌, Err, List, OnErr, OnOk, alloc_error, true};
 ghost use Rattle.asp_model.specs.History.{HistoryShape};
-ghost use Rattle.program_code.specs.declared.code.Node.{Node as NodeShape};
+ghost use Rattle.code_table.specs.declared.code.Node.{Node as NodeShape};
 ghost use Rattle.core_state.specs.Leases.{HasStopped, IsLease};
 
-use actor::Actor;
 use std::alloc::{AllocError, Global};
+use step_activity::Actor;
 
 /// An activity that was lent, with a grant of reductions. It needs nothing of the core.
 #[derive(Drop)]

@@ -2,16 +2,16 @@
 
 ghost use Rattle.std.specs.Prelude.{List};
 ghost use Rattle.asp_model.specs.History.{HistoryShape};
-ghost use Rattle.journals.specs.Journals.{RunShape};
-ghost use Rattle.program_code.specs.declared.code.Node.{Node as NodeShape};
-ghost use Rattle.activity_seats.specs.Seats.{IsKnown};
+ghost use Rattle.def_journals.specs.Journals.{RunShape};
+ghost use Rattle.code_table.specs.declared.code.Node.{Node as NodeShape};
+ghost use Rattle.core_seats.specs.Seats.{IsKnown};
 ghost use Rattle.core_state.specs.Cores.{IsCore, IsSomeCore};
 ghost use Rattle.core_state.specs.Lending.{IsLentBy, IsNextReady};
 
 use crate::lease::Lease;
+use crate::lends::is_lent;
 use crate::state::CoreState;
 use asp_model::{Entry, MOST_GRANTED};
-use core_rules::is_lent;
 
 impl CoreState {
     /// The least number of those who are ready: who are in, can step, and lack nothing, while some

@@ -2,18 +2,18 @@
 
 ghost use Rattle.std.specs.Prelude.{◌≡◌, Some, length, map, slice_get};
 ghost use Rattle.asp_model.specs.Shapes.{entry_shape};
-ghost use Rattle.activity_seats.specs.Seats.{IsKnown, names_in, seats_in};
-ghost use Rattle.core_journal.specs.Journal.{entries_in};
+ghost use Rattle.core_seats.specs.Seats.{IsKnown, names_in, seats_in};
+ghost use Rattle.core_state.specs.Journal.{entries_in};
 ghost use Rattle.core_state.specs.Cores.{IsSomeCore};
 
-use activity_ranks::Ranks;
-use activity_seats::Seats;
-use actor::Actor;
+use crate::journal::Journal;
 use asp_model::{ActivityName, Entry};
-use core_journal::Journal;
+use core_ranks::Ranks;
+use core_seats::Seats;
 use future_table::FutureTable;
 use request_queue::Request;
 use std::alloc::Global;
+use step_activity::Actor;
 
 /// The activities by numbers, each here or lent; where they stand; the futures that are filled; the
 /// journal; what is left of the budget; and how many leases there were.

@@ -1,10 +1,10 @@
 -- What is unpacked with no cells before stays as it is.
 use Rattle.std.proofs.Common.{◌≡◌, ◌∙◌, ℕ, ◌+◌, List, [], ◌∷◌, map, refl, sym, ap, arith}
 use Rattle.asp_model.specs.Parcel.{unpack}
-use Rattle.program_code.specs.declared.code.Node.{Node}
-use Rattle.program_code.specs.Sound.{IsSound}
-use Rattle.coded_cells.specs.Cells.{CodedCell, CodedStore, Number, Object, Reference, Future, Group, moved_coded}
-use Rattle.coded_cells.specs.Shapes.{store_of}
+use Rattle.code_table.specs.declared.code.Node.{Node}
+use Rattle.code_table.specs.Sound.{IsSound}
+use Rattle.code_table.specs.Cells.{CodedCell, CodedStore, Number, Object, Reference, Future, Group, moved_coded}
+use Rattle.code_table.specs.Shapes.{store_of}
 use Rattle.deep_copy.proofs.MeaningLemmas.{store_moved}
 use Rattle.deep_copy.proofs.UnpackLemmas.{parcel_with}
 

@@ -5,9 +5,9 @@ use Rattle.std.proofs.lemmas.List.{map-append, take_more}
 use Rattle.asp_model.specs.Term.{Head, Tree, Trees, node, none, more, own_locations, locations, locations_below, moved_head, moved, moved_below}
 use Rattle.asp_model.specs.Term as term
 use Rattle.asp_model.specs.Store.{MethodShape, Field, CellShape, Number, Object, Reference, Future, Group, moved_cell, reached}
-use Rattle.laws.specs.Linked.{Each}
-use Rattle.laws.specs.Closed.{AreBelow, CellsBelow}
-use Rattle.laws.proofs.EachLemmas.{each_first, each_second, each_weaker}
+use Rattle.law_steps.specs.Linked.{Each}
+use Rattle.law_steps.specs.Closed.{AreBelow, CellsBelow}
+use Rattle.law_steps.proofs.EachLemmas.{each_first, each_second, each_weaker}
 
 -- one copy more
 pub one_more : {A B C : Type 0} (shape : B → C) (copy : A → C) (old new : List B) (xs : List A) (x : A) (y : B) (i : ℕ) → map shape old ≡ map copy (take i xs) → new ≡ old ++ y ∷ [] → shape y ≡ copy x → x ≡ get_or xs i x → i < length xs → map shape new ≡ map copy (take (i + 1) xs)

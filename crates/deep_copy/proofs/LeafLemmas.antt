@@ -3,16 +3,16 @@ use Rattle.std.proofs.Common.{◌≡◌, ◌∙◌, ◌<◌, ◌++◌, ℕ, zero
 use Rattle.std.proofs.lemmas.Bool.{eq-eqb}
 use Rattle.asp_model.specs.Parcel.{ParcelShape, number_in, parcel_of, visit}
 use Rattle.asp_model.specs.Store.{Store, cell, reached}
-use Rattle.program_code.specs.declared.code.Node.{Node}
-use Rattle.program_code.specs.declared.code.Class.{Class}
-use Rattle.program_code.specs.Classes.{class_at}
-use Rattle.program_code.specs.Sound.{IsSound}
-use Rattle.coded_cells.specs.Cells as coded
-use Rattle.coded_cells.specs.Cells.{CodedCell, CodedStore, cell_at, moved_coded}
-use Rattle.coded_cells.specs.Fits.{AllFitCode, FitsCode}
-use Rattle.coded_cells.specs.Shapes.{cell_of, class_object, store_of}
-use Rattle.coded_cells.proofs.CodedLemmas.{cell-store_of, length-store_of}
-use Rattle.coded_cells.proofs.FitsLemmas.{fit_at, fits_moved}
+use Rattle.code_table.specs.declared.code.Node.{Node}
+use Rattle.code_table.specs.declared.code.Class.{Class}
+use Rattle.code_table.specs.Classes.{class_at}
+use Rattle.code_table.specs.Sound.{IsSound}
+use Rattle.code_table.specs.Cells as coded
+use Rattle.code_table.specs.Cells.{CodedCell, CodedStore, cell_at, moved_coded}
+use Rattle.code_table.specs.Fits.{AllFitCode, FitsCode}
+use Rattle.code_table.specs.Shapes.{cell_of, class_object, store_of}
+use Rattle.code_table.proofs.CodedLemmas.{cell-store_of, length-store_of}
+use Rattle.code_table.proofs.FitsLemmas.{fit_at, fits_moved}
 use Rattle.deep_copy.specs.Leaves.{IsLeaf, IsLoneLeaf}
 use Rattle.deep_copy.proofs.MeaningLemmas.{IsSoundClass, sound_class}
 use Rattle.deep_copy.proofs.PackLemmas.{packed}

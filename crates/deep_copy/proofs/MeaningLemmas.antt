@@ -6,22 +6,22 @@ use Rattle.asp_model.specs.Term.{Head, Loc, Make, Tree, Trees, Environment, none
 use Rattle.asp_model.specs.Store as store
 use Rattle.asp_model.specs.Store.{Store, CellShape, Field, MethodShape, moved_cell}
 use Rattle.asp_model.specs.Contraction.{fields_at}
-use Rattle.program_code.specs.declared.code.Leaf.{Leaf}
-use Rattle.program_code.specs.declared.code.Leaf.TheVariants as leaves
-use Rattle.program_code.specs.declared.code.Capture.{Capture}
-use Rattle.program_code.specs.declared.code.Class.{Class}
-use Rattle.program_code.specs.declared.code.Kind.{Kind}
-use Rattle.program_code.specs.declared.code.Kind.TheVariants as kind
-use Rattle.program_code.specs.declared.code.MethodCode.{MethodCode}
-use Rattle.program_code.specs.declared.code.Node.{Node}
-use Rattle.program_code.specs.Pieces.{Piece, variable, piece, object, Pieces, nothing, also, Bodies, no_method, method, at_slot, leaf_tree, captured_trees, tree, below, bodies, heads_of}
-use Rattle.program_code.specs.Fitting.{IsNode, Fits, AllFit, BodiesFit, captured_names, body_scope, body_height, slots_from}
-use Rattle.program_code.specs.Tables.{pieces, piece_of, labels_of, head_of, seen_methods}
-use Rattle.program_code.specs.Classes.{class_of, class_at}
-use Rattle.program_code.specs.Sound.{IsSound, IsSoundMethod, MethodsSound, KindSound, ClassesSound}
-use Rattle.coded_cells.specs.Cells as coded
-use Rattle.coded_cells.specs.Cells.{CodedCell, CodedStore, moved_coded}
-use Rattle.coded_cells.specs.Shapes.{class_object, cell_of, store_of}
+use Rattle.code_table.specs.declared.code.Leaf.{Leaf}
+use Rattle.code_table.specs.declared.code.Leaf.TheVariants as leaves
+use Rattle.code_table.specs.declared.code.Capture.{Capture}
+use Rattle.code_table.specs.declared.code.Class.{Class}
+use Rattle.code_table.specs.declared.code.Kind.{Kind}
+use Rattle.code_table.specs.declared.code.Kind.TheVariants as kind
+use Rattle.code_table.specs.declared.code.MethodCode.{MethodCode}
+use Rattle.code_table.specs.declared.code.Node.{Node}
+use Rattle.code_table.specs.Pieces.{Piece, variable, piece, object, Pieces, nothing, also, Bodies, no_method, method, at_slot, leaf_tree, captured_trees, tree, below, bodies, heads_of}
+use Rattle.code_table.specs.Fitting.{IsNode, Fits, AllFit, BodiesFit, captured_names, body_scope, body_height, slots_from}
+use Rattle.code_table.specs.Tables.{pieces, piece_of, labels_of, head_of, seen_methods}
+use Rattle.code_table.specs.Classes.{class_of, class_at}
+use Rattle.code_table.specs.Sound.{IsSound, IsSoundMethod, MethodsSound, KindSound, ClassesSound}
+use Rattle.code_table.specs.Cells as coded
+use Rattle.code_table.specs.Cells.{CodedCell, CodedStore, moved_coded}
+use Rattle.code_table.specs.Shapes.{class_object, cell_of, store_of}
 
 -- Pieces
 

@@ -2,15 +2,15 @@
 use Rattle.std.proofs.Common.{◌≡◌, ℕ, List, [], ◌∷◌, length, map, refl, sym, ap, subst, ◌∙◌}
 use Rattle.asp_model.specs.Parcel.{ParcelShape, number_in, numbered, visit_order, parcel_of}
 use Rattle.asp_model.specs.Store.{cell, moved_cell}
-use Rattle.laws.specs.Closed.{AreBelow, IsClosedParcel, IsClosedStore}
-use Rattle.laws.proofs.VisitLemmas.{packed_closed}
-use Rattle.program_code.specs.declared.code.Node.{Node}
-use Rattle.program_code.specs.Sound.{IsSound}
-use Rattle.coded_cells.specs.Cells.{CodedStore, cell_at, moved_coded}
-use Rattle.coded_cells.specs.Fits.{AllFitCode}
-use Rattle.coded_cells.specs.Shapes.{store_of}
-use Rattle.coded_cells.proofs.CodedLemmas.{cell-store_of, length-store_of}
-use Rattle.coded_cells.proofs.FitsLemmas.{fit_at, fits_moved}
+use Rattle.law_steps.specs.Closed.{AreBelow, IsClosedParcel, IsClosedStore}
+use Rattle.law_steps.proofs.VisitLemmas.{packed_closed}
+use Rattle.code_table.specs.declared.code.Node.{Node}
+use Rattle.code_table.specs.Sound.{IsSound}
+use Rattle.code_table.specs.Cells.{CodedStore, cell_at, moved_coded}
+use Rattle.code_table.specs.Fits.{AllFitCode}
+use Rattle.code_table.specs.Shapes.{store_of}
+use Rattle.code_table.proofs.CodedLemmas.{cell-store_of, length-store_of}
+use Rattle.code_table.proofs.FitsLemmas.{fit_at, fits_moved}
 use Rattle.deep_copy.proofs.MeaningLemmas.{cell_moved}
 
 abbrev pub copies_of : (ℕ → ℕ) → CodedStore → List ℕ → CodedStore

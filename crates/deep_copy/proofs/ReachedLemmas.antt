@@ -7,14 +7,14 @@ use Rattle.asp_model.specs.Names.{Text}
 use Rattle.asp_model.specs.Term.{loc, locations}
 use Rattle.asp_model.specs.Store.{Field, MethodShape, reached}
 use Rattle.asp_model.specs.Contraction.{fields_at}
-use Rattle.program_code.specs.declared.code.Class.{Class}
-use Rattle.program_code.specs.declared.code.MethodCode.{MethodCode}
-use Rattle.program_code.specs.declared.code.Node.{Node}
-use Rattle.program_code.specs.Pieces.{Piece, tree}
-use Rattle.program_code.specs.Fitting.{captured_names, body_scope, body_height}
-use Rattle.program_code.specs.Tables.{pieces, piece_of, labels_of, text_of, head_of, seen_methods, object_of}
-use Rattle.program_code.specs.Sound.{IsSoundMethod, MethodsSound}
-use Rattle.program_code.proofs.UsesLemmas.{inside, found_in}
+use Rattle.code_table.specs.declared.code.Class.{Class}
+use Rattle.code_table.specs.declared.code.MethodCode.{MethodCode}
+use Rattle.code_table.specs.declared.code.Node.{Node}
+use Rattle.code_table.specs.Pieces.{Piece, tree}
+use Rattle.code_table.specs.Fitting.{captured_names, body_scope, body_height}
+use Rattle.code_table.specs.Tables.{pieces, piece_of, labels_of, text_of, head_of, seen_methods, object_of}
+use Rattle.code_table.specs.Sound.{IsSoundMethod, MethodsSound}
+use Rattle.code_table.proofs.UsesLemmas.{inside, found_in}
 use Rattle.deep_copy.specs.Reached.{used_places, captured_places, class_places}
 
 slot_places : (ns : List ℕ) (k : ℕ) → inside (map loc ns) k ≡ option_to_list (slice_get ns k)

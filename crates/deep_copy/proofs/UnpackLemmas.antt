@@ -3,15 +3,15 @@ use Rattle.std.proofs.Common.{◌≡◌, ℕ, zero, suc, ◌+◌, ◌-◌, ◌^�
 use Rattle.std.proofs.lemmas.List.{length-map}
 use Rattle.asp_model.specs.Store.{CellShape, Store, with_cell, moved_cell}
 use Rattle.asp_model.specs.Parcel.{ParcelShape, place_at, unpack, unpacked_roots, unpack_at, with_cells_at}
-use Rattle.laws.specs.Closed.{AreBelow, CellsBelow, IsClosedParcel, IsClosedStore, IsClosedValue}
-use Rattle.laws.proofs.MovedLemmas.{length_written, unpacked_closed, unpacked_at_closed}
-use Rattle.program_code.specs.declared.code.Node.{Node}
-use Rattle.program_code.specs.Sound.{IsSound}
-use Rattle.coded_cells.specs.Cells.{CodedStore, moved_coded, with_coded_at}
-use Rattle.coded_cells.specs.Fits.{AllFitCode}
-use Rattle.coded_cells.specs.Shapes.{store_of}
-use Rattle.coded_cells.proofs.CodedLemmas.{length-store_of, store_of-append, store_of-with_coded}
-use Rattle.coded_cells.proofs.FitsLemmas.{all_fit_append, all_fit_moved, all_fit_with_coded}
+use Rattle.law_steps.specs.Closed.{AreBelow, CellsBelow, IsClosedParcel, IsClosedStore, IsClosedValue}
+use Rattle.law_steps.proofs.MovedLemmas.{length_written, unpacked_closed, unpacked_at_closed}
+use Rattle.code_table.specs.declared.code.Node.{Node}
+use Rattle.code_table.specs.Sound.{IsSound}
+use Rattle.code_table.specs.Cells.{CodedStore, moved_coded, with_coded_at}
+use Rattle.code_table.specs.Fits.{AllFitCode}
+use Rattle.code_table.specs.Shapes.{store_of}
+use Rattle.code_table.proofs.CodedLemmas.{length-store_of, store_of-append, store_of-with_coded}
+use Rattle.code_table.proofs.FitsLemmas.{all_fit_append, all_fit_moved, all_fit_with_coded}
 use Rattle.deep_copy.specs.Moves.{raised, raised_at}
 use Rattle.deep_copy.proofs.MeaningLemmas.{store_moved}
 use Rattle.deep_copy.proofs.CopyLemmas.{cells_alike, roots_alike}

@@ -5,9 +5,9 @@ use Rattle.std.proofs.lemmas.Bool.{eq-eqb, cases_lt}
 use Rattle.std.proofs.lemmas.List.{reverse-append, reverse-reverse, length-reverse}
 use Rattle.asp_model.specs.Store.{Store, cell, reached}
 use Rattle.asp_model.specs.Parcel.{has_place, walk, visit, visit_order}
-use Rattle.laws.specs.Closed.{AreBelow, IsClosedStore}
-use Rattle.laws.proofs.EachLemmas.{each_both}
-use Rattle.laws.proofs.MovedLemmas.{cell_below}
+use Rattle.law_steps.specs.Closed.{AreBelow, IsClosedStore}
+use Rattle.law_steps.proofs.EachLemmas.{each_both}
+use Rattle.law_steps.proofs.MovedLemmas.{cell_below}
 
 -- from what is to be visited and what was seen to the order
 pub data Visits (s : Store) : List ℕ → List ℕ → List ℕ → Type 0 where

@@ -1,11 +1,11 @@
 -- Cells as they are copied, and what stays so of a store.
 use Rattle.std.specs.Prelude.{ℕ}
 use Rattle.std.specs.Arc.{arc_value}
-use Rattle.laws.specs.Closed.{IsClosedStore}
-use Rattle.coded_cells.specs.declared.cells.Parcel.{Parcel}
-use Rattle.coded_cells.specs.Cells.{CodedCell, CodedStore, all_coded, cell_at, moved_coded}
-use Rattle.coded_cells.specs.Fits.{AllFitCode}
-use Rattle.coded_cells.specs.Shapes.{store_of}
+use Rattle.law_steps.specs.Closed.{IsClosedStore}
+use Rattle.code_table.specs.declared.cells.Parcel.{Parcel}
+use Rattle.code_table.specs.Cells.{CodedCell, CodedStore, all_coded, cell_at, moved_coded}
+use Rattle.code_table.specs.Fits.{AllFitCode}
+use Rattle.code_table.specs.Shapes.{store_of}
 use Rattle.deep_copy.specs.declared.moves.Moves.{Moves}
 use Rattle.deep_copy.specs.Moves.{move_of}
 

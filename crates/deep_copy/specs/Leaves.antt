@@ -1,7 +1,7 @@
 -- Cells that reach no other: also objects that hold no places.
 use Rattle.std.specs.Prelude.{◌≡◌, ◌<◌, ℕ, List, [], ◌∷◌, length}
-use Rattle.coded_cells.specs.Cells as coded
-use Rattle.coded_cells.specs.Cells.{CodedCell, CodedStore, cell_at}
+use Rattle.code_table.specs.Cells as coded
+use Rattle.code_table.specs.Cells.{CodedCell, CodedStore, cell_at}
 
 abbrev pub IsLeaf : CodedCell → Type 0
 IsLeaf (coded.Object k ns) = ns ≡ []

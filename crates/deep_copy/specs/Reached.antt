@@ -3,12 +3,12 @@ use Rattle.std.specs.Prelude.{ℕ, List, [], ◌∷◌, ◌++◌, length, take, 
 use Rattle.std.specs.List.{flat_map}
 use Rattle.std.specs.Option.{option_to_list}
 use Rattle.asp_model.specs.Store.{CellShape}
-use Rattle.program_code.specs.declared.code.Node.{Node}
-use Rattle.program_code.specs.declared.code.Class.{Class}
-use Rattle.program_code.specs.declared.code.MethodCode.{MethodCode}
-use Rattle.program_code.specs.Classes.{class_at}
-use Rattle.coded_cells.specs.declared.cells.Object.{Object}
-use Rattle.coded_cells.specs.Shapes.{class_object}
+use Rattle.code_table.specs.declared.code.Node.{Node}
+use Rattle.code_table.specs.declared.code.Class.{Class}
+use Rattle.code_table.specs.declared.code.MethodCode.{MethodCode}
+use Rattle.code_table.specs.Classes.{class_at}
+use Rattle.code_table.specs.declared.cells.Object.{Object}
+use Rattle.code_table.specs.Shapes.{class_object}
 
 -- the places in these slots
 abbrev pub used_places : List ℕ → List ℕ → List ℕ

@@ -3,7 +3,7 @@
 ghost use Rattle.std.specs.Prelude.{◌≡◌, IfOk, map};
 ghost use Rattle.std.specs.Arc.{arc_value};
 ghost use Rattle.asp_model.specs.Shapes.{future_shape};
-ghost use Rattle.coded_cells.specs.Cells.{
+ghost use Rattle.code_table.specs.Cells.{
   Future,
   Group,
   Object as object_with,
@@ -12,12 +12,11 @@ ghost use Rattle.coded_cells.specs.Cells.{
   moved_coded,
 };
 ghost use Rattle.deep_copy.specs.Moves.{move_of};
-ghost use Rattle.program_code.specs.Sound.{IsSound};
+ghost use Rattle.code_table.specs.Sound.{IsSound};
 
 use crate::moves::Moves;
 use asp_model::{ActivityName, FutureName};
-use coded_cells::{Cell, Object, Place, Roots};
-use program_code::Code;
+use code_table::{Cell, Code, Object, Place, Roots};
 use std::alloc::{AllocError, Global};
 use std::sync::Arc;
 

@@ -4,7 +4,7 @@ ghost use Rattle.std.specs.Prelude.{◌≡◌};
 ghost use Rattle.asp_model.specs.Parcel.{number_in};
 ghost use Rattle.deep_copy.specs.Moves.{move_of, raised_at as raised_place};
 
-use coded_cells::Place;
+use code_table::Place;
 use indexmap::IndexSet;
 
 /// Where places go.

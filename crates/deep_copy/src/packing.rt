@@ -3,22 +3,21 @@
 ghost use Rattle.std.specs.Prelude.{◌≡◌, ◌∷◌, [], IfOk, IfSome, length, map};
 ghost use Rattle.std.specs.Arc.{arc_value};
 ghost use Rattle.asp_model.specs.Parcel.{number_in, parcel_of, visit_order as order_of};
-ghost use Rattle.coded_cells.specs.Cells.{all_coded, coded, moved_coded};
-ghost use Rattle.coded_cells.specs.Fits.{AllFitCode};
-ghost use Rattle.coded_cells.specs.Shapes.{parcel_shape, store_of};
+ghost use Rattle.code_table.specs.Cells.{all_coded, coded, moved_coded};
+ghost use Rattle.code_table.specs.Fits.{AllFitCode};
+ghost use Rattle.code_table.specs.Shapes.{parcel_shape, store_of};
 ghost use Rattle.deep_copy.specs.Copied.{copied_cell};
 ghost use Rattle.deep_copy.specs.Leaves.{IsLeaf, IsLoneLeaf};
 ghost use Rattle.deep_copy.specs.Moves.{move_of};
 ghost use Rattle.deep_copy.specs.declared.moves.Moves.TheVariants as moves;
-ghost use Rattle.laws.specs.Closed.{AreBelow, IsClosedParcel, IsClosedStore};
-ghost use Rattle.program_code.specs.Sound.{IsSound};
+ghost use Rattle.law_steps.specs.Closed.{AreBelow, IsClosedParcel, IsClosedStore};
+ghost use Rattle.code_table.specs.Sound.{IsSound};
 
 use crate::copied::{code_is_sound, moved_cell, moved_roots};
 use crate::moves::Moves;
 use crate::visiting::{visit_few, visit_order};
-use coded_cells::{Cell, Object, Parcel, Place, Roots};
+use code_table::{Cell, Code, Object, Parcel, Place, Roots};
 use object_store::Store;
-use program_code::Code;
 use std::alloc::{AllocError, Global};
 use std::sync::Arc;
 

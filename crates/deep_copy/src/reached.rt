@@ -4,7 +4,7 @@
 ghost use Rattle.std.specs.Prelude.{◌≡◌, ◌++◌, OnOk, slice_get};
 ghost use Rattle.std.specs.Option.{option_to_list};
 ghost use Rattle.asp_model.specs.Store.{reached};
-ghost use Rattle.coded_cells.specs.Shapes.{cell_shape};
+ghost use Rattle.code_table.specs.Shapes.{cell_shape};
 ghost use Rattle.deep_copy.specs.Reached.{
   captured_places,
   class_places,
@@ -12,8 +12,7 @@ ghost use Rattle.deep_copy.specs.Reached.{
   used_places,
 };
 
-use coded_cells::{Cell, Object, Place};
-use program_code::{Class, Code, MethodCode};
+use code_table::{Cell, Class, Code, MethodCode, Object, Place};
 use std::alloc::AllocError;
 
 /// Appends the places that a cell reaches.

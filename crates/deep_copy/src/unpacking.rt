@@ -7,17 +7,16 @@ ghost use Rattle.asp_model.specs.Parcel.{
   unpack_at as unpacked_at,
   unpacked_roots,
 };
-ghost use Rattle.coded_cells.specs.Cells.{all_coded, coded, moved_coded, with_cell_at, with_coded_at};
-ghost use Rattle.coded_cells.specs.Shapes.{parcel_shape, store_of};
+ghost use Rattle.code_table.specs.Cells.{all_coded, coded, moved_coded, with_cell_at, with_coded_at};
+ghost use Rattle.code_table.specs.Shapes.{parcel_shape, store_of};
 ghost use Rattle.deep_copy.specs.Copied.{IsClosedWith, KeepsFit};
 ghost use Rattle.deep_copy.specs.Moves.{move_of};
-ghost use Rattle.laws.specs.Closed.{IsClosedParcel, IsClosedValue};
+ghost use Rattle.law_steps.specs.Closed.{IsClosedParcel, IsClosedValue};
 
 use crate::copied::{code_is_sound, moved_cell, moved_places};
 use crate::moves::Moves;
-use coded_cells::{Cell, Parcel, Place};
+use code_table::{Cell, Code, Parcel, Place};
 use object_store::Store;
-use program_code::Code;
 use std::alloc::{AllocError, Global};
 use std::sync::Arc;
 

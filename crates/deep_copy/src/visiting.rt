@@ -3,15 +3,14 @@
 ghost use Rattle.std.specs.Prelude.{◌≡◌, ◌++◌, IfOk, IfSome, OnOk, length, not, reverse};
 ghost use Rattle.asp_model.specs.Parcel.{has_place, visit_order as order_of};
 ghost use Rattle.asp_model.specs.Store.{reached};
-ghost use Rattle.coded_cells.specs.Shapes.{cell_shape, store_of};
-ghost use Rattle.laws.specs.Closed.{AreBelow, IsClosedStore};
+ghost use Rattle.code_table.specs.Shapes.{cell_shape, store_of};
+ghost use Rattle.law_steps.specs.Closed.{AreBelow, IsClosedStore};
 
 use crate::moves::number_in_few;
 use crate::reached::note_reached;
-use coded_cells::{Cell, Place};
+use code_table::{Cell, Code, Place};
 use indexmap::IndexSet;
 use object_store::Store;
-use program_code::Code;
 use std::alloc::{AllocError, Global};
 
 /// What the roots reach, in the order of a depth-first visit, where that is no more than 8 places.

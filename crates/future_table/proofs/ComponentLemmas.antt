@@ -7,9 +7,9 @@ use Rattle.asp_model.specs.Names.{FutureShape, future_cmp, future_lt, same_futur
 use Rattle.asp_model.specs.Parcel.{ParcelShape}
 use Rattle.asp_model.specs.Chase.{Values, Chase, chase, lead_of, walk_end}
 use Rattle.asp_model.specs.Chase as chases
-use Rattle.chase_laws.proofs.FutureLemmas.{future_itself, futures_tied}
-use Rattle.chase_laws.proofs.ChaseLemmas.{walk_by, chase_by}
-use Rattle.chase_laws.proofs.CycleLemmas.{itself_at_most}
+use Rattle.law_chases.proofs.FutureLemmas.{future_itself, futures_tied}
+use Rattle.law_chases.proofs.ChaseLemmas.{walk_by, chase_by}
+use Rattle.law_chases.proofs.CycleLemmas.{itself_at_most}
 use Rattle.future_table.specs.declared.links.Link.{Link}
 use Rattle.future_table.specs.declared.links.End.{End}
 use Rattle.future_table.specs.declared.links.End.TheVariants as ends

@@ -7,7 +7,7 @@ use Rattle.asp_model.specs.Names.{FutureShape, future_cmp, future_lt}
 use Rattle.asp_model.specs.Parcel.{ParcelShape}
 use Rattle.asp_model.specs.Chase.{Values, Chase, Goes, lead, chase, lesser}
 use Rattle.asp_model.specs.Chase as chases
-use Rattle.chase_laws.proofs.CycleLemmas.{AtMost, itself_at_most, lesser_first, lesser_second}
+use Rattle.law_chases.proofs.CycleLemmas.{AtMost, itself_at_most, lesser_first, lesser_second}
 use Rattle.future_table.specs.declared.links.Link.{Link}
 use Rattle.future_table.specs.declared.links.End.{End}
 use Rattle.future_table.specs.Numbers.{named}

@@ -6,8 +6,8 @@ use Rattle.asp_model.specs.Names.{FutureShape, future_cmp}
 use Rattle.asp_model.specs.Parcel.{ParcelShape}
 use Rattle.asp_model.specs.Chase.{Values, Lead, Chase, Goes, lead, chase}
 use Rattle.asp_model.specs.Chase as chases
-use Rattle.chase_laws.proofs.FilledLemmas.{chase_before, turns_named, name}
-use Rattle.chase_laws.proofs.FillLemmas.{Onward, ends, goes_on, turns, onward}
+use Rattle.law_chases.proofs.FilledLemmas.{chase_before, turns_named, name}
+use Rattle.law_chases.proofs.FillLemmas.{Onward, ends, goes_on, turns, onward}
 use Rattle.future_table.specs.declared.links.Link.{Link}
 use Rattle.future_table.specs.declared.links.End.{End}
 use Rattle.future_table.specs.declared.links.End.TheVariants as ending

@@ -7,14 +7,14 @@ use Rattle.asp_model.specs.Names.{FutureShape, future_cmp}
 use Rattle.asp_model.specs.Parcel.{ParcelShape}
 use Rattle.asp_model.specs.Chase.{Values, Chase, Goes, lead, chase}
 use Rattle.asp_model.specs.Chase as chases
-use Rattle.chase_laws.specs.Walks.{IsFilled}
-use Rattle.chase_laws.proofs.FutureLemmas.{future_case, future_same, future_total}
-use Rattle.chase_laws.proofs.MapLemmas as Maps
-use Rattle.chase_laws.proofs.ChaseLemmas.{walk_filled}
-use Rattle.chase_laws.proofs.CycleLemmas.{AtMost, at_most_then, less_total}
-use Rattle.chase_laws.proofs.MeetLemmas.{meet_back, meet_then, chase_goes, chase_meets, cycle_never, named_cycle}
-use Rattle.chase_laws.proofs.FilledLemmas.{chase_before, still_sorted}
-use Rattle.chase_laws.proofs.FillLemmas.{elsewhere, of_root, together}
+use Rattle.law_chases.specs.Walks.{IsFilled}
+use Rattle.law_chases.proofs.FutureLemmas.{future_case, future_same, future_total}
+use Rattle.law_chases.proofs.MapLemmas as Maps
+use Rattle.law_chases.proofs.ChaseLemmas.{walk_filled}
+use Rattle.law_chases.proofs.CycleLemmas.{AtMost, at_most_then, less_total}
+use Rattle.law_chases.proofs.MeetLemmas.{meet_back, meet_then, chase_goes, chase_meets, cycle_never, named_cycle}
+use Rattle.law_chases.proofs.FilledLemmas.{chase_before, still_sorted}
+use Rattle.law_chases.proofs.FillLemmas.{elsewhere, of_root, together}
 use Rattle.future_table.specs.declared.links.Link.{Link}
 use Rattle.future_table.specs.Values.{told}
 use Rattle.future_table.specs.Numbers.{named, number_of}

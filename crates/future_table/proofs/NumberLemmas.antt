@@ -8,7 +8,7 @@ use Rattle.asp_model.specs.contracts.name.FutureNamePartialEq.TheImpl as equalit
 use Rattle.asp_model.specs.FutureOrder.{eq_shape}
 use Rattle.asp_model.specs.Names.{FutureShape, same_future}
 use Rattle.asp_model.specs.Shapes.{future_shape}
-use Rattle.chase_laws.proofs.FutureLemmas.{future_itself, futures_tied, true_false}
+use Rattle.law_chases.proofs.FutureLemmas.{future_itself, futures_tied, true_false}
 use Rattle.future_table.specs.Numbers.{IsEntered, named, number_from, number_of}
 
 abbrev pub same_one : FutureName → FutureName → Bool

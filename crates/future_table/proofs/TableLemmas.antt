@@ -14,14 +14,14 @@ use Rattle.std.proofs.lemmas.List.{length-map}
 use Rattle.std.proofs.lemmas.List.Elements.{All-contains_itself}
 use Rattle.std.proofs.lemmas.Map.Views.{IfSome-lookup_from_All}
 use Rattle.asp_model.specs.declared.name.FutureName.{FutureName}
-use Rattle.coded_cells.specs.declared.cells.Parcel.{Parcel}
+use Rattle.code_table.specs.declared.cells.Parcel.{Parcel}
 use Rattle.asp_model.specs.FutureOrder.{eq_shape}
 use Rattle.asp_model.specs.Names.{FutureShape, future_cmp, same_future}
 use Rattle.asp_model.specs.Chase.{Values}
 use Rattle.asp_model.specs.Shapes.{future_shape}
-use Rattle.chase_laws.proofs.FutureLemmas.{future_itself, future_same, future_total, futures_tied, no_some, none_true}
-use Rattle.chase_laws.proofs.MapLemmas.{find_other, find_same, put_put}
-use Rattle.coded_cells.specs.Shapes.{parcel_shape}
+use Rattle.law_chases.proofs.FutureLemmas.{future_itself, future_same, future_total, futures_tied, no_some, none_true}
+use Rattle.law_chases.proofs.MapLemmas.{find_other, find_same, put_put}
+use Rattle.code_table.specs.Shapes.{parcel_shape}
 use Rattle.future_table.specs.Numbers.{AreApart, number_from}
 use Rattle.future_table.specs.Values.{AreOfCode, StayOfCode, by_name, filled_of, values_of}
 use Rattle.future_table.proofs.NumberLemmas.{here_or, named_number, same_one}

@@ -3,7 +3,7 @@ use Rattle.std.specs.Prelude.{◌≡◌, ℕ, ◌<◌, ◌≤◌, ◌+◌, cond,
 use Rattle.std.specs.Ordering.{is_lt}
 use Rattle.asp_model.specs.Names.{FutureShape, future_cmp, future_lt}
 use Rattle.asp_model.specs.Chase.{Values, Chase, chase}
-use Rattle.chase_laws.specs.Walks.{IsFilled}
+use Rattle.law_chases.specs.Walks.{IsFilled}
 use Rattle.future_table.specs.declared.links.Link.{Link}
 use Rattle.future_table.specs.declared.links.End.{End}
 use Rattle.future_table.specs.declared.links.End.TheVariants as ends

@@ -4,14 +4,14 @@ use Rattle.std.specs.FinMap.{put}
 use Rattle.std.specs.declared.cmp.Ordering.{Ordering}
 use Rattle.std.specs.List.{AllByRecursion}
 use Rattle.std.specs.Arc.{arc_value}
-use Rattle.program_code.specs.declared.code.Node.{Node}
+use Rattle.code_table.specs.declared.code.Node.{Node}
 use Rattle.asp_model.specs.declared.name.FutureName.{FutureName}
-use Rattle.coded_cells.specs.declared.cells.Parcel.{Parcel}
+use Rattle.code_table.specs.declared.cells.Parcel.{Parcel}
 use Rattle.asp_model.specs.Names.{FutureShape, future_cmp}
 use Rattle.asp_model.specs.Chase.{Values}
 use Rattle.asp_model.specs.Chase as chase
 use Rattle.asp_model.specs.Shapes.{future_shape}
-use Rattle.coded_cells.specs.Shapes.{parcel_shape}
+use Rattle.code_table.specs.Shapes.{parcel_shape}
 use Rattle.future_table.specs.declared.chase.Chase.{Chase}
 use Rattle.future_table.specs.declared.chase.Chase.TheVariants as chases
 

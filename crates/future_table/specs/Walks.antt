@@ -1,7 +1,7 @@
 -- What a table of futures keeps.
 use Rattle.std.specs.Prelude.{◌≡◌, ◌≢◌, ℕ, List, Option, Some, None, length, map}
 use Rattle.asp_model.specs.declared.name.FutureName.{FutureName}
-use Rattle.coded_cells.specs.declared.cells.Parcel.{Parcel}
+use Rattle.code_table.specs.declared.cells.Parcel.{Parcel}
 use Rattle.std.specs.FinMap.{find, put}
 use Rattle.asp_model.specs.Names.{FutureShape}
 use Rattle.asp_model.specs.Store.{cell}

@@ -8,13 +8,13 @@ ghost use Rattle.std.specs.Option.{option_map};
 ghost use Rattle.asp_model.specs.Chase.{chase as chase_of};
 ghost use Rattle.asp_model.specs.Names.{future_cmp};
 ghost use Rattle.asp_model.specs.Shapes.{future_shape};
-ghost use Rattle.coded_cells.specs.Shapes.{parcel_shape};
+ghost use Rattle.code_table.specs.Shapes.{parcel_shape};
 ghost use Rattle.future_table.specs.Values.{StayOfCode, chase_shape, told, values_of};
 
 use crate::chase::Chase;
 use crate::walks::{self, Walks};
 use asp_model::FutureName;
-use coded_cells::Parcel;
+use code_table::Parcel;
 use std::alloc::{AllocError, Global};
 use std::marker::Model;
 
@@ -27,7 +27,7 @@ pub struct FutureTable {
 impl Model for FutureTable {
     ghost use Rattle.std.specs.Prelude.{List};
     ghost use Rattle.asp_model.specs.declared.name.FutureName.{FutureName};
-    ghost use Rattle.coded_cells.specs.declared.cells.Parcel.{Parcel};
+    ghost use Rattle.code_table.specs.declared.cells.Parcel.{Parcel};
 
     ghost Value = { List (FutureName × Parcel) };
 

@@ -6,7 +6,7 @@ ghost use Rattle.std.specs.FinMap.{find, put};
 ghost use Rattle.asp_model.specs.Chase.{chase as chase_of};
 ghost use Rattle.asp_model.specs.Names.{future_cmp};
 ghost use Rattle.asp_model.specs.Shapes.{future_shape};
-ghost use Rattle.coded_cells.specs.Shapes.{parcel_shape};
+ghost use Rattle.code_table.specs.Shapes.{parcel_shape};
 ghost use Rattle.std.specs.Option.{option_copied, option_map};
 ghost use Rattle.future_table.specs.Components.{EndsWithin, end_told};
 ghost use Rattle.future_table.specs.Links.{link_at};
@@ -18,7 +18,7 @@ use crate::chase::Chase;
 use crate::links::{End, Link, end_so, head_of, join};
 use crate::numbers::Numbers;
 use asp_model::FutureName;
-use coded_cells::{Cell, Parcel};
+use code_table::{Cell, Parcel};
 use std::alloc::{AllocError, Global};
 
 /// The futures that were met, by their numbers: the value of each, if it is filled, and its place in

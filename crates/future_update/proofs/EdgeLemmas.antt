@@ -3,7 +3,7 @@ use Rattle.std.proofs.Common.{◌≡◌, ◌≢◌, ℕ, zero, suc, ◌<◌, eqb
 use Rattle.std.specs.List.{AllByRecursion, IsDistinct}
 use Rattle.std.proofs.lemmas.Bool.{eqb-true}
 use Rattle.asp_model.specs.Names.{Name}
-use Rattle.journals.specs.Edges.{same_edge}
+use Rattle.def_journals.specs.Edges.{same_edge}
 use Rattle.future_update.specs.declared.numbered.Edge.{Edge}
 use Rattle.future_update.specs.Names.{AreNames, IsKnownEdge, edge_of}
 use Rattle.future_update.specs.Numbered.{AreEdges, IsPassed, edge_at, is_edge}

@@ -12,18 +12,18 @@ use Rattle.asp_model.specs.declared.journal.Choice.TheVariants as choice
 use Rattle.asp_model.specs.Names.{Name, FutureShape}
 use Rattle.asp_model.specs.History.{ChoiceShape}
 use Rattle.asp_model.specs.Shapes.{choice_shape}
-use Rattle.journals.specs.Edges.{EdgeShape, HoldersShape, Begins, Delivers, Fills, Passes, after_event, has_edge, has_filled, has_received, is_owed, owed_at, same_edge}
+use Rattle.def_journals.specs.Edges.{EdgeShape, HoldersShape, Begins, Delivers, Fills, Passes, after_event, has_edge, has_filled, has_received, is_owed, owed_at, same_edge}
 use Rattle.future_update.specs.declared.numbered.Edge.{Edge}
 use Rattle.future_update.specs.declared.numbered.Future.{Future}
 use Rattle.future_update.specs.declared.numbered.Passing.{Passing}
 use Rattle.future_update.specs.declared.records.Records.{Records}
-use Rattle.marked_places.specs.declared.marks.Marks.{Marks}
+use Rattle.core_sets.specs.declared.marks.Marks.{Marks}
 use Rattle.future_update.specs.declared.holders.Holders.TheInside.{Inside}
 use Rattle.future_update.specs.Changes.{once_filled, once_received}
 use Rattle.future_update.specs.Kept.{AreHolders}
-use Rattle.marked_places.specs.declared.lanes.Lanes.{Lanes}
-use Rattle.marked_places.specs.Lanes.{AreLanes, ClosedSo, KeepsLanes, lane_count}
-use Rattle.marked_places.specs.Marks.{MarkedIf, MarkedSo, is_marked}
+use Rattle.core_sets.specs.declared.lanes.Lanes.{Lanes}
+use Rattle.core_sets.specs.Lanes.{AreLanes, ClosedSo, KeepsLanes, lane_count}
+use Rattle.core_sets.specs.Marks.{MarkedIf, MarkedSo, is_marked}
 use Rattle.future_update.specs.Names.{IsKnown, IsKnownFuture, IsKnownEdge, Keeps, edge_of, future_of, name_of}
 use Rattle.future_update.specs.Numbered.{IsPassed, edge_at, no_edge, is_edge}
 use Rattle.future_update.specs.declared.passings.Passings.{Passings}

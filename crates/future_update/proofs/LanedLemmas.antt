@@ -15,10 +15,10 @@ use Rattle.future_update.proofs.NameLemmas.{clash, name_itself}
 use Rattle.future_update.proofs.NumberLemmas.{all_at, all_more, same_names, truth}
 use Rattle.future_update.proofs.RecordLemmas.{edges_known}
 use Rattle.future_update.proofs.PlaceLemmas.{edge_stands}
-use Rattle.marked_places.specs.declared.lanes.Lanes.{Lanes}
-use Rattle.marked_places.specs.Firsts.{IsFirstFrom}
-use Rattle.marked_places.specs.Lanes.{AreLanes, ClosedSo, IsGrown, KeepsLanes, SameClosed, count, is_closed, is_open, lane_count, lane_of, spot}
-use Rattle.marked_places.specs.Ticks.{is_among}
+use Rattle.core_sets.specs.declared.lanes.Lanes.{Lanes}
+use Rattle.core_sets.specs.Firsts.{IsFirstFrom}
+use Rattle.core_sets.specs.Lanes.{AreLanes, ClosedSo, IsGrown, KeepsLanes, SameClosed, count, is_closed, is_open, lane_count, lane_of, spot}
+use Rattle.core_sets.specs.Ticks.{is_among}
 use Rattle.future_update.specs.declared.holders.Holders.TheInside.{Inside}
 use Rattle.future_update.specs.Holders.{edge_in, is_met, is_number, is_out, is_receiver_out, owed_to_one_in}
 use Rattle.future_update.specs.Kept.{AreHolders, AreLaned, IsMember, activity_entry, view_of}

@@ -10,7 +10,7 @@ use Rattle.asp_model.specs.declared.name.FutureName.{FutureName}
 use Rattle.asp_model.specs.Names.{Name, FutureShape, same_name, same_future}
 use Rattle.asp_model.specs.Order.{same_name_same}
 use Rattle.asp_model.specs.FutureOrder.{eq_shape}
-use Rattle.journals.specs.Edges.{has_edge, has_received, home_of, same_edge}
+use Rattle.def_journals.specs.Edges.{has_edge, has_received, home_of, same_edge}
 use Rattle.future_update.specs.declared.numbered.Future.{Future}
 use Rattle.future_update.specs.declared.numbered.Edge.{Edge}
 use Rattle.future_update.specs.declared.numbered.Receipt.{Receipt}

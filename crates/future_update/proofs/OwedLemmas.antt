@@ -7,7 +7,7 @@ use Rattle.std.proofs.Math.Bool.{or-false}
 use Rattle.asp_model.specs.Names.{Name, FutureShape, same_name, same_future}
 use Rattle.asp_model.specs.Order.{same_future_same}
 use Rattle.asp_model.specs.History.{ChoiceShape, Forward, FromHome, Leave}
-use Rattle.journals.specs.Edges.{EdgeShape, HoldersShape, Begins, Fills, after_event, has_edge, has_filled, has_received, has_value, home_of, is_chosen, is_home, is_owed, owed_at, same_edge}
+use Rattle.def_journals.specs.Edges.{EdgeShape, HoldersShape, Begins, Fills, after_event, has_edge, has_filled, has_received, has_value, home_of, is_chosen, is_home, is_owed, owed_at, same_edge}
 use Rattle.future_update.proofs.NameLemmas.{clash}
 
 abbrev pub with_receipt : FutureShape → Name → HoldersShape → HoldersShape

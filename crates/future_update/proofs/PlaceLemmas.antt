@@ -11,7 +11,7 @@ use Rattle.asp_model.specs.Names.{Name, FutureShape, same_future, same_name}
 use Rattle.asp_model.specs.Order.{same_future_same, same_name_same}
 use Rattle.asp_model.specs.declared.journal.Choice.{Choice}
 use Rattle.asp_model.specs.Shapes.{choice_shape}
-use Rattle.journals.specs.Edges.{EdgeShape, home_of, is_owed, owed_at, same_edge}
+use Rattle.def_journals.specs.Edges.{EdgeShape, home_of, is_owed, owed_at, same_edge}
 use Rattle.future_update.specs.declared.numbered.Edge.{Edge}
 use Rattle.future_update.specs.declared.numbered.Future.{Future}
 use Rattle.future_update.specs.declared.records.Records.{Records}

@@ -13,16 +13,16 @@ use Rattle.std.proofs.lemmas.List.{get_or_append_left, get_or_past, get_or_push}
 use Rattle.std.proofs.lemmas.List.Folds.{list_any_at}
 use Rattle.std.proofs.lemmas.List.Quantifiers.{position-Some}
 use Rattle.asp_model.specs.Names.{Name, same_name, same_future}
-use Rattle.journals.specs.Edges.{EdgeShape, has_edge, has_filled, has_received, home_of, is_no_edge, same_edge, with_delivered, with_edge, with_received}
+use Rattle.def_journals.specs.Edges.{EdgeShape, has_edge, has_filled, has_received, home_of, is_no_edge, same_edge, with_delivered, with_edge, with_received}
 use Rattle.future_update.specs.declared.numbered.Future.{Future}
 use Rattle.future_update.specs.declared.numbered.Edge.{Edge}
 use Rattle.future_update.specs.declared.numbered.Receipt.{Receipt}
-use Rattle.marked_places.specs.declared.ticks.Ticks.{Ticks}
+use Rattle.core_sets.specs.declared.ticks.Ticks.{Ticks}
 use Rattle.future_update.specs.Names.{AreNames, IsKnownFuture, IsKnownEdge, edge_of, future_of, name_of}
 use Rattle.future_update.specs.Numbered.{AreEdges, AreFutures, IsKnownHome, IsKnownReceipt, IsPassed, edge_at, future_at, is_edge, is_future, is_receipt, no_edge, no_future, receipt_entry}
 use Rattle.future_update.specs.declared.records.Records.{Records}
 use Rattle.future_update.specs.Records.{AreRecords, names_of, shape_of}
-use Rattle.marked_places.specs.Ticks.{AreTicks, is_among, size}
+use Rattle.core_sets.specs.Ticks.{AreTicks, is_among, size}
 use Rattle.future_update.proofs.NameLemmas.{clash}
 use Rattle.future_update.proofs.NumberLemmas.{all_at, all_more, all_so, any_map, is_edge_same, is_future_same, receipt_kept, edge_kept, home_kept, same_edges, same_futures, same_names, truth}
 

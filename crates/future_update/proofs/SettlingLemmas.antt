@@ -7,7 +7,7 @@ use Rattle.std.proofs.lemmas.Bool.Decides.{eqb_tells, leb_tells, nat_tests}
 use Rattle.std.proofs.lemmas.List.{length-map}
 use Rattle.std.proofs.lemmas.Option.{slice_get_past}
 use Rattle.asp_model.specs.History.{ChoiceShape, Forward, FromHome, Leave}
-use Rattle.journals.specs.Edges.{EdgeShape, HoldersShape, has_edge, has_filled, owed_at}
+use Rattle.def_journals.specs.Edges.{EdgeShape, HoldersShape, has_edge, has_filled, owed_at}
 use Rattle.future_update.specs.Names.{IsKnownEdge, edge_of}
 use Rattle.std.specs.List.{list_any}
 use Rattle.std.specs.BTreeMap.{is_at}
@@ -20,9 +20,9 @@ use Rattle.std.specs.Ordering.{is_eq, is_gt, is_le, is_lt, nat_cmp, ordering_the
 use Rattle.std.specs.FinMap.{nat_cmp-IsAntisymmetric}
 use Rattle.std.proofs.lemmas.Bool.{eq-eqb}
 use Rattle.future_update.specs.declared.numbered.Passing.{Passing}
-use Rattle.marked_places.specs.declared.marks.Marks.{Marks}
+use Rattle.core_sets.specs.declared.marks.Marks.{Marks}
 use Rattle.future_update.specs.declared.records.Records.{Records}
-use Rattle.marked_places.specs.Marks.{MarkedIf, is_marked}
+use Rattle.core_sets.specs.Marks.{MarkedIf, is_marked}
 use Rattle.future_update.specs.Numbered.{edge_at, no_edge}
 use Rattle.future_update.proofs.NumberLemmas.{all_at}
 use Rattle.future_update.proofs.RecordLemmas.{edges_known}

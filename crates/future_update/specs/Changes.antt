@@ -1,7 +1,7 @@
 -- What the calls make of the holders of futures, beside the events of the definitions.
 use Rattle.std.specs.Prelude.{true, false}
 use Rattle.asp_model.specs.Names.{Name, FutureShape}
-use Rattle.journals.specs.Edges.{HoldersShape, Fills, after_event, has_filled, with_received}
+use Rattle.def_journals.specs.Edges.{HoldersShape, Fills, after_event, has_filled, with_received}
 
 -- a future is filled, if it was not before
 abbrev pub once_filled : FutureShape → HoldersShape → HoldersShape

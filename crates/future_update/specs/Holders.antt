@@ -3,7 +3,7 @@ use Rattle.std.specs.Prelude.{◌≡◌, ℕ, map, Bool, true, false, List, [], 
 use Rattle.std.specs.List.{AllByRecursion, IsDistinct, list_any}
 use Rattle.asp_model.specs.Names.{Name, same_name}
 use Rattle.asp_model.specs.History.{ChoiceShape, DeliveryShape, Edge, Need}
-use Rattle.journals.specs.Edges.{EdgeShape, HoldersShape, Delivers, after_event, has_edge, is_no_edge, owed_at, same_edge}
+use Rattle.def_journals.specs.Edges.{EdgeShape, HoldersShape, Delivers, after_event, has_edge, is_no_edge, owed_at, same_edge}
 
 -- the definitions' holders, with the answer for each edge, and the activities that were met, each with whether it is out
 pub record HoldersView : Type 0 where

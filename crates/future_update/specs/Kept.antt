@@ -4,10 +4,10 @@ use Rattle.std.specs.List.{AllByRecursion}
 use Rattle.asp_model.specs.Names.{Name}
 use Rattle.future_update.specs.declared.holders.Holders.TheInside.{Inside}
 use Rattle.future_update.specs.Holders.{HoldersView}
-use Rattle.marked_places.specs.declared.lanes.Lanes.{Lanes}
-use Rattle.marked_places.specs.Lanes.{AreLanes, count, is_closed, lane_count, lane_of}
-use Rattle.marked_places.specs.Marks.{is_marked}
-use Rattle.marked_places.specs.Ticks.{is_among}
+use Rattle.core_sets.specs.declared.lanes.Lanes.{Lanes}
+use Rattle.core_sets.specs.Lanes.{AreLanes, count, is_closed, lane_count, lane_of}
+use Rattle.core_sets.specs.Marks.{is_marked}
+use Rattle.core_sets.specs.Ticks.{is_among}
 use Rattle.future_update.specs.declared.numbered.Edge.{Edge}
 use Rattle.future_update.specs.Names.{name_of}
 use Rattle.future_update.specs.Numbered.{edge_at}

@@ -3,7 +3,7 @@ use Rattle.std.specs.Prelude.{◌≡◌, ℕ, ◌<◌, ◌≤◌, ◌^◌, List,
 use Rattle.asp_model.specs.Names.{Name, FutureShape}
 use Rattle.asp_model.specs.History.{DeliveryShape}
 use Rattle.asp_model.specs.History as history
-use Rattle.journals.specs.Edges.{EdgeShape}
+use Rattle.def_journals.specs.Edges.{EdgeShape}
 use Rattle.future_update.specs.declared.names.Names.{Names}
 use Rattle.future_update.specs.declared.numbered.Future.{Future}
 use Rattle.future_update.specs.declared.numbered.Edge.{Edge}

@@ -9,10 +9,10 @@ use Rattle.future_update.specs.declared.numbered.Edge.{Edge}
 use Rattle.future_update.specs.declared.numbered.Future.{Future}
 use Rattle.future_update.specs.declared.numbered.Passing.{Passing}
 use Rattle.future_update.specs.contracts.numbered.PassingOrd.TheImpl as order
-use Rattle.marked_places.specs.declared.marks.Marks.{Marks}
+use Rattle.core_sets.specs.declared.marks.Marks.{Marks}
 use Rattle.future_update.specs.declared.passings.Passings.{Passings}
 use Rattle.future_update.specs.declared.records.Records.{Records}
-use Rattle.marked_places.specs.Marks.{MarkedIf, SameMarks, is_marked}
+use Rattle.core_sets.specs.Marks.{MarkedIf, SameMarks, is_marked}
 use Rattle.future_update.specs.Numbered.{edge_at}
 use Rattle.future_update.specs.Records.{owes}
 

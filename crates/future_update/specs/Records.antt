@@ -4,13 +4,13 @@ use Rattle.std.specs.List.{AllByRecursion}
 use Rattle.asp_model.specs.Names.{Name}
 use Rattle.asp_model.specs.History.{ChoiceShape}
 use Rattle.asp_model.specs.Shapes.{choice_shape}
-use Rattle.journals.specs.Edges.{HoldersShape, owed_at}
+use Rattle.def_journals.specs.Edges.{HoldersShape, owed_at}
 use Rattle.indexmap.specs.IndexMap.{keys}
 use Rattle.indexmap.specs.IndexSet.{spare}
 use Rattle.future_update.specs.declared.records.Records.{Records}
 use Rattle.future_update.specs.Names.{AreNames, edge_of, future_of, names_in}
 use Rattle.future_update.specs.Numbered.{AreEdges, AreFutures, IsKnownHome, IsKnownReceipt, IsPassed, edge_at, future_at, home_entry, receipt_entry}
-use Rattle.marked_places.specs.Ticks.{AreTicks, HasRoom as HasTickRoom, size}
+use Rattle.core_sets.specs.Ticks.{AreTicks, HasRoom as HasTickRoom, size}
 
 abbrev pub names_of : Records → List Name
 names_of r = names_in r.names

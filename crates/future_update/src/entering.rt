@@ -17,8 +17,8 @@ ghost use Rattle.std.specs.Prelude.{
   true,
 };
 ghost use Rattle.asp_model.specs.Shapes.{choice_shape};
-ghost use Rattle.journals.specs.Edges.{Passes, after_event, has_edge};
-ghost use Rattle.marked_places.specs.Lanes.{
+ghost use Rattle.def_journals.specs.Edges.{Passes, after_event, has_edge};
+ghost use Rattle.core_sets.specs.Lanes.{
   AreLanes,
   IsGrown,
   KeepsLanes,
@@ -26,7 +26,7 @@ ghost use Rattle.marked_places.specs.Lanes.{
   count,
   lane_count,
 };
-ghost use Rattle.marked_places.specs.Marks.{SameMarks, is_marked};
+ghost use Rattle.core_sets.specs.Marks.{SameMarks, is_marked};
 ghost use Rattle.future_update.specs.Names.{edge_of};
 ghost use Rattle.future_update.specs.declared.numbered.Passing.{Passing};
 ghost use Rattle.future_update.specs.Numbered.{IsPassed};
@@ -45,7 +45,7 @@ use crate::passings::{Passings, is_sending};
 use crate::records::Records;
 use crate::settling::settle_at;
 use asp_model::Choice;
-use marked_places::Lanes;
+use core_sets::Lanes;
 use std::alloc::AllocError;
 
 /// Makes room for an edge.

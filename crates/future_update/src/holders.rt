@@ -21,9 +21,9 @@ ghost use Rattle.std.specs.Prelude.{
 };
 ghost use Rattle.std.specs.Option.{option_copied};
 ghost use Rattle.asp_model.specs.Shapes.{delivery_shape, future_shape};
-ghost use Rattle.journals.specs.Edges.{Begins, Passes, after_event, home_of, is_no_edge as is_none, no_holders};
+ghost use Rattle.def_journals.specs.Edges.{Begins, Passes, after_event, home_of, is_no_edge as is_none, no_holders};
 ghost use Rattle.future_update.specs.Changes.{once_filled, once_received};
-ghost use Rattle.marked_places.specs.Firsts.{IsFirstFrom};
+ghost use Rattle.core_sets.specs.Firsts.{IsFirstFrom};
 ghost use Rattle.future_update.specs.Holders.{
   AreEdges,
   answered,
@@ -44,7 +44,7 @@ use crate::passings::Passings;
 use crate::records::Records;
 use crate::settling::settle;
 use asp_model::{ActivityName, Delivery, FutureName};
-use marked_places::{Lanes, MOST_NUMBERED};
+use core_sets::{Lanes, MOST_NUMBERED};
 use std::alloc::{AllocError, Global};
 use std::collections::BTreeSet;
 use std::marker::Model;

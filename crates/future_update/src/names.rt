@@ -24,8 +24,8 @@ ghost use Rattle.future_update.specs.Names.{
 use crate::edge::EdgeNames;
 use crate::numbered::{Edge, Future};
 use asp_model::{ActivityName, FutureName};
+use core_sets::MOST_NUMBERED;
 use indexmap::IndexSet;
-use marked_places::MOST_NUMBERED;
 use std::alloc::{AllocError, Global};
 
 #[derive(Drop)]

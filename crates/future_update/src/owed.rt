@@ -2,7 +2,7 @@
 
 ghost use Rattle.std.specs.Prelude.{◌≡◌, ◌≢◌, ◌<◌, false, length};
 ghost use Rattle.asp_model.specs.Shapes.{choice_shape};
-ghost use Rattle.journals.specs.Edges.{
+ghost use Rattle.def_journals.specs.Edges.{
   is_chosen as is_sent_by,
   is_no_edge as is_none,
   is_owed as is_owed_by,

@@ -19,7 +19,7 @@ ghost use Rattle.std.specs.Prelude.{
 };
 ghost use Rattle.std.specs.Option.{option_copied};
 ghost use Rattle.asp_model.specs.Shapes.{choice_shape, future_shape};
-ghost use Rattle.journals.specs.Edges.{
+ghost use Rattle.def_journals.specs.Edges.{
   Begins,
   Delivers,
   Fills,
@@ -68,8 +68,8 @@ ghost use Rattle.future_update.specs.Records.{
 use crate::names::Names;
 use crate::numbered::{Edge, Future, Receipt};
 use asp_model::{ActivityName, Choice, FutureName};
+use core_sets::Ticks;
 use indexmap::{IndexMap, IndexSet};
-use marked_places::Ticks;
 use std::alloc::{AllocError, Global};
 
 #[derive(Drop)]

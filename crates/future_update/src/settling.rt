@@ -1,15 +1,15 @@
 //! Edges that become owed, found by their future and their first activity.
 
 ghost use Rattle.std.specs.Prelude.{◌≡◌, ◌≤◌, ℕ, length};
-ghost use Rattle.marked_places.specs.Lanes.{AreLanes, KeepsLanes, count};
-ghost use Rattle.marked_places.specs.Marks.{MarkedIf, is_marked};
+ghost use Rattle.core_sets.specs.Lanes.{AreLanes, KeepsLanes, count};
+ghost use Rattle.core_sets.specs.Marks.{MarkedIf, is_marked};
 ghost use Rattle.future_update.specs.Passings.{ArePassings, IsLeft, IsSound, MarkedLast};
 ghost use Rattle.future_update.specs.Records.{AreRecords, answers_of, owes as is_owed};
 
 use crate::numbered::{Future, Passing};
 use crate::passings::Passings;
 use crate::records::Records;
-use marked_places::Lanes;
+use core_sets::Lanes;
 
 /// Marks what is owed of the edges of a future that begin at activities from one number to another,
 /// where all else that is owed is marked.

@@ -1,10 +1,10 @@
 -- Cells at the end of a vector, and at places of it.
 use Rattle.std.proofs.Common.{◌≡◌, ℕ, zero, suc, ◌<◌, List, [], ◌∷◌, ◌++◌, length, take, drop, refl, sym, ap, subst, ◌∙◌, arith, length-append, Box, Global}
 use Rattle.std.proofs.lemmas.List.{map-append, length-map}
-use Rattle.coded_cells.specs.declared.cells.Cell.{Cell}
-use Rattle.coded_cells.specs.declared.cells.Cell.TheVariants as cells
-use Rattle.coded_cells.specs.declared.cells.Object.{Object}
-use Rattle.coded_cells.specs.Cells.{CodedCell, CodedStore, all_coded, coded, with_cell_at, with_coded_at, with_place_at}
+use Rattle.code_table.specs.declared.cells.Cell.{Cell}
+use Rattle.code_table.specs.declared.cells.Cell.TheVariants as cells
+use Rattle.code_table.specs.declared.cells.Object.{Object}
+use Rattle.code_table.specs.Cells.{CodedCell, CodedStore, all_coded, coded, with_cell_at, with_coded_at, with_place_at}
 
 -- the last cell behind the others
 pub last_coded : (cs : List Cell) (c : Cell) → all_coded (cs ++ c ∷ []) ≡ all_coded cs ++ coded c ∷ []

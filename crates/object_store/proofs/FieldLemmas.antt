@@ -4,14 +4,14 @@ use Rattle.asp_model.specs.Names.{Text}
 use Rattle.asp_model.specs.Store as store
 use Rattle.asp_model.specs.Store.{CellShape, with_cell}
 use Rattle.asp_model.specs.Contraction.{with_field}
-use Rattle.program_code.specs.declared.code.Node.{Node}
-use Rattle.program_code.specs.declared.code.Class.{Class}
-use Rattle.program_code.specs.Tables.{object_of, pieces, seen_methods}
-use Rattle.program_code.specs.Classes.{field_number}
-use Rattle.program_code.proofs.LookupLemmas.{field_put, field_within}
-use Rattle.coded_cells.specs.Cells.{CodedCell, cell_at, with_place_at}
-use Rattle.coded_cells.specs.Shapes.{cell_of, store_of, class_object}
-use Rattle.coded_cells.proofs.CodedLemmas.{cell-store_of, store_of-with}
+use Rattle.code_table.specs.declared.code.Node.{Node}
+use Rattle.code_table.specs.declared.code.Class.{Class}
+use Rattle.code_table.specs.Tables.{object_of, pieces, seen_methods}
+use Rattle.code_table.specs.Classes.{field_number}
+use Rattle.code_table.proofs.LookupLemmas.{field_put, field_within}
+use Rattle.code_table.specs.Cells.{CodedCell, cell_at, with_place_at}
+use Rattle.code_table.specs.Shapes.{cell_of, store_of, class_object}
+use Rattle.code_table.proofs.CodedLemmas.{cell-store_of, store_of-with}
 use Rattle.object_store.specs.Fields.{PlacesSetAreFieldsSet}
 
 drop_set : (k i n : ℕ) (ns : List ℕ) → i < k → drop k (slice_set ns i n) ≡ drop k ns

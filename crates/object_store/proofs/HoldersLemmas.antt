@@ -1,7 +1,7 @@
 -- How the holders of a future change with the cells.
 use Rattle.std.proofs.Common.{◌≡◌, ℕ, zero, suc, ◌+◌, ◌<◌, Bool, true, false, List, [], ◌∷◌, ◌++◌, length, refl, sym, ap, ◌∙◌, arith}
 use Rattle.asp_model.specs.Names.{FutureShape}
-use Rattle.coded_cells.specs.Cells.{CodedCell, CodedStore, cell_at, with_cell_at}
+use Rattle.code_table.specs.Cells.{CodedCell, CodedStore, cell_at, with_cell_at}
 use Rattle.std.specs.List.{AllByRecursion}
 use Rattle.object_store.specs.Places.{with_place, without_place}
 use Rattle.object_store.specs.Holders.{is_future, holders_from, holders}

@@ -7,7 +7,7 @@ use Rattle.std.specs.Cmp.Lexicographic.{nat_list_cmp_total}
 use Rattle.asp_model.specs.declared.name.FutureName.{FutureName}
 use Rattle.asp_model.specs.Names.{FutureShape, same_future, future_cmp}
 use Rattle.asp_model.specs.Order.{same_future_same}
-use Rattle.coded_cells.specs.Cells.{CodedCell, CodedStore, Number, Object, Reference, Future, Group, cell_at, with_cell_at, with_place_at}
+use Rattle.code_table.specs.Cells.{CodedCell, CodedStore, Number, Object, Reference, Future, Group, cell_at, with_cell_at, with_place_at}
 use Rattle.asp_model.specs.Shapes.{future_shape}
 use Rattle.object_store.specs.Holders.{is_future, is_one_future, holders}
 use Rattle.object_store.specs.Index.{ChangesWhere, IsAlike, IsIndexed, is_given_up, is_in_cell}

@@ -4,11 +4,11 @@ use Rattle.asp_model.specs.Names.{Text}
 use Rattle.asp_model.specs.Store as store
 use Rattle.asp_model.specs.Store.{MethodShape, Field, Store, cell, with_cell}
 use Rattle.asp_model.specs.Contraction.{with_field}
-use Rattle.program_code.specs.declared.code.Node.{Node}
-use Rattle.program_code.specs.declared.code.Class.{Class}
-use Rattle.program_code.specs.Classes.{class_at, field_number}
-use Rattle.coded_cells.specs.Cells.{CodedStore, Object, cell_at, with_cell_at, with_place_at}
-use Rattle.coded_cells.specs.Shapes.{store_of}
+use Rattle.code_table.specs.declared.code.Node.{Node}
+use Rattle.code_table.specs.declared.code.Class.{Class}
+use Rattle.code_table.specs.Classes.{class_at, field_number}
+use Rattle.code_table.specs.Cells.{CodedStore, Object, cell_at, with_cell_at, with_place_at}
+use Rattle.code_table.specs.Shapes.{store_of}
 
 -- a place set at the number of a field is the field set
 abbrev pub PlacesSetAreFieldsSet : Type 0

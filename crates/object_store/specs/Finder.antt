@@ -1,6 +1,6 @@
 -- How a store finds the cells that hold a future.
 use Rattle.std.specs.Prelude.{⊤}
-use Rattle.coded_cells.specs.Cells.{CodedStore}
+use Rattle.code_table.specs.Cells.{CodedStore}
 use Rattle.object_store.specs.Index.{IsIndexed}
 use Rattle.object_store.specs.declared.index.Index.{Index}
 use Rattle.object_store.specs.declared.finder.Finder.{Finder}

@@ -1,7 +1,7 @@
 -- Which cells of a store hold a future.
 use Rattle.std.specs.Prelude.{ℕ, suc, Bool, true, false, List, [], ◌∷◌}
 use Rattle.asp_model.specs.Names.{FutureShape, same_future}
-use Rattle.coded_cells.specs.Cells.{CodedCell, CodedStore, Future}
+use Rattle.code_table.specs.Cells.{CodedCell, CodedStore, Future}
 
 -- the cell is this future
 abbrev pub is_future : FutureShape → CodedCell → Bool

@@ -4,7 +4,7 @@ use Rattle.indexmap.specs.IndexMap.{get}
 use Rattle.asp_model.specs.declared.name.FutureName.{FutureName}
 use Rattle.asp_model.specs.contracts.name.FutureNamePartialEq.TheImpl as equality
 use Rattle.asp_model.specs.Shapes.{future_shape}
-use Rattle.coded_cells.specs.Cells.{CodedCell, CodedStore}
+use Rattle.code_table.specs.Cells.{CodedCell, CodedStore}
 use Rattle.object_store.specs.Holders.{holders, is_future}
 use Rattle.object_store.specs.Places.{places_of}
 use Rattle.object_store.specs.declared.index.Index.{Index}

@@ -1,6 +1,6 @@
 -- What every store keeps.
 use Rattle.std.specs.Prelude.{◌+◌, ◌≤◌, vec_len, vec_capacity}
-use Rattle.coded_cells.specs.Cells.{CodedStore, all_coded}
+use Rattle.code_table.specs.Cells.{CodedStore, all_coded}
 use Rattle.object_store.specs.declared.store.Store.TheInside.{Inside}
 use Rattle.object_store.specs.Finder.{IsFitting}
 use Rattle.object_store.specs.View.{StoreView}

@@ -2,7 +2,7 @@
 
 ghost use Rattle.std.specs.Prelude.{◌≡◌, ◌<◌, false, IfOk, IsOk, OnErr, OnOk};
 ghost use Rattle.asp_model.specs.Shapes.{future_shape};
-ghost use Rattle.coded_cells.specs.Cells.{all_coded, coded};
+ghost use Rattle.code_table.specs.Cells.{all_coded, coded};
 ghost use Rattle.object_store.specs.Finder.{Follows, IsFitting};
 ghost use Rattle.object_store.specs.Holders.{holders, is_future as is_future_in, is_some_future};
 ghost use Rattle.object_store.specs.Index.{ChangesWhere, IsAlike, is_given_up, is_in_cell};
@@ -10,7 +10,7 @@ ghost use Rattle.object_store.specs.Places.{with_place, without_place};
 
 use crate::index::Index;
 use asp_model::FutureName;
-use coded_cells::{Cell, Place};
+use code_table::{Cell, Place};
 use std::alloc::{AllocError, Global};
 
 // So many cells are looked through, one after the other.

@@ -14,7 +14,7 @@ ghost use Rattle.std.specs.Prelude.{
   OnOk,
 };
 ghost use Rattle.indexmap.specs.IndexMap.{get};
-ghost use Rattle.coded_cells.specs.Cells.{all_coded, coded};
+ghost use Rattle.code_table.specs.Cells.{all_coded, coded};
 ghost use Rattle.object_store.specs.Holders.{is_one_future as one_future, is_some_future};
 ghost use Rattle.object_store.specs.Index.{
   Changes,
@@ -30,7 +30,7 @@ ghost use Rattle.object_store.specs.Places.{with_place, without_place};
 
 use crate::places::Places;
 use asp_model::FutureName;
-use coded_cells::{Cell, Place};
+use code_table::{Cell, Place};
 use indexmap::IndexMap;
 use std::alloc::{AllocError, Global};
 

@@ -1,9 +1,9 @@
 //! The places of an object, written in place.
 
 ghost use Rattle.std.specs.Prelude.{◌≡◌, ◌<◌, length, slice_set};
-ghost use Rattle.coded_cells.specs.Cells.{all_coded, cell_at, with_cell_at, with_place_at};
+ghost use Rattle.code_table.specs.Cells.{all_coded, cell_at, with_cell_at, with_place_at};
 
-use coded_cells::{Cell, Object, Place};
+use code_table::{Cell, Object, Place};
 
 fn set_in_object(object: &mut Object, index: usize, to: Place)
     ensures class { object.new.class ≡ object.old.class }

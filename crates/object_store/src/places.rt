@@ -3,7 +3,7 @@
 ghost use Rattle.std.specs.Prelude.{◌≡◌, ◌∷◌, [], IfOk, IsTrue, OnErr, OnOk};
 ghost use Rattle.object_store.specs.Places.{places_of, with_place, without_place};
 
-use coded_cells::Place;
+use code_table::Place;
 use std::alloc::{AllocError, Global};
 use std::collections::BTreeSet;
 

@@ -19,7 +19,7 @@ ghost use Rattle.std.specs.Prelude.{
 };
 ghost use Rattle.std.specs.Option.{IfSome, OnSome};
 ghost use Rattle.asp_model.specs.Shapes.{future_shape};
-ghost use Rattle.coded_cells.specs.Cells.{
+ghost use Rattle.code_table.specs.Cells.{
   all_coded,
   cell_at,
   coded,
@@ -33,7 +33,7 @@ ghost use Rattle.object_store.specs.Holders.{holders, is_some_future};
 use crate::finder::Finder;
 use crate::objects::set_in_cells;
 use asp_model::FutureName;
-use coded_cells::{Cell, Place};
+use code_table::{Cell, Place};
 use std::alloc::{AllocError, Global};
 use std::marker::Model;
 use std::mem;

@@ -5,13 +5,13 @@ use Rattle.std.proofs.lemmas.List.{append-nil, drop-map}
 use Rattle.asp_model.specs.Names.{Text}
 use Rattle.asp_model.specs.Split.{Context}
 use Rattle.asp_model.specs.Term.{Tree, Trees, none, locations, locations_below, locs_then}
-use Rattle.program_code.specs.declared.code.Node.{Node}
-use Rattle.program_code.specs.Tables.{piece_at, pieces}
+use Rattle.code_table.specs.declared.code.Node.{Node}
+use Rattle.code_table.specs.Tables.{piece_at, pieces}
 use Rattle.code_laws.specs.Nodes.{in_place}
-use Rattle.machine_frames.specs.declared.frames.Spread.{Spread}
-use Rattle.machine_frames.specs.declared.frames.Spread.TheVariants as spread
-use Rattle.machine_frames.specs.Calls.{IsCalling, IsDealt, IsLaid, beside_count, called_label, calls, calls_behind, pairs, rounds}
-use Rattle.machine_frames.proofs.RoundLemmas.{next_round, round, rounds_over}
+use Rattle.step_machine.specs.declared.frames.Spread.{Spread}
+use Rattle.step_machine.specs.declared.frames.Spread.TheVariants as spread
+use Rattle.step_machine.specs.Calls.{IsCalling, IsDealt, IsLaid, beside_count, called_label, calls, calls_behind, pairs, rounds}
+use Rattle.step_machine.proofs.RoundLemmas.{next_round, round, rounds_over}
 use Rattle.path_equal.specs.declared.calls.Laid.{Laid}
 use Rattle.path_equal.specs.declared.search.Search.{Search}
 use Rattle.path_equal.specs.Contexts.{IsLaidOut, all_of, call_places}

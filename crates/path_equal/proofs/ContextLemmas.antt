@@ -9,25 +9,25 @@ use Rattle.std.specs.Prelude.{◌==◌}
 use Rattle.asp_model.specs.Names.{Text}
 use Rattle.asp_model.specs.Split.{Context}
 use Rattle.asp_model.specs.Term.{Environment}
-use Rattle.program_code.specs.declared.code.Child.{Child}
-use Rattle.program_code.specs.declared.code.Kind.{Kind}
-use Rattle.program_code.specs.declared.code.Kind.TheVariants as kind
-use Rattle.program_code.specs.declared.code.Node.{Node}
-use Rattle.program_code.specs.Fitting.{Fits, Runs}
-use Rattle.program_code.specs.Pieces.{Piece, variable, piece, object, Pieces, count, nothing}
-use Rattle.program_code.specs.Sound.{AllBelow}
-use Rattle.program_code.specs.Tables.{bodies_of, kind_piece, piece_at, pieces, pieces_of, this_or}
-use Rattle.program_code.proofs.GrowthLemmas.{length-pieces}
+use Rattle.code_table.specs.declared.code.Child.{Child}
+use Rattle.code_table.specs.declared.code.Kind.{Kind}
+use Rattle.code_table.specs.declared.code.Kind.TheVariants as kind
+use Rattle.code_table.specs.declared.code.Node.{Node}
+use Rattle.code_table.specs.Fitting.{Fits, Runs}
+use Rattle.code_table.specs.Pieces.{Piece, variable, piece, object, Pieces, count, nothing}
+use Rattle.code_table.specs.Sound.{AllBelow}
+use Rattle.code_table.specs.Tables.{bodies_of, kind_piece, piece_at, pieces, pieces_of, this_or}
+use Rattle.code_table.proofs.GrowthLemmas.{length-pieces}
 use Rattle.code_laws.specs.Nodes.{IsTerm, behind_in, head_in, in_place, later, nth, parts, rest, unrolled}
 use Rattle.code_laws.specs.Shown.{shown, shown_below, shown_bodies, shown_terms}
 use Rattle.code_laws.proofs.NodeLemmas.{is_term}
 use Rattle.code_laws.proofs.ShownLemmas.{behind_is}
 use Rattle.code_laws.proofs.TurnLemmas.{in_place_most}
-use Rattle.code_decoder.specs.Decoded.{gone}
-use Rattle.code_decoder.proofs.BehindLemmas.{count_parts, gone_piece, later_term, rolled_piece}
-use Rattle.machine_frames.specs.Sequences as sequences
-use Rattle.machine_frames.specs.Stacks.{IsWaiting, piece_from}
-use Rattle.machine_frames.specs.Standing.{IsBegun}
+use Rattle.code_reading.specs.Decoded.{gone}
+use Rattle.code_reading.proofs.BehindLemmas.{count_parts, gone_piece, later_term, rolled_piece}
+use Rattle.step_machine.specs.Sequences as sequences
+use Rattle.step_machine.specs.Stacks.{IsWaiting, piece_from}
+use Rattle.step_machine.specs.Standing.{IsBegun}
 use Rattle.path_equal.specs.declared.search.Search.{Search}
 use Rattle.path_equal.specs.Held.{child_held, methods_behind}
 use Rattle.path_equal.specs.Searches.{searched}

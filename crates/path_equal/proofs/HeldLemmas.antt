@@ -4,21 +4,21 @@ use Rattle.std.proofs.lemmas.List.{append-nil, length-map}
 use Rattle.std.specs.List.{flat_map}
 use Rattle.std.specs.Option.{option_to_list}
 use Rattle.asp_model.specs.Term.{Hole, Var, Tree, Trees, none, leaf, loc, own_locations, locations, locations_below}
-use Rattle.program_code.specs.declared.code.Leaf.{Leaf}
-use Rattle.program_code.specs.declared.code.Leaf.TheVariants as leaves
-use Rattle.program_code.specs.declared.code.Capture.{Capture}
-use Rattle.program_code.specs.declared.code.Child.{Child}
-use Rattle.program_code.specs.declared.code.Kind.{Kind}
-use Rattle.program_code.specs.declared.code.Kind.TheVariants as kind
-use Rattle.program_code.specs.declared.code.MethodCode.{MethodCode}
-use Rattle.program_code.specs.declared.code.Node.{Node}
-use Rattle.program_code.specs.Pieces.{Piece}
-use Rattle.program_code.specs.Fitting.{captured_names, body_scope, body_height, head_names}
-use Rattle.program_code.specs.Sound.{IsSoundMethod, MethodsSound, KindSound, IsSound}
-use Rattle.program_code.specs.Tables.{bodies_of, head_of, kind_piece, kind_head, node_piece, piece_at, piece_of, pieces, pieces_of}
-use Rattle.program_code.specs.Uses.{uses}
-use Rattle.program_code.proofs.TableLemmas.{node_here, sound_kind_at}
-use Rattle.program_code.proofs.UsesLemmas.{inside, found_in}
+use Rattle.code_table.specs.declared.code.Leaf.{Leaf}
+use Rattle.code_table.specs.declared.code.Leaf.TheVariants as leaves
+use Rattle.code_table.specs.declared.code.Capture.{Capture}
+use Rattle.code_table.specs.declared.code.Child.{Child}
+use Rattle.code_table.specs.declared.code.Kind.{Kind}
+use Rattle.code_table.specs.declared.code.Kind.TheVariants as kind
+use Rattle.code_table.specs.declared.code.MethodCode.{MethodCode}
+use Rattle.code_table.specs.declared.code.Node.{Node}
+use Rattle.code_table.specs.Pieces.{Piece}
+use Rattle.code_table.specs.Fitting.{captured_names, body_scope, body_height, head_names}
+use Rattle.code_table.specs.Sound.{IsSoundMethod, MethodsSound, KindSound, IsSound}
+use Rattle.code_table.specs.Tables.{bodies_of, head_of, kind_piece, kind_head, node_piece, piece_at, piece_of, pieces, pieces_of}
+use Rattle.code_table.specs.Uses.{uses}
+use Rattle.code_table.proofs.TableLemmas.{node_here, sound_kind_at}
+use Rattle.code_table.proofs.UsesLemmas.{inside, found_in}
 use Rattle.code_laws.specs.Shown.{tree_or, shown, shown_below, shown_bodies, shown_captures, shown_leaf}
 use Rattle.code_laws.proofs.ShownLemmas.{over_from, shown_over}
 use Rattle.path_equal.specs.declared.search.Search.{Search}

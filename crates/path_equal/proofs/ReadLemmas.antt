@@ -13,23 +13,23 @@ use Rattle.asp_model.specs.Intent.{StatusShape, Done}
 use Rattle.asp_model.specs.Parcel.{ParcelShape}
 use Rattle.asp_model.specs.Store.{CellShape, Field, MethodShape, Number, Object, Reference, Future, Group, reached}
 use Rattle.asp_model.specs.Term.{Tree, Loc, node, loc, locations, moved}
-use Rattle.laws.proofs.MovedLemmas.{locations_moved}
-use Rattle.program_code.specs.declared.code.Class.{Class}
-use Rattle.program_code.specs.declared.code.MethodCode.{MethodCode}
-use Rattle.program_code.specs.declared.code.Node.{Node}
-use Rattle.program_code.specs.Classes.{number_of}
-use Rattle.program_code.specs.Fitting.{captured_names, body_scope, body_height}
-use Rattle.program_code.specs.Pieces.{Piece, tree}
-use Rattle.program_code.specs.Sound.{IsSoundMethod, MethodsSound}
-use Rattle.program_code.specs.Tables.{pieces, piece_of, labels_of, head_of, seen_methods}
-use Rattle.program_code.proofs.UsesLemmas.{inside, found_in}
-use Rattle.coded_cells.specs.declared.cells.Parcel.{Parcel}
-use Rattle.coded_cells.specs.Shapes.{class_object, parcel_shape}
+use Rattle.law_steps.proofs.MovedLemmas.{locations_moved}
+use Rattle.code_table.specs.declared.code.Class.{Class}
+use Rattle.code_table.specs.declared.code.MethodCode.{MethodCode}
+use Rattle.code_table.specs.declared.code.Node.{Node}
+use Rattle.code_table.specs.Classes.{number_of}
+use Rattle.code_table.specs.Fitting.{captured_names, body_scope, body_height}
+use Rattle.code_table.specs.Pieces.{Piece, tree}
+use Rattle.code_table.specs.Sound.{IsSoundMethod, MethodsSound}
+use Rattle.code_table.specs.Tables.{pieces, piece_of, labels_of, head_of, seen_methods}
+use Rattle.code_table.proofs.UsesLemmas.{inside, found_in}
+use Rattle.code_table.specs.declared.cells.Parcel.{Parcel}
+use Rattle.code_table.specs.Shapes.{class_object, parcel_shape}
 use Rattle.deep_copy.specs.Reached.{used_places}
 use Rattle.future_table.specs.Values.{values_of}
-use Rattle.paths.specs.Places.{Place, In_store, Side, side_of, inner, beside, entered, read, found, children, child_by, told, nth_place, then_place, found_at}
-use Rattle.paths.specs.PathLabels.{PathLabel, To_field, To_member, To_captured, one_more, number_of_field, within, behind, number_of_captured, number_by, numbered_child, leads_by}
-use Rattle.paths.specs.Snapshots.{SnapshotShape, roots_in, result_in, number_if, root_number, read_from, read_path}
+use Rattle.def_paths.specs.Places.{Place, In_store, Side, side_of, inner, beside, entered, read, found, children, child_by, told, nth_place, then_place, found_at}
+use Rattle.def_paths.specs.PathLabels.{PathLabel, To_field, To_member, To_captured, one_more, number_of_field, within, behind, number_of_captured, number_by, numbered_child, leads_by}
+use Rattle.def_paths.specs.Snapshots.{SnapshotShape, roots_in, result_in, number_if, root_number, read_from, read_path}
 use Rattle.path_equal.specs.declared.labels.Root.{Root}
 use Rattle.path_equal.specs.declared.labels.Root.TheVariants as root
 use Rattle.path_equal.specs.declared.labels.PathLabel as labels

@@ -5,19 +5,19 @@ use Rattle.std.specs.List.{flat_map}
 use Rattle.asp_model.specs.Configuration.{ServiceShape}
 use Rattle.asp_model.specs.Split.{Context, plug, plugged, reduced_count}
 use Rattle.asp_model.specs.Term.{Head, Loc, Tree, Trees, loc, more, own_locations, locations, locations_below, locs_then}
-use Rattle.program_code.specs.declared.code.Node.{Node}
+use Rattle.code_table.specs.declared.code.Node.{Node}
 use Rattle.code_laws.specs.Splitting.{AreContexts, IsContext}
-use Rattle.machine_frames.specs.declared.frames.Form.{Form}
-use Rattle.machine_frames.specs.declared.frames.Form.TheVariants as form
-use Rattle.machine_frames.specs.declared.frames.Frame.{Frame}
-use Rattle.machine_frames.specs.Items.{Item, Waits, Suspends, contexts_of, services_of}
-use Rattle.machine_frames.specs.Stacks.{IsItem, IsStack, IsWithin, last, but_last, piece_from}
-use Rattle.machine_frames.specs.declared.machine.Machine.{Machine}
-use Rattle.machine_frames.specs.Standing.{Standing, taken, view_of}
-use Rattle.machine_frames.specs.Views.{IsAlone, IsOpen}
-use Rattle.machine_frames.proofs.MoveLemmas.{are_contexts}
-use Rattle.machine_snapshots.proofs.WalkLemmas.{Opened, opened, alone_contexts}
-use Rattle.paths.specs.Agree.{places_in, places_round}
+use Rattle.step_machine.specs.declared.frames.Form.{Form}
+use Rattle.step_machine.specs.declared.frames.Form.TheVariants as form
+use Rattle.step_machine.specs.declared.frames.Frame.{Frame}
+use Rattle.step_machine.specs.Items.{Item, Waits, Suspends, contexts_of, services_of}
+use Rattle.step_machine.specs.Stacks.{IsItem, IsStack, IsWithin, last, but_last, piece_from}
+use Rattle.step_machine.specs.declared.machine.Machine.{Machine}
+use Rattle.step_machine.specs.Standing.{Standing, taken, view_of}
+use Rattle.step_machine.specs.Views.{IsAlone, IsOpen}
+use Rattle.step_machine.proofs.MoveLemmas.{are_contexts}
+use Rattle.code_reading.proofs.WalkLemmas.{Opened, opened, alone_contexts}
+use Rattle.def_paths.specs.Agree.{places_in, places_round}
 use Rattle.path_equal.specs.declared.search.Search.{Search}
 use Rattle.path_equal.specs.declared.search.Search.TheVariants as search
 use Rattle.path_equal.specs.declared.stack.Part.{Part}

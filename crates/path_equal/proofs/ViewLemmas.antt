@@ -16,10 +16,10 @@ use Rattle.asp_model.specs.Names.{Name, name_cmp}
 use Rattle.asp_model.specs.Order.{name_cmp_same}
 use Rattle.asp_model.specs.Outcome.{ActivityReportShape}
 use Rattle.asp_model.specs.Shapes.{activity_shape}
-use Rattle.laws.proofs.NameLemmas.{name_total}
-use Rattle.paths.specs.Outcomes.{EndShape}
+use Rattle.law_steps.proofs.NameLemmas.{name_total}
+use Rattle.def_paths.specs.Outcomes.{EndShape}
 use Rattle.std.specs.Prelude.{IfSome, IfNone}
-use Rattle.paths.specs.Outcomes.{WholeOutcome}
+use Rattle.def_paths.specs.Outcomes.{WholeOutcome}
 use Rattle.state_lines.specs.declared.state.State.{State}
 use Rattle.state_lines.specs.Views.{IsSeen}
 use Rattle.state_lines.proofs.ViewLemmas.{first_is, no_first, none_some, rest_is, some_is}

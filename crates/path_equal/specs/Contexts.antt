@@ -3,14 +3,14 @@ use Rattle.std.specs.Prelude.{◌≡◌, ℕ, List, [], ◌∷◌, ◌++◌, dro
 use Rattle.std.specs.List.{flat_map}
 use Rattle.asp_model.specs.Split.{Context}
 use Rattle.asp_model.specs.Term.{locations_below}
-use Rattle.program_code.specs.declared.code.Node.{Node}
-use Rattle.machine_frames.specs.declared.frames.Spread.{Spread}
-use Rattle.machine_frames.specs.declared.frames.Spread.TheVariants as spread
-use Rattle.machine_frames.specs.Calls.{IsLaid}
-use Rattle.machine_frames.specs.Items.{Item, Waits, Suspends, contexts_of}
-use Rattle.machine_frames.specs.Stacks.{IsStack}
-use Rattle.machine_snapshots.specs.declared.cursor.Cursor.{Cursor}
-use Rattle.paths.specs.Agree.{places_round}
+use Rattle.code_table.specs.declared.code.Node.{Node}
+use Rattle.step_machine.specs.declared.frames.Spread.{Spread}
+use Rattle.step_machine.specs.declared.frames.Spread.TheVariants as spread
+use Rattle.step_machine.specs.Calls.{IsLaid}
+use Rattle.step_machine.specs.Items.{Item, Waits, Suspends, contexts_of}
+use Rattle.step_machine.specs.Stacks.{IsStack}
+use Rattle.code_reading.specs.declared.cursor.Cursor.{Cursor}
+use Rattle.def_paths.specs.Agree.{places_round}
 use Rattle.path_equal.specs.declared.calls.Laid.{Laid}
 use Rattle.path_equal.specs.declared.search.Search.{Search}
 use Rattle.path_equal.specs.Searches.{searched}

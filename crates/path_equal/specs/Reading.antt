@@ -6,15 +6,15 @@ use Rattle.asp_model.specs.Shapes.{future_shape}
 use Rattle.asp_model.specs.Store.{CellShape, MethodShape, moved_cell, reached}
 use Rattle.asp_model.specs.Store as store
 use Rattle.asp_model.specs.Term.{locations}
-use Rattle.program_code.specs.declared.code.MethodCode.{MethodCode}
-use Rattle.program_code.specs.Classes.{class_at}
-use Rattle.coded_cells.specs.Shapes.{class_object}
+use Rattle.code_table.specs.declared.code.MethodCode.{MethodCode}
+use Rattle.code_table.specs.Classes.{class_at}
+use Rattle.code_table.specs.Shapes.{class_object}
 use Rattle.deep_copy.specs.Reached.{used_places}
-use Rattle.paths.specs.Places.{Place, Side}
-use Rattle.paths.specs.PathLabels.{PathLabel, To_field, To_member, To_captured, number_by}
-use Rattle.paths.specs.Agree.{places_in}
-use Rattle.paths.specs.Snapshots.{SnapshotShape}
-use Rattle.paths.specs.Snapshots as roots
+use Rattle.def_paths.specs.Places.{Place, Side}
+use Rattle.def_paths.specs.PathLabels.{PathLabel, To_field, To_member, To_captured, number_by}
+use Rattle.def_paths.specs.Agree.{places_in}
+use Rattle.def_paths.specs.Snapshots.{SnapshotShape}
+use Rattle.def_paths.specs.Snapshots as roots
 use Rattle.path_equal.specs.declared.labels.Root.{Root}
 use Rattle.path_equal.specs.declared.labels.Root.TheVariants as root
 use Rattle.path_equal.specs.declared.labels.PathLabel.TheVariants as label

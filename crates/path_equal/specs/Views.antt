@@ -5,7 +5,7 @@ use Rattle.asp_model.specs.declared.outcome.ActivityReport.{ActivityReport}
 use Rattle.asp_model.specs.Names.{Name, name_cmp}
 use Rattle.asp_model.specs.Outcome.{counts_in}
 use Rattle.asp_model.specs.Shapes.{activity_shape}
-use Rattle.paths.specs.Outcomes.{EndShape, WholeOutcome, reported}
+use Rattle.def_paths.specs.Outcomes.{EndShape, WholeOutcome, reported}
 use Rattle.state_lines.specs.declared.state.State.{State}
 use Rattle.state_lines.specs.Views.{IsSeenAs}
 

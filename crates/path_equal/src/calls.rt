@@ -1,16 +1,16 @@
 //! The places of groups of calls, of which the first have their results.
 
 ghost use Rattle.std.specs.Prelude.{◌≡◌, ◌+◌, ◌<◌, drop, length};
-ghost use Rattle.program_code.specs.Tables.{piece_at, pieces};
+ghost use Rattle.code_table.specs.Tables.{piece_at, pieces};
 ghost use Rattle.code_laws.specs.Nodes.{in_place};
-ghost use Rattle.machine_frames.specs.Calls.{IsLaid, beside_count as count_beside, rounds};
+ghost use Rattle.step_machine.specs.Calls.{IsLaid, beside_count as count_beside, rounds};
 ghost use Rattle.path_equal.specs.Contexts.{IsLaidOut, all_of, call_places};
 ghost use Rattle.path_equal.specs.Searches.{searched};
 
 use crate::search::{Search, past, past_some};
-use machine_frames::{Spread, in_place_count};
-use machine_snapshots::{behind, up_to};
-use program_code::Code;
+use code_reading::{behind, up_to};
+use code_table::Code;
+use step_machine::{Spread, in_place_count};
 
 /// The operands of a group of calls.
 #[derive(Clone, Copy)]

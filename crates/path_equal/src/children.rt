@@ -1,7 +1,7 @@
 //! Which cell a step of a path leads to.
 
 ghost use Rattle.std.specs.Prelude.{◌≡◌, drop, slice_get};
-ghost use Rattle.paths.specs.Places.{
+ghost use Rattle.def_paths.specs.Places.{
   Place as PlaceShape,
   Side,
   child_by,
@@ -9,7 +9,7 @@ ghost use Rattle.paths.specs.Places.{
   entered,
   found,
 };
-ghost use Rattle.paths.specs.PathLabels.{
+ghost use Rattle.def_paths.specs.PathLabels.{
   To_captured,
   To_field,
   To_member,
@@ -28,8 +28,7 @@ ghost use Rattle.run_ends.specs.Reads.{IsAt, seen_value};
 
 use crate::labels::PathLabel;
 use asp_model::Label;
-use coded_cells::{Parcel, Place};
-use program_code::MethodCode;
+use code_table::{MethodCode, Parcel, Place};
 use run_ends::At;
 use state_lines::{Seen, Sight};
 

@@ -3,9 +3,9 @@
 ghost use Rattle.std.specs.Prelude.{◌≡◌, ◌<◌, ◌≤◌, List, length, map};
 ghost use Rattle.std.specs.List.{flat_map};
 ghost use Rattle.asp_model.specs.Term.{loc, locations, locations_below};
-ghost use Rattle.program_code.specs.Pieces.{Piece};
-ghost use Rattle.program_code.specs.Sound.{AllBelow, IsBelow, KindSound, MethodsSound};
-ghost use Rattle.program_code.specs.Tables.{piece_at, pieces};
+ghost use Rattle.code_table.specs.Pieces.{Piece};
+ghost use Rattle.code_table.specs.Sound.{AllBelow, IsBelow, KindSound, MethodsSound};
+ghost use Rattle.code_table.specs.Tables.{piece_at, pieces};
 ghost use Rattle.code_laws.specs.Shown.{shown};
 ghost use Rattle.path_equal.specs.Held.{
   body_held,
@@ -17,7 +17,7 @@ ghost use Rattle.path_equal.specs.Held.{
 ghost use Rattle.path_equal.specs.Searches.{searched};
 
 use crate::search::{Search, past_some};
-use program_code::{Capture, Child, Code, Kind, Leaf, MethodCode};
+use code_table::{Capture, Child, Code, Kind, Leaf, MethodCode};
 
 // The place of a variable, if it is bound.
 fn place_of(places: &[usize], leaf: &Leaf) -> Option<usize>

@@ -3,18 +3,18 @@
 ghost use Rattle.std.specs.Prelude.{◌≡◌, ◌+◌, ◌<◌, ◌≤◌, ◌++◌, drop, length, map};
 ghost use Rattle.std.specs.List.{flat_map};
 ghost use Rattle.asp_model.specs.Term.{loc, locations, locations_below, more, none};
-ghost use Rattle.program_code.specs.Pieces.{count};
-ghost use Rattle.program_code.specs.Sound.{AllBelow, KindSound};
-ghost use Rattle.program_code.specs.Tables.{piece_at, pieces, pieces_of};
+ghost use Rattle.code_table.specs.Pieces.{count};
+ghost use Rattle.code_table.specs.Sound.{AllBelow, KindSound};
+ghost use Rattle.code_table.specs.Tables.{piece_at, pieces, pieces_of};
 ghost use Rattle.code_laws.specs.Nodes.{later, nth, parts, rest};
 ghost use Rattle.code_laws.specs.Shown.{shown, shown_terms};
-ghost use Rattle.code_decoder.specs.Decoded.{gone};
+ghost use Rattle.code_reading.specs.Decoded.{gone};
 ghost use Rattle.path_equal.specs.Held.{child_held, methods_behind};
 ghost use Rattle.path_equal.specs.Searches.{searched};
 
 use crate::code::{past_child, past_children, past_kind, past_node};
 use crate::search::Search;
-use program_code::{Child, Code, Kind, Node};
+use code_table::{Child, Code, Kind, Node};
 
 /// Behind the places of the terms that stand behind the first ones of a node: those that are done,
 /// and the holes. A sequence may have lost its first terms before, and a `repeat` may have become a

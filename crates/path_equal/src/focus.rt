@@ -2,17 +2,17 @@
 
 ghost use Rattle.std.specs.Prelude.{◌≡◌, List, drop, ℕ};
 ghost use Rattle.asp_model.specs.Term.{Tree, locations};
-ghost use Rattle.machine_frames.specs.Calls.{IsDealt};
-ghost use Rattle.machine_frames.specs.Stacks.{last};
-ghost use Rattle.machine_frames.specs.Standing.{IsBegun, IsFocus, taken};
+ghost use Rattle.step_machine.specs.Calls.{IsDealt};
+ghost use Rattle.step_machine.specs.Stacks.{last};
+ghost use Rattle.step_machine.specs.Standing.{IsBegun, IsFocus, taken};
 ghost use Rattle.path_equal.specs.Searches.{searched};
 
 use crate::calls::{laid_out, past_left};
 use crate::context::past_behind;
 use crate::search::{Search, past, past_place};
-use machine_frames::{Focus, Machine, Spread};
-use machine_snapshots::{behind, last_of};
-use program_code::Code;
+use code_reading::{behind, last_of};
+use code_table::Code;
+use step_machine::{Focus, Machine, Spread};
 
 /// Behind the places of the term that the machine looks at.
 pub fn past_focus(code: &Code, machine: &Machine, start: Search) -> Search

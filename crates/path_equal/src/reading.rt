@@ -3,9 +3,9 @@
 ghost use Rattle.std.specs.Prelude.{◌≡◌, Some};
 ghost use Rattle.asp_model.specs.Intent.{StatusShape};
 ghost use Rattle.future_table.specs.Values.{values_of};
-ghost use Rattle.paths.specs.PathLabels.{leads_by};
-ghost use Rattle.paths.specs.Places.{In_store, found_at};
-ghost use Rattle.paths.specs.Snapshots.{SnapshotShape, read_path as path_read};
+ghost use Rattle.def_paths.specs.PathLabels.{leads_by};
+ghost use Rattle.def_paths.specs.Places.{In_store, found_at};
+ghost use Rattle.def_paths.specs.Snapshots.{SnapshotShape, read_path as path_read};
 ghost use Rattle.path_equal.specs.Reading.{
   found_of,
   found_shape,
@@ -21,9 +21,8 @@ use crate::children::child;
 use crate::labels::{PathLabel, Root};
 use crate::stack::nth_place;
 use asp_model::{ActivityName, FutureName};
-use coded_cells::{Object, Place};
+use code_table::{Code, Object, Place};
 use future_table::FutureTable;
-use program_code::Code;
 use run_ends::{At, awaited};
 use state_lines::{Seen, State, look_at};
 

@@ -5,10 +5,10 @@ ghost use Rattle.std.specs.List.{flat_map};
 ghost use Rattle.asp_model.specs.Configuration.{ServiceShape};
 ghost use Rattle.asp_model.specs.Split.{Context};
 ghost use Rattle.asp_model.specs.Term.{Tree, locations, locations_below};
-ghost use Rattle.machine_frames.specs.Items.{Item, Waits, contexts_of, services_of};
-ghost use Rattle.machine_frames.specs.Stacks.{IsItem, IsStack, last};
-ghost use Rattle.machine_frames.specs.Standing.{Standing, view_of};
-ghost use Rattle.paths.specs.Agree.{places_in};
+ghost use Rattle.step_machine.specs.Items.{Item, Waits, contexts_of, services_of};
+ghost use Rattle.step_machine.specs.Stacks.{IsItem, IsStack, last};
+ghost use Rattle.step_machine.specs.Standing.{Standing, view_of};
+ghost use Rattle.def_paths.specs.Agree.{places_in};
 ghost use Rattle.path_equal.specs.Contexts.{
   StandsAt,
   next_before,
@@ -23,9 +23,9 @@ use crate::calls::{laid_out, past_left};
 use crate::context::past_behind;
 use crate::focus::past_focus;
 use crate::search::{Search, past};
-use machine_frames::{Form, Frame, Machine};
-use machine_snapshots::{Cursor, all_but, behind, below, last_of, taken_by, up_to, waiting};
-use program_code::Code;
+use code_reading::{Cursor, all_but, behind, below, last_of, taken_by, up_to, waiting};
+use code_table::Code;
+use step_machine::{Form, Frame, Machine};
 
 /// Which places of a context are passed.
 #[derive(Clone, Copy)]

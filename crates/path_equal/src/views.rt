@@ -1,7 +1,7 @@
 //! The states of activities at the end of a run, by their names.
 
 ghost use Rattle.std.specs.Prelude.{IfNone, IfSome, true};
-ghost use Rattle.paths.specs.Outcomes.{WholeOutcome};
+ghost use Rattle.def_paths.specs.Outcomes.{WholeOutcome};
 ghost use Rattle.run_ends.specs.Ends.{IsEndOf};
 ghost use Rattle.path_equal.specs.Views.{
   AreAscending,

@@ -13,7 +13,7 @@ use Rattle.asp_model.specs.Outcome.{OutcomeShape, outcome_of}
 use Rattle.asp_model.specs.Step.{ListsShape}
 use Rattle.asp_model.specs.Replay.{CountsShape, replay, total}
 use Rattle.asp_model.specs.Shapes.{activity_shape, outcome_shape}
-use Rattle.schedules.specs.Divergence.{Row, divergence_of, first_difference, row_of, rows_given, rows_shown}
+use Rattle.law_schedules.specs.Divergence.{Row, divergence_of, first_difference, row_of, rows_given, rows_shown}
 use Rattle.replay_one.specs.Listed.{AreReplayable}
 use Rattle.replay_one.specs.Rows.{list_shape}
 use Rattle.step_ends.proofs.ReportLemmas.{map_map}

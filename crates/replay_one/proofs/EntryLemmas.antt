@@ -16,10 +16,10 @@ use Rattle.asp_model.specs.Names.{Name, name_cmp}
 use Rattle.asp_model.specs.Order.{name_cmp_same}
 use Rattle.asp_model.specs.Step.{name_at, names_or_none}
 use Rattle.asp_model.specs.Replay.{senders_in}
-use Rattle.laws.proofs.EntryLemmas.{first_of_both, second_of_both}
-use Rattle.laws.proofs.NameLemmas.{name_total, name_case}
+use Rattle.law_steps.proofs.EntryLemmas.{first_of_both, second_of_both}
+use Rattle.law_steps.proofs.NameLemmas.{name_total, name_case}
 use Rattle.step_ends.proofs.EntryLemmas.{absent_below, find_head, find_skip, less_of}
-use Rattle.chase_laws.proofs.FutureLemmas.{no_some}
+use Rattle.law_chases.proofs.FutureLemmas.{no_some}
 
 -- Searches
 

@@ -13,25 +13,25 @@ use Rattle.asp_model.specs.Configuration.{Configuration, RequestShape, requests_
 use Rattle.asp_model.specs.Intent.{Effect}
 use Rattle.asp_model.specs.Step.{ListsShape, put_some, with_effect, with_sent}
 use Rattle.asp_model.specs.Shapes.{future_shape}
-use Rattle.coded_cells.specs.declared.cells.Parcel.{Parcel}
-use Rattle.coded_cells.specs.Shapes.{parcel_shape}
+use Rattle.code_table.specs.declared.cells.Parcel.{Parcel}
+use Rattle.code_table.specs.Shapes.{parcel_shape}
 use Rattle.request_queue.specs.declared.request.Request.{Request}
 use Rattle.request_queue.specs.Requests.{request_shape}
 use Rattle.future_table.specs.Values.{values_of}
-use Rattle.laws.specs.Reached.{IsThere, Steps}
-use Rattle.laws.proofs.ClosedLaws.{reached_are_closed}
-use Rattle.laws.proofs.FrameLemmas.{effects_are_new}
-use Rattle.laws.proofs.LinkedLemmas.{intends_step, targets_are_there}
-use Rattle.chase_laws.proofs.MapLemmas.{find_same, stays_there}
-use Rattle.laws.proofs.NameLemmas.{name_total, name_same}
-use Rattle.chase_laws.proofs.FutureLemmas.{future_total, future_same, no_some, some_is, true_false}
-use Rattle.laws.proofs.ReachedLemmas.{moves_go_on}
-use Rattle.actor.specs.declared.actor.Actor.{Actor}
-use Rattle.actor.specs.declared.act.Given.TheVariants as given
-use Rattle.actor.specs.Actors.{Stands}
-use Rattle.actor.specs.Effects.{IsMade}
-use Rattle.schedules.specs.Schedules.{IsNextIn}
-use Rattle.schedules.proofs.EffectLemmas.{absent_received_none}
+use Rattle.law_steps.specs.Reached.{IsThere, Steps}
+use Rattle.law_steps.proofs.ClosedLaws.{reached_are_closed}
+use Rattle.law_steps.proofs.FrameLemmas.{effects_are_new}
+use Rattle.law_steps.proofs.LinkedLemmas.{intends_step, targets_are_there}
+use Rattle.law_chases.proofs.MapLemmas.{find_same, stays_there}
+use Rattle.law_steps.proofs.NameLemmas.{name_total, name_same}
+use Rattle.law_chases.proofs.FutureLemmas.{future_total, future_same, no_some, some_is, true_false}
+use Rattle.law_steps.proofs.ReachedLemmas.{moves_go_on}
+use Rattle.step_activity.specs.declared.actor.Actor.{Actor}
+use Rattle.step_activity.specs.declared.act.Given.TheVariants as given
+use Rattle.step_activity.specs.Actors.{Stands}
+use Rattle.step_activity.specs.Effects.{IsMade}
+use Rattle.law_schedules.specs.Schedules.{IsNextIn}
+use Rattle.law_schedules.proofs.EffectLemmas.{absent_received_none}
 use Rattle.replay_one.specs.declared.population.Population.{Population}
 use Rattle.replay_one.specs.declared.schedule.Schedule.{Schedule}
 use Rattle.replay_one.specs.Population.{IsGiving, IsPopulation, with_activity, with_request, with_value}

@@ -12,7 +12,7 @@ use Rattle.std.specs.FinMap.{is_sorted}
 use Rattle.std.specs.FinMap.Entries.{below_all}
 use Rattle.asp_model.specs.Names.{Name, name_cmp, same_name}
 use Rattle.asp_model.specs.Replay.{CountsShape, total}
-use Rattle.schedules.specs.Divergence.{AreInOrder}
+use Rattle.law_schedules.specs.Divergence.{AreInOrder}
 
 -- Truth
 

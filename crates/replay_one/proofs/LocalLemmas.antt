@@ -12,18 +12,18 @@ use Rattle.asp_model.specs.Configuration.{Activity, Configuration, RequestShape,
 use Rattle.asp_model.specs.Intent.{Acts, Awaits, Done, Effect, Reads, Rests, Lacks, alone, contracts, ends_service, intent, newest, redex_ready}
 use Rattle.asp_model.specs.Step.{ListsShape, intent_in, step}
 use Rattle.asp_model.specs.Replay.{least_step, steps_from}
-use Rattle.laws.specs.Reached.{IsReached, IsAt, Steps}
-use Rattle.chase_laws.proofs.MapLemmas.{find_same, find_other}
-use Rattle.laws.proofs.NameLemmas.{name_total, name_same, name_case}
-use Rattle.chase_laws.proofs.FutureLemmas.{no_some}
-use Rattle.laws.proofs.NamesLaws.{entries_ascend}
-use Rattle.laws.proofs.ReachedLemmas.{moves_go_on}
-use Rattle.laws.proofs.OperandLemmas.{no_future, redex_reads}
-use Rattle.laws.proofs.StepLemmas.{takes_step}
-use Rattle.schedules.specs.Schedules.{IsScheduled}
-use Rattle.schedules.proofs.LeastLemmas.{least_steps}
-use Rattle.schedules.specs.Watches.{IsWatched, Watches}
-use Rattle.schedules.proofs.WokenLemmas.{called_are_scheduled}
+use Rattle.law_steps.specs.Reached.{IsReached, IsAt, Steps}
+use Rattle.law_chases.proofs.MapLemmas.{find_same, find_other}
+use Rattle.law_steps.proofs.NameLemmas.{name_total, name_same, name_case}
+use Rattle.law_chases.proofs.FutureLemmas.{no_some}
+use Rattle.law_steps.proofs.NamesLaws.{entries_ascend}
+use Rattle.law_steps.proofs.ReachedLemmas.{moves_go_on}
+use Rattle.law_steps.proofs.OperandLemmas.{no_future, redex_reads}
+use Rattle.law_steps.proofs.StepLemmas.{takes_step}
+use Rattle.law_schedules.specs.Schedules.{IsScheduled}
+use Rattle.law_schedules.proofs.LeastLemmas.{least_steps}
+use Rattle.law_schedules.specs.Watches.{IsWatched, Watches}
+use Rattle.law_schedules.proofs.WokenLemmas.{called_are_scheduled}
 use Rattle.activity_step.specs.Local.{IsLocalStep, LocalRun}
 use Rattle.replay_one.specs.Population.{with_activity}
 

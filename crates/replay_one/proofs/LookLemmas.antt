@@ -15,20 +15,20 @@ use Rattle.asp_model.specs.Status.{status_of, status_of_intent}
 use Rattle.asp_model.specs.Replay.{senders_in}
 use Rattle.asp_model.specs.Shapes.{fault_shape, future_shape}
 use Rattle.future_table.specs.Values.{values_of}
-use Rattle.laws.specs.Reached.{IsReached, IsAt, IsThere}
-use Rattle.laws.proofs.LinkedLemmas.{targets_are_there}
-use Rattle.chase_laws.proofs.FutureLemmas.{no_some, none_true, some_is}
-use Rattle.laws.proofs.StepLemmas.{holds_back, takes_step}
-use Rattle.actor.specs.declared.actor.Actor.{Actor}
-use Rattle.actor_parts.specs.declared.outlook.Outlook.{Outlook}
-use Rattle.actor_parts.specs.declared.outlook.Outlook.TheVariants as outlook
-use Rattle.actor.specs.Actors.{Stands}
-use Rattle.actor.specs.Outlook.{IsOutlook, IsTo}
-use Rattle.schedules.specs.Schedules.{IsNextIn, RestsIn}
+use Rattle.law_steps.specs.Reached.{IsReached, IsAt, IsThere}
+use Rattle.law_steps.proofs.LinkedLemmas.{targets_are_there}
+use Rattle.law_chases.proofs.FutureLemmas.{no_some, none_true, some_is}
+use Rattle.law_steps.proofs.StepLemmas.{holds_back, takes_step}
+use Rattle.step_activity.specs.declared.actor.Actor.{Actor}
+use Rattle.step_parts.specs.declared.outlook.Outlook.{Outlook}
+use Rattle.step_parts.specs.declared.outlook.Outlook.TheVariants as outlook
+use Rattle.step_activity.specs.Actors.{Stands}
+use Rattle.step_activity.specs.Outlook.{IsOutlook, IsTo}
+use Rattle.law_schedules.specs.Schedules.{IsNextIn, RestsIn}
 use Rattle.replay_one.specs.declared.bounds.Next.TheVariants as next
 use Rattle.replay_one.specs.declared.population.Population.{Population}
 use Rattle.replay_one.specs.Bounds.{IsNextAt}
-use Rattle.actor.specs.Passing.{HasPassed, IsPassedFor}
+use Rattle.step_activity.specs.Passing.{HasPassed, IsPassedFor}
 use Rattle.replay_one.specs.Population.{HasPassedIn, IsPopulation, found_in}
 use Rattle.step_ends.specs.Activities.{StandsAt}
 use Rattle.replay_one.specs.Round.{CanStep, Leaves, SendsTo}

@@ -8,11 +8,11 @@ use Rattle.asp_model.specs.Replay.{CountsShape, Fits, counts_of, lists_of, plain
 use Rattle.asp_model.specs.Outcome.{ActivityReportShape, OutcomeShape, activity_report, counts_in, lists_in, outcome_of}
 use Rattle.asp_model.specs.Step.{ListsShape}
 use Rattle.asp_model.specs.Names.{Name, main_name}
-use Rattle.chase_laws.proofs.FutureLemmas.{no_some}
-use Rattle.laws.proofs.ReachedLemmas.{start_is_reached}
-use Rattle.laws.proofs.ReplayLemmas.{plain_runs_replay}
-use Rattle.laws.proofs.SpendLemmas.{plain_runs_spend}
-use Rattle.schedules.proofs.LeastLemmas.{main_is_ready, main_is_watched}
+use Rattle.law_chases.proofs.FutureLemmas.{no_some}
+use Rattle.law_steps.proofs.ReachedLemmas.{start_is_reached}
+use Rattle.law_steps.proofs.ReplayLemmas.{plain_runs_replay}
+use Rattle.law_steps.proofs.SpendLemmas.{plain_runs_spend}
+use Rattle.law_schedules.proofs.LeastLemmas.{main_is_ready, main_is_watched}
 use Rattle.replay_one.specs.declared.bounds.Bounds.{Bounds}
 use Rattle.replay_one.specs.declared.round.Machine.{Machine}
 use Rattle.replay_one.specs.Bounds.{count_within, lists_within}

@@ -15,19 +15,19 @@ use Rattle.asp_model.specs.Configuration.{Configuration, RequestShape, requests_
 use Rattle.asp_model.specs.Intent.{Effect, Acts, intent}
 use Rattle.asp_model.specs.Shapes.{future_shape}
 use Rattle.asp_model.specs.Step.{intent_in}
-use Rattle.coded_cells.specs.declared.cells.Parcel.{Parcel}
-use Rattle.coded_cells.specs.Shapes.{parcel_shape}
+use Rattle.code_table.specs.declared.cells.Parcel.{Parcel}
+use Rattle.code_table.specs.Shapes.{parcel_shape}
 use Rattle.future_table.specs.Values.{AreOfCode, values_of}
-use Rattle.laws.specs.Reached.{IsThere}
-use Rattle.laws.proofs.ClosedLaws.{reached_are_closed}
-use Rattle.laws.proofs.LinkedLemmas.{acting}
-use Rattle.chase_laws.proofs.MapLemmas.{find_same, find_other}
-use Rattle.laws.proofs.NameLemmas.{name_total, name_same, name_case, names_apart, is_there}
-use Rattle.chase_laws.proofs.FutureLemmas.{no_some, some_is}
-use Rattle.program_code.specs.declared.code.Node.{Node}
-use Rattle.operand_reads.specs.Values.{AreClosedValues}
-use Rattle.actor.specs.declared.actor.Actor.{Actor}
-use Rattle.actor.specs.Actors.{IsClosedFor, Stands, code_of}
+use Rattle.law_steps.specs.Reached.{IsThere}
+use Rattle.law_steps.proofs.ClosedLaws.{reached_are_closed}
+use Rattle.law_steps.proofs.LinkedLemmas.{acting}
+use Rattle.law_chases.proofs.MapLemmas.{find_same, find_other}
+use Rattle.law_steps.proofs.NameLemmas.{name_total, name_same, name_case, names_apart, is_there}
+use Rattle.law_chases.proofs.FutureLemmas.{no_some, some_is}
+use Rattle.code_table.specs.declared.code.Node.{Node}
+use Rattle.step_reads.specs.Values.{AreClosedValues}
+use Rattle.step_activity.specs.declared.actor.Actor.{Actor}
+use Rattle.step_activity.specs.Actors.{IsClosedFor, Stands, code_of}
 use Rattle.replay_one.specs.declared.population.Population.{Population}
 use Rattle.replay_one.proofs.ScheduleLemmas.{apart_at}
 use Rattle.replay_one.specs.Population.{AreActorsOf, IsPassing, IsPopulation, IsReachedPopulation, found_in, with_activity, with_request, with_value}

@@ -12,31 +12,31 @@ use Rattle.asp_model.specs.Chase.{chase}
 use Rattle.asp_model.specs.Step.{ListsShape, intent_in, put_some, with_effect}
 use Rattle.asp_model.specs.Status.{is_awaiting, is_running, status_of, status_of_intent}
 use Rattle.asp_model.specs.Replay.{least_step, steps_from}
-use Rattle.laws.specs.Reached.{IsAt, IsReached, Steps}
-use Rattle.laws.specs.Waking.{labels_wanted}
-use Rattle.laws.proofs.CommuteLemmas.{values_kept}
-use Rattle.laws.proofs.FactLemmas.{acts_facts}
-use Rattle.laws.proofs.KeptLemmas.{fresh}
-use Rattle.chase_laws.proofs.MapLemmas.{find_other, find_same}
-use Rattle.laws.proofs.NameLemmas.{name_case, name_same, name_total}
-use Rattle.chase_laws.proofs.FutureLemmas.{future_total, future_same, no_some, none_true, some_is, true_false}
-use Rattle.laws.proofs.OrderLemmas.{own_kept}
-use Rattle.laws.proofs.ReachedLemmas.{moves_go_on, reached_sound}
-use Rattle.laws.proofs.SoundLemmas.{Took}
-use Rattle.schedules.specs.Schedules.{IsFilledBy, IsScheduled, RestsIn}
-use Rattle.schedules.proofs.LeastLemmas.{least_steps, notes_leave, resters_leave}
-use Rattle.schedules.specs.Watches.{IsWatched, IsWatchedAt, Watches}
-use Rattle.schedules.proofs.WokenLemmas.{called_are_scheduled}
+use Rattle.law_steps.specs.Reached.{IsAt, IsReached, Steps}
+use Rattle.law_steps.specs.Waking.{labels_wanted}
+use Rattle.law_steps.proofs.CommuteLemmas.{values_kept}
+use Rattle.law_steps.proofs.FactLemmas.{acts_facts}
+use Rattle.law_steps.proofs.KeptLemmas.{fresh}
+use Rattle.law_chases.proofs.MapLemmas.{find_other, find_same}
+use Rattle.law_steps.proofs.NameLemmas.{name_case, name_same, name_total}
+use Rattle.law_chases.proofs.FutureLemmas.{future_total, future_same, no_some, none_true, some_is, true_false}
+use Rattle.law_steps.proofs.OrderLemmas.{own_kept}
+use Rattle.law_steps.proofs.ReachedLemmas.{moves_go_on, reached_sound}
+use Rattle.law_steps.proofs.SoundLemmas.{Took}
+use Rattle.law_schedules.specs.Schedules.{IsFilledBy, IsScheduled, RestsIn}
+use Rattle.law_schedules.proofs.LeastLemmas.{least_steps, notes_leave, resters_leave}
+use Rattle.law_schedules.specs.Watches.{IsWatched, IsWatchedAt, Watches}
+use Rattle.law_schedules.proofs.WokenLemmas.{called_are_scheduled}
 use Rattle.serve_rules.specs.Labels.{HaveSame}
 use Rattle.replay_one.specs.declared.bounds.Bounds.{Bounds}
 use Rattle.replay_one.specs.declared.population.Population.{Population}
 use Rattle.replay_one.specs.declared.schedule.Schedule.{Schedule}
 use Rattle.replay_one.specs.declared.round.Machine.{Machine}
 use Rattle.replay_one.specs.Bounds.{count_within, lists_within}
-use Rattle.operand_reads.proofs.PassedLemmas.{passed_still}
-use Rattle.operand_reads.specs.declared.strict.Strict.TheVariants as strict
-use Rattle.actor.specs.Passing.{HasPassed}
-use Rattle.actor.proofs.PassingLemmas.{first_passed}
+use Rattle.step_reads.proofs.PassedLemmas.{passed_still}
+use Rattle.step_reads.specs.declared.strict.Strict.TheVariants as strict
+use Rattle.step_activity.specs.Passing.{HasPassed}
+use Rattle.step_activity.proofs.PassingLemmas.{first_passed}
 use Rattle.replay_one.specs.Population.{ArePassed, HasPassedIn, IsForgotten, IsPassing, IsPopulation, IsReachedPopulation, IsRunIn, or_zero, passed_in, with_activity}
 use Rattle.replay_one.specs.Schedule.{IsMoreReady, IsNoted, IsTaken, IsWatching, asks_in, noted_in, ready_in, sends_in, watches_in}
 use Rattle.replay_one.specs.Round.{CanStep, IsHandedOn, IsRunAt, IsRunBut, LeadsTo, Leaves, SendsTo, next_by}

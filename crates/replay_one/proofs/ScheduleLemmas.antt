@@ -17,8 +17,8 @@ use Rattle.asp_model.specs.contracts.name.FutureNameOrd.TheImpl as ordering
 use Rattle.asp_model.specs.Names.{Name, FutureShape, Text, name_cmp, same_name}
 use Rattle.asp_model.specs.Order.{same_future_same, same_name_same}
 use Rattle.asp_model.specs.Shapes.{future_shape}
-use Rattle.laws.proofs.NameLemmas.{name_case}
-use Rattle.chase_laws.proofs.FutureLemmas.{true_false}
+use Rattle.law_steps.proofs.NameLemmas.{name_case}
+use Rattle.law_chases.proofs.FutureLemmas.{true_false}
 use Rattle.replay_one.specs.declared.schedule.Schedule.{Schedule}
 use Rattle.replay_one.specs.Schedule.{IsMoreReady, IsNoted, IsTaken, IsWatching, asks_in, is_asked, is_named_in, is_target, names_at, noted_in, ready_in, sends_in, watches_in}
 

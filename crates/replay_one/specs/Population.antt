@@ -11,16 +11,16 @@ use Rattle.asp_model.specs.Configuration as model
 use Rattle.asp_model.specs.Configuration.{Configuration, RequestShape}
 use Rattle.asp_model.specs.Intent.{Effect, Acts}
 use Rattle.asp_model.specs.Step.{intent_in, with_sent}
-use Rattle.program_code.specs.declared.code.Node.{Node}
-use Rattle.program_code.specs.Pieces.{tree}
-use Rattle.program_code.specs.Sound.{root_of}
-use Rattle.program_code.specs.Tables.{piece_at, pieces}
-use Rattle.laws.specs.Reached.{IsReached, IsAt}
+use Rattle.code_table.specs.declared.code.Node.{Node}
+use Rattle.code_table.specs.Pieces.{tree}
+use Rattle.code_table.specs.Sound.{root_of}
+use Rattle.code_table.specs.Tables.{piece_at, pieces}
+use Rattle.law_steps.specs.Reached.{IsReached, IsAt}
 use Rattle.activity_step.specs.Local.{LocalRun}
-use Rattle.actor.specs.declared.actor.Actor.{Actor}
-use Rattle.actor.specs.declared.act.Given.{Given}
-use Rattle.actor.specs.Effects.{IsGiven, IsGivenOf}
-use Rattle.actor.specs.Passing.{HasPassed}
+use Rattle.step_activity.specs.declared.actor.Actor.{Actor}
+use Rattle.step_activity.specs.declared.act.Given.{Given}
+use Rattle.step_activity.specs.Effects.{IsGiven, IsGivenOf}
+use Rattle.step_activity.specs.Passing.{HasPassed}
 use Rattle.step_ends.specs.Activities.{RunCode, StandFor, StandForReached, StandForSome, actor_at}
 use Rattle.replay_one.specs.declared.population.Population.{Population}
 

@@ -9,9 +9,9 @@ use Rattle.asp_model.specs.Step.{ListsShape, intent_in, step, with_effect}
 use Rattle.asp_model.specs.Status.{status_of}
 use Rattle.asp_model.specs.Replay.{least_step, steps_from}
 use Rattle.asp_model.specs.Shapes.{future_shape}
-use Rattle.laws.specs.Reached.{IsReached, IsAt}
-use Rattle.schedules.specs.Schedules.{IsFilledBy, IsNextIn, IsScheduled, IsSentTo, RestsIn, WaitsFor}
-use Rattle.schedules.specs.Watches.{IsWatched}
+use Rattle.law_steps.specs.Reached.{IsReached, IsAt}
+use Rattle.law_schedules.specs.Schedules.{IsFilledBy, IsNextIn, IsScheduled, IsSentTo, RestsIn, WaitsFor}
+use Rattle.law_schedules.specs.Watches.{IsWatched}
 use Rattle.replay_one.specs.declared.bounds.Bounds.{Bounds}
 use Rattle.replay_one.specs.declared.schedule.Schedule.{Schedule}
 use Rattle.replay_one.specs.declared.round.Look.{Look}

@@ -2,7 +2,7 @@
 use Rattle.std.specs.Prelude.{ℕ, List}
 use Rattle.std.specs.Global.{Vec}
 use Rattle.asp_model.specs.Names.{Name}
-use Rattle.schedules.specs.Divergence.{Row}
+use Rattle.law_schedules.specs.Divergence.{Row}
 
 abbrev pub list_shape : Name × Vec Name → Name × List Name
 list_shape x = (x.0, x.1.items)

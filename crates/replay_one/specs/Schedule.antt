@@ -9,7 +9,7 @@ use Rattle.asp_model.specs.declared.name.FutureName.{FutureName}
 use Rattle.asp_model.specs.Names.{Name, FutureShape, Text, name_cmp, same_future, same_name}
 use Rattle.asp_model.specs.Term.{has_text}
 use Rattle.asp_model.specs.Shapes.{future_shape}
-use Rattle.schedules.specs.Watches.{Watches}
+use Rattle.law_schedules.specs.Watches.{Watches}
 use Rattle.replay_one.specs.declared.schedule.Schedule.{Schedule}
 
 abbrev pub ready_in : Schedule → Name → Bool

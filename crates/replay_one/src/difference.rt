@@ -3,7 +3,7 @@
 ghost use Rattle.std.specs.Prelude.{◌≡◌, map};
 ghost use Rattle.std.specs.Option.{option_map};
 ghost use Rattle.asp_model.specs.Shapes.{activity_shape};
-ghost use Rattle.schedules.specs.Divergence.{
+ghost use Rattle.law_schedules.specs.Divergence.{
   first_difference as difference_of,
   lesser_name,
   row_of,

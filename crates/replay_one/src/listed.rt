@@ -6,7 +6,7 @@ ghost use Rattle.asp_model.specs.Names.{name_cmp};
 ghost use Rattle.asp_model.specs.Outcome.{counts_in as counts_shown, lists_in as lists_shown};
 ghost use Rattle.asp_model.specs.Replay.{total};
 ghost use Rattle.asp_model.specs.Shapes.{counts_shape, lists_shape, outcome_shape};
-ghost use Rattle.schedules.specs.Divergence.{AreInOrder};
+ghost use Rattle.law_schedules.specs.Divergence.{AreInOrder};
 ghost use Rattle.replay_one.specs.Listed.{AreReplayable};
 
 use asp_model::{ActivityName, Counts, Lists, MOST_REDUCTIONS, Outcome};

@@ -11,14 +11,14 @@ ghost use Rattle.asp_model.specs.Configuration.{Configuration, requests_of, star
 ghost use Rattle.asp_model.specs.Intent.{Acts, Effect};
 ghost use Rattle.asp_model.specs.Shapes.{future_shape};
 ghost use Rattle.asp_model.specs.Step.{intent_in};
-ghost use Rattle.coded_cells.specs.Shapes.{parcel_shape};
+ghost use Rattle.code_table.specs.Shapes.{parcel_shape};
 ghost use Rattle.request_queue.specs.Requests.{request_shape};
 ghost use Rattle.future_table.specs.Values.{values_of};
-ghost use Rattle.laws.specs.Reached.{IsAt, IsThere};
-ghost use Rattle.laws.specs.Waking.{labels_wanted};
+ghost use Rattle.law_steps.specs.Reached.{IsAt, IsThere};
+ghost use Rattle.law_steps.specs.Waking.{labels_wanted};
 ghost use Rattle.serve_rules.specs.Labels.{HaveSame};
-ghost use Rattle.actor.specs.Actors.{Stands, code_of};
-ghost use Rattle.actor.specs.Effects.{IsGiven};
+ghost use Rattle.step_activity.specs.Actors.{Stands, code_of};
+ghost use Rattle.step_activity.specs.Effects.{IsGiven};
 ghost use Rattle.replay_one.specs.Population.{
   AreActorsOf,
   IsGivenIn,
@@ -36,16 +36,15 @@ ghost use Rattle.replay_one.specs.Population.{
   with_value,
 };
 
-use actor::{Actor, Given};
 use asp_model::{ActivityName, FutureName};
-use coded_cells::Parcel;
+use code_table::{Code, Parcel};
 use future_table::FutureTable;
-use program_code::Code;
 use request_queue::Request;
 use serve_rules::LabelSet;
 use std::alloc::{AllocError, Global};
 use std::collections::BTreeMap;
 use std::sync::Arc;
+use step_activity::{Actor, Given};
 
 /// The activities by their names, and the filled futures. Of who waits for the members of a group:
 /// how many of them are known to have values.

@@ -5,7 +5,7 @@ ghost use Rattle.asp_model.specs.declared.limits.TheConstants.{MOST_REDUCTIONS};
 ghost use Rattle.asp_model.specs.Outcome.{outcome_of};
 ghost use Rattle.asp_model.specs.Replay.{Fits, replay as replay_of, total};
 ghost use Rattle.asp_model.specs.Shapes.{counts_shape, lists_shape, outcome_shape, tree_of};
-ghost use Rattle.paths.specs.Outcomes.{whole_outcome_of};
+ghost use Rattle.def_paths.specs.Outcomes.{whole_outcome_of};
 ghost use Rattle.run_ends.specs.Ends.{IsEndOf};
 ghost use Rattle.replay_one.specs.declared.replays.ReplayStop.TheVariants.{Memory};
 ghost use Rattle.replay_one.specs.Correct.{IsStop};

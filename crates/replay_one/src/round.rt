@@ -7,8 +7,8 @@ ghost use Rattle.asp_model.specs.Term.{Tree};
 ghost use Rattle.asp_model.specs.Configuration.{Configuration, requests_of, start as start_of};
 ghost use Rattle.asp_model.specs.Intent.{Effect};
 ghost use Rattle.asp_model.specs.Step.{is_next, with_effect};
-ghost use Rattle.laws.specs.Reached.{IsThere};
-ghost use Rattle.schedules.specs.Schedules.{IsNextIn};
+ghost use Rattle.law_steps.specs.Reached.{IsThere};
+ghost use Rattle.law_schedules.specs.Schedules.{IsNextIn};
 ghost use Rattle.replay_one.specs.Bounds.{IsAscending, IsNextAt, count_within, lists_within};
 ghost use Rattle.replay_one.specs.Population.{
   HasPassedBySome,
@@ -39,11 +39,11 @@ ghost use Rattle.replay_one.specs.Round.{
 use crate::bounds::{Bounds, Next};
 use crate::population::Population;
 use crate::schedule::Schedule;
-use actor::{Given, Outlook};
 use asp_model::{ActivityName, FutureName};
-use program_code::Code;
+use code_table::Code;
 use std::alloc::{AllocError, Global};
 use std::sync::Arc;
+use step_activity::{Given, Outlook};
 
 /// What an activity that is ready does.
 #[derive(Clone, Copy)]

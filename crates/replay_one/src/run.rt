@@ -6,7 +6,7 @@ ghost use Rattle.asp_model.specs.Configuration.{Configuration, start as start_of
 ghost use Rattle.asp_model.specs.Outcome.{counts_in, outcome_of as outcome_shown};
 ghost use Rattle.asp_model.specs.Replay.{plain_run, steps_from, total as total_of};
 ghost use Rattle.asp_model.specs.Shapes.{outcome_shape, tree_of};
-ghost use Rattle.paths.specs.Outcomes.{whole_outcome_of};
+ghost use Rattle.def_paths.specs.Outcomes.{whole_outcome_of};
 ghost use Rattle.run_ends.specs.Ends.{IsEndOf};
 ghost use Rattle.replay_one.specs.Bounds.{IsAscending, count_within, lists_within};
 ghost use Rattle.replay_one.specs.Correct.{IsReplayed, IsSpent};

@@ -11,9 +11,9 @@ use Rattle.asp_model.specs.declared.word.Label.{Label}
 use Rattle.asp_model.specs.Names.{Text, same_text}
 use Rattle.asp_model.specs.Term.{has_text}
 use Rattle.request_queue.specs.declared.notes.Notes.{Notes}
-use Rattle.program_code.specs.Classes.{number_of}
-use Rattle.program_code.specs.declared.code.MethodCode.{MethodCode}
-use Rattle.program_code.proofs.LookupLemmas.{chosen, number_cons}
+use Rattle.code_table.specs.Classes.{number_of}
+use Rattle.code_table.specs.declared.code.MethodCode.{MethodCode}
+use Rattle.code_table.proofs.LookupLemmas.{chosen, number_cons}
 use Rattle.serve_rules.specs.Labels.{label_text, method_text}
 use Rattle.request_queue.specs.Notes.{IsAsked, IsOldest, IsOldestWith, IsUpTo, earlier, has_number, is_noted, label_order, or_none}
 use Rattle.request_queue.proofs.NoteLemmas.{label_same}

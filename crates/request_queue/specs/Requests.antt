@@ -1,7 +1,7 @@
 -- What contracts see of a request.
 use Rattle.asp_model.specs.Configuration.{RequestShape}
 use Rattle.asp_model.specs.Shapes.{future_shape}
-use Rattle.coded_cells.specs.Shapes.{parcel_shape}
+use Rattle.code_table.specs.Shapes.{parcel_shape}
 use Rattle.request_queue.specs.declared.request.Request.{Request}
 
 abbrev pub request_shape : Request → RequestShape

@@ -23,7 +23,7 @@ ghost use Rattle.request_queue.specs.Pending.{but, oldest, request_at};
 use crate::notes::{has_method, is_one_of};
 use crate::request::Request;
 use asp_model::Label;
-use program_code::Class;
+use code_table::Class;
 use serve_rules::LabelSet;
 use std::alloc::{AllocError, Global};
 use std::marker::Model;

@@ -30,7 +30,7 @@ ghost use Rattle.request_queue.specs.Notes.{
 };
 
 use asp_model::Label;
-use program_code::Class;
+use code_table::Class;
 use serve_rules::LabelSet;
 use std::alloc::{AllocError, Global};
 use std::collections::{BTreeMap, BTreeSet};

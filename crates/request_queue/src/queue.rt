@@ -22,7 +22,7 @@ use crate::crowd::{Crowd, MOST_ARRIVALS};
 use crate::few::Few;
 use crate::request::Request;
 use asp_model::Label;
-use program_code::Class;
+use code_table::Class;
 use serve_rules::LabelSet;
 use std::alloc::{AllocError, Global};
 use std::marker::Model;

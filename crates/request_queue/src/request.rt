@@ -1,7 +1,7 @@
 //! Requests.
 
 use asp_model::{ActivityName, FutureName, Label};
-use coded_cells::Parcel;
+use code_table::Parcel;
 
 /// What is asked of an activity. The arguments stay a closed copy until they are served.
 #[derive(Drop)]

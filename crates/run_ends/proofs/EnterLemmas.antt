@@ -9,9 +9,9 @@ use Rattle.std.proofs.lemmas.Option.{get_or_from_slice_get, slice_get_within, sl
 use Rattle.std.specs.Option.{option_map}
 use borrow.Author.Count.{below_more}
 use Rattle.asp_model.specs.Parcel.{ParcelShape}
-use Rattle.coded_cells.specs.declared.cells.Parcel.{Parcel}
-use Rattle.coded_cells.specs.Shapes.{parcel_shape}
-use Rattle.paths.specs.Places.{Place, In_store, Side, inner, entered, child_by}
+use Rattle.code_table.specs.declared.cells.Parcel.{Parcel}
+use Rattle.code_table.specs.Shapes.{parcel_shape}
+use Rattle.def_paths.specs.Places.{Place, In_store, Side, inner, entered, child_by}
 use Rattle.run_ends.specs.declared.entered.Spot.{Spot}
 use Rattle.run_ends.specs.declared.entered.Entered.{Entered}
 use Rattle.run_ends.specs.Spots.{is_spot, place_at, no_spot, spot_at, numbered_place, spot_place, places_of, places_in, place_of, size_of, IsSpot, IsNumbered, HasValues, Stays, Adds, EntersAt, Grows, IsHome}

@@ -7,21 +7,21 @@ use Rattle.asp_model.specs.Term.{Head, Loc, Tree, Trees, Environment, node, more
 use Rattle.asp_model.specs.Split.{Context, plugged, plug, reduced_count}
 use Rattle.asp_model.specs.Configuration.{ServiceShape}
 use Rattle.asp_model.specs.Intent.{Done}
-use Rattle.program_code.specs.declared.code.Node.{Node}
-use Rattle.program_code.specs.Pieces.{Piece, variable, piece, object}
-use Rattle.program_code.specs.Fitting.{IsNode, Fits}
+use Rattle.code_table.specs.declared.code.Node.{Node}
+use Rattle.code_table.specs.Pieces.{Piece, variable, piece, object}
+use Rattle.code_table.specs.Fitting.{IsNode, Fits}
 use Rattle.code_laws.specs.Nodes.{head_in}
 use Rattle.code_laws.specs.Splitting.{is_loc, AreContexts}
-use Rattle.machine_frames.specs.declared.frames.Focus.{Focus}
-use Rattle.machine_frames.specs.declared.frames.Focus.TheVariants as focus
-use Rattle.machine_frames.specs.declared.frames.Form.{Form}
-use Rattle.machine_frames.specs.declared.frames.Form.TheVariants as form
-use Rattle.machine_frames.specs.declared.frames.Frame.{Frame}
-use Rattle.machine_frames.specs.Items.{Item, Waits, Suspends, contexts_of}
-use Rattle.machine_frames.specs.Stacks.{IsItem, IsStack, piece_from, last, but_last}
-use Rattle.machine_frames.specs.Standing.{View, Standing, IsFocus, taken}
-use Rattle.machine_frames.proofs.MoveLemmas.{are_contexts}
-use Rattle.paths.specs.Snapshots.{result_in}
+use Rattle.step_machine.specs.declared.frames.Focus.{Focus}
+use Rattle.step_machine.specs.declared.frames.Focus.TheVariants as focus
+use Rattle.step_machine.specs.declared.frames.Form.{Form}
+use Rattle.step_machine.specs.declared.frames.Form.TheVariants as form
+use Rattle.step_machine.specs.declared.frames.Frame.{Frame}
+use Rattle.step_machine.specs.Items.{Item, Waits, Suspends, contexts_of}
+use Rattle.step_machine.specs.Stacks.{IsItem, IsStack, piece_from, last, but_last}
+use Rattle.step_machine.specs.Standing.{View, Standing, IsFocus, taken}
+use Rattle.step_machine.proofs.MoveLemmas.{are_contexts}
+use Rattle.def_paths.specs.Snapshots.{result_in}
 use Rattle.run_ends.specs.Ends.{is_service, none_waits}
 
 -- Terms that are no places

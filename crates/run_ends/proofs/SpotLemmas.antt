@@ -1,7 +1,7 @@
 -- Places of spots.
 use Rattle.std.proofs.Common.{◌≡◌, ℕ, zero, suc, ◌+◌, ◌≤◌, List, [], ◌∷◌, ◌++◌, length, refl, sym, ap, ◌∙◌, arith, length-append, append_assoc}
 use Rattle.std.proofs.lemmas.List.{get_or_append_left, append-nil}
-use Rattle.paths.specs.Places.{Place, In_store, inner}
+use Rattle.def_paths.specs.Places.{Place, In_store, inner}
 use Rattle.run_ends.specs.declared.entered.Spot.{Spot}
 use Rattle.run_ends.specs.Spots.{numbered_place, spot_place, places_from, places_of, IsSpot}
 

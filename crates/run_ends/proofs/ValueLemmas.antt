@@ -5,12 +5,12 @@ use Rattle.std.specs.FinMap.{find}
 use Rattle.std.specs.Option.{option_map}
 use Rattle.asp_model.specs.Names.{FutureShape, future_cmp}
 use Rattle.asp_model.specs.Chase.{Values, Chase, Value, Unfilled, Cycle, chase}
-use Rattle.coded_cells.specs.declared.cells.Parcel.{Parcel}
-use Rattle.coded_cells.specs.Shapes.{parcel_shape}
+use Rattle.code_table.specs.declared.cells.Parcel.{Parcel}
+use Rattle.code_table.specs.Shapes.{parcel_shape}
 use Rattle.future_table.specs.Values as table
 use Rattle.future_table.specs.Values.{told}
-use Rattle.chase_laws.proofs.ChaseLemmas.{chase_finds}
-use Rattle.paths.specs.Places.{value_by}
+use Rattle.law_chases.proofs.ChaseLemmas.{chase_finds}
+use Rattle.def_paths.specs.Places.{value_by}
 use Rattle.run_ends.specs.Reads.{seen_value}
 
 -- the value of the future at the end of a chase is the value that is read

@@ -2,15 +2,15 @@
 use Rattle.std.specs.Prelude.{◌≡◌, Bool, true, false, List, [], ◌∷◌, reverse}
 use Rattle.std.specs.Arc.{arc_value}
 use Rattle.asp_model.specs.Shapes.{outcome_shape}
-use Rattle.program_code.specs.declared.code.Node.{Node}
-use Rattle.coded_cells.specs.Shapes.{store_of}
+use Rattle.code_table.specs.declared.code.Node.{Node}
+use Rattle.code_table.specs.Shapes.{store_of}
 use Rattle.future_table.specs.Values.{values_of}
-use Rattle.machine_frames.specs.declared.frames.Form.{Form}
-use Rattle.machine_frames.specs.declared.frames.Form.TheVariants as form
-use Rattle.machine_frames.specs.declared.frames.Frame.{Frame}
-use Rattle.machine_frames.specs.Standing.{Standing, view_of}
-use Rattle.paths.specs.Snapshots.{SnapshotShape}
-use Rattle.paths.specs.Outcomes.{EndShape, WholeOutcome, reported}
+use Rattle.step_machine.specs.declared.frames.Form.{Form}
+use Rattle.step_machine.specs.declared.frames.Form.TheVariants as form
+use Rattle.step_machine.specs.declared.frames.Frame.{Frame}
+use Rattle.step_machine.specs.Standing.{Standing, view_of}
+use Rattle.def_paths.specs.Snapshots.{SnapshotShape}
+use Rattle.def_paths.specs.Outcomes.{EndShape, WholeOutcome, reported}
 use Rattle.run_ends.specs.declared.ends.EndState.{EndState}
 use Rattle.run_ends.specs.declared.ends.RunEnd.{RunEnd}
 

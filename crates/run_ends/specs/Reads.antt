@@ -2,9 +2,9 @@
 use Rattle.std.specs.Prelude.{◌≡◌, Option, Some, None}
 use Rattle.std.specs.Borrow.{Bor}
 use Rattle.asp_model.specs.Parcel.{ParcelShape}
-use Rattle.coded_cells.specs.declared.cells.Parcel.{Parcel}
-use Rattle.coded_cells.specs.Shapes.{parcel_shape}
-use Rattle.paths.specs.Places.{Place, In_store, Side, inner, entered}
+use Rattle.code_table.specs.declared.cells.Parcel.{Parcel}
+use Rattle.code_table.specs.Shapes.{parcel_shape}
+use Rattle.def_paths.specs.Places.{Place, In_store, Side, inner, entered}
 use Rattle.run_ends.specs.declared.entered.At.{At}
 use Rattle.run_ends.specs.declared.entered.At.TheVariants as at
 

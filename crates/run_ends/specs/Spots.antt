@@ -2,9 +2,9 @@
 use Rattle.std.specs.Prelude.{◌≡◌, ℕ, zero, suc, ◌<◌, ◌≤◌, false, Bool, List, [], ◌∷◌, ◌++◌, Some, length, map, slice_get, get_or, ◌⊎◌}
 use Rattle.std.specs.Borrow.{Bor}
 use Rattle.std.specs.List.{list_any}
-use Rattle.coded_cells.specs.declared.cells.Parcel.{Parcel}
-use Rattle.coded_cells.specs.Shapes.{parcel_shape}
-use Rattle.paths.specs.Places.{Place, In_store, Side, inner, entered, child_by}
+use Rattle.code_table.specs.declared.cells.Parcel.{Parcel}
+use Rattle.code_table.specs.Shapes.{parcel_shape}
+use Rattle.def_paths.specs.Places.{Place, In_store, Side, inner, entered, child_by}
 use Rattle.run_ends.specs.declared.entered.Spot.{Spot}
 use Rattle.run_ends.specs.declared.entered.Entered.{Entered}
 use Rattle.run_ends.specs.contracts.entered.SpotPartialEq.TheImpl as equality

@@ -6,18 +6,17 @@ ghost use Rattle.asp_model.specs.Configuration.{ServiceShape};
 ghost use Rattle.asp_model.specs.Intent.{Done};
 ghost use Rattle.asp_model.specs.Shapes.{status_shape};
 ghost use Rattle.asp_model.specs.Term.{Tree};
-ghost use Rattle.program_code.specs.declared.code.Node.{Node as NodeShape};
-ghost use Rattle.machine_frames.specs.Standing.{Standing, view_of};
-ghost use Rattle.paths.specs.Snapshots.{SnapshotShape, result_in};
+ghost use Rattle.code_table.specs.declared.code.Node.{Node as NodeShape};
+ghost use Rattle.step_machine.specs.Standing.{Standing, view_of};
+ghost use Rattle.def_paths.specs.Snapshots.{SnapshotShape, result_in};
 ghost use Rattle.run_ends.specs.Ends.{IsSnapshotOf, none_waits};
 
 use asp_model::{Outcome, Status};
-use coded_cells::Place;
+use code_table::{Code, Place};
 use future_table::FutureTable;
-use machine_frames::{Focus, Form, Frame, Machine};
 use object_store::Store;
-use program_code::Code;
 use std::sync::Arc;
+use step_machine::{Focus, Form, Frame, Machine};
 
 /// The state of an activity at the end of a run.
 #[derive(Drop)]

@@ -2,7 +2,7 @@
 //! it lies in values.
 
 ghost use Rattle.std.specs.Prelude.{◌≡◌, ◌+◌, ◌≤◌, ◌<◌, ◌^◌, [], IfOk, OnOk};
-ghost use Rattle.paths.specs.Places.{Side, entered};
+ghost use Rattle.def_paths.specs.Places.{Side, entered};
 ghost use Rattle.run_ends.specs.Reads.{IsAt, seen_value};
 ghost use Rattle.run_ends.specs.Spots.{
   EntersAt,
@@ -17,7 +17,7 @@ ghost use Rattle.run_ends.specs.Spots.{
   size_of,
 };
 
-use coded_cells::{Parcel, Place};
+use code_table::{Parcel, Place};
 use indexmap::IndexSet;
 use std::alloc::{AllocError, Global};
 

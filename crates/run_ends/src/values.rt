@@ -4,11 +4,11 @@ ghost use Rattle.std.specs.Prelude.{◌≡◌};
 ghost use Rattle.asp_model.specs.Chase.{chase as chase_of};
 ghost use Rattle.asp_model.specs.Shapes.{future_shape};
 ghost use Rattle.future_table.specs.Values.{values_of};
-ghost use Rattle.paths.specs.Places.{name_by, value_by};
+ghost use Rattle.def_paths.specs.Places.{name_by, value_by};
 ghost use Rattle.run_ends.specs.Reads.{seen_value};
 
 use asp_model::FutureName;
-use coded_cells::Parcel;
+use code_table::Parcel;
 use future_table::{Chase, FutureTable};
 
 /// The value that a future has in the end.

@@ -9,9 +9,9 @@ use Rattle.asp_model.specs.WellFormed.{IsWellFormed}
 use Rattle.asp_model.specs.Report.{activity_lines, text_of}
 use Rattle.asp_model.specs.ReadReport.{read_report, Reads}
 use Rattle.asp_model.specs.Shapes.{activity_shape}
-use Rattle.paths.specs.Outcomes.{EndShape, WholeOutcome, reported, report_lines_to}
-use Rattle.report_laws.specs.Depths.{HasPrintableLabels}
-use Rattle.report_laws.proofs.DepthLemmas.{depths_are_read}
+use Rattle.def_paths.specs.Outcomes.{EndShape, WholeOutcome, reported, report_lines_to}
+use Rattle.law_reports.specs.Depths.{HasPrintableLabels}
+use Rattle.law_reports.proofs.DepthLemmas.{depths_are_read}
 use Rattle.run_ends.specs.declared.ends.RunEnd.{RunEnd}
 use Rattle.run_ends.specs.Ends.{IsEndOf}
 use Rattle.run_report.specs.Ends.{if_there}

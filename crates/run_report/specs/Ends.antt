@@ -1,6 +1,6 @@
 -- The lines of the activity with a number.
 use Rattle.std.specs.Prelude.{ℕ, List, [], Option, Some, None, slice_get}
-use Rattle.paths.specs.Outcomes.{WholeOutcome, lines_to, end_lines}
+use Rattle.def_paths.specs.Outcomes.{WholeOutcome, lines_to, end_lines}
 
 -- what f gives of one, where there is one
 abbrev pub if_there : {X : Type 0} → (X → List (List ℕ)) → Option X → List (List ℕ)

@@ -7,8 +7,8 @@ ghost use Rattle.asp_model.specs.WellFormed.{IsWellFormed};
 ghost use Rattle.asp_model.specs.Report.{activity_lines, output_line as line_of_output, text_of};
 ghost use Rattle.asp_model.specs.ReadReport.{Reads, read_report};
 ghost use Rattle.asp_model.specs.Shapes.{activity_shape, line_shape};
-ghost use Rattle.paths.specs.Outcomes.{WholeOutcome, end_lines, report_lines_to, reported};
-ghost use Rattle.report_laws.specs.Depths.{HasPrintableLabels};
+ghost use Rattle.def_paths.specs.Outcomes.{WholeOutcome, end_lines, report_lines_to, reported};
+ghost use Rattle.law_reports.specs.Depths.{HasPrintableLabels};
 ghost use Rattle.run_ends.specs.Ends.{IsEndOf};
 ghost use Rattle.run_report.specs.Ends.{lines_at, states_at};
 

@@ -11,9 +11,9 @@ use Rattle.asp_model.specs.contracts.word.LabelOrd.TheImpl as ordering
 use Rattle.asp_model.specs.Names.{Text, same_text}
 use Rattle.asp_model.specs.Store.{MethodShape}
 use Rattle.asp_model.specs.Term.{has_text}
-use Rattle.program_code.specs.Pieces.{Piece}
-use Rattle.program_code.specs.Tables.{seen_methods}
-use Rattle.program_code.specs.declared.code.MethodCode.{MethodCode}
+use Rattle.code_table.specs.Pieces.{Piece}
+use Rattle.code_table.specs.Tables.{seen_methods}
+use Rattle.code_table.specs.declared.code.MethodCode.{MethodCode}
 use Rattle.serve_rules.specs.Labels.{HaveSame, LabelsAreOfObjects, label_text, method_text, labelled}
 
 abbrev pub label_order : Label → Label → Ordering

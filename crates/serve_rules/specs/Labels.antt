@@ -4,10 +4,10 @@ use Rattle.asp_model.specs.Names.{Text}
 use Rattle.asp_model.specs.Term.{has_text}
 use Rattle.asp_model.specs.declared.word.Label.{Label}
 use Rattle.asp_model.specs.Intent.{method_labels}
-use Rattle.program_code.specs.Pieces.{Piece}
-use Rattle.program_code.specs.Tables.{object_of}
-use Rattle.program_code.specs.declared.code.Class.{Class}
-use Rattle.program_code.specs.declared.code.MethodCode.{MethodCode}
+use Rattle.code_table.specs.Pieces.{Piece}
+use Rattle.code_table.specs.Tables.{object_of}
+use Rattle.code_table.specs.declared.code.Class.{Class}
+use Rattle.code_table.specs.declared.code.MethodCode.{MethodCode}
 
 abbrev pub label_text : Label → Text
 label_text l = l.text

@@ -5,7 +5,7 @@ ghost use Rattle.asp_model.specs.Term.{has_text};
 ghost use Rattle.serve_rules.specs.Labels.{HaveSame, class_labels, label_text};
 
 use asp_model::Label;
-use program_code::Class;
+use code_table::Class;
 use std::alloc::{AllocError, Global};
 use std::collections::BTreeSet;
 use std::marker::Model;

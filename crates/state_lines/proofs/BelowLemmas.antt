@@ -11,12 +11,12 @@ use Rattle.asp_model.specs.Names.{FutureShape, Text}
 use Rattle.asp_model.specs.Contraction.{fields_at}
 use Rattle.asp_model.specs.Store.{CellShape, Field, MethodShape, Number, Object, Reference, Future, Group, reached}
 use Rattle.asp_model.specs.Term.{locations}
-use Rattle.program_code.specs.declared.code.Class.{Class}
-use Rattle.program_code.specs.declared.code.Node.{Node}
-use Rattle.program_code.specs.Tables.{pieces, labels_of, seen_methods, text_of}
-use Rattle.coded_cells.specs.Shapes.{class_object}
-use Rattle.paths.specs.Places.{Place, Side, entered, found, read, children, child_by, told}
-use Rattle.paths.specs.StateLines.{Path, by_labels, by_numbers, shown_below}
+use Rattle.code_table.specs.declared.code.Class.{Class}
+use Rattle.code_table.specs.declared.code.Node.{Node}
+use Rattle.code_table.specs.Tables.{pieces, labels_of, seen_methods, text_of}
+use Rattle.code_table.specs.Shapes.{class_object}
+use Rattle.def_paths.specs.Places.{Place, Side, entered, found, read, children, child_by, told}
+use Rattle.def_paths.specs.StateLines.{Path, by_labels, by_numbers, shown_below}
 use Rattle.state_lines.specs.Walks.{Pending, pending_at, pending_below}
 use Rattle.state_lines.specs.Below.{fields_below, members_below, cell_below}
 use Rattle.state_lines.proofs.TextLemmas.{blank_field}

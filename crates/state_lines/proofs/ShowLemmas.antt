@@ -2,8 +2,8 @@
 use Rattle.std.proofs.Common.{◌≡◌, ℕ, zero, suc, ◌≤◌, Bool, true, false, List, [], ◌∷◌, ◌++◌, Option, Some, None, length, map, refl, sym, ap, subst, ◌∙◌, arith, length-append}
 use Rattle.std.specs.Prelude.{codes, reverse}
 use Rattle.std.proofs.lemmas.List.{reverse-append}
-use Rattle.paths.specs.Places.{Place, Side, found, children}
-use Rattle.paths.specs.StateLines.{Path, Shown, is_compound, what_text, state_line, with_line, with_place, path_of, shown_below, show_each, show_place, show_to}
+use Rattle.def_paths.specs.Places.{Place, Side, found, children}
+use Rattle.def_paths.specs.StateLines.{Path, Shown, is_compound, what_text, state_line, with_line, with_place, path_of, shown_below, show_each, show_place, show_to}
 use Rattle.state_lines.specs.Walks.{Pending, show_all, pending_at, pending_below}
 
 -- what is below a place, at a depth below it

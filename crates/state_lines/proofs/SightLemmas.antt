@@ -4,12 +4,12 @@ use Rattle.asp_model.specs.Names.{FutureShape}
 use Rattle.asp_model.specs.Parcel.{ParcelShape}
 use Rattle.asp_model.specs.Store.{CellShape, Number, Object, Reference, Future, Group, Store, cell}
 use Rattle.asp_model.specs.Chase.{chase}
-use Rattle.program_code.specs.declared.code.Class.{Class}
-use Rattle.program_code.specs.declared.code.Node.{Node}
-use Rattle.coded_cells.specs.Shapes.{class_object, store_of}
-use Rattle.paths.specs.Places.{Place, In_store, In_value, Side, inner, written, entered, read, found, entered_by, read_by, part, name_by}
-use Rattle.paths.specs.Places as places
-use Rattle.paths.specs.StateLines.{is_compound}
+use Rattle.code_table.specs.declared.code.Class.{Class}
+use Rattle.code_table.specs.declared.code.Node.{Node}
+use Rattle.code_table.specs.Shapes.{class_object, store_of}
+use Rattle.def_paths.specs.Places.{Place, In_store, In_value, Side, inner, written, entered, read, found, entered_by, read_by, part, name_by}
+use Rattle.def_paths.specs.Places as places
+use Rattle.def_paths.specs.StateLines.{is_compound}
 use Rattle.state_lines.specs.declared.seen.Seen.{Seen}
 use Rattle.state_lines.specs.declared.sights.Sight.{Sight}
 use Rattle.state_lines.specs.declared.state.State.{State}

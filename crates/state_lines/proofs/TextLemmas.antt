@@ -10,14 +10,14 @@ use Rattle.asp_model.specs.Contraction.{fields_at}
 use Rattle.asp_model.specs.Report.{name_text}
 use Rattle.asp_model.specs.Store.{Field, MethodShape}
 use Rattle.asp_model.specs.Term.{moved}
-use Rattle.program_code.specs.declared.code.Class.{Class}
-use Rattle.program_code.specs.declared.code.MethodCode.{MethodCode}
-use Rattle.program_code.specs.declared.code.Node.{Node}
-use Rattle.program_code.specs.Pieces.{Piece}
-use Rattle.program_code.specs.Tables.{pieces, text_of, seen_methods}
-use Rattle.coded_cells.specs.Shapes.{class_object}
-use Rattle.paths.specs.Places.{told}
-use Rattle.paths.specs.StateLines.{what_text}
+use Rattle.code_table.specs.declared.code.Class.{Class}
+use Rattle.code_table.specs.declared.code.MethodCode.{MethodCode}
+use Rattle.code_table.specs.declared.code.Node.{Node}
+use Rattle.code_table.specs.Pieces.{Piece}
+use Rattle.code_table.specs.Tables.{pieces, text_of, seen_methods}
+use Rattle.code_table.specs.Shapes.{class_object}
+use Rattle.def_paths.specs.Places.{told}
+use Rattle.def_paths.specs.StateLines.{what_text}
 use Rattle.state_lines.specs.Texts.{dotted, labels_text, method_labels, text_by_class}
 
 -- pieces with a byte between

@@ -3,8 +3,8 @@ use Rattle.std.proofs.Common.{◌≡◌, ℕ, zero, suc, T, true, false, List, [
 use Rattle.std.specs.Prelude.{slice_get}
 use Rattle.asp_model.specs.declared.outcome.ActivityReport.{ActivityReport}
 use Rattle.asp_model.specs.Shapes.{activity_shape}
-use Rattle.program_code.specs.declared.code.Node.{Node}
-use Rattle.paths.specs.Outcomes.{EndShape}
+use Rattle.code_table.specs.declared.code.Node.{Node}
+use Rattle.def_paths.specs.Outcomes.{EndShape}
 use Rattle.run_ends.specs.declared.ends.EndState.{EndState}
 use Rattle.run_ends.specs.Ends.{AreSnapshotsOf, IsSnapshotOf}
 

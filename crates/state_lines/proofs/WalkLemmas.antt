@@ -6,10 +6,10 @@ use Rattle.std.specs.Map.{lookup}
 use Rattle.std.proofs.lemmas.List.{map-append}
 use Rattle.asp_model.specs.Intent.{StatusShape}
 use Rattle.future_table.specs.Values.{values_of}
-use Rattle.paths.specs.Places.{Place, side_of, found}
-use Rattle.paths.specs.Snapshots.{SnapshotShape}
-use Rattle.paths.specs.StateLines.{Path, Shown, same_place, is_compound, what_text, state_line, with_line, with_place, path_of, show_to, state_shown, state_lines}
-use Rattle.path_laws.proofs.StateLemmas.{place_tied, place_itself}
+use Rattle.def_paths.specs.Places.{Place, side_of, found}
+use Rattle.def_paths.specs.Snapshots.{SnapshotShape}
+use Rattle.def_paths.specs.StateLines.{Path, Shown, same_place, is_compound, what_text, state_line, with_line, with_place, path_of, show_to, state_shown, state_lines}
+use Rattle.law_paths.proofs.StateLemmas.{place_tied, place_itself}
 use Rattle.state_lines.specs.declared.state.State.{State}
 use Rattle.run_ends.specs.declared.entered.Spot.{Spot}
 use Rattle.run_ends.specs.declared.entered.Entered.{Entered}

@@ -3,8 +3,8 @@ use Rattle.std.specs.Prelude.{◌≡◌, ℕ, suc, List, [], ◌∷◌, ◌++◌
 use Rattle.std.specs.Fmt.{decimal}
 use Rattle.asp_model.specs.Names.{Text}
 use Rattle.asp_model.specs.Store.{CellShape, reached}
-use Rattle.paths.specs.Places.{Place}
-use Rattle.paths.specs.StateLines.{Path, shown_below}
+use Rattle.def_paths.specs.Places.{Place}
+use Rattle.def_paths.specs.StateLines.{Path, shown_below}
 use Rattle.state_lines.specs.declared.below.Due.{Due}
 use Rattle.state_lines.specs.declared.below.Parent.{Parent}
 use Rattle.run_ends.specs.Spots.{numbered_place, places_in, size_of}

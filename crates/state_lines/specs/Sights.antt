@@ -2,10 +2,10 @@
 use Rattle.std.specs.Prelude.{◌≡◌, Some}
 use Rattle.asp_model.specs.Shapes.{future_shape}
 use Rattle.asp_model.specs.Store.{CellShape, Number, Reference, Future, Group, cell}
-use Rattle.program_code.specs.Classes.{class_at}
-use Rattle.coded_cells.specs.declared.cells.Parcel.{Parcel}
-use Rattle.coded_cells.specs.Shapes.{class_object, parcel_shape}
-use Rattle.paths.specs.Places.{Place, Side, entered, read}
+use Rattle.code_table.specs.Classes.{class_at}
+use Rattle.code_table.specs.declared.cells.Parcel.{Parcel}
+use Rattle.code_table.specs.Shapes.{class_object, parcel_shape}
+use Rattle.def_paths.specs.Places.{Place, Side, entered, read}
 use Rattle.state_lines.specs.declared.seen.Seen.{Seen}
 use Rattle.state_lines.specs.declared.seen.Seen.TheVariants as seen
 use Rattle.state_lines.specs.declared.sights.Sight.{Sight}

@@ -1,11 +1,11 @@
 -- What a state stands for: what stays of an activity, with its status.
 use Rattle.std.specs.Prelude.{◌≡◌, reverse}
 use Rattle.asp_model.specs.Intent.{StatusShape}
-use Rattle.coded_cells.specs.Shapes.{store_of}
+use Rattle.code_table.specs.Shapes.{store_of}
 use Rattle.future_table.specs.Values.{values_of}
-use Rattle.machine_frames.specs.Standing.{Standing, view_of}
-use Rattle.paths.specs.Places.{Side, side_of}
-use Rattle.paths.specs.Snapshots.{SnapshotShape, result_in}
+use Rattle.step_machine.specs.Standing.{Standing, view_of}
+use Rattle.def_paths.specs.Places.{Side, side_of}
+use Rattle.def_paths.specs.Snapshots.{SnapshotShape, result_in}
 use Rattle.state_lines.specs.declared.state.State.{State}
 
 -- its store under its code, and its futures

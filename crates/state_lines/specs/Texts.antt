@@ -7,13 +7,13 @@ use Rattle.std.specs.List.{flat_map}
 use Rattle.asp_model.specs.Names.{Text}
 use Rattle.asp_model.specs.Chase.{Values, chase}
 use Rattle.asp_model.specs.Store.{CellShape}
-use Rattle.program_code.specs.declared.code.Class.{Class}
-use Rattle.program_code.specs.declared.code.MethodCode.{MethodCode}
-use Rattle.program_code.specs.declared.code.Node.{Node}
-use Rattle.program_code.specs.Classes.{class_at}
-use Rattle.program_code.specs.Tables.{text_of}
-use Rattle.coded_cells.specs.declared.cells.Object.{Object}
-use Rattle.paths.specs.Places.{name_by, told}
+use Rattle.code_table.specs.declared.code.Class.{Class}
+use Rattle.code_table.specs.declared.code.MethodCode.{MethodCode}
+use Rattle.code_table.specs.declared.code.Node.{Node}
+use Rattle.code_table.specs.Classes.{class_at}
+use Rattle.code_table.specs.Tables.{text_of}
+use Rattle.code_table.specs.declared.cells.Object.{Object}
+use Rattle.def_paths.specs.Places.{name_by, told}
 
 -- the text has these bytes more, at its end
 abbrev pub AddsText : String Global → String Global → List ℕ → Type 0

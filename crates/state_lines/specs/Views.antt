@@ -1,7 +1,7 @@
 -- Which activity of a whole outcome a state is.
 use Rattle.std.specs.Prelude.{◌≡◌, Option, Some, None}
 use Rattle.future_table.specs.Values.{values_of}
-use Rattle.paths.specs.Outcomes.{EndShape, WholeOutcome}
+use Rattle.def_paths.specs.Outcomes.{EndShape, WholeOutcome}
 use Rattle.state_lines.specs.declared.state.State.{State}
 use Rattle.state_lines.specs.States.{IsStateOf, IsTermOf}
 

@@ -1,8 +1,8 @@
 -- What is shown, and what is still to be shown.
 use Rattle.std.specs.Prelude.{◌≡◌, ℕ, zero, suc, List, [], ◌∷◌, ◌++◌, Option, Some, None, codes, length, map, reverse}
 use Rattle.std.specs.List.{AllByRecursion}
-use Rattle.paths.specs.Places.{Place, Side, found, children}
-use Rattle.paths.specs.StateLines.{Path, Shown, show_to, shown_below, state_shown}
+use Rattle.def_paths.specs.Places.{Place, Side, found, children}
+use Rattle.def_paths.specs.StateLines.{Path, Shown, show_to, shown_below, state_shown}
 use Rattle.state_lines.specs.declared.state.State.{State}
 use Rattle.run_ends.specs.declared.entered.Spot.{Spot}
 use Rattle.run_ends.specs.declared.entered.Entered.{Entered}

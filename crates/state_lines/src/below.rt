@@ -2,7 +2,7 @@
 //! others, the first one last.
 
 ghost use Rattle.std.specs.Prelude.{◌≤◌, ◌∷◌, [], OnOk, map};
-ghost use Rattle.program_code.specs.Tables.{text_of};
+ghost use Rattle.code_table.specs.Tables.{text_of};
 ghost use Rattle.state_lines.specs.Below.{
   Pushes,
   StaySpots,
@@ -17,7 +17,7 @@ ghost use Rattle.run_ends.specs.Spots.{IsNumbered, size_of};
 use crate::seen::Seen;
 use crate::texts::{field_path, member_path};
 use asp_model::{Label, Word};
-use coded_cells::Place;
+use code_table::Place;
 use run_ends::{Entered, Spot};
 use std::alloc::{AllocError, Global};
 

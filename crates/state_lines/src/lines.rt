@@ -4,9 +4,9 @@ ghost use Rattle.std.specs.Prelude.{◌≡◌, ◌++◌, ◌∷◌, [], IfOk, No
 ghost use Rattle.asp_model.specs.Intent.{StatusShape};
 ghost use Rattle.future_table.specs.Values.{values_of};
 ghost use Rattle.indexmap.specs.IndexMap.{get};
-ghost use Rattle.paths.specs.Places.{Side};
-ghost use Rattle.paths.specs.Snapshots.{SnapshotShape};
-ghost use Rattle.paths.specs.StateLines.{
+ghost use Rattle.def_paths.specs.Places.{Side};
+ghost use Rattle.def_paths.specs.Snapshots.{SnapshotShape};
+ghost use Rattle.def_paths.specs.StateLines.{
   is_compound,
   state_line,
   state_lines as lines_of_state,
@@ -41,7 +41,7 @@ use crate::sights::{Sight, look_at};
 use crate::state::State;
 use crate::texts::{line, same_line};
 use asp_model::Word;
-use coded_cells::Place;
+use code_table::Place;
 use future_table::FutureTable;
 use indexmap::IndexMap;
 use run_ends::{Entered, Spot};

@@ -2,14 +2,13 @@
 
 ghost use Rattle.std.specs.Prelude.{◌≡◌};
 ghost use Rattle.asp_model.specs.Store.{cell as cell_in};
-ghost use Rattle.coded_cells.specs.Shapes.{cell_shape, parcel_shape, store_of};
-ghost use Rattle.paths.specs.StateLines.{is_compound};
+ghost use Rattle.code_table.specs.Shapes.{cell_shape, parcel_shape, store_of};
+ghost use Rattle.def_paths.specs.StateLines.{is_compound};
 ghost use Rattle.state_lines.specs.Sights.{seen_shape};
 
 use asp_model::{ActivityName, FutureName};
-use coded_cells::{Cell, Object, Parcel, Place};
+use code_table::{Cell, Code, Object, Parcel, Place};
 use object_store::Store;
-use program_code::Code;
 
 /// A cell as it is read. Past the end of a store or a value the number 0 is read.
 #[derive(Clone, Copy)]

@@ -1,14 +1,14 @@
 //! What is read at a place: a future with a value is read as the value's root.
 
 ghost use Rattle.std.specs.Prelude.{◌≡◌};
-ghost use Rattle.paths.specs.Places.{Place as PlaceShape, entered_by, written};
+ghost use Rattle.def_paths.specs.Places.{Place as PlaceShape, entered_by, written};
 ghost use Rattle.state_lines.specs.Sights.{IsRootOf, Sees, seen_shape};
 ghost use Rattle.state_lines.specs.States.{side_in};
 ghost use Rattle.run_ends.specs.Reads.{IsAt, seen_value};
 
 use crate::seen::{Seen, in_store, in_value};
 use crate::state::State;
-use coded_cells::Parcel;
+use code_table::Parcel;
 use run_ends::{At, value_of};
 
 /// What is read at a place, and the value that is entered there.

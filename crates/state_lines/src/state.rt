@@ -1,10 +1,9 @@
 //! The state of an activity.
 
-use coded_cells::Place;
+use code_table::{Code, Place};
 use future_table::FutureTable;
-use machine_frames::Machine;
 use object_store::Store;
-use program_code::Code;
+use step_machine::Machine;
 
 /// What is read of an activity.
 #[derive(Clone, Copy)]

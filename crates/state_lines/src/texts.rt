@@ -3,8 +3,8 @@
 ghost use Rattle.std.specs.Prelude.{◌≡◌, ◌++◌, ◌∷◌, [], IfOk, OnOk, codes, map, string_bytes};
 ghost use Rattle.std.specs.Fmt.{decimal};
 ghost use Rattle.future_table.specs.Values.{values_of};
-ghost use Rattle.paths.specs.StateLines.{state_line, what_text};
-ghost use Rattle.program_code.specs.Tables.{text_of};
+ghost use Rattle.def_paths.specs.StateLines.{state_line, what_text};
+ghost use Rattle.code_table.specs.Tables.{text_of};
 ghost use Rattle.state_lines.specs.Sights.{seen_shape};
 ghost use Rattle.state_lines.specs.Texts.{
   AddsText,
@@ -18,9 +18,8 @@ ghost use Rattle.state_lines.specs.Texts.{
 use crate::names::{push_future, push_name};
 use crate::seen::Seen;
 use asp_model::{Label, Word};
-use coded_cells::Object;
+use code_table::{Class, Code, MethodCode, Object};
 use future_table::FutureTable;
-use program_code::{Class, Code, MethodCode};
 use run_ends::awaited;
 use std::alloc::{AllocError, Global};
 

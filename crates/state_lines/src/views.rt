@@ -3,14 +3,14 @@
 ghost use Rattle.std.specs.Prelude.{◌≡◌, slice_get};
 ghost use Rattle.asp_model.specs.Shapes.{status_shape};
 ghost use Rattle.future_table.specs.Values.{values_of};
-ghost use Rattle.paths.specs.Outcomes.{EndShape, WholeOutcome};
+ghost use Rattle.def_paths.specs.Outcomes.{EndShape, WholeOutcome};
 ghost use Rattle.run_ends.specs.Ends.{IsEndOf, IsSnapshotOf};
 ghost use Rattle.state_lines.specs.Views.{IsSeen, IsSeenAs};
 
 use crate::state::State;
 use asp_model::Status;
+use code_table::Code;
 use future_table::FutureTable;
-use program_code::Code;
 use run_ends::{EndState, RunEnd};
 
 // What is read of an activity that ended with this status.

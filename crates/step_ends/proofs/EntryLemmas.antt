@@ -11,8 +11,8 @@ use Rattle.std.specs.Ordering.{is_eq, is_lt}
 use Rattle.std.specs.declared.cmp.Ordering.{Ordering}
 use Rattle.std.specs.declared.cmp.Ordering.TheVariants.{Less, Equal, Greater}
 use Rattle.asp_model.specs.Names.{Name, name_cmp}
-use Rattle.laws.proofs.EntryLemmas.{first_of_both, second_of_both}
-use Rattle.laws.proofs.NameLemmas.{name_total, names_apart}
+use Rattle.law_steps.proofs.EntryLemmas.{first_of_both, second_of_both}
+use Rattle.law_steps.proofs.NameLemmas.{name_total, names_apart}
 
 both_hold : (a b : Bool) → T a → T b → T (a && b)
 both_hold true b h k = k

@@ -22,24 +22,24 @@ use Rattle.asp_model.specs.Status.{status_of, status_of_intent, statuses_of, ver
 use Rattle.asp_model.specs.Outcome.{ActivityReportShape, activity_report, outcome_of}
 use Rattle.asp_model.specs.Shapes.{activity_shape, status_shape}
 use Rattle.asp_model.specs.Term.{Tree}
-use Rattle.coded_cells.specs.declared.cells.Parcel.{Parcel}
+use Rattle.code_table.specs.declared.cells.Parcel.{Parcel}
 use Rattle.future_table.specs.Values.{values_of}
-use Rattle.program_code.specs.declared.code.Node.{Node}
-use Rattle.paths.specs.Snapshots.{snapshot_of}
-use Rattle.paths.specs.Outcomes.{EndShape, end_of, whole_outcome_of, reported}
+use Rattle.code_table.specs.declared.code.Node.{Node}
+use Rattle.def_paths.specs.Snapshots.{snapshot_of}
+use Rattle.def_paths.specs.Outcomes.{EndShape, end_of, whole_outcome_of, reported}
 use Rattle.run_ends.specs.declared.ends.EndState.{EndState}
 use Rattle.run_ends.specs.Ends.{AreSnapshotsOf, IsSnapshotOf}
-use Rattle.laws.specs.Reached.{IsAt, IsThere}
-use Rattle.laws.specs.Closed.{IsClosed}
-use Rattle.laws.proofs.ClosedLaws.{reached_are_closed}
-use Rattle.laws.proofs.EntryLemmas.{In, entry_found, first_of_both, second_of_both}
-use Rattle.laws.proofs.NameLemmas.{name_total, name_case}
-use Rattle.chase_laws.proofs.FutureLemmas.{no_some, true_false}
-use Rattle.laws.proofs.NamesLaws.{entries_ascend}
-use Rattle.laws.proofs.WholeLemmas.{reached_are_sound}
-use Rattle.operand_reads.specs.Values.{AreClosedValues}
-use Rattle.actor.specs.declared.actor.Actor.{Actor}
-use Rattle.actor.specs.Actors.{Stands, code_of}
+use Rattle.law_steps.specs.Reached.{IsAt, IsThere}
+use Rattle.law_steps.specs.Closed.{IsClosed}
+use Rattle.law_steps.proofs.ClosedLaws.{reached_are_closed}
+use Rattle.law_steps.proofs.EntryLemmas.{In, entry_found, first_of_both, second_of_both}
+use Rattle.law_steps.proofs.NameLemmas.{name_total, name_case}
+use Rattle.law_chases.proofs.FutureLemmas.{no_some, true_false}
+use Rattle.law_steps.proofs.NamesLaws.{entries_ascend}
+use Rattle.law_steps.proofs.WholeLemmas.{reached_are_sound}
+use Rattle.step_reads.specs.Values.{AreClosedValues}
+use Rattle.step_activity.specs.declared.actor.Actor.{Actor}
+use Rattle.step_activity.specs.Actors.{Stands, code_of}
 use Rattle.step_ends.specs.Activities.{StandForReached, StandsAt, actor_at}
 use Rattle.step_ends.specs.Ends.{AreClosedStates, AreEndsBy, AreEndsFor, IsEndBy, IsEndFor, end_with}
 use Rattle.step_ends.proofs.EntryLemmas.{absent_below, absent_less, find_head, find_skip, lookup_find, sorted_by}

@@ -10,12 +10,12 @@ use Rattle.asp_model.specs.Names.{Name, name_cmp}
 use Rattle.asp_model.specs.Term.{Tree, locations}
 use Rattle.asp_model.specs.Configuration as model
 use Rattle.asp_model.specs.Configuration.{Configuration, RequestShape, requests_of}
-use Rattle.coded_cells.specs.declared.cells.Parcel.{Parcel}
-use Rattle.program_code.specs.declared.code.Node.{Node}
+use Rattle.code_table.specs.declared.cells.Parcel.{Parcel}
+use Rattle.code_table.specs.declared.code.Node.{Node}
 use Rattle.future_table.specs.Values.{AreOfCode, values_of}
-use Rattle.laws.specs.Reached.{IsReached}
-use Rattle.actor.specs.declared.actor.Actor.{Actor}
-use Rattle.actor.specs.Actors.{Stands, code_of}
+use Rattle.law_steps.specs.Reached.{IsReached}
+use Rattle.step_activity.specs.declared.actor.Actor.{Actor}
+use Rattle.step_activity.specs.Actors.{Stands, code_of}
 
 abbrev pub actor_at : List (Name × Box Actor) → Name → Option Actor
 actor_at xs n = option_map (λ b. b.value) (lookup (is_at (name_cmp n)) xs)

@@ -10,13 +10,13 @@ use Rattle.asp_model.specs.Configuration.{RequestShape}
 use Rattle.asp_model.specs.Intent.{intent}
 use Rattle.asp_model.specs.Status.{status_of_intent}
 use Rattle.asp_model.specs.Shapes.{activity_shape}
-use Rattle.program_code.specs.declared.code.Node.{Node}
-use Rattle.paths.specs.Snapshots.{snapshot_of}
-use Rattle.paths.specs.Outcomes.{EndShape}
+use Rattle.code_table.specs.declared.code.Node.{Node}
+use Rattle.def_paths.specs.Snapshots.{snapshot_of}
+use Rattle.def_paths.specs.Outcomes.{EndShape}
 use Rattle.run_ends.specs.declared.ends.EndState.{EndState}
 use Rattle.run_ends.specs.Ends.{AreSnapshotsOf, IsSnapshotOf}
-use Rattle.actor.specs.declared.actor.Actor.{Actor}
-use Rattle.actor.specs.Actors.{IsClosedFor, Stands, code_of}
+use Rattle.step_activity.specs.declared.actor.Actor.{Actor}
+use Rattle.step_activity.specs.Actors.{IsClosedFor, Stands, code_of}
 
 -- the end of an activity that received these requests
 abbrev pub end_with : Values → Name → model.Activity → List RequestShape → EndShape

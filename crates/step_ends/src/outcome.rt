@@ -18,22 +18,22 @@ ghost use Rattle.asp_model.specs.Status.{
 ghost use Rattle.asp_model.specs.Outcome.{outcome_of as outcome_shown};
 ghost use Rattle.asp_model.specs.Shapes.{outcome_shape, status_shape, verdict_shape};
 ghost use Rattle.future_table.specs.Values.{values_of};
-ghost use Rattle.operand_reads.specs.Values.{AreClosedValues};
-ghost use Rattle.actor.specs.Actors.{IsClosedFor, Stands, code_of};
-ghost use Rattle.paths.specs.Outcomes.{EndShape, whole_outcome_of};
-ghost use Rattle.program_code.specs.declared.code.Node.{Node as NodeShape};
+ghost use Rattle.step_reads.specs.Values.{AreClosedValues};
+ghost use Rattle.step_activity.specs.Actors.{IsClosedFor, Stands, code_of};
+ghost use Rattle.def_paths.specs.Outcomes.{EndShape, whole_outcome_of};
+ghost use Rattle.code_table.specs.declared.code.Node.{Node as NodeShape};
 ghost use Rattle.run_ends.specs.Ends.{IsEndOf};
 ghost use Rattle.step_ends.specs.Activities.{RunCode, StandForReached, StandForSome};
 ghost use Rattle.step_ends.specs.Ends.{AreClosedStates, AreEndsBy, AreEndsFor, IsEndBy, end_with};
 
-use actor::{Actor, Outlook};
 use asp_model::{ActivityName, ActivityReport, Outcome, Status, Verdict};
+use code_table::Code;
 use future_table::FutureTable;
-use program_code::Code;
 use run_ends::{EndState, RunEnd};
 use std::alloc::{AllocError, Global};
 use std::collections::BTreeMap;
 use std::sync::Arc;
+use step_activity::{Actor, Outlook};
 
 /// The status of an activity that has settled.
 fn status_of(alloc: Global, actor: &Actor, futures: &FutureTable) -> Result<Status, AllocError>

@@ -5,30 +5,30 @@ use Rattle.std.specs.declared.boxed.Box.{Box}
 use Rattle.asp_model.specs.Names.{Text}
 use Rattle.asp_model.specs.declared.term.Term.{Term}
 use Rattle.asp_model.specs.declared.word.Label.{Label}
-use Rattle.asp_tokens.specs.declared.token.Token.{Token}
-use Rattle.asp_tokens.specs.declared.token.Token.TheVariants as tokens
+use Rattle.syntax_tokens.specs.declared.token.Token.{Token}
+use Rattle.syntax_tokens.specs.declared.token.Token.TheVariants as tokens
 use Rattle.asp_model.specs.Shapes.{marked_of}
-use Rattle.asp_grammar.specs.Nodes.{PartShape, part, let_at}
-use Rattle.asp_grammar.specs.States.{TargetShape, Top, InList, OpenShape, OperandShape, StateShape, At, fresh, operand_part, value}
-use Rattle.asp_grammar.specs.Closings.{finished, finish, over, ended, close, close_brace, close_square, comma, bound, opened}
-use Rattle.asp_grammar.specs.Changes.{ChangeShape, Goes, begin, operand, changed}
-use Rattle.asp_grammar.specs.Machine.{behind, listing, have, stepped}
-use Rattle.open_terms.specs.declared.open.Open.{Open}
-use Rattle.open_terms.specs.declared.open.Part.{Part}
-use Rattle.open_terms.specs.declared.open.Binding.{Binding}
-use Rattle.open_terms.specs.declared.open.Kind.{Kind}
-use Rattle.open_terms.specs.declared.open.Kind.TheVariants as K
-use Rattle.open_terms.specs.declared.open.Target.{Target}
-use Rattle.open_terms.specs.declared.open.Listing.{Listing}
-use Rattle.open_terms.specs.declared.open.Scatter.{Scatter}
-use Rattle.open_terms.specs.declared.open.Choice.{Choice}
-use Rattle.open_terms.specs.declared.open.Object.{Object}
-use Rattle.open_terms.specs.declared.open.Head as declared_head
-use Rattle.open_terms.specs.declared.open.Wrap.{Wrap}
-use Rattle.open_terms.specs.declared.stop.Stop.{Stop}
-use Rattle.open_terms.specs.declared.stop.Stop.TheVariants as stop
-use Rattle.open_terms.proofs.Stacks.{stack_more}
-use Rattle.open_terms.specs.Shapes.{part_shape, kind_shape, open_shape, stack}
+use Rattle.syntax_grammar.specs.Nodes.{PartShape, part, let_at}
+use Rattle.syntax_grammar.specs.States.{TargetShape, Top, InList, OpenShape, OperandShape, StateShape, At, fresh, operand_part, value}
+use Rattle.syntax_grammar.specs.Closings.{finished, finish, over, ended, close, close_brace, close_square, comma, bound, opened}
+use Rattle.syntax_grammar.specs.Changes.{ChangeShape, Goes, begin, operand, changed}
+use Rattle.syntax_grammar.specs.Machine.{behind, listing, have, stepped}
+use Rattle.syntax_terms.specs.declared.open.Open.{Open}
+use Rattle.syntax_terms.specs.declared.open.Part.{Part}
+use Rattle.syntax_terms.specs.declared.open.Binding.{Binding}
+use Rattle.syntax_terms.specs.declared.open.Kind.{Kind}
+use Rattle.syntax_terms.specs.declared.open.Kind.TheVariants as K
+use Rattle.syntax_terms.specs.declared.open.Target.{Target}
+use Rattle.syntax_terms.specs.declared.open.Listing.{Listing}
+use Rattle.syntax_terms.specs.declared.open.Scatter.{Scatter}
+use Rattle.syntax_terms.specs.declared.open.Choice.{Choice}
+use Rattle.syntax_terms.specs.declared.open.Object.{Object}
+use Rattle.syntax_terms.specs.declared.open.Head as declared_head
+use Rattle.syntax_terms.specs.declared.open.Wrap.{Wrap}
+use Rattle.syntax_terms.specs.declared.stop.Stop.{Stop}
+use Rattle.syntax_terms.specs.declared.stop.Stop.TheVariants as stop
+use Rattle.syntax_terms.proofs.Stacks.{stack_more}
+use Rattle.syntax_terms.specs.Shapes.{part_shape, kind_shape, open_shape, stack}
 use Rattle.syntax_states.specs.declared.state.Mode.{Mode}
 use Rattle.syntax_states.specs.declared.state.Mode.TheVariants as M
 use Rattle.syntax_states.specs.declared.state.Operand.{Operand}

@@ -4,16 +4,16 @@ use Rattle.asp_model.specs.Names.{Text}
 use Rattle.asp_model.specs.Term.{MethodHead}
 use Rattle.asp_model.specs.Marked.{Marked}
 use Rattle.asp_model.specs.declared.word.Label.{Label}
-use Rattle.open_terms.specs.declared.open.Kind.{Kind}
-use Rattle.open_terms.specs.declared.open.Kind.TheVariants as K
-use Rattle.open_terms.specs.declared.open.Object.{Object}
-use Rattle.open_terms.specs.Shapes.{kind_shape}
-use Rattle.asp_tokens.specs.declared.token.Token.{Token}
-use Rattle.asp_tokens.specs.declared.token.Token.TheVariants as tokens
-use Rattle.asp_grammar.specs.Nodes.{PartShape, ObjectShape, LabelsShape}
-use Rattle.asp_grammar.specs.States.{TargetShape, KindShape, InList, OpenShape, OperandShape, ByRound, ByBrace, ByEquals, ByComma, At, Begin, fresh, operand_part, with_next, without_puts}
-use Rattle.asp_grammar.specs.Changes.{changed, operand, begin, opening, dotted, let_named, else_came, echo_opened, echo_read, echo_closed, field_named, object_begun, method_named, method_opened, self_named, head_goes_on, parameter_named, service_named, service_closed, group_opened, scatter_named, serve_opened, serve_begun, label_named, labels_go_on}
-use Rattle.asp_grammar.specs.Machine.{next_term, behind, have, listing}
+use Rattle.syntax_terms.specs.declared.open.Kind.{Kind}
+use Rattle.syntax_terms.specs.declared.open.Kind.TheVariants as K
+use Rattle.syntax_terms.specs.declared.open.Object.{Object}
+use Rattle.syntax_terms.specs.Shapes.{kind_shape}
+use Rattle.syntax_tokens.specs.declared.token.Token.{Token}
+use Rattle.syntax_tokens.specs.declared.token.Token.TheVariants as tokens
+use Rattle.syntax_grammar.specs.Nodes.{PartShape, ObjectShape, LabelsShape}
+use Rattle.syntax_grammar.specs.States.{TargetShape, KindShape, InList, OpenShape, OperandShape, ByRound, ByBrace, ByEquals, ByComma, At, Begin, fresh, operand_part, with_next, without_puts}
+use Rattle.syntax_grammar.specs.Changes.{changed, operand, begin, opening, dotted, let_named, else_came, echo_opened, echo_read, echo_closed, field_named, object_begun, method_named, method_opened, self_named, head_goes_on, parameter_named, service_named, service_closed, group_opened, scatter_named, serve_opened, serve_begun, label_named, labels_go_on}
+use Rattle.syntax_grammar.specs.Machine.{next_term, behind, have, listing}
 
 pub have_other : (rule : Bool) (x : OperandShape) (s : OpenShape) (o : List OpenShape) (t : Token) → t ≢ tokens.Open → have rule x s o t ≡ behind rule (operand_part x) s o t
 have_other rule x s o tokens.Open h = absurd (h refl)

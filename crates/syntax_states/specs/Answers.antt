@@ -4,17 +4,17 @@ use Rattle.std.specs.declared.alloc.Global.{Global}
 use Rattle.std.specs.declared.boxed.Box.{Box}
 use Rattle.asp_model.specs.declared.term.Term.{Term}
 use Rattle.asp_model.specs.Shapes.{marked_of}
-use Rattle.asp_tokens.specs.declared.token.Token.{Token}
-use Rattle.asp_tokens.specs.declared.token.Token.TheVariants as tokens
-use Rattle.asp_grammar.specs.Nodes.{PartShape}
-use Rattle.asp_grammar.specs.States.{KindShape, OpenShape, ModeShape, Begin, Want, Opening, StateShape, Done}
-use Rattle.asp_grammar.specs.Closings.{FinishedShape, finished, finish, ClosingShape, Back, Again}
-use Rattle.asp_grammar.specs.Changes.{ChangeShape, Goes, Opens, operand, opening}
-use Rattle.asp_grammar.specs.Machine.{change_of, behind}
-use Rattle.open_terms.specs.declared.open.Kind.{Kind}
-use Rattle.open_terms.specs.declared.stop.Stop.{Stop}
-use Rattle.open_terms.specs.declared.stop.Stop.TheVariants as stop
-use Rattle.open_terms.specs.Shapes.{part_shape, kind_shape, open_shape, stack}
+use Rattle.syntax_tokens.specs.declared.token.Token.{Token}
+use Rattle.syntax_tokens.specs.declared.token.Token.TheVariants as tokens
+use Rattle.syntax_grammar.specs.Nodes.{PartShape}
+use Rattle.syntax_grammar.specs.States.{KindShape, OpenShape, ModeShape, Begin, Want, Opening, StateShape, Done}
+use Rattle.syntax_grammar.specs.Closings.{FinishedShape, finished, finish, ClosingShape, Back, Again}
+use Rattle.syntax_grammar.specs.Changes.{ChangeShape, Goes, Opens, operand, opening}
+use Rattle.syntax_grammar.specs.Machine.{change_of, behind}
+use Rattle.syntax_terms.specs.declared.open.Kind.{Kind}
+use Rattle.syntax_terms.specs.declared.stop.Stop.{Stop}
+use Rattle.syntax_terms.specs.declared.stop.Stop.TheVariants as stop
+use Rattle.syntax_terms.specs.Shapes.{part_shape, kind_shape, open_shape, stack}
 use Rattle.syntax_states.specs.declared.state.Mode.{Mode}
 use Rattle.syntax_states.specs.declared.state.Opener.{Opener}
 use Rattle.syntax_states.specs.declared.state.State.{State}

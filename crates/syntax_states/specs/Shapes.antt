@@ -1,8 +1,8 @@
 -- What the functions of the machine see of its states.
-use Rattle.open_terms.specs.Shapes.{part_shape, target_shape, kind_shape, open_shape, stack, labels_shape, object_shape, head_shape}
+use Rattle.syntax_terms.specs.Shapes.{part_shape, target_shape, kind_shape, open_shape, stack, labels_shape, object_shape, head_shape}
 use Rattle.asp_model.specs.Shapes.{marked_of}
-use Rattle.asp_grammar.specs.States.{OperandShape, OpenerShape, ModeShape, StateShape}
-use Rattle.asp_grammar.specs.States as states
+use Rattle.syntax_grammar.specs.States.{OperandShape, OpenerShape, ModeShape, StateShape}
+use Rattle.syntax_grammar.specs.States as states
 use Rattle.syntax_states.specs.declared.state.Operand.{Operand}
 use Rattle.syntax_states.specs.declared.state.Operand.TheVariants as operand
 use Rattle.syntax_states.specs.declared.state.Opener.{Opener}

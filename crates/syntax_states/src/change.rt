@@ -2,9 +2,9 @@
 
 ghost use Rattle.std.specs.Prelude.{◌≡◌};
 ghost use Rattle.asp_model.specs.Shapes.{marked_of};
-ghost use Rattle.asp_grammar.specs.States as states;
-ghost use Rattle.asp_grammar.specs.Changes.{dotted as dotted_change, let_named as let_change, else_came as else_change, echo_opened as echo_open_change, echo_read as echo_read_change, echo_closed as echo_close_change, group_opened as group_change, scatter_named as scatter_change, service_named as service_change, service_closed as closed_change, serve_opened as opened_change, serve_begun as begun_change, label_named as label_change, labels_go_on as labels_change};
-ghost use Rattle.open_terms.specs.Shapes.{part_shape, labels_shape};
+ghost use Rattle.syntax_grammar.specs.States as states;
+ghost use Rattle.syntax_grammar.specs.Changes.{dotted as dotted_change, let_named as let_change, else_came as else_change, echo_opened as echo_open_change, echo_read as echo_read_change, echo_closed as echo_close_change, group_opened as group_change, scatter_named as scatter_change, service_named as service_change, service_closed as closed_change, serve_opened as opened_change, serve_begun as begun_change, label_named as label_change, labels_go_on as labels_change};
+ghost use Rattle.syntax_terms.specs.Shapes.{part_shape, labels_shape};
 ghost use Rattle.syntax_states.specs.Shapes.{mode_shape};
 ghost use Rattle.syntax_states.specs.Answers.{Becomes, plain_change};
 
@@ -14,12 +14,12 @@ use crate::object::{
 };
 use crate::state::{Mode, Opener, Operand};
 use asp_model::{Label, Term, Word};
-use asp_tokens::Token;
-use open_terms::{
+use std::alloc::Global;
+use syntax_terms::{
     Choice, Field, Kind, Labels, Part, Scatter, Service, Stop, Target, active_with, echo,
     new_labels, refused, served, stopped, with_label,
 };
-use std::alloc::Global;
+use syntax_tokens::Token;
 
 /// A token in a mode that opens nothing, in which no operand was read, and no call begun.
 pub fn change(alloc: Global, mode: Mode, token: Token, at: usize) -> Result<Mode, Stop>

@@ -2,26 +2,26 @@
 
 ghost use Rattle.std.specs.Prelude.{◌≡◌, ◌≤◌, IfOk, OnOk};
 ghost use Rattle.asp_model.specs.declared.limits.TheConstants.{MOST_LEVEL};
-ghost use Rattle.asp_grammar.specs.Closings.{concluded, close as close_kind, close_brace as brace_kind, close_square as square_kind, comma as comma_kind, bound as bound_kind, ended as ended_state};
-ghost use Rattle.asp_grammar.specs.Machine.{next_term as next_state};
-ghost use Rattle.asp_grammar.specs.States.{term_in as term_of, with_next};
-ghost use Rattle.asp_grammar.specs.States as states;
-ghost use Rattle.asp_grammar.specs.Depth.{parentheses_of};
+ghost use Rattle.syntax_grammar.specs.Closings.{concluded, close as close_kind, close_brace as brace_kind, close_square as square_kind, comma as comma_kind, bound as bound_kind, ended as ended_state};
+ghost use Rattle.syntax_grammar.specs.Machine.{next_term as next_state};
+ghost use Rattle.syntax_grammar.specs.States.{term_in as term_of, with_next};
+ghost use Rattle.syntax_grammar.specs.States as states;
+ghost use Rattle.syntax_grammar.specs.Depth.{parentheses_of};
 ghost use Rattle.asp_model.specs.Shapes.{marked_of};
-ghost use Rattle.open_terms.specs.Shapes.{part_shape, kind_shape, open_shape, object_shape, stack};
+ghost use Rattle.syntax_terms.specs.Shapes.{part_shape, kind_shape, open_shape, object_shape, stack};
 ghost use Rattle.syntax_states.specs.Shapes.{state_shape};
 ghost use Rattle.syntax_states.specs.Answers.{Leaves, Backs, Agains, Closes, Ends, finish_in, finished_in, closing_shape};
 
 use crate::change::plain;
 use crate::state::{Mode, Opener, State, again, back, enter};
 use asp_model::{Label, Term};
-use open_terms::{
+use std::alloc::{AllocError, Global};
+use std::mem;
+use syntax_terms::{
     Binding, Choice, Kind, Listing, Object, Open, Part, Scatter, Stop, active, binding, choice,
     enclose, first_start, listed, made, member, refused, scatter, stopped, term_in, value_of,
     with_field, with_method, with_term, wrapped,
 };
-use std::alloc::{AllocError, Global};
-use std::mem;
 
 /// A sequence that is over, and what it stands in.
 #[derive(Drop)]

@@ -3,14 +3,14 @@
 ghost use Rattle.std.specs.Prelude.{◌≡◌, ◌≤◌, IfOk, true, false};
 ghost use Rattle.asp_model.specs.declared.limits.TheConstants.{MOST_LEVEL};
 ghost use Rattle.asp_model.specs.Shapes.{sign_shape};
-ghost use Rattle.asp_tokens.specs.Tokens.{lexeme};
-ghost use Rattle.asp_grammar.specs.Nodes.{is_get};
-ghost use Rattle.asp_grammar.specs.States.{operand_part as part_of, test_in as test_of};
-ghost use Rattle.asp_grammar.specs.States as states;
-ghost use Rattle.asp_grammar.specs.Depth.{parentheses_of, parentheses_in};
-ghost use Rattle.asp_grammar.specs.Changes.{changed, call_begun as call_change, begin as begin_change, operand as operand_change, opening as opening_change};
-ghost use Rattle.asp_grammar.specs.Machine.{listing as list_state, have as have_state, behind as behind_state, step as step_state, times as times_state, plus as plus_state, test_behind as test_state, assign as assign_state};
-ghost use Rattle.open_terms.specs.Shapes.{part_shape, target_shape, kind_shape, open_shape, stack};
+ghost use Rattle.syntax_tokens.specs.Tokens.{lexeme};
+ghost use Rattle.syntax_grammar.specs.Nodes.{is_get};
+ghost use Rattle.syntax_grammar.specs.States.{operand_part as part_of, test_in as test_of};
+ghost use Rattle.syntax_grammar.specs.States as states;
+ghost use Rattle.syntax_grammar.specs.Depth.{parentheses_of, parentheses_in};
+ghost use Rattle.syntax_grammar.specs.Changes.{changed, call_begun as call_change, begin as begin_change, operand as operand_change, opening as opening_change};
+ghost use Rattle.syntax_grammar.specs.Machine.{listing as list_state, have as have_state, behind as behind_state, step as step_state, times as times_state, plus as plus_state, test_behind as test_state, assign as assign_state};
+ghost use Rattle.syntax_terms.specs.Shapes.{part_shape, target_shape, kind_shape, open_shape, stack};
 ghost use Rattle.syntax_states.specs.Shapes.{operand_shape, opener_shape, mode_shape, state_shape};
 ghost use Rattle.syntax_states.specs.Answers.{Becomes, Leaves, Follows, Steps, IsOpener, plain_operand, plain_behind};
 
@@ -18,13 +18,13 @@ use crate::change::{change, plain};
 use crate::closing::{bound, close, close_brace, close_square, comma, ended, next_term};
 use crate::state::{Mode, Opener, Operand, State, enter, open};
 use asp_model::{Sign, Term};
-use asp_tokens::Token;
-use open_terms::{
+use std::alloc::{AllocError, Global};
+use std::mem;
+use syntax_terms::{
     Kind, Listing, Part, Stop, Target, Wrap, add, assign, compare, got, listed, multiply,
     new_object, number, refused, stopped, variable,
 };
-use std::alloc::{AllocError, Global};
-use std::mem;
+use syntax_tokens::Token;
 
 /// The state one token on, or the term that the end leaves.
 #[tactic(auto, using(crate::proofs::Others::mode_other, crate::proofs::Others::step_err, crate::proofs::Others::leaves_err))]

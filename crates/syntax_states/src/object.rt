@@ -1,20 +1,20 @@
 //! Modes in objects, field by field and method by method.
 
 ghost use Rattle.std.specs.Prelude.{◌≡◌, OnOk};
-ghost use Rattle.asp_grammar.specs.Nodes.{with_parameter as one_parameter};
-ghost use Rattle.asp_grammar.specs.States.{with_name as one_name};
-ghost use Rattle.asp_grammar.specs.Changes.{object_begun as begun_change, field_named as field_change, method_named as method_change, method_opened as opened_change, self_named as self_change, head_goes_on as head_change, parameter_named as parameter_change};
-ghost use Rattle.open_terms.specs.Shapes.{object_shape, head_shape};
+ghost use Rattle.syntax_grammar.specs.Nodes.{with_parameter as one_parameter};
+ghost use Rattle.syntax_grammar.specs.States.{with_name as one_name};
+ghost use Rattle.syntax_grammar.specs.Changes.{object_begun as begun_change, field_named as field_change, method_named as method_change, method_opened as opened_change, self_named as self_change, head_goes_on as head_change, parameter_named as parameter_change};
+ghost use Rattle.syntax_terms.specs.Shapes.{object_shape, head_shape};
 ghost use Rattle.syntax_states.specs.Answers.{Becomes};
 
 use crate::change::plain;
 use crate::state::{Mode, Opener};
 use asp_model::{Label, Word};
-use asp_tokens::Token;
-use open_terms::{
+use std::alloc::{AllocError, Global};
+use syntax_terms::{
     Head, Kind, Object, Stop, made, new_head, refused, stopped, with_name, with_parameter,
 };
-use std::alloc::{AllocError, Global};
+use syntax_tokens::Token;
 
 /// The first token in an object.
 #[tactic(auto, using(crate::proofs::Refused::object_other))]

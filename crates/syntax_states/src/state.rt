@@ -1,20 +1,20 @@
 //! What the tokens so far have begun. Nothing recurses: what is open stands in a list.
 
 ghost use Rattle.std.specs.Prelude.{◌≡◌, ◌∷◌, OnOk, Some};
-ghost use Rattle.asp_grammar.specs.States.{has_terms as has, fresh as fresh_open};
-ghost use Rattle.asp_grammar.specs.States as states;
-ghost use Rattle.asp_grammar.specs.Closings.{first_mode as mode_of, opened as opened_state, back as back_state};
-ghost use Rattle.asp_grammar.specs.Machine.{start};
-ghost use Rattle.open_terms.specs.Shapes.{kind_shape, open_shape, stack};
+ghost use Rattle.syntax_grammar.specs.States.{has_terms as has, fresh as fresh_open};
+ghost use Rattle.syntax_grammar.specs.States as states;
+ghost use Rattle.syntax_grammar.specs.Closings.{first_mode as mode_of, opened as opened_state, back as back_state};
+ghost use Rattle.syntax_grammar.specs.Machine.{start};
+ghost use Rattle.syntax_terms.specs.Shapes.{kind_shape, open_shape, stack};
 ghost use Rattle.syntax_states.specs.Shapes.{mode_shape, state_shape};
 ghost use Rattle.syntax_states.specs.Answers.{Leaves};
 
 use asp_model::{Label, Term, Word};
-use open_terms::{
-    Choice, Field, Head, Kind, Labels, Object, Open, Part, Service, Stop, Target, fresh, refused,
-};
 use std::alloc::{AllocError, Global};
 use std::mem;
+use syntax_terms::{
+    Choice, Field, Head, Kind, Labels, Object, Open, Part, Service, Stop, Target, fresh, refused,
+};
 
 /// An operand. A bracket behind a field access makes it a call.
 #[derive(Drop)]

@@ -5,12 +5,12 @@ ghost use Rattle.asp_model.specs.declared.limits.TheConstants.{MOST_WORKERS};
 
 use crate::count::Count;
 use crate::turns::{Kind, Turns};
+use race_trials::race;
 use std::alloc::{AllocError, Global};
 use std::sync::{Mutex, Wait};
 use std::thread;
 use std::thread::Threads;
 use std::time::Clock;
-use turn_race::race;
 
 fn by_mutex<R: Threads + Wait + Sync>(
     rt: &R,

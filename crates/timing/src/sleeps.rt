@@ -1,6 +1,6 @@
 //! Seats that sleep while the first does nothing for a while: for the turn, or for work.
 
-ghost use Rattle.turn_race.specs.Ready.{IsReady};
+ghost use Rattle.race_trials.specs.Ready.{IsReady};
 
 use crate::count::Count;
 use std::sync::Wait;

@@ -1,14 +1,14 @@
 //! Turns of one seat, and of one thread that takes a `Mutex`.
 
-ghost use Rattle.turn_race.specs.Ready.{IsReady};
+ghost use Rattle.race_trials.specs.Ready.{IsReady};
 
 use crate::count::Count;
 use crate::sleeps::{hold, nap, rest_until_first};
+use race_trials::Work;
 use std::hint;
 use std::sync::{Mutex, Wait};
 use std::time::Clock;
 use turn_hub::{Hub, Seat};
-use turn_race::Work;
 
 /// What the threads do.
 #[derive(Clone, Copy)]

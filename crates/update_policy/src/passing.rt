@@ -4,7 +4,7 @@ ghost use Rattle.std.specs.Prelude.{◌≡◌, List, false};
 ghost use Rattle.asp_model.specs.History.{Forward};
 ghost use Rattle.asp_model.specs.Names.{same_name};
 ghost use Rattle.asp_model.specs.Shapes.{choice_shape};
-ghost use Rattle.journals.specs.Edges.{
+ghost use Rattle.def_journals.specs.Edges.{
   EdgeShape,
   HoldersShape,
   has_edge,

@@ -8,12 +8,12 @@ use Rattle.asp_model.specs.Parcel.{ParcelShape, unpack_at}
 use Rattle.asp_model.specs.Chase.{Values, Chase, Value, Unfilled, Cycle, chase}
 use Rattle.asp_model.specs.Intent.{Reads, Lacks, fetched, operand_ready}
 use Rattle.asp_model.specs.Intent as intent
-use Rattle.program_code.specs.declared.code.Node.{Node}
-use Rattle.coded_cells.specs.Cells.{CodedCell, CodedStore, cell_at}
-use Rattle.coded_cells.specs.Shapes.{cell_of, store_of}
-use Rattle.coded_cells.proofs.CodedLemmas.{cell-store_of}
-use Rattle.chase_laws.proofs.FutureLemmas.{no_some, some_is}
-use Rattle.chase_laws.proofs.ChaseLemmas.{chase_finds}
+use Rattle.code_table.specs.declared.code.Node.{Node}
+use Rattle.code_table.specs.Cells.{CodedCell, CodedStore, cell_at}
+use Rattle.code_table.specs.Shapes.{cell_of, store_of}
+use Rattle.code_table.proofs.CodedLemmas.{cell-store_of}
+use Rattle.law_chases.proofs.FutureLemmas.{no_some, some_is}
+use Rattle.law_chases.proofs.ChaseLemmas.{chase_finds}
 use Rattle.wait_need.specs.Needs.{NeedShape, Ready, Fill, Awaits, need_by, need_of}
 use Rattle.wait_need.specs.Operands.{GivesByNeed, NeedsAreOfOperands}
 

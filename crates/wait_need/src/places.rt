@@ -3,13 +3,13 @@
 ghost use Rattle.std.specs.Prelude.{◌≡◌, ◌<◌, List, length};
 ghost use Rattle.asp_model.specs.Chase.{chase as chase_of};
 ghost use Rattle.asp_model.specs.Store.{cell as cell_at};
-ghost use Rattle.program_code.specs.declared.code.Node.{Node as NodeShape};
-ghost use Rattle.coded_cells.specs.Shapes.{cell_shape, store_of};
+ghost use Rattle.code_table.specs.declared.code.Node.{Node as NodeShape};
+ghost use Rattle.code_table.specs.Shapes.{cell_shape, store_of};
 ghost use Rattle.future_table.specs.Values.{chase_shape, values_of};
 ghost use Rattle.wait_need.specs.Needs.{need_of, need_shape, need_told};
 
 use crate::kinds::Need;
-use coded_cells::{Cell, Place};
+use code_table::{Cell, Place};
 use future_table::{Chase, FutureTable};
 use object_store::Store;
 

@@ -12,3 +12,7 @@ pub mod Chases
 pub mod Groups
 pub mod Pairs
 pub mod BadReports
+pub mod Lending
+pub mod Passed
+pub mod States
+pub mod Reading

@@ -10,12 +10,12 @@ use Rattle.asp_model.specs.Intent.{StatusShape}
 use Rattle.asp_model.specs.Status.{Blocked, Budget, End, IsStuck, is_awaiting, is_running, statuses_of, verdict_among}
 use Rattle.asp_model.specs.Step.{ListsShape}
 use Rattle.asp_model.specs.Term.{Tree, locations}
-use Rattle.journal_laws.proofs.JournalLemmas.{journals_reach}
-use Rattle.laws.specs.Joins.{HasOneSender}
-use Rattle.path_laws.proofs.OutcomeLemmas.{counts_same, lists_same}
-use Rattle.path_laws.proofs.ReplayLemmas.{mirrored, one_sender_is_enough}
+use Rattle.law_journals.proofs.JournalLemmas.{journals_reach}
+use Rattle.law_steps.specs.Joins.{HasOneSender}
+use Rattle.law_paths.proofs.OutcomeLemmas.{counts_same, lists_same}
+use Rattle.law_paths.proofs.ReplayLemmas.{mirrored, one_sender_is_enough}
 use Rattle.run_ends.specs.declared.ends.RunEnd.{RunEnd}
-use Rattle.core_ends.specs.Runs.{IsEndOfRun}
+use Rattle.asp_core.specs.EndOfRun.{IsEndOfRun}
 use Rattle.worker_pool.specs.Senders.{OneSenderIsEnough}
 
 -- nobody can step where the budget did not run out

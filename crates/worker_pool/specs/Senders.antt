@@ -8,9 +8,9 @@ use Rattle.asp_model.specs.Outcome.{OutcomeShape, counts_in, lists_in}
 use Rattle.asp_model.specs.Replay.{counts_of, lists_of, senders_in}
 use Rattle.asp_model.specs.Status.{Budget, IsStuck}
 use Rattle.asp_model.specs.Term.{Tree}
-use Rattle.journals.specs.Journals.{RunShape, run_of}
-use Rattle.laws.specs.Joins.{HasOneSender}
-use Rattle.paths.specs.Agree.{Agrees}
+use Rattle.def_journals.specs.Journals.{RunShape, run_of}
+use Rattle.law_steps.specs.Joins.{HasOneSender}
+use Rattle.def_paths.specs.Agree.{Agrees}
 
 -- what is left beside an outcome and its configuration: beginnings of its lists; and where nothing can step, its
 -- lists, its counts, and what agrees with it

@@ -4,4 +4,4 @@
 mod pool;
 
 pub use pool::{Settings, run, run_core};
-pub use racing_workers::{Gate, OpenGate};
+pub use race_workers::{Gate, OpenGate};

@@ -2,7 +2,7 @@
 
 ghost use Rattle.std.specs.Prelude.{IfOk};
 ghost use Rattle.asp_core.specs.Cores.{IsKept};
-ghost use Rattle.core_runs.specs.Over.{IsOver};
+ghost use Rattle.asp_core.specs.Over.{IsOver};
 
 use crate::boxes::usual_policies;
 use crate::cores::acts::{Act, steps};
@@ -11,10 +11,9 @@ use crate::drops::{drop_checked, drop_core, drop_end};
 use crate::programs::checked;
 use crate::repeats::is_repeated;
 use asp_check::Checked;
-use asp_core::Core;
+use asp_core::{Core, end_of_run, finish};
 use asp_model::Word;
 use core_drives::drive;
-use core_runs::{end_of_run, finish};
 use run_ends::RunEnd;
 use run_report::render;
 use std::alloc::{AllocError, Global};

@@ -1,9 +1,8 @@
 //! Stores as texts.
 
 use crate::names::push_future;
-use coded_cells::{Cell, Object, Place};
+use code_table::{Cell, Class, Code, MethodCode, Object, Place};
 use object_store::Store;
-use program_code::{Class, Code, MethodCode};
 use run_ends::RunEnd;
 use run_report::push_name;
 use std::alloc::{AllocError, Global};

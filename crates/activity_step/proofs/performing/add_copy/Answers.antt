@@ -4,11 +4,11 @@ use Rattle.asp_model.specs.Shapes.{line_shape}
 use Rattle.asp_model.specs.Contraction.{allots}
 use Rattle.asp_model.specs.declared.outcome.Line.{Line}
 use Rattle.std.specs.declared.alloc.AllocError.{AllocError}
-use Rattle.program_code.specs.declared.code.Node.{Node}
-use Rattle.coded_cells.specs.Cells.{CodedCell, CodedStore, cell_at, coded}
-use Rattle.coded_cells.specs.Shapes.{cell_of, store_of}
-use Rattle.coded_cells.proofs.CodedLemmas.{cell-store_of, length-store_of, store_of-append}
-use Rattle.activity_rows.specs.declared.decision.Decision.TheVariants as decision
+use Rattle.code_table.specs.declared.code.Node.{Node}
+use Rattle.code_table.specs.Cells.{CodedCell, CodedStore, cell_at, coded}
+use Rattle.code_table.specs.Shapes.{cell_of, store_of}
+use Rattle.code_table.proofs.CodedLemmas.{cell-store_of, length-store_of, store_of-append}
+use Rattle.step_rows.specs.declared.decision.Decision.TheVariants as decision
 use Rattle.activity_step.specs.Advances.{IsPerformed}
 use Rattle.activity_step.proofs.performing.add_copy.Goals as goal
 

@@ -1,7 +1,7 @@
 use Rattle.std.proofs.Common.{◌≡◌, ℤ, List, IfOk, sym, ap, subst, ◌∙◌, to_z, of_z, w64, rules}
 use Rattle.asp_model.specs.declared.outcome.Line.{Line}
-use Rattle.activity_rows.specs.declared.decision.Decision.{Decision}
-use Rattle.activity_rows.specs.declared.decision.Decision.TheVariants as decision
+use Rattle.step_rows.specs.declared.decision.Decision.{Decision}
+use Rattle.step_rows.specs.declared.decision.Decision.TheVariants as decision
 use Rattle.activity_step.specs.Advances.{IsPerformed}
 use Rattle.activity_step.proofs.performing.perform.Goals as goal
 

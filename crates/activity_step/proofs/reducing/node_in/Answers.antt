@@ -1,8 +1,8 @@
 use Rattle.std.proofs.Common.{◌≡◌, ℕ, List, subst}
-use Rattle.program_code.specs.declared.code.Node.{Node}
-use Rattle.program_code.specs.Classes.{class_at, class_of}
-use Rattle.program_code.specs.Sound.{IsSound}
-use Rattle.program_code.specs.Tables.{node_piece, piece_at, pieces}
+use Rattle.code_table.specs.declared.code.Node.{Node}
+use Rattle.code_table.specs.Classes.{class_at, class_of}
+use Rattle.code_table.specs.Sound.{IsSound}
+use Rattle.code_table.specs.Tables.{node_piece, piece_at, pieces}
 use Rattle.activity_step.proofs.reducing.node_in.Goals as goal
 
 pub returns : goal.returns

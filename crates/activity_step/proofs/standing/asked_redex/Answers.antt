@@ -1,5 +1,5 @@
 use Rattle.std.proofs.Common.{refl, sym, ◌∙◌}
-use Rattle.machine_frames.specs.Standing.{view_of}
+use Rattle.step_machine.specs.Standing.{view_of}
 use Rattle.activity_step.proofs.StandingLemmas.{asked_at}
 use Rattle.activity_step.proofs.standing.asked_redex.Goals as goal
 

@@ -1,7 +1,7 @@
 use Rattle.std.proofs.Common.{◌≡◌, sym, ap, ◌∙◌}
-use Rattle.program_code.specs.Tables.{pieces, piece_at}
-use Rattle.machine_frames.specs.Calls.{called_label}
-use Rattle.machine_frames.specs.Standing.{view_of}
+use Rattle.code_table.specs.Tables.{pieces, piece_at}
+use Rattle.step_machine.specs.Calls.{called_label}
+use Rattle.step_machine.specs.Standing.{view_of}
 use Rattle.activity_step.proofs.StandingLemmas.{called_at}
 use Rattle.activity_step.proofs.standing.called_redex.Goals as goal
 

@@ -1,12 +1,12 @@
 use Rattle.std.proofs.Common.{◌≡◌, ℕ, List, sym, ap, subst, ◌∙◌, arith}
-use Rattle.program_code.specs.declared.code.Node.{Node}
-use Rattle.program_code.specs.Pieces.{Piece}
-use Rattle.program_code.specs.Tables.{pieces}
+use Rattle.code_table.specs.declared.code.Node.{Node}
+use Rattle.code_table.specs.Pieces.{Piece}
+use Rattle.code_table.specs.Tables.{pieces}
 use Rattle.code_laws.specs.Nodes.{in_place}
-use Rattle.machine_frames.specs.Rows.{AtNode}
-use Rattle.machine_frames.specs.Sequences.{later}
-use Rattle.machine_frames.specs.Stacks.{piece_from}
-use Rattle.machine_frames.specs.Standing.{View, view_of}
+use Rattle.step_machine.specs.Rows.{AtNode}
+use Rattle.step_machine.specs.Sequences.{later}
+use Rattle.step_machine.specs.Stacks.{piece_from}
+use Rattle.step_machine.specs.Standing.{View, view_of}
 use Rattle.activity_step.specs.Shown.{IsShown}
 use Rattle.activity_step.proofs.StandingLemmas.{shown_at}
 use Rattle.activity_step.proofs.standing.redex_at.Goals as goal

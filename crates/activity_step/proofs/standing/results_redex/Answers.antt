@@ -1,6 +1,6 @@
 use Rattle.std.proofs.Common.{◌≡◌, List, subst}
-use Rattle.program_code.specs.declared.code.Node.{Node}
-use Rattle.machine_frames.specs.Views.{all_done}
+use Rattle.code_table.specs.declared.code.Node.{Node}
+use Rattle.step_machine.specs.Views.{all_done}
 use Rattle.activity_step.proofs.StandingLemmas.{results_at}
 use Rattle.activity_step.proofs.standing.results_redex.Goals as goal
 

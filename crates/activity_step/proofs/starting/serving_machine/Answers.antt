@@ -3,10 +3,10 @@ use Rattle.std.proofs.lemmas.Result.{IfOk-weaker}
 use Rattle.std.specs.Option.{option_map}
 use Rattle.asp_model.specs.declared.word.Label.{Label}
 use Rattle.asp_model.specs.Intent.{start_term}
-use Rattle.program_code.specs.Sound.{service_number}
-use Rattle.machine_frames.specs.Services.{asked_view}
-use Rattle.machine_frames.specs.Standing.{Standing, View, view_of}
-use Rattle.machine_frames.specs.declared.machine.Machine.{Machine}
+use Rattle.code_table.specs.Sound.{service_number}
+use Rattle.step_machine.specs.Services.{asked_view}
+use Rattle.step_machine.specs.Standing.{Standing, View, view_of}
+use Rattle.step_machine.specs.declared.machine.Machine.{Machine}
 use Rattle.activity_step.specs.Starting.{start_view}
 use Rattle.activity_step.proofs.StartLemmas.{call_stands, service_stands}
 use Rattle.activity_step.proofs.starting.serving_machine.Goals as goal

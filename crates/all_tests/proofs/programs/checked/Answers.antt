@@ -1,5 +1,5 @@
 use Rattle.asp_model.specs.Shapes.{marked_of}
-use Rattle.outcome_laws.proofs.ProgramLaws.{programs_are_readable}
+use Rattle.law_outcomes.proofs.ProgramLaws.{programs_are_readable}
 use Rattle.all_tests.proofs.programs.checked.Goals as goal
 
 pub check-requires : goal.check-requires

@@ -4,11 +4,11 @@ ghost use Rattle.std.specs.Prelude.{◌<◌};
 ghost use Rattle.asp_model.specs.declared.limits.TheConstants.{MOST_SEATS};
 
 use crate::parts::hub::tasks::Tasks;
+use race_trials::{Work, race};
 use std::alloc::{AllocError, Global};
 use std::sync::Wait;
 use std::thread::Threads;
 use std::time::Clock;
-use turn_race::{Work, race};
 
 /// What so many seats leave, each with its work done. This alone calls `race`.
 pub fn raced<W: Work<Tasks>, R: Threads + Wait + Clock + Sync>(

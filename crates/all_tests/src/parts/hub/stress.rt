@@ -6,13 +6,13 @@ ghost use Rattle.asp_model.specs.declared.limits.TheConstants.{MOST_SEATS};
 use crate::parts::hub::races::raced;
 use crate::parts::hub::tasks::Tasks;
 use crate::parts::hub::turns::{make_tasks, take_task};
+use race_trials::Work;
 use std::alloc::{AllocError, Global};
 use std::sync::Wait;
 use std::test::Fail;
 use std::thread::Threads;
 use std::time::Clock;
 use turn_hub::{Hub, Seat};
-use turn_race::Work;
 
 const TURNS: u64 = 20_000;
 

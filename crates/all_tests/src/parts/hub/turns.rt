@@ -1,6 +1,6 @@
 //! Turns in which tasks are made or taken.
 
-ghost use Rattle.turn_race.specs.Ready.{IsReady};
+ghost use Rattle.race_trials.specs.Ready.{IsReady};
 
 use crate::parts::hub::tasks::Tasks;
 use std::sync::Wait;

@@ -6,6 +6,7 @@ ghost use Rattle.asp_model.specs.declared.limits.TheConstants.{MOST_SEATS};
 use crate::parts::hub::races::raced;
 use crate::parts::hub::tasks::Tasks;
 use crate::parts::hub::turns::{make_tasks, take_task, try_task};
+use race_trials::Work;
 use std::alloc::{AllocError, Global};
 use std::process::Abort;
 use std::sync::Wait;
@@ -13,7 +14,6 @@ use std::thread;
 use std::thread::Threads;
 use std::time::{Clock, Duration};
 use turn_hub::{Hub, Seat};
-use turn_race::Work;
 
 // Seat 1 lets the others fall asleep before it gives.
 fn a_while<C: Clock>(clock: &C) {

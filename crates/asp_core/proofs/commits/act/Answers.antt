@@ -1,10 +1,10 @@
 use Rattle.std.proofs.Common.{◌∙◌, [], ap, subst}
 use Rattle.std.proofs.lemmas.Result.{on_err_weaker, on_ok_weaker}
-use Rattle.activity_seats.specs.Seats.{Out, seats_in}
-use Rattle.core_journal.specs.Journal.{entries_in}
-use Rattle.core_laws.specs.Commits.{with_activity}
+use Rattle.core_seats.specs.Seats.{Out, seats_in}
+use Rattle.core_state.specs.Journal.{entries_in}
+use Rattle.law_core.specs.Commits.{with_activity}
 use Rattle.core_state.proofs.ListLemmas.{got_within}
-use Rattle.core_commits.specs.Commits.{IsActCommitted}
+use Rattle.core_state.specs.Commits.{IsActCommitted}
 use Rattle.asp_core.specs.Bringing.{AreTold}
 use Rattle.asp_core.proofs.DeliverLemmas.{on_ok_is}
 use Rattle.asp_core.proofs.LeaseLemmas.{acting_name}

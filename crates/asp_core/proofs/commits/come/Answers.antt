@@ -1,10 +1,10 @@
 use Rattle.std.proofs.Common.{◌≡◌, ◌∙◌, IfSome, refl, subst, sym}
 use Rattle.std.specs.Option.{option_map}
 use Rattle.std.proofs.lemmas.Result.{on_err_weaker, on_ok_weaker}
-use Rattle.core_journal.specs.Journal.{entries_in}
+use Rattle.core_state.specs.Journal.{entries_in}
 use Rattle.core_edges.specs.Strategies.{strategy_in}
 use Rattle.core_edges.proofs.AnswerLemmas.{none_answered}
-use Rattle.core_commits.specs.Arrivals.{IsArrived}
+use Rattle.core_state.specs.Arrivals.{IsArrived}
 use Rattle.asp_core.specs.Bringing.{HasActed, IsComeBy}
 use Rattle.asp_core.proofs.DeliverLemmas.{on_ok_is}
 use Rattle.asp_core.proofs.LeaseLemmas.{lease_acting}

@@ -1,5 +1,5 @@
 use Rattle.std.proofs.Common.{◌∙◌, ap, subst}
-use Rattle.journals.specs.Journals.{begun as start_of}
+use Rattle.def_journals.specs.Journals.{begun as start_of}
 use Rattle.core_state.specs.Cores.{IsCore, history_begun, program_of}
 use Rattle.asp_core.proofs.cores.begun.Goals as goal
 

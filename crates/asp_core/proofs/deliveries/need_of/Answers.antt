@@ -1,7 +1,7 @@
 use Rattle.std.proofs.Common.{◌∙◌, sym, ap}
 use Rattle.asp_model.specs.History.{Need}
 use Rattle.asp_model.specs.Shapes.{future_shape}
-use Rattle.chase_laws.proofs.FutureLemmas.{some_is}
+use Rattle.law_chases.proofs.FutureLemmas.{some_is}
 use Rattle.asp_core.proofs.deliveries.need_of.Goals as goal
 
 pub returns : goal.returns

@@ -1,7 +1,7 @@
 use Rattle.std.proofs.Common.{◌≡◌, ◌∙◌, Some, slice_get, sym, ap, subst}
 use Rattle.asp_model.specs.Shapes.{delivery_shape}
 use Rattle.std.specs.Option.{option_map}
-use Rattle.core_deliveries.specs.Next.{IsNextNeed, need_shape}
+use Rattle.core_state.specs.Next.{IsNextNeed, need_shape}
 use Rattle.core_state.proofs.ListLemmas.{name_got}
 use Rattle.asp_core.specs.Delivering.{IsDueDelivery}
 use Rattle.asp_core.proofs.DeliverLemmas.{due_owed, if_ok, need_owed, owed}

@@ -1,5 +1,5 @@
 use Rattle.std.proofs.Common.{◌∙◌}
-use Rattle.core_deliveries.proofs.NextLemmas.{none_needed}
+use Rattle.core_state.proofs.NextLemmas.{none_needed}
 use Rattle.asp_core.proofs.DeliverLemmas.{due_told, needy_owed}
 use Rattle.asp_core.proofs.deliveries.owes_nothing.Goals as goal
 

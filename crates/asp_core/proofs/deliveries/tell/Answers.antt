@@ -2,9 +2,9 @@ use Rattle.std.proofs.Common.{◌≡◌, ◌∙◌, Some, sym, ap, is_some}
 use Rattle.std.specs.FinMap.{find}
 use Rattle.asp_model.specs.Names.{future_cmp}
 use Rattle.asp_model.specs.Shapes.{delivery_shape}
-use Rattle.coded_cells.specs.Shapes.{parcel_shape}
+use Rattle.code_table.specs.Shapes.{parcel_shape}
 use Rattle.future_table.specs.Values.{values_of}
-use Rattle.chase_laws.proofs.FutureLemmas.{none_true}
+use Rattle.law_chases.proofs.FutureLemmas.{none_true}
 use Rattle.core_edges.specs.Deliveries.{future_of}
 use Rattle.core_edges.proofs.AnswerLemmas.{on_ok}
 use Rattle.asp_core.proofs.deliveries.tell.Goals as goal

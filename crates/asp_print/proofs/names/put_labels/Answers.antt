@@ -1,6 +1,6 @@
 use Rattle.std.proofs.Common.{◌∙◌}
 use Rattle.std.specs.Prelude.{string_bytes}
-use Rattle.asp_tokens.specs.declared.token.Token.TheVariants as tokens
+use Rattle.syntax_tokens.specs.declared.token.Token.TheVariants as tokens
 use Rattle.std.proofs.Common.{arith}
 use Rattle.asp_print.specs.Parts.{lead_tokens, label_piece}
 use Rattle.asp_print.proofs.WritingLemmas.{led_more}

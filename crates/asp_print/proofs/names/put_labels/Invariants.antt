@@ -1,6 +1,6 @@
 use Rattle.std.proofs.Common.{◌≡◌, ◌++◌, map, drop}
 use Rattle.std.specs.Prelude.{string_bytes}
-use Rattle.asp_tokens.specs.declared.token.Token.TheVariants as tokens
+use Rattle.syntax_tokens.specs.declared.token.Token.TheVariants as tokens
 use Rattle.asp_print.specs.Tokens.{between, led_by}
 use Rattle.asp_print.specs.Parts.{written, lead_tokens, label_piece}
 use Rattle.asp_print.proofs.names.put_labels.Given as goal

@@ -1,7 +1,7 @@
 use Rattle.std.proofs.Common.{◌≡◌, ℕ, ◌≤◌, List, ◌++◌, length, ap, sym, subst, ◌∙◌, arith}
 use Rattle.std.specs.Prelude.{string_bytes, string_len}
 use Rattle.asp_model.specs.Shapes.{marked_of}
-use Rattle.asp_tokens.specs.Texts.{text_of}
+use Rattle.syntax_tokens.specs.Texts.{text_of}
 use Rattle.asp_print.specs.Tokens.{tokens_of}
 use Rattle.asp_print.specs.Parts.{written}
 use Rattle.asp_print.specs.Correct.{IsTextOf}

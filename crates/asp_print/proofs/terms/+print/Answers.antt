@@ -6,8 +6,8 @@ use Rattle.asp_model.specs.declared.term.Term.{Term}
 use Rattle.asp_model.specs.declared.term.Method.{Method}
 use Rattle.asp_model.specs.Marked.{MarkShape}
 use Rattle.asp_model.specs.Shapes.{marked_of, sign_shape}
-use Rattle.asp_tokens.specs.declared.token.Token.{Token}
-use Rattle.asp_tokens.specs.declared.token.Token.TheVariants as tokens
+use Rattle.syntax_tokens.specs.declared.token.Token.{Token}
+use Rattle.syntax_tokens.specs.declared.token.Token.TheVariants as tokens
 use Rattle.asp_print.specs.Tokens.{access_tokens, between, head_tokens, mark_of, method_part, node_tokens, sign_of}
 use Rattle.asp_print.specs.Parts.{written, field_piece, head_of, lead_tokens, method_piece, point_token, term_tokens}
 use Rattle.asp_print.proofs.NodeLemmas.{make_is, get_is, put_is, call_is, let_is, if_is, operate_is, scatter_is, member_is}

@@ -1,6 +1,6 @@
 use Rattle.std.proofs.Common.{◌≡◌, [], ◌∷◌, ◌++◌, map, drop}
 use Rattle.std.specs.Prelude.{string_bytes}
-use Rattle.asp_tokens.specs.declared.token.Token.TheVariants as tokens
+use Rattle.syntax_tokens.specs.declared.token.Token.TheVariants as tokens
 use Rattle.asp_print.specs.Tokens.{between, led_by, method_part}
 use Rattle.asp_print.specs.Parts.{written, lead_tokens, point_token, field_piece, method_piece, term_tokens}
 use Rattle.asp_print.proofs.terms.+print.Given as goal

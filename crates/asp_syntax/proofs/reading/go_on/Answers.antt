@@ -1,4 +1,4 @@
-use Rattle.asp_tokens.specs.Cursors.{lexeme_of}
+use Rattle.syntax_tokens.specs.Cursors.{lexeme_of}
 use Rattle.syntax_states.specs.Shapes.{state_shape}
 use Rattle.asp_syntax.proofs.Feeding.{judged_on}
 use Rattle.asp_syntax.proofs.reading.go_on.Goals as goal

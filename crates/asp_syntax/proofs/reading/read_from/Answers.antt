@@ -1,15 +1,15 @@
 use Rattle.std.proofs.Common.{◌<◌, ◌≤◌, length, arith, ◌≡◌, sym, ap, subst, ◌∙◌, Some, true}
 use Rattle.asp_model.specs.declared.limits.TheConstants.{MOST_LEVEL}
-use Rattle.asp_tokens.specs.Levels.{WalkShape, walked}
-use Rattle.asp_tokens.specs.Tokens.{Between}
-use Rattle.asp_tokens.specs.Cursors.{from, lexeme_of, goes_on}
-use Rattle.asp_tokens.specs.Ordered.{IsOrdered}
-use Rattle.asp_tokens.specs.WalkShapes.{walk_shape}
-use Rattle.asp_tokens.proofs.Ordering.{walked_ordered}
-use Rattle.asp_grammar.specs.States.{StateShape}
-use Rattle.asp_grammar.specs.Machine.{step}
-use Rattle.asp_grammar.proofs.Shallow.{IsShallow, shallow_step}
-use Rattle.open_terms.specs.Shapes.{open_shape, stack}
+use Rattle.syntax_tokens.specs.Levels.{WalkShape, walked}
+use Rattle.syntax_tokens.specs.Tokens.{Between}
+use Rattle.syntax_tokens.specs.Cursors.{from, lexeme_of, goes_on}
+use Rattle.syntax_tokens.specs.Ordered.{IsOrdered}
+use Rattle.syntax_tokens.specs.WalkShapes.{walk_shape}
+use Rattle.syntax_tokens.proofs.Ordering.{walked_ordered}
+use Rattle.syntax_grammar.specs.States.{StateShape}
+use Rattle.syntax_grammar.specs.Machine.{step}
+use Rattle.syntax_grammar.proofs.Shallow.{IsShallow, shallow_step}
+use Rattle.syntax_terms.specs.Shapes.{open_shape, stack}
 use Rattle.syntax_states.specs.Shapes.{state_shape, mode_shape}
 use Rattle.asp_syntax.specs.Read.{read as read_list}
 use Rattle.asp_syntax.proofs.First.{comes_on}

@@ -1,12 +1,12 @@
 use Rattle.std.proofs.Common.{◌≡◌, ◌≤◌, ◌-◌, length}
 use Rattle.asp_model.specs.declared.limits.TheConstants.{MOST_LEVEL}
-use Rattle.asp_tokens.specs.Tokens.{Between, lexemes_of}
-use Rattle.asp_tokens.specs.Cursors.{from}
+use Rattle.syntax_tokens.specs.Tokens.{Between, lexemes_of}
+use Rattle.syntax_tokens.specs.Cursors.{from}
 use Rattle.asp_syntax.specs.Read.{read as read_from, read_all}
-use Rattle.asp_tokens.specs.WalkShapes.{walk_shape}
+use Rattle.syntax_tokens.specs.WalkShapes.{walk_shape}
 use Rattle.syntax_states.specs.Shapes.{state_shape}
-use Rattle.asp_tokens.specs.Ordered.{IsOrdered}
-use Rattle.asp_grammar.proofs.Shallow.{IsShallow}
+use Rattle.syntax_tokens.specs.Ordered.{IsOrdered}
+use Rattle.syntax_grammar.proofs.Shallow.{IsShallow}
 use Rattle.asp_syntax.proofs.reading.read_from.Given as goal
 
 abbrev pub invariant-loop-here : goal.invariant-loop-here

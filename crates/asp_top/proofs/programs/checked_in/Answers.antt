@@ -1,5 +1,5 @@
 use Rattle.asp_model.specs.Shapes.{marked_of}
-use Rattle.outcome_laws.proofs.ProgramLaws.{programs_are_readable}
+use Rattle.law_outcomes.proofs.ProgramLaws.{programs_are_readable}
 use Rattle.asp_top.specs.Stops.{StopsAt, syntax_stop, check_stop}
 use Rattle.asp_top.proofs.StopLemmas.{stops_at, check_stops_at, program_is, stops_if}
 use Rattle.asp_top.proofs.programs.checked_in.Goals as goal

@@ -1,5 +1,5 @@
 use Rattle.std.proofs.Common.{◌≡◌, [], drop, map}
-use Rattle.name_slots.specs.Slots.{bound_in}
+use Rattle.code_compiler.specs.Slots.{bound_in}
 use Rattle.code_compiler.specs.Free.{free_below}
 use Rattle.code_compiler.specs.Parts.{bodies_below, fields_below, terms_below}
 use Rattle.code_compiler.proofs.free.+free.Given as goal

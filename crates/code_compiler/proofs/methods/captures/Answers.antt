@@ -1,9 +1,9 @@
 use Rattle.std.proofs.Common.{◌≡◌, ◌∷◌, ◌++◌, [], take, sym, ap, subst, ◌∙◌}
 use Rattle.std.proofs.lemmas.List.{take_more}
 use Rattle.asp_model.specs.Names.{Text}
-use Rattle.program_code.specs.declared.code.Capture.{Capture}
-use Rattle.program_code.specs.Fitting.{CapturesFit, captured_names}
-use Rattle.name_slots.specs.Slots.{environment, names_of}
+use Rattle.code_table.specs.declared.code.Capture.{Capture}
+use Rattle.code_table.specs.Fitting.{CapturesFit, captured_names}
+use Rattle.code_compiler.specs.Slots.{environment, names_of}
 use Rattle.code_compiler.proofs.ScopeLemmas.{among_at, captures_snoc, captured_snoc}
 use Rattle.code_compiler.proofs.methods.captures.Goals as goal
 

@@ -1,6 +1,6 @@
 use Rattle.std.proofs.Common.{◌≡◌, take}
-use Rattle.program_code.specs.Fitting.{CapturesFit, captured_names}
-use Rattle.name_slots.specs.Slots.{environment}
+use Rattle.code_table.specs.Fitting.{CapturesFit, captured_names}
+use Rattle.code_compiler.specs.Slots.{environment}
 use Rattle.code_compiler.proofs.methods.captures.Given as goal
 
 abbrev pub invariant-loop-name : goal.invariant-loop-name

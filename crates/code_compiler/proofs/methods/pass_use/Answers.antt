@@ -1,6 +1,6 @@
 use Rattle.std.proofs.Common.{◌≡◌, ◌++◌, ℕ, List, OnOk, sym, ap, subst, ◌∙◌}
 use Rattle.std.proofs.lemmas.List.{append-nil}
-use Rattle.program_code.specs.declared.code.Capture.{Capture}
+use Rattle.code_table.specs.declared.code.Capture.{Capture}
 use Rattle.code_compiler.proofs.ScopeLemmas.{used_at, used_past}
 use Rattle.code_compiler.proofs.methods.pass_use.Goals as goal
 

@@ -1,6 +1,6 @@
 use Rattle.std.proofs.Common.{◌≡◌, ◌++◌, take}
 use Rattle.std.specs.List.{flat_map}
-use Rattle.program_code.specs.Uses.{use_at}
+use Rattle.code_table.specs.Uses.{use_at}
 use Rattle.code_compiler.proofs.methods.pass_uses.Given as goal
 
 abbrev pub invariant-loop-slot : goal.invariant-loop-slot

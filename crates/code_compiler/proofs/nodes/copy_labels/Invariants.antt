@@ -1,5 +1,5 @@
 use Rattle.std.proofs.Common.{◌≡◌, map, take}
-use Rattle.program_code.specs.Tables.{text_of}
+use Rattle.code_table.specs.Tables.{text_of}
 use Rattle.code_compiler.proofs.nodes.copy_labels.Given as goal
 
 abbrev pub invariant-loop-label : goal.invariant-loop-label

@@ -1,6 +1,6 @@
 use Rattle.std.proofs.Common.{◌≡◌, map, take}
-use Rattle.program_code.specs.Tables.{text_of}
-use Rattle.program_code.specs.Parts.{field_label}
+use Rattle.code_table.specs.Tables.{text_of}
+use Rattle.code_table.specs.Parts.{field_label}
 use Rattle.code_compiler.proofs.nodes.field_labels.Given as goal
 
 abbrev pub invariant-loop-label : goal.invariant-loop-label

@@ -3,7 +3,7 @@ use Rattle.asp_model.specs.declared.term.Program.{Program}
 use Rattle.asp_model.specs.Term.{locations}
 use Rattle.asp_model.specs.Shapes.{tree_of, marked_of}
 use Rattle.asp_check.proofs.PlaceLemmas.{readable_has_no_places}
-use Rattle.sound_programs.proofs.WholeLaws.{programs_are_proper}
+use Rattle.law_programs.proofs.WholeLaws.{programs_are_proper}
 use Rattle.code_compiler.proofs.ClosedLemmas.{closed_proper}
 use Rattle.code_compiler.proofs.ProgramLemmas.{sound_program}
 use Rattle.code_compiler.proofs.program.compile.Goals as goal

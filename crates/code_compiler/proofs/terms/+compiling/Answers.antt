@@ -6,16 +6,16 @@ use Rattle.asp_model.specs.Names.{Text}
 use Rattle.asp_model.specs.Term.{Tree, MethodHead, Environment, node, more, none, trees}
 use Rattle.asp_model.specs.Term as term
 use Rattle.asp_model.specs.Shapes.{tree_of}
-use Rattle.program_code.specs.declared.code.Child.{Child}
-use Rattle.program_code.specs.declared.code.Class.{Class}
-use Rattle.program_code.specs.declared.code.Kind.TheVariants as kind
-use Rattle.program_code.specs.declared.code.MethodCode.{MethodCode}
-use Rattle.program_code.specs.declared.code.Node.{Node}
-use Rattle.program_code.specs.Fitting.{names, slots_from}
-use Rattle.program_code.specs.Tables.{kind_head, text_of}
-use Rattle.name_slots.specs.Slots.{bound_in, environment, names_of}
-use Rattle.program_code.specs.Parts.{body_tree, field_label, field_tree, method_head}
-use Rattle.name_slots.proofs.SlotLemmas.{names_slots}
+use Rattle.code_table.specs.declared.code.Child.{Child}
+use Rattle.code_table.specs.declared.code.Class.{Class}
+use Rattle.code_table.specs.declared.code.Kind.TheVariants as kind
+use Rattle.code_table.specs.declared.code.MethodCode.{MethodCode}
+use Rattle.code_table.specs.declared.code.Node.{Node}
+use Rattle.code_table.specs.Fitting.{names, slots_from}
+use Rattle.code_table.specs.Tables.{kind_head, text_of}
+use Rattle.code_compiler.specs.Slots.{bound_in, environment, names_of}
+use Rattle.code_table.specs.Parts.{body_tree, field_label, field_tree, method_head}
+use Rattle.code_compiler.proofs.SlotLemmas.{names_slots}
 use Rattle.code_compiler.specs.Added.{body_of}
 use Rattle.code_compiler.specs.Closed.{IsClosed}
 use Rattle.code_compiler.specs.Free.{free_in}
@@ -23,7 +23,7 @@ use Rattle.code_compiler.specs.Compiled.{Body, Adds, AddsMethods, AreAmong, IsMe
 use Rattle.code_compiler.specs.Parts.{parts_of}
 use Rattle.code_compiler.proofs.NodeLemmas.{whole, plain_node, then_ok}
 use Rattle.code_compiler.proofs.PartLemmas.{row_parts, row_size, row_closed, two_parts, call_parts}
-use Rattle.program_code.proofs.TermTrees.{make_is, if_is}
+use Rattle.code_table.proofs.TermTrees.{make_is, if_is}
 use Rattle.code_compiler.proofs.ClosedLemmas.{body_closed, captured_among}
 use Rattle.code_compiler.proofs.ClosedLaws.{call_closed, fields_closed, methods_closed, field_at, method_at}
 use Rattle.code_compiler.proofs.SizeLemmas.{call_size, fields_size, methods_size, term_size_at, method_size_at, field_size_at}

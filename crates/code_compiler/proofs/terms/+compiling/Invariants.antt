@@ -2,7 +2,7 @@ use Rattle.std.proofs.Common.{◌≡◌, ◌+◌, map, take}
 use Rattle.asp_model.specs.Shapes.{tree_of}
 use Rattle.code_compiler.specs.Added.{AddsCode, AddsTerms}
 use Rattle.code_compiler.specs.Compiled.{captured_count}
-use Rattle.program_code.specs.Parts.{field_tree}
+use Rattle.code_table.specs.Parts.{field_tree}
 use Rattle.code_compiler.proofs.terms.+compiling.Given as goal
 
 abbrev pub invariant-compile_all-loop-term : goal.invariant-compile_all-loop-term

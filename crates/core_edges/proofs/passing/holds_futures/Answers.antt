@@ -1,7 +1,7 @@
 use Rattle.std.proofs.Common.{◌≡◌, ◌∙◌, ◌++◌, [], ap, arith, sym}
 use Rattle.std.specs.Option.{option_map}
 use Rattle.asp_model.specs.Shapes.{future_shape}
-use Rattle.coded_cells.specs.Cells.{coded}
+use Rattle.code_table.specs.Cells.{coded}
 use Rattle.core_edges.specs.Passing.{future_held}
 use Rattle.core_edges.proofs.PassingLemmas.{held_more, held_told}
 use Rattle.core_edges.proofs.passing.holds_futures.Goals as goal

@@ -1,5 +1,5 @@
 use Rattle.std.proofs.Common.{◌≡◌, [], take}
-use Rattle.coded_cells.specs.Cells.{all_coded}
+use Rattle.code_table.specs.Cells.{all_coded}
 use Rattle.core_edges.specs.Passing.{futures_held}
 use Rattle.core_edges.proofs.passing.holds_futures.Given as goal
 

@@ -1,6 +1,6 @@
 use Rattle.std.proofs.Common.{◌∙◌, [], ap, subst, sym}
 use Rattle.std.specs.Arc.{arc_value}
-use Rattle.actor.specs.Actors.{Stands, code_of}
+use Rattle.step_activity.specs.Actors.{Stands, code_of}
 use Rattle.core_state.specs.Cores.{program_of}
 use Rattle.core_state.proofs.BeginLemmas.{first_of}
 use Rattle.core_state.proofs.begin.main_actor.Goals as goal

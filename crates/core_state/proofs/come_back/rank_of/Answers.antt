@@ -1,8 +1,8 @@
 use Rattle.std.proofs.Common.{◌≡◌, ◌∙◌, ap, subst}
 use Rattle.std.specs.Result.{IfOk}
 use Rattle.future_table.specs.Values.{values_of}
-use Rattle.activity_ranks.specs.Ranks.{rank_shape}
-use Rattle.core_state.specs.Commits.{rank_stance}
+use Rattle.core_ranks.specs.Ranks.{rank_shape}
+use Rattle.core_state.specs.Returning.{rank_stance}
 use Rattle.core_state.proofs.ComeBackLemmas.{stance_rank}
 use Rattle.core_state.proofs.come_back.rank_of.Goals as goal
 

@@ -4,7 +4,7 @@ use Rattle.std.specs.Arc.{arc_value}
 use Rattle.std.specs.List.{AllByRecursion}
 use Rattle.request_queue.specs.declared.request.Request.{Request}
 use Rattle.request_queue.specs.Requests.{request_shape}
-use Rattle.actor.specs.Actors.{Stands, code_of}
+use Rattle.step_activity.specs.Actors.{Stands, code_of}
 use Rattle.core_state.proofs.ListLemmas.{no_items}
 use Rattle.core_state.proofs.ComeBackLemmas.{all_at, one_more_came}
 use Rattle.core_state.proofs.come_back.receive_all.Goals as goal

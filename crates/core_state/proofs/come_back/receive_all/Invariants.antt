@@ -1,7 +1,7 @@
 use Rattle.std.proofs.Common.{◌≡◌, ◌++◌, List, map}
 use Rattle.asp_model.specs.Configuration.{Activity, RequestShape}
 use Rattle.request_queue.specs.Requests.{request_shape}
-use Rattle.actor.specs.Actors.{Stands, code_of}
+use Rattle.step_activity.specs.Actors.{Stands, code_of}
 use Rattle.core_state.proofs.come_back.receive_all.Given as goal
 
 abbrev pub invariant-loop-request : goal.invariant-loop-request

@@ -1,5 +1,5 @@
 use Rattle.std.proofs.Common.{◌≡◌, map, take}
-use Rattle.coded_cells.specs.Cells.{all_coded}
+use Rattle.code_table.specs.Cells.{all_coded}
 use Rattle.deep_copy.specs.Copied.{copied_cell}
 use Rattle.deep_copy.proofs.packing.copied_cells.Given as goal
 

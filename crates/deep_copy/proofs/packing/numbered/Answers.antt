@@ -1,11 +1,11 @@
 use Rattle.std.proofs.Common.{◌≡◌, ◌∙◌, List, ℕ, map, sym, ap, subst}
 use Rattle.std.specs.Arc.{arc_value}
 use Rattle.asp_model.specs.Parcel.{ParcelShape, number_in}
-use Rattle.laws.specs.Closed.{IsClosedParcel}
-use Rattle.program_code.specs.declared.code.Node.{Node}
-use Rattle.coded_cells.specs.Cells.{CodedStore, all_coded}
-use Rattle.coded_cells.specs.Fits.{AllFitCode}
-use Rattle.coded_cells.specs.Shapes.{store_of}
+use Rattle.law_steps.specs.Closed.{IsClosedParcel}
+use Rattle.code_table.specs.declared.code.Node.{Node}
+use Rattle.code_table.specs.Cells.{CodedStore, all_coded}
+use Rattle.code_table.specs.Fits.{AllFitCode}
+use Rattle.code_table.specs.Shapes.{store_of}
 use Rattle.deep_copy.proofs.PackLemmas.{copies_of, copies_fit, packed, parcel_closed}
 use Rattle.deep_copy.proofs.packing.numbered.Goals as goal
 

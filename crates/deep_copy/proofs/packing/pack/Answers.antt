@@ -1,10 +1,10 @@
 use Rattle.std.proofs.Common.{◌∙◌, ℕ, List, sym, ap, subst}
 use Rattle.std.specs.Arc.{arc_value}
 use Rattle.asp_model.specs.Parcel.{ParcelShape}
-use Rattle.laws.specs.Closed.{IsClosedParcel}
-use Rattle.program_code.specs.declared.code.Node.{Node}
-use Rattle.coded_cells.specs.Cells.{CodedStore, all_coded, coded}
-use Rattle.coded_cells.specs.Shapes.{store_of}
+use Rattle.law_steps.specs.Closed.{IsClosedParcel}
+use Rattle.code_table.specs.declared.code.Node.{Node}
+use Rattle.code_table.specs.Cells.{CodedStore, all_coded, coded}
+use Rattle.code_table.specs.Shapes.{store_of}
 use Rattle.deep_copy.specs.Moves.{move_of}
 use Rattle.deep_copy.specs.declared.moves.Moves.TheVariants as moves
 use Rattle.deep_copy.proofs.LeafLemmas.{leaf_fits, leaf_packed}

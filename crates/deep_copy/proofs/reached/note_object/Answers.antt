@@ -1,8 +1,8 @@
 use Rattle.std.proofs.Common.{◌≡◌, ◌++◌, List, ℕ, Option, Some, OnOk, sym, ap, subst, ◌∙◌}
 use Rattle.asp_model.specs.Store.{reached}
-use Rattle.program_code.specs.declared.code.Class.{Class}
-use Rattle.program_code.specs.Classes.{class_at}
-use Rattle.coded_cells.specs.Shapes.{class_object}
+use Rattle.code_table.specs.declared.code.Class.{Class}
+use Rattle.code_table.specs.Classes.{class_at}
+use Rattle.code_table.specs.Shapes.{class_object}
 use Rattle.deep_copy.specs.Reached.{class_places, object_shape}
 use Rattle.deep_copy.proofs.ReachedLemmas.{object_reached}
 use Rattle.deep_copy.proofs.reached.note_object.Goals as goal

@@ -1,5 +1,5 @@
 use Rattle.std.proofs.Common.{◌≡◌, ◌++◌, length, map, take}
-use Rattle.coded_cells.specs.Cells.{all_coded, moved_coded}
+use Rattle.code_table.specs.Cells.{all_coded, moved_coded}
 use Rattle.deep_copy.specs.Moves.{move_of}
 use Rattle.deep_copy.proofs.unpacking.append_moved.Given as goal
 

@@ -1,7 +1,7 @@
 use Rattle.std.proofs.Common.{◌∙◌, ◌++◌, ℕ, List, map, refl, ap}
 use Rattle.std.specs.Arc.{arc_value}
-use Rattle.coded_cells.specs.declared.cells.Cell.{Cell}
-use Rattle.coded_cells.specs.Cells.{all_coded, moved_coded}
+use Rattle.code_table.specs.declared.cells.Cell.{Cell}
+use Rattle.code_table.specs.Cells.{all_coded, moved_coded}
 use Rattle.deep_copy.specs.Moves.{raised}
 use Rattle.deep_copy.proofs.UnpackLemmas.{unpacked_coded, roots_coded, closed_coded, fit_coded}
 use Rattle.deep_copy.proofs.unpacking.unpack.Goals as goal

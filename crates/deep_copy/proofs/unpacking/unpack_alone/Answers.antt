@@ -1,7 +1,7 @@
 use Rattle.std.proofs.Common.{◌∙◌, ap}
 use Rattle.std.specs.Arc.{arc_value}
-use Rattle.coded_cells.specs.Cells.{CodedStore, all_coded}
-use Rattle.coded_cells.specs.Shapes.{store_of}
+use Rattle.code_table.specs.Cells.{CodedStore, all_coded}
+use Rattle.code_table.specs.Shapes.{store_of}
 use Rattle.deep_copy.proofs.AloneLemmas.{taken_over}
 use Rattle.deep_copy.proofs.unpacking.unpack_alone.Goals as goal
 

@@ -1,6 +1,6 @@
 use Rattle.std.proofs.Common.{◌+◌, length}
 use Rattle.asp_model.specs.Parcel.{visit_order}
-use Rattle.coded_cells.specs.Shapes.{store_of}
+use Rattle.code_table.specs.Shapes.{store_of}
 use Rattle.deep_copy.proofs.VisitLemmas.{Going, left}
 use Rattle.deep_copy.proofs.visiting.visit_few.Given as goal
 

@@ -2,10 +2,10 @@ use Rattle.std.specs.List.{list_any}
 use Rattle.std.proofs.Common.{◌≡◌, ◌∙◌, ◌+◌, ◌<◌, ◌++◌, ◌∷◌, [], true, false, length, reverse, cond, nat_eq, sym, ap, subst}
 use Rattle.asp_model.specs.Parcel.{has_place, visit_order}
 use Rattle.asp_model.specs.Store.{Store, reached, cell}
-use Rattle.laws.specs.Closed.{AreBelow}
-use Rattle.coded_cells.specs.Cells.{CodedCell}
-use Rattle.coded_cells.specs.Shapes.{cell_of, store_of}
-use Rattle.coded_cells.proofs.CodedLemmas.{cell-store_of, length-store_of}
+use Rattle.law_steps.specs.Closed.{AreBelow}
+use Rattle.code_table.specs.Cells.{CodedCell}
+use Rattle.code_table.specs.Shapes.{cell_of, store_of}
+use Rattle.code_table.proofs.CodedLemmas.{cell-store_of, length-store_of}
 use Rattle.deep_copy.proofs.VisitLemmas.{Going, begins, falls, has_any, keeps_new, keeps_old, left, new_false, old_true}
 use Rattle.deep_copy.proofs.visiting.visit_order.Goals as goal
 

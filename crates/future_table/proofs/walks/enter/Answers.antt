@@ -3,8 +3,8 @@ use Rattle.asp_model.specs.declared.name.FutureName.{FutureName}
 use Rattle.asp_model.specs.Chase.{Values}
 use Rattle.asp_model.specs.Names.{FutureShape}
 use Rattle.asp_model.specs.Shapes.{future_shape}
-use Rattle.coded_cells.specs.declared.cells.Parcel.{Parcel}
-use Rattle.chase_laws.proofs.FutureLemmas.{some_is}
+use Rattle.code_table.specs.declared.cells.Parcel.{Parcel}
+use Rattle.law_chases.proofs.FutureLemmas.{some_is}
 use Rattle.future_table.specs.declared.links.Link.{Link}
 use Rattle.future_table.specs.Numbers.{IsEntered, number_of}
 use Rattle.future_table.specs.Values.{filled_of, values_of}

@@ -2,7 +2,7 @@ use Rattle.std.proofs.Common.{◌≡◌, ◌∙◌, List, None, sym, ap, subst}
 use Rattle.std.specs.FinMap.{find, put}
 use Rattle.asp_model.specs.declared.name.FutureName.{FutureName}
 use Rattle.asp_model.specs.Shapes.{future_shape}
-use Rattle.coded_cells.specs.declared.cells.Parcel.{Parcel}
+use Rattle.code_table.specs.declared.cells.Parcel.{Parcel}
 use Rattle.future_table.specs.Values.{StayOfCode, by_name, values_of}
 use Rattle.future_table.specs.Walks.{filled_in}
 use Rattle.future_table.proofs.TableLemmas.{none_found, put_shape, stays_of_code}

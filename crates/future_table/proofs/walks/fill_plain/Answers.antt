@@ -4,9 +4,9 @@ use Rattle.std.specs.Option.{option_map}
 use Rattle.asp_model.specs.Names.{future_cmp}
 use Rattle.asp_model.specs.Chase.{Values}
 use Rattle.asp_model.specs.Shapes.{future_shape}
-use Rattle.coded_cells.specs.declared.cells.Parcel.{Parcel}
-use Rattle.coded_cells.specs.Shapes.{parcel_shape}
-use Rattle.chase_laws.proofs.FilledLemmas.{lead_there}
+use Rattle.code_table.specs.declared.cells.Parcel.{Parcel}
+use Rattle.code_table.specs.Shapes.{parcel_shape}
+use Rattle.law_chases.proofs.FilledLemmas.{lead_there}
 use Rattle.std.proofs.lemmas.List.{with_items_is}
 use Rattle.future_table.specs.declared.links.Link.{Link}
 use Rattle.future_table.specs.declared.links.End.TheVariants as ending

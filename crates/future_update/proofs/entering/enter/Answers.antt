@@ -1,7 +1,7 @@
 use Rattle.std.proofs.Common.{◌≡◌, ◌∙◌, ◌++◌, ◌∷◌, [], Some, length, sym, subst}
 use Rattle.std.proofs.lemmas.List.{length-map}
 use Rattle.asp_model.specs.Shapes.{choice_shape}
-use Rattle.marked_places.specs.Marks.{MarkedIf}
+use Rattle.core_sets.specs.Marks.{MarkedIf}
 use Rattle.future_update.specs.declared.passings.Passings.{Passings}
 use Rattle.future_update.specs.Passings.{passing_of}
 use Rattle.future_update.specs.Records.{answers_of, owes}

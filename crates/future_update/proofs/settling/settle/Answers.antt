@@ -1,5 +1,5 @@
 use Rattle.std.proofs.Common.{◌≡◌, ◌∙◌, ◌∷◌, [], List, ap, arith, length, subst}
-use Rattle.marked_places.specs.Lanes.{count}
+use Rattle.core_sets.specs.Lanes.{count}
 use Rattle.std.specs.BTreeSet.{keys_between}
 use Rattle.std.specs.Ordering.{is_gt}
 use Rattle.std.specs.declared.ops.Bound.TheVariants.{Included}

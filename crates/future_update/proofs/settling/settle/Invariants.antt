@@ -1,4 +1,4 @@
-use Rattle.marked_places.specs.Lanes.{KeepsLanes}
+use Rattle.core_sets.specs.Lanes.{KeepsLanes}
 use Rattle.future_update.specs.Passings.{AreAhead, IsSound}
 use Rattle.future_update.proofs.settling.settle.Given as goal
 

@@ -1,6 +1,6 @@
 use Rattle.std.proofs.Common.{◌∙◌, ◌<◌, length, sym, ap, arith}
 use Rattle.std.specs.Prelude.{◌==◌}
-use Rattle.marked_places.specs.Marks.{is_marked}
+use Rattle.core_sets.specs.Marks.{is_marked}
 use Rattle.future_update.specs.Records.{owes}
 use Rattle.future_update.proofs.LanedLemmas.{keeps_lanes}
 use Rattle.future_update.proofs.OwedLemmas.{marked_so, unmarked_so}

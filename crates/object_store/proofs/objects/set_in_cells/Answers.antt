@@ -1,10 +1,10 @@
 use Rattle.std.proofs.Common.{◌≡◌, slice_index_or, slice_set, sym, ap, ◌∙◌}
 use Rattle.std.proofs.lemmas.List.{length-set}
 use Rattle.std.specs.Box.{with_value}
-use Rattle.coded_cells.specs.declared.cells.Cell.{Cell}
-use Rattle.coded_cells.specs.declared.cells.Object.{Object as ObjectValue}
-use Rattle.coded_cells.specs.Cells.{Object, all_coded, coded, cell_at, with_cell_at, with_place_at}
-use Rattle.coded_cells.proofs.CodedLemmas.{at_place, cell_set}
+use Rattle.code_table.specs.declared.cells.Cell.{Cell}
+use Rattle.code_table.specs.declared.cells.Object.{Object as ObjectValue}
+use Rattle.code_table.specs.Cells.{Object, all_coded, coded, cell_at, with_cell_at, with_place_at}
+use Rattle.code_table.proofs.CodedLemmas.{at_place, cell_set}
 use Rattle.object_store.proofs.CellLemmas.{unplaced}
 use Rattle.object_store.proofs.objects.set_in_cells.Goals as goal
 

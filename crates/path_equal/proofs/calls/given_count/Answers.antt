@@ -1,7 +1,7 @@
 use Rattle.std.proofs.Common.{◌≡◌, ◌<◌, ◌≤◌, ◌∙◌, List, length, get_or, sym, ap, subst, arith}
-use Rattle.program_code.specs.declared.code.Node.{Node}
-use Rattle.program_code.specs.Tables.{node_piece, pieces}
-use Rattle.program_code.proofs.TableLemmas.{node_here}
+use Rattle.code_table.specs.declared.code.Node.{Node}
+use Rattle.code_table.specs.Tables.{node_piece, pieces}
+use Rattle.code_table.proofs.TableLemmas.{node_here}
 use Rattle.code_laws.specs.Nodes.{in_place}
 use Rattle.path_equal.proofs.CallLemmas.{none_given}
 use Rattle.path_equal.proofs.calls.given_count.Goals as goal

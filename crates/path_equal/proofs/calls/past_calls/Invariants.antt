@@ -1,5 +1,5 @@
 use Rattle.std.proofs.Common.{◌≡◌, drop, length}
-use Rattle.machine_frames.specs.Calls.{beside_count, rounds}
+use Rattle.step_machine.specs.Calls.{beside_count, rounds}
 use Rattle.path_equal.specs.Contexts.{all_of}
 use Rattle.path_equal.specs.Searches.{searched}
 use Rattle.path_equal.proofs.calls.past_calls.Given as goal

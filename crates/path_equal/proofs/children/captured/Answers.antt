@@ -1,8 +1,8 @@
 use Rattle.std.proofs.Common.{◌≡◌, List, Option, ◌∙◌, length, drop, sym, ap, arith}
-use Rattle.program_code.specs.declared.code.Class.{Class}
-use Rattle.program_code.specs.declared.code.MethodCode.{MethodCode}
-use Rattle.coded_cells.specs.Shapes.{class_object}
-use Rattle.paths.specs.PathLabels.{To_captured}
+use Rattle.code_table.specs.declared.code.Class.{Class}
+use Rattle.code_table.specs.declared.code.MethodCode.{MethodCode}
+use Rattle.code_table.specs.Shapes.{class_object}
+use Rattle.def_paths.specs.PathLabels.{To_captured}
 use Rattle.state_lines.specs.declared.seen.Seen.{Seen}
 use Rattle.path_equal.specs.Reading.{captured_in, child_cell}
 use Rattle.state_lines.specs.Sights.{seen_shape}

@@ -1,6 +1,6 @@
 use Rattle.std.proofs.Common.{◌∙◌, sym, ap}
 use Rattle.std.specs.Option.{option_map}
-use Rattle.paths.specs.Places.{child_by, entered}
+use Rattle.def_paths.specs.Places.{child_by, entered}
 use Rattle.path_equal.specs.Reading.{label_shape}
 use Rattle.state_lines.specs.Sights.{seen_shape}
 use Rattle.path_equal.proofs.ReadLemmas.{child_is}

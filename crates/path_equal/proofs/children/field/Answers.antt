@@ -1,7 +1,7 @@
 use Rattle.std.proofs.Common.{List, ℕ, Option, ◌∙◌, sym, ap, slice_get}
-use Rattle.program_code.specs.declared.code.Class.{Class}
-use Rattle.coded_cells.specs.Shapes.{class_object}
-use Rattle.paths.specs.PathLabels.{To_field}
+use Rattle.code_table.specs.declared.code.Class.{Class}
+use Rattle.code_table.specs.Shapes.{class_object}
+use Rattle.def_paths.specs.PathLabels.{To_field}
 use Rattle.state_lines.specs.declared.seen.Seen.{Seen}
 use Rattle.path_equal.specs.Reading.{child_cell, nth_of}
 use Rattle.state_lines.specs.Sights.{seen_shape}

@@ -2,13 +2,13 @@ use Rattle.std.proofs.Common.{◌≡◌, ◌∙◌, ◌<◌, List, ℕ, length, 
 use Rattle.std.specs.List.{flat_map}
 use Rattle.std.specs.Option.{option_to_list}
 use Rattle.asp_model.specs.Term.{locations_below}
-use Rattle.program_code.specs.declared.code.Child.{Child}
-use Rattle.program_code.specs.declared.code.Node.{Node}
-use Rattle.program_code.specs.Pieces.{Piece}
-use Rattle.program_code.specs.Sound.{AllBelow, IsBelow}
-use Rattle.program_code.specs.Tables.{pieces}
-use Rattle.program_code.proofs.GrowthLemmas.{below_more}
-use Rattle.code_decoder.proofs.DecodeLemmas.{child_below, node_below, rank_below}
+use Rattle.code_table.specs.declared.code.Child.{Child}
+use Rattle.code_table.specs.declared.code.Node.{Node}
+use Rattle.code_table.specs.Pieces.{Piece}
+use Rattle.code_table.specs.Sound.{AllBelow, IsBelow}
+use Rattle.code_table.specs.Tables.{pieces}
+use Rattle.code_table.proofs.GrowthLemmas.{below_more}
+use Rattle.code_reading.proofs.DecodeLemmas.{child_below, node_below, rank_below}
 use Rattle.path_equal.specs.Held.{child_held, methods_behind}
 use Rattle.path_equal.specs.Searches.{searched}
 use Rattle.path_equal.proofs.HeldLemmas.{kind_sound, leaf_found, node_found, one_more}

@@ -1,7 +1,7 @@
 use Rattle.std.proofs.Common.{◌≡◌, ◌+◌, ◌*◌, take}
 use Rattle.std.specs.List.{flat_map}
-use Rattle.program_code.specs.Tables.{pieces}
-use Rattle.code_decoder.specs.Decoded.{rank}
+use Rattle.code_table.specs.Tables.{pieces}
+use Rattle.code_reading.specs.Decoded.{rank}
 use Rattle.path_equal.specs.Held.{child_held}
 use Rattle.path_equal.specs.Searches.{searched}
 use Rattle.path_equal.proofs.code.+terms.Given as goal

@@ -1,5 +1,5 @@
 use Rattle.std.proofs.Common.{◌<◌, ◌∙◌, List, ℕ, length, slice_index_or, ap, subst}
-use Rattle.program_code.specs.declared.code.Capture.{Capture}
+use Rattle.code_table.specs.declared.code.Capture.{Capture}
 use Rattle.path_equal.specs.Held.{use_held}
 use Rattle.path_equal.specs.Searches.{searched}
 use Rattle.path_equal.proofs.HeldLemmas.{one_more}

@@ -1,10 +1,10 @@
 use Rattle.std.proofs.Common.{◌≡◌, ◌∙◌, List, ℕ, ap, subst, sym}
 use Rattle.std.specs.List.{flat_map}
 use Rattle.asp_model.specs.Term.{locations_below}
-use Rattle.program_code.specs.declared.code.Class.{Class}
-use Rattle.program_code.specs.declared.code.Kind.{Kind}
-use Rattle.program_code.specs.declared.code.MethodCode.{MethodCode}
-use Rattle.program_code.specs.Sound.{KindSound, MethodsSound}
+use Rattle.code_table.specs.declared.code.Class.{Class}
+use Rattle.code_table.specs.declared.code.Kind.{Kind}
+use Rattle.code_table.specs.declared.code.MethodCode.{MethodCode}
+use Rattle.code_table.specs.Sound.{KindSound, MethodsSound}
 use Rattle.path_equal.specs.Held.{body_held, methods_behind}
 use Rattle.path_equal.specs.Searches.{searched}
 use Rattle.path_equal.proofs.HeldLemmas.{bodies_found}

@@ -1,5 +1,5 @@
 use Rattle.std.proofs.Common.{◌∙◌, List, ℕ, ap}
-use Rattle.program_code.specs.declared.code.MethodCode.{MethodCode}
+use Rattle.code_table.specs.declared.code.MethodCode.{MethodCode}
 use Rattle.path_equal.specs.Held.{body_held}
 use Rattle.path_equal.specs.Searches.{searched}
 use Rattle.path_equal.proofs.HeldLemmas.{body_found, method_sound, one_more}

@@ -1,7 +1,7 @@
 use Rattle.std.proofs.Common.{◌≡◌, List, take}
 use Rattle.std.specs.List.{flat_map}
-use Rattle.program_code.specs.Pieces.{Piece}
-use Rattle.program_code.specs.Sound.{MethodsSound}
+use Rattle.code_table.specs.Pieces.{Piece}
+use Rattle.code_table.specs.Sound.{MethodsSound}
 use Rattle.path_equal.specs.Held.{body_held}
 use Rattle.path_equal.specs.Searches.{searched}
 use Rattle.path_equal.proofs.code.past_methods.Given as goal

@@ -1,16 +1,16 @@
 use Rattle.std.proofs.Common.{◌≡◌, ◌+◌, ◌<◌, ◌≤◌, ◌++◌, ◌∙◌, List, ℕ, Some, None, length, map, drop, get_or, sym, ap, subst, arith}
 use Rattle.std.specs.List.{flat_map}
 use Rattle.asp_model.specs.Term.{Tree, loc, locations_below, more, none}
-use Rattle.program_code.specs.declared.code.Child.{Child}
-use Rattle.program_code.specs.declared.code.Node.{Node}
-use Rattle.program_code.specs.Pieces.{Piece}
-use Rattle.program_code.specs.Sound.{AllBelow}
-use Rattle.program_code.specs.Tables.{kind_piece, node_piece, piece_at, pieces, pieces_of}
-use Rattle.program_code.proofs.TableLemmas.{node_here}
+use Rattle.code_table.specs.declared.code.Child.{Child}
+use Rattle.code_table.specs.declared.code.Node.{Node}
+use Rattle.code_table.specs.Pieces.{Piece}
+use Rattle.code_table.specs.Sound.{AllBelow}
+use Rattle.code_table.specs.Tables.{kind_piece, node_piece, piece_at, pieces, pieces_of}
+use Rattle.code_table.proofs.TableLemmas.{node_here}
 use Rattle.code_laws.specs.Nodes.{nth, rest}
 use Rattle.code_laws.specs.Shown.{shown}
-use Rattle.code_decoder.specs.Decoded.{gone}
-use Rattle.code_decoder.proofs.DecodeLemmas.{node_below}
+use Rattle.code_reading.specs.Decoded.{gone}
+use Rattle.code_reading.proofs.DecodeLemmas.{node_below}
 use Rattle.path_equal.specs.Held.{child_held, methods_behind}
 use Rattle.path_equal.specs.Searches.{searched}
 use Rattle.path_equal.proofs.ContextLemmas.{all_below_drop, others_left, rolled_left}

@@ -1,7 +1,7 @@
 use Rattle.std.proofs.Common.{List, ℕ, ap, sym, ◌∙◌}
 use Rattle.std.specs.List.{flat_map}
 use Rattle.asp_model.specs.Term.{locations_below}
-use Rattle.program_code.specs.Tables.{pieces}
+use Rattle.code_table.specs.Tables.{pieces}
 use Rattle.path_equal.specs.Held.{child_held, methods_behind}
 use Rattle.path_equal.specs.Searches.{searched}
 use Rattle.path_equal.proofs.SearchLemmas.{searched_both}

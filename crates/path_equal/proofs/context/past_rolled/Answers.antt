@@ -1,7 +1,7 @@
 use Rattle.std.proofs.Common.{List, ℕ, map, ap, sym, ◌∙◌, arith}
 use Rattle.asp_model.specs.Term.{Tree, loc, locations}
-use Rattle.program_code.specs.declared.code.Child.{Child}
-use Rattle.program_code.specs.Tables.{piece_at, pieces, pieces_of}
+use Rattle.code_table.specs.declared.code.Child.{Child}
+use Rattle.code_table.specs.Tables.{piece_at, pieces, pieces_of}
 use Rattle.code_laws.specs.Nodes.{nth}
 use Rattle.code_laws.specs.Shown.{shown}
 use Rattle.path_equal.specs.Searches.{searched}

@@ -1,9 +1,9 @@
 use Rattle.std.proofs.Common.{◌≡◌, List, ℕ, drop, ap, subst, sym, ◌∙◌}
 use Rattle.asp_model.specs.Term.{Call, locations, locs_then, node, none}
-use Rattle.machine_frames.specs.declared.frames.Focus.{Focus}
-use Rattle.machine_frames.specs.Calls.{IsCalled}
-use Rattle.machine_frames.specs.Stacks.{last}
-use Rattle.machine_frames.specs.Standing.{IsFocus, taken}
+use Rattle.step_machine.specs.declared.frames.Focus.{Focus}
+use Rattle.step_machine.specs.Calls.{IsCalled}
+use Rattle.step_machine.specs.Stacks.{last}
+use Rattle.step_machine.specs.Standing.{IsFocus, taken}
 use Rattle.path_equal.specs.Searches.{searched}
 use Rattle.path_equal.proofs.CallLemmas.{places_found}
 use Rattle.path_equal.proofs.focus.past_focus.Goals as goal

@@ -1,6 +1,6 @@
 use Rattle.std.proofs.Common.{Option, Some, ◌∙◌, ap, arith}
 use Rattle.asp_model.specs.Store.{CellShape}
-use Rattle.paths.specs.Places.{Place, found_at}
+use Rattle.def_paths.specs.Places.{Place, found_at}
 use Rattle.path_equal.specs.Reading.{found_of}
 use Rattle.state_lines.specs.States.{side_in}
 use Rattle.path_equal.proofs.ReadLemmas.{leads_all}

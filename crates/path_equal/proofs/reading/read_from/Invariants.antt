@@ -1,6 +1,6 @@
 use Rattle.std.proofs.Common.{◌≡◌, drop}
-use Rattle.paths.specs.PathLabels.{leads_by}
-use Rattle.paths.specs.Places.{Place, In_store}
+use Rattle.def_paths.specs.PathLabels.{leads_by}
+use Rattle.def_paths.specs.Places.{Place, In_store}
 use Rattle.path_equal.specs.Reading.{labels_shape}
 use Rattle.run_ends.specs.Reads.{IsAt}
 use Rattle.state_lines.specs.States.{side_in}

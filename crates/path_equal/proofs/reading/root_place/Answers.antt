@@ -3,7 +3,7 @@ use Rattle.std.proofs.lemmas.List.{reverse-reverse}
 use Rattle.std.specs.List.{flat_map}
 use Rattle.asp_model.specs.Configuration.{ServiceShape}
 use Rattle.asp_model.specs.Term.{locations}
-use Rattle.paths.specs.Agree.{places_in}
+use Rattle.def_paths.specs.Agree.{places_in}
 use Rattle.path_equal.specs.Reading.{root_in}
 use Rattle.path_equal.proofs.reading.root_place.Goals as goal
 

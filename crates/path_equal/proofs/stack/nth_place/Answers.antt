@@ -1,7 +1,7 @@
 use Rattle.std.proofs.Common.{◌≡◌, List, ℕ, ap, reverse, subst, sym, ◌∙◌}
-use Rattle.machine_frames.specs.declared.frames.Frame.{Frame}
-use Rattle.machine_frames.specs.Stacks.{IsStack, but_last}
-use Rattle.machine_frames.specs.Standing.{taken}
+use Rattle.step_machine.specs.declared.frames.Frame.{Frame}
+use Rattle.step_machine.specs.Stacks.{IsStack, but_last}
+use Rattle.step_machine.specs.Standing.{taken}
 use Rattle.path_equal.specs.Searches.{place_found}
 use Rattle.path_equal.proofs.StackLemmas.{all_found}
 use Rattle.path_equal.proofs.stack.nth_place.Goals as goal

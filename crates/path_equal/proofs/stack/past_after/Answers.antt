@@ -1,8 +1,8 @@
 use Rattle.std.proofs.Common.{refl, subst}
-use Rattle.machine_frames.specs.declared.frames.Form.{Form}
-use Rattle.machine_frames.specs.Calls.{IsCalling}
-use Rattle.machine_frames.specs.Items.{Waits}
-use Rattle.machine_frames.specs.Stacks.{IsItem, IsWaiting}
+use Rattle.step_machine.specs.declared.frames.Form.{Form}
+use Rattle.step_machine.specs.Calls.{IsCalling}
+use Rattle.step_machine.specs.Items.{Waits}
+use Rattle.step_machine.specs.Stacks.{IsItem, IsWaiting}
 use Rattle.path_equal.proofs.CallLemmas.{calling_behind}
 use Rattle.path_equal.proofs.ContextLemmas.{waiting_found}
 use Rattle.path_equal.proofs.stack.past_after.Goals as goal

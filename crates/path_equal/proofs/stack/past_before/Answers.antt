@@ -1,8 +1,8 @@
 use Rattle.std.proofs.Common.{List, ℕ, ap, subst, ◌∙◌}
-use Rattle.machine_frames.specs.declared.frames.Form.{Form}
-use Rattle.machine_frames.specs.Calls.{IsCalling}
-use Rattle.machine_frames.specs.Items.{Waits}
-use Rattle.machine_frames.specs.Stacks.{IsItem}
+use Rattle.step_machine.specs.declared.frames.Form.{Form}
+use Rattle.step_machine.specs.Calls.{IsCalling}
+use Rattle.step_machine.specs.Items.{Waits}
+use Rattle.step_machine.specs.Stacks.{IsItem}
 use Rattle.path_equal.specs.Searches.{searched}
 use Rattle.path_equal.proofs.CallLemmas.{calling_before}
 use Rattle.path_equal.proofs.stack.past_before.Goals as goal

@@ -1,7 +1,7 @@
 use Rattle.std.proofs.Common.{◌≡◌, List, ℕ, drop, get_or, refl, subst, sym, take, arith}
-use Rattle.machine_frames.specs.declared.frames.Frame.{Frame}
-use Rattle.machine_frames.specs.Items.{Item, contexts_of}
-use Rattle.machine_frames.specs.Stacks.{IsItem}
+use Rattle.step_machine.specs.declared.frames.Frame.{Frame}
+use Rattle.step_machine.specs.Items.{Item, contexts_of}
+use Rattle.step_machine.specs.Stacks.{IsItem}
 use Rattle.path_equal.specs.Contexts.{places_before}
 use Rattle.path_equal.specs.Searches.{searched}
 use Rattle.path_equal.proofs.StackLemmas.{before_more, end, go_on, no_frame}

@@ -1,5 +1,5 @@
 use Rattle.std.proofs.Common.{◌≡◌, List, ℕ}
-use Rattle.machine_frames.specs.Items.{contexts_of}
+use Rattle.step_machine.specs.Items.{contexts_of}
 use Rattle.path_equal.specs.Contexts.{places_before}
 use Rattle.path_equal.specs.Searches.{searched}
 use Rattle.path_equal.proofs.StackLemmas.{Reached}

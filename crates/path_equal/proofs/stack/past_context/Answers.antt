@@ -1,6 +1,6 @@
 use Rattle.std.proofs.Common.{◌≡◌, List, ℕ, ap, drop, subst, sym, take, ◌∙◌}
-use Rattle.machine_frames.specs.Items.{Waits}
-use Rattle.machine_frames.specs.Stacks.{IsItem, last}
+use Rattle.step_machine.specs.Items.{Waits}
+use Rattle.step_machine.specs.Stacks.{IsItem, last}
 use Rattle.path_equal.specs.declared.stack.Part.{Part}
 use Rattle.path_equal.specs.Contexts.{part_places}
 use Rattle.path_equal.specs.Searches.{searched}

@@ -1,6 +1,6 @@
 use Rattle.std.proofs.Common.{List, length, reverse}
-use Rattle.machine_frames.specs.Items.{Item}
-use Rattle.machine_frames.specs.Stacks.{IsStack}
+use Rattle.step_machine.specs.Items.{Item}
+use Rattle.step_machine.specs.Stacks.{IsStack}
 use Rattle.path_equal.proofs.StackLemmas.{Walked}
 use Rattle.path_equal.proofs.stack.past_contexts.Given as goal
 

@@ -1,7 +1,7 @@
 use Rattle.std.proofs.Common.{◌≡◌, ◌-◌, List, ℕ, drop, get_or, length, refl, reverse, subst, sym, take, arith}
-use Rattle.machine_frames.specs.declared.frames.Frame.{Frame}
-use Rattle.machine_frames.specs.Items.{Item}
-use Rattle.machine_frames.specs.Stacks.{IsStack}
+use Rattle.step_machine.specs.declared.frames.Frame.{Frame}
+use Rattle.step_machine.specs.Items.{Item}
+use Rattle.step_machine.specs.Stacks.{IsStack}
 use Rattle.path_equal.specs.Searches.{searched}
 use Rattle.path_equal.proofs.StackLemmas.{end, go_on, no_frame, service_more, services_places}
 use Rattle.path_equal.proofs.stack.past_services.Goals as goal

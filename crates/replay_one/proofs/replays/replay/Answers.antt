@@ -7,8 +7,8 @@ use Rattle.asp_model.specs.Configuration.{start}
 use Rattle.asp_model.specs.Outcome.{outcome_of}
 use Rattle.asp_model.specs.Replay.{CountsShape, IsLeastDiverging, count_in, replay, steps_from, total}
 use Rattle.asp_model.specs.Shapes.{outcome_shape, tree_of}
-use Rattle.schedules.specs.Divergence.{AreInOrder, divergence_of}
-use Rattle.schedules.proofs.DivergenceLemmas.{diverges_where_first, fits_where_none_differs}
+use Rattle.law_schedules.specs.Divergence.{AreInOrder, divergence_of}
+use Rattle.law_schedules.proofs.DivergenceLemmas.{diverges_where_first, fits_where_none_differs}
 use Rattle.replay_one.specs.Rows.{list_shape}
 use Rattle.replay_one.proofs.DifferenceLemmas.{difference_in, divergence_is, in_order, names_of_lists}
 use Rattle.replay_one.proofs.replays.replay.Goals as goal

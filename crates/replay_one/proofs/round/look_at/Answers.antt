@@ -3,10 +3,10 @@ use Rattle.asp_model.specs.Chase.{chase}
 use Rattle.asp_model.specs.Configuration.{requests_of}
 use Rattle.asp_model.specs.Intent.{Done, Faulted}
 use Rattle.asp_model.specs.Shapes.{fault_shape, future_shape}
-use Rattle.actor.specs.declared.actor.Actor.{Actor}
+use Rattle.step_activity.specs.declared.actor.Actor.{Actor}
 use Rattle.asp_model.specs.Step.{intent_in}
-use Rattle.actor.specs.Outlook.{IsOutlook}
-use Rattle.actor.proofs.PassingLemmas.{first_passed}
+use Rattle.step_activity.specs.Outlook.{IsOutlook}
+use Rattle.step_activity.proofs.PassingLemmas.{first_passed}
 use Rattle.replay_one.specs.declared.population.Population.{Population}
 use Rattle.replay_one.specs.Bounds.{count_within, lists_within}
 use Rattle.replay_one.specs.Population.{HasPassedIn, found_in}

@@ -1,8 +1,8 @@
 use Rattle.std.proofs.Common.{◌≡◌, List, true, false, sym, ap, ◌∙◌}
 use Rattle.std.specs.Prelude.{reverse}
-use Rattle.machine_frames.specs.declared.frames.Frame.{Frame}
-use Rattle.machine_frames.specs.declared.frames.Focus.TheVariants as focus
-use Rattle.machine_frames.specs.Standing.{view_of}
+use Rattle.step_machine.specs.declared.frames.Frame.{Frame}
+use Rattle.step_machine.specs.declared.frames.Focus.TheVariants as focus
+use Rattle.step_machine.specs.Standing.{view_of}
 use Rattle.run_ends.specs.Ends.{none_waits}
 use Rattle.run_ends.proofs.PlaceLemmas.{at_place, behind_frames, elsewhere}
 use Rattle.run_ends.proofs.ends.place_in.Goals as goal

@@ -3,7 +3,7 @@ use Rattle.std.proofs.lemmas.Result.{on_ok_weaker}
 use Rattle.asp_model.specs.declared.outcome.ActivityReport.{ActivityReport}
 use Rattle.asp_model.specs.Report.{activity_lines}
 use Rattle.asp_model.specs.Shapes.{activity_shape}
-use Rattle.paths.specs.Outcomes.{lines_to}
+use Rattle.def_paths.specs.Outcomes.{lines_to}
 use Rattle.run_report.specs.Ends.{lines_at, states_at}
 use Rattle.run_report.proofs.EndLemmas.{one_end, same_activities}
 use Rattle.run_report.proofs.report.push_end.Goals as goal

@@ -1,6 +1,6 @@
 use Rattle.std.proofs.Common.{List, ℕ, ◌++◌, ◌∙◌, take, sym, ap, append_assoc}
 use Rattle.std.specs.List.{flat_map}
-use Rattle.paths.specs.Outcomes.{end_lines}
+use Rattle.def_paths.specs.Outcomes.{end_lines}
 use Rattle.run_report.specs.Ends.{lines_at}
 use Rattle.run_report.proofs.EndLemmas.{one_more}
 use Rattle.run_report.proofs.report.push_ends.Goals as goal

@@ -1,6 +1,6 @@
 use Rattle.std.proofs.Common.{◌≡◌, ◌++◌, take}
 use Rattle.std.specs.List.{flat_map}
-use Rattle.paths.specs.Outcomes.{WholeOutcome, end_lines}
+use Rattle.def_paths.specs.Outcomes.{WholeOutcome, end_lines}
 use Rattle.run_ends.specs.Ends.{IsEndOf}
 use Rattle.run_report.proofs.report.push_ends.Given as goal
 

@@ -1,10 +1,10 @@
 use Rattle.std.proofs.Common.{◌∙◌, List, Option, OnOk, map, sym, ap, subst}
 use Rattle.asp_model.specs.declared.word.Label.{Label}
-use Rattle.program_code.specs.declared.code.Class.{Class}
-use Rattle.program_code.specs.Tables.{labels_of, text_of}
-use Rattle.coded_cells.specs.Shapes.{class_object}
-use Rattle.paths.specs.Places.{Place}
-use Rattle.paths.specs.StateLines.{Path}
+use Rattle.code_table.specs.declared.code.Class.{Class}
+use Rattle.code_table.specs.Tables.{labels_of, text_of}
+use Rattle.code_table.specs.Shapes.{class_object}
+use Rattle.def_paths.specs.Places.{Place}
+use Rattle.def_paths.specs.StateLines.{Path}
 use Rattle.state_lines.specs.declared.seen.Seen.{Seen}
 use Rattle.state_lines.specs.Below.{Pushes, cell_below, fields_below, place_in}
 use Rattle.state_lines.specs.Sights.{seen_shape}

@@ -1,6 +1,6 @@
 use Rattle.std.proofs.Common.{◌≡◌, ◌-◌, ◌∙◌, suc, length, map, drop, get_or, min, sym, ap, arith}
 use Rattle.std.proofs.lemmas.List.{length-map}
-use Rattle.program_code.specs.Tables.{text_of}
+use Rattle.code_table.specs.Tables.{text_of}
 use Rattle.state_lines.specs.Below.{fields_below, place_in}
 use Rattle.state_lines.specs.Walks.{all_pending, pending_at}
 use Rattle.state_lines.proofs.BelowLemmas.{field_before, fields_past, none_before, one_before}

@@ -1,5 +1,5 @@
 use Rattle.std.proofs.Common.{◌≤◌, drop, length, map}
-use Rattle.program_code.specs.Tables.{text_of}
+use Rattle.code_table.specs.Tables.{text_of}
 use Rattle.state_lines.specs.Below.{Pushes, StaySpots, fields_below, place_in}
 use Rattle.state_lines.proofs.below.push_fields.Given as goal
 

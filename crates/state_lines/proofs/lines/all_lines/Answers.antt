@@ -1,5 +1,5 @@
 use Rattle.std.proofs.Common.{◌∙◌, ap}
-use Rattle.paths.specs.StateLines.{Shown}
+use Rattle.def_paths.specs.StateLines.{Shown}
 use Rattle.state_lines.proofs.WalkLemmas.{begun_shown, begun_walk}
 use Rattle.state_lines.proofs.lines.all_lines.Goals as goal
 

@@ -1,8 +1,8 @@
 use Rattle.std.proofs.Common.{◌∙◌, ◌∷◌, ◌++◌, [], refl, sym, ap}
 use Rattle.std.specs.Prelude.{codes}
 use Rattle.asp_model.specs.Store.{CellShape}
-use Rattle.paths.specs.Places.{found}
-use Rattle.paths.specs.StateLines.{state_line, what_text}
+use Rattle.def_paths.specs.Places.{found}
+use Rattle.def_paths.specs.StateLines.{state_line, what_text}
 use Rattle.run_ends.specs.Spots.{place_of, places_in}
 use Rattle.state_lines.specs.States.{side_in}
 use Rattle.state_lines.specs.Walks.{shown_in, shown_with}

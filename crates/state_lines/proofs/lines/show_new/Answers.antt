@@ -2,7 +2,7 @@ use Rattle.std.proofs.Common.{◌∙◌, ◌∷◌, ◌++◌, [], sym, ap, subst
 use Rattle.std.specs.List.{AllByRecursion}
 use Rattle.asp_model.specs.Store.{CellShape}
 use Rattle.indexmap.proofs.CallerLemmas.{insert_entry-new}
-use Rattle.paths.specs.StateLines.{Path, state_line, what_text}
+use Rattle.def_paths.specs.StateLines.{Path, state_line, what_text}
 use Rattle.run_ends.specs.declared.entered.Spot.{Spot}
 use Rattle.run_ends.specs.Spots.{IsSpot, is_spot, place_of, size_of}
 use Rattle.state_lines.specs.States.{side_in}

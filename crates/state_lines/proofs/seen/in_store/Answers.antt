@@ -1,7 +1,7 @@
 use Rattle.std.proofs.Common.{◌∙◌, sym, ap, arith}
-use Rattle.coded_cells.specs.Cells.{CodedCell}
-use Rattle.coded_cells.specs.Shapes.{cell_of, store_of}
-use Rattle.coded_cells.proofs.CodedLemmas.{cell-store_of, length-store_of}
+use Rattle.code_table.specs.Cells.{CodedCell}
+use Rattle.code_table.specs.Shapes.{cell_of, store_of}
+use Rattle.code_table.proofs.CodedLemmas.{cell-store_of, length-store_of}
 use Rattle.state_lines.proofs.SightLemmas.{cell_past}
 use Rattle.state_lines.proofs.seen.in_store.Goals as goal
 

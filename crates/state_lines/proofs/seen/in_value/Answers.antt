@@ -1,10 +1,10 @@
 use Rattle.std.proofs.Common.{List, ◌∙◌, sym, ap, arith}
 use Rattle.std.proofs.lemmas.List.{length-map}
 use Rattle.std.specs.Arc.{arc_value}
-use Rattle.program_code.specs.declared.code.Node.{Node}
-use Rattle.coded_cells.specs.Cells.{CodedCell, all_coded, coded}
-use Rattle.coded_cells.specs.Shapes.{cell_of, store_of}
-use Rattle.coded_cells.proofs.CodedLemmas.{at_place, cell-store_of, length-store_of}
+use Rattle.code_table.specs.declared.code.Node.{Node}
+use Rattle.code_table.specs.Cells.{CodedCell, all_coded, coded}
+use Rattle.code_table.specs.Shapes.{cell_of, store_of}
+use Rattle.code_table.proofs.CodedLemmas.{at_place, cell-store_of, length-store_of}
 use Rattle.state_lines.proofs.SightLemmas.{cell_past}
 use Rattle.state_lines.proofs.seen.in_value.Goals as goal
 

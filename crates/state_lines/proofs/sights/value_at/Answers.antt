@@ -1,5 +1,5 @@
 use Rattle.std.proofs.Common.{◌∙◌, sym, ap}
-use Rattle.paths.specs.Places.{entered_by}
+use Rattle.def_paths.specs.Places.{entered_by}
 use Rattle.state_lines.specs.declared.seen.Seen.{Seen}
 use Rattle.state_lines.specs.Sights.{seen_shape}
 use Rattle.state_lines.specs.States.{side_in}

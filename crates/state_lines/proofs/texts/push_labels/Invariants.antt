@@ -1,6 +1,6 @@
 use Rattle.std.proofs.Common.{◌≡◌, ◌++◌, map, take}
 use Rattle.std.specs.Prelude.{string_bytes}
-use Rattle.program_code.specs.Tables.{text_of}
+use Rattle.code_table.specs.Tables.{text_of}
 use Rattle.state_lines.specs.Texts.{labels_text}
 use Rattle.state_lines.proofs.texts.push_labels.Given as goal
 

@@ -2,9 +2,9 @@ use Rattle.std.proofs.Common.{List, ℕ, ◌∙◌, OnOk, sym, ap, subst}
 use Rattle.asp_model.specs.Names.{FutureShape}
 use Rattle.asp_model.specs.Chase.{chase}
 use Rattle.future_table.specs.Values.{values_of}
-use Rattle.paths.specs.Places.{name_by}
-use Rattle.paths.specs.StateLines.{what_text}
-use Rattle.program_code.specs.Classes.{class_at}
+use Rattle.def_paths.specs.Places.{name_by}
+use Rattle.def_paths.specs.StateLines.{what_text}
+use Rattle.code_table.specs.Classes.{class_at}
 use Rattle.state_lines.specs.declared.seen.Seen.{Seen}
 use Rattle.state_lines.specs.Sights.{seen_shape}
 use Rattle.state_lines.specs.Texts.{AddsText, shown_by}

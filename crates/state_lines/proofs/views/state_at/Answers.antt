@@ -2,8 +2,8 @@ use Rattle.std.proofs.Common.{◌≡◌, ◌≤◌, List, ℕ, length, slice_get
 use Rattle.std.specs.Arc.{arc_value}
 use Rattle.std.proofs.lemmas.Option.{slice_get-get_or, slice_get_past}
 use Rattle.asp_model.specs.declared.outcome.ActivityReport.{ActivityReport}
-use Rattle.program_code.specs.declared.code.Node.{Node}
-use Rattle.paths.specs.Outcomes.{EndShape}
+use Rattle.code_table.specs.declared.code.Node.{Node}
+use Rattle.def_paths.specs.Outcomes.{EndShape}
 use Rattle.run_ends.specs.declared.ends.EndState.{EndState}
 use Rattle.run_ends.specs.Ends.{IsSnapshotOf}
 use Rattle.state_lines.specs.Views.{IsSeen}

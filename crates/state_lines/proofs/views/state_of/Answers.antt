@@ -1,6 +1,6 @@
 use Rattle.std.proofs.Common.{ap, ◌∙◌}
 use Rattle.asp_model.specs.Intent.{StatusShape}
-use Rattle.paths.specs.Snapshots.{result_in}
+use Rattle.def_paths.specs.Snapshots.{result_in}
 use Rattle.state_lines.proofs.views.state_of.Goals as goal
 
 pub returns : goal.returns

@@ -1,6 +1,6 @@
 use Rattle.std.proofs.Common.{◌∙◌, ap}
 use Rattle.std.proofs.lemmas.Result.{IfOk-weaker}
-use Rattle.actor.specs.Actors.{code_of}
+use Rattle.step_activity.specs.Actors.{code_of}
 use Rattle.step_ends.proofs.ReportLemmas.{unboxed}
 use Rattle.step_ends.proofs.outcome.code_of_all.Goals as goal
 

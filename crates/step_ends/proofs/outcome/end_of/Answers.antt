@@ -1,8 +1,8 @@
 use Rattle.std.proofs.Common.{◌≡◌, ◌∙◌, List, ap, map, subst, sym}
-use Rattle.program_code.specs.declared.code.Node.{Node}
-use Rattle.paths.specs.Snapshots.{snapshot_of}
+use Rattle.code_table.specs.declared.code.Node.{Node}
+use Rattle.def_paths.specs.Snapshots.{snapshot_of}
 use Rattle.run_ends.specs.Ends.{IsSnapshotOf}
-use Rattle.actor.specs.Actors.{IsClosedFor, Stands, code_of}
+use Rattle.step_activity.specs.Actors.{IsClosedFor, Stands, code_of}
 use Rattle.step_ends.proofs.outcome.end_of.Goals as goal
 
 pub status_of-requires-clause-closed : goal.status_of-requires-clause-closed

@@ -3,11 +3,11 @@ use Rattle.std.specs.Global.{Box}
 use Rattle.asp_model.specs.declared.outcome.ActivityReport.{ActivityReport}
 use Rattle.asp_model.specs.Names.{Name}
 use Rattle.asp_model.specs.Chase.{Values}
-use Rattle.program_code.specs.declared.code.Node.{Node}
+use Rattle.code_table.specs.declared.code.Node.{Node}
 use Rattle.future_table.specs.Values.{values_of}
-use Rattle.paths.specs.Outcomes.{EndShape}
+use Rattle.def_paths.specs.Outcomes.{EndShape}
 use Rattle.run_ends.specs.declared.ends.EndState.{EndState}
-use Rattle.actor.specs.declared.actor.Actor.{Actor}
+use Rattle.step_activity.specs.declared.actor.Actor.{Actor}
 use Rattle.step_ends.specs.Ends.{AreClosedStates}
 use Rattle.step_ends.proofs.ReportLemmas.{IsPart, all_made, none_made, one_made}
 use Rattle.step_ends.proofs.outcome.ends_of.Goals as goal

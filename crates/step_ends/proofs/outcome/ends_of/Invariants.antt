@@ -1,7 +1,7 @@
 use Rattle.std.proofs.Common.{List}
-use Rattle.program_code.specs.declared.code.Node.{Node}
+use Rattle.code_table.specs.declared.code.Node.{Node}
 use Rattle.future_table.specs.Values.{values_of}
-use Rattle.paths.specs.Outcomes.{EndShape}
+use Rattle.def_paths.specs.Outcomes.{EndShape}
 use Rattle.step_ends.specs.Ends.{AreClosedStates, AreEndsFor}
 use Rattle.step_ends.proofs.ReportLemmas.{IsPart}
 use Rattle.step_ends.proofs.outcome.ends_of.Given as goal

@@ -7,10 +7,10 @@ use Rattle.asp_model.specs.Configuration.{Configuration}
 use Rattle.asp_model.specs.Outcome.{activity_report}
 use Rattle.asp_model.specs.Shapes.{activity_shape, status_shape, verdict_shape}
 use Rattle.asp_model.specs.Status.{verdict_among, verdict_of}
-use Rattle.program_code.specs.declared.code.Node.{Node}
-use Rattle.paths.specs.Outcomes.{EndShape, end_of, whole_outcome_of}
+use Rattle.code_table.specs.declared.code.Node.{Node}
+use Rattle.def_paths.specs.Outcomes.{EndShape, end_of, whole_outcome_of}
 use Rattle.run_ends.specs.Ends.{AreSnapshotsOf, IsEndOf}
-use Rattle.actor.specs.declared.actor.Actor.{Actor}
+use Rattle.step_activity.specs.declared.actor.Actor.{Actor}
 use Rattle.step_ends.specs.Activities.{StandForReached}
 use Rattle.step_ends.specs.Ends.{AreEndsBy}
 use Rattle.step_ends.proofs.ReportLemmas.{all_closed, all_ends, map_map, reported_is, somebody, statuses_shown, values_closed}

@@ -1,6 +1,6 @@
 use Rattle.std.proofs.Common.{◌≡◌, IfOk, ap, subst, sym, ◌∙◌}
-use Rattle.open_terms.specs.Shapes.{part_shape, kind_shape, open_shape, stack}
-use Rattle.asp_grammar.specs.Closings.{FinishedShape}
+use Rattle.syntax_terms.specs.Shapes.{part_shape, kind_shape, open_shape, stack}
+use Rattle.syntax_grammar.specs.Closings.{FinishedShape}
 use Rattle.syntax_states.specs.Answers.{finished_in}
 use Rattle.syntax_states.proofs.Others.{body_over}
 use Rattle.syntax_states.proofs.closing.+finish.Goals as goal

@@ -1,5 +1,5 @@
-use Rattle.open_terms.specs.Shapes.{part_shape, kind_shape, open_shape, stack}
-use Rattle.asp_grammar.proofs.Shallow.{finished_few}
+use Rattle.syntax_terms.specs.Shapes.{part_shape, kind_shape, open_shape, stack}
+use Rattle.syntax_grammar.proofs.Shallow.{finished_few}
 use Rattle.syntax_states.proofs.closing.close.Goals as goal
 
 pub closing_round-requires : goal.closing_round-requires

@@ -1,4 +1,4 @@
-use Rattle.open_terms.specs.Shapes.{part_shape, open_shape, stack}
+use Rattle.syntax_terms.specs.Shapes.{part_shape, open_shape, stack}
 use Rattle.syntax_states.specs.Shapes.{operand_shape}
 use Rattle.syntax_states.proofs.Others.{have_behind}
 use Rattle.syntax_states.proofs.machine.have.Goals as goal

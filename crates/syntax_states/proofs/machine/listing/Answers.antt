@@ -1,9 +1,9 @@
 use Rattle.std.proofs.Common.{◌≡◌, List, Some, map, subst}
 use Rattle.asp_model.specs.declared.term.Term.{Term}
 use Rattle.asp_model.specs.Shapes.{marked_of}
-use Rattle.asp_grammar.specs.States.{InList}
-use Rattle.asp_grammar.specs.Closings.{opened}
-use Rattle.open_terms.specs.Shapes.{target_shape, open_shape, stack}
+use Rattle.syntax_grammar.specs.States.{InList}
+use Rattle.syntax_grammar.specs.Closings.{opened}
+use Rattle.syntax_terms.specs.Shapes.{target_shape, open_shape, stack}
 use Rattle.syntax_states.specs.Shapes.{state_shape}
 use Rattle.syntax_states.proofs.Others.{list_term}
 use Rattle.syntax_states.proofs.machine.listing.Goals as goal

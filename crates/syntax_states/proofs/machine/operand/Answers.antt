@@ -1,4 +1,4 @@
-use Rattle.open_terms.specs.Shapes.{open_shape, stack}
+use Rattle.syntax_terms.specs.Shapes.{open_shape, stack}
 use Rattle.syntax_states.proofs.Others.{operand_becomes}
 use Rattle.syntax_states.proofs.machine.operand.Goals as goal
 

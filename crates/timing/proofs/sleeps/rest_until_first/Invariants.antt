@@ -1,4 +1,4 @@
-use Rattle.turn_race.specs.Ready.{IsReady}
+use Rattle.race_trials.specs.Ready.{IsReady}
 use Rattle.timing.proofs.sleeps.rest_until_first.Given as goal
 
 abbrev pub invariant-loop : goal.invariant-loop

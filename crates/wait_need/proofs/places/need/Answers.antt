@@ -1,6 +1,6 @@
 use Rattle.std.proofs.Common.{◌∙◌}
 use Rattle.asp_model.specs.Chase.{chase}
-use Rattle.coded_cells.specs.Cells.{coded}
+use Rattle.code_table.specs.Cells.{coded}
 use Rattle.future_table.specs.Values.{values_of}
 use Rattle.wait_need.proofs.NeedLemmas.{cell_needs}
 use Rattle.wait_need.proofs.places.need.Goals as goal

@@ -3,9 +3,9 @@ use Rattle.asp_model.specs.History.{HistoryShape}
 use Rattle.asp_model.specs.Shapes.{tree_of}
 use Rattle.asp_model.specs.Term.{Tree, locations}
 use Rattle.asp_core.specs.Cores.{history_of}
-use Rattle.core_ends.specs.Runs.{IsEndOfRun}
-use Rattle.core_runs.specs.Plans.{IsEndByChoice, IsEndByPlan}
-use Rattle.core_runs.proofs.OverLemmas.{ended_as}
+use Rattle.asp_core.specs.EndOfRun.{IsEndOfRun}
+use Rattle.asp_core.specs.PlannedEnds.{IsEndByChoice, IsEndByPlan}
+use Rattle.asp_core.proofs.OverLemmas.{ended_as}
 use Rattle.worker_pool.proofs.SenderLemmas.{alone}
 use Rattle.worker_pool.proofs.pool.run.Goals as goal
 

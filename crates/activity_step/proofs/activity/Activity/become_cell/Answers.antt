@@ -1,9 +1,9 @@
 use Rattle.std.proofs.Common.{◌≡◌, ◌+◌, suc, List, reverse, refl, ◌∙◌, rules, arith}
 use Rattle.std.specs.Arc.{arc_value}
-use Rattle.program_code.specs.declared.code.Node.{Node}
-use Rattle.machine_frames.specs.Standing.{View, view_of}
-use Rattle.machine_frames.specs.Services.{IsAtSome}
-use Rattle.coded_cells.specs.Cells.{coded}
+use Rattle.code_table.specs.declared.code.Node.{Node}
+use Rattle.step_machine.specs.Standing.{View, view_of}
+use Rattle.step_machine.specs.Services.{IsAtSome}
+use Rattle.code_table.specs.Cells.{coded}
 use Rattle.activity_step.specs.declared.activity.Activity.{Activity}
 use Rattle.activity_step.proofs.RunLemmas.{cell_became, some_of}
 use Rattle.activity_step.proofs.activity.Activity.become_cell.Goals as goal

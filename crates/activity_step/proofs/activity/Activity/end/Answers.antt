@@ -2,7 +2,7 @@ use Rattle.std.proofs.Common.{rules, ◌≡◌, ◌+◌, suc, refl, ap, subst, �
 use Rattle.std.specs.Arc.{arc_value}
 use Rattle.std.specs.Option.{option_map}
 use Rattle.asp_model.specs.Shapes.{future_shape}
-use Rattle.program_code.specs.Sound.{IsSound}
+use Rattle.code_table.specs.Sound.{IsSound}
 use Rattle.activity_step.specs.declared.activity.Activity.{Activity}
 use Rattle.activity_step.proofs.ServingLemmas.{ended_service}
 use Rattle.activity_step.proofs.activity.Activity.end.Goals as goal

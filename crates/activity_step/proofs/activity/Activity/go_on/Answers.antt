@@ -2,9 +2,9 @@ use Rattle.std.proofs.Common.{◌≡◌, List, reverse, subst, ◌∙◌}
 use Rattle.std.proofs.lemmas.Result.{on_ok_weaker}
 use Rattle.asp_model.specs.Term.{Tree}
 use Rattle.asp_model.specs.Configuration.{ServiceShape}
-use Rattle.program_code.specs.declared.code.Node.{Node}
-use Rattle.machine_frames.specs.Standing.{Standing, View, view_of}
-use Rattle.machine_frames.specs.Views.{Settled}
+use Rattle.code_table.specs.declared.code.Node.{Node}
+use Rattle.step_machine.specs.Standing.{Standing, View, view_of}
+use Rattle.step_machine.specs.Views.{Settled}
 use Rattle.std.specs.Prelude.{OnOk}
 use Rattle.activity_step.specs.Standings.{code_of}
 use Rattle.activity_step.proofs.activity.Activity.go_on.Goals as goal

@@ -7,10 +7,10 @@ use Rattle.asp_model.specs.Intent.{start_term}
 use Rattle.asp_model.specs.Parcel.{unpack}
 use Rattle.asp_model.specs.Store.{Store}
 use Rattle.asp_model.specs.Term.{Tree}
-use Rattle.program_code.specs.declared.code.Node.{Node}
-use Rattle.program_code.specs.Sound.{IsSound}
-use Rattle.coded_cells.specs.Shapes.{parcel_shape, store_of}
-use Rattle.machine_frames.specs.Standing.{Standing, view_of}
+use Rattle.code_table.specs.declared.code.Node.{Node}
+use Rattle.code_table.specs.Sound.{IsSound}
+use Rattle.code_table.specs.Shapes.{parcel_shape, store_of}
+use Rattle.step_machine.specs.Standing.{Standing, view_of}
 use Rattle.activity_step.specs.Activities.{StandsFor}
 use Rattle.activity_step.proofs.activity.Activity.made.Goals as goal
 

@@ -3,12 +3,12 @@ use Rattle.std.specs.Arc.{arc_value}
 use Rattle.asp_model.specs.Term.{Tree}
 use Rattle.asp_model.specs.Store as store
 use Rattle.asp_model.specs.Store.{CellShape}
-use Rattle.program_code.specs.declared.code.Node.{Node}
-use Rattle.program_code.specs.Pieces.{tree}
-use Rattle.program_code.specs.Sound.{IsSound, root_of}
-use Rattle.program_code.specs.Tables.{piece_at, pieces}
-use Rattle.coded_cells.specs.Shapes.{store_of}
-use Rattle.machine_frames.specs.Standing.{View, Standing, view_of}
+use Rattle.code_table.specs.declared.code.Node.{Node}
+use Rattle.code_table.specs.Pieces.{tree}
+use Rattle.code_table.specs.Sound.{IsSound, root_of}
+use Rattle.code_table.specs.Tables.{piece_at, pieces}
+use Rattle.code_table.specs.Shapes.{store_of}
+use Rattle.step_machine.specs.Standing.{View, Standing, view_of}
 use Rattle.activity_step.specs.Starting.{start_view}
 use Rattle.activity_step.proofs.ObjectLemmas.{empty_object}
 use Rattle.activity_step.proofs.StartLemmas.{program_stands}

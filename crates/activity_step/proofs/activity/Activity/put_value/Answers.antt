@@ -3,8 +3,8 @@ use Rattle.std.proofs.lemmas.Result.{on_ok_weaker}
 use Rattle.std.specs.Prelude.{OnOk}
 use Rattle.asp_model.specs.Parcel.{unpack_at}
 use Rattle.asp_model.specs.Store.{Store}
-use Rattle.program_code.specs.declared.code.Node.{Node}
-use Rattle.coded_cells.specs.Shapes.{parcel_shape, store_of}
+use Rattle.code_table.specs.declared.code.Node.{Node}
+use Rattle.code_table.specs.Shapes.{parcel_shape, store_of}
 use Rattle.activity_step.specs.Standings.{code_of}
 use Rattle.activity_step.proofs.activity.Activity.put_value.Goals as goal
 

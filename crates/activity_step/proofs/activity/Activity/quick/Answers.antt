@@ -5,7 +5,7 @@ use Rattle.asp_model.specs.Configuration.{ServiceShape}
 use Rattle.asp_model.specs.Contraction.{LineShape}
 use Rattle.asp_model.specs.Store.{Store}
 use Rattle.asp_model.specs.Term.{Tree}
-use Rattle.program_code.specs.declared.code.Node.{Node}
+use Rattle.code_table.specs.declared.code.Node.{Node}
 use Rattle.activity_step.specs.declared.activity.Activity.{Activity}
 use Rattle.activity_step.specs.declared.state.State.{State}
 use Rattle.activity_step.specs.Activities.{StandsFor}

@@ -3,11 +3,11 @@ use Rattle.std.specs.Arc.{arc_value}
 use Rattle.std.specs.Option.{option_map}
 use Rattle.asp_model.specs.Parcel.{ParcelShape, unpack, unpacked_roots}
 use Rattle.asp_model.specs.Shapes.{future_shape}
-use Rattle.program_code.specs.declared.code.Node.{Node}
-use Rattle.coded_cells.specs.Shapes.{parcel_shape, store_of}
-use Rattle.machine_frames.specs.Rows.{without_last}
-use Rattle.machine_frames.specs.Services.{IsAtSome, suspended_view}
-use Rattle.machine_frames.specs.Standing.{View, view_of}
+use Rattle.code_table.specs.declared.code.Node.{Node}
+use Rattle.code_table.specs.Shapes.{parcel_shape, store_of}
+use Rattle.step_machine.specs.Rows.{without_last}
+use Rattle.step_machine.specs.Services.{IsAtSome, suspended_view}
+use Rattle.step_machine.specs.Standing.{View, view_of}
 use Rattle.activity_step.specs.declared.activity.Activity.{Activity}
 use Rattle.activity_step.proofs.RunLemmas.{some_of}
 use Rattle.activity_step.proofs.ServingLemmas.{served}

@@ -1,6 +1,6 @@
 use Rattle.std.proofs.Common.{List, reverse, sym, subst}
-use Rattle.program_code.specs.declared.code.Node.{Node}
-use Rattle.machine_frames.specs.Standing.{Standing, View, view_of}
+use Rattle.code_table.specs.declared.code.Node.{Node}
+use Rattle.step_machine.specs.Standing.{Standing, View, view_of}
 use Rattle.activity_step.specs.Standings.{code_of}
 use Rattle.activity_step.proofs.activity.Activity.standing.Goals as goal
 

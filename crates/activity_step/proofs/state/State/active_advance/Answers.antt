@@ -1,9 +1,9 @@
 use Rattle.std.proofs.Common.{ℕ, List, subst}
 use Rattle.asp_model.specs.Term.{Active}
-use Rattle.activity_rows.specs.declared.asks.Creation.TheVariants as creation
-use Rattle.activity_rows.specs.Asks.{IsCreation}
-use Rattle.activity_rows.specs.Decisions.{value_redex}
-use Rattle.machine_frames.specs.Stacks.{last}
+use Rattle.step_rows.specs.declared.asks.Creation.TheVariants as creation
+use Rattle.step_rows.specs.Asks.{IsCreation}
+use Rattle.step_rows.specs.Decisions.{value_redex}
+use Rattle.step_machine.specs.Stacks.{last}
 use Rattle.activity_step.specs.declared.advance.Advance.TheVariants as advance
 use Rattle.activity_step.proofs.AdvanceLemmas.{stopped}
 use Rattle.activity_step.proofs.state.State.active_advance.Goals as goal

@@ -1,13 +1,13 @@
 use Rattle.std.proofs.Common.{◌≡◌, List, subst}
-use Rattle.program_code.specs.declared.code.Node.{Node}
-use Rattle.machine_frames.specs.Standing.{View, view_of}
+use Rattle.code_table.specs.declared.code.Node.{Node}
+use Rattle.step_machine.specs.Standing.{View, view_of}
 use Rattle.activity_step.specs.Advances.{Stands}
-use Rattle.machine_frames.proofs.CallLemmas.{AtCalls, at_calls, results, results_redex}
-use Rattle.machine_frames.proofs.RowLemmas.{rests}
+use Rattle.step_machine.proofs.CallLemmas.{AtCalls, at_calls, results, results_redex}
+use Rattle.step_machine.proofs.RowLemmas.{rests}
 use Rattle.asp_model.specs.Term.{Tree}
 use Rattle.asp_model.specs.Configuration.{ServiceShape}
-use Rattle.machine_frames.specs.Standing.{Standing}
-use Rattle.machine_frames.specs.Views.{IsSettledAt, Settled}
+use Rattle.step_machine.specs.Standing.{Standing}
+use Rattle.step_machine.specs.Views.{IsSettledAt, Settled}
 use Rattle.activity_step.specs.declared.state.State.{State}
 use Rattle.activity_step.proofs.state.State.advance.Goals as goal
 

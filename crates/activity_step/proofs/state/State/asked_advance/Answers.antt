@@ -1,15 +1,15 @@
 use Rattle.std.proofs.Common.{rules, ◌≡◌, ℕ, true, false, List, refl, subst}
 use Rattle.asp_model.specs.Term.{Call}
-use Rattle.activity_rows.specs.declared.calls.Callee.TheVariants as callee
-use Rattle.activity_rows.specs.Decisions.{value_redex}
-use Rattle.machine_frames.specs.Rows.{called_view}
-use Rattle.machine_frames.specs.Stacks.{last}
-use Rattle.machine_frames.specs.Standing.{View, view_of}
+use Rattle.step_rows.specs.declared.calls.Callee.TheVariants as callee
+use Rattle.step_rows.specs.Decisions.{value_redex}
+use Rattle.step_machine.specs.Rows.{called_view}
+use Rattle.step_machine.specs.Stacks.{last}
+use Rattle.step_machine.specs.Standing.{View, view_of}
 use Rattle.activity_step.specs.declared.advance.Advance.TheVariants as advance
 use Rattle.activity_step.specs.Called.{IsCalled}
 use Rattle.activity_step.proofs.AdvanceLemmas.{stopped, could_contract, contracted}
 use Rattle.activity_step.proofs.CallLemmas.{other_contracts, sends, asked_contracts}
-use Rattle.machine_frames.proofs.RowLemmas.{asked, asked_redex}
+use Rattle.step_machine.proofs.RowLemmas.{asked, asked_redex}
 use Rattle.activity_step.proofs.state.State.asked_advance.Goals as goal
 
 pub returns-in_ok-enter_body-in-Method : goal.returns-in_ok-enter_body-in-Method

@@ -1,10 +1,10 @@
 use Rattle.std.proofs.Common.{◌≡◌, ap, subst, ◌∙◌}
 use Rattle.asp_model.specs.Names.{Text}
-use Rattle.program_code.specs.Tables.{pieces, piece_at}
-use Rattle.machine_frames.specs.Calls.{called_label}
-use Rattle.machine_frames.specs.Spreads.{IsAtCall}
-use Rattle.machine_frames.specs.Standing.{View, view_of}
-use Rattle.machine_frames.proofs.CallLemmas.{called}
+use Rattle.code_table.specs.Tables.{pieces, piece_at}
+use Rattle.step_machine.specs.Calls.{called_label}
+use Rattle.step_machine.specs.Spreads.{IsAtCall}
+use Rattle.step_machine.specs.Standing.{View, view_of}
+use Rattle.step_machine.proofs.CallLemmas.{called}
 use Rattle.activity_step.proofs.state.State.called_advance.Goals as goal
 
 pub returns : goal.returns

@@ -1,14 +1,14 @@
 use Rattle.std.proofs.Common.{rules, ◌≡◌, true, false, [], ◌∷◌, ◌++◌, length, refl, sym, ap, ◌∙◌}
 use Rattle.asp_model.specs.Contraction.{Becomes, allots, contract}
 use Rattle.asp_model.specs.Term.{loc}
-use Rattle.coded_cells.specs.Cells as coded
-use Rattle.coded_cells.specs.Shapes.{store_of}
+use Rattle.code_table.specs.Cells as coded
+use Rattle.code_table.specs.Shapes.{store_of}
 use Rattle.activity_step.proofs.AdvanceLemmas.{could, placed}
 use Rattle.activity_step.proofs.ObjectLemmas.{allotted, empty_object, text_printed}
 use Rattle.asp_model.specs.Term.{Echo}
 use Rattle.asp_model.specs.Contraction.{TextLine}
 use Rattle.asp_model.specs.Store as store
-use Rattle.activity_rows.specs.Decisions.{value_redex}
+use Rattle.step_rows.specs.Decisions.{value_redex}
 use Rattle.activity_step.proofs.state.State.echo_advance.Goals as goal
 
 pub returns-then-not-go : goal.returns-then-not-go

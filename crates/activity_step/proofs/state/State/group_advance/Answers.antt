@@ -3,14 +3,14 @@ use Rattle.std.proofs.lemmas.List.{append-nil}
 use Rattle.asp_model.specs.Shapes.{line_shape}
 use Rattle.asp_model.specs.Contraction.{Becomes, allots, contract}
 use Rattle.asp_model.specs.Term.{loc}
-use Rattle.coded_cells.specs.Cells as coded
-use Rattle.coded_cells.specs.Shapes.{store_of}
-use Rattle.machine_frames.specs.Stacks.{last}
+use Rattle.code_table.specs.Cells as coded
+use Rattle.code_table.specs.Shapes.{store_of}
+use Rattle.step_machine.specs.Stacks.{last}
 use Rattle.activity_step.proofs.AdvanceLemmas.{could, placed}
 use Rattle.activity_step.proofs.ObjectLemmas.{allotted}
 use Rattle.asp_model.specs.Term.{Group}
 use Rattle.asp_model.specs.Store as store
-use Rattle.activity_rows.specs.Decisions.{value_redex}
+use Rattle.step_rows.specs.Decisions.{value_redex}
 use Rattle.activity_step.proofs.state.State.group_advance.Goals as goal
 
 pub returns-then-not-go : goal.returns-then-not-go

@@ -1,11 +1,11 @@
 use Rattle.std.proofs.Common.{rules, ◌≡◌, ℕ, List, sym, ap, subst, ◌∙◌, to_z, of_z, w64}
 use Rattle.asp_model.specs.Term.{If, none, more}
 use Rattle.asp_model.specs.Store.{Number}
-use Rattle.activity_rows.specs.declared.asks.Test.TheVariants as test
-use Rattle.activity_rows.specs.Asks.{IsTest}
-use Rattle.machine_frames.specs.Rows.{IsAtIf}
-use Rattle.machine_frames.specs.Stacks.{last}
-use Rattle.machine_frames.specs.Standing.{view_of}
+use Rattle.step_rows.specs.declared.asks.Test.TheVariants as test
+use Rattle.step_rows.specs.Asks.{IsTest}
+use Rattle.step_machine.specs.Rows.{IsAtIf}
+use Rattle.step_machine.specs.Stacks.{last}
+use Rattle.step_machine.specs.Standing.{view_of}
 use Rattle.activity_step.proofs.TermLemmas.{choice_at}
 use Rattle.activity_step.proofs.state.State.if_advance.Goals as goal
 

@@ -1,10 +1,10 @@
 use Rattle.std.proofs.Common.{rules, ◌≡◌, ◌+◌, ℕ, true, false, refl, sym, ap, ◌∙◌}
-use Rattle.program_code.specs.declared.code.Node.{Node}
-use Rattle.program_code.specs.Tables.{pieces, pieces_of, piece_of}
+use Rattle.code_table.specs.declared.code.Node.{Node}
+use Rattle.code_table.specs.Tables.{pieces, pieces_of, piece_of}
 use Rattle.code_laws.specs.Nodes.{nth}
-use Rattle.coded_cells.specs.Shapes.{store_of}
-use Rattle.machine_frames.specs.Rows.{child_view}
-use Rattle.machine_frames.specs.Standing.{View, view_of}
+use Rattle.code_table.specs.Shapes.{store_of}
+use Rattle.step_machine.specs.Rows.{child_view}
+use Rattle.step_machine.specs.Standing.{View, view_of}
 use Rattle.activity_step.proofs.AdvanceLemmas.{could_contract, contracted}
 use Rattle.activity_step.proofs.TermLemmas.{last_contracts}
 use Rattle.activity_step.proofs.state.State.last_step.Goals as goal

@@ -1,8 +1,8 @@
 use Rattle.std.proofs.Common.{rules, ◌≡◌, true, false, [], refl}
-use Rattle.program_code.specs.Tables.{pieces}
-use Rattle.coded_cells.specs.Shapes.{store_of}
-use Rattle.machine_frames.specs.Rows.{Contracts, bound_view}
-use Rattle.machine_frames.specs.Standing.{View, view_of}
+use Rattle.code_table.specs.Tables.{pieces}
+use Rattle.code_table.specs.Shapes.{store_of}
+use Rattle.step_machine.specs.Rows.{Contracts, bound_view}
+use Rattle.step_machine.specs.Standing.{View, view_of}
 use Rattle.activity_step.proofs.AdvanceLemmas.{could_contract, contracted}
 use Rattle.activity_step.proofs.TermLemmas.{let_contracts}
 use Rattle.activity_step.proofs.state.State.let_advance.Goals as goal

@@ -3,14 +3,14 @@ use Rattle.std.proofs.lemmas.List.{append-nil}
 use Rattle.asp_model.specs.Shapes.{line_shape}
 use Rattle.asp_model.specs.Contraction.{Becomes, allots, contract}
 use Rattle.asp_model.specs.Term.{loc}
-use Rattle.coded_cells.specs.Cells as coded
-use Rattle.coded_cells.specs.Shapes.{class_object, store_of}
-use Rattle.machine_frames.specs.Stacks.{last}
-use Rattle.machine_frames.specs.Standing.{View, view_of}
+use Rattle.code_table.specs.Cells as coded
+use Rattle.code_table.specs.Shapes.{class_object, store_of}
+use Rattle.step_machine.specs.Stacks.{last}
+use Rattle.step_machine.specs.Standing.{View, view_of}
 use Rattle.activity_step.proofs.AdvanceLemmas.{could, placed}
 use Rattle.activity_step.proofs.ObjectLemmas.{allotted, made_at}
-use Rattle.program_code.specs.Classes.{class_at}
-use Rattle.program_code.specs.Tables.{object_of, pieces}
+use Rattle.code_table.specs.Classes.{class_at}
+use Rattle.code_table.specs.Tables.{object_of, pieces}
 use Rattle.code_laws.specs.Places.{kept_places}
 use Rattle.activity_step.proofs.state.State.make_advance.Goals as goal
 

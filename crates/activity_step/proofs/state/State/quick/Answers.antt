@@ -2,12 +2,12 @@ use Rattle.std.proofs.Common.{rules, ◌≡◌, List, sym, subst, to_z, of_z, w6
 use Rattle.std.specs.Prelude.{ℤ}
 use Rattle.asp_model.specs.Configuration.{ServiceShape}
 use Rattle.asp_model.specs.Term.{Tree}
-use Rattle.program_code.specs.declared.code.Node.{Node}
-use Rattle.machine_frames.specs.declared.frames.Site.{Site}
-use Rattle.machine_frames.specs.declared.frames.Site.TheVariants as site
-use Rattle.machine_frames.specs.Sites.{IsBefore, IsSite}
-use Rattle.machine_frames.specs.Standing.{Standing, View, view_of}
-use Rattle.machine_frames.specs.Views.{IsSettledAt}
+use Rattle.code_table.specs.declared.code.Node.{Node}
+use Rattle.step_machine.specs.declared.frames.Site.{Site}
+use Rattle.step_machine.specs.declared.frames.Site.TheVariants as site
+use Rattle.step_machine.specs.Sites.{IsBefore, IsSite}
+use Rattle.step_machine.specs.Standing.{Standing, View, view_of}
+use Rattle.step_machine.specs.Views.{IsSettledAt}
 use Rattle.activity_step.specs.declared.state.State.{State}
 use Rattle.activity_step.specs.Advances.{Stands}
 use Rattle.activity_step.proofs.state.State.quick.Goals as goal

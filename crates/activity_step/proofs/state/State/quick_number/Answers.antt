@@ -3,7 +3,7 @@ use Rattle.asp_model.specs.Contraction.{allots}
 use Rattle.asp_model.specs.Shapes.{line_shape}
 use Rattle.asp_model.specs.Store as store
 use Rattle.asp_model.specs.declared.outcome.Line.{Line}
-use Rattle.coded_cells.specs.Shapes.{store_of}
+use Rattle.code_table.specs.Shapes.{store_of}
 use Rattle.activity_step.specs.declared.state.State.{State}
 use Rattle.activity_step.proofs.AdvanceLemmas.{given}
 use Rattle.activity_step.proofs.state.State.quick_number.Goals as goal

@@ -2,21 +2,21 @@ use Rattle.std.proofs.Common.{rules, ◌≡◌, ℕ, List, [], true, Some, lengt
 use Rattle.asp_model.specs.Term.{Number}
 use Rattle.asp_model.specs.Store as store
 use Rattle.asp_model.specs.Contraction.{allots}
-use Rattle.program_code.specs.declared.code.Kind.{Kind}
-use Rattle.program_code.specs.declared.code.Kind.TheVariants as kind
-use Rattle.program_code.specs.Tables.{kind_head}
+use Rattle.code_table.specs.declared.code.Kind.{Kind}
+use Rattle.code_table.specs.declared.code.Kind.TheVariants as kind
+use Rattle.code_table.specs.Tables.{kind_head}
 use Rattle.code_laws.specs.Nodes.{operand_count}
-use Rattle.coded_cells.specs.Shapes.{store_of}
-use Rattle.activity_rows.specs.Decisions.{value_redex}
-use Rattle.program_code.specs.declared.code.Node.{Node}
-use Rattle.machine_frames.specs.Rows.{AtNode, IsAtRedex, is_simple}
-use Rattle.machine_frames.specs.Stacks.{last}
-use Rattle.machine_frames.proofs.StackLemmas.{last_none}
-use Rattle.machine_frames.specs.Standing.{View, view_of}
-use Rattle.machine_frames.proofs.RowLemmas.{value_row}
-use Rattle.machine_frames.proofs.SpreadLemmas.{at_call}
-use Rattle.program_code.specs.Classes.{class_of}
-use Rattle.program_code.specs.declared.code.Class.{Class}
+use Rattle.code_table.specs.Shapes.{store_of}
+use Rattle.step_rows.specs.Decisions.{value_redex}
+use Rattle.code_table.specs.declared.code.Node.{Node}
+use Rattle.step_machine.specs.Rows.{AtNode, IsAtRedex, is_simple}
+use Rattle.step_machine.specs.Stacks.{last}
+use Rattle.step_machine.proofs.StackLemmas.{last_none}
+use Rattle.step_machine.specs.Standing.{View, view_of}
+use Rattle.step_machine.proofs.RowLemmas.{value_row}
+use Rattle.step_machine.proofs.SpreadLemmas.{at_call}
+use Rattle.code_table.specs.Classes.{class_of}
+use Rattle.code_table.specs.declared.code.Class.{Class}
 use Rattle.activity_step.proofs.TermLemmas.{simple_size}
 use Rattle.activity_step.proofs.state.State.reduce.Goals as goal
 

@@ -1,7 +1,7 @@
 use Rattle.std.proofs.Common.{rules, ◌≡◌, true, false, refl}
-use Rattle.coded_cells.specs.Shapes.{store_of}
-use Rattle.machine_frames.specs.Rows.{node_view}
-use Rattle.machine_frames.specs.Standing.{View, view_of}
+use Rattle.code_table.specs.Shapes.{store_of}
+use Rattle.step_machine.specs.Rows.{node_view}
+use Rattle.step_machine.specs.Standing.{View, view_of}
 use Rattle.activity_step.proofs.AdvanceLemmas.{could_contract, contracted}
 use Rattle.activity_step.proofs.TermLemmas.{repeat_contracts, again_contracts}
 use Rattle.activity_step.proofs.state.State.repeat_advance.Goals as goal

@@ -1,19 +1,19 @@
 use Rattle.std.proofs.Common.{rules, ◌≡◌, ℕ, true, false, List, refl, ap, subst}
 use Rattle.asp_model.specs.Term.{Scatter}
 use Rattle.asp_model.specs.Contraction.{contract}
-use Rattle.program_code.specs.declared.code.Kind.{Kind}
-use Rattle.program_code.specs.Tables.{kind_head}
-use Rattle.coded_cells.specs.Shapes.{store_of}
-use Rattle.activity_rows.specs.declared.groups.Scattering.TheVariants as scattering
-use Rattle.activity_rows.specs.Decisions.{value_redex}
-use Rattle.activity_rows.specs.Groups.{IsScattering}
-use Rattle.machine_frames.specs.declared.frames.Spread.TheVariants as spread
-use Rattle.machine_frames.specs.Rows.{IsAtRedex, is_simple}
-use Rattle.machine_frames.specs.Spreads.{spread_view}
-use Rattle.machine_frames.specs.Stacks.{last}
-use Rattle.machine_frames.specs.Standing.{View, view_of}
-use Rattle.machine_frames.proofs.RowLemmas.{value_row}
-use Rattle.machine_frames.proofs.SpreadLemmas.{scatters}
+use Rattle.code_table.specs.declared.code.Kind.{Kind}
+use Rattle.code_table.specs.Tables.{kind_head}
+use Rattle.code_table.specs.Shapes.{store_of}
+use Rattle.step_rows.specs.declared.groups.Scattering.TheVariants as scattering
+use Rattle.step_rows.specs.Decisions.{value_redex}
+use Rattle.step_rows.specs.Groups.{IsScattering}
+use Rattle.step_machine.specs.declared.frames.Spread.TheVariants as spread
+use Rattle.step_machine.specs.Rows.{IsAtRedex, is_simple}
+use Rattle.step_machine.specs.Spreads.{spread_view}
+use Rattle.step_machine.specs.Stacks.{last}
+use Rattle.step_machine.specs.Standing.{View, view_of}
+use Rattle.step_machine.proofs.RowLemmas.{value_row}
+use Rattle.step_machine.proofs.SpreadLemmas.{scatters}
 use Rattle.activity_step.proofs.AdvanceLemmas.{contracted, could_contract}
 use Rattle.activity_step.proofs.state.State.scatter_advance.Goals as goal
 

@@ -1,14 +1,14 @@
 use Rattle.std.proofs.Common.{rules, ◌≡◌, ℕ, Bool, true, false, List, [], ◌∷◌, Option, Some, refl, sym, ap, subst, ◌∙◌, to_z, of_z, w64}
-use Rattle.program_code.specs.declared.code.Kind.{Kind}
-use Rattle.program_code.specs.Tables.{kind_head, text_of}
-use Rattle.activity_rows.specs.Decisions.{value_redex}
-use Rattle.machine_frames.specs.Rows.{IsAtRedex}
-use Rattle.machine_frames.specs.Stacks.{last}
-use Rattle.machine_frames.specs.Standing.{View, view_of}
-use Rattle.machine_frames.proofs.StackLemmas.{last_none}
+use Rattle.code_table.specs.declared.code.Kind.{Kind}
+use Rattle.code_table.specs.Tables.{kind_head, text_of}
+use Rattle.step_rows.specs.Decisions.{value_redex}
+use Rattle.step_machine.specs.Rows.{IsAtRedex}
+use Rattle.step_machine.specs.Stacks.{last}
+use Rattle.step_machine.specs.Standing.{View, view_of}
+use Rattle.step_machine.proofs.StackLemmas.{last_none}
 use Rattle.activity_step.specs.declared.advance.Advance.TheVariants as advance
 use Rattle.activity_step.proofs.AdvanceLemmas.{stopped}
-use Rattle.program_code.specs.declared.code.Kind.TheVariants as kind
+use Rattle.code_table.specs.declared.code.Kind.TheVariants as kind
 use Rattle.code_laws.specs.Nodes.{operand_count}
 use Rattle.std.specs.Option.{option_map}
 use Rattle.activity_step.proofs.state.State.simple_advance.Goals as goal

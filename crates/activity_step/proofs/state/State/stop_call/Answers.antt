@@ -1,10 +1,10 @@
 use Rattle.std.proofs.Common.{ℕ, List, false, subst}
 use Rattle.asp_model.specs.Term.{Call}
-use Rattle.activity_rows.specs.declared.calls.Callee.TheVariants as callee
-use Rattle.activity_rows.specs.Decisions.{value_redex}
-use Rattle.machine_frames.specs.Stacks.{last}
-use Rattle.machine_frames.specs.Standing.{View, view_of}
-use Rattle.machine_frames.proofs.CallLemmas.{call_redex}
+use Rattle.step_rows.specs.declared.calls.Callee.TheVariants as callee
+use Rattle.step_rows.specs.Decisions.{value_redex}
+use Rattle.step_machine.specs.Stacks.{last}
+use Rattle.step_machine.specs.Standing.{View, view_of}
+use Rattle.step_machine.proofs.CallLemmas.{call_redex}
 use Rattle.activity_step.specs.declared.advance.Advance.TheVariants as advance
 use Rattle.activity_step.specs.Called.{IsCalled}
 use Rattle.activity_step.proofs.AdvanceLemmas.{stopped}

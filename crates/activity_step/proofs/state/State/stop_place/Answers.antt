@@ -1,6 +1,6 @@
 use Rattle.std.proofs.Common.{refl}
-use Rattle.machine_frames.specs.Standing.{view_of}
-use Rattle.machine_frames.proofs.RowLemmas.{rests}
+use Rattle.step_machine.specs.Standing.{view_of}
+use Rattle.step_machine.proofs.RowLemmas.{rests}
 use Rattle.activity_step.proofs.state.State.stop_place.Goals as goal
 
 pub returns-then-is_alone : goal.returns-then-is_alone

@@ -2,19 +2,19 @@ use Rattle.std.proofs.Common.{rules, ◌≡◌, ℕ, List, [], false, true, leng
 use Rattle.std.specs.Option.{option_map}
 use Rattle.asp_model.specs.Split.{Redex}
 use Rattle.code_laws.specs.Nodes.{in_place, operand_count}
-use Rattle.program_code.specs.Pieces.{Piece}
-use Rattle.program_code.specs.Tables.{kind_head, node_piece, piece_at, pieces, text_of}
-use Rattle.program_code.specs.declared.code.Kind.{Kind}
-use Rattle.program_code.specs.declared.code.Kind.TheVariants as kind
-use Rattle.program_code.specs.declared.code.Node.{Node}
-use Rattle.activity_rows.specs.Decisions.{value_redex}
-use Rattle.machine_frames.specs.Rows.{AtNode, IsAtRedex, is_simple}
-use Rattle.machine_frames.specs.Sequences.{later}
-use Rattle.machine_frames.specs.Stacks.{last, piece_from}
-use Rattle.machine_frames.specs.Standing.{View, view_of}
-use Rattle.machine_frames.proofs.RowLemmas.{value_row}
-use Rattle.machine_frames.proofs.SpreadLemmas.{at_call}
-use Rattle.machine_frames.proofs.StackLemmas.{last_none}
+use Rattle.code_table.specs.Pieces.{Piece}
+use Rattle.code_table.specs.Tables.{kind_head, node_piece, piece_at, pieces, text_of}
+use Rattle.code_table.specs.declared.code.Kind.{Kind}
+use Rattle.code_table.specs.declared.code.Kind.TheVariants as kind
+use Rattle.code_table.specs.declared.code.Node.{Node}
+use Rattle.step_rows.specs.Decisions.{value_redex}
+use Rattle.step_machine.specs.Rows.{AtNode, IsAtRedex, is_simple}
+use Rattle.step_machine.specs.Sequences.{later}
+use Rattle.step_machine.specs.Stacks.{last, piece_from}
+use Rattle.step_machine.specs.Standing.{View, view_of}
+use Rattle.step_machine.proofs.RowLemmas.{value_row}
+use Rattle.step_machine.proofs.SpreadLemmas.{at_call}
+use Rattle.step_machine.proofs.StackLemmas.{last_none}
 use Rattle.activity_step.specs.declared.advance.Advance.TheVariants as advance
 use Rattle.activity_step.proofs.AdvanceLemmas.{stopped}
 use Rattle.activity_step.proofs.TermLemmas.{simple_size}

@@ -1,9 +1,9 @@
 use Rattle.std.proofs.Common.{◌≡◌, ℕ, List, subst}
 use Rattle.asp_model.specs.Contraction.{contract}
-use Rattle.program_code.specs.Tables.{kind_head}
-use Rattle.coded_cells.specs.Shapes.{store_of}
-use Rattle.activity_rows.specs.Decisions.{decided, value_redex}
-use Rattle.machine_frames.specs.Stacks.{last}
+use Rattle.code_table.specs.Tables.{kind_head}
+use Rattle.code_table.specs.Shapes.{store_of}
+use Rattle.step_rows.specs.Decisions.{decided, value_redex}
+use Rattle.step_machine.specs.Stacks.{last}
 use Rattle.activity_step.proofs.state.State.value_advance.Goals as goal
 
 pub returns : goal.returns

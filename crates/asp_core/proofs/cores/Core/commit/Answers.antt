@@ -1,6 +1,6 @@
 use Rattle.std.proofs.Common.{refl, false, true}
 use Rattle.asp_model.specs.History.{Committed}
-use Rattle.core_commits.specs.Arrivals.{act_at}
+use Rattle.core_state.specs.Arrivals.{act_at}
 use Rattle.asp_core.specs.Cores.{code_of, history_of}
 use Rattle.asp_core.specs.Runs.{counted}
 use Rattle.asp_core.proofs.CoreLemmas.{begins_before, begins_same, has_gone_on, entered, run_kept, runs, same_history}

@@ -1,7 +1,7 @@
 use Rattle.std.proofs.Common.{◌∙◌, [], ap, refl, subst, sym}
 use Rattle.std.proofs.lemmas.List.{append-nil}
 use Rattle.asp_model.specs.History.{Lent}
-use Rattle.lease_laws.specs.Entries.{with_lease}
+use Rattle.law_journals.specs.Entered.{with_lease}
 use Rattle.core_state.specs.Lending.{IsNewLease}
 use Rattle.asp_core.specs.Chosen.{StaysChosen}
 use Rattle.asp_core.specs.Cores.{IsKept, code_of, history_of}

@@ -1,7 +1,7 @@
 use Rattle.std.proofs.Common.{◌∙◌, false, refl}
 use Rattle.std.specs.Arc.{arc_value}
 use Rattle.asp_model.specs.Shapes.{tree_of}
-use Rattle.journals.specs.Journals.{begun as start_of}
+use Rattle.def_journals.specs.Journals.{begun as start_of}
 use Rattle.core_state.specs.Cores.{program_of}
 use Rattle.asp_core.specs.declared.cores.Core.{Core}
 use Rattle.asp_core.proofs.ChosenLemmas.{none_delivered}

@@ -1,9 +1,9 @@
 use Rattle.std.proofs.Common.{◌≡◌, None, cond, subst, sym}
 use Rattle.std.specs.BTreeMap.{get, is_at}
 use Rattle.std.specs.Ordering.{nat_cmp}
-use Rattle.journals.specs.Journals.{grant_of}
+use Rattle.def_journals.specs.Journals.{grant_of}
 use Rattle.code_compiler.proofs.NodeLemmas.{then_ok}
-use Rattle.core_commits.specs.Arrivals.{act_at}
+use Rattle.core_state.specs.Arrivals.{act_at}
 use Rattle.asp_core.specs.Calls.{IsCommittedBy}
 use Rattle.asp_core.specs.Cores.{code_of, history_of}
 use Rattle.asp_core.specs.Runs.{counted}

@@ -1,5 +1,5 @@
 use Rattle.std.proofs.Common.{sym, subst, arith}
-use Rattle.lease_laws.specs.Entries.{with_lease}
+use Rattle.law_journals.specs.Entered.{with_lease}
 use Rattle.asp_core.specs.Cores.{history_of}
 use Rattle.core_drives.specs.Driving.{HaveRun, IsDriving}
 use Rattle.core_drives.specs.Steps.{IsStepped, Lends, ran_after}

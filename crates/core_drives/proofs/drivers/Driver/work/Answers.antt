@@ -2,7 +2,7 @@ use Rattle.std.proofs.Common.{◌∙◌, sym}
 use Rattle.std.specs.Ordering.{nat_cmp}
 use Rattle.std.specs.BTreeMap.{get}
 use Rattle.asp_core.specs.Cores.{code_of, history_of}
-use Rattle.journals.specs.Journals.{grant_of}
+use Rattle.def_journals.specs.Journals.{grant_of}
 use Rattle.core_drives.proofs.DriveLemmas.{driving_same, its_lease, run_held}
 use Rattle.core_drives.proofs.RunLemmas.{ran_nobody, ran_on}
 use Rattle.core_drives.proofs.drivers.Driver.work.Goals as goal

@@ -2,10 +2,10 @@ use Rattle.std.proofs.Common.{◌≡◌, List, refl, sym, ap, ◌∙◌, subst}
 use Rattle.asp_model.specs.Configuration as model
 use Rattle.asp_model.specs.Configuration.{RequestShape}
 use Rattle.asp_model.specs.Shapes.{future_shape}
-use Rattle.coded_cells.specs.Shapes.{parcel_shape, store_of}
+use Rattle.code_table.specs.Shapes.{parcel_shape, store_of}
 use Rattle.request_queue.specs.Requests.{request_shape}
-use Rattle.actor.specs.Actors.{Stands, code_of}
-use Rattle.actor.specs.Effects.{IsGiven}
+use Rattle.step_activity.specs.Actors.{Stands, code_of}
+use Rattle.step_activity.specs.Effects.{IsGiven}
 use Rattle.core_edges.specs.Answers.{AreAnswered}
 use Rattle.core_edges.specs.Given.{IsSomeFresh}
 use Rattle.core_edges.specs.Strategies.{strategy_in}

@@ -1,7 +1,7 @@
 use Rattle.std.proofs.Common.{OnOk, ◌≡◌, ◌∙◌, [], ap, subst, sym}
 use Rattle.std.specs.Option.{option_map}
 use Rattle.asp_model.specs.Shapes.{future_shape}
-use Rattle.coded_cells.specs.Cells.{coded}
+use Rattle.code_table.specs.Cells.{coded}
 use Rattle.core_edges.specs.Passing.{ArePassed, future_held, one_future}
 use Rattle.core_edges.proofs.PassingLemmas.{held_told, none_passed}
 use Rattle.core_edges.proofs.edges.Edges.pass_cell.Goals as goal

@@ -1,5 +1,5 @@
 use Rattle.std.proofs.Common.{sym, subst, take, arith}
-use Rattle.coded_cells.specs.Cells.{all_coded, coded}
+use Rattle.code_table.specs.Cells.{all_coded, coded}
 use Rattle.core_edges.specs.Passing.{ArePassed, future_held, futures_held}
 use Rattle.core_edges.proofs.PassingLemmas.{held_more, none_passed, passed_then}
 use Rattle.core_edges.proofs.edges.Edges.pass_cells.Goals as goal

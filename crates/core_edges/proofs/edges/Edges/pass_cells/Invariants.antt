@@ -1,5 +1,5 @@
 use Rattle.std.proofs.Common.{take}
-use Rattle.coded_cells.specs.Cells.{all_coded}
+use Rattle.code_table.specs.Cells.{all_coded}
 use Rattle.core_edges.specs.Passing.{ArePassed, futures_held}
 use Rattle.core_edges.proofs.edges.Edges.pass_cells.Given as goal
 

@@ -2,8 +2,8 @@ use Rattle.std.proofs.Common.{◌≡◌, List, [], sym, ap, ◌∙◌, subst}
 use Rattle.std.specs.Bool.{OnFalse}
 use Rattle.std.specs.Option.{option_copied}
 use Rattle.asp_model.specs.Shapes.{future_shape}
-use Rattle.coded_cells.specs.Cells.{all_coded}
-use Rattle.coded_cells.specs.declared.cells.Cell.{Cell}
+use Rattle.code_table.specs.Cells.{all_coded}
+use Rattle.code_table.specs.declared.cells.Cell.{Cell}
 use Rattle.core_edges.specs.Passing.{futures_held}
 use Rattle.core_edges.proofs.PassingLemmas.{no_future_passed, no_home_passed}
 use Rattle.core_edges.proofs.edges.Edges.pass_held.Goals as goal

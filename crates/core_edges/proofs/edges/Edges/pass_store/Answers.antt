@@ -1,5 +1,5 @@
 use Rattle.std.proofs.Common.{sym, subst, take, arith}
-use Rattle.coded_cells.specs.Cells.{coded}
+use Rattle.code_table.specs.Cells.{coded}
 use Rattle.core_edges.specs.Passing.{ArePassed, future_held, futures_held}
 use Rattle.core_edges.proofs.PassingLemmas.{none_passed, passed_then, stored_more}
 use Rattle.core_edges.proofs.edges.Edges.pass_store.Goals as goal

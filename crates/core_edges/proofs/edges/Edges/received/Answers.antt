@@ -1,8 +1,8 @@
 use Rattle.asp_model.specs.Shapes.{future_shape}
 use Rattle.std.specs.Arc.{arc_value}
-use Rattle.coded_cells.specs.Cells.{all_coded}
-use Rattle.coded_cells.specs.Shapes.{parcel_shape}
-use Rattle.journals.specs.Passing.{futures_in}
+use Rattle.code_table.specs.Cells.{all_coded}
+use Rattle.code_table.specs.Shapes.{parcel_shape}
+use Rattle.def_journals.specs.Passing.{futures_in}
 use Rattle.core_edges.specs.Passing.{futures_held}
 use Rattle.core_edges.proofs.AnswerLemmas.{on_ok}
 use Rattle.core_edges.proofs.PassingLemmas.{held_are, received_holders}

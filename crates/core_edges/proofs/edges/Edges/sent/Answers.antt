@@ -1,7 +1,7 @@
 use Rattle.std.proofs.Common.{OnOk, List, refl, subst}
 use Rattle.std.specs.Arc.{arc_value}
-use Rattle.coded_cells.specs.Cells.{all_coded}
-use Rattle.coded_cells.specs.declared.cells.Cell.{Cell}
+use Rattle.code_table.specs.Cells.{all_coded}
+use Rattle.code_table.specs.declared.cells.Cell.{Cell}
 use Rattle.request_queue.specs.Requests.{request_shape}
 use Rattle.core_edges.specs.Passing.{ArePassed, futures_held}
 use Rattle.core_edges.proofs.AnswerLemmas.{on_ok}

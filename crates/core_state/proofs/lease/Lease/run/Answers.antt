@@ -1,6 +1,6 @@
 use Rattle.std.proofs.Common.{◌∙◌, ap, refl, subst, sym}
-use Rattle.actor.specs.Actors.{Stands, code_of}
-use Rattle.actor.specs.Running.{IsRunBy}
+use Rattle.step_activity.specs.Actors.{Stands, code_of}
+use Rattle.step_activity.specs.Running.{IsRunBy}
 use Rattle.core_state.specs.declared.lease.Lease.{Lease}
 use Rattle.core_state.proofs.LeaseLemmas.{runs_on}
 use Rattle.core_state.proofs.lease.Lease.run.Goals as goal

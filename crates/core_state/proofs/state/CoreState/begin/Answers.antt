@@ -1,6 +1,6 @@
 use Rattle.std.proofs.Common.{arith, subst, sym}
 use Rattle.std.specs.Arc.{arc_value}
-use Rattle.journals.specs.Journals.{begun}
+use Rattle.def_journals.specs.Journals.{begun}
 use Rattle.core_state.specs.Begin.{IsEmpty, IsMain}
 use Rattle.core_state.specs.Cores.{IsCore, history_begun, program_of}
 use Rattle.core_state.proofs.state.CoreState.begin.Goals as goal

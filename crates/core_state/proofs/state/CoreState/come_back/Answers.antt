@@ -1,6 +1,6 @@
 use Rattle.std.proofs.Common.{◌∙◌, [], sym, refl}
-use Rattle.activity_ranks.specs.Ranks.{rank_shape}
-use Rattle.activity_seats.specs.Seats.{Out, seats_in}
+use Rattle.core_ranks.specs.Ranks.{rank_shape}
+use Rattle.core_seats.specs.Seats.{Out, seats_in}
 use Rattle.core_state.specs.declared.state.CoreState.{CoreState}
 use Rattle.core_state.proofs.ListLemmas.{got_within}
 use Rattle.core_state.proofs.ComeBackLemmas.{rank_written, run_back}

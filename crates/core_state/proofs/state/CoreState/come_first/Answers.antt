@@ -1,9 +1,9 @@
 use Rattle.std.proofs.Common.{◌≡◌, ◌∙◌, ◌++◌, ◌∷◌, [], ap, refl, subst, sym}
 use Rattle.asp_model.specs.Names.{main_name}
-use Rattle.activity_ranks.specs.Ranks.{IsRanked, Rests, rank_shape}
-use Rattle.activity_seats.specs.Seats.{In}
-use Rattle.actor.specs.Actors.{IsClosedFor, Stands}
-use Rattle.rank_laws.specs.Ranked.{rank_of}
+use Rattle.core_ranks.specs.Ranks.{IsRanked, Rests, rank_shape}
+use Rattle.core_seats.specs.Seats.{In}
+use Rattle.step_activity.specs.Actors.{IsClosedFor, Stands}
+use Rattle.law_core.specs.Ranked.{rank_of}
 use Rattle.core_state.specs.declared.state.CoreState.{CoreState}
 use Rattle.core_state.specs.Cores.{program_of}
 use Rattle.core_state.proofs.BeginLemmas.{begins, first_closed, first_of, no_values_closed, nobody_named}

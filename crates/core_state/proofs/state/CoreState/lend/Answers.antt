@@ -1,7 +1,7 @@
 use Rattle.std.proofs.Common.{◌≡◌, ◌∙◌, true, false, refl, sym, ap, ◌-◌, ◌+◌, arith}
 use Rattle.std.specs.Option.{option_map}
-use Rattle.rank_laws.specs.Runs.{is_ready}
-use Rattle.chase_laws.proofs.FutureLemmas.{no_some, some_is}
+use Rattle.law_core.specs.Runs.{is_ready}
+use Rattle.law_chases.proofs.FutureLemmas.{no_some, some_is}
 use Rattle.core_state.specs.declared.lease.Lease.{Lease}
 use Rattle.core_state.specs.declared.state.CoreState.{CoreState}
 use Rattle.core_state.proofs.LendLemmas.{few_bursts, has_room, is_lease, lends, ready_going, taken_here}

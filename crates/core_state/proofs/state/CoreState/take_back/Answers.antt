@@ -1,8 +1,8 @@
 use Rattle.std.proofs.Common.{◌≡◌, ◌∙◌, ◌++◌, ap, arith, map, refl, sym, subst}
 use Rattle.std.specs.Arc.{arc_value}
 use Rattle.std.specs.List.{AllByRecursion}
-use Rattle.activity_seats.specs.Seats.{IsOut, is_in}
-use Rattle.actor.specs.Actors.{Stands, code_of}
+use Rattle.core_seats.specs.Seats.{IsOut, is_in}
+use Rattle.step_activity.specs.Actors.{Stands, code_of}
 use Rattle.asp_model.specs.Configuration.{requests_of}
 use Rattle.request_queue.specs.declared.request.Request.{Request}
 use Rattle.request_queue.specs.Requests.{request_shape}

@@ -4,8 +4,8 @@ use Rattle.std.specs.Option.{option_map}
 use Rattle.asp_model.specs.declared.name.FutureName.{FutureName}
 use Rattle.asp_model.specs.Names.{future_cmp}
 use Rattle.asp_model.specs.Shapes.{future_shape}
-use Rattle.coded_cells.specs.declared.cells.Parcel.{Parcel}
-use Rattle.coded_cells.specs.Shapes.{parcel_shape}
+use Rattle.code_table.specs.declared.cells.Parcel.{Parcel}
+use Rattle.code_table.specs.Shapes.{parcel_shape}
 use Rattle.future_table.specs.Values.{by_name, values_of}
 use Rattle.future_table.specs.Walks.{filled_in}
 use Rattle.future_table.proofs.TableLemmas.{found_shape, lent_held, lent_shape}

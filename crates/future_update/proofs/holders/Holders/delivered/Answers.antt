@@ -1,6 +1,6 @@
 use Rattle.std.proofs.Common.{◌≡◌, ◌<◌, ◌∙◌, false, length, sym, ap, arith, subst}
 use Rattle.std.proofs.lemmas.List.{length-map}
-use Rattle.journals.specs.Edges.{has_edge}
+use Rattle.def_journals.specs.Edges.{has_edge}
 use Rattle.future_update.specs.Holders.{HoldersView, edge_in, is_delivered, with_delivery}
 use Rattle.future_update.specs.Names.{edge_of}
 use Rattle.future_update.specs.Numbered.{edge_at}

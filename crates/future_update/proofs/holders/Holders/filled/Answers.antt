@@ -1,7 +1,7 @@
 use Rattle.std.proofs.Common.{◌∙◌, sym, subst, arith}
 use Rattle.std.specs.Prelude.{IsSome}
 use Rattle.asp_model.specs.Shapes.{future_shape}
-use Rattle.journals.specs.Edges.{home_of}
+use Rattle.def_journals.specs.Edges.{home_of}
 use Rattle.future_update.specs.Holders.{HoldersView}
 use Rattle.future_update.specs.Names.{future_of}
 use Rattle.future_update.specs.Records.{answers_of, names_of, shape_of}

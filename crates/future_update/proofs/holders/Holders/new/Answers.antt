@@ -2,7 +2,7 @@ use Rattle.std.proofs.Common.{◌<◌, ℕ, List, [], None, length, sym, ◌∙�
 use Rattle.std.specs.Prelude.{slice_get}
 use Rattle.std.proofs.lemmas.Option.{slice_get_past}
 use Rattle.asp_model.specs.History.{ChoiceShape}
-use Rattle.journals.specs.Edges.{EdgeShape, no_holders, owed_at}
+use Rattle.def_journals.specs.Edges.{EdgeShape, no_holders, owed_at}
 use Rattle.future_update.specs.declared.numbered.Edge.{Edge}
 use Rattle.std.specs.List.{AllByRecursion}
 use Rattle.future_update.specs.Records.{answers_of, names_of}

@@ -1,5 +1,5 @@
 use Rattle.std.proofs.Common.{subst}
-use Rattle.marked_places.specs.Firsts.{IsFirstFrom}
+use Rattle.core_sets.specs.Firsts.{IsFirstFrom}
 use Rattle.future_update.specs.Holders.{HoldersView, owed_to_one_in}
 use Rattle.future_update.proofs.LanedLemmas.{first_owed}
 use Rattle.future_update.proofs.holders.Holders.next_owed_in.Goals as goal

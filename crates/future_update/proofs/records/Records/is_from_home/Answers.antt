@@ -1,5 +1,5 @@
 use Rattle.std.proofs.Common.{sym, ◌∙◌, ap}
-use Rattle.journals.specs.Edges.{is_home}
+use Rattle.def_journals.specs.Edges.{is_home}
 use Rattle.future_update.specs.Names.{name_of}
 use Rattle.future_update.specs.Records.{names_of}
 use Rattle.future_update.proofs.NumberLemmas.{same_names}

@@ -1,7 +1,7 @@
 use Rattle.std.proofs.Common.{◌≡◌, ◌∙◌, sym, ap, subst}
 use Rattle.std.specs.Prelude.{not}
 use Rattle.asp_model.specs.Shapes.{choice_shape}
-use Rattle.journals.specs.Edges.{has_edge, has_filled, is_chosen, is_owed}
+use Rattle.def_journals.specs.Edges.{has_edge, has_filled, is_chosen, is_owed}
 use Rattle.future_update.specs.declared.numbered.Edge.{Edge}
 use Rattle.future_update.specs.Names.{IsKnownEdge, edge_of, future_of}
 use Rattle.future_update.specs.Numbered.{edge_at, no_edge}

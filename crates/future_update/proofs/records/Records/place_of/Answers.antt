@@ -1,6 +1,6 @@
 use Rattle.std.proofs.Common.{◌∙◌, ap}
 use Rattle.std.specs.Prelude.{position}
-use Rattle.journals.specs.Edges.{same_edge}
+use Rattle.def_journals.specs.Edges.{same_edge}
 use Rattle.asp_model.specs.Shapes.{future_shape}
 use Rattle.future_update.specs.Names.{edge_between}
 use Rattle.future_update.specs.Records.{shape_of}

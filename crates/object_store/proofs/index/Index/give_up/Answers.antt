@@ -1,5 +1,5 @@
 use Rattle.std.proofs.Common.{◌∙◌, sym, ap}
-use Rattle.coded_cells.specs.Cells.{coded}
+use Rattle.code_table.specs.Cells.{coded}
 use Rattle.object_store.specs.Index.{places_in}
 use Rattle.object_store.specs.Places.{without_place}
 use Rattle.object_store.proofs.IndexLemmas.{changed_so}

@@ -1,7 +1,7 @@
 use Rattle.std.proofs.Common.{rules, ◌≡◌, ◌∙◌, ◌+◌, ◌<◌, length, take, ◌++◌, ◌∷◌, [], sym, ap, subst, arith, length-take-le}
 use Rattle.std.proofs.lemmas.List.{length-map, take_more}
-use Rattle.coded_cells.specs.declared.cells.Cell.{Cell}
-use Rattle.coded_cells.specs.Cells.{all_coded, coded}
+use Rattle.code_table.specs.declared.cells.Cell.{Cell}
+use Rattle.code_table.specs.Cells.{all_coded, coded}
 use Rattle.object_store.specs.Index.{ChangesWhere, IsIndexed, is_in_cell}
 use Rattle.object_store.specs.Places.{with_place}
 use Rattle.object_store.proofs.CellLemmas.{last_coded}

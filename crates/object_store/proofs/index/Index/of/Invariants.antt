@@ -1,5 +1,5 @@
 use Rattle.std.proofs.Common.{◌≤◌, ◌-◌, length, take}
-use Rattle.coded_cells.specs.Cells.{all_coded}
+use Rattle.code_table.specs.Cells.{all_coded}
 use Rattle.object_store.specs.Index.{IsIndexed}
 use Rattle.object_store.proofs.index.Index.of.Given as goal
 

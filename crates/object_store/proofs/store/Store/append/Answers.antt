@@ -1,7 +1,7 @@
 use Rattle.std.proofs.Common.{◌≡◌, ◌∙◌, sym, ap, subst, length, arith, rules, List, ◌++◌, ◌∷◌, []}
 use Rattle.std.proofs.lemmas.List.{length-map}
-use Rattle.coded_cells.specs.declared.cells.Cell.{Cell}
-use Rattle.coded_cells.specs.Cells.{all_coded, coded}
+use Rattle.code_table.specs.declared.cells.Cell.{Cell}
+use Rattle.code_table.specs.Cells.{all_coded, coded}
 use Rattle.object_store.specs.Index.{ChangesWhere, is_in_cell}
 use Rattle.object_store.specs.Finder.{Follows, IsFitting}
 use Rattle.object_store.specs.Places.{with_place}

@@ -1,5 +1,5 @@
 use Rattle.std.proofs.Common.{◌≡◌, ◌++◌, length}
-use Rattle.coded_cells.specs.Cells.{all_coded}
+use Rattle.code_table.specs.Cells.{all_coded}
 use Rattle.object_store.proofs.store.Store.append_all.Given as goal
 
 abbrev pub invariant-loop-cell : goal.invariant-loop-cell

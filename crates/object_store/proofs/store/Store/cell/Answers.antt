@@ -1,8 +1,8 @@
 use Rattle.std.proofs.Common.{◌<◌, ◌∙◌, sym, ap, subst, length}
-use Rattle.coded_cells.specs.Cells.{cell_at, coded}
+use Rattle.code_table.specs.Cells.{cell_at, coded}
 use Rattle.object_store.specs.View.{StoreView}
 use Rattle.object_store.proofs.CellLemmas.{coded_within}
-use Rattle.coded_cells.proofs.CodedLemmas.{at_place}
+use Rattle.code_table.proofs.CodedLemmas.{at_place}
 use Rattle.object_store.proofs.store.Store.cell.Goals as goal
 
 pub returns : goal.returns

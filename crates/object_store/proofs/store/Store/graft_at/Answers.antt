@@ -1,5 +1,5 @@
 use Rattle.std.proofs.Common.{◌≡◌, ◌++◌, ◌∷◌, [], take, drop, option_to_list, ◌∙◌, ap, sym}
-use Rattle.coded_cells.specs.Cells.{CodedStore, coded, with_cell_at}
+use Rattle.code_table.specs.Cells.{CodedStore, coded, with_cell_at}
 use Rattle.object_store.proofs.CellLemmas.{grafted_at}
 use Rattle.object_store.proofs.store.Store.graft_at.Goals as goal
 

@@ -1,13 +1,13 @@
 use Rattle.std.proofs.Common.{◌≡◌, ◌<◌, ◌∙◌, length, sym, ap, subst}
 use Rattle.std.proofs.lemmas.List.{get_or-set_same}
-use Rattle.coded_cells.specs.declared.cells.Cell.{Cell}
-use Rattle.coded_cells.specs.Cells.{all_coded, coded, cell_at, with_cell_at}
+use Rattle.code_table.specs.declared.cells.Cell.{Cell}
+use Rattle.code_table.specs.Cells.{all_coded, coded, cell_at, with_cell_at}
 use Rattle.object_store.specs.Index.{ChangesWhere, is_given_up}
 use Rattle.object_store.specs.Finder.{Follows, IsFitting}
 use Rattle.object_store.specs.Places.{without_place}
 use Rattle.object_store.specs.View.{StoreView}
 use Rattle.object_store.proofs.CellLemmas.{coded_within}
-use Rattle.coded_cells.proofs.CodedLemmas.{at_place, cell_set}
+use Rattle.code_table.proofs.CodedLemmas.{at_place, cell_set}
 use Rattle.object_store.proofs.StoredLemmas.{fitting_replaced}
 use Rattle.object_store.proofs.store.Store.replace.Goals as goal
 

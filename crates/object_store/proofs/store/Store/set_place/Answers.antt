@@ -1,8 +1,8 @@
 use Rattle.std.proofs.Common.{◌≡◌, ◌∙◌, length, List, drop, sym, ap, subst, arith}
 use Rattle.std.specs.Vec.{with_items}
 use Rattle.std.proofs.lemmas.List.{take_at}
-use Rattle.coded_cells.specs.declared.cells.Cell.{Cell}
-use Rattle.coded_cells.specs.Cells.{all_coded, cell_at, with_cell_at, with_place_at}
+use Rattle.code_table.specs.declared.cells.Cell.{Cell}
+use Rattle.code_table.specs.Cells.{all_coded, cell_at, with_cell_at, with_place_at}
 use Rattle.object_store.specs.Finder.{IsFitting}
 use Rattle.object_store.proofs.StoredLemmas.{fitting_object}
 use Rattle.object_store.proofs.store.Store.set_place.Goals as goal

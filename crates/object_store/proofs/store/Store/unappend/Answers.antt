@@ -1,6 +1,6 @@
 use Rattle.std.proofs.Common.{◌≡◌, ◌∙◌, length, ◌++◌, ◌∷◌, [], option_to_list, sym, ap, subst, arith, rules}
 use Rattle.std.proofs.lemmas.List.{length-map}
-use Rattle.coded_cells.specs.Cells.{all_coded, coded}
+use Rattle.code_table.specs.Cells.{all_coded, coded}
 use Rattle.object_store.specs.Index.{ChangesWhere, is_in_cell}
 use Rattle.object_store.specs.Finder.{Follows, IsFitting}
 use Rattle.object_store.specs.Places.{without_place}

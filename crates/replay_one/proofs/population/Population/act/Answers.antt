@@ -2,9 +2,9 @@ use Rattle.std.proofs.Common.{◌≡◌, ◌∙◌, Some, is_some, sym, ap, refl
 use Rattle.std.specs.Global.{Box}
 use Rattle.asp_model.specs.Configuration.{requests_of}
 use Rattle.future_table.specs.Values.{AreOfCode}
-use Rattle.actor.specs.declared.actor.Actor.{Actor}
-use Rattle.actor.specs.Actors.{IsClosedFor, Stands, code_of}
-use Rattle.actor.specs.Effects.{IsDoneBy, IsGivenOf}
+use Rattle.step_activity.specs.declared.actor.Actor.{Actor}
+use Rattle.step_activity.specs.Actors.{IsClosedFor, Stands, code_of}
+use Rattle.step_activity.specs.Effects.{IsDoneBy, IsGivenOf}
 use Rattle.replay_one.specs.declared.population.Population.{Population}
 use Rattle.replay_one.specs.Population.{found_in}
 use Rattle.replay_one.proofs.PopulationLemmas.{acts_as, actor_closed, changed, if_ok_both, in_box, no_box, nobody_acts, values_closed, values_coded}

@@ -1,5 +1,5 @@
 use Rattle.std.proofs.Common.{sym, refl, subst}
-use Rattle.actor.specs.Actors.{Stands}
+use Rattle.step_activity.specs.Actors.{Stands}
 use Rattle.replay_one.specs.declared.population.Population.{Population}
 use Rattle.replay_one.proofs.PopulationLemmas.{changed, on_ok}
 use Rattle.replay_one.proofs.population.Population.insert.Goals as goal

@@ -1,9 +1,9 @@
 use Rattle.std.proofs.Common.{◌≡◌, ◌∙◌, ◌≤◌, ◌-◌, Some, is_some, inl, sym, ap, refl, min, subst, arith}
 use Rattle.std.specs.Global.{Box}
 use Rattle.asp_model.specs.Configuration.{requests_of}
-use Rattle.actor.specs.declared.actor.Actor.{Actor}
-use Rattle.actor.specs.Actors.{Stands, code_of}
-use Rattle.actor.specs.Running.{IsRunBy}
+use Rattle.step_activity.specs.declared.actor.Actor.{Actor}
+use Rattle.step_activity.specs.Actors.{Stands, code_of}
+use Rattle.step_activity.specs.Running.{IsRunBy}
 use Rattle.replay_one.specs.declared.population.Population.{Population}
 use Rattle.replay_one.specs.Population.{IsRunIn, found_in}
 use Rattle.replay_one.proofs.PopulationLemmas.{changed, found_stands, if_ok, in_box}

@@ -2,8 +2,8 @@ use Rattle.std.proofs.Common.{◌≡◌, Some, is_some, sym, ap, refl, subst, �
 use Rattle.std.specs.Global.{Box}
 use Rattle.asp_model.specs.Configuration.{requests_of}
 use Rattle.request_queue.specs.Requests.{request_shape}
-use Rattle.actor.specs.declared.actor.Actor.{Actor}
-use Rattle.actor.specs.Actors.{Stands, code_of}
+use Rattle.step_activity.specs.declared.actor.Actor.{Actor}
+use Rattle.step_activity.specs.Actors.{Stands, code_of}
 use Rattle.replay_one.specs.declared.population.Population.{Population}
 use Rattle.replay_one.specs.Population.{found_in}
 use Rattle.replay_one.proofs.PopulationLemmas.{found_stands, in_box, no_box, nobody_there, on_ok, received}

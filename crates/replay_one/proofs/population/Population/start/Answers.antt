@@ -5,7 +5,7 @@ use Rattle.std.specs.Map.{lookup}
 use Rattle.asp_model.specs.Names.{Name, name_cmp}
 use Rattle.asp_model.specs.Configuration.{begun}
 use Rattle.asp_model.specs.Store.{Object}
-use Rattle.actor.specs.Actors.{Stands, code_of}
+use Rattle.step_activity.specs.Actors.{Stands, code_of}
 use Rattle.replay_one.specs.declared.population.Population.{Population}
 use Rattle.replay_one.specs.Population.{IsPopulation, term_of, with_activity}
 use Rattle.replay_one.proofs.PopulationLemmas.{nobody_yet, nothing_there}

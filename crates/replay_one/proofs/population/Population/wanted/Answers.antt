@@ -1,10 +1,10 @@
 use Rattle.std.proofs.Common.{◌≡◌, ◌∙◌, IfOk, sym, subst}
 use Rattle.asp_model.specs.Configuration as model
 use Rattle.asp_model.specs.Configuration.{requests_of}
-use Rattle.laws.specs.Waking.{labels_wanted}
-use Rattle.chase_laws.proofs.FutureLemmas.{no_some, some_is}
+use Rattle.law_steps.specs.Waking.{labels_wanted}
+use Rattle.law_chases.proofs.FutureLemmas.{no_some, some_is}
 use Rattle.serve_rules.specs.Labels.{HaveSame}
-use Rattle.actor.specs.declared.actor.Actor.{Actor}
+use Rattle.step_activity.specs.declared.actor.Actor.{Actor}
 use Rattle.replay_one.proofs.PopulationLemmas.{actor_closed, found_stands, there_found}
 use Rattle.replay_one.proofs.population.Population.wanted.Goals as goal
 

@@ -3,8 +3,8 @@ use Rattle.asp_model.specs.Names.{Name}
 use Rattle.asp_model.specs.Configuration.{Configuration}
 use Rattle.request_queue.specs.Requests.{request_shape}
 use Rattle.asp_model.specs.Step.{with_effect}
-use Rattle.actor.specs.declared.act.Given.TheVariants as given
-use Rattle.schedules.specs.Schedules.{IsNextIn}
+use Rattle.step_activity.specs.declared.act.Given.TheVariants as given
+use Rattle.law_schedules.specs.Schedules.{IsNextIn}
 use Rattle.replay_one.specs.declared.population.Population.{Population}
 use Rattle.replay_one.specs.declared.schedule.Schedule.{Schedule}
 use Rattle.replay_one.specs.Bounds.{lists_within}

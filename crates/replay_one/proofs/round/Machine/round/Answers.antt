@@ -1,5 +1,5 @@
 use Rattle.std.proofs.Common.{◌≡◌, ◌≤◌, subst, arith}
-use Rattle.schedules.proofs.LeastLemmas.{none_is_ready}
+use Rattle.law_schedules.proofs.LeastLemmas.{none_is_ready}
 use Rattle.replay_one.specs.declared.bounds.Bounds.{Bounds}
 use Rattle.asp_model.specs.Names.{Name}
 use Rattle.replay_one.specs.declared.population.Population.{Population}

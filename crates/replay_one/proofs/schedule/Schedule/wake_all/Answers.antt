@@ -1,7 +1,7 @@
 use Rattle.std.proofs.Common.{◌≡◌, ◌≢◌, ◌∙◌, false, None, Some, ap, inl, inr, ⊎_elim}
 use Rattle.std.proofs.lemmas.Bool.{false_from_ne_true}
 use Rattle.asp_model.specs.Names.{FutureShape, Name}
-use Rattle.chase_laws.proofs.FutureLemmas.{true_false}
+use Rattle.law_chases.proofs.FutureLemmas.{true_false}
 use Rattle.replay_one.specs.declared.schedule.Schedule.{Schedule}
 use Rattle.replay_one.specs.Schedule.{IsMoreReady, ready_in}
 use Rattle.replay_one.proofs.ScheduleLemmas.{still_named}

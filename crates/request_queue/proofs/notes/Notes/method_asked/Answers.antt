@@ -3,7 +3,7 @@ use Rattle.std.proofs.lemmas.List.{drop_all, drop_more}
 use Rattle.asp_model.specs.declared.word.Label.{Label}
 use Rattle.asp_model.specs.Names.{Text}
 use Rattle.asp_model.specs.Term.{has_text}
-use Rattle.program_code.specs.declared.code.MethodCode.{MethodCode}
+use Rattle.code_table.specs.declared.code.MethodCode.{MethodCode}
 use Rattle.serve_rules.specs.Labels.{class_labels, method_text}
 use Rattle.request_queue.proofs.OldestLemmas.{SoFar, all_looked, has_item, looked, method_label, method_texts, none_looked}
 use Rattle.request_queue.proofs.notes.Notes.method_asked.Goals as goal

@@ -2,7 +2,7 @@ use Rattle.std.proofs.Common.{sym, ap, ◌∙◌}
 use Rattle.std.specs.Prelude.{reverse}
 use Rattle.asp_model.specs.Intent.{StatusShape}
 use Rattle.asp_model.specs.Shapes.{status_shape}
-use Rattle.paths.specs.Snapshots.{result_in}
+use Rattle.def_paths.specs.Snapshots.{result_in}
 use Rattle.run_ends.proofs.ends.EndState.result.Goals as goal
 
 pub returns-in-Done : goal.returns-in-Done

@@ -1,6 +1,6 @@
 use Rattle.std.proofs.Common.{rules, ◌≡◌, ◌∙◌, ◌++◌, ◌∷◌, ◌+◌, ◌<◌, ◌≤◌, [], List, length, get_or, map, take, sym, ap, subst}
 use Rattle.std.proofs.lemmas.List.{take_all}
-use Rattle.program_code.specs.declared.code.MethodCode.{MethodCode}
+use Rattle.code_table.specs.declared.code.MethodCode.{MethodCode}
 use Rattle.asp_model.specs.Term.{has_text}
 use Rattle.serve_rules.specs.Labels.{HaveSame, label_text, method_text}
 use Rattle.serve_rules.proofs.LabelLemmas.{put_in, taken_more}

@@ -1,4 +1,4 @@
-use Rattle.turn_race.specs.Ready.{IsReady}
+use Rattle.race_trials.specs.Ready.{IsReady}
 use Rattle.all_tests.proofs.parts.hub.stress.StressWorkTasks.turns.Given as goal
 
 abbrev pub invariant-loop-turn : goal.invariant-loop-turn

@@ -1,8 +1,0 @@
-use Rattle.std.proofs.Common.{◌≡◌, List, None, drop, take}
-use Rattle.asp_model.specs.Contraction.{first_future}
-use Rattle.program_code.specs.declared.code.Node.{Node}
-use Rattle.coded_cells.specs.Shapes.{store_of}
-use Rattle.actor.proofs.held.first_of.Given as goal
-
-abbrev pub invariant-loop-at : goal.invariant-loop-at
-invariant-loop-at l = (k : List Node) → let S = store_of k l.store.cells in first_future S (take l.from l.places) ≡ None → first_future S l.places ≡ first_future S (drop l.at l.places)

@@ -1,5 +1,0 @@
-use Rattle.chase_laws.proofs.NamedLemmas.{cycles_are_told}
-use Rattle.chase_laws.proofs.chases.cycles_are_told.Goals as goal
-
-pub returns : goal.returns
-returns c = cycles_are_told

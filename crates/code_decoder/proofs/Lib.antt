@@ -1,4 +1,0 @@
-pub mod SeenLemmas
-pub mod DecodeLemmas
-pub mod BehindLemmas
-pub mod CellLemmas

@@ -1,6 +1,0 @@
-use Rattle.std.proofs.Common.{◌≡◌, map, take}
-use Rattle.program_code.specs.Tables.{text_of}
-use Rattle.code_decoder.proofs.copies.copy_labels.Given as goal
-
-abbrev pub invariant-loop-label : goal.invariant-loop-label
-invariant-loop-label l = map text_of l.copies.items ≡ map text_of (take l.label-index l.labels)

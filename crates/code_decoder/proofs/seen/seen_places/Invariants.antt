@@ -1,7 +1,0 @@
-use Rattle.std.proofs.Common.{◌≡◌, map, take}
-use Rattle.asp_model.specs.Term.{loc}
-use Rattle.code_decoder.specs.Decoded.{seen_tree}
-use Rattle.code_decoder.proofs.seen.seen_places.Given as goal
-
-abbrev pub invariant-loop-place : goal.invariant-loop-place
-invariant-loop-place l = map seen_tree l.seen.items ≡ map loc (take l.place-index l.places)

@@ -1,2 +1,0 @@
--- in reading order
-pub mod Decoded

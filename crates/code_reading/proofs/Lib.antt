@@ -1,0 +1,8 @@
+-- in reading order
+pub mod SeenLemmas
+pub mod DecodeLemmas
+pub mod BehindLemmas
+pub mod CellLemmas
+pub mod WalkLemmas
+pub mod TermLemmas
+pub mod GroupLemmas

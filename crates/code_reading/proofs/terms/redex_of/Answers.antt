@@ -1,0 +1,26 @@
+use Rattle.std.proofs.Common.{◌≡◌, ◌∙◌, List, map, ap, subst}
+use Rattle.asp_model.specs.Shapes.{tree_of}
+use Rattle.asp_model.specs.Term.{Tree, loc}
+use Rattle.asp_model.specs.declared.term.Term.{Term}
+use Rattle.code_table.specs.Pieces.{Piece}
+use Rattle.code_table.specs.Tables.{piece_at, pieces}
+use Rattle.code_laws.specs.Nodes.{IsTerm, later}
+use Rattle.code_laws.proofs.NodeLemmas.{is_term}
+use Rattle.code_reading.specs.Decoded.{IsBehind, IsRedexIn, seen_tree}
+use Rattle.code_reading.proofs.BehindLemmas.{if_ok, later_term, redex_shown}
+use Rattle.code_reading.proofs.terms.redex_of.Goals as goal
+
+pub returns : goal.returns
+returns c =
+    let ns = c.args.places.now in
+    let done = c.args.done.now in
+    let p : Piece = later c.args.from (piece_at (pieces c.args.code.now) c.args.number) in
+    let term : IsTerm p = later_term c.args.from (piece_at (pieces c.args.code.now) c.args.number) (is_term c.args.code.now c.args.number) in
+    let seen : map seen_tree c.deref.result.now ≡ map loc ns = ap (map seen_tree) c.deref.ensures.value ∙ c.in_ok-kept.ensures.seen in
+    let us : List Tree = map loc done in
+    let terms : map tree_of c.in_ok-terms.terms.items ≡ us = c.in_ok-terms.ensures.locations in
+    record {
+      redex = if_ok c.node_behind.result (λ (r : Term). IsBehind (map seen_tree c.deref.result.now) p (map tree_of c.in_ok-terms.terms.items) (tree_of r)) (λ (r : Term). IsRedexIn ns done p (tree_of r))
+          (λ r h. redex_shown ns done p (tree_of r) term (subst (λ (ts : List Tree). IsBehind ts p us (tree_of r)) seen (subst (λ (vs : List Tree). IsBehind (map seen_tree c.deref.result.now) p vs (tree_of r)) terms h)))
+          c.node_behind.ensures.behind;
+    }

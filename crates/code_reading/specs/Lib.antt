@@ -1,0 +1,4 @@
+-- in reading order
+pub mod Decoded
+pub mod Shown
+pub mod Groups

@@ -1,0 +1,9 @@
+-- in reading order
+pub mod TermTrees
+pub mod TableLemmas
+pub mod GrowthLemmas
+pub mod LookupLemmas
+pub mod NumberLemmas
+pub mod UsesLemmas
+pub mod CodedLemmas
+pub mod FitsLemmas

@@ -1,0 +1,13 @@
+-- in reading order
+pub mod Numbers
+pub mod Pieces
+pub mod Fitting
+pub mod Uses
+pub mod Tables
+pub mod Classes
+pub mod Sound
+pub mod Parts
+pub mod Roots
+pub mod Cells
+pub mod Shapes
+pub mod Fits

@@ -1,0 +1,17 @@
+//! The code of a program: a table of nodes, and what it stands for. The cells of stores whose
+//! objects share their code, and what passes between two activities.
+#![tactic(auto)]
+
+mod cells;
+mod code;
+mod laws;
+mod lookup;
+mod numbers;
+mod roots;
+mod table;
+
+pub use cells::{Cell, Object, Parcel, Place};
+pub use code::{Capture, Child, Class, Kind, Leaf, MethodCode, Node};
+pub use laws::locations_are_uses;
+pub use roots::Roots;
+pub use table::{Code, EMPTY_NUMBER, SERVE_NUMBER, SERVICE_NUMBER};

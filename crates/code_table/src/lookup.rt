@@ -1,0 +1,72 @@
+//! Classes, and the numbers of their labels.
+
+ghost use Rattle.std.specs.Prelude.{◌≡◌, IfOk};
+ghost use Rattle.code_table.specs.Classes.{field_number, method_number};
+
+use crate::code::{Class, MethodCode};
+use crate::numbers::{number_fields, number_methods};
+use asp_model::Label;
+use std::alloc::{AllocError, Global};
+
+impl Class {
+    /// The class with these fields and methods. `AllocError` is the only error.
+    pub fn new(
+        alloc: Global,
+        fields: Vec<Label>,
+        methods: Vec<MethodCode>,
+    ) -> Result<Class, AllocError>
+        ensures fields { IfOk result (λ k. k.fields ≡ fields) }
+        ensures methods { IfOk result (λ k. k.methods ≡ methods) }
+    {
+        let field_numbers = number_fields(alloc, &fields)?;
+        let method_numbers = number_methods(alloc, &methods)?;
+        Ok(Class {
+            fields,
+            methods,
+            field_numbers,
+            method_numbers,
+        })
+    }
+
+    /// The number of the first field with this label. Many fields are searched, not walked.
+    pub fn field(&self, label: &Label) -> Option<usize>
+        ensures number { result ≡ field_number label.now.text self.now }
+    {
+        match &self.field_numbers {
+            Some(numbers) => numbers.number(label),
+            None => self.walk_fields(label),
+        }
+    }
+
+    /// The number of the first method with this label. Many methods are searched, not walked.
+    pub fn method(&self, label: &Label) -> Option<usize>
+        ensures number { result ≡ method_number label.now.text self.now }
+    {
+        match &self.method_numbers {
+            Some(numbers) => numbers.number(label),
+            None => self.walk_methods(label),
+        }
+    }
+
+    fn walk_fields(&self, label: &Label) -> Option<usize>
+        ensures number { result ≡ field_number label.now.text self.now }
+    {
+        for i in 0..self.fields.len() {
+            if label.text == self.fields[i].text {
+                return Some(i);
+            }
+        }
+        None
+    }
+
+    fn walk_methods(&self, label: &Label) -> Option<usize>
+        ensures number { result ≡ method_number label.now.text self.now }
+    {
+        for i in 0..self.methods.len() {
+            if label.text == self.methods[i].label.text {
+                return Some(i);
+            }
+        }
+        None
+    }
+}

@@ -1,2 +1,0 @@
-pub mod CodedLemmas
-pub mod FitsLemmas

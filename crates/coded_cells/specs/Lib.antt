@@ -1,4 +1,0 @@
-pub mod Roots
-pub mod Cells
-pub mod Shapes
-pub mod Fits

@@ -1,3 +1,0 @@
--- in reading order
-pub mod Systems
-pub mod Rules

@@ -1,5 +1,0 @@
-use Rattle.core_deliveries.proofs.DueLemmas.{due_edges_are_passed}
-use Rattle.core_deliveries.proofs.due.due_edges_are_passed.Goals as goal
-
-pub returns : goal.returns
-returns c = due_edges_are_passed

@@ -1,5 +1,0 @@
-use Rattle.core_deliveries.proofs.DueLemmas.{owed_may_be_delivered}
-use Rattle.core_deliveries.proofs.due.owed_may_be_delivered.Goals as goal
-
-pub returns : goal.returns
-returns c = owed_may_be_delivered

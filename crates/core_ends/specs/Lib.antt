@@ -1,4 +1,0 @@
--- in reading order
-pub mod Verdicts
-pub mod Gathering
-pub mod Runs

@@ -1,4 +1,0 @@
-pub mod LocalLemmas
-pub mod NewcomerLemmas
-pub mod CommitLemmas
-pub mod EventLemmas

@@ -1,3 +1,0 @@
--- in reading order
-pub mod Futures
-pub mod Verdicts

@@ -1,2 +1,0 @@
-pub mod OutAfterLemmas
-pub mod OverLemmas

@@ -1,5 +1,0 @@
-use Rattle.core_runs.proofs.OverLemmas.{IsGoing}
-use Rattle.core_runs.proofs.finishing.go_on.Given as goal
-
-abbrev pub invariant-loop-round : goal.invariant-loop-round
-invariant-loop-round g l = IsGoing g.P.UpdatePolicy.answer g.P.UpdatePolicy.asked l.initial.core l.core

@@ -1,3 +1,0 @@
--- in reading order
-pub mod Fresh
-pub mod Runs

@@ -1,9 +1,0 @@
-pub mod JournalLemmas
-pub mod LocalLemmas
-pub mod EdgeLemmas
-pub mod CountLemmas
-pub mod BudgetLemmas
-pub mod GrowLemmas
-pub mod KnownLemmas
-pub mod BoundLemmas
-pub mod UpdateLemmas

@@ -1,4 +1,0 @@
--- in reading order
-pub mod Entries
-pub mod Budgets
-pub mod EdgesKept

@@ -1,0 +1,5 @@
+use Rattle.law_chases.proofs.EndLemmas.{chases_end}
+use Rattle.law_chases.proofs.chases.chases_end.Goals as goal
+
+pub returns : goal.returns
+returns c = chases_end

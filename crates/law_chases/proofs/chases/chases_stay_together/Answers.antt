@@ -1,0 +1,5 @@
+use Rattle.law_chases.proofs.FillLemmas.{chases_stay_together}
+use Rattle.law_chases.proofs.chases.chases_stay_together.Goals as goal
+
+pub returns : goal.returns
+returns c = chases_stay_together

@@ -1,0 +1,44 @@
+//! The outcomes of runs, and their reports.
+
+ghost use Rattle.law_outcomes.specs.Outcomes.{EndReportsAgree, NumbersAreWithin, OutcomesAreWellFormed, PlainRunsShowReplays, ReplayReportsAreRead, ReportsOfRunsAreRead, ReportsShowReplays, RunsShowReplays};
+
+/// No activity has created, or has sent, more often than all together have reduced.
+pub fn numbers_are_within()
+    ensures { NumbersAreWithin }
+{}
+
+/// The outcome of what a program with printable texts reaches within 10,000,000 reductions is well
+/// formed.
+pub fn outcomes_are_well_formed()
+    ensures { OutcomesAreWellFormed }
+{}
+
+/// Its report reads as its sender lists and counts.
+pub fn reports_of_runs_are_read()
+    ensures { ReportsOfRunsAreRead }
+{}
+
+/// The report of a configuration that is its own replay shows that replay.
+pub fn reports_show_replays()
+    ensures { ReportsShowReplays }
+{}
+
+/// The report of a run without lists, in any order, shows its replay.
+pub fn runs_show_replays()
+    ensures { RunsShowReplays }
+{}
+
+/// The report of the run of one thread shows its replay.
+pub fn plain_runs_show_replays()
+    ensures { PlainRunsShowReplays }
+{}
+
+/// The report of a replay reads as the lists and counts that it was made under, where they fit.
+pub fn replay_reports_are_read()
+    ensures { ReplayReportsAreRead }
+{}
+
+/// Two ended runs of one program whose reports read as equal sender lists print the same bytes.
+pub fn end_reports_agree()
+    ensures { EndReportsAgree }
+{}

@@ -1,0 +1,26 @@
+//! The central theorem, for whatever steps and deliveries reach, and for lawful journals.
+
+ghost use Rattle.law_paths.specs.Correct.{JournalsAreReplayed, OneSenderIsEnough, ReachedAreReplayed, ReachedJoin};
+
+/// Whatever steps and deliveries reach agrees with the replay of its own lists and counts, which
+/// fit; with equal statuses, verdict and reports.
+pub fn reached_are_replayed()
+    ensures { ReachedAreReplayed }
+{}
+
+/// So does what a lawful journal of leases and deliveries leaves.
+pub fn journals_are_replayed()
+    ensures { JournalsAreReplayed }
+{}
+
+/// For two that are reached with compatible lists, the joined lists and counts fit, and one that is
+/// stuck has them.
+pub fn reached_join()
+    ensures { ReachedJoin }
+{}
+
+/// Beside a stuck one with one sender to each receiver, each other has beginnings of its lists, and
+/// each other stuck one agrees with it.
+pub fn one_sender_is_enough()
+    ensures { OneSenderIsEnough }
+{}

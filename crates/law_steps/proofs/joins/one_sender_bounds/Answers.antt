@@ -1,0 +1,5 @@
+use Rattle.law_steps.proofs.SenderLemmas.{one_sender_bounds}
+use Rattle.law_steps.proofs.joins.one_sender_bounds.Goals as goal
+
+pub returns : goal.returns
+returns c = one_sender_bounds

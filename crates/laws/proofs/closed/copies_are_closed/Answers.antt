@@ -1,5 +1,0 @@
-use Rattle.laws.proofs.ClosedLaws.{copies_are_closed}
-use Rattle.laws.proofs.closed.copies_are_closed.Goals as goal
-
-pub returns : goal.returns
-returns c = copies_are_closed

@@ -1,5 +1,0 @@
-use Rattle.laws.proofs.LinkedLemmas.{targets_are_there}
-use Rattle.laws.proofs.linked.targets_are_there.Goals as goal
-
-pub returns : goal.returns
-returns c = targets_are_there

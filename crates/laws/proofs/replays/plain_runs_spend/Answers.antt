@@ -1,5 +1,0 @@
-use Rattle.laws.proofs.SpendLemmas.{plain_runs_spend}
-use Rattle.laws.proofs.replays.plain_runs_spend.Goals as goal
-
-pub returns : goal.returns
-returns c = plain_runs_spend

@@ -1,5 +1,0 @@
-use Rattle.laws.proofs.ReplayLemmas.{replays_are_runs}
-use Rattle.laws.proofs.replays.replays_are_runs.Goals as goal
-
-pub returns : goal.returns
-returns c = replays_are_runs

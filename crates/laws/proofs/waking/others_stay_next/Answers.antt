@@ -1,5 +1,0 @@
-use Rattle.laws.proofs.WakeLemmas.{others_stay_next}
-use Rattle.laws.proofs.waking.others_stay_next.Goals as goal
-
-pub returns : goal.returns
-returns c = others_stay_next

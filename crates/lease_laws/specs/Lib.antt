@@ -1,5 +1,0 @@
--- in reading order
-pub mod Numbered
-pub mod Leases
-pub mod Entries
-pub mod Growing

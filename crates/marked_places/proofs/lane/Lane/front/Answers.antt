@@ -1,5 +1,0 @@
-use Rattle.marked_places.proofs.LaneLemmas.{front_open}
-use Rattle.marked_places.proofs.lane.Lane.front.Goals as goal
-
-pub returns : goal.returns
-returns c = record { front = front_open c.args.self.now c.first.result c.requires.lane c.if-self.false c.first.ensures.first }

@@ -1,5 +1,0 @@
-use Rattle.outcome_laws.proofs.ReportLaws.{plain_runs_show_replays}
-use Rattle.outcome_laws.proofs.outcomes.plain_runs_show_replays.Goals as goal
-
-pub returns : goal.returns
-returns c = plain_runs_show_replays

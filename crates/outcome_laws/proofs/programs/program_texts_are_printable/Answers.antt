@@ -1,5 +1,0 @@
-use Rattle.outcome_laws.proofs.ProgramLaws.{program_texts_are_printable}
-use Rattle.outcome_laws.proofs.programs.program_texts_are_printable.Goals as goal
-
-pub returns : goal.returns
-returns c = program_texts_are_printable

@@ -1,5 +1,0 @@
-use Rattle.outcome_laws.proofs.ProgramLaws.{programs_have_no_places}
-use Rattle.outcome_laws.proofs.programs.programs_have_no_places.Goals as goal
-
-pub returns : goal.returns
-returns c = programs_have_no_places

@@ -1,5 +1,0 @@
-use Rattle.path_laws.proofs.OutcomeLemmas.{ends_of_both_agree}
-use Rattle.path_laws.proofs.agreement.ends_of_both_agree.Goals as goal
-
-pub returns : goal.returns
-returns c = ends_of_both_agree

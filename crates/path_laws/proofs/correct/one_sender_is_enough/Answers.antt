@@ -1,5 +1,0 @@
-use Rattle.path_laws.proofs.ReplayLemmas.{one_sender_is_enough}
-use Rattle.path_laws.proofs.correct.one_sender_is_enough.Goals as goal
-
-pub returns : goal.returns
-returns c = one_sender_is_enough

@@ -1,5 +1,0 @@
--- in reading order
-pub mod Lending
-pub mod Passed
-pub mod States
-pub mod Reading

@@ -1,6 +1,0 @@
-pub mod TermTrees
-pub mod TableLemmas
-pub mod GrowthLemmas
-pub mod LookupLemmas
-pub mod NumberLemmas
-pub mod UsesLemmas

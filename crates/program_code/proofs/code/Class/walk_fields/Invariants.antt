@@ -1,7 +1,0 @@
-use Rattle.std.proofs.Common.{◌≡◌, None, take}
-use Rattle.program_code.specs.Classes.{number_of}
-use Rattle.program_code.specs.Tables.{labels_of}
-use Rattle.program_code.proofs.code.Class.walk_fields.Given as goal
-
-abbrev pub invariant-loop-i : goal.invariant-loop-i
-invariant-loop-i l = number_of l.label.text (take l.i (labels_of l.self)) ≡ None

@@ -1,9 +1,0 @@
--- in reading order
-pub mod Numbers
-pub mod Pieces
-pub mod Fitting
-pub mod Uses
-pub mod Tables
-pub mod Classes
-pub mod Sound
-pub mod Parts

@@ -1,0 +1,6 @@
+-- in reading order
+pub mod OutLemmas
+pub mod CoreLemmas
+pub mod RowLemmas
+pub mod SeatLemmas
+pub mod TurnLemmas

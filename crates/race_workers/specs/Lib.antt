@@ -1,0 +1,6 @@
+-- in reading order
+pub mod LeaseRows
+pub mod Rows
+pub mod Desks
+pub mod Turns
+pub mod Working

@@ -1,5 +1,0 @@
-pub mod OutLemmas
-pub mod CoreLemmas
-pub mod RowLemmas
-pub mod SeatLemmas
-pub mod TurnLemmas

@@ -1,7 +1,0 @@
-use Rattle.racing_workers.proofs.OutLemmas.{finished}
-use Rattle.racing_workers.proofs.work.work_on.Goals as goal
-
-pub returns-clause-lease : goal.returns-clause-lease
-returns-clause-lease g c h code is =
-    let e = c.run-ran.ensures in
-    finished c.run-ran.result h code c.run-ran.new.self (e.lease h code is) (e.stops h code is) e.gives_up

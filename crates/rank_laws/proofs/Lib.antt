@@ -1,3 +1,0 @@
-pub mod OperandLemmas
-pub mod RankLemmas
-pub mod RunLemmas

@@ -1,4 +1,0 @@
--- in reading order
-pub mod Ranked
-pub mod Keeping
-pub mod Runs

@@ -1,5 +1,0 @@
-use Rattle.report_laws.proofs.DepthLemmas.{depths_are_read}
-use Rattle.report_laws.proofs.laws.reports_to_depths_are_read.Goals as goal
-
-pub returns : goal.returns
-returns c = record { read = depths_are_read }

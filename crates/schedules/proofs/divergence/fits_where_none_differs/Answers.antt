@@ -1,5 +1,0 @@
-use Rattle.schedules.proofs.DivergenceLemmas.{fits_where_none_differs}
-use Rattle.schedules.proofs.divergence.fits_where_none_differs.Goals as goal
-
-pub returns : goal.returns
-returns c = fits_where_none_differs

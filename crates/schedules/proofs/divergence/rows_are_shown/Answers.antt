@@ -1,5 +1,0 @@
-use Rattle.schedules.proofs.DivergenceLemmas.{rows_are_shown}
-use Rattle.schedules.proofs.divergence.rows_are_shown.Goals as goal
-
-pub returns : goal.returns
-returns c = rows_are_shown

@@ -1,5 +1,0 @@
-use Rattle.schedules.proofs.EffectLemmas.{absent_received_none}
-use Rattle.schedules.proofs.effects.absent_received_none.Goals as goal
-
-pub returns : goal.returns
-returns c = absent_received_none

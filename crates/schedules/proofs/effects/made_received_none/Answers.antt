@@ -1,5 +1,0 @@
-use Rattle.schedules.proofs.EffectLemmas.{made_received_none}
-use Rattle.schedules.proofs.effects.made_received_none.Goals as goal
-
-pub returns : goal.returns
-returns c = made_received_none

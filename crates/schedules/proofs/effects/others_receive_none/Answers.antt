@@ -1,5 +1,0 @@
-use Rattle.schedules.proofs.EffectLemmas.{others_receive_none}
-use Rattle.schedules.proofs.effects.others_receive_none.Goals as goal
-
-pub returns : goal.returns
-returns c = others_receive_none

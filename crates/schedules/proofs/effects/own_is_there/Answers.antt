@@ -1,5 +1,0 @@
-use Rattle.schedules.proofs.EffectLemmas.{own_is_there}
-use Rattle.schedules.proofs.effects.own_is_there.Goals as goal
-
-pub returns : goal.returns
-returns c = own_is_there

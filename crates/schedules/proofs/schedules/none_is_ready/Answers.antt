@@ -1,5 +1,0 @@
-use Rattle.schedules.proofs.LeastLemmas.{none_is_ready}
-use Rattle.schedules.proofs.schedules.none_is_ready.Goals as goal
-
-pub returns : goal.returns
-returns c = none_is_ready

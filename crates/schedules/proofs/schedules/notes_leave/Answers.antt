@@ -1,5 +1,0 @@
-use Rattle.schedules.proofs.LeastLemmas.{notes_leave}
-use Rattle.schedules.proofs.schedules.notes_leave.Goals as goal
-
-pub returns : goal.returns
-returns c = notes_leave

@@ -1,5 +1,0 @@
-use Rattle.schedules.proofs.LeastLemmas.{resters_leave}
-use Rattle.schedules.proofs.schedules.resters_leave.Goals as goal
-
-pub returns : goal.returns
-returns c = resters_leave

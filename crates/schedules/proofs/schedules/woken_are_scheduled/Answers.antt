@@ -1,5 +1,0 @@
-use Rattle.schedules.proofs.WokenLemmas.{woken_are_scheduled}
-use Rattle.schedules.proofs.schedules.woken_are_scheduled.Goals as goal
-
-pub returns : goal.returns
-returns c = woken_are_scheduled

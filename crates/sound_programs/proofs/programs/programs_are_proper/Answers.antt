@@ -1,5 +1,0 @@
-use Rattle.sound_programs.proofs.WholeLaws.{programs_are_proper}
-use Rattle.sound_programs.proofs.programs.programs_are_proper.Goals as goal
-
-pub returns : goal.returns
-returns c = programs_are_proper

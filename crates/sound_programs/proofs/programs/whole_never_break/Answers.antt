@@ -1,5 +1,0 @@
-use Rattle.sound_programs.proofs.BreakLaws.{whole_never_break}
-use Rattle.sound_programs.proofs.programs.whole_never_break.Goals as goal
-
-pub returns : goal.returns
-returns c = whole_never_break

@@ -1,7 +1,0 @@
-use Rattle.std.proofs.Common.{rules}
-use Rattle.asp_model.specs.Readable.{is_identifier}
-use Rattle.sound_programs.proofs.worked.readable_programs.Goals as goal
-
-pub returns : goal.returns
-unfolding is_identifier
-returns c = search rules

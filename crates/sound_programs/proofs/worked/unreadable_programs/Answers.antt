@@ -1,6 +1,0 @@
-use Rattle.asp_model.specs.Readable.{is_identifier}
-use Rattle.sound_programs.proofs.worked.unreadable_programs.Goals as goal
-
-pub returns-clause-names : goal.returns-clause-names
-unfolding is_identifier
-returns-clause-names c = (λ h. cc, λ h. cc)

@@ -1,0 +1,118 @@
+use Rattle.std.proofs.Common.{◌≡◌, map, sym, ap, ◌∙◌, subst}
+use Rattle.std.specs.Arc.{arc_value}
+use Rattle.asp_model.specs.Chase.{Chase, Values, chase}
+use Rattle.asp_model.specs.Intent.{Intent, redex_ready}
+use Rattle.asp_model.specs.Names.{FutureShape}
+use Rattle.asp_model.specs.Shapes.{fault_shape, future_shape}
+use Rattle.future_table.specs.Values.{values_of}
+use Rattle.serve_rules.specs.Labels.{label_text}
+use Rattle.step_reads.specs.declared.prospect.Prospect.{Prospect}
+use Rattle.step_reads.specs.Prospects.{Asks, Awaits, Goes, GoesTo, Still, Stops, prospect_shape}
+use Rattle.step_activity.specs.declared.actor.Actor.{Actor}
+use Rattle.step_parts.specs.declared.outlook.Outlook.TheVariants as outlook
+use Rattle.step_activity.specs.Actors.{code_of}
+use Rattle.step_activity.specs.Outlook.{IsOutlook}
+use Rattle.step_activity.proofs.OutlookLemmas.{By, asks, awaits, by_own, goes, goes_to, outlook_at, serve_intent, still, stops}
+use Rattle.step_activity.proofs.PassingLemmas.{passed_before, passed_now}
+use Rattle.step_activity.proofs.actor.Actor.at_redex.Goals as goal
+
+pub prospect_from-reading-requires-clause-passed : goal.prospect_from-reading-requires-clause-passed
+prospect_from-reading-requires-clause-passed c =
+    let x : Actor = c.args.self.now in
+    let chases : FutureShape → Chase = chase (values_of c.args.futures.now) in
+    let code : c.deref.result.now ≡ code_of x = c.deref.ensures ∙ ap arc_value c.code-code.ensures.code in
+    let h = c.requires.passed in
+    let a = h.activity in
+    passed_before x chases a c.args.redex (c.requires.stands a h.stands.activity) h.stands.activity c.deref.result.now c.store.result.now code c.store.ensures.store c.args.from h.passed
+
+pub returns-in-Goes : goal.returns-in-Goes
+returns-in-Goes c =
+    let x : Actor = c.args.self.now in
+    let values : Values = values_of c.args.futures.now in
+    let chases : FutureShape → Chase = chase values in
+    let code : c.deref.result.now ≡ code_of x = c.deref.ensures ∙ ap arc_value c.code-code.ensures.code in
+    let told = subst (λ (q : Prospect). By values c.args.redex (prospect_shape q) c.deref.result.now c.store.result.now) c.in-Goes.is c.prospect_from-reading.ensures.prospect in
+    let by = by_own values c.args.redex Goes c.deref.result.now (code_of x) c.store.result.now x.activity.state.store code c.store.ensures.store told in
+    record {
+      outlook = λ a rs n h.
+          let at = c.requires.stands a h.activity in
+          outlook_at x values c.args.redex c.requires.stands Goes c.requires.closed by a rs n h.activity (λ (i : Intent). IsOutlook i outlook.Steps) (goes rs n a at.contexts at.redex (redex_ready chases a.store at.redex));
+      passed = λ a rs h. passed_now x chases a c.args.redex (c.requires.stands a h.activity) h.activity c.deref.result.now c.store.result.now code c.store.ensures.store c.prospect_from-reading.result.passed c.prospect_from-reading.ensures.passed;
+    }
+
+pub returns-in-GoesTo : goal.returns-in-GoesTo
+returns-in-GoesTo c =
+    let x : Actor = c.args.self.now in
+    let values : Values = values_of c.args.futures.now in
+    let chases : FutureShape → Chase = chase values in
+    let code : c.deref.result.now ≡ code_of x = c.deref.ensures ∙ ap arc_value c.code-code.ensures.code in
+    let told = subst (λ (q : Prospect). By values c.args.redex (prospect_shape q) c.deref.result.now c.store.result.now) c.in-GoesTo.is c.prospect_from-reading.ensures.prospect in
+    let by = by_own values c.args.redex (GoesTo c.in-GoesTo.name.now) c.deref.result.now (code_of x) c.store.result.now x.activity.state.store code c.store.ensures.store told in
+    record {
+      outlook = λ a rs n h.
+          let at = c.requires.stands a h.activity in
+          outlook_at x values c.args.redex c.requires.stands (GoesTo c.in-GoesTo.name.now) c.requires.closed by a rs n h.activity (λ (i : Intent). IsOutlook i (outlook.Sends c.in-GoesTo.name)) (goes_to rs n a at.contexts c.in-GoesTo.name at.redex (redex_ready chases a.store at.redex));
+      passed = λ a rs h. passed_now x chases a c.args.redex (c.requires.stands a h.activity) h.activity c.deref.result.now c.store.result.now code c.store.ensures.store c.prospect_from-reading.result.passed c.prospect_from-reading.ensures.passed;
+    }
+
+pub returns-in-Stops : goal.returns-in-Stops
+returns-in-Stops c =
+    let x : Actor = c.args.self.now in
+    let values : Values = values_of c.args.futures.now in
+    let chases : FutureShape → Chase = chase values in
+    let code : c.deref.result.now ≡ code_of x = c.deref.ensures ∙ ap arc_value c.code-code.ensures.code in
+    let told = subst (λ (q : Prospect). By values c.args.redex (prospect_shape q) c.deref.result.now c.store.result.now) c.in-Stops.is c.prospect_from-reading.ensures.prospect in
+    let by = by_own values c.args.redex (Stops (fault_shape c.in-Stops.fault)) c.deref.result.now (code_of x) c.store.result.now x.activity.state.store code c.store.ensures.store told in
+    record {
+      outlook = λ a rs n h.
+          let at = c.requires.stands a h.activity in
+          outlook_at x values c.args.redex c.requires.stands (Stops (fault_shape c.in-Stops.fault)) c.requires.closed by a rs n h.activity (λ (i : Intent). IsOutlook i (outlook.Faulted c.in-Stops.fault)) (stops rs n a at.contexts c.in-Stops.fault at.redex (redex_ready chases a.store at.redex));
+      passed = λ a rs h. passed_now x chases a c.args.redex (c.requires.stands a h.activity) h.activity c.deref.result.now c.store.result.now code c.store.ensures.store c.prospect_from-reading.result.passed c.prospect_from-reading.ensures.passed;
+    }
+
+pub returns-in-Awaits : goal.returns-in-Awaits
+returns-in-Awaits c =
+    let x : Actor = c.args.self.now in
+    let values : Values = values_of c.args.futures.now in
+    let chases : FutureShape → Chase = chase values in
+    let code : c.deref.result.now ≡ code_of x = c.deref.ensures ∙ ap arc_value c.code-code.ensures.code in
+    let told = subst (λ (q : Prospect). By values c.args.redex (prospect_shape q) c.deref.result.now c.store.result.now) c.in-Awaits.is c.prospect_from-reading.ensures.prospect in
+    let by = by_own values c.args.redex (Awaits (future_shape c.in-Awaits.future.now)) c.deref.result.now (code_of x) c.store.result.now x.activity.state.store code c.store.ensures.store told in
+    record {
+      outlook = λ a rs n h.
+          let at = c.requires.stands a h.activity in
+          outlook_at x values c.args.redex c.requires.stands (Awaits (future_shape c.in-Awaits.future.now)) c.requires.closed by a rs n h.activity (λ (i : Intent). IsOutlook i (outlook.Awaits c.in-Awaits.future)) (awaits rs n a at.contexts c.in-Awaits.future at.redex (redex_ready chases a.store at.redex));
+      passed = λ a rs h. passed_now x chases a c.args.redex (c.requires.stands a h.activity) h.activity c.deref.result.now c.store.result.now code c.store.ensures.store c.prospect_from-reading.result.passed c.prospect_from-reading.ensures.passed;
+    }
+
+pub returns-in-Still : goal.returns-in-Still
+returns-in-Still c =
+    let x : Actor = c.args.self.now in
+    let values : Values = values_of c.args.futures.now in
+    let chases : FutureShape → Chase = chase values in
+    let code : c.deref.result.now ≡ code_of x = c.deref.ensures ∙ ap arc_value c.code-code.ensures.code in
+    let told = subst (λ (q : Prospect). By values c.args.redex (prospect_shape q) c.deref.result.now c.store.result.now) c.in-Still.is c.prospect_from-reading.ensures.prospect in
+    let by = by_own values c.args.redex Still c.deref.result.now (code_of x) c.store.result.now x.activity.state.store code c.store.ensures.store told in
+    record {
+      outlook = λ a rs n h.
+          let at = c.requires.stands a h.activity in
+          outlook_at x values c.args.redex c.requires.stands Still c.requires.closed by a rs n h.activity (λ (i : Intent). IsOutlook i outlook.Done) (still rs n a at.contexts at.redex (redex_ready chases a.store at.redex));
+      passed = λ a rs h. passed_now x chases a c.args.redex (c.requires.stands a h.activity) h.activity c.deref.result.now c.store.result.now code c.store.ensures.store c.prospect_from-reading.result.passed c.prospect_from-reading.ensures.passed;
+    }
+
+pub returns-in_ok-outlook-in-Asks : goal.returns-in_ok-outlook-in-Asks
+returns-in_ok-outlook-in-Asks c =
+    let x : Actor = c.args.self.now in
+    let values : Values = values_of c.args.futures.now in
+    let chases : FutureShape → Chase = chase values in
+    let code : c.deref.result.now ≡ code_of x = c.deref.ensures ∙ ap arc_value c.code-code.ensures.code in
+    let told = subst (λ (q : Prospect). By values c.args.redex (prospect_shape q) c.deref.result.now c.store.result.now) c.in-Asks.is c.prospect_from-reading.ensures.prospect in
+    let by = by_own values c.args.redex Asks c.deref.result.now (code_of x) c.store.result.now x.activity.state.store code c.store.ensures.store told in
+    record {
+      outlook = λ a rs n h.
+          let at = c.requires.stands a h.activity in
+          let Q : Intent → Type 0 = λ i. IsOutlook i c.in_ok-outlook-in-Asks.outlook in
+          outlook_at x values c.args.redex c.requires.stands Asks c.requires.closed by a rs n h.activity Q
+          (λ e. subst Q (sym (serve_intent x values c.args.redex c.requires.stands a rs n h.activity (map label_text c.served_labels.result.now) c.served_labels.ensures.labels (asks at.redex (redex_ready chases a.store at.redex) e))) (c.in_ok-outlook-in-Asks.ensures.outlook a rs at.contexts h));
+      passed = λ a rs h. passed_now x chases a c.args.redex (c.requires.stands a h.activity) h.activity c.deref.result.now c.store.result.now code c.store.ensures.store c.prospect_from-reading.result.passed c.prospect_from-reading.ensures.passed;
+    }

@@ -1,0 +1,164 @@
+//! One reduction of an activity.
+
+ghost use Rattle.std.specs.Prelude.{◌≡◌, ◌<◌, IfOk, List, length};
+ghost use Rattle.asp_model.specs.Chase.{chase};
+ghost use Rattle.asp_model.specs.Configuration as model;
+ghost use Rattle.asp_model.specs.Configuration.{RequestShape};
+ghost use Rattle.asp_model.specs.Contraction.{contract};
+ghost use Rattle.asp_model.specs.Intent.{contracts, ends_service, intent, newest};
+ghost use Rattle.asp_model.specs.Split as terms;
+ghost use Rattle.asp_model.specs.Split.{Context, Redex, Splits, split};
+ghost use Rattle.activity_step.specs.Activities.{StandsFor};
+ghost use Rattle.future_table.specs.Values.{AreOfCode, values_of};
+ghost use Rattle.step_reads.specs.Values.{AreClosedValues};
+ghost use Rattle.step_activity.specs.Actors.{HasOperands, IsClosedFor, Stands, code_of};
+ghost use Rattle.step_activity.specs.Asking.{communicates};
+ghost use Rattle.step_activity.specs.Effects.{IsDoneBy, IsGivenOf};
+
+use crate::actor::Actor;
+use crate::asked::Asked;
+use crate::communicate::copied;
+use activity_step::{Advance, Standing};
+use asp_model::{ActivityName, FutureName};
+use code_table::{Parcel, Place};
+use future_table::FutureTable;
+use request_queue::Request;
+use std::alloc::{AllocError, Global};
+use step_reads::{Strict, fetch_all, strict_of};
+
+/// What a reduction gives to others.
+#[derive(Drop)]
+pub enum Given {
+    Nothing,
+    /// A new activity.
+    Made(ActivityName, Box<Actor>),
+    /// A request, to the activity of this name.
+    Sent(ActivityName, Request),
+    /// The value of a future.
+    Filled(FutureName, Parcel),
+}
+
+impl Actor {
+    /// Takes the reduction that the activity intends, and answers what it gives to others. Where it
+    /// intends none, no clause says what is left: look at `outlook` first.
+    pub fn act(
+        &mut self,
+        alloc: Global,
+        name: &ActivityName,
+        futures: &FutureTable,
+    ) -> Result<Given, AllocError>
+        requires closed { IsClosedFor self.old }
+        requires values { AreClosedValues (values_of futures.now) }
+        requires code { AreOfCode (code_of self.old) futures.now }
+        ensures acts { (a : model.Activity) (rs : List RequestShape) → Stands self.old a rs →
+            let intended = intent (chase (values_of futures.now)) rs name.now a in
+            IfOk result (IsDoneBy intended rs self.new) }
+        ensures code { code_of self.new ≡ code_of self.old }
+        ensures given { IfOk result (IsGivenOf (code_of self.old)) }
+    {
+        self.settle()?;
+        let redex = match self.activity.standing()? {
+            Standing::Place(place) => return self.end_service(alloc, place),
+            Standing::Redex(redex) => redex,
+        };
+        match self.asks(redex) {
+            Asked::Creates(object, service) => {
+                let service = copied(alloc, service)?;
+                return self.create(alloc, name, object, service);
+            }
+            Asked::Sends(to, label, arguments) => {
+                let to = to.copy(alloc)?;
+                let label = label.copy(alloc)?;
+                let arguments = self.activity.pack(alloc, arguments)?;
+                return self.send(alloc, name, to, label, arguments);
+            }
+            Asked::Serves(labels) => {
+                let Some(number) = self.match_of(alloc, labels)? else {
+                    return Ok(Given::Nothing);
+                };
+                return self.serve(alloc, number);
+            }
+            Asked::Nothing => {
+                let strict = strict_of(redex);
+                return self.reduce(alloc, name, futures, strict);
+            }
+        }
+    }
+
+    /// The service ends: its future gets a copy of what stands at the place.
+    fn end_service(&mut self, alloc: Global, place: Place) -> Result<Given, AllocError>
+        requires closed { IsClosedFor self.old }
+        requires within { place < length self.old.activity.state.store.cells }
+        ensures ended { (a : model.Activity) (rs : List RequestShape) → Stands self.old a rs →
+            split a.term ≡ terms.Stands place →
+            IfOk result (IsDoneBy (ends_service a place (newest a.services)) rs self.new) }
+        ensures code { code_of self.new ≡ code_of self.old }
+        ensures given { IfOk result (IsGivenOf (code_of self.old)) }
+    {
+        if !self.activity.is_serving() {
+            return Ok(Given::Nothing);
+        }
+        let value = self.activity.pack(alloc, &[place])?;
+        self.clear = 0;
+        match self.activity.ended(alloc)? {
+            Some(future) => Ok(Given::Filled(future, value)),
+            None => Ok(Given::Nothing),
+        }
+    }
+
+    /// The redex is contracted over the values of its strict operands, if each has one.
+    #[inline(never)]
+    fn reduce(
+        &mut self,
+        alloc: Global,
+        name: &ActivityName,
+        futures: &FutureTable,
+        strict: Strict,
+    ) -> Result<Given, AllocError>
+        requires closed { IsClosedFor self.old }
+        requires values { AreClosedValues (values_of futures.now) }
+        requires code { AreOfCode (code_of self.old) futures.now }
+        requires operands { (a : model.Activity) → StandsFor self.old.activity a →
+            HasOperands a strict }
+        ensures acts { (a : model.Activity) (rs : List RequestShape) → Stands self.old a rs →
+            let intended = intent (chase (values_of futures.now)) rs name.now a in
+            IfOk result (IsDoneBy intended rs self.new) }
+        ensures code { code_of self.new ≡ code_of self.old }
+        ensures given { IfOk result (IsGivenOf (code_of self.old)) }
+    {
+        self.clear = 0;
+        if fetch_all(alloc, &mut self.activity, futures, strict)? {
+            self.contract(alloc, name)
+        } else {
+            Ok(Given::Nothing)
+        }
+    }
+
+    /// The redex is contracted, or does what it asks of others.
+    fn contract(&mut self, alloc: Global, name: &ActivityName) -> Result<Given, AllocError>
+        requires closed { IsClosedFor self.old }
+        ensures contracts { (a : model.Activity) (rs : List RequestShape) (cs : List Context)
+            (r : Redex) → Stands self.old a rs → split a.term ≡ Splits cs r →
+            let intended = contracts rs name.now a cs a.store (contract a.store r) in
+            IfOk result (IsDoneBy intended rs self.new) }
+        ensures code { code_of self.new ≡ code_of self.old }
+        ensures given { IfOk result (IsGivenOf (code_of self.old)) }
+    {
+        self.clear = 0;
+        let advance = self.activity.step(alloc, true)?;
+        if is_communication(advance) {
+            self.communicate(alloc, name)
+        } else {
+            Ok(Given::Nothing)
+        }
+    }
+}
+
+fn is_communication(advance: Advance) -> bool
+    ensures { result ≡ communicates advance }
+{
+    matches!(
+        advance,
+        Advance::Creates(_) | Advance::Sends | Advance::Serves
+    )
+}

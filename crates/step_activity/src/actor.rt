@@ -1,0 +1,157 @@
+//! An activity with the requests that it received.
+
+ghost use Rattle.std.specs.Prelude.{◌≡◌, ◌∷◌, ◌++◌, [], IfOk, List, OnOk, length, map};
+ghost use Rattle.std.specs.Arc.{arc_value};
+ghost use Rattle.asp_model.specs.Configuration as model;
+ghost use Rattle.asp_model.specs.Configuration.{RequestShape, begun};
+ghost use Rattle.asp_model.specs.Shapes.{activity_shape as report_shape, status_shape};
+ghost use Rattle.asp_model.specs.Store.{Object as ObjectCell};
+ghost use Rattle.code_table.specs.Shapes.{store_of};
+ghost use Rattle.code_table.specs.Pieces.{tree};
+ghost use Rattle.code_table.specs.Sound.{root_of};
+ghost use Rattle.code_table.specs.Tables.{piece_at, pieces};
+ghost use Rattle.activity_step.specs.Activities.{StandsFor};
+ghost use Rattle.def_paths.specs.Snapshots.{snapshot_of};
+ghost use Rattle.request_queue.specs.Requests.{request_shape};
+ghost use Rattle.run_ends.specs.Ends.{IsSnapshotOf};
+ghost use Rattle.step_activity.specs.Actors.{Stands, code_of};
+
+use activity_step::{Activity, State};
+use asp_model::{ActivityName, ActivityReport, Status};
+use code_table::Code;
+use object_store::Store;
+use request_queue::{Queue, Request};
+use run_ends::EndState;
+use std::alloc::{AllocError, Global};
+use std::sync::Arc;
+
+/// An activity with its pending requests, who sent all that it received, how many requests and
+/// activities it has made, and how many members of a group that it waits for are known to have come.
+#[derive(Drop)]
+pub struct Actor {
+    pub(crate) activity: Activity,
+    pub(crate) queue: Queue,
+    pub(crate) senders: Vec<ActivityName>,
+    pub(crate) sends: u32,
+    pub(crate) creations: u32,
+    pub(crate) clear: usize,
+}
+
+impl Actor {
+    /// An activity that has received nothing.
+    pub(crate) fn begin(alloc: Global, activity: Activity) -> Actor
+        ensures stands { (a : model.Activity) → StandsFor activity a → a.sends ≡ 0 →
+            a.creations ≡ 0 → a.served ≡ [] → Stands result a [] }
+        ensures code { code_of result ≡ arc_value activity.code }
+    {
+        Actor {
+            activity,
+            queue: Queue::new(alloc),
+            senders: Vec::new(alloc),
+            sends: 0,
+            creations: 0,
+            clear: 0,
+        }
+    }
+
+    /// The main activity, with the program as its term and an empty active object.
+    pub fn main(alloc: Global, code: Arc<Code>) -> Result<Actor, AllocError>
+        ensures stands { let k = arc_value code in
+            let first = begun (tree [] (piece_at (pieces k) (root_of k))) (ObjectCell [] [] ∷ []) in
+            IfOk result (λ x. Stands x first []) }
+        ensures code { IfOk result (λ x. code_of x ≡ arc_value code) }
+    {
+        Ok(Actor::begin(alloc, Activity::main(alloc, code)?))
+    }
+
+    /// A request that comes. It is pending behind the others.
+    pub fn receive(&mut self, alloc: Global, request: Request) -> Result<(), AllocError>
+        requires code { arc_value request.arguments.code ≡ code_of self.old }
+        ensures stands { (a : model.Activity) (rs : List RequestShape) → Stands self.old a rs →
+            OnOk result (Stands self.new a (rs ++ request_shape request ∷ [])) }
+        ensures code { code_of self.new ≡ code_of self.old }
+    {
+        let sender = request.sender.copy(alloc)?;
+        push_sender(&mut self.senders, sender)?;
+        self.queue.push(request)?;
+        Ok(())
+    }
+
+    /// How many reductions it took.
+    pub fn count(&self) -> u64
+        ensures count { (a : model.Activity) (rs : List RequestShape) → Stands self.now a rs →
+            result ≡ a.reductions }
+    {
+        self.activity.count()
+    }
+
+    /// How many requests it received.
+    pub fn received(&self) -> usize
+        ensures received { (a : model.Activity) (rs : List RequestShape) → Stands self.now a rs →
+            result ≡ length rs }
+    {
+        self.senders.len()
+    }
+
+    /// The code that it runs.
+    pub fn code(&self) -> &Arc<Code>
+        ensures code { arc_value result.now ≡ code_of self.now }
+    {
+        self.activity.code()
+    }
+
+    /// Its store.
+    pub fn store(&self) -> &Store
+        ensures store { (a : model.Activity) (rs : List RequestShape) → Stands self.now a rs →
+            store_of (code_of self.now) result.now.cells ≡ a.store }
+    {
+        self.activity.store()
+    }
+
+    /// What a run's end tells of it, and its state.
+    pub fn into_end(self, name: ActivityName, status: Status) -> (ActivityReport, EndState)
+        ensures report { (a : model.Activity) (rs : List RequestShape) → Stands self a rs →
+            report_shape result.0 ≡ record {
+              name = name;
+              count = a.reductions;
+              status = status_shape status;
+              senders = map (λ r. r.sender) rs;
+              lines = a.lines;
+            } }
+        ensures state { (a : model.Activity) (rs : List RequestShape) → Stands self a rs →
+            IsSnapshotOf (code_of self) result.1 (snapshot_of a) }
+    {
+        let count = self.activity.count();
+        let (state, active) = self.activity.into_state();
+        let State {
+            machine,
+            store,
+            lines,
+        } = state;
+        let report = ActivityReport {
+            name,
+            count,
+            status,
+            senders: self.senders,
+            lines,
+        };
+        let end = EndState {
+            machine,
+            store,
+            active,
+        };
+        (report, end)
+    }
+}
+
+/// A name more. The first takes no more room than it needs, since most activities receive one
+/// request.
+fn push_sender(senders: &mut Vec<ActivityName>, sender: ActivityName) -> Result<(), AllocError>
+    ensures items { OnOk result (senders.new.items ≡ senders.old.items ++ sender ∷ []) }
+{
+    if senders.is_empty() {
+        senders.reserve_exact(1)?;
+    }
+    senders.push(sender)?;
+    Ok(())
+}

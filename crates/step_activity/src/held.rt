@@ -1,0 +1,168 @@
+//! The first strict operand that is a future.
+
+ghost use Rattle.std.specs.Prelude.{◌≡◌, ◌<◌, ◌≤◌, ◌∷◌, List, None, [], length, take, true};
+ghost use Rattle.asp_model.specs.Contraction.{first_future, is_future, members_of};
+ghost use Rattle.asp_model.specs.Store.{cell as cell_in};
+ghost use Rattle.code_table.specs.declared.code.Node.{Node as NodeShape};
+ghost use Rattle.code_table.specs.Shapes.{cell_shape, store_of};
+ghost use Rattle.law_steps.specs.Linked.{Each};
+ghost use Rattle.step_activity.specs.Clear.{AreClearAt, IsClear};
+ghost use Rattle.step_activity.specs.Stances.{IsFutureOf, IsHeld, held_places};
+
+use asp_model::FutureName;
+use code_table::{Cell, Place};
+use object_store::Store;
+use step_reads::Strict;
+
+/// A future, and the place where it stands.
+#[derive(Clone, Copy)]
+pub struct Held<'a> {
+    pub place: Place,
+    pub future: &'a FutureName,
+}
+
+fn future_of(cell: &Cell) -> Option<&FutureName>
+    ensures future { (k : List NodeShape) → IsFutureOf (cell_shape k cell.now) result }
+{
+    match cell {
+        Cell::Future(future) => Some(future),
+        Cell::Number(_) => None,
+        Cell::Object(_) => None,
+        Cell::Reference(_) => None,
+        Cell::Group(_) => None,
+    }
+}
+
+fn future_at(store: &Store, place: Place) -> Option<Held<'_>>
+    ensures held { (k : List NodeShape) → let s = store_of k store.now.cells in
+        IsHeld s (place ∷ []) result }
+{
+    if place >= store.len() {
+        return None;
+    }
+    match future_of(store.cell(place)) {
+        Some(future) => Some(Held { place, future }),
+        None => None,
+    }
+}
+
+/// The first of these places that holds a future, where the first so many hold none: these are not
+/// looked at.
+fn first_of<'a>(store: &'a Store, places: &[Place], from: usize) -> Option<Held<'a>>
+    ensures held { (k : List NodeShape) → let s = store_of k store.now.cells in
+        first_future s (take from places.now) ≡ None → IsHeld s places.now result }
+{
+    for at in from..places.len() {
+        if let Some(held) = future_at(store, places[at]) {
+            return Some(held);
+        }
+    }
+    None
+}
+
+/// The members of a group; none of what is no group.
+fn members_of(cell: &Cell) -> &[Place]
+    ensures members { (k : List NodeShape) → result.now ≡ members_of (cell_shape k cell.now) }
+{
+    match cell {
+        Cell::Group(members) => members,
+        Cell::Number(_) => &[],
+        Cell::Object(_) => &[],
+        Cell::Reference(_) => &[],
+        Cell::Future(_) => &[],
+    }
+}
+
+fn members_at(store: &Store, place: Place) -> &[Place]
+    ensures members { (k : List NodeShape) →
+        result.now ≡ members_of (cell_in (store_of k store.now.cells) place) }
+{
+    if place >= store.len() {
+        return &[];
+    }
+    members_of(store.cell(place))
+}
+
+/// The first of these operands that is a future, as the store has them: no value is read. The first
+/// so many members of a group are known to have come, and are not looked at.
+pub fn first_held<'a>(store: &'a Store, strict: Strict, clear: usize) -> Option<Held<'a>>
+    ensures held { (k : List NodeShape) → let s = store_of k store.now.cells in
+        AreClearAt s strict clear → IsHeld s (held_places s strict) result }
+{
+    match strict {
+        Strict::Nothing => None,
+        Strict::One(place) => future_at(store, place),
+        Strict::Two(first, second) => match future_at(store, first) {
+            Some(held) => Some(held),
+            None => future_at(store, second),
+        },
+        Strict::Members(place) => match future_at(store, place) {
+            Some(held) => Some(held),
+            None => first_of(store, members_at(store, place), clear),
+        },
+    }
+}
+
+fn is_future(cell: &Cell) -> bool
+    ensures { (k : List NodeShape) → result ≡ is_future (cell_shape k cell.now) }
+{
+    match cell {
+        Cell::Future(_) => true,
+        Cell::Number(_) => false,
+        Cell::Object(_) => false,
+        Cell::Reference(_) => false,
+        Cell::Group(_) => false,
+    }
+}
+
+/// Whether a place of a store holds a future.
+pub fn holds_future(store: &Store, place: Place) -> bool
+    requires within { place < length store.now.cells }
+    ensures holds { (k : List NodeShape) →
+        result ≡ is_future (cell_in (store_of k store.now.cells) place) }
+{
+    is_future(store.cell(place))
+}
+
+/// Whether a place is in a store, and holds no future.
+fn is_clear(store: &Store, place: Place) -> bool
+    ensures clear { (k : List NodeShape) → result ≡ true →
+        IsClear (store_of k store.now.cells) place }
+{
+    if place >= store.len() {
+        return false;
+    }
+    if holds_future(store, place) {
+        return false;
+    }
+    true
+}
+
+/// How many of these places are clear before the first that is not, where the first so many are:
+/// these are not looked at.
+fn clear_from(store: &Store, places: &[Place], from: usize) -> usize
+    ensures clear { (k : List NodeShape) → let s = store_of k store.now.cells in
+        Each (IsClear s) (take from places.now) → Each (IsClear s) (take result places.now) }
+    ensures within { result ≤ length places.now }
+{
+    for at in from..places.len() {
+        if !is_clear(store, places[at]) {
+            return at;
+        }
+    }
+    places.len()
+}
+
+/// How many members of a group that is waited for have come before the first that has not, where the
+/// first so many are known to have. It looks at the others alone.
+pub fn clear_at(store: &Store, strict: Strict, from: usize) -> usize
+    ensures clear { (k : List NodeShape) → let s = store_of k store.now.cells in
+        AreClearAt s strict from → AreClearAt s strict result }
+{
+    match strict {
+        Strict::Members(place) => clear_from(store, members_at(store, place), from),
+        Strict::Nothing => from,
+        Strict::One(_) => from,
+        Strict::Two(_, _) => from,
+    }
+}

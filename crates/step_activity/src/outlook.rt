@@ -1,0 +1,169 @@
+//! What an activity does next, told without a reduction.
+
+ghost use Rattle.std.specs.Prelude.{◌≡◌, IfOk, List, OnOk, map, ℕ};
+ghost use Rattle.asp_model.specs.Chase.{chase};
+ghost use Rattle.asp_model.specs.Configuration as model;
+ghost use Rattle.asp_model.specs.Configuration.{RequestShape};
+ghost use Rattle.asp_model.specs.Intent.{
+  ends_service,
+  intent,
+  labels_served,
+  newest,
+  oldest_match,
+  serves,
+};
+ghost use Rattle.asp_model.specs.Names.{Name};
+ghost use Rattle.asp_model.specs.Split.{Context};
+ghost use Rattle.asp_model.specs.Store.{cell as cell_in};
+ghost use Rattle.activity_step.specs.Activities.{StandsFor};
+ghost use Rattle.activity_step.specs.Standings.{IsAt};
+ghost use Rattle.future_table.specs.Values.{values_of};
+ghost use Rattle.step_reads.specs.Values.{AreClosedValues};
+ghost use Rattle.serve_rules.specs.Labels.{label_text};
+ghost use Rattle.step_activity.specs.Actors.{IsClosedFor, Stands, code_of};
+ghost use Rattle.step_activity.specs.Outlook.{IsOutlook};
+ghost use Rattle.step_activity.specs.Passing.{HasPassed, IsPassedFor};
+
+use crate::actor::Actor;
+use crate::asked::served_labels;
+use activity_step::Standing;
+use asp_model::Label;
+use future_table::FutureTable;
+use std::alloc::{AllocError, Global};
+use step_parts::Outlook;
+use step_reads::{Prospect, prospect_from};
+use step_rows::Redex;
+
+/// What an activity does next, and how many members of a group that it waits for have values.
+#[derive(Clone, Copy)]
+pub struct Looked<'a> {
+    pub outlook: Outlook<'a>,
+    pub passed: usize,
+}
+
+impl Actor {
+    /// Goes on to the next redex, or to the place that the term is. It takes no reduction.
+    pub fn settle(&mut self) -> Result<(), AllocError>
+        ensures stands { (a : model.Activity) (rs : List RequestShape) → Stands self.old a rs →
+            OnOk result (Stands self.new a rs) }
+        ensures code { code_of self.new ≡ code_of self.old }
+    {
+        self.clear = 0;
+        self.activity.settle()?;
+        Ok(())
+    }
+
+    /// What the activity does next, once it has settled. Nothing is changed, and no value is
+    /// unpacked.
+    pub fn outlook<'a>(
+        &'a self,
+        alloc: Global,
+        futures: &'a FutureTable,
+    ) -> Result<Outlook<'a>, AllocError>
+        requires closed { IsClosedFor self.now }
+        requires values { AreClosedValues (values_of futures.now) }
+        ensures outlook { (a : model.Activity) (rs : List RequestShape) (n : Name) →
+            Stands self.now a rs →
+            IfOk result (IsOutlook (intent (chase (values_of futures.now)) rs n a)) }
+    {
+        Ok(self.outlook_from(alloc, futures, 0)?.outlook)
+    }
+
+    /// What the activity does next, once it has settled, where the first so many members of a group
+    /// that it waits for are known to have values: these are not looked at.
+    pub fn outlook_from<'a>(
+        &'a self,
+        alloc: Global,
+        futures: &'a FutureTable,
+        from: usize,
+    ) -> Result<Looked<'a>, AllocError>
+        requires closed { IsClosedFor self.now }
+        requires values { AreClosedValues (values_of futures.now) }
+        requires passed { IsPassedFor (chase (values_of futures.now)) self.now from }
+        ensures outlook { (a : model.Activity) (rs : List RequestShape) (n : Name) →
+            Stands self.now a rs → let intended = intent (chase (values_of futures.now)) rs n a in
+            IfOk result (λ x. IsOutlook intended x.outlook) }
+        ensures passed { (a : model.Activity) (rs : List RequestShape) → Stands self.now a rs →
+            IfOk result (λ x. HasPassed (chase (values_of futures.now)) a x.passed) }
+    {
+        match self.activity.standing()? {
+            Standing::Place(_place) => Ok(Looked {
+                outlook: self.at_place(),
+                passed: 0,
+            }),
+            Standing::Redex(redex) => self.at_redex(alloc, futures, redex, from),
+        }
+    }
+
+    fn at_place(&self) -> Outlook<'_>
+        ensures outlook { (a : model.Activity) (place : ℕ) → StandsFor self.now.activity a →
+            IsOutlook (ends_service a place (newest a.services)) result }
+    {
+        if self.activity.is_serving() {
+            Outlook::Steps
+        } else {
+            Outlook::Done
+        }
+    }
+
+    pub(crate) fn at_redex<'a>(
+        &'a self,
+        alloc: Global,
+        futures: &'a FutureTable,
+        redex: Redex<'a>,
+        from: usize,
+    ) -> Result<Looked<'a>, AllocError>
+        requires closed { IsClosedFor self.now }
+        requires values { AreClosedValues (values_of futures.now) }
+        requires stands { (a : model.Activity) → StandsFor self.now.activity a → IsAt a redex }
+        requires passed { IsPassedFor (chase (values_of futures.now)) self.now from }
+        ensures outlook { (a : model.Activity) (rs : List RequestShape) (n : Name) →
+            Stands self.now a rs → let intended = intent (chase (values_of futures.now)) rs n a in
+            IfOk result (λ x. IsOutlook intended x.outlook) }
+        ensures passed { (a : model.Activity) (rs : List RequestShape) → Stands self.now a rs →
+            IfOk result (λ x. HasPassed (chase (values_of futures.now)) a x.passed) }
+    {
+        let code = self.activity.code();
+        let reading = prospect_from(code, self.activity.store(), futures, redex, from);
+        let passed = reading.passed;
+        match reading.prospect {
+            Prospect::Goes => Ok(Looked {
+                outlook: Outlook::Steps,
+                passed,
+            }),
+            Prospect::GoesTo(name) => Ok(Looked {
+                outlook: Outlook::Sends(name),
+                passed,
+            }),
+            Prospect::Stops(fault) => Ok(Looked {
+                outlook: Outlook::Faulted(fault),
+                passed,
+            }),
+            Prospect::Asks => {
+                let outlook = self.at_serve(alloc, served_labels(redex))?;
+                Ok(Looked { outlook, passed })
+            }
+            Prospect::Awaits(future) => Ok(Looked {
+                outlook: Outlook::Awaits(future),
+                passed,
+            }),
+            Prospect::Still => Ok(Looked {
+                outlook: Outlook::Done,
+                passed,
+            }),
+        }
+    }
+
+    fn at_serve(&self, alloc: Global, labels: &[Label]) -> Result<Outlook<'_>, AllocError>
+        requires closed { IsClosedFor self.now }
+        ensures outlook { (a : model.Activity) (rs : List RequestShape) (cs : List Context) →
+            Stands self.now a rs →
+            let wanted = labels_served (map label_text labels.now) (cell_in a.store a.active) in
+            IfOk result (IsOutlook (serves a cs (oldest_match wanted a.served 0 rs))) }
+    {
+        match self.match_of(alloc, labels)? {
+            Some(_) => Ok(Outlook::Steps),
+            None => Ok(Outlook::Serving),
+        }
+    }
+}

@@ -1,0 +1,87 @@
+//! What a call leads to.
+
+ghost use Rattle.std.specs.Prelude.{◌≡◌, IfOk, IfSome, drop, length, take};
+ghost use Rattle.code_table.specs.Cells.{Object as object_with, coded};
+ghost use Rattle.step_rows.specs.Decisions.{IsCallee};
+
+use crate::decision::Decision;
+use asp_model::{ActivityName, Fault, Label};
+use code_table::{Cell, Code, MethodCode, Object, Place};
+use std::alloc::AllocError;
+
+/// What a call leads to.
+#[derive(Clone, Copy)]
+pub enum Callee<'a> {
+    /// A method, and what it captured.
+    Method(&'a MethodCode, &'a [Place]),
+    /// A call to each of these members.
+    Members(&'a [Place]),
+    /// A request to this activity.
+    Activity(&'a ActivityName),
+    Other(Decision),
+}
+
+/// What a method captured, among the places of its object.
+fn captured_in<'a>(method: &MethodCode, places: &'a [Place]) -> Option<&'a [Place]>
+    ensures places { let n = length method.now.captured.items in
+        IfSome result (λ cs. cs.now ≡ take n (drop method.now.start places.now)) }
+    ensures size { IfSome result (λ cs. length cs.now ≡ length method.now.captured.items) }
+{
+    let Some(end) = method.start.checked_add(method.captured.len()) else {
+        return None;
+    };
+    let Some(captured) = places.get(method.start..end) else {
+        return None;
+    };
+    Some(captured)
+}
+
+#[inline(always)]
+fn method_in<'a>(
+    code: &'a Code,
+    object: &'a Object,
+    label: &Label,
+    at: Place,
+    arguments: &[Place],
+) -> Result<Callee<'a>, AllocError>
+    ensures callee { let c = object_with object.now.class object.now.places.items in
+        IfOk result (IsCallee code.now c label.now.text at arguments.now) }
+{
+    let Some(class) = code.class(object.class) else {
+        return Ok(Callee::Other(Decision::Faults(Fault::NoMethod)));
+    };
+    let Some(number) = class.method(label) else {
+        return Ok(Callee::Other(Decision::Faults(Fault::NoMethod)));
+    };
+    let Some(method) = class.methods.get(number) else {
+        return Err(AllocError);
+    };
+    if arguments.len() != method.parameters.len() {
+        return Ok(Callee::Other(Decision::Faults(Fault::NoMethod)));
+    }
+    let Some(captured) = captured_in(method, &object.places) else {
+        return Err(AllocError);
+    };
+    Ok(Callee::Method(method, captured))
+}
+
+/// What a call leads to, where this cell is the receiver at a place.
+#[inline(always)]
+pub fn callee_of<'a>(
+    code: &'a Code,
+    cell: &'a Cell,
+    label: &Label,
+    at: Place,
+    arguments: &[Place],
+) -> Result<Callee<'a>, AllocError>
+    ensures callee { IfOk result
+        (IsCallee code.now (coded cell.now) label.now.text at arguments.now) }
+{
+    match cell {
+        Cell::Object(object) => method_in(code, object, label, at, arguments),
+        Cell::Group(members) => Ok(Callee::Members(members)),
+        Cell::Reference(name) => Ok(Callee::Activity(name)),
+        Cell::Future(_) => Ok(Callee::Other(Decision::Needs(at))),
+        Cell::Number(_) => Ok(Callee::Other(Decision::Faults(Fault::NotObject))),
+    }
+}

@@ -1,0 +1,4 @@
+-- in reading order
+pub mod SequenceLemmas
+pub mod Making
+pub mod Stacks

@@ -1,5 +1,0 @@
-pub mod ReceiverLemmas
-pub mod OwedLemmas
-pub mod VerdictLemmas
-pub mod OutcomeLemmas
-pub mod ReadingLemmas

@@ -1,8 +1,0 @@
-//! The events of a step that finds no future among its strict operands.
-
-ghost use Rattle.verdict_laws.specs.Readings.{ActsUnpackNothing};
-
-/// Whoever acts and has no need unpacks nothing.
-pub fn acts_unpack_nothing()
-    ensures { ActsUnpackNothing }
-{}
