@@ -20,7 +20,7 @@ const WORKERS: u32 = 2;
 
 /// How many edges a run left, and how many values went along edges, and to where they were needed.
 #[derive(Drop)]
-struct Passed {
+struct Deliveries {
     edges: usize,
     along_edges: u64,
     where_needed: u64,
@@ -38,58 +38,58 @@ fn raced<R: Threads + Wait + Sync>(
     run_core(rt, alloc, core, WORKERS, &OpenGate)
 }
 
-fn count(passed: &mut Passed, delivery: &Delivery) {
+fn count(made: &mut Deliveries, delivery: &Delivery) {
     match delivery {
-        Delivery::Edge { .. } => passed.along_edges = passed.along_edges.saturating_add(1),
-        Delivery::Need { .. } => passed.where_needed = passed.where_needed.saturating_add(1),
+        Delivery::Edge { .. } => made.along_edges = made.along_edges.saturating_add(1),
+        Delivery::Need { .. } => made.where_needed = made.where_needed.saturating_add(1),
     }
 }
 
-fn passed_in(core: &Core) -> Passed {
-    let mut passed = Passed {
+fn deliveries_in(core: &Core) -> Deliveries {
+    let mut made = Deliveries {
         edges: core.edges().holders().len(),
         along_edges: 0,
         where_needed: 0,
     };
     for entry in core.journal() {
         if let Entry::Delivered(delivery) = entry {
-            count(&mut passed, delivery);
+            count(&mut made, delivery);
         }
     }
-    passed
+    made
 }
 
 // A future passes three activities unread.
-fn passed<R: Threads + Wait + Sync>(
+fn delivered_by<R: Threads + Wait + Sync>(
     rt: &R,
     alloc: Global,
     strategy: Strategy,
-) -> Result<Passed, Fail> {
+) -> Result<Deliveries, Fail> {
     let program = checked(alloc, PASSING)?;
     let core = raced(rt, alloc, &program, strategy);
     drop_checked(program);
     let core = core?;
-    let passed = passed_in(&core);
+    let made = deliveries_in(&core);
     drop_core(core);
-    Ok(passed)
+    Ok(made)
 }
 
 #[test]
 fn lazily_nothing_goes_along_an_edge(rt: HostRuntime) -> Result<(), Fail> {
     let alloc = rt.alloc();
-    let passed = passed(&rt, alloc, Strategy::Lazy)?;
-    assert!(rt; passed.edges > 0);
-    assert!(rt; passed.where_needed > 0);
-    assert_eq!(rt; passed.along_edges, 0);
+    let made = delivered_by(&rt, alloc, Strategy::Lazy)?;
+    assert!(rt; made.edges > 0);
+    assert!(rt; made.where_needed > 0);
+    assert_eq!(rt; made.along_edges, 0);
     Ok(())
 }
 
 #[test]
 fn eagerly_values_go_along_edges(rt: HostRuntime) -> Result<(), Fail> {
     let alloc = rt.alloc();
-    let forward = passed(&rt, alloc, Strategy::Forward)?;
+    let forward = delivered_by(&rt, alloc, Strategy::Forward)?;
     assert!(rt; forward.along_edges > 0);
-    let message = passed(&rt, alloc, Strategy::Message)?;
+    let message = delivered_by(&rt, alloc, Strategy::Message)?;
     assert!(rt; message.along_edges > 0);
     Ok(())
 }
