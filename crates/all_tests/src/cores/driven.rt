@@ -75,12 +75,23 @@ fn ended(rt: &impl Abort, alloc: Global, program: &Checked, core: Core) -> Resul
     Ok(text?)
 }
 
+// The core is finished, if nobody is out of it: else the test fails.
+fn finished_from_home(core: Core) -> Result<Core, AllocError>
+    requires kept { IsKept core }
+    ensures over { IfOk result IsOver }
+{
+    if core.is_home() {
+        return finish(core);
+    }
+    drop_core(core);
+    Err(AllocError)
+}
+
 #[tactic(auto, using(crate::proofs::Driven::over_kept))]
 fn finished(rt: &impl Abort, alloc: Global, program: &Checked, core: Core) -> Result<Shown, Fail>
     requires kept { IsKept core }
 {
-    assert!(rt; core.is_home(), "somebody is out");
-    let core = finish(core)?;
+    let core = finished_from_home(core)?;
     let told = told(alloc, &core);
     let report = ended(rt, alloc, program, core)?;
     Ok(Shown {
