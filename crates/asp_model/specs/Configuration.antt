@@ -42,23 +42,53 @@ pub record Activity : Type 0 where
   -- which of the received requests were served, by their numbers from 0
   pub served : List ℕ
 
+-- what a log notes: that a request came from a sender, or that the activity asked what is pending
+pub data ReceptionShape : Type 0 where
+  From : (sender : Name) → ReceptionShape
+  Poll : ReceptionShape
+
+-- a state of a run: the activities, what they received, their logs, and the values of futures
 pub record Configuration : Type 0 where
   pub activities : List (Name × Activity)
   -- all requests that each activity received, oldest first
   pub received : List (Name × List RequestShape)
+  -- what each activity received and asked, oldest first
+  pub logs : List (Name × List ReceptionShape)
   pub futures : Values
 
 -- an activity that begins with a term, over a store and its active object
 abbrev pub begun : Tree → Store → Activity
-begun t s = record { term = t; services = []; present = None; store = s; active = 0; sends = 0; creations = 0; reductions = 0; lines = []; served = [] }
+begun t s = record {
+  term = t;
+  services = [];
+  present = None;
+  store = s;
+  active = 0;
+  sends = 0;
+  creations = 0;
+  reductions = 0;
+  lines = [];
+  served = [];
+}
 
 -- the main activity alone, with the program as its term and an empty active object
 abbrev pub start : Tree → Configuration
-start program = record { activities = (main_name, begun program (Object [] [] ∷ [])) ∷ []; received = []; futures = [] }
+start program = record {
+  activities = (main_name, begun program (Object [] [] ∷ [])) ∷ [];
+  received = [];
+  logs = [];
+  futures = [];
+}
 
-abbrev pub or_none : Option (List RequestShape) → List RequestShape
+-- a list, and no items where there is none
+abbrev pub or_none : {X : Type 0} → Option (List X) → List X
 or_none None = []
 or_none (Some rs) = rs
 
+-- all requests that an activity received
 abbrev pub requests_of : Configuration → Name → List RequestShape
 requests_of c n = or_none (find name_cmp n c.received)
+
+-- the log of an activity
+abbrev pub log_of : Configuration → Name → List ReceptionShape
+log_of c n = or_none (find name_cmp n c.logs)

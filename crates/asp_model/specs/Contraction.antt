@@ -1,7 +1,7 @@
 -- One contraction of a redex: the table of reductions. Faults stand in the order in which they are tried.
 use Rattle.std.specs.Prelude.{ℕ, ℤ, pos, negsuc, zero, suc, ◌^◌, ◌&&◌, ◌+ℤ◌, ◌-ℤ◌, ◌*ℤ◌, neg_ℤ, int_le, int_lt, int_div, int_rem, Bool, true, false, List, [], ◌∷◌, ◌++◌, Option, Some, None, length}
 use Rattle.asp_model.specs.Names.{Name, Text, same_text}
-use Rattle.asp_model.specs.Term.{SignShape, Add, Subtract, Multiply, Divide, Remainder, Less, Equal, MethodHead, Head, Tree, Trees, node, none, more, Make, Get, Put, Call, Clone, Active, Serve, Let, Steps, If, Repeat, Operate, Print, Echo, Scatter, Size, Member, WaitAll, Environment, loc, locs_then, put_in}
+use Rattle.asp_model.specs.Term.{SignShape, Add, Subtract, Multiply, Divide, Remainder, Less, Equal, MethodHead, Head, Tree, Trees, node, none, more, Make, Get, Put, Call, Clone, Active, Serve, Let, Steps, If, Repeat, Operate, Print, Echo, Scatter, Size, Member, WaitAll, Pending, Environment, loc, locs_then, put_in}
 use Rattle.asp_model.specs.Term as term
 use Rattle.asp_model.specs.Split.{Redex}
 use Rattle.asp_model.specs.Store.{MethodShape, Field, CellShape, Number, Object, Reference, Future, Group, Store, cell, with_cell}
@@ -18,6 +18,7 @@ pub data FaultShape : Type 0 where
   Overflow : FaultShape
   ZeroDivisor : FaultShape
 
+-- a line of output
 pub data LineShape : Type 0 where
   NumberLine : (n : ℤ) → LineShape
   TextLine : (text : Text) → LineShape
@@ -27,7 +28,9 @@ pub data Communication : Type 0 where
   Creates : (object : ℕ) (service : Option Text) → Communication
   Sends : (to : Name) (label : Text) (arguments : List ℕ) → Communication
   Serves : (labels : List Text) → Communication
+  Polls : (labels : List Text) → Communication
 
+-- what becomes of a redex
 pub data Contraction : Type 0 where
   Becomes : (t : Tree) (store : Store) (lines : List LineShape) → Contraction
   Faults : (fault : FaultShape) → Contraction
@@ -41,46 +44,59 @@ pub data Contraction : Type 0 where
 abbrev pub allots : Store → CellShape → List LineShape → Contraction
 allots s c lines = Becomes (loc (length s)) (s ++ c ∷ []) lines
 
+-- the term becomes this location; the store stays
 abbrev pub stays_at : ℕ → Store → Contraction
 stays_at place s = Becomes (loc place) s []
 
 -- Objects
 
+-- each label with its place, as far as both lists go
 abbrev pub fields_at : List Text → List ℕ → List Field
 fields_at [] ns = []
 fields_at (l ∷ ls) [] = []
 fields_at (l ∷ ls) (n ∷ ns) = record { label = l; place = n } ∷ fields_at ls ns
 
+-- each head with its body, as far as both go
 abbrev pub methods_with : List MethodHead → Trees → List MethodShape
 methods_with [] ts = []
 methods_with (m ∷ ms) none = []
 methods_with (m ∷ ms) (more t ts) = record { head = m; body = t } ∷ methods_with ms ts
 
+-- the place of the first field with this label
 abbrev pub field_place : Text → List Field → Option ℕ
 field_place l [] = None
 field_place l (f ∷ fs) = elim (same_text l f.label) [ true ↦ Some f.place | false ↦ field_place l fs ]
 
+-- the fields, with this place at the first one with the label
 abbrev pub with_field : Text → ℕ → List Field → List Field
 with_field l n [] = []
-with_field l n (f ∷ fs) = elim (same_text l f.label) [ true ↦ record { label = f.label; place = n } ∷ fs | false ↦ f ∷ with_field l n fs ]
+with_field l n (f ∷ fs) = elim (same_text l f.label) [
+  | true ↦ record { label = f.label; place = n } ∷ fs
+  | false ↦ f ∷ with_field l n fs
+]
 
+-- the first method with this label
 abbrev pub method_at : Text → List MethodShape → Option MethodShape
 method_at l [] = None
 method_at l (m ∷ ms) = elim (same_text l m.head.label) [ true ↦ Some m | false ↦ method_at l ms ]
 
+-- the place of a field, where there is one
 abbrev pub field_found : Store → Option ℕ → Contraction
 field_found s None = Faults NoField
 field_found s (Some n) = stays_at n s
 
+-- `o.l`, by the cell of o
 abbrev pub get_row : Store → Text → CellShape → Contraction
 get_row s l (Reference n) = Faults ActiveField
 get_row s l (Object fields methods) = field_found s (field_place l fields)
 get_row s l c = Faults NotObject
 
+-- the object with its new cell, where it has the field
 abbrev pub field_set : Store → ℕ → CellShape → Option ℕ → Contraction
 field_set s i c None = Faults NoField
 field_set s i c (Some n) = stays_at i (with_cell s i c)
 
+-- `o.l := t`, by the cell of o; the term becomes o
 abbrev pub put_row : Store → Text → ℕ → ℕ → CellShape → Contraction
 put_row s l i k (Reference n) = Faults ActiveField
 put_row s l i k (Object fields methods) = field_set s i (Object (with_field l k fields) methods) (field_place l fields)
@@ -93,14 +109,17 @@ bindings [] (n ∷ ns) = None
 bindings (x ∷ xs) [] = None
 bindings (x ∷ xs) (n ∷ ns) = elim (bindings xs ns) [ None ↦ None | Some bs ↦ Some ((x, n) ∷ bs) ]
 
+-- a method's body over the bindings of its names, where there are as many arguments as parameters
 abbrev pub invoked : Store → Tree → Option Environment → Contraction
 invoked s body None = Faults NoMethod
 invoked s body (Some bs) = Becomes (put_in bs body) s []
 
+-- the call of a method, where there is one
 abbrev pub method_found : Store → ℕ → List ℕ → Option MethodShape → Contraction
 method_found s i ks None = Faults NoMethod
 method_found s i ks (Some m) = invoked s m.body (bindings (m.head.slf ∷ m.head.parameters) (i ∷ ks))
 
+-- `active(o)`, by the cell of o
 abbrev pub active_row : ℕ → Option Text → CellShape → Contraction
 active_row i service (Object fields methods) = Communicates (Creates i service)
 active_row i service c = Faults NotObject
@@ -117,35 +136,45 @@ abbrev pub scattered : Text → List ℕ → List ℕ → Option Trees
 scattered l [] [] = Some none
 scattered l [] (k ∷ ks) = None
 scattered l (n ∷ ns) [] = None
-scattered l (n ∷ ns) (k ∷ ks) = elim (scattered l ns ks) [ None ↦ None | Some ts ↦ Some (more (node (Call l) (more (loc n) (more (loc k) none))) ts) ]
+scattered l (n ∷ ns) (k ∷ ks) = elim (scattered l ns ks) [
+  | None ↦ None
+  | Some ts ↦ Some (more (node (Call l) (more (loc n) (more (loc k) none))) ts)
+]
 
+-- the group of all calls, where the groups have one size
 abbrev pub sizes_compared : Store → Option Trees → Contraction
 sizes_compared s None = Faults BadMember
 sizes_compared s (Some ts) = Becomes (node term.Group ts) s []
 
+-- `scatter`, by the cells of the two groups
 abbrev pub scatter_row : Store → Text → CellShape → CellShape → Contraction
 scatter_row s l (Group ns) (Group ks) = sizes_compared s (scattered l ns ks)
 scatter_row s l c d = Faults NotGroup
 
+-- `size(g)`, by the cell of g
 abbrev pub size_row : Store → CellShape → Contraction
 size_row s (Group ns) = allots s (Number (pos (length ns))) []
 size_row s c = Faults NotGroup
 
+-- the member at a number, from 0
 abbrev pub member_at : List ℕ → ℕ → Option ℕ
 member_at [] k = None
 member_at (n ∷ ns) zero = Some n
 member_at (n ∷ ns) (suc k) = member_at ns k
 
+-- the member, where there is one
 abbrev pub member_found : Store → Option ℕ → Contraction
 member_found s None = Faults BadMember
 member_found s (Some n) = stays_at n s
 
+-- `member(g, k)`, by the cells of g and k
 abbrev pub member_row : Store → CellShape → CellShape → Contraction
 member_row s (Group ns) (Number (pos k)) = member_found s (member_at ns k)
 member_row s (Group ns) (Number (negsuc k)) = Faults BadMember
 member_row s (Group ns) d = Faults NotNumber
 member_row s c d = Faults NotGroup
 
+-- `waitall(g)`, by the cell of g, whose members are no futures
 abbrev pub wait_row : Store → ℕ → CellShape → Contraction
 wait_row s i (Group ns) = stays_at i s
 wait_row s i c = Faults NotGroup
@@ -164,13 +193,16 @@ call_row s l i ks (Future f) = Breaks
 abbrev pub is_in_range : ℤ → Bool
 is_in_range z = int_le (neg_ℤ (pos (2 ^ 63))) z && int_lt z (pos (2 ^ 63))
 
+-- a new number, where 64 bits hold it
 abbrev pub in_range : Store → ℤ → Contraction
 in_range s z = elim (is_in_range z) [ true ↦ allots s (Number z) [] | false ↦ Faults Overflow ]
 
+-- 1 for true, 0 for false
 abbrev pub truth : Bool → ℤ
 truth true = pos 1
 truth false = pos 0
 
+-- a division by this number, unless it is 0
 abbrev pub unless_zero : ℤ → Contraction → Contraction
 unless_zero (pos zero) c = Faults ZeroDivisor
 unless_zero (pos (suc n)) c = c
@@ -178,8 +210,12 @@ unless_zero (negsuc n) c = c
 
 -- where the quotient is out of range, so is the remainder's reduction: the least number by -1
 abbrev pub remainder_in_range : Store → ℤ → ℤ → Contraction
-remainder_in_range s x y = elim (is_in_range (int_div x y)) [ true ↦ allots s (Number (int_rem x y)) [] | false ↦ Faults Overflow ]
+remainder_in_range s x y = elim (is_in_range (int_div x y)) [
+  | true ↦ allots s (Number (int_rem x y)) []
+  | false ↦ Faults Overflow
+]
 
+-- an operator on two numbers
 abbrev pub operate : Store → SignShape → ℤ → ℤ → Contraction
 operate s Add x y = in_range s (x +ℤ y)
 operate s Subtract x y = in_range s (x -ℤ y)
@@ -189,15 +225,18 @@ operate s Remainder x y = unless_zero y (remainder_in_range s x y)
 operate s Less x y = allots s (Number (truth (int_lt x y))) []
 operate s Equal x y = allots s (Number (truth (int_le x y && int_le y x))) []
 
+-- an operator, by the cells of its operands
 abbrev pub operate_row : Store → SignShape → CellShape → CellShape → Contraction
 operate_row s sign (Number x) (Number y) = operate s sign x y
 operate_row s sign c d = Faults NotNumber
 
+-- `if`, by the cell of its condition: 0 is false
 abbrev pub if_row : Store → Tree → Tree → CellShape → Contraction
 if_row s a b (Number (pos zero)) = Becomes b s []
 if_row s a b (Number z) = Becomes a s []
 if_row s a b c = Faults NotNumber
 
+-- `print(t)`, by the cell of t
 abbrev pub print_row : Store → ℕ → CellShape → Contraction
 print_row s i (Number z) = Becomes (loc i) s (NumberLine z ∷ [])
 print_row s i c = Faults NotNumber
@@ -232,10 +271,12 @@ row s (Scatter l) (i ∷ k ∷ []) none = scatter_row s l (cell s i) (cell s k)
 row s Size (i ∷ []) none = size_row s (cell s i)
 row s Member (i ∷ k ∷ []) none = member_row s (cell s i) (cell s k)
 row s WaitAll (i ∷ []) none = wait_row s i (cell s i)
+row s (Pending labels) [] none = Communicates (Polls labels)
 row s h ns ts = Breaks
 
 -- Strict operands
 
+-- the first of these, where there is one
 abbrev pub first_of : List ℕ → List ℕ
 first_of [] = []
 first_of (n ∷ ns) = n ∷ []
@@ -256,10 +297,12 @@ strict_operands Member ns = ns
 strict_operands WaitAll ns = ns
 strict_operands h ns = []
 
+-- the members of a group
 abbrev pub members_of : CellShape → List ℕ
 members_of (Group ns) = ns
 members_of c = []
 
+-- the members of the group at the first of these places
 abbrev pub members_at : Store → List ℕ → List ℕ
 members_at s [] = []
 members_at s (n ∷ ns) = members_of (cell s n)
@@ -269,10 +312,12 @@ abbrev pub strict_members : Store → Head → List ℕ → List ℕ
 strict_members s WaitAll ns = members_at s ns
 strict_members s h ns = []
 
+-- a cell is a future
 abbrev pub is_future : CellShape → Bool
 is_future (Future f) = true
 is_future c = false
 
+-- the first of these places that holds a future
 abbrev pub first_future : Store → List ℕ → Option ℕ
 first_future s [] = None
 first_future s (n ∷ ns) = elim (is_future (cell s n)) [ true ↦ Some n | false ↦ first_future s ns ]

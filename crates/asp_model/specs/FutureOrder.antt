@@ -11,6 +11,7 @@ use Rattle.asp_model.specs.contracts.name.FutureNameOrd.TheImpl as ordering
 use Rattle.asp_model.specs.Names.{name_cmp, future_cmp, same_future}
 use Rattle.asp_model.specs.Shapes.{future_shape}
 
+-- the order of names of futures is that of the definitions
 pub cmp_shape : (f g : FutureName) → ordering.ghosts.cmp f g ≡ future_cmp (future_shape f) (future_shape g)
 cmp_shape f g = refl
 
@@ -28,5 +29,7 @@ equal_numbers m n = by (nat_lt m n) (nat_eq m n) refl refl
     by false true p q = refl
     by false false p q = refl
 
+-- equal names of futures are equal in the definitions
 pub eq_shape : (f g : FutureName) → equality.ghosts.eq f g ≡ same_future (future_shape f) (future_shape g)
-eq_shape f g = both (name_cmp f.by g.by) (nat_cmp f.index g.index) (nat_eq f.index g.index) (equal_numbers f.index g.index)
+eq_shape f g =
+    both (name_cmp f.by g.by) (nat_cmp f.index g.index) (nat_eq f.index g.index) (equal_numbers f.index g.index)

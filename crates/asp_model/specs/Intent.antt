@@ -1,14 +1,15 @@
 -- What an activity does next: a step is an intent, which sees the activity alone, and its effect on the rest.
-use Rattle.std.specs.Prelude.{ℕ, suc, ◌&&◌, not, true, false, List, [], ◌∷◌, ◌++◌, Option, Some, None, length, map}
+use Rattle.std.specs.Prelude.{ℕ, suc, ◌&&◌, not, true, false, List, [], ◌∷◌, ◌++◌, Option, Some, None, length, map, is_some}
 use Rattle.asp_model.specs.Names.{Name, FutureShape, Text, created_name}
 use Rattle.asp_model.specs.Term.{Tree, node, leaf, none, more, Call, Serve, Repeat, Make, loc, locs_then, one, has_text}
 use Rattle.asp_model.specs.Split.{Context, Redex, Stands, Splits, split, plug}
-use Rattle.asp_model.specs.Store.{CellShape, Object, Reference, Future, Store, cell}
+use Rattle.asp_model.specs.Store.{CellShape, Number, Object, Reference, Future, Store, cell}
 use Rattle.asp_model.specs.Parcel.{ParcelShape, parcel_of, unpack, unpacked_roots, unpack_at, has_place}
-use Rattle.asp_model.specs.Contraction.{FaultShape, Communication, Creates, Sends, Serves, Contraction, Becomes, Faults, Needs, Communicates, Breaks, contract, strict_operands, strict_members}
+use Rattle.asp_model.specs.Contraction.{FaultShape, Communication, Creates, Sends, Serves, Polls, Contraction, Becomes, Faults, Needs, Communicates, Breaks, contract, strict_operands, strict_members, truth}
 use Rattle.asp_model.specs.Chase.{Chase, Value, Unfilled, Cycle}
-use Rattle.asp_model.specs.Configuration.{RequestShape, ServiceShape, Activity, begun, label_of}
+use Rattle.asp_model.specs.Configuration.{RequestShape, ServiceShape, ReceptionShape, From, Poll, Activity, begun, label_of}
 
+-- what an activity does, or for what it rests
 pub data StatusShape : Type 0 where
   -- the term is a location, and no service is suspended
   Done : StatusShape
@@ -23,6 +24,8 @@ pub data StatusShape : Type 0 where
 pub record Effect : Type 0 where
   pub own : Activity
   pub sent : Option (Name × RequestShape)
+  -- what is appended to whose log
+  pub logged : Option (Name × ReceptionShape)
   pub made : Option (Name × Activity)
   pub filled : Option (FutureShape × ParcelShape)
 
@@ -31,8 +34,9 @@ pub data Intent : Type 0 where
   Acts : (effect : Effect) → Intent
   Rests : (status : StatusShape) → Intent
 
+-- an effect on the activity alone
 abbrev pub alone : Activity → Intent
-alone a = Acts (record { own = a; sent = None; made = None; filled = None })
+alone a = Acts (record { own = a; sent = None; logged = None; made = None; filled = None })
 
 -- Strict operands
 
@@ -41,11 +45,13 @@ pub data Ready : Type 0 where
   Reads : (store : Store) → Ready
   Lacks : (f : FutureShape) → Ready
 
+-- the value is unpacked at the place of its future; without a value the future is awaited
 abbrev pub fetched : Store → ℕ → Chase → Ready
 fetched s n (Value f p) = Reads (unpack_at s n p)
 fetched s n (Unfilled f) = Lacks f
 fetched s n (Cycle f) = Lacks f
 
+-- one strict operand, by the cell at its place
 abbrev pub operand_ready : (FutureShape → Chase) → Store → ℕ → CellShape → Ready
 operand_ready chases s n (Future f) = fetched s n (chases f)
 operand_ready chases s n c = Reads s
@@ -53,7 +59,10 @@ operand_ready chases s n c = Reads s
 -- the store with the value of each strict operand unpacked at its location, in order
 abbrev pub operands_ready : (FutureShape → Chase) → Store → List ℕ → Ready
 operands_ready chases s [] = Reads s
-operands_ready chases s (n ∷ ns) = elim (operand_ready chases s n (cell s n)) [ Reads t ↦ operands_ready chases t ns | Lacks f ↦ Lacks f ]
+operands_ready chases s (n ∷ ns) = elim (operand_ready chases s n (cell s n)) [
+  | Reads t ↦ operands_ready chases t ns
+  | Lacks f ↦ Lacks f
+]
 
 -- the operands of the redex first, then the members of a group that is waited for
 abbrev pub redex_ready : (FutureShape → Chase) → Store → Redex → Ready
@@ -74,8 +83,14 @@ abbrev pub creates : Name → Activity → List Context → Store → ℕ → Op
 creates n a contexts s object service =
     let created : Name = created_name n (suc a.creations) in
     Acts (record {
-      own = record a { term = plug contexts (loc (length s)); store = s ++ Reference created ∷ []; creations = suc a.creations; reductions = suc a.reductions };
+      own = record a {
+        term = plug contexts (loc (length s));
+        store = s ++ Reference created ∷ [];
+        creations = suc a.creations;
+        reductions = suc a.reductions;
+      };
       sent = None;
+      logged = None;
       made = Some (created, begun (start_term service 0) (unpack [] (parcel_of s (object ∷ []))));
       filled = None;
     })
@@ -85,8 +100,14 @@ abbrev pub sends : Name → Activity → List Context → Store → Name → Tex
 sends n a contexts s to label arguments =
     let future : FutureShape = record { by = n; index = suc a.sends } in
     Acts (record {
-      own = record a { term = plug contexts (loc (length s)); store = s ++ Future future ∷ []; sends = suc a.sends; reductions = suc a.reductions };
+      own = record a {
+        term = plug contexts (loc (length s));
+        store = s ++ Future future ∷ [];
+        sends = suc a.sends;
+        reductions = suc a.reductions;
+      };
       sent = Some (to, record { label = label; sender = n; future = future; arguments = parcel_of s arguments });
+      logged = Some (to, From n);
       made = None;
       filled = None;
     })
@@ -98,8 +119,12 @@ Numbered = ℕ × RequestShape
 -- the oldest request, from this number on, that was not served and has one of the labels
 abbrev pub oldest_match : List Text → List ℕ → ℕ → List RequestShape → Option Numbered
 oldest_match labels served k [] = None
-oldest_match labels served k (r ∷ rs) = elim (not (has_place k served) && has_text (label_of r) labels) [ true ↦ Some (k, r) | false ↦ oldest_match labels served (suc k) rs ]
+oldest_match labels served k (r ∷ rs) = elim (not (has_place k served) && has_text (label_of r) labels) [
+  | true ↦ Some (k, r)
+  | false ↦ oldest_match labels served (suc k) rs
+]
 
+-- the labels of an object's methods
 abbrev pub method_labels : CellShape → List Text
 method_labels (Object fields methods) = map (λ m. m.head.label) methods
 method_labels c = []
@@ -121,16 +146,33 @@ serves a contexts (Some x) = alone (record a {
   served = x.0 ∷ a.served;
 })
 
+-- POLL: the term becomes a number, 1 where a pending request has one of the labels; the log notes that it was asked
+abbrev pub polls : Name → Activity → List Context → Store → Option Numbered → Intent
+polls n a contexts s found = Acts (record {
+  own = record a {
+    term = plug contexts (loc (length s));
+    store = s ++ Number (truth (is_some found)) ∷ [];
+    reductions = suc a.reductions;
+  };
+  sent = None;
+  logged = Some (n, Poll);
+  made = None;
+  filled = None;
+})
+
+-- the newest suspended service, where there is one
 abbrev pub newest : List ServiceShape → Option ServiceShape
 newest [] = None
 newest (x ∷ []) = Some x
 newest (x ∷ y ∷ xs) = newest (y ∷ xs)
 
+-- all suspended services but the newest
 abbrev pub but_newest : List ServiceShape → List ServiceShape
 but_newest [] = []
 but_newest (x ∷ []) = []
 but_newest (x ∷ y ∷ xs) = x ∷ but_newest (y ∷ xs)
 
+-- the future with its value; none where no request is answered
 abbrev pub filling : Option FutureShape → ParcelShape → Option (FutureShape × ParcelShape)
 filling None p = None
 filling (Some f) p = Some (f, p)
@@ -139,22 +181,37 @@ filling (Some f) p = Some (f, p)
 abbrev pub ends_service : Activity → ℕ → Option ServiceShape → Intent
 ends_service a place None = Rests Done
 ends_service a place (Some x) = Acts (record {
-  own = record a { term = plug x.contexts (leaf (Make [] [])); services = but_newest a.services; present = x.future; reductions = suc a.reductions };
+  own = record a {
+    term = plug x.contexts (leaf (Make [] []));
+    services = but_newest a.services;
+    present = x.future;
+    reductions = suc a.reductions;
+  };
   sent = None;
+  logged = None;
   made = None;
   filled = filling a.present (parcel_of a.store (place ∷ []));
 })
 
 -- Intents
 
+-- each communication as an intent; SERVE and POLL find the same request
 abbrev pub communicates : List RequestShape → Name → Activity → List Context → Store → Communication → Intent
 communicates requests n a contexts s (Creates object service) = creates n a contexts s object service
 communicates requests n a contexts s (Sends to label arguments) = sends n a contexts s to label arguments
-communicates requests n a contexts s (Serves labels) = serves a contexts (oldest_match (labels_served labels (cell s a.active)) a.served 0 requests)
+communicates requests n a contexts s (Serves labels) =
+    serves a contexts (oldest_match (labels_served labels (cell s a.active)) a.served 0 requests)
+communicates requests n a contexts s (Polls labels) =
+    polls n a contexts s (oldest_match (labels_served labels (cell s a.active)) a.served 0 requests)
 
 -- LOCAL, or a communication; what no program comes to stands still
 abbrev pub contracts : List RequestShape → Name → Activity → List Context → Store → Contraction → Intent
-contracts requests n a contexts s (Becomes t store lines) = alone (record a { term = plug contexts t; store = store; lines = a.lines ++ lines; reductions = suc a.reductions })
+contracts requests n a contexts s (Becomes t store lines) = alone (record a {
+  term = plug contexts t;
+  store = store;
+  lines = a.lines ++ lines;
+  reductions = suc a.reductions;
+})
 contracts requests n a contexts s (Faults fault) = Rests (Faulted fault)
 contracts requests n a contexts s (Communicates x) = communicates requests n a contexts s x
 contracts requests n a contexts s (Needs place) = Rests Done

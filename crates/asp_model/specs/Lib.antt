@@ -18,6 +18,7 @@ pub mod WellFormed
 pub mod Report
 pub mod ReportLines
 pub mod ReadReport
+pub mod Services
 pub mod Codes
 pub mod History
 pub mod Marked

@@ -8,6 +8,7 @@ use Rattle.std.specs.Cmp.Lexicographic.{slice_cmp}
 abbrev pub Name : Type 0
 Name = List ℕ
 
+-- the main activity
 abbrev pub main_name : Name
 main_name = 0 ∷ []
 
@@ -28,12 +29,15 @@ name_cmp = slice_cmp nat_cmp
 abbrev pub future_cmp : FutureShape → FutureShape → Ordering
 future_cmp = then_cmp (on (λ f. f.by) name_cmp) (on (λ f. f.index) nat_cmp)
 
+-- two names are equal
 abbrev pub same_name : Name → Name → Bool
 same_name = eq_by_cmp name_cmp
 
+-- two futures are equal
 abbrev pub same_future : FutureShape → FutureShape → Bool
 same_future = eq_by_cmp future_cmp
 
+-- the first future stands before the second
 abbrev pub future_lt : FutureShape → FutureShape → Bool
 future_lt f g = is_lt (future_cmp f g)
 
@@ -41,6 +45,7 @@ future_lt f g = is_lt (future_cmp f g)
 abbrev pub Text : Type 0
 Text = List ℕ
 
+-- two texts are equal
 abbrev pub same_text : Text → Text → Bool
 same_text = bytes_eq
 

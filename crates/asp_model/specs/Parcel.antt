@@ -7,6 +7,7 @@ pub record ParcelShape : Type 0 where
   pub cells : List CellShape
   pub roots : List ℕ
 
+-- a place stands among these
 abbrev pub has_place : ℕ → List ℕ → Bool
 has_place n [] = false
 has_place n (x ∷ xs) = elim (n == x) [ true ↦ true | false ↦ has_place n xs ]
@@ -14,7 +15,10 @@ has_place n (x ∷ xs) = elim (n == x) [ true ↦ true | false ↦ has_place n x
 -- goes through the places to visit, up to the first one that was not seen; `next` takes over there
 abbrev pub walk : (List ℕ → List ℕ → List ℕ) → Store → List ℕ → List ℕ → List ℕ
 walk next s [] seen = seen
-walk next s (p ∷ ps) seen = elim (has_place p seen) [ true ↦ walk next s ps seen | false ↦ next (reached (cell s p) ++ ps) (seen ++ p ∷ []) ]
+walk next s (p ∷ ps) seen = elim (has_place p seen) [
+  | true ↦ walk next s ps seen
+  | false ↦ next (reached (cell s p) ++ ps) (seen ++ p ∷ [])
+]
 
 -- a depth-first visit that comes to at most n more places
 abbrev pub visit : ℕ → Store → List ℕ → List ℕ → List ℕ
@@ -30,8 +34,12 @@ abbrev pub number_in : List ℕ → ℕ → ℕ
 number_in [] n = 0
 number_in (x ∷ xs) n = elim (n == x) [ true ↦ 0 | false ↦ suc (number_in xs n) ]
 
+-- the cells at these places, with their numbers in this order for places
 abbrev pub numbered : Store → List ℕ → List ℕ → ParcelShape
-numbered s order roots = record { cells = map (λ p. moved_cell (number_in order) (cell s p)) order; roots = map (number_in order) roots }
+numbered s order roots = record {
+  cells = map (λ p. moved_cell (number_in order) (cell s p)) order;
+  roots = map (number_in order) roots;
+}
 
 -- the deep copy of what these roots reach
 abbrev pub parcel_of : Store → List ℕ → ParcelShape
@@ -50,6 +58,7 @@ abbrev pub place_at : (size place : ℕ) → ℕ → ℕ
 place_at size place zero = place
 place_at size place (suc n) = n + size
 
+-- the first cell in place of another, the rest behind the store
 abbrev pub with_cells_at : Store → ℕ → List CellShape → Store
 with_cells_at s place [] = s
 with_cells_at s place (c ∷ cs) = with_cell s place c ++ cs

@@ -3,14 +3,16 @@
 use Rattle.std.specs.Prelude.{◌≡◌, ◌≤◌, ℕ, ℤ, pos, negsuc, ◌+◌, ◌^◌, ◌==◌, nat_le, nat_lt, ◌&&◌, ◌||◌, not, codes, Bool, true, false, List, [], ◌∷◌, ◌++◌, Some, None, length}
 use Rattle.std.specs.List.{list_all, flat_map}
 use Rattle.asp_model.specs.Names.{Text}
-use Rattle.asp_model.specs.Term.{MethodHead, Head, Loc, Hole, Var, Number, Make, Get, Put, Call, Clone, Active, Serve, Let, Steps, If, Repeat, Operate, Print, Echo, Group, Scatter, Size, Member, WaitAll, Tree, Trees, node, none, more, child_count, has_text}
+use Rattle.asp_model.specs.Term.{MethodHead, Head, Loc, Hole, Var, Number, Make, Get, Put, Call, Clone, Active, Serve, Let, Steps, If, Repeat, Operate, Print, Echo, Group, Scatter, Size, Member, WaitAll, Pending, Tree, Trees, node, none, more, child_count, has_text}
 use Rattle.asp_model.specs.WellFormed.{is_printable}
 
 -- Names and numbers
 
+-- a letter or `_`
 abbrev pub is_letter : ℕ → Bool
 is_letter b = (nat_le 65 b && nat_le b 90) || (nat_le 97 b && nat_le b 122) || b == 95
 
+-- a digit
 abbrev pub is_digit : ℕ → Bool
 is_digit b = nat_le 48 b && nat_le b 57
 
@@ -21,8 +23,8 @@ is_inner b = is_letter b || is_digit b
 -- words that are no names
 abbrev pub reserved_words : List Text
 reserved_words =
-    codes "let" ∷ codes "in" ∷ codes "if" ∷ codes "else" ∷ codes "repeat" ∷ codes "active" ∷ codes "serve" ∷ codes "clone"
-    ∷ codes "print" ∷ codes "echo" ∷ codes "group" ∷ codes "scatter" ∷ codes "size" ∷ codes "member" ∷ codes "waitall"
+    codes "let" ∷ codes "in" ∷ codes "if" ∷ codes "else" ∷ codes "repeat" ∷ codes "active" ∷ codes "serve"
+    ∷ codes "clone" ∷ codes "print" ∷ codes "echo" ∷ codes "group" ∷ codes "scatter" ∷ codes "size" ∷ codes "member" ∷ codes "waitall"
     ∷ codes "pending" ∷ []
 
 -- a name of the language: a letter or `_`, then letters, digits and `_`, and no reserved word
@@ -58,6 +60,7 @@ HasArity Member k = k ≡ 2
 HasArity WaitAll k = k ≡ 1
 HasArity h k = k ≡ 0
 
+-- a method's label, the name of self, and the names of its parameters
 abbrev pub names_of_method : MethodHead → List Text
 names_of_method m = m.label ∷ m.slf ∷ m.parameters
 
@@ -71,6 +74,7 @@ names_of (Call l) = l ∷ []
 names_of (Active (Some l)) = l ∷ []
 names_of (Active None) = []
 names_of (Serve labels) = labels
+names_of (Pending labels) = labels
 names_of (Let x) = x ∷ []
 names_of (Scatter l) = l ∷ []
 names_of h = []
@@ -90,6 +94,7 @@ abbrev mutual
   pub IsReadable : Tree → Type 0
   IsReadable (node h ts) = (is_written h ≡ true) × HasArity h (child_count ts) × AreReadable ts
 
+  -- so are all terms below a node
   pub AreReadable : Trees → Type 0
   AreReadable none = Unit {0}
   AreReadable (more t ts) = IsReadable t × AreReadable ts

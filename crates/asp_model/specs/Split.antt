@@ -16,6 +16,7 @@ pub record Redex : Type 0 where
   pub places : List ℕ
   pub behind : Trees
 
+-- a term is a location, or a redex in its contexts
 pub data Split : Type 0 where
   -- the term is a location
   Stands : (place : ℕ) → Split
@@ -43,6 +44,7 @@ reduced_count WaitAll ts = 1
 reduced_count h ts = 0
 
 abbrev mutual
+  -- the location that a term is, or its redex and contexts
   pub split : Tree → Split
   split (node (Loc n) ts) = Stands n
   split (node h ts) = split_below h (reduced_count h ts) [] ts
@@ -56,6 +58,7 @@ abbrev mutual
     | Splits contexts redex ↦ Splits (contexts ++ record { head = h; before = places; behind = ts } ∷ []) redex
   ]
 
+-- a term put into the hole of a context
 abbrev pub plugged : Context → Tree → Tree
 plugged c t = node c.head (locs_then c.before (more t c.behind))
 

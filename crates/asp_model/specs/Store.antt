@@ -9,10 +9,12 @@ pub record MethodShape : Type 0 where
   pub head : MethodHead
   pub body : Tree
 
+-- a field of an object: its label, and the place of its value
 pub record Field : Type 0 where
   pub label : Text
   pub place : ℕ
 
+-- what stands at a place: a number, an object, an activity, a future, or a group of places
 pub data CellShape : Type 0 where
   Number : (n : ℤ) → CellShape
   Object : (fields : List Field) (methods : List MethodShape) → CellShape
@@ -20,6 +22,7 @@ pub data CellShape : Type 0 where
   Future : (future : FutureShape) → CellShape
   Group : (members : List ℕ) → CellShape
 
+-- the cells by their numbers, from 0
 abbrev pub Store : Type 0
 Store = List CellShape
 
@@ -29,6 +32,7 @@ cell [] n = Number (pos 0)
 cell (c ∷ cs) zero = c
 cell (c ∷ cs) (suc n) = cell cs n
 
+-- the store with another cell at a place
 abbrev pub with_cell : Store → ℕ → CellShape → Store
 with_cell [] n d = []
 with_cell (c ∷ cs) zero d = d ∷ cs
@@ -36,7 +40,9 @@ with_cell (c ∷ cs) (suc n) d = c ∷ with_cell cs n d
 
 -- the cell with f of each place
 abbrev pub moved_cell : (ℕ → ℕ) → CellShape → CellShape
-moved_cell f (Object fields methods) = Object (map (λ x. record { label = x.label; place = f x.place }) fields) (map (λ m. record { head = m.head; body = moved f m.body }) methods)
+moved_cell f (Object fields methods) = Object
+    (map (λ x. record { label = x.label; place = f x.place }) fields)
+    (map (λ m. record { head = m.head; body = moved f m.body }) methods)
 moved_cell f (Group ns) = Group (map f ns)
 moved_cell f c = c
 

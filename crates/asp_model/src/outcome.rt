@@ -63,6 +63,15 @@ pub enum Line {
     Text(Word),
 }
 
+/// What a log notes.
+#[derive(Debug, Drop)]
+pub enum Reception {
+    /// A request came from this activity.
+    From(ActivityName),
+    /// The activity asked what is pending.
+    Poll,
+}
+
 /// One activity at the end of a run.
 #[derive(Drop)]
 pub struct ActivityReport {
@@ -70,17 +79,16 @@ pub struct ActivityReport {
     /// Its reductions.
     pub count: u64,
     pub status: Status,
-    /// Who sent the requests that it received, in order of arrival.
-    pub senders: Vec<ActivityName>,
+    /// What it received and asked, in order.
+    pub senders: Vec<Reception>,
     /// Its output, in order.
     pub lines: Vec<Line>,
 }
 
-/// For each activity the senders of its requests, in order of arrival, in strictly ascending order of
-/// names.
+/// For each activity its log, in strictly ascending order of names.
 #[derive(Drop)]
 pub struct Lists {
-    pub entries: Vec<(ActivityName, Vec<ActivityName>)>,
+    pub entries: Vec<(ActivityName, Vec<Reception>)>,
 }
 
 /// For each activity the number of its reductions, in strictly ascending order of names.

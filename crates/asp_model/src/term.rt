@@ -105,6 +105,9 @@ pub enum Term {
     Member(Box<Term>, Box<Term>, Mark),
     /// Waits until no member of a group is a future.
     WaitAll(Box<Term>, Mark),
+    /// Whether a request with one of the labels is pending; with none, for one of the active
+    /// object's methods.
+    Pending(Vec<Label>, Mark),
 }
 
 /// A program as it was read: it has neither places nor holes.
