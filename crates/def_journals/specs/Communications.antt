@@ -1,4 +1,4 @@
--- Which reductions are communications: those that create, send, serve, or end a service.
+-- Which reductions are communications: those that create, send, serve, poll, or end a service.
 use Rattle.std.specs.Prelude.{Bool, true, false, Some, None, is_some}
 use Rattle.std.specs.FinMap.{find}
 use Rattle.asp_model.specs.Names.{Name, FutureShape, name_cmp}

@@ -1,7 +1,8 @@
 -- Who was passed which future, who has received which value, and what is owed.
-use Rattle.std.specs.Prelude.{◌&&◌, ◌||◌, not, Bool, true, false, List, [], ◌∷◌, ◌++◌, Option, Some, None}
-use Rattle.std.specs.List.{list_any}
+use Rattle.std.specs.Prelude.{◌&&◌, ◌||◌, not, Bool, true, false, List, [], ◌∷◌, ◌++◌, Option, Some, None, map}
+use Rattle.std.specs.List.{flat_map, list_any}
 use Rattle.asp_model.specs.Names.{Name, FutureShape, same_name, same_future}
+use Rattle.asp_model.specs.Configuration.{Configuration}
 use Rattle.asp_model.specs.History.{ChoiceShape, Forward, FromHome, Leave}
 
 -- a future was passed from one activity to another
@@ -32,6 +33,21 @@ pub record HoldersShape : Type 0 where
   -- the edges that were delivered, in order
   pub delivered : List EdgeShape
 
+-- each future with who received its request
+abbrev pub homes_in : Configuration → List (FutureShape × Name)
+homes_in c = flat_map (λ x. map (λ r. (r.future, x.0)) x.1) c.received
+
+-- where a run begins there are homes and values; no future has gone anywhere
+abbrev pub first_holders : Configuration → HoldersShape
+first_holders c = record {
+  homes = homes_in c;
+  edges = [];
+  filled = map (λ v. v.0) c.futures;
+  received = [];
+  delivered = [];
+}
+
+-- where it begins with its program, there is nothing
 abbrev pub no_holders : HoldersShape
 no_holders = record { homes = []; edges = []; filled = []; received = []; delivered = [] }
 

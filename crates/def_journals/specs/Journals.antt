@@ -1,4 +1,4 @@
--- The run of a journal: what its entries make of the start of a program and a budget.
+-- The run of a history: what its entries make of where it begins, and of a budget.
 use Rattle.std.specs.Prelude.{ℕ, zero, suc, ◌+◌, ◌-◌, ◌==◌, ◌&&◌, nat_lt, nat_le, min, Bool, true, false, List, [], ◌∷◌, ◌++◌, Option, Some, None, is_some, is_none, map, filter}
 use Rattle.std.specs.FinMap.{find}
 use Rattle.asp_model.specs.Names.{Name, name_cmp, main_name, same_name}
@@ -6,7 +6,7 @@ use Rattle.asp_model.specs.Term.{Tree}
 use Rattle.asp_model.specs.Configuration.{Configuration, start}
 use Rattle.asp_model.specs.Step.{name_at, step}
 use Rattle.asp_model.specs.Status.{is_running, status_of}
-use Rattle.asp_model.specs.History.{DeliveryShape, Edge, Need, EntryShape, Lent, Committed, Delivered}
+use Rattle.asp_model.specs.History.{DeliveryShape, Edge, Need, EntryShape, Lent, Committed, Delivered, FirstShape, HistoryShape}
 use Rattle.asp_model.specs.declared.limits.TheConstants.{MOST_GRANTED}
 use Rattle.def_journals.specs.Deliveries.{edge_delivered, need_delivered}
 use Rattle.def_journals.specs.Communications.{communicates_next}
@@ -20,9 +20,25 @@ pub record RunShape : Type 0 where
   -- the numbers of those that are out, each with its grant
   pub out : List (ℕ × ℕ)
 
+-- the start of a program, where main alone is
+abbrev pub start_of : Tree → FirstShape
+start_of program = record { names = main_name ∷ []; configuration = start program }
+
+-- where a history begins
+abbrev pub first_in : HistoryShape → FirstShape
+first_in h = elim h.first [ None ↦ start_of h.program | Some x ↦ x ]
+
+-- all are in, and the whole budget is left
+abbrev pub run_from : FirstShape → ℕ → RunShape
+run_from x budget = record { configuration = x.configuration; names = x.names; left = budget; out = [] }
+
+-- the run of a history before its entries
+abbrev pub first_run : HistoryShape → RunShape
+first_run h = run_from (first_in h) h.budget
+
 -- the start of a program, with main in, and the whole budget
 abbrev pub begun : Tree → ℕ → RunShape
-begun program budget = record { configuration = start program; names = main_name ∷ []; left = budget; out = [] }
+begun program budget = run_from (start_of program) budget
 
 -- the grant of a number that is out
 abbrev pub grant_of : ℕ → List (ℕ × ℕ) → Option ℕ
@@ -118,10 +134,11 @@ entered (Lent k) s = lent k s (name_at s.names k)
 entered (Committed k r) s = committed k r s (name_at s.names k) (grant_of k s.out)
 entered (Delivered x) s = delivered x s
 
+-- one entry after another
 abbrev pub all_entered : List EntryShape → RunShape → Option RunShape
 all_entered [] s = Some s
 all_entered (x ∷ xs) s = elim (entered x s) [ None ↦ None | Some t ↦ all_entered xs t ]
 
--- the run of a journal; none where the journal is not lawful
-abbrev pub run_of : Tree → ℕ → List EntryShape → Option RunShape
-run_of program budget journal = all_entered journal (begun program budget)
+-- the run of a history; none where an entry is not lawful
+abbrev pub run_of : HistoryShape → Option RunShape
+run_of h = all_entered h.entries (first_run h)

@@ -3,7 +3,6 @@ use Rattle.std.specs.Prelude.{ℕ, zero, suc, List, [], ◌∷◌, ◌++◌, Opt
 use Rattle.std.specs.List.{flat_map}
 use Rattle.std.specs.FinMap.{find}
 use Rattle.asp_model.specs.Names.{Name, FutureShape, name_cmp, future_cmp}
-use Rattle.asp_model.specs.Term.{Tree}
 use Rattle.asp_model.specs.Split.{Redex, Stands, Splits, split}
 use Rattle.asp_model.specs.Store.{CellShape, Future, Store, cell}
 use Rattle.asp_model.specs.Parcel.{ParcelShape}
@@ -12,9 +11,9 @@ use Rattle.asp_model.specs.Chase.{Chase, Value, Unfilled, Cycle, chase}
 use Rattle.asp_model.specs.Configuration.{RequestShape, Activity, Configuration}
 use Rattle.asp_model.specs.Intent.{Effect, Acts, Rests, Reads, Lacks, operand_ready, operands_ready}
 use Rattle.asp_model.specs.Step.{intent_in, step}
-use Rattle.asp_model.specs.History.{Edge, Need, EntryShape, Lent, Committed, Delivered}
-use Rattle.def_journals.specs.Journals.{RunShape, begun, entered}
-use Rattle.def_journals.specs.Edges.{Event, Begins, Passes, Fills, Receives, Delivers, HoldersShape, no_holders, after_events}
+use Rattle.asp_model.specs.History.{Edge, Need, EntryShape, Lent, Committed, Delivered, HistoryShape}
+use Rattle.def_journals.specs.Journals.{RunShape, entered, first_in, first_run}
+use Rattle.def_journals.specs.Edges.{Event, Begins, Passes, Fills, Receives, Delivers, HoldersShape, first_holders, after_events}
 use Rattle.asp_model.specs.Step.{name_at}
 
 -- Futures in cells
@@ -119,9 +118,10 @@ abbrev pub events_from : List EntryShape → RunShape → List Event
 events_from [] s = []
 events_from (x ∷ xs) s = entry_events x s ++ elim (entered x s) [ None ↦ [] | Some t ↦ events_from xs t ]
 
-abbrev pub events_of : Tree → ℕ → List EntryShape → List Event
-events_of program budget journal = events_from journal (begun program budget)
+-- of the entries of a history
+abbrev pub events_of : HistoryShape → List Event
+events_of h = events_from h.entries (first_run h)
 
--- what a lawful journal leaves: homes, edges, who has received what, and what was delivered
-abbrev pub holders_of : Tree → ℕ → List EntryShape → HoldersShape
-holders_of program budget journal = after_events (events_of program budget journal) no_holders
+-- what a lawful history leaves: homes, edges, who has received what, and what was delivered
+abbrev pub holders_of : HistoryShape → HoldersShape
+holders_of h = after_events (events_of h) (first_holders (first_in h).configuration)

@@ -7,7 +7,7 @@ use Rattle.asp_model.specs.Term.{own_locations, locations, locations_below, move
 use Rattle.asp_model.specs.Split.{Context}
 use Rattle.asp_model.specs.Parcel.{ParcelShape}
 use Rattle.asp_model.specs.Chase.{Chase, chase}
-use Rattle.asp_model.specs.Configuration.{RequestShape, ServiceShape, Activity, Configuration, requests_of}
+use Rattle.asp_model.specs.Configuration.{RequestShape, ServiceShape, Activity, Configuration, requests_of, log_of}
 use Rattle.def_paths.specs.Places.{side_by, AreReadAlike}
 
 -- the items of two lists are related, one by one
@@ -64,5 +64,6 @@ pub record Agrees (c d : Configuration) : Type 0 where
       (find name_cmp n c.activities) (find name_cmp n d.activities)
   pub requests : (n : Name) → Pairs (RequestsAgree (chase c.futures) (chase d.futures))
       (requests_of c n) (requests_of d n)
+  pub logs : (n : Name) → log_of c n ≡ log_of d n
   pub values : (f : FutureShape) → MayBoth (ParcelsAgree (chase c.futures) (chase d.futures))
       (find future_cmp f c.futures) (find future_cmp f d.futures)

@@ -66,4 +66,4 @@ end_lines depth values e = activity_lines e.report ++ lines_to depth values e
 
 -- the lines of a report, without their line feeds; with a depth the state of each activity follows its outputs
 abbrev pub report_lines_to : Option ℕ → WholeOutcome → List (List ℕ)
-report_lines_to depth o = codes "asp report 1" ∷ verdict_line o.verdict ∷ flat_map (end_lines depth o.futures) o.ends
+report_lines_to depth o = codes "asp report 2" ∷ verdict_line o.verdict ∷ flat_map (end_lines depth o.futures) o.ends

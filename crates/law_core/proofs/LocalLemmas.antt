@@ -48,7 +48,7 @@ module _ (chases : FutureShape → Chase) (a b : Activity) (x : IsLocalStep a b)
       ∙ ap is_asking x.is
 
 abbrev pub own_effect : Activity → Effect
-own_effect b = record { own = b; sent = None; made = None; filled = None }
+own_effect b = record { own = b; sent = None; logged = None; made = None; filled = None }
 
 module _ (c : Configuration) (n : Name) (a b : Activity) (is : IsAt c n a) (x : IsLocalStep a b) where
   pub local_in : intent_in c n ≡ Acts (own_effect b)

@@ -6,7 +6,7 @@ use Rattle.asp_model.specs.Names.{Name, FutureShape}
 use Rattle.asp_model.specs.Split.{Context, Redex, Split, Stands, Splits, split}
 use Rattle.asp_model.specs.Store as stores
 use Rattle.asp_model.specs.Store.{CellShape, Store, cell}
-use Rattle.asp_model.specs.Contraction.{Contraction, Becomes, Faults, Needs, Communicates, Breaks, Creates, Sends, Serves, contract, first_future, is_future, strict_members, strict_operands}
+use Rattle.asp_model.specs.Contraction.{Contraction, Becomes, Faults, Needs, Communicates, Breaks, Creates, Sends, Serves, Polls, contract, first_future, is_future, strict_members, strict_operands}
 use Rattle.asp_model.specs.Chase.{Chase, Value, Unfilled, Cycle}
 use Rattle.asp_model.specs.Configuration.{RequestShape, ServiceShape, Activity}
 use Rattle.asp_model.specs.Intent.{Awaits, Intent, Acts, Rests, Ready, Reads, Lacks, Numbered, fetched, operand_ready, operands_ready, redex_ready, serves, newest, ends_service, contracts, labels_served, oldest_match}
@@ -144,6 +144,7 @@ module _ (rs : List RequestShape) (n : Name) (a : Activity) where
   contracts_awaiting_nothing contexts s (Communicates (Creates object service)) = tt
   contracts_awaiting_nothing contexts s (Communicates (Sends to label arguments)) = tt
   contracts_awaiting_nothing contexts s (Communicates (Serves labels)) = serves_awaiting_nothing contexts (oldest_match (labels_served labels (cell s a.active)) a.served 0 rs)
+  contracts_awaiting_nothing contexts s (Communicates (Polls labels)) = tt
 
   -- it is the same whatever futures are filled, and awaits nothing
   pub quiet_by : (f g : FutureShape → Chase) (t : Split) → operand_by a t ≡ None → (intent_by f t ≡ intent_by g t) × AwaitsNothing (intent_by f t)

@@ -90,12 +90,12 @@ nothing_left left b runs none = by (nat_lt 0 left) refl (ap (λ x. nat_lt 0 left
     by false is h = grind (arith, is)
 
 pub verdicts_spend : VerdictsSpend
-verdicts_spend program budget journal s h answers v run told =
+verdicts_spend h s holders answers v sound run told =
     let c = s.configuration in
-    let x = told_is (is_any s.out || (is_some (next_owed s h answers) || goes_on s)) (verdict_of c) v told in
-    let first = both_false (is_any s.out) (is_some (next_owed s h answers) || goes_on s) x.0 in
-    let second = both_false (is_some (next_owed s h answers)) (goes_on s) first.1 in
-    let kept = budgets_are_kept program budget journal s run in
+    let x = told_is (is_any s.out || (is_some (next_owed s holders answers) || goes_on s)) (verdict_of c) v told in
+    let first = both_false (is_any s.out) (is_some (next_owed s holders answers) || goes_on s) x.0 in
+    let second = both_false (is_some (next_owed s holders answers)) (goes_on s) first.1 in
+    let kept = budgets_are_kept h s sound run in
     let none = nobody_out s.out first.0 in
     let sums : total (counts_in (outcome_of c)) ≡ total (counts_of c) = ap total (shown_counts c) in (
       x.1,

@@ -9,17 +9,19 @@ use Rattle.asp_model.specs.Store.{CellShape, cell}
 use Rattle.asp_model.specs.Parcel.{ParcelShape}
 use Rattle.asp_model.specs.Contraction.{contract, first_future}
 use Rattle.asp_model.specs.Chase.{Chase, Value, Unfilled, Cycle, Values, chase, walk_end}
-use Rattle.asp_model.specs.Configuration.{Activity, Configuration, RequestShape, requests_of}
+use Rattle.asp_model.specs.Configuration.{Activity, Configuration, RequestShape, requests_of, ReceptionShape, From, Poll}
 use Rattle.asp_model.specs.Intent as intents
 use Rattle.asp_model.specs.Intent.{Acts, Awaits, Done, Effect, Faulted, Intent, Running, Serving, intent}
 use Rattle.asp_model.specs.Status.{is_awaiting, is_running, status_of_intent}
 use Rattle.asp_model.specs.Step.{intent_in, put_some, with_effect}
 use Rattle.def_journals.specs.Owed.{need_at, need_in, need_of, needed_at}
 use Rattle.law_steps.specs.Reached.{IsAt}
+use Rattle.law_steps.specs.Steps.{IsPoll}
+use Rattle.law_steps.proofs.FactLemmas.{IsLogged, acts_facts}
 use Rattle.law_steps.specs.Sound.{HasRightIntents, IsSound, LeavesOthers}
 use Rattle.law_chases.proofs.MapLemmas as Maps
 use Rattle.law_steps.proofs.NameLemmas.{name_total, name_same}
-use Rattle.law_chases.proofs.FutureLemmas.{future_total, none_true, future_case, future_itself, futures_apart}
+use Rattle.law_chases.proofs.FutureLemmas.{no_some, future_total, none_true, future_case, future_itself, futures_apart}
 use Rattle.law_steps.proofs.OrderLemmas.{sorted_some}
 use Rattle.law_steps.proofs.WakeLemmas.{none_rests_running}
 use Rattle.law_steps.proofs.WholeLemmas.{sound_intents, sound_steps}
@@ -186,8 +188,28 @@ module _ (c : Configuration) (n m : Name) (a : Activity) (e : Effect) (sound : I
   then_is : intent_in d m ≡ then
   then_is = ap (λ (o : Option Activity). elim o [ None ↦ intents.Rests Done | Some a ↦ intent (chase d.futures) (requests_of d m) m a ]) there
 
-  quiet_stays : AwaitsNothing before → rank_in c m ≡ plain before → (p : Intent) → before ≡ p → then ≡ p ⊎ (plain p ≡ Rests)
-  quiet_stays nothing ranked (Acts x) e = inl (sym then_is ∙ left_alone.intents m x apart (before_is ∙ e))
+  -- who acts does so after the step too
+  acts_on : (x : Effect) → before ≡ Acts x → (y : Effect) × (then ≡ Acts y)
+  acts_on x e = by_logged x.sent (acts_facts c m x (before_is ∙ e)).1.logged
+    where
+      still : (IsPoll m x → ⊥) → (y : Effect) × (then ≡ Acts y)
+      still calm = (x, sym then_is ∙ left_alone.intents m x apart (λ p. absurd (calm p)) (before_is ∙ e))
+
+      asks : Option (Name × ReceptionShape) → Bool
+      asks None = false
+      asks (Some (k, From n)) = false
+      asks (Some (k, Poll)) = true
+
+      no_poll : (z : Name × RequestShape) (l : Option (Name × ReceptionShape)) → l ≡ Some (z.0, From m) → l ≡ Some (m, Poll) → ⊥
+      no_poll z l h p = none_true (sym (ap asks h) ∙ ap asks p)
+
+      by_logged : (o : Option (Name × RequestShape)) → IsLogged m o x.logged → (y : Effect) × (then ≡ Acts y)
+      by_logged None (inl h) = still (λ p. no_some (sym h ∙ p))
+      by_logged None (inr h) = let y = left_alone.polls m x apart h (before_is ∙ e) in (y.0, sym then_is ∙ y.1)
+      by_logged (Some z) h = still (λ p. no_poll z x.logged h p)
+
+  quiet_stays : AwaitsNothing before → rank_in c m ≡ plain before → (p : Intent) → before ≡ p → (rank_by d.futures then ≡ rank_by d.futures p) ⊎ (plain p ≡ Rests)
+  quiet_stays nothing ranked (Acts x) e = inl (ap (rank_by d.futures) (acts_on x e).1)
   quiet_stays nothing ranked (intents.Rests status) e = inr refl
 
   by_operand : (o : Option FutureShape) → operand_of a ≡ o → (requests_of d m ≡ requests_of c m) ⊎ (rank_in c m ≢ Rests)
@@ -197,11 +219,11 @@ module _ (c : Configuration) (n m : Name) (a : Activity) (e : Effect) (sound : I
       let here = quiet_by (requests_of c m) m a (chase c.futures) (chase d.futures) (split a.term) none in
       let rank_before : rank_by c.futures before ≡ plain before = plain_rank c before here.1 in
       let ranked_so : rank_in c m ≡ plain before = ranked c sound.ordered.futures m a is ∙ ap (by_operand_of c before) none ∙ rank_before in
-      let same : then ≡ before = ⊎_elim
-      (λ rs. ap (λ qs. intent (chase d.futures) qs m a) rs ∙ sym here.0)
+      let same : rank_by d.futures then ≡ rank_by d.futures before = ⊎_elim
+      (λ rs. ap (rank_by d.futures) (ap (λ qs. intent (chase d.futures) qs m a) rs ∙ sym here.0))
       (λ goes. ⊎_elim (λ e. e) (λ e. absurd (goes (ranked_so ∙ e))) (quiet_stays here.1 ranked_so before refl))
       allowed in
-      ap (rank_by d.futures) same ∙ plain_rank d before here.1 ∙ sym (plain_stays e.filled d before) ∙ ap (shifted_by e.filled d) (sym rank_before)
+      same ∙ plain_rank d before here.1 ∙ sym (plain_stays e.filled d before) ∙ ap (shifted_by e.filled d) (sym rank_before)
 
   shifts : (requests_of d m ≡ requests_of c m) ⊎ (rank_in c m ≢ Rests) → rank_in d m ≡ shifted_by e.filled d (rank_in c m)
   shifts allowed =
@@ -209,8 +231,8 @@ module _ (c : Configuration) (n m : Name) (a : Activity) (e : Effect) (sound : I
       ∙ by_operand (operand_of a) refl allowed
       ∙ ap (shifted_by e.filled d) (sym (ranked c sound.ordered.futures m a is))
 
-  gains_by : (p q : Intent) → AwaitsNothing p → AwaitsNothing q → ((x : Effect) → p ≡ Acts x → q ≡ Acts x) → (rank_by d.futures q ≡ rank_by c.futures p) ⊎ ((rank_by c.futures p ≡ Rests) × (rank_by d.futures q ≡ Goes))
-  gains_by (Acts x) q r t still = inl (ap (rank_by d.futures) (still x refl))
+  gains_by : (p q : Intent) → AwaitsNothing p → AwaitsNothing q → ((x : Effect) → p ≡ Acts x → (y : Effect) × (q ≡ Acts y)) → (rank_by d.futures q ≡ rank_by c.futures p) ⊎ ((rank_by c.futures p ≡ Rests) × (rank_by d.futures q ≡ Goes))
+  gains_by (Acts x) q r t still = inl (ap (rank_by d.futures) (still x refl).1)
   gains_by (intents.Rests status) (Acts y) r t still = inr (plain_rank c (intents.Rests status) r, refl)
   gains_by (intents.Rests status) (intents.Rests other) r t still = inl (plain_rank d (intents.Rests other) t ∙ sym (plain_rank c (intents.Rests status) r))
 
@@ -219,7 +241,7 @@ module _ (c : Configuration) (n m : Name) (a : Activity) (e : Effect) (sound : I
   gains none None first =
       let was = quiet_by (requests_of c m) m a (chase c.futures) (chase c.futures) (split a.term) first in
       let now = quiet_by (requests_of d m) m a (chase d.futures) (chase d.futures) (split a.term) first in
-      gains_by before then was.1 now.1 (λ x p. sym then_is ∙ left_alone.intents m x apart (before_is ∙ p))
+      gains_by before then was.1 now.1 acts_on
 
   receiver : e.filled ≡ None → (rank_in d m ≡ rank_in c m) ⊎ ((rank_in c m ≡ Rests) × (rank_in d m ≡ Goes))
   receiver none =

@@ -7,6 +7,7 @@ use Rattle.std.specs.FinMap.{find}
 use Rattle.asp_model.specs.Names.{Name, FutureShape, name_cmp, same_name}
 use Rattle.asp_model.specs.Configuration.{Activity, Configuration}
 use Rattle.def_journals.specs.Edges.{EdgeShape, same_edge, has_edge}
+use Rattle.def_journals.specs.Journals.{first_in}
 use Rattle.def_journals.specs.Passing.{events_of, holders_of}
 use Rattle.law_steps.specs.Reached.{IsThere}
 use Rattle.law_steps.specs.Kept.{IsBegun, sends_of, number_of}
@@ -136,9 +137,9 @@ all_possible c [] h k = tt
 all_possible c (x ∷ xs) h k = (in_possible c x h.0 k.0, all_possible c xs h.2 k.1)
 
 pub edges_are_bounded : EdgesAreBounded
-edges_are_bounded program budget journal s e =
+edges_are_bounded h s sound e =
     let c = s.configuration in
-    let xs = (holders_of program budget journal).edges in
-    let distinct : AreEdges xs = (edges_are_distinct (events_of program budget journal)).0 in
-    let few = no_more_than same_edge edge_tied edge_itself xs (possible c.activities) (different xs distinct) (all_possible c xs distinct (edges_are_known program budget journal s e)) in
+    let xs = (holders_of h).edges in
+    let distinct : AreEdges xs = (edges_are_distinct (first_in h).configuration (events_of h)).0 in
+    let few = no_more_than same_edge edge_tied edge_itself xs (possible c.activities) (different xs distinct) (all_possible c xs distinct (edges_are_known h s sound e)) in
     omega (arith, few, possible_length c.activities)

@@ -16,7 +16,7 @@ use Rattle.asp_model.specs.Replay.{total}
 use Rattle.asp_model.specs.History.{Edge, Need, EntryShape, Lent, Committed, Delivered}
 use Rattle.asp_model.specs.declared.limits.TheConstants.{MOST_GRANTED}
 use Rattle.def_journals.specs.Deliveries.{with_store}
-use Rattle.def_journals.specs.Journals.{RunShape, begun, grant_of, out_but, granted, reduced, all_entered}
+use Rattle.def_journals.specs.Journals.{RunShape, first_run, grant_of, out_but, granted, reduced, all_entered}
 use Rattle.law_steps.specs.Sound.{IsSound}
 use Rattle.law_steps.specs.Reached.{Steps, Edges, Needs}
 use Rattle.law_steps.proofs.NameLemmas.{name_total, name_same, not_some, is_there}
@@ -29,8 +29,8 @@ use Rattle.law_steps.proofs.EntryLemmas.{In, found_entry, first_of_both, second_
 use Rattle.law_steps.proofs.OrderLemmas.{IsNew}
 use Rattle.law_steps.proofs.SoundLemmas.{Took, at_name, made_new}
 use Rattle.law_steps.proofs.DeliveryLemmas.{edge_done, need_done}
-use Rattle.law_steps.proofs.WholeLemmas.{right_of, start_is_sound, moves_keep_sound}
-use Rattle.law_journals.specs.Budgets.{granted_in, BudgetsAreKept}
+use Rattle.law_steps.proofs.WholeLemmas.{right_of, moves_keep_sound}
+use Rattle.law_journals.specs.Budgets.{granted_in, most_in, BudgetsAreKept}
 use Rattle.law_journals.proofs.JournalLemmas.{first_reduced, Done, entry_done, first_entered, reduced_keeps}
 
 -- Sums over activities
@@ -190,4 +190,4 @@ entries_balance budget [] s t e b = subst (Balances budget) (some_is e) b
 entries_balance budget (x ∷ entries) s t e b = let u = first_entered x entries s t e in entries_balance budget entries u.0 t u.2 (entry_balances budget x s u.0 (entry_done x s u.0 u.1) b)
 
 pub budgets_are_kept : BudgetsAreKept
-budgets_are_kept program budget journal s e = (entries_balance budget journal (begun program budget) s e (record { sound = start_is_sound program; once = tt; sums = omega arith })).sums
+budgets_are_kept h s sound e = (entries_balance (most_in h) h.entries (first_run h) s e (record { sound = sound; once = tt; sums = omega arith })).sums

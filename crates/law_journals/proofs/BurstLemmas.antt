@@ -98,31 +98,32 @@ module _ (k : ℕ) where
       one_less (Delivered d) xs ys e = e
 
 pub leases_are_one : LeasesAreOne
-leases_are_one program budget entries k number other s t x y =
-    let here : burst_out k entries ≡ Some number = ap (burst_out k) x.is ∙ lent_burst k x.before x.after x.stays ∙ ap Some (sym x.burst) in
-    let there : burst_out k entries ≡ Some other = ap (burst_out k) y.is ∙ lent_burst k y.before y.after y.stays ∙ ap Some (sym y.burst) in
+leases_are_one h k number other s t x y =
+    let here : burst_out k h.entries ≡ Some number = ap (burst_out k) x.is ∙ lent_burst k x.before x.after x.stays ∙ ap Some (sym x.burst) in
+    let there : burst_out k h.entries ≡ Some other = ap (burst_out k) y.is ∙ lent_burst k y.before y.after y.stays ∙ ap Some (sym y.burst) in
     let same : number ≡ other = some_is (sym here ∙ there) in
     let sums : bursts_in x.before ≡ bursts_in y.before = omega (arith, sym x.burst ∙ same ∙ y.burst) in
     let before : x.before ≡ y.before = same_before k x.before y.before x.after y.after (sym x.is ∙ y.is) sums in
-    (here, same, some_is (sym x.run ∙ ap (run_of program budget) before ∙ y.run))
+    (here, same, some_is (sym x.run ∙ ap (λ xs. run_of (record h { entries = xs })) before ∙ y.run))
 
 pub leases_go_on : LeasesGoOn
-leases_go_on program budget entries rest k number s x e =
-    let later : entries ++ rest ≡ x.before ++ Lent k ∷ (x.after ++ rest) = ap (λ xs. xs ++ rest) x.is ∙ append_assoc x.before (Lent k ∷ x.after) rest in
+leases_go_on h g k number s begins x e =
+    let later : g.entries ≡ x.before ++ Lent k ∷ (x.after ++ begins.rest) = begins.entries ∙ ap (λ xs. xs ++ begins.rest) x.is ∙ append_assoc x.before (Lent k ∷ x.after) begins.rest in
     let count : ℕ = suc (0 + bursts_in x.before) in
     let same : number ≡ count = omega (arith, x.burst) in
-    let still : burst_from k count (Some count) (x.after ++ rest) ≡ Some count = sym (burst_behind k 0 None x.before (x.after ++ rest)) ∙ ap (burst_out k) (sym later) ∙ e ∙ ap Some same in
+    let still : burst_from k count (Some count) (x.after ++ begins.rest) ≡ Some count = sym (burst_behind k 0 None x.before (x.after ++ begins.rest)) ∙ ap (burst_out k) (sym later) ∙ e ∙ ap Some same in
+    let start : run_of (record g { entries = x.before }) ≡ run_of (record h { entries = x.before }) = λ i. run_of (record { program = begins.program i; first = begins.first i; budget = begins.budget i; entries = x.before }) in
     record {
       before = x.before;
-      after = x.after ++ rest;
+      after = x.after ++ begins.rest;
       is = later;
-      stays = still_out k count count (x.after ++ rest) (omega arith) still;
+      stays = still_out k count count (x.after ++ begins.rest) (omega arith) still;
       burst = x.burst;
-      run = x.run;
+      run = start ∙ x.run;
     }
 
 pub leases_begin : LeasesBegin
-leases_begin program budget entries k s h = record { before = entries; after = []; is = refl; stays = refl; burst = refl; run = h }
+leases_begin h k s run = record { before = h.entries; after = []; is = refl; stays = refl; burst = refl; run = run }
 
 stays_both : (k : ℕ) (xs ys : List EntryShape) → stays_out k xs ≡ true → stays_out k ys ≡ true → stays_out k (xs ++ ys) ≡ true
 stays_both k [] ys h g = g
@@ -131,13 +132,13 @@ stays_both k (Committed j r ∷ xs) ys h g = let b = not_both (k == j) (stays_ou
 stays_both k (Delivered d ∷ xs) ys h g = stays_both k xs ys h g
 
 pub leases_last : LeasesLast
-leases_last program budget entries x k number s last h = record {
-  before = h.before;
-  after = h.after ++ x ∷ [];
-  is = ap (λ xs. xs ++ x ∷ []) h.is ∙ append_assoc h.before (Lent k ∷ h.after) (x ∷ []);
-  stays = stays_both k h.after (x ∷ []) h.stays last;
-  burst = h.burst;
-  run = h.run;
+leases_last h x k number s last y = record {
+  before = y.before;
+  after = y.after ++ x ∷ [];
+  is = ap (λ xs. xs ++ x ∷ []) y.is ∙ append_assoc y.before (Lent k ∷ y.after) (x ∷ []);
+  stays = stays_both k y.after (x ∷ []) y.stays last;
+  burst = y.burst;
+  run = y.run;
 }
 
 one_more : (entries : List EntryShape) (x : EntryShape) → bursts_in (entries ++ x ∷ []) ≡ bursts_in entries + lends_by x

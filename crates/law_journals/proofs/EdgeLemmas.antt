@@ -2,7 +2,7 @@
 use Rattle.std.specs.Prelude.{◌≡◌, ◌&&◌, ◌||◌, not, Bool, true, false, List, [], ◌∷◌, ◌++◌, Option, Some, None}
 use Rattle.std.proofs.Common.{refl, sym, ap, ◌∙◌}
 use Rattle.asp_model.specs.Names.{Name, FutureShape, same_name, same_future}
-use Rattle.def_journals.specs.Edges.{EdgeShape, Event, Begins, Passes, Fills, Receives, Delivers, HoldersShape, no_holders, same_edge, has_edge, home_of, is_no_edge, with_edge, with_edges, with_held, with_delivered, after_event, after_events}
+use Rattle.def_journals.specs.Edges.{EdgeShape, Event, Begins, Passes, Fills, Receives, Delivers, HoldersShape, first_holders, same_edge, has_edge, home_of, is_no_edge, with_edge, with_edges, with_held, with_delivered, after_event, after_events}
 use Rattle.law_steps.specs.Linked.{Each}
 use Rattle.law_steps.proofs.NameLemmas.{names_tied, name_itself}
 use Rattle.law_chases.proofs.FutureLemmas.{none_true, true_false, futures_tied, future_itself}
@@ -135,4 +135,4 @@ all_kept [] h k = k
 all_kept (e ∷ es) h k = all_kept es (after_event e h) (after_kept e h k)
 
 pub edges_are_distinct : EdgesAreDistinct
-edges_are_distinct events = all_kept events no_holders (tt, tt, tt)
+edges_are_distinct c events = all_kept events (first_holders c) (tt, tt, tt)

@@ -2,8 +2,8 @@
 use Rattle.std.proofs.Common.{◌≡◌, ◌++◌, ◌∷◌, [], List, Option, Some, None, refl, sym, ap, ◌∙◌}
 use Rattle.std.proofs.lemmas.List.{append-nil, append_assoc}
 use Rattle.asp_model.specs.History.{EntryShape}
-use Rattle.def_journals.specs.Edges.{Event, HoldersShape, after_event, after_events, no_holders}
-use Rattle.def_journals.specs.Journals.{RunShape, all_entered, begun, entered}
+use Rattle.def_journals.specs.Edges.{Event, HoldersShape, after_event, after_events, first_holders}
+use Rattle.def_journals.specs.Journals.{RunShape, all_entered, entered, first_in, first_run}
 use Rattle.def_journals.specs.Passing.{entry_events, events_from}
 use Rattle.law_journals.proofs.JournalLemmas.{first_entered}
 use Rattle.law_chases.proofs.FutureLemmas.{some_is}
@@ -22,8 +22,8 @@ entered_then (x ∷ xs) ys s = elim (entered x s) as (λ (o : Option RunShape). 
 ]
 
 pub entries_go_on : EntriesGoOn
-entries_go_on program budget entries x s run =
-    entered_then entries (x ∷ []) (begun program budget)
+entries_go_on h x s run =
+    entered_then h.entries (x ∷ []) (first_run h)
     ∙ ap (all_then (x ∷ [])) run
     ∙ elim (entered x s) as (λ (o : Option RunShape). all_then [] o ≡ o) [ None ↦ refl | Some t ↦ refl ]
 
@@ -52,7 +52,8 @@ last_events x s =
     ∙ append-nil (entry_events x s)
 
 pub holders_go_on : HoldersGoOn
-holders_go_on program budget entries x s run =
-    let first : RunShape = begun program budget in
-    ap (λ es. after_events es no_holders) (events_behind entries (x ∷ []) first s run ∙ ap (λ es. events_from entries first ++ es) (last_events x s))
-    ∙ after_both (events_from entries first) (entry_events x s) no_holders
+holders_go_on h x s run =
+    let first : RunShape = first_run h in
+    let none : HoldersShape = first_holders (first_in h).configuration in
+    ap (λ es. after_events es none) (events_behind h.entries (x ∷ []) first s run ∙ ap (λ es. events_from h.entries first ++ es) (last_events x s))
+    ∙ after_both (events_from h.entries first) (entry_events x s) none

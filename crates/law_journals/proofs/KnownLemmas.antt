@@ -11,11 +11,11 @@ use Rattle.asp_model.specs.Contraction.{strict_operands, strict_members}
 use Rattle.asp_model.specs.Chase.{Chase, Value, Unfilled, Cycle, chase}
 use Rattle.asp_model.specs.Configuration.{RequestShape, Activity, Configuration, or_none, requests_of}
 use Rattle.asp_model.specs.Intent.{Effect, Acts, Rests, Ready, Reads, Lacks, operand_ready, operands_ready}
-use Rattle.asp_model.specs.Step.{intent_in, step, put_some, with_sent, with_effect}
+use Rattle.asp_model.specs.Step.{intent_in, step, put_some, with_last, with_effect}
 use Rattle.asp_model.specs.History.{Edge, Need, EntryShape, Lent, Committed, Delivered}
 use Rattle.def_journals.specs.Deliveries.{edge_delivered, need_delivered}
-use Rattle.def_journals.specs.Journals.{RunShape, begun, reduced, all_entered}
-use Rattle.def_journals.specs.Edges.{EdgeShape, Event, Begins, Passes, Fills, Receives, Delivers, HoldersShape, no_holders, is_no_edge, with_edge, with_edges, with_held, home_of, after_event, after_events}
+use Rattle.def_journals.specs.Journals.{RunShape, first_in, first_run, reduced, all_entered}
+use Rattle.def_journals.specs.Edges.{EdgeShape, Event, Begins, Passes, Fills, Receives, Delivers, HoldersShape, first_holders, homes_in, is_no_edge, with_edge, with_edges, with_held, home_of, after_event, after_events}
 use Rattle.def_journals.specs.Passing.{future_in, futures_in, value_read, cell_read, operands_read, redex_read, unpacked_by, receives, sent_events, made_events, filled_events, effect_events, read_in, step_events, steps_events, received_events, named_events, entry_events, events_from}
 use Rattle.law_steps.specs.Reached.{IsAt, IsThere, Steps, Edges, Needs}
 use Rattle.law_steps.specs.Kept.{IsBegun, sends_of}
@@ -30,9 +30,10 @@ use Rattle.law_chases.proofs.ChaseLemmas.{chase_finds}
 use Rattle.law_steps.proofs.FactLemmas.{acts_facts}
 use Rattle.law_steps.proofs.DeliveryLemmas.{edge_done, need_done}
 use Rattle.law_steps.proofs.EachLemmas.{each_both, each_weaker}
-use Rattle.law_steps.proofs.WholeLemmas.{start_is_sound, moves_keep_sound, sound_intents}
+use Rattle.law_steps.proofs.WholeLemmas.{moves_keep_sound, sound_intents}
 use Rattle.law_journals.specs.EdgesKept.{IsKnownEdge, EdgesAreKnown}
 use Rattle.law_journals.proofs.JournalLemmas.{first_reduced, Done, entry_done, first_entered, entry_keeps}
+use Rattle.law_journals.proofs.HomeLemmas.{each_in, home_received}
 use Rattle.law_journals.proofs.GrowLemmas.{Grows, grows_itself, grows_then, step_grows, move_grows}
 
 -- What an event speaks of is there
@@ -179,7 +180,7 @@ module _ (c : Configuration) (n : Name) (e : Effect) (s : IsSound c) (intends : 
   sent_right None is = tt
   sent_right (Some x) is =
       let there : IsThere after x.0 = g.there x.0 ((sound_intents c s).targets n e x intends is) in
-      let requests : requests_of after x.0 ≡ requests_of c x.0 ++ x.1 ∷ [] = ap (λ o. or_none (find name_cmp x.0 (with_sent o c.received))) is ∙ ap or_none (Maps.find_same name_cmp name_total name_same x.0 (requests_of c x.0 ++ x.1 ∷ []) c.received) in
+      let requests : requests_of after x.0 ≡ requests_of c x.0 ++ x.1 ∷ [] = ap (λ o. or_none (find name_cmp x.0 (with_last o c.received))) is ∙ ap or_none (Maps.find_same name_cmp name_total name_same x.0 (requests_of c x.0 ++ x.1 ∷ []) c.received) in
       let stands : kept.Stands after x.0 (length (requests_of c x.0)) x.1 = ap (λ b. slice_get b (length (requests_of c x.0))) requests ∙ last_one (requests_of c x.0) x.1 in
       let own = sd.requests x.0 (length (requests_of c x.0)) x.1 stands in
       let begun : IsBegun after x.1.future = (own.first, subst (λ m. x.1.future.index ≤ sends_of after m) own.by own.last) in (
@@ -279,5 +280,11 @@ entries_right (x ∷ entries) s t h e sound r =
     subst (AreRight t.configuration) (sym (after_more (entry_events x s) _ h))
     (subst (λ o. AreRight t.configuration (after_events (elim o [ None ↦ [] | Some z ↦ events_from entries z ]) h')) (sym u.1) (entries_right entries u.0 t h' u.2 su first))
 
+-- the homes of a sound configuration are there
+homes_there : (c : Configuration) → IsSound c → Each (λ x. IsThere c x.1) (homes_in c)
+homes_there c s = each_in (homes_in c) (λ x i. let y = home_received c s x i in (s.requests x.1 y.0 y.1 y.2).received)
+
 pub edges_are_known : EdgesAreKnown
-edges_are_known program budget journal s e = (entries_right journal (begun program budget) s no_holders e (start_is_sound program) (record { edges = tt; homes = tt })).edges
+edges_are_known h s sound e =
+    let c : Configuration = (first_in h).configuration in
+    (entries_right h.entries (first_run h) s (first_holders c) e sound (record { edges = tt; homes = homes_there c sound })).edges

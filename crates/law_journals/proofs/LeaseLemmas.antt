@@ -1,27 +1,29 @@
 -- Who is out stays as it was lent.
-use Rattle.std.proofs.Common.{◌≡◌, ◌≢◌, ◌-◌, ◌==◌, ◌&&◌, ◌++◌, ◌∷◌, [], ℕ, zero, suc, not, Bool, true, false, List, Option, Some, None, is_none, is_some, refl, sym, ap, subst, ◌∙◌, ⊎_elim, arith}
-use Rattle.std.proofs.lemmas.List.{append-nil, append_assoc}
+use Rattle.std.proofs.Common.{◌≡◌, ◌≢◌, ◌-◌, ◌==◌, ◌&&◌, ◌++◌, ◌∷◌, [], ℕ, zero, suc, not, Bool, true, false, List, Option, Some, None, is_none, is_some, refl, sym, ap, subst, ◌∙◌, inl, inr, arith}
+use Rattle.std.proofs.lemmas.List.{append-nil, append_assoc, map-append}
 use Rattle.std.specs.FinMap.{find}
 use Rattle.asp_model.specs.Names.{Name, name_cmp}
-use Rattle.asp_model.specs.Configuration.{Activity, Configuration, RequestShape, requests_of}
+use Rattle.asp_model.specs.Configuration.{Activity, Configuration, RequestShape, ReceptionShape, From, log_of, requests_of}
 use Rattle.asp_model.specs.Step.{name_at, step}
 use Rattle.asp_model.specs.History.{Edge, Need, EntryShape, Lent, Committed, Delivered}
 use Rattle.asp_model.specs.Store.{Store}
 use Rattle.def_journals.specs.Deliveries.{with_store}
-use Rattle.def_journals.specs.Journals.{RunShape, all_entered, begun, entered, grant_of, granted, is_in, out_but, reduced}
+use Rattle.def_journals.specs.Journals.{RunShape, all_entered, entered, first_run, grant_of, granted, is_in, out_but, reduced}
 use Rattle.law_journals.proofs.JournalLemmas.{entries_keep_sound, entry_done, entry_keeps, first_entered, first_reduced}
 use Rattle.law_steps.specs.Reached.{IsAt, Steps}
+use Rattle.law_steps.specs.Steps.{Grown}
 use Rattle.law_steps.specs.Sound.{IsSound}
 use Rattle.law_steps.proofs.DeliveryLemmas.{edge_done, need_done}
-use Rattle.law_steps.proofs.FrameLemmas.{others_on, requests_grow}
+use Rattle.law_steps.proofs.FrameLemmas.{others_on}
+use Rattle.law_steps.proofs.LogLemmas.{logs_grow}
 use Rattle.law_chases.proofs.MapLemmas.{find_other}
 use Rattle.law_steps.proofs.NameLemmas.{is_there, name_total, name_same}
 use Rattle.law_chases.proofs.FutureLemmas.{no_some, none_true, some_is}
-use Rattle.law_steps.proofs.WholeLemmas.{moves_keep_sound, right_of, start_is_sound}
-use Rattle.law_journals.specs.Leases.{IsOutSince, LeasesStay, stays_out}
+use Rattle.law_steps.proofs.WholeLemmas.{moves_keep_sound, right_of}
+use Rattle.law_journals.specs.Leases.{IsOutSince, LeasesStay, receptions_of, stays_out}
 use Rattle.law_journals.proofs.GrowingLemmas.{all_then, entered_then}
 use Rattle.law_journals.proofs.NameListLemmas.{number_stays, numbered_in, numbered_so, one_number}
-use Rattle.law_journals.proofs.NumberLemmas.{AreNamed, begun_named, entries_named, entry_named}
+use Rattle.law_journals.proofs.NumberLemmas.{AreNamed, entries_named, entry_named, first_named}
 
 same_number : (i j : ℕ) → (i == j) ≡ true → i ≡ j
 same_number i j h = grind (arith, h)
@@ -45,31 +47,39 @@ grant_but k j (x ∷ xs) h = by (j == x.0) refl (grant_but k j xs h)
 
 -- Steps of another
 
--- an activity is as before, and has received some requests more
+-- an activity is as before, and has received some requests more, which its log notes
 record Stays (n : Name) (c d : Configuration) : Type 0 where
   there : find name_cmp n d.activities ≡ find name_cmp n c.activities
   more : List RequestShape
   received : requests_of d n ≡ requests_of c n ++ more
+  logged : log_of d n ≡ log_of c n ++ receptions_of more
 
 stays_itself : (n : Name) (c : Configuration) → Stays n c c
-stays_itself n c = record { there = refl; more = []; received = sym (append-nil (requests_of c n)) }
+stays_itself n c = record { there = refl; more = []; received = sym (append-nil (requests_of c n)); logged = sym (append-nil (log_of c n)) }
+
+-- a log behind another
+noted_then : (was mid now : List ReceptionShape) (rs qs : List RequestShape) → mid ≡ was ++ receptions_of rs → now ≡ mid ++ receptions_of qs → now ≡ was ++ receptions_of (rs ++ qs)
+noted_then was mid now rs qs x y = y ∙ ap (λ l. l ++ receptions_of qs) x ∙ append_assoc was (receptions_of rs) (receptions_of qs) ∙ ap (λ l. was ++ l) (sym (map-append (λ r. From r.sender) rs qs))
 
 stays_then : (n : Name) (c d e : Configuration) → Stays n c d → Stays n d e → Stays n c e
 stays_then n c d e x y = record {
   there = y.there ∙ x.there;
   more = x.more ++ y.more;
   received = y.received ∙ ap (λ rs. rs ++ y.more) x.received ∙ append_assoc (requests_of c n) x.more y.more;
+  logged = noted_then (log_of c n) (log_of d n) (log_of e n) x.more y.more x.logged y.logged;
 }
 
 module _ (n m : Name) (apart : n ≢ m) where
   step_of_other : (c d : Configuration) (a : Activity) → IsSound c → IsAt c n a → step None c m ≡ Some d → Stays n c d
-  step_of_other c d a sound is h = ⊎_elim
-      (λ none. record { there = there; more = []; received = none ∙ sym (append-nil (requests_of c n)) })
-      (λ one. record { there = there; more = one.0 ∷ []; received = one.1 })
-      (requests_grow None c d m n h)
+  step_of_other c d a sound is h = by (logs_grow None c d m n h)
     where
       there : find name_cmp n d.activities ≡ find name_cmp n c.activities
       there = others_on None c d m n a (right_of c sound).sound h apart is ∙ sym is
+
+      by : Grown m n (log_of c n) (log_of d n) (requests_of c n) (requests_of d n) → Stays n c d
+      by (inl x) = record { there = there; more = []; received = x.1 ∙ sym (append-nil (requests_of c n)); logged = x.0 ∙ sym (append-nil (log_of c n)) }
+      by (inr (inl x)) = record { there = there; more = x.0 ∷ []; received = x.2; logged = x.1 ∙ ap (λ k. log_of c n ++ From k ∷ []) (sym x.3) }
+      by (inr (inr x)) = absurd (apart x.0)
 
   reduced_by_other : (r : ℕ) (c d : Configuration) (a : Activity) → IsSound c → IsAt c n a → reduced r m c ≡ Some d → Stays n c d
   reduced_by_other zero c d a sound is h = subst (Stays n c) (some_is h) (stays_itself n c)
@@ -83,6 +93,7 @@ module _ (n m : Name) (apart : n ≢ m) where
     there = ap (λ z. find name_cmp n z.activities) is ∙ find_other name_cmp name_total name_same n m (record a { store = t }) c.activities apart;
     more = [];
     received = ap (λ z. requests_of z n) is ∙ sym (append-nil (requests_of c n));
+    logged = ap (λ z. log_of z n) is ∙ sym (append-nil (log_of c n));
   }
 
 -- One entry
@@ -93,6 +104,7 @@ out_on s u v k n h x named out = record {
   there = x.there ∙ h.there;
   more = h.more ++ x.more;
   received = x.received ∙ ap (λ rs. rs ++ x.more) h.received ∙ append_assoc (requests_of s.configuration n) h.more x.more;
+  logged = noted_then (log_of s.configuration n) (log_of u.configuration n) (log_of v.configuration n) h.more x.more h.logged x.logged;
   out = out;
 }
 
@@ -160,10 +172,10 @@ entries_stay (x ∷ entries) s u t k n goes e sound named out =
     entries_stay entries s v.0 t k n both.1 v.2 (entry_keeps IsSound moves_keep_sound x u v.0 done sound) (entry_named x u v.0 done sound named) (entry_stays s u v.0 k n sound named out x both.0 v.1)
 
 pub leases_stay : LeasesStay
-leases_stay program budget entries k number n s t x named e =
-    let first : RunShape = begun program budget in
-    let sound : IsSound s.configuration = keeps x.before first s x.run (start_is_sound program) in
-    let names = entries_named x.before first s x.run (start_is_sound program) (begun_named program budget) in
+leases_stay h k number n s t f x named e =
+    let first : RunShape = first_run h in
+    let sound : IsSound s.configuration = entries_keep_sound x.before first s x.run f.sound in
+    let names = entries_named x.before first s x.run f.sound (first_named h f) in
     let rest : all_entered (Lent k ∷ x.after) s ≡ Some t = sym (ap (all_then (Lent k ∷ x.after)) x.run) ∙ sym (entered_then x.before (Lent k ∷ x.after) first) ∙ sym (ap (λ xs. all_entered xs first) x.is) ∙ e in
     let u = first_entered (Lent k) x.after s t rest in
     let done = entry_done (Lent k) s u.0 u.1 in
@@ -172,9 +184,7 @@ leases_stay program budget entries k number n s t x named e =
       there = refl;
       more = [];
       received = sym (append-nil (requests_of s.configuration n));
+      logged = sym (append-nil (log_of s.configuration n));
       out = ap (λ b. elim b [ true ↦ Some (granted s) | false ↦ grant_of k s.out ]) (number_itself k);
     }) in
     entries_stay x.after s u.0 t k n x.stays u.2 (entry_keeps IsSound moves_keep_sound (Lent k) s u.0 done sound) (entry_named (Lent k) s u.0 done sound names) lent
-  where
-    keeps : (entries : List EntryShape) (s t : RunShape) → all_entered entries s ≡ Some t → IsSound s.configuration → IsSound t.configuration
-    keeps entries s t e h = entries_keep_sound entries s t e h

@@ -5,6 +5,7 @@ pub mod EdgeLemmas
 pub mod CountLemmas
 pub mod BudgetLemmas
 pub mod GrowLemmas
+pub mod HomeLemmas
 pub mod KnownLemmas
 pub mod BoundLemmas
 pub mod UpdateLemmas

@@ -22,6 +22,7 @@ use Rattle.law_journals.specs.Entries.{IsLocal, StepsAreLocal}
 -- what such a step leaves of its activity, and that it gives nothing
 record IsAlone (a : Activity) (e : Effect) : Type 0 where
   sent : e.sent ≡ None
+  logged : e.logged ≡ None
   made : e.made ≡ None
   filled : e.filled ≡ None
   services : e.own.services ≡ a.services
@@ -32,7 +33,7 @@ record IsAlone (a : Activity) (e : Effect) : Type 0 where
 
 module _ (requests : List RequestShape) (n : Name) (a : Activity) where
   contraction_alone : (contexts : List Context) (s : Store) (r : Contraction) (e : Effect) → is_asking r ≡ false → contracts requests n a contexts s r ≡ Acts e → IsAlone a e
-  contraction_alone contexts s (Becomes t store lines) e asks q = subst (IsAlone a) (acts_is q) (record { sent = refl; made = refl; filled = refl; services = refl; present = refl; served = refl; sends = refl; creations = refl })
+  contraction_alone contexts s (Becomes t store lines) e asks q = subst (IsAlone a) (acts_is q) (record { sent = refl; logged = refl; made = refl; filled = refl; services = refl; present = refl; served = refl; sends = refl; creations = refl })
   contraction_alone contexts s (Faults x) e asks q = no_acts q
   contraction_alone contexts s (Needs place) e asks q = no_acts q
   contraction_alone contexts s (Communicates x) e asks q = none_true (sym asks)
@@ -60,12 +61,13 @@ module _ (requests : List RequestShape) (n : Name) (a : Activity) where
 
 effect_local : (c : Configuration) (n : Name) (a : Activity) (e : Effect) → IsAt c n a → IsAlone a e → IsLocal c (with_effect n e c) n a e.own
 effect_local c n a e at x =
-    let f : Effect = record { own = e.own; sent = None; made = None; filled = None } in
-    let same : f ≡ e = λ i. record { own = e.own; sent = sym x.sent i; made = sym x.made i; filled = sym x.filled i } in
+    let f : Effect = record { own = e.own; sent = None; logged = None; made = None; filled = None } in
+    let same : f ≡ e = λ i. record { own = e.own; sent = sym x.sent i; logged = sym x.logged i; made = sym x.made i; filled = sym x.filled i } in
     subst (λ z. IsLocal c (with_effect n z c) n a e.own) same (record {
       here = at;
       there = Maps.find_same name_cmp name_total name_same n e.own c.activities;
       received = refl;
+      logs = refl;
       futures = refl;
       services = x.services;
       present = x.present;

@@ -6,9 +6,9 @@ use Rattle.asp_model.specs.Configuration.{Activity, Configuration}
 use Rattle.asp_model.specs.Configuration.{begun as begins}
 use Rattle.asp_model.specs.Term.{Tree}
 use Rattle.asp_model.specs.Step.{name_at}
-use Rattle.asp_model.specs.History.{Edge, Need, EntryShape, Lent, Committed, Delivered}
+use Rattle.asp_model.specs.History.{Edge, Need, EntryShape, HistoryShape, Lent, Committed, Delivered}
 use Rattle.asp_model.specs.Store.{Object}
-use Rattle.def_journals.specs.Journals.{RunShape, all_entered, begun, newcomers}
+use Rattle.def_journals.specs.Journals.{RunShape, all_entered, begun, first_in, first_run, newcomers, run_from, start_of}
 use Rattle.law_journals.proofs.GrowLemmas.{Grows, grows_itself, grows_then, move_grows}
 use Rattle.law_journals.proofs.JournalLemmas.{Done, entry_done, entry_keeps, first_entered, reduced_keeps}
 use Rattle.law_steps.specs.Reached.{IsThere, Makes, Move}
@@ -18,7 +18,7 @@ use Rattle.law_steps.proofs.EntryLemmas.{In, entry_found, found_entry}
 use Rattle.law_steps.proofs.NameLemmas.{is_there, name_itself, names_tied}
 use Rattle.law_chases.proofs.FutureLemmas.{none_true, some_is}
 use Rattle.law_steps.proofs.WholeLemmas.{moves_keep_sound, start_is_sound}
-use Rattle.law_journals.specs.Numbered.{AreNumbered, EntriesKeepNumbers, JournalsAreNumbered}
+use Rattle.law_journals.specs.Numbered.{AreNumbered, EntriesKeepNumbers, HistoriesAreNumbered, IsFirst, StartIsFirst}
 use Rattle.law_journals.proofs.NameListLemmas.{AreApart, apart_both, apart_passed, entry_of, in_back, in_both, in_front, in_numbered, in_passed, name_in, names_apart_in, numbered_in, one_number, passed_in}
 
 -- the same in terms of lists
@@ -134,7 +134,7 @@ only_main n a t = by (same_name n main_name) refl t
     by true e h = names_tied n main_name e
     by false e h = none_true h
 
-pub begun_named : (program : Tree) (budget : ℕ) → AreNamed (begun program budget)
+begun_named : (program : Tree) (budget : ℕ) → AreNamed (begun program budget)
 begun_named program budget =
     let main : Activity = begins program (Object [] [] ∷ []) in
     record {
@@ -146,5 +146,12 @@ begun_named program budget =
 pub entries_keep_numbers : EntriesKeepNumbers
 entries_keep_numbers entries s t e sound h = numbered_by t (entries_named entries s t e sound (named_by s h))
 
-pub journals_are_numbered : JournalsAreNumbered
-journals_are_numbered program budget journal s e = numbered_by s (entries_named journal (begun program budget) s e (start_is_sound program) (begun_named program budget))
+-- the run of a history before its entries
+pub first_named : (h : HistoryShape) → IsFirst (first_in h) → AreNamed (first_run h)
+first_named h f = named_by (first_run h) (record { apart = f.numbered.apart; there = f.numbered.there; numbered = f.numbered.numbered })
+
+pub start_is_first : StartIsFirst
+start_is_first program = record { sound = start_is_sound program; numbered = numbered_by (run_from (start_of program) 0) (begun_named program 0) }
+
+pub histories_are_numbered : HistoriesAreNumbered
+histories_are_numbered h s first e = numbered_by s (entries_named h.entries (first_run h) s e first.sound (first_named h first))

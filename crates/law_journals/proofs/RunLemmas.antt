@@ -1,5 +1,5 @@
 -- Holders are those of a run, entry by entry.
-use Rattle.std.specs.Prelude.{◌≡◌, ◌≢◌, ℕ, zero, suc, ◌-◌, ◌≤◌, ◌||◌, Bool, true, false, List, [], ◌∷◌, ◌++◌, Option, Some, None, IsSome, is_some, length, slice_get}
+use Rattle.std.specs.Prelude.{◌≡◌, ◌≢◌, ℕ, zero, suc, ◌-◌, ◌≤◌, ◌||◌, Bool, true, false, List, [], ◌∷◌, ◌++◌, Option, Some, None, IsSome, is_some, length, map, cond, slice_get}
 use Rattle.std.proofs.Common.{refl, sym, ap, subst, ◌∙◌, arith, append-nil, ◌⊎◌, inl, inr, ⊎_elim}
 use Rattle.std.specs.FinMap.{find, put}
 use Rattle.std.proofs.lemmas.List.Folds.{list_any-append}
@@ -7,10 +7,10 @@ use Rattle.asp_model.specs.Names.{Name, FutureShape, name_cmp, future_cmp, same_
 use Rattle.asp_model.specs.Parcel.{ParcelShape}
 use Rattle.asp_model.specs.Configuration.{RequestShape, Configuration, or_none, requests_of}
 use Rattle.asp_model.specs.Intent.{Effect, Acts, Rests, filling}
-use Rattle.asp_model.specs.Step.{put_some, step, with_effect, with_sent}
+use Rattle.asp_model.specs.Step.{put_some, step, with_effect, with_last}
 use Rattle.asp_model.specs.History.{Edge, Need, EntryShape, Lent, Committed, Delivered}
-use Rattle.def_journals.specs.Journals.{RunShape, begun, reduced, all_entered}
-use Rattle.def_journals.specs.Edges.{Event, HoldersShape, no_holders, after_event, after_events, has_filled, home_of}
+use Rattle.def_journals.specs.Journals.{RunShape, first_in, first_run, reduced, all_entered}
+use Rattle.def_journals.specs.Edges.{Event, HoldersShape, first_holders, homes_in, after_event, after_events, has_filled, home_of}
 use Rattle.def_journals.specs.Passing.{effect_events, entry_events, events_from, named_events, read_in, received_events, receives, step_events, steps_events}
 use Rattle.law_steps.specs.Reached.{Steps}
 use Rattle.law_steps.specs.Kept.{IsBegun, Stands, answers_at, mark, tally}
@@ -18,7 +18,7 @@ use Rattle.law_steps.specs.Kept as kept
 use Rattle.law_steps.specs.Steps.{IsNewTo}
 use Rattle.law_steps.specs.Sound.{IsSound}
 use Rattle.law_steps.proofs.NameLemmas.{is_there, name_total, name_same}
-use Rattle.law_chases.proofs.FutureLemmas.{no_some, some_is, future_total, future_same, future_case, future_itself, futures_apart, futures_tied}
+use Rattle.law_chases.proofs.FutureLemmas.{no_some, some_is, true_false, future_total, future_same, future_case, future_itself, futures_apart, futures_tied}
 use Rattle.law_chases.proofs.MapLemmas as Maps
 use Rattle.law_steps.proofs.StepLemmas.{step_taken}
 use Rattle.law_steps.proofs.FactLemmas.{Face, acts_facts, face_of, holds, Holding, as_before, serving, ending}
@@ -26,9 +26,11 @@ use Rattle.law_steps.proofs.SoundLemmas.{at_name, came, mark_same}
 use Rattle.law_steps.proofs.KeptLemmas.{placed_after}
 use Rattle.law_steps.proofs.NamesLaws.{answers_by}
 use Rattle.law_steps.proofs.DeliveryLemmas.{edge_done, need_done}
-use Rattle.law_steps.proofs.WholeLemmas.{start_is_sound, moves_keep_sound, sound_intents}
+use Rattle.law_steps.proofs.WholeLemmas.{moves_keep_sound, sound_intents}
+use Rattle.law_steps.proofs.EntryLemmas.{In}
+use Rattle.law_journals.proofs.HomeLemmas.{home_received, received_home}
 use Rattle.law_journals.proofs.JournalLemmas.{first_reduced, Done, entry_done, first_entered, entry_keeps}
-use Rattle.law_journals.specs.Runs.{AreHoldersOf, EffectsAreFresh, HoldersAreOfRuns, HoldersStay, HomesAreOfBegun, IsHome}
+use Rattle.law_journals.specs.Runs.{AreHoldersOf, EffectsAreFresh, FirstHoldersAre, HoldersAreOfRuns, HoldersStay, HomesAreOfBegun, IsHome}
 use Rattle.law_journals.proofs.EventLemmas.{begun_by, effect_begins, effect_fills, filled_after, filled_by, filled_one, homes_after, sent_home}
 
 -- Homes in lists
@@ -87,7 +89,7 @@ module _ (c : Configuration) (n : Name) (e : Effect) (h : HoldersShape) (are : A
 
   stands_new : (z : Name × RequestShape) → e.sent ≡ Some z → Stands after z.0 (length (requests_of c z.0)) z.1
   stands_new z is =
-      let requests : requests_of after z.0 ≡ requests_of c z.0 ++ z.1 ∷ [] = ap (λ o. or_none (find name_cmp z.0 (with_sent o c.received))) is ∙ ap or_none (Maps.find_same name_cmp name_total name_same z.0 (requests_of c z.0 ++ z.1 ∷ []) c.received) in
+      let requests : requests_of after z.0 ≡ requests_of c z.0 ++ z.1 ∷ [] = ap (λ o. or_none (find name_cmp z.0 (with_last o c.received))) is ∙ ap or_none (Maps.find_same name_cmp name_total name_same z.0 (requests_of c z.0 ++ z.1 ∷ []) c.received) in
       ap (λ b. slice_get b (length (requests_of c z.0))) requests ∙ last_one (requests_of c z.0) z.1
 
   sent_homes : (o : Option (Name × RequestShape)) → e.sent ≡ o → (f : FutureShape) (m : Name) → home_of f (sent_home o) ≡ Some m → IsHome after f m
@@ -220,12 +222,55 @@ entries_then (x ∷ entries) s t h e sound are =
     (subst (λ o. AreHoldersOf t.configuration (after_events (elim o [ None ↦ [] | Some z ↦ events_from entries z ]) h')) (sym u.1)
     (entries_then entries u.0 t h' u.2 su (entry_then x s u.0 h sound done are)))
 
+-- where a run begins
+
+home_in : (f : FutureShape) (hs : List (FutureShape × Name)) (m : Name) → home_of f hs ≡ Some m → In (f, m) hs
+home_in f [] m e = no_some e
+home_in f (x ∷ xs) m e = by (same_future f x.0) refl e (home_in f xs m)
+  where
+    by : (b : Bool) → same_future f x.0 ≡ b → elim b [ true ↦ Some x.1 | false ↦ home_of f xs ] ≡ Some m → (home_of f xs ≡ Some m → In (f, m) xs) → In (f, m) (x ∷ xs)
+    by true is e rest = inl (λ i. (futures_tied f x.0 is i, sym (some_is e) i))
+    by false is e rest = inr (rest e)
+
+home_told : (f : FutureShape) (hs : List (FutureShape × Name)) (m : Name) → In (f, m) hs → IsSome (home_of f hs)
+home_told f [] m i = absurd i
+home_told f (x ∷ xs) m i = by (same_future f x.0) refl i (home_told f xs m)
+  where
+    by : (b : Bool) → same_future f x.0 ≡ b → In (f, m) (x ∷ xs) → (In (f, m) xs → IsSome (home_of f xs)) → IsSome (elim b [ true ↦ Some x.1 | false ↦ home_of f xs ])
+    by true is j rest = refl
+    by false is (inl p) rest = absurd (true_false (same_future f f) (future_itself f) (ap (same_future f) (ap (λ z. z.0) p) ∙ is))
+    by false is (inr j) rest = rest j
+
+values_filled : (f : FutureShape) (vs : List (FutureShape × ParcelShape)) → has_filled f (map (λ v. v.0) vs) ≡ is_some (find future_cmp f vs)
+values_filled f [] = refl
+values_filled f (v ∷ vs) = by (same_future f v.0) (values_filled f vs)
+  where
+    by : (b : Bool) → has_filled f (map (λ v. v.0) vs) ≡ is_some (find future_cmp f vs) → (b || has_filled f (map (λ v. v.0) vs)) ≡ is_some (cond b (Some v.1) (find future_cmp f vs))
+    by true e = refl
+    by false e = e
+
+pub first_holders_are : FirstHoldersAre
+first_holders_are c s = record { homes = homes; requests = requests; filled = λ f. values_filled f c.futures }
+  where
+    homes : (f : FutureShape) (m : Name) → home_of f (homes_in c) ≡ Some m → IsHome c f m
+    homes f m at = home_received c s (f, m) (home_in f (homes_in c) m at)
+
+    -- each future has one home, since it stands once
+    requests : (m : Name) (k : ℕ) (r : RequestShape) → Stands c m k r → home_of r.future (homes_in c) ≡ Some m
+    requests m k r st =
+        let there = is_there (home_of r.future (homes_in c)) (home_told r.future (homes_in c) m (received_home c m k r st)) in
+        let x = homes r.future there.0 there.1 in
+        let right = s.requests m k r st in
+        let i = r.future.index - 1 in
+        let at : suc i ≡ r.future.index = omega (arith, right.first) in
+        let once = s.stand r.future.by i (subst (λ n. suc i ≤ kept.sends_of c n) right.by (omega (arith, right.last, right.first))) in
+        let same : r.future ≡ record { by = r.future.by; index = suc i } = λ j. record { by = r.future.by; index = sym at j } in
+        let here = once.alone m k r st same in
+        let found = once.alone there.0 x.0 x.1 x.2 (x.3 ∙ same) in
+        there.1 ∙ ap Some (found.0 ∙ sym here.0)
+
 pub holders_are_of_runs : HoldersAreOfRuns
-holders_are_of_runs program budget journal s e = entries_then journal (begun program budget) s no_holders e (start_is_sound program) (record {
-  homes = λ f m at. no_some at;
-  requests = λ m k r st. no_some st;
-  filled = λ f. refl;
-})
+holders_are_of_runs h s sound e = entries_then h.entries (first_run h) s (first_holders (first_in h).configuration) e sound (first_holders_are (first_in h).configuration sound)
 
 -- What was begun, and what is fresh
 

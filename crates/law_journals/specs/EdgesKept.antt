@@ -1,18 +1,18 @@
--- The edges that a lawful journal leaves: pairwise different, between activities that are there, and so not many.
+-- The edges that a lawful history leaves: pairwise different, between activities that are there, and so not many.
 use Rattle.std.specs.Prelude.{◌≡◌, ◌≢◌, ℕ, ◌*◌, ◌+◌, ◌-◌, ◌<◌, ◌≤◌, true, false, List, [], ◌∷◌, Some, length}
 use Rattle.asp_model.specs.Names.{Name, FutureShape, same_name}
-use Rattle.asp_model.specs.Term.{Tree}
 use Rattle.asp_model.specs.Store.{CellShape, Store}
 use Rattle.asp_model.specs.Parcel.{ParcelShape, parcel_of}
 use Rattle.asp_model.specs.Configuration.{Activity, Configuration}
-use Rattle.asp_model.specs.History.{EntryShape}
+use Rattle.asp_model.specs.History.{HistoryShape}
 use Rattle.def_journals.specs.Deliveries.{is_held, edge_delivered}
-use Rattle.def_journals.specs.Journals.{RunShape, run_of}
-use Rattle.def_journals.specs.Edges.{EdgeShape, Event, HoldersShape, no_holders, has_edge, after_events}
+use Rattle.def_journals.specs.Journals.{RunShape, first_in, run_of}
+use Rattle.def_journals.specs.Edges.{EdgeShape, Event, HoldersShape, first_holders, has_edge, after_events}
 use Rattle.def_journals.specs.Passing.{futures_in, holders_of}
 use Rattle.law_steps.specs.Reached.{IsThere, IsAt, HasValue}
 use Rattle.law_steps.specs.Kept.{IsBegun}
 use Rattle.law_steps.specs.Linked.{Each}
+use Rattle.law_steps.specs.Sound.{IsSound}
 
 -- pairwise different, and none from an activity to itself
 abbrev pub AreEdges : List EdgeShape → Type 0
@@ -21,17 +21,18 @@ AreEdges (x ∷ xs) = (same_name x.from x.to ≡ false) × (has_edge x xs ≡ fa
 
 -- whatever events come: the edges are such, and so are those that were delivered, which are kept
 abbrev pub EdgesAreDistinct : Type 0
-EdgesAreDistinct = (events : List Event) → let h : HoldersShape = after_events events no_holders in
+EdgesAreDistinct = (c : Configuration) (events : List Event)
+    → let h : HoldersShape = after_events events (first_holders c) in
     AreEdges h.edges × AreEdges h.delivered × Each (λ x. has_edge x h.edges ≡ true) h.delivered
 
 -- of a future that was begun, between two that are there
 abbrev pub IsKnownEdge : Configuration → EdgeShape → Type 0
 IsKnownEdge c x = IsBegun c x.future × IsThere c x.from × IsThere c x.to
 
+-- so are all edges of a history
 abbrev pub EdgesAreKnown : Type 0
-EdgesAreKnown = (program : Tree) (budget : ℕ) (journal : List EntryShape) (s : RunShape)
-    → run_of program budget journal ≡ Some s
-    → Each (IsKnownEdge s.configuration) (holders_of program budget journal).edges
+EdgesAreKnown = (h : HistoryShape) (s : RunShape) → IsSound (first_in h).configuration → run_of h ≡ Some s
+    → Each (IsKnownEdge s.configuration) (holders_of h).edges
 
 -- how many futures were begun
 abbrev pub sends_in : List (Name × Activity) → ℕ
@@ -40,9 +41,9 @@ sends_in (x ∷ xs) = x.1.sends + sends_in xs
 
 -- no more edges than futures times ordered pairs of activities
 abbrev pub EdgesAreBounded : Type 0
-EdgesAreBounded = (program : Tree) (budget : ℕ) (journal : List EntryShape) (s : RunShape)
-    → run_of program budget journal ≡ Some s → let c : Configuration = s.configuration in
-    length (holders_of program budget journal).edges
+EdgesAreBounded = (h : HistoryShape) (s : RunShape) → IsSound (first_in h).configuration → run_of h ≡ Some s
+    → let c : Configuration = s.configuration in
+    length (holders_of h).edges
     ≤ sends_in c.activities * (length c.activities * (length c.activities - 1))
 
 -- A future that was updated before

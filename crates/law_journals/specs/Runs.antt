@@ -1,14 +1,13 @@
--- What the holders of a lawful journal say of its run: the homes of futures, and which have a value.
-use Rattle.std.specs.Prelude.{◌≡◌, ℕ, List, Some, is_some, IsSome}
+-- What the holders of a lawful history say of its run: the homes of futures, and which have a value.
+use Rattle.std.specs.Prelude.{◌≡◌, ℕ, Some, is_some, IsSome}
 use Rattle.std.specs.FinMap.{find}
 use Rattle.asp_model.specs.Names.{Name, FutureShape, future_cmp}
-use Rattle.asp_model.specs.Term.{Tree}
 use Rattle.asp_model.specs.Configuration.{Configuration, RequestShape}
-use Rattle.asp_model.specs.History.{EntryShape}
+use Rattle.asp_model.specs.History.{HistoryShape}
 use Rattle.asp_model.specs.Intent.{Acts, Effect}
 use Rattle.asp_model.specs.Step.{intent_in}
-use Rattle.def_journals.specs.Edges.{HoldersShape, has_filled, home_of}
-use Rattle.def_journals.specs.Journals.{RunShape, run_of}
+use Rattle.def_journals.specs.Edges.{HoldersShape, first_holders, has_filled, home_of}
+use Rattle.def_journals.specs.Journals.{RunShape, first_in, run_of}
 use Rattle.def_journals.specs.Passing.{holders_of}
 use Rattle.law_steps.specs.Kept.{IsBegun, Stands}
 use Rattle.law_steps.specs.Sound.{IsSound}
@@ -25,9 +24,14 @@ pub record AreHoldersOf (c : Configuration) (h : HoldersShape) : Type 0 where
   -- exactly those that have a value are filled
   pub filled : (f : FutureShape) → has_filled f h.filled ≡ is_some (find future_cmp f c.futures)
 
+-- so are those with which a run begins
+abbrev pub FirstHoldersAre : Type 0
+FirstHoldersAre = (c : Configuration) → IsSound c → AreHoldersOf c (first_holders c)
+
+-- and those of each history
 abbrev pub HoldersAreOfRuns : Type 0
-HoldersAreOfRuns = (program : Tree) (budget : ℕ) (journal : List EntryShape) (s : RunShape)
-    → run_of program budget journal ≡ Some s → AreHoldersOf s.configuration (holders_of program budget journal)
+HoldersAreOfRuns = (h : HistoryShape) (s : RunShape) → IsSound (first_in h).configuration
+    → run_of h ≡ Some s → AreHoldersOf s.configuration (holders_of h)
 
 -- they are those of each configuration with the same requests and values
 abbrev pub HoldersStay : Type 0

@@ -1,4 +1,4 @@
-//! The edges that a lawful journal leaves.
+//! The edges that a lawful history leaves.
 
 ghost use Rattle.law_journals.specs.EdgesKept.{DeliveriesUpdate, EdgesAreBounded, EdgesAreDistinct, EdgesAreKnown, ParcelsHoldLess};
 

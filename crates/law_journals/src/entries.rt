@@ -3,7 +3,7 @@
 ghost use Rattle.law_journals.specs.Budgets.{BudgetsAreKept};
 ghost use Rattle.law_journals.specs.Entries.{EntriesKeepClosed, EntriesKeepSound, JournalsReach, StepsAreLocal};
 
-/// The run of a lawful journal is reached by steps and deliveries.
+/// From the start of a program, the run of a lawful journal is reached by steps and deliveries.
 pub fn journals_reach()
     ensures { JournalsReach }
 {}
@@ -24,7 +24,8 @@ pub fn steps_are_local()
     ensures { StepsAreLocal }
 {}
 
-/// The counts, what is left, and what is granted to those who are out sum to the budget.
+/// The counts, what is left, and what is granted to those who are out sum to the budget and the
+/// counts at the beginning.
 pub fn budgets_are_kept()
     ensures { BudgetsAreKept }
 {}

@@ -1,4 +1,4 @@
-//! A journal with one entry more.
+//! A history with one entry more.
 
 ghost use Rattle.law_journals.specs.Growing.{EntriesGoOn, HoldersGoOn};
 

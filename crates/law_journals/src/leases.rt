@@ -19,7 +19,7 @@ pub fn leases_are_one()
     ensures { LeasesAreOne }
 {}
 
-/// A lease is one of each longer journal by which its burst is out still.
+/// A lease is one of each later history by which its burst is out still.
 pub fn leases_go_on()
     ensures { LeasesGoOn }
 {}

@@ -21,5 +21,7 @@ pub use growing::{entries_go_on, holders_go_on};
 pub use leases::{
     bursts_are_counted, leases_are_one, leases_begin, leases_go_on, leases_last, leases_stay,
 };
-pub use numbered::{entries_keep_numbers, journals_are_numbered};
-pub use runs::{effects_are_fresh, holders_are_of_runs, holders_stay, homes_are_of_begun};
+pub use numbered::{entries_keep_numbers, histories_are_numbered, start_is_first};
+pub use runs::{
+    effects_are_fresh, first_holders_are, holders_are_of_runs, holders_stay, homes_are_of_begun,
+};

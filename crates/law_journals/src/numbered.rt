@@ -1,11 +1,16 @@
 //! The numbers of activities.
 
-ghost use Rattle.law_journals.specs.Numbered.{EntriesKeepNumbers, JournalsAreNumbered};
+ghost use Rattle.law_journals.specs.Numbered.{EntriesKeepNumbers, HistoriesAreNumbered, StartIsFirst};
 
-/// In the run of a lawful journal each activity that is there has one number, and nobody else has
-/// one.
-pub fn journals_are_numbered()
-    ensures { JournalsAreNumbered }
+/// A run may begin at the start of a program.
+pub fn start_is_first()
+    ensures { StartIsFirst }
+{}
+
+/// In the run of a history each activity that is there has one number, and nobody else has one,
+/// where it was so where the history begins.
+pub fn histories_are_numbered()
+    ensures { HistoriesAreNumbered }
 {}
 
 /// From any run on, entries keep this.

@@ -2,10 +2,17 @@
 
 ghost use Rattle.law_journals.specs.Runs.{
   EffectsAreFresh,
+  FirstHoldersAre,
   HoldersAreOfRuns,
   HoldersStay,
   HomesAreOfBegun,
 };
+
+/// Where a run begins, each home is who received the request, and those that have a value are
+/// filled.
+pub fn first_holders_are()
+    ensures { FirstHoldersAre }
+{}
 
 /// The home of a future is who received its request, and exactly those that have a value are
 /// filled.

@@ -2,12 +2,12 @@
 use Rattle.std.specs.Prelude.{◌≡◌, ℕ, ℤ, pos, negsuc, zero, suc, ◌+◌, ◌<◌, ◌≤◌, ◌+ℤ◌, ◌-ℤ◌, ◌*ℤ◌, int_lt, int_le, int_div, int_rem, ◌&&◌, true, false, List, [], ◌∷◌, ◌++◌, Option, Some, None, length, map}
 use Rattle.std.proofs.Common.{refl, sym, ap, subst, ◌∙◌, arith, ⊎_elim, length-append}
 use Rattle.asp_model.specs.Names.{Name, FutureShape, Text}
-use Rattle.asp_model.specs.Term.{SignShape, Add, Subtract, Multiply, Divide, Remainder, Less, Equal, Head, Tree, Trees, node, none, more, Make, Get, Put, Call, Clone, Active, Serve, Let, Steps, If, Repeat, Operate, Print, Echo, Scatter, Size, Member, WaitAll, Environment, locations_below, own_locations}
+use Rattle.asp_model.specs.Term.{SignShape, Add, Subtract, Multiply, Divide, Remainder, Less, Equal, Head, Tree, Trees, node, none, more, Make, Get, Put, Call, Clone, Active, Serve, Pending, Let, Steps, If, Repeat, Operate, Print, Echo, Scatter, Size, Member, WaitAll, Environment, locations_below, own_locations}
 use Rattle.asp_model.specs.Term as term
 use Rattle.asp_model.specs.Split.{Context, Redex, Split, Stands, Splits, split}
 use Rattle.asp_model.specs.Store.{MethodShape, CellShape, Number, Object, Reference, Future, Group, Store, cell, with_cell, moved_cell}
 use Rattle.asp_model.specs.Parcel.{ParcelShape, parcel_of, visit_order, number_in, unpack, unpack_at, place_at}
-use Rattle.asp_model.specs.Contraction.{Contraction, Becomes, Faults, Needs, Communicates, Breaks, Creates, Sends, Serves, LineShape, row, contract, is_future, strict_operands, strict_members}
+use Rattle.asp_model.specs.Contraction.{Contraction, Becomes, Faults, Needs, Communicates, Breaks, Creates, Sends, Serves, Polls, LineShape, row, contract, is_future, strict_operands, strict_members}
 use Rattle.asp_model.specs.Contraction as rows
 use Rattle.asp_model.specs.Chase.{Chase, Value, Unfilled, Cycle}
 use Rattle.asp_model.specs.Configuration.{RequestShape, ServiceShape, Activity}
@@ -209,6 +209,7 @@ module _ (s : Store) (i : ℕ) (lt : i < length s) (plain : is_future (cell s i)
   row_keeps Clone (j ∷ []) none = allots (cell s j) []
   row_keeps (Active l) (j ∷ []) none = active_by j l (cell s j) refl
   row_keeps (Serve ls) [] none = tt
+  row_keeps (Pending ls) [] none = tt
   row_keeps (Let x) (j ∷ []) (more t none) = goes (term.put_in ((x, j) ∷ []) t) []
   row_keeps Steps (j ∷ []) ts = goes (rows.remaining ts) []
   row_keeps If (j ∷ []) (more t (more u none)) = if_by t u (cell s j)
@@ -270,6 +271,7 @@ module _ (requests : List RequestShape) (n : Name) (a : Activity) (h : IsClosedA
   contracts_plain contexts s k lt e (Communicates (Creates object service)) x y = (grown_plain s _ lt e, λ z d. subst (λ w. ActivePlain w.1) (some_is d) (copied_root s object k y x))
   contracts_plain contexts s k lt e (Communicates (Sends to label arguments)) x y = (grown_plain s _ lt e, λ z d. no_some d)
   contracts_plain contexts s k lt e (Communicates (Serves labels)) x y = serves_plain contexts (oldest_match (labels_served labels (cell s a.active)) a.served 0 requests)
+  contracts_plain contexts s k lt e (Communicates (Polls labels)) x y = (grown_plain s _ lt e, λ z d. no_some d)
   contracts_plain contexts s k lt e Breaks x y = tt
 
   ready_plain : (contexts : List Context) (redex : Redex) → AreBelow (length a.store) (places_of redex) → (r : Ready) → ReadStays a.store r → IsReadFrom (length a.store) r → IntentPlain (elim r [ Lacks f ↦ Rests (Awaits f) | Reads s ↦ contracts requests n a contexts s (contract s redex) ])

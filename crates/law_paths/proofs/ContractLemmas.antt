@@ -2,7 +2,7 @@
 use Rattle.std.specs.Prelude.{◌≡◌, ℕ, ℤ, zero, suc, Bool, true, false, List, [], ◌∷◌, Option, Some, None, length}
 use Rattle.std.proofs.Common.{refl, sym, ap, subst, ◌∙◌}
 use Rattle.asp_model.specs.Names.{Text}
-use Rattle.asp_model.specs.Term.{SignShape, MethodHead, Head, Tree, Trees, node, none, more, child_count, Make, Get, Put, Call, Clone, Active, Serve, Let, Steps, If, Repeat, Operate, Print, Echo, Scatter, Size, Member, WaitAll}
+use Rattle.asp_model.specs.Term.{SignShape, MethodHead, Head, Tree, Trees, node, none, more, child_count, Make, Get, Put, Call, Clone, Active, Serve, Let, Steps, If, Repeat, Operate, Print, Echo, Scatter, Size, Member, WaitAll, Pending}
 use Rattle.asp_model.specs.Term as term
 use Rattle.asp_model.specs.Split.{Redex}
 use Rattle.asp_model.specs.Store.{Store}
@@ -14,7 +14,7 @@ use Rattle.law_paths.specs.Alike.{at_node, AreAlikeBelow, no_more, one_more, Ali
 use Rattle.law_paths.proofs.PairLemmas.{pairs_length, pairs_more}
 use Rattle.law_paths.proofs.AlikeLemmas.{alike_put_in, same_count}
 use Rattle.law_paths.proofs.OnwardLemmas.{Stored, Sides}
-use Rattle.law_paths.proofs.RowsLemmas.{AlikeContractions, serves, breaks, Operand, goes, allot, number, at, get_by, put_by, call_by, active_by, if_by, operate_by, print_by, scatter_by, size_by, member_by, wait_by, fields_alike, methods_alike, remaining_alike}
+use Rattle.law_paths.proofs.RowsLemmas.{AlikeContractions, serves, polls, breaks, Operand, goes, allot, number, at, get_by, put_by, call_by, active_by, if_by, operate_by, print_by, scatter_by, size_by, member_by, wait_by, fields_alike, methods_alike, remaining_alike}
 
 -- how many places and terms behind them a head's row has
 abbrev is_shape : Head → ℕ → ℕ → Bool
@@ -27,6 +27,7 @@ is_shape (Call l) (suc n) zero = true
 is_shape Clone (suc zero) zero = true
 is_shape (Active service) (suc zero) zero = true
 is_shape (Serve labels) zero zero = true
+is_shape (Pending labels) zero zero = true
 is_shape (Let x) (suc zero) (suc zero) = true
 is_shape Steps (suc zero) c = true
 is_shape If (suc zero) (suc (suc zero)) = true
@@ -50,6 +51,7 @@ data View : Head → List ℕ → Trees → Type 0 where
   a_clone : (i : ℕ) → View Clone (i ∷ []) none
   an_active : (service : Option Text) (i : ℕ) → View (Active service) (i ∷ []) none
   a_serve : (labels : List Text) → View (Serve labels) [] none
+  a_pending : (labels : List Text) → View (Pending labels) [] none
   a_let : (x : Text) (i : ℕ) (t : Tree) → View (Let x) (i ∷ []) (more t none)
   some_steps : (i : ℕ) (ts : Trees) → View Steps (i ∷ []) ts
   an_if : (i : ℕ) (t u : Tree) → View If (i ∷ []) (more t (more u none))
@@ -73,6 +75,7 @@ view (Call l) (i ∷ ks) none = a_call l i ks
 view Clone (i ∷ []) none = a_clone i
 view (Active service) (i ∷ []) none = an_active service i
 view (Serve labels) [] none = a_serve labels
+view (Pending labels) [] none = a_pending labels
 view (Let x) (i ∷ []) (more t none) = a_let x i t
 view Steps (i ∷ []) ts = some_steps i ts
 view If (i ∷ []) (more t (more u none)) = an_if i t u
@@ -97,6 +100,7 @@ not_row s (Call l) (i ∷ ks) none e = none_true (sym e)
 not_row s Clone (i ∷ []) none e = none_true (sym e)
 not_row s (Active service) (i ∷ []) none e = none_true (sym e)
 not_row s (Serve labels) [] none e = none_true (sym e)
+not_row s (Pending labels) [] none e = none_true (sym e)
 not_row s (Let x) (i ∷ []) (more t none) e = none_true (sym e)
 not_row s Steps (i ∷ []) ts e = none_true (sym e)
 not_row s If (i ∷ []) (more t (more u none)) e = none_true (sym e)
@@ -124,6 +128,7 @@ module _ (a b : Side) (R : Place → Place → Type 0) (s : Sides a b R) where
   row_by _ _ _ (a_clone i) _ _ (pair r no_pair) no_more (pair x no_pair) = allot a b R s _ _ [] (at a b R s _ _ x)
   row_by _ _ _ (an_active service i) _ _ (pair r no_pair) no_more (pair x no_pair) = active_by a b R s _ _ service _ _ r (at a b R s _ _ x)
   row_by _ _ _ (a_serve labels) _ _ no_pair no_more o = serves labels
+  row_by _ _ _ (a_pending labels) _ _ no_pair no_more o = polls labels
   row_by _ _ _ (a_let x i t) _ _ (pair r no_pair) (one_more e no_more) o = goes a b R s _ _ [] (alike_put_in (Stored R) _ _ _ _ (pair (refl, r) no_pair) e)
   row_by _ _ _ (some_steps i ts) _ us (pair r no_pair) e o = goes a b R s _ _ [] (remaining_alike (Stored R) ts us e)
   row_by _ _ _ (an_if i t u) _ _ (pair r no_pair) (one_more e (one_more d no_more)) (pair x no_pair) = if_by a b R s _ _ _ _ _ _ e d (at a b R s _ _ x)

@@ -72,6 +72,7 @@ pub agrees_itself : (c : Configuration) → Agrees c c
 agrees_itself c = let k = chase c.futures in record {
   activities = λ n. may_itself (ActivitiesAgree k k) (activity_itself k) _;
   requests = λ n. pairs_itself (RequestsAgree k k) (request_itself k) _;
+  logs = λ n. refl;
   values = λ f. may_itself (ParcelsAgree k k) (λ p. alike_itself _ _) _;
 }
 
@@ -79,6 +80,7 @@ pub agrees_back : (c d : Configuration) → Agrees c d → Agrees d c
 agrees_back c d g = let k = chase c.futures in let l = chase d.futures in record {
   activities = λ n. may_flip (ActivitiesAgree k l) (ActivitiesAgree l k) (activity_back k l) _ _ (g.activities n);
   requests = λ n. pairs_flip (RequestsAgree k l) (RequestsAgree l k) (request_back k l) _ _ (g.requests n);
+  logs = λ n. sym (g.logs n);
   values = λ f. may_flip (ParcelsAgree k l) (ParcelsAgree l k) (λ p q x. alike_back _ _ _ _ x) _ _ (g.values f);
 }
 
@@ -86,5 +88,6 @@ pub agrees_then : (c d e : Configuration) → Agrees c d → Agrees d e → Agre
 agrees_then c d e g h = let k = chase c.futures in let l = chase d.futures in let m = chase e.futures in record {
   activities = λ n. may_then (ActivitiesAgree k l) (ActivitiesAgree l m) (ActivitiesAgree k m) (activity_then k l m) _ _ _ (g.activities n) (h.activities n);
   requests = λ n. pairs_join (RequestsAgree k l) (RequestsAgree l m) (RequestsAgree k m) (request_then k l m) _ _ _ (g.requests n) (h.requests n);
+  logs = λ n. g.logs n ∙ h.logs n;
   values = λ f. may_then (ParcelsAgree k l) (ParcelsAgree l m) (ParcelsAgree k m) (λ p q r x y. alike_then _ _ _ _ _ _ x y) _ _ _ (g.values f) (h.values f);
 }

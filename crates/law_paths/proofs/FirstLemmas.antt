@@ -204,6 +204,7 @@ with_store_agrees c n a t at h x =
           (λ apart. subst (λ o. MayBoth (ActivitiesAgree k k) o (find name_cmp m c.activities)) (sym (Maps.find_other name_cmp name_total name_same m n (record a { store = t }) c.activities apart)) (g.activities m))
           (name_case m n);
       requests = g.requests;
+      logs = g.logs;
       values = g.values;
     }
 

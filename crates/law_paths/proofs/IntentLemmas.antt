@@ -1,19 +1,19 @@
 -- Linked activities with requests that agree intend alike.
-use Rattle.std.specs.Prelude.{◌≡◌, ℕ, suc, false, List, [], ◌∷◌, ◌++◌, Option, Some, None, length}
+use Rattle.std.specs.Prelude.{◌≡◌, ℕ, ℤ, suc, true, false, List, [], ◌∷◌, ◌++◌, Option, Some, None, length}
 use Rattle.std.proofs.Common.{refl, ap, subst}
 use Rattle.asp_model.specs.Names.{Name, FutureShape, Text, created_name}
 use Rattle.asp_model.specs.Term.{Tree, node, none, more, Call, Make, loc, locs_then}
 use Rattle.asp_model.specs.Split.{Context, Redex, Split, Stands, Splits, split, plug}
-use Rattle.asp_model.specs.Store.{Reference, Future, Store, cell}
+use Rattle.asp_model.specs.Store.{Number, Reference, Future, Store, cell}
 use Rattle.asp_model.specs.Parcel.{ParcelShape, parcel_of, unpack, unpacked_roots, number_in, visit_order}
-use Rattle.asp_model.specs.Contraction.{Contraction, Becomes, contract, is_future, LineShape}
+use Rattle.asp_model.specs.Contraction.{Contraction, Becomes, contract, truth, is_future, LineShape}
 use Rattle.asp_model.specs.Chase.{Chase}
-use Rattle.asp_model.specs.Configuration.{RequestShape, ServiceShape, Activity, begun}
-use Rattle.asp_model.specs.Intent.{Intent, Acts, Rests, Done, Serving, Awaits, Faulted, Ready, Reads, Lacks, redex_ready, start_term, creates, sends, Numbered, oldest_match, labels_served, serves, newest, filling, ends_service, contracts, intent}
+use Rattle.asp_model.specs.Configuration.{RequestShape, From, Poll, ServiceShape, Activity, begun}
+use Rattle.asp_model.specs.Intent.{Intent, Acts, Rests, Done, Serving, Awaits, Faulted, Ready, Reads, Lacks, redex_ready, start_term, creates, sends, polls, Numbered, oldest_match, labels_served, serves, newest, filling, ends_service, contracts, intent}
 use Rattle.law_steps.proofs.VisitLemmas.{first_number}
 use Rattle.def_paths.specs.Places.{Place, Side, side_by, value_by, name_by}
 use Rattle.def_paths.specs.Agree.{Pairs, no_pair, pair, MayBoth, neither, both, ActivitiesAgree, ParcelsAgree}
-use Rattle.law_paths.specs.Alike.{AreAlike, at_locs, at_node, no_more, one_more, AlikeContexts, AlikeRedexes, AlikeSplits, both_stand, both_split, references}
+use Rattle.law_paths.specs.Alike.{AreAlike, at_locs, at_node, no_more, one_more, AlikeContexts, AlikeRedexes, AlikeSplits, both_stand, both_split, references, numbers}
 use Rattle.law_paths.specs.Agreeing.{IntentsAgree, both_act, both_rest}
 use Rattle.law_paths.proofs.PairLemmas.{pairs_more}
 use Rattle.law_paths.proofs.AlikeLemmas.{alike_split, alike_plug, alike_locs}
@@ -43,8 +43,8 @@ module _ (k l : FutureShape → Chase) (n : Name) (a b : Activity) (R : Place �
   abbrev far : Side
   far = side_by l b.store
 
-  alone_agree : (c d : Activity) → ActivitiesAgree k l c d → IntentsAgree k l (Acts (record { own = c; sent = None; made = None; filled = None })) (Acts (record { own = d; sent = None; made = None; filled = None }))
-  alone_agree c d e = both_act (record { own = e; sent = neither; made = neither; filled = neither })
+  alone_agree : (c d : Activity) → ActivitiesAgree k l c d → IntentsAgree k l (Acts (record { own = c; sent = None; logged = None; made = None; filled = None })) (Acts (record { own = d; sent = None; logged = None; made = None; filled = None }))
+  alone_agree c d e = both_act (record { own = e; sent = neither; logged = refl; made = neither; filled = neither })
 
   -- LOCAL
   module _ (cs ds : List Context) (e : Pairs (AlikeContexts (Stored R)) cs ds) where
@@ -92,6 +92,7 @@ module _ (k l : FutureShape → Chase) (n : Name) (a b : Activity) (R : Place �
           subst (λ m. IntentsAgree k l (creates n a cs s i service) (Acts (record {
             own = record b { term = plug ds (loc (length s')); store = s' ++ Reference (created_name n (suc m)) ∷ []; creations = suc b.creations; reductions = suc b.reductions };
             sent = None;
+            logged = None;
             made = Some (created_name n (suc m), begun (start_term service 0) (unpack [] (parcel_of s' (j ∷ []))));
             filled = None;
           }))) x.counts.creations
@@ -104,6 +105,7 @@ module _ (k l : FutureShape → Chase) (n : Name) (a b : Activity) (R : Place �
               counts = record { present = x.counts.present; sends = x.counts.sends; creations = ap suc x.counts.creations; reductions = ap suc x.counts.reductions; lines = x.counts.lines; served = x.counts.served };
             });
             sent = neither;
+            logged = refl;
             made = both (refl, made_agree service i j r);
             filled = neither;
           }))
@@ -118,6 +120,7 @@ module _ (k l : FutureShape → Chase) (n : Name) (a b : Activity) (R : Place �
           subst (λ m. IntentsAgree k l (sends n a cs s to label xs) (Acts (record {
             own = record b { term = plug ds (loc (length s')); store = s' ++ Future (record { by = n; index = suc m }) ∷ []; sends = suc b.sends; reductions = suc b.reductions };
             sent = Some (to, record { label = label; sender = n; future = record { by = n; index = suc m }; arguments = parcel_of s' ys });
+            logged = Some (to, From n);
             made = None;
             filled = None;
           }))) x.counts.sends
@@ -130,9 +133,36 @@ module _ (k l : FutureShape → Chase) (n : Name) (a b : Activity) (R : Place �
               counts = record { present = x.counts.present; sends = ap suc x.counts.sends; creations = x.counts.creations; reductions = ap suc x.counts.reductions; lines = x.counts.lines; served = x.counts.served };
             });
             sent = both (refl, record { label = refl; sender = refl; future = refl; arguments = packed_alike (side_by k s) (side_by l s') o.rel o.sides xs ys ps });
+            logged = refl;
             made = neither;
             filled = neither;
           }))
+
+      -- POLL
+      polled : (v : ℤ) → IntentsAgree k l
+          (Acts (record { own = record a { term = plug cs (loc (length s)); store = s ++ Number v ∷ []; reductions = suc a.reductions }; sent = None; logged = Some (n, Poll); made = None; filled = None }))
+          (Acts (record { own = record b { term = plug ds (loc (length s')); store = s' ++ Number v ∷ []; reductions = suc b.reductions }; sent = None; logged = Some (n, Poll); made = None; filled = None }))
+      polled v =
+          let w = alike_shows (side_by k s) (side_by l s') o.rel o.sides (Number v) (Number v) (numbers v) in
+          let z = new_onward (side_by k s) (side_by l s') o.rel o.sides (Number v) (Number v) w in
+          let keeps : (i j : ℕ) → Stored R i j → Stored z.rel i j = λ i j r. z.keeps i j (o.keeps i j r) in
+          both_act (record {
+            own = linked_agree k l _ _ z.rel (record {
+              sides = z.sides;
+              active = keeps a.active b.active x.active;
+              term = alike_plug (Stored z.rel) cs ds _ _ (still_contexts (Stored R) (Stored z.rel) keeps cs ds e) (at_locs (new_related (side_by k s) (side_by l s') o.rel o.sides (Number v) (Number v) w) no_more);
+              services = still_services (Stored R) (Stored z.rel) keeps a.services b.services x.services;
+              counts = record { present = x.counts.present; sends = x.counts.sends; creations = x.counts.creations; reductions = ap suc x.counts.reductions; lines = x.counts.lines; served = x.counts.served };
+            });
+            sent = neither;
+            logged = refl;
+            made = neither;
+            filled = neither;
+          })
+
+      polls_agree : (p q : Option Numbered) → MayBoth (NumberedAgree k l) p q → IntentsAgree k l (polls n a cs s p) (polls n b ds s' q)
+      polls_agree _ _ neither = polled (truth false)
+      polls_agree _ _ (both m) = polled (truth true)
 
     -- SERVE
     serves_agree : (o p : Option Numbered) → MayBoth (NumberedAgree k l) o p → IntentsAgree k l (serves a cs o) (serves b ds p)
@@ -177,6 +207,7 @@ module _ (k l : FutureShape → Chase) (n : Name) (a b : Activity) (R : Place �
       counts = record { present = e.future; sends = x.counts.sends; creations = x.counts.creations; reductions = ap suc x.counts.reductions; lines = x.counts.lines; served = x.counts.served };
     });
     sent = neither;
+    logged = refl;
     made = neither;
     filled = fills i j r a.present b.present x.counts.present;
   })
@@ -191,6 +222,11 @@ module _ (k l : FutureShape → Chase) (n : Name) (a b : Activity) (R : Place �
     contracts_agree cs ds e s s' o act _ _ (rows.serves labels) =
         let same = served_alike (Stored o.rel) labels (cell s a.active) (cell s' b.active) (cells_at (side_by k s) (side_by l s') o.rel o.sides a.active b.active act.related act.left act.right) in
         serves_agree cs ds e _ _ (subst (λ w. MayBoth (NumberedAgree k l) (oldest_match (labels_served labels (cell s a.active)) a.served 0 rs) (oldest_match w b.served 0 ss)) same
+        (subst (λ w. MayBoth (NumberedAgree k l) (oldest_match (labels_served labels (cell s a.active)) a.served 0 rs) (oldest_match (labels_served labels (cell s a.active)) w 0 ss)) x.counts.served
+        (match_alike k l (labels_served labels (cell s a.active)) a.served 0 rs ss ps)))
+    contracts_agree cs ds e s s' o act _ _ (rows.polls labels) =
+        let same = served_alike (Stored o.rel) labels (cell s a.active) (cell s' b.active) (cells_at (side_by k s) (side_by l s') o.rel o.sides a.active b.active act.related act.left act.right) in
+        polls_agree cs ds e s s' o _ _ (subst (λ w. MayBoth (NumberedAgree k l) (oldest_match (labels_served labels (cell s a.active)) a.served 0 rs) (oldest_match w b.served 0 ss)) same
         (subst (λ w. MayBoth (NumberedAgree k l) (oldest_match (labels_served labels (cell s a.active)) a.served 0 rs) (oldest_match (labels_served labels (cell s a.active)) w 0 ss)) x.counts.served
         (match_alike k l (labels_served labels (cell s a.active)) a.served 0 rs ss ps)))
     contracts_agree cs ds e s s' o act _ _ breaks = both_rest Done

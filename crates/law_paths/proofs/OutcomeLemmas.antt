@@ -7,9 +7,9 @@ use Rattle.std.specs.FinMap.Entries.{same_entries}
 use Rattle.asp_model.specs.Names.{Name, name_cmp, future_cmp}
 use Rattle.asp_model.specs.Term.{Loc, Tree}
 use Rattle.asp_model.specs.Chase.{Values, chase}
-use Rattle.asp_model.specs.Configuration.{RequestShape, Activity, Configuration, requests_of}
+use Rattle.asp_model.specs.Configuration.{RequestShape, Activity, Configuration, log_of}
 use Rattle.asp_model.specs.Intent.{StatusShape, Done, Serving, Running, Awaits, Faulted}
-use Rattle.asp_model.specs.Replay.{lists_of, counts_of, log_of}
+use Rattle.asp_model.specs.Replay.{lists_of, counts_of}
 use Rattle.asp_model.specs.Status.{status_of, statuses_of, verdict_among}
 use Rattle.asp_model.specs.Report.{verdict_line, activity_lines}
 use Rattle.law_steps.proofs.NameLemmas.{name_total, name_same}
@@ -52,7 +52,7 @@ module _ (c d : Configuration) (sorted : T (is_sorted name_cmp c.activities)) (s
   senders_same _ _ (pair r rs) = λ i. r.sender i ∷ senders_same _ _ rs i
 
   log_same : (q : Name) → log_of c q ≡ log_of d q
-  log_same q = senders_same (requests_of c q) (requests_of d q) (g.requests q)
+  log_same q = g.logs q
 
   pub lists_same : lists_of c ≡ lists_of d
   lists_same = same_entries name_cmp name_total name_same _ _ (sorted_mapped (λ x. log_of c x.0) c.activities sorted) (sorted_mapped (λ x. log_of d x.0) d.activities sorted') (λ q. same_entry (λ x. log_of c x.0) (λ x. log_of d x.0) q (λ a b x. log_same q))
@@ -139,4 +139,4 @@ all_shown depth vs ws _ _ no_pair = refl
 all_shown depth vs ws _ _ (pair g gs) = (λ i. ends_shown depth vs ws _ _ g i ++ all_shown depth vs ws _ _ gs i)
 
 pub reports_agree : ReportsAgree
-reports_agree depth o p g = (λ i. codes "asp report 1" ∷ verdict_line (g.verdict i) ∷ all_shown depth o.futures p.futures o.ends p.ends g.ends i)
+reports_agree depth o p g = (λ i. codes "asp report 2" ∷ verdict_line (g.verdict i) ∷ all_shown depth o.futures p.futures o.ends p.ends g.ends i)

@@ -2,12 +2,13 @@
 use Rattle.std.specs.Prelude.{◌≡◌, true, false, List, [], None}
 use Rattle.std.proofs.Common.{sym, ap, subst, ◌∙◌}
 use Rattle.std.specs.List.{list_any, starts_with}
-use Rattle.asp_model.specs.Names.{Name, same_name}
+use Rattle.asp_model.specs.Names.{Name}
+use Rattle.asp_model.specs.Step.{same_reception}
 use Rattle.asp_model.specs.Term.{Tree, locations}
 use Rattle.asp_model.specs.Configuration.{Configuration, start}
-use Rattle.asp_model.specs.Replay.{lists_of, counts_of, senders_in, AreCompatible, joined_lists, joined_counts, replay, Fits}
+use Rattle.asp_model.specs.Replay.{lists_of, counts_of, log_in, AreCompatible, joined_lists, joined_counts, replay, Fits}
 use Rattle.asp_model.specs.Status.{statuses_of, is_running, IsStuck, verdict_among}
-use Rattle.law_steps.specs.Joins.{AreCompatibleRuns, lists_of_both, counts_of_both, HasOneSender, IsOneSenderEnd}
+use Rattle.law_steps.specs.Joins.{AreCompatibleRuns, lists_of_both, counts_of_both, is_narrow, IsOneSenderEnd}
 use Rattle.law_steps.specs.Reached.{IsReached, RunsTo}
 use Rattle.law_steps.proofs.JoinLaws.{joined_fits, stuck_is_joined}
 use Rattle.law_steps.proofs.SenderLemmas.{one_sender_bounds, one_sender_ends}
@@ -16,7 +17,7 @@ use Rattle.law_journals.proofs.JournalLemmas.{journals_reach}
 use Rattle.def_paths.specs.Agree.{Agrees}
 use Rattle.def_paths.specs.Outcomes.{whole_outcome_of}
 use Rattle.law_paths.specs.Whole.{IsWhole}
-use Rattle.law_paths.specs.Correct.{IsReplayed, ReachedAreReplayed, JournalsAreReplayed, ReachedJoin, OneSenderIsEnough}
+use Rattle.law_paths.specs.Correct.{IsReplayed, ReachedAreReplayed, JournalsAreReplayed, ReachedJoin, OneSenderIsEnough, NarrowRunsAreAlone}
 use Rattle.law_paths.proofs.EquivalenceLemmas.{agrees_itself, agrees_back, agrees_then}
 use Rattle.law_paths.proofs.WholeLemmas.{start_is_whole}
 use Rattle.law_paths.proofs.FollowLemmas.{moves_are_followed}
@@ -91,10 +92,23 @@ reached_join program c d none reached other compatible =
     )
 
 pub one_sender_is_enough : OneSenderIsEnough
-one_sender_is_enough program c d none reached other stuck one =
+one_sender_is_enough program c d none reached other stuck narrow =
     let x = mirrored program c none reached in
     let y = mirrored program d none other in
-    let end : IsOneSenderEnd program x.end = record { names = x.names; run = x.run; stuck = still_stuck program c x stuck; one = λ m. subst (λ l. HasOneSender (senders_in l m)) x.lists (one m) } in (
-      λ m. subst (λ l. starts_with same_name (senders_in l m) (senders_in (lists_of d) m) ≡ true) (sym x.lists) (subst (λ l. starts_with same_name (senders_in (lists_of x.end) m) (senders_in l m) ≡ true) (sym y.lists) (one_sender_bounds program x.end y.end y.names end y.run m)),
-      λ stuck'. agrees_then d y.end c y.agrees (subst (λ z. Agrees z c) (sym (one_sender_ends program x.end y.end y.names end y.run (still_stuck program d y stuck'))) (agrees_back c x.end x.agrees)),
-    )
+    let end : IsOneSenderEnd program x.end = record { names = x.names; run = x.run; stuck = still_stuck program c x stuck; one = λ m. subst (λ l. is_narrow (log_in l m) ≡ true) x.lists (narrow m) } in
+    record {
+      lists = λ m. subst (λ l. starts_with same_reception (log_in l m) (log_in (lists_of d) m) ≡ true) (sym x.lists) (subst (λ l. starts_with same_reception (log_in (lists_of x.end) m) (log_in l m) ≡ true) (sym y.lists) (one_sender_bounds program x.end y.end y.names end y.run m));
+      end = λ stuck'.
+          let same : y.end ≡ x.end = one_sender_ends program x.end y.end y.names end y.run (still_stuck program d y stuck') in
+          let agrees : Agrees d c = agrees_then d y.end c y.agrees (subst (λ z. Agrees z c) (sym same) (agrees_back c x.end x.agrees)) in
+          record {
+            lists = y.lists ∙ ap lists_of same ∙ sym x.lists;
+            counts = y.counts ∙ ap counts_of same ∙ sym x.counts;
+            agrees = agrees;
+            verdict = ap verdict_among (y.statuses ∙ ap statuses_of same ∙ sym x.statuses);
+            reports = λ depth. reports_agree depth (whole_outcome_of d) (whole_outcome_of c) (ends_of_both_agree d c y.whole x.whole agrees);
+          };
+    }
+
+pub narrow_runs_are_alone : NarrowRunsAreAlone
+narrow_runs_are_alone program c none reached stuck narrow budget journal s e = one_sender_is_enough program c s.configuration none reached (journals_reach program budget journal s e) stuck narrow

@@ -5,7 +5,7 @@ use Rattle.asp_model.specs.Names.{Name, Text, same_text}
 use Rattle.asp_model.specs.Term.{SignShape, Add, Subtract, Multiply, Divide, Remainder, Less, Equal, MethodHead, Head, Loc, Hole, Var, Tree, Trees, node, none, more, loc, locs_then, own_locations, child_count, Make, Get, Put, Call, Clone, Active, Serve, Let, Steps, If, Repeat, Operate, Print, Echo, Scatter, Size, Member, WaitAll, Environment}
 use Rattle.asp_model.specs.Term as term
 use Rattle.asp_model.specs.Store.{MethodShape, Field, CellShape, Number, Group, Store, cell}
-use Rattle.asp_model.specs.Contraction.{Contraction, Becomes, Faults, Needs, Communicates, Breaks, Creates, Sends, Serves, LineShape, NumberLine, TextLine, row, is_future, strict_operands}
+use Rattle.asp_model.specs.Contraction.{Contraction, Becomes, Faults, Needs, Communicates, Breaks, Creates, Sends, Serves, Polls, LineShape, NumberLine, TextLine, row, is_future, strict_operands}
 use Rattle.asp_model.specs.Contraction as rows
 use Rattle.def_paths.specs.Places.{Place, Side}
 use Rattle.def_paths.specs.Agree.{Pairs, no_pair, pair, MayBoth, neither, both}
@@ -22,6 +22,7 @@ pub data AlikeContractions (a b : Side) (R : Place → Place → Type 0) : Contr
   creates : {i j : ℕ} (service : Option Text) → Stored R i j → AlikeContractions a b R (Communicates (Creates i service)) (Communicates (Creates j service))
   sends : (to : Name) (label : Text) {xs ys : List ℕ} → Pairs (Stored R) xs ys → AlikeContractions a b R (Communicates (Sends to label xs)) (Communicates (Sends to label ys))
   serves : (labels : List Text) → AlikeContractions a b R (Communicates (Serves labels)) (Communicates (Serves labels))
+  polls : (labels : List Text) → AlikeContractions a b R (Communicates (Polls labels)) (Communicates (Polls labels))
   breaks : AlikeContractions a b R Breaks Breaks
 
 -- Objects, bindings and groups

@@ -6,9 +6,9 @@ use Rattle.asp_model.specs.Names.{Name, FutureShape, name_cmp, future_cmp}
 use Rattle.asp_model.specs.Store.{Store}
 use Rattle.asp_model.specs.Parcel.{ParcelShape}
 use Rattle.asp_model.specs.Chase.{Values, Chase, Unfilled, lead_of, walk_end, chase}
-use Rattle.asp_model.specs.Configuration.{RequestShape, Activity, Configuration, or_none, requests_of}
+use Rattle.asp_model.specs.Configuration.{RequestShape, ReceptionShape, Activity, Configuration, or_none, requests_of, log_of}
 use Rattle.asp_model.specs.Intent.{Intent, Acts, Rests, Effect, intent, Done}
-use Rattle.asp_model.specs.Step.{ListsShape, intent_in, put_some, with_sent, with_effect, is_named, name_at, names_or_none, is_next, may_send, step}
+use Rattle.asp_model.specs.Step.{ListsShape, intent_in, put_some, with_last, with_effect, reception_at, is_reception, is_next, may_log, step}
 use Rattle.asp_model.specs.Status.{status_of_intent, status_of}
 use Rattle.law_steps.specs.Linked.{Each}
 use Rattle.law_steps.specs.Reached.{IsAt}
@@ -24,7 +24,7 @@ use Rattle.def_paths.specs.Places.{side_by, AreReadAlike, value_by, name_by}
 use Rattle.def_paths.specs.Agree.{Pairs, no_pair, pair, MayBoth, neither, both, roots_of, ActivitiesAgree, ParcelsAgree, RequestsAgree, Agrees}
 use Rattle.law_paths.specs.Agreeing.{EffectsAgree, IntentsAgree, both_act, both_rest}
 use Rattle.law_paths.proofs.FitLemmas.{IsFit, SecondFit, StatusesFit}
-use Rattle.law_paths.proofs.PairLemmas.{pairs_length, pairs_more}
+use Rattle.law_paths.proofs.PairLemmas.{pairs_more}
 use Rattle.law_paths.proofs.ActivityLemmas.{roots_below, agree_linked, OnePathOf}
 use Rattle.law_paths.proofs.StatusLemmas.{ValuesClosed, side_closed}
 use Rattle.law_paths.proofs.StillLemmas.{PendingAgree}
@@ -49,6 +49,7 @@ requests_closed c h n = each_at (λ r. IsClosedParcel r.arguments) (requests_of 
 pub record AgreeUnder (k l : FutureShape → Chase) (c d : Configuration) : Type 0 where
   pub activities : (n : Name) → MayBoth (ActivitiesAgree k l) (find name_cmp n c.activities) (find name_cmp n d.activities)
   pub requests : (n : Name) → Pairs (RequestsAgree k l) (requests_of c n) (requests_of d n)
+  pub logs : (n : Name) → log_of c n ≡ log_of d n
   pub values : (f : FutureShape) → MayBoth (ParcelsAgree k l) (find future_cmp f c.futures) (find future_cmp f d.futures)
 
 -- entries that are put on both sides
@@ -79,30 +80,45 @@ module _ (k l : FutureShape → Chase) where
 
   -- the requests of an activity when one is sent
   sent_same : (z y : Name × RequestShape) → z.0 ≡ y.0 → RequestsAgree k l z.1 y.1 → (bs cs : List (Name × List RequestShape)) → ((m : Name) → Pairs (RequestsAgree k l) (or_none (find name_cmp m bs)) (or_none (find name_cmp m cs)))
-      → (m : Name) → Pairs (RequestsAgree k l) (or_none (find name_cmp m (with_sent (Some z) bs))) (or_none (find name_cmp m (with_sent (Some y) cs)))
+      → (m : Name) → Pairs (RequestsAgree k l) (or_none (find name_cmp m (with_last (Some z) bs))) (or_none (find name_cmp m (with_last (Some y) cs)))
   sent_same z y e r bs cs to m =
       let rs = or_none (find name_cmp z.0 bs) ++ z.1 ∷ [] in
       let ss = or_none (find name_cmp y.0 cs) ++ y.1 ∷ [] in
       ⊎_elim
       (λ same.
-      let left : find name_cmp m (with_sent (Some z) bs) ≡ Some rs = ap (λ x. find name_cmp x (put name_cmp z.0 rs bs)) same ∙ Maps.find_same name_cmp name_total name_same z.0 rs bs in
-      let right : find name_cmp m (with_sent (Some y) cs) ≡ Some ss = ap (λ x. find name_cmp x (put name_cmp y.0 ss cs)) (same ∙ e) ∙ Maps.find_same name_cmp name_total name_same y.0 ss cs in
-      subst (λ o. Pairs (RequestsAgree k l) (or_none o) (or_none (find name_cmp m (with_sent (Some y) cs)))) (sym left) (subst (λ o. Pairs (RequestsAgree k l) rs (or_none o)) (sym right)
+      let left : find name_cmp m (with_last (Some z) bs) ≡ Some rs = ap (λ x. find name_cmp x (put name_cmp z.0 rs bs)) same ∙ Maps.find_same name_cmp name_total name_same z.0 rs bs in
+      let right : find name_cmp m (with_last (Some y) cs) ≡ Some ss = ap (λ x. find name_cmp x (put name_cmp y.0 ss cs)) (same ∙ e) ∙ Maps.find_same name_cmp name_total name_same y.0 ss cs in
+      subst (λ o. Pairs (RequestsAgree k l) (or_none o) (or_none (find name_cmp m (with_last (Some y) cs)))) (sym left) (subst (λ o. Pairs (RequestsAgree k l) rs (or_none o)) (sym right)
       (pairs_more (RequestsAgree k l) _ _ _ _ (subst (λ x. Pairs (RequestsAgree k l) (or_none (find name_cmp z.0 bs)) (or_none (find name_cmp x cs))) e (to z.0)) (pair r no_pair))))
-      (λ apart. subst (λ o. Pairs (RequestsAgree k l) (or_none o) (or_none (find name_cmp m (with_sent (Some y) cs)))) (sym (Maps.find_other name_cmp name_total name_same m z.0 rs bs apart))
+      (λ apart. subst (λ o. Pairs (RequestsAgree k l) (or_none o) (or_none (find name_cmp m (with_last (Some y) cs)))) (sym (Maps.find_other name_cmp name_total name_same m z.0 rs bs apart))
       (subst (λ o. Pairs (RequestsAgree k l) (or_none (find name_cmp m bs)) (or_none o)) (sym (Maps.find_other name_cmp name_total name_same m y.0 ss cs (λ d. apart (d ∙ sym e)))) (to m)))
       (name_case m z.0)
 
   sent_both : (o p : Option (Name × RequestShape)) → MayBoth {A = Name × RequestShape} {B = Name × RequestShape} (λ x y. (x.0 ≡ y.0) × RequestsAgree k l x.1 y.1) o p → (bs cs : List (Name × List RequestShape)) → ((m : Name) → Pairs (RequestsAgree k l) (or_none (find name_cmp m bs)) (or_none (find name_cmp m cs)))
-      → (m : Name) → Pairs (RequestsAgree k l) (or_none (find name_cmp m (with_sent o bs))) (or_none (find name_cmp m (with_sent p cs)))
+      → (m : Name) → Pairs (RequestsAgree k l) (or_none (find name_cmp m (with_last o bs))) (or_none (find name_cmp m (with_last p cs)))
   sent_both _ _ neither bs cs to m = to m
   sent_both _ _ (both {x = z} {y = y} r) bs cs to m = sent_same z y r.0 r.1 bs cs to m
+
+  -- the logs when one reception more is noted
+  logged_same : (o : Option (Name × ReceptionShape)) (bs cs : List (Name × List ReceptionShape)) → ((m : Name) → or_none (find name_cmp m bs) ≡ or_none (find name_cmp m cs))
+      → (m : Name) → or_none (find name_cmp m (with_last o bs)) ≡ or_none (find name_cmp m (with_last o cs))
+  logged_same None bs cs to m = to m
+  logged_same (Some z) bs cs to m =
+      let rs = or_none (find name_cmp z.0 bs) ++ z.1 ∷ [] in
+      let ss = or_none (find name_cmp z.0 cs) ++ z.1 ∷ [] in
+      ⊎_elim
+      (λ same. ap (λ x. or_none (find name_cmp x (put name_cmp z.0 rs bs))) same ∙ ap or_none (Maps.find_same name_cmp name_total name_same z.0 rs bs)
+      ∙ ap (λ l. l ++ z.1 ∷ []) (to z.0)
+      ∙ sym (ap (λ x. or_none (find name_cmp x (put name_cmp z.0 ss cs))) same ∙ ap or_none (Maps.find_same name_cmp name_total name_same z.0 ss cs)))
+      (λ apart. ap or_none (Maps.find_other name_cmp name_total name_same m z.0 rs bs apart) ∙ to m ∙ sym (ap or_none (Maps.find_other name_cmp name_total name_same m z.0 ss cs apart)))
+      (name_case m z.0)
 
   -- effects that agree, on configurations that do
   effects_under : (c d : Configuration) (n : Name) (e e' : Effect) → EffectsAgree k l e e' → AgreeUnder k l c d → AgreeUnder k l (with_effect n e c) (with_effect n e' d)
   effects_under c d n e e' x g = record {
     activities = made_both e.made e'.made x.made _ _ (put_both (ActivitiesAgree k l) n e.own e'.own c.activities d.activities x.own g.activities);
     requests = sent_both e.sent e'.sent x.sent c.received d.received g.requests;
+    logs = λ m. logged_same e.logged c.logs d.logs g.logs m ∙ ap (λ o. or_none (find name_cmp m (with_last o d.logs))) x.logged;
     values = filled_both e.filled e'.filled x.filled c.futures d.futures g.values;
   }
 
@@ -141,16 +157,17 @@ module _ (c d : Configuration) (k l k' l' : FutureShape → Chase) (hc : IsClose
   under_reread g = record {
     activities = λ n. activities_reread n _ _ refl refl (g.activities n);
     requests = λ n. pairs_with (RequestsAgree k l) (RequestsAgree k' l') (λ r. IsClosedParcel r.arguments) (λ r. IsClosedParcel r.arguments) request_reread _ _ (g.requests n) (requests_closed c hc n) (requests_closed d hd n);
+    logs = g.logs;
     values = λ f. values_reread f _ _ refl refl (g.values f);
   }
 
 -- Steps
 
 under_agrees : (c d : Configuration) → AgreeUnder (chase c.futures) (chase d.futures) c d → Agrees c d
-under_agrees c d g = record { activities = g.activities; requests = g.requests; values = g.values }
+under_agrees c d g = record { activities = g.activities; requests = g.requests; logs = g.logs; values = g.values }
 
 agrees_under : (c d : Configuration) → Agrees c d → AgreeUnder (chase c.futures) (chase d.futures) c d
-agrees_under c d g = record { activities = g.activities; requests = g.requests; values = g.values }
+agrees_under c d g = record { activities = g.activities; requests = g.requests; logs = g.logs; values = g.values }
 
 module _ (c d : Configuration) (fc : IsFit c) (fd : IsFit d) (g : Agrees c d) (n : Name) where
   abbrev k : FutureShape → Chase
@@ -226,9 +243,9 @@ module _ (c d : Configuration) (fc : IsFit c) (fd : IsFit d) (g : Agrees c d) (n
   statuses_alike = statuses_by _ _ refl refl (g.activities n)
 
   -- who may send in the one may send in the other
-  may_too : (lists : Option ListsShape) (o p : Option (Name × RequestShape)) → MayBoth {A = Name × RequestShape} {B = Name × RequestShape} (λ x y. (x.0 ≡ y.0) × RequestsAgree k l x.1 y.1) o p → may_send lists c n o ≡ may_send lists d n p
-  may_too lists _ _ neither = refl
-  may_too lists _ _ (both {x = x} {y = y} r) = (λ i. there x.0 i && next lists i) ∙ ap (λ z. is_some (find name_cmp z d.activities) && is_next lists d z n) r.0
+  may_too : (lists : Option ListsShape) (o : Option (Name × ReceptionShape)) → may_log lists c o ≡ may_log lists d o
+  may_too lists None = refl
+  may_too lists (Some x) = λ i. there x.0 i && next lists i
     where
       is_there_too : (o p : Option Activity) → MayBoth (ActivitiesAgree k l) o p → is_some o ≡ is_some p
       is_there_too _ _ neither = refl
@@ -237,9 +254,9 @@ module _ (c d : Configuration) (fc : IsFit c) (fd : IsFit d) (g : Agrees c d) (n
       there : (m : Name) → is_some (find name_cmp m c.activities) ≡ is_some (find name_cmp m d.activities)
       there m = is_there_too _ _ (g.activities m)
 
-      next : (lists : Option ListsShape) → is_next lists c x.0 n ≡ is_next lists d x.0 n
+      next : (lists : Option ListsShape) → is_next lists c x.0 x.1 ≡ is_next lists d x.0 x.1
       next None = refl
-      next (Some ls) = ap (λ k. is_named n (name_at (names_or_none (find name_cmp x.0 ls)) k)) (pairs_length (RequestsAgree k l) _ _ (g.requests x.0))
+      next (Some ls) = ap (λ ys. is_reception x.1 (reception_at (or_none (find name_cmp x.0 ls)) (length ys))) (g.logs x.0)
 
   module _ (e e' : Effect) (intends : intent_in c n ≡ Acts e) (intends' : intent_in d n ≡ Acts e') (x : EffectsAgree k l e e') where
     abbrev c1 : Configuration
@@ -289,7 +306,7 @@ module _ (c d : Configuration) (fc : IsFit c) (fd : IsFit d) (g : Agrees c d) (n
   steps_too : (lists : Option ListsShape) (e : Effect) → Takes lists c n e → (d' : Configuration) × (step lists d n ≡ Some d') × Agrees (with_effect n e c) d'
   steps_too lists e t =
       let f = follows e t.intends in
-      (with_effect n f.0 d, takes_step lists d n f.0 (record { intends = f.1; may = sym (may_too lists e.sent f.0.sent f.2.sent) ∙ t.may }), results e f.0 t.intends f.1 f.2)
+      (with_effect n f.0 d, takes_step lists d n f.0 (record { intends = f.1; may = sym (may_too lists e.logged ∙ ap (may_log lists d) f.2.logged) ∙ t.may }), results e f.0 t.intends f.1 f.2)
 
 pub second_law : SecondFit
 second_law c d c' lists n fc fd g is =

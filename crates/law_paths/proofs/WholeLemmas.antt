@@ -21,7 +21,8 @@ use Rattle.law_chases.proofs.ChaseLemmas.{chase_finds}
 use Rattle.law_steps.proofs.LinkedLemmas.{acting, found_after}
 use Rattle.law_steps.proofs.DeliveryLemmas.{found_delivered, edge_done, need_done}
 use Rattle.law_steps.proofs.WholeLemmas.{start_is_sound, moves_keep_sound, start_is_closed, moves_keep_closed}
-use Rattle.law_paths.specs.Whole.{IsWhole, StartIsWhole, MovesKeepWhole, ReachedAreWhole}
+use Rattle.law_paths.specs.Whole.{IsWhole, StartIsWhole, MovesKeepWhole, ReachedAreWhole, EntriesKeepWhole}
+use Rattle.law_journals.proofs.JournalLemmas.{entries_keep}
 use Rattle.law_paths.proofs.FitLemmas.{whole_fit}
 use Rattle.law_paths.proofs.ActiveLemmas.{ActivePlain, EffectPlain, acts_plain}
 use Rattle.law_paths.proofs.FirstLemmas.{Unchanged, edge_unchanged, need_unchanged}
@@ -80,3 +81,6 @@ all_keep_whole (m ∷ moves) c d w h = all_keep_whole moves h.0 d (moves_keep_wh
 
 pub reached_are_whole : ReachedAreWhole
 reached_are_whole program c none r = all_keep_whole r.moves (start program) c (start_is_whole program none) r.run
+
+pub entries_keep_whole : EntriesKeepWhole
+entries_keep_whole entries s t e w = entries_keep IsWhole moves_keep_whole entries s t e w

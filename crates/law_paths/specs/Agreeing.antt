@@ -12,6 +12,7 @@ pub record EffectsAgree (k l : FutureShape → Chase) (e d : Effect) : Type 0 wh
   pub own : ActivitiesAgree k l e.own d.own
   pub sent : MayBoth {A = Name × RequestShape} {B = Name × RequestShape}
       (λ x y. (x.0 ≡ y.0) × RequestsAgree k l x.1 y.1) e.sent d.sent
+  pub logged : e.logged ≡ d.logged
   pub made : MayBoth {A = Name × Activity} {B = Name × Activity}
       (λ x y. (x.0 ≡ y.0) × ActivitiesAgree k l x.1 y.1) e.made d.made
   pub filled : MayBoth {A = FutureShape × ParcelShape} {B = FutureShape × ParcelShape}

@@ -1,11 +1,13 @@
 -- What every configuration has that the start of a program which was read leads to. Each move keeps it, so a later
 -- run may begin from any configuration that has it.
-use Rattle.std.specs.Prelude.{◌≡◌, false, []}
+use Rattle.std.specs.Prelude.{◌≡◌, false, List, [], Some}
 use Rattle.asp_model.specs.Names.{Name}
 use Rattle.asp_model.specs.Term.{Tree, locations}
 use Rattle.asp_model.specs.Store.{cell}
 use Rattle.asp_model.specs.Contraction.{is_future}
 use Rattle.asp_model.specs.Configuration.{Activity, Configuration, start}
+use Rattle.asp_model.specs.History.{EntryShape}
+use Rattle.def_journals.specs.Journals.{RunShape, all_entered}
 use Rattle.law_steps.specs.Reached.{Move, Makes, IsReached, IsAt}
 use Rattle.law_steps.specs.Closed.{IsClosed}
 use Rattle.law_steps.specs.Sound.{IsSound}
@@ -26,3 +28,8 @@ MovesKeepWhole = (move : Move) (c d : Configuration) → IsWhole c → Makes mov
 abbrev pub ReachedAreWhole : Type 0
 ReachedAreWhole = (program : Tree) (c : Configuration)
     → locations program ≡ [] → IsReached program c → IsWhole c
+
+-- and so each entry of a journal, from any run on
+abbrev pub EntriesKeepWhole : Type 0
+EntriesKeepWhole = (entries : List EntryShape) (s t : RunShape) → all_entered entries s ≡ Some t
+    → IsWhole s.configuration → IsWhole t.configuration

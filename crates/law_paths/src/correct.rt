@@ -1,6 +1,6 @@
 //! The central theorem, for whatever steps and deliveries reach, and for lawful journals.
 
-ghost use Rattle.law_paths.specs.Correct.{JournalsAreReplayed, OneSenderIsEnough, ReachedAreReplayed, ReachedJoin};
+ghost use Rattle.law_paths.specs.Correct.{JournalsAreReplayed, NarrowRunsAreAlone, OneSenderIsEnough, ReachedAreReplayed, ReachedJoin};
 
 /// Whatever steps and deliveries reach agrees with the replay of its own lists and counts, which
 /// fit; with equal statuses, verdict and reports.
@@ -19,8 +19,13 @@ pub fn reached_join()
     ensures { ReachedJoin }
 {}
 
-/// Beside a stuck one with one sender to each receiver, each other has beginnings of its lists, and
-/// each other stuck one agrees with it.
+/// Beside a stuck one whose logs are narrow, each other that is reached has beginnings of its logs,
+/// and each other stuck one ends as it does, with equal reports.
 pub fn one_sender_is_enough()
     ensures { OneSenderIsEnough }
+{}
+
+/// So for the run of every lawful journal of the program.
+pub fn narrow_runs_are_alone()
+    ensures { NarrowRunsAreAlone }
 {}

@@ -4,7 +4,7 @@ use Rattle.std.proofs.Common.{refl, sym, ap, ◌∙◌}
 use Rattle.asp_model.specs.Names.{Name}
 use Rattle.asp_model.specs.Split.{Context, Redex, Split, Stands, Splits, split}
 use Rattle.asp_model.specs.Store.{Store, cell}
-use Rattle.asp_model.specs.Contraction.{Contraction, Becomes, Faults, Needs, Communicates, Breaks, Creates, Sends, Serves, contract}
+use Rattle.asp_model.specs.Contraction.{Contraction, Becomes, Faults, Needs, Communicates, Breaks, Creates, Sends, Serves, Polls, contract}
 use Rattle.asp_model.specs.Chase.{chase}
 use Rattle.asp_model.specs.Configuration.{RequestShape, ServiceShape, Activity, Configuration, requests_of}
 use Rattle.asp_model.specs.Intent.{Rests, Done, Awaits, Ready, Reads, Lacks, Numbered, redex_ready, serves, oldest_match, labels_served, newest, ends_service, contracts}
@@ -33,6 +33,7 @@ module _ (c : Configuration) (h : IsWhole c) (n : Name) (a : Activity) (at : IsA
   going_on contexts s (Communicates (Creates object service)) f e = cc
   going_on contexts s (Communicates (Sends to label arguments)) f e = cc
   going_on contexts s (Communicates (Serves labels)) f e = serving contexts (oldest_match (labels_served labels (cell s a.active)) a.served 0 requests) e
+  going_on contexts s (Communicates (Polls labels)) f e = cc
   going_on contexts s Breaks f e = absurd f
 
   reading : (contexts : List Context) (redex : Redex) → split a.term ≡ Splits contexts redex → (r : Ready) → redex_ready (chase c.futures) a.store redex ≡ r → status_of_intent (elim r [ Lacks f ↦ Rests (Awaits f) | Reads s ↦ contracts requests n a contexts s (contract s redex) ]) ≡ Done → HasEnded a

@@ -1,15 +1,15 @@
 -- A proper activity, over proper requests and values, leaves and gives what is proper.
-use Rattle.std.specs.Prelude.{◌≡◌, ℕ, suc, ◌+◌, List, [], ◌∷◌, Option, Some, None, length, map, slice_get}
+use Rattle.std.specs.Prelude.{◌≡◌, ℕ, suc, ◌+◌, List, [], ◌∷◌, Option, Some, None, length, map, is_some, slice_get}
 use Rattle.std.proofs.Common.{refl, subst, arith}
 use Rattle.asp_model.specs.Names.{Name, FutureShape, Text, created_name}
 use Rattle.asp_model.specs.Term.{leaf, none, Make, loc}
 use Rattle.asp_model.specs.Split.{Context, Redex, Split, Stands, Splits, split}
 use Rattle.asp_model.specs.Store.{CellShape, Number, Object, Reference, Future, Group, Store, cell, moved_cell}
 use Rattle.asp_model.specs.Parcel.{ParcelShape, parcel_of, unpack, unpacked_roots, place_at}
-use Rattle.asp_model.specs.Contraction.{Contraction, Becomes, Faults, Needs, Communicates, Breaks, Creates, Sends, Serves, contract, strict_operands, strict_members}
+use Rattle.asp_model.specs.Contraction.{Contraction, Becomes, Faults, Needs, Communicates, Breaks, Creates, Sends, Serves, Polls, contract, truth, strict_operands, strict_members}
 use Rattle.asp_model.specs.Chase.{Chase, Value, Unfilled, Cycle}
 use Rattle.asp_model.specs.Configuration.{RequestShape, ServiceShape, Activity, begun}
-use Rattle.asp_model.specs.Intent.{Intent, Acts, Rests, Awaits, Effect, Ready, Reads, Lacks, fetched, operand_ready, operands_ready, redex_ready, start_term, creates, sends, Numbered, oldest_match, labels_served, serves, newest, but_newest, filling, ends_service, contracts, intent}
+use Rattle.asp_model.specs.Intent.{Intent, Acts, Rests, Awaits, Effect, Ready, Reads, Lacks, fetched, operand_ready, operands_ready, redex_ready, start_term, creates, sends, polls, Numbered, oldest_match, labels_served, serves, newest, but_newest, filling, ends_service, contracts, intent}
 use Rattle.law_steps.specs.Linked.{Each}
 use Rattle.law_chases.proofs.FutureLemmas.{no_some, some_is}
 use Rattle.law_steps.proofs.FactLemmas.{match_is}
@@ -46,7 +46,7 @@ filled_proper : (o : Option FutureShape) (p : ParcelShape) → IsProperParcel p 
 filled_proper None p h z e = no_some e
 filled_proper (Some f) p h z e = subst (λ u. IsProperParcel u.1) (some_is e) h
 
-alone_proper : (a : Activity) → IsProperActivity a → IsProperEffect (record { own = a; sent = None; made = None; filled = None })
+alone_proper : (a : Activity) → IsProperActivity a → IsProperEffect (record { own = a; sent = None; logged = None; made = None; filled = None })
 alone_proper a h = record { own = h; made = λ z e. no_some e; sent = λ z e. no_some e; filled = λ z e. no_some e }
 
 start_proper : (service : Option Text) → IsProper [] (start_term service 0)
@@ -113,6 +113,14 @@ module _ (requests : List RequestShape) (received : (k : ℕ) (r : RequestShape)
     store = each_both IsProperCell a.store _ h.store (all_moved (λ n. n + length a.store) x.1.arguments.cells (k x refl));
   })
 
+  polls_proper : (contexts : List Context) (s : Store) (o : Option Numbered) → Each IsProperCell s → Each IsProperContext contexts → ProperIntent (polls n a contexts s o)
+  polls_proper contexts s o k round = record {
+    own = record { term = plug_proper contexts (loc (length s)) round (loc_proper [] (length s)); services = h.services; store = each_both IsProperCell s (Number (truth (is_some o)) ∷ []) k (tt, tt) };
+    made = λ z is. no_some is;
+    sent = λ z is. no_some is;
+    filled = λ z is. no_some is;
+  }
+
   ends_proper : (place : ℕ) (o : Option ServiceShape) → newest a.services ≡ o → ProperIntent (ends_service a place o)
   ends_proper place None is = tt
   ends_proper place (Some v) is = record {
@@ -129,6 +137,7 @@ module _ (requests : List RequestShape) (received : (k : ℕ) (r : RequestShape)
   contraction_proper contexts s (Communicates (Creates object service)) k round c = creates_proper contexts s object service k round
   contraction_proper contexts s (Communicates (Sends to label arguments)) k round c = sends_proper contexts s to label arguments k round
   contraction_proper contexts s (Communicates (Serves labels)) k round c = serves_proper contexts (oldest_match (labels_served labels (cell s a.active)) a.served 0 requests) round (λ x is. let m = match_is (labels_served labels (cell s a.active)) a.served 0 requests x is in received m.0 x.1 m.2)
+  contraction_proper contexts s (Communicates (Polls labels)) k round c = polls_proper contexts s (oldest_match (labels_served labels (cell s a.active)) a.served 0 requests) k round
   contraction_proper contexts s Breaks k round c = tt
 
   ready_proper : (contexts : List Context) (redex : Redex) (r : Ready) → ProperSplit (Splits contexts redex) → IsRead r → ProperIntent (elim r [ Lacks f ↦ Rests (Awaits f) | Reads s ↦ contracts requests n a contexts s (contract s redex) ])

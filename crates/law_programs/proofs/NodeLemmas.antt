@@ -1,7 +1,7 @@
 -- A proper redex has the places and terms that its head's row asks for.
 use Rattle.std.specs.Prelude.{◌≡◌, ◌≤◌, ℕ, ◌+◌, true, false, List, [], ◌∷◌, length}
 use Rattle.std.proofs.Common.{sym, subst, arith}
-use Rattle.asp_model.specs.Term.{Head, Loc, Hole, Var, Number, Make, Get, Put, Call, Clone, Active, Serve, Let, Steps, If, Repeat, Operate, Print, Echo, Scatter, Size, Member, WaitAll, Tree, Trees, none, more, locs_then, child_count}
+use Rattle.asp_model.specs.Term.{Head, Loc, Hole, Var, Number, Make, Get, Put, Call, Clone, Active, Serve, Pending, Let, Steps, If, Repeat, Operate, Print, Echo, Scatter, Size, Member, WaitAll, Tree, Trees, none, more, locs_then, child_count}
 use Rattle.asp_model.specs.Term as term
 use Rattle.asp_model.specs.Readable.{HasArity}
 use Rattle.asp_model.specs.Split.{Redex, reduced_count}
@@ -20,6 +20,7 @@ Shaped (Call l) (i ∷ ks) none = Unit {0}
 Shaped Clone (i ∷ []) none = Unit {0}
 Shaped (Active service) (i ∷ []) none = Unit {0}
 Shaped (Serve labels) [] none = Unit {0}
+Shaped (Pending labels) [] none = Unit {0}
 Shaped (Let x) (i ∷ []) (more body none) = Unit {0}
 Shaped Steps (i ∷ []) (more t ts) = Unit {0}
 Shaped If (i ∷ []) (more a (more b none)) = Unit {0}
@@ -100,6 +101,7 @@ head_shaped (Call l) ns ts p w a e =
 head_shaped Clone ns ts p w a e = at_one Clone ns ts e a (λ i. tt)
 head_shaped (Active service) ns ts p w a e = at_one (Active service) ns ts e a (λ i. tt)
 head_shaped (Serve labels) ns ts p w a e = at_none (Serve labels) ns ts a tt
+head_shaped (Pending labels) ns ts p w a e = at_none (Pending labels) ns ts a tt
 head_shaped (Let x) ns ts p w a e = one_place (λ us. Shaped (Let x) us ts) (λ i. one_term (Shaped (Let x) (i ∷ [])) (λ t. tt) ts (omega (arith, e, a))) ns e
 head_shaped Steps ns ts p w a e = one_place (λ us. Shaped Steps us ts) (λ i. some_terms (Shaped Steps (i ∷ [])) (λ t us. tt) ts (omega (arith, e, a))) ns e
 head_shaped If ns ts p w a e = one_place (λ us. Shaped If us ts) (λ i. two_terms (Shaped If (i ∷ [])) (λ t u. tt) ts (omega (arith, e, a))) ns e

@@ -2,7 +2,7 @@
 use Rattle.std.specs.Prelude.{◌≡◌, ℕ, ℤ, pos, negsuc, zero, suc, ◌+ℤ◌, ◌-ℤ◌, ◌*ℤ◌, int_lt, int_le, int_div, int_rem, ◌&&◌, Bool, true, false, List, [], ◌∷◌, ◌++◌, Option, Some, None, length, map}
 use Rattle.std.proofs.Common.{refl, sym, ap, subst, ◌∙◌, arith, ⊎_elim}
 use Rattle.asp_model.specs.Names.{Text, same_text}
-use Rattle.asp_model.specs.Term.{SignShape, Add, Subtract, Multiply, Divide, Remainder, Less, Equal, MethodHead, Head, Tree, Trees, node, none, more, loc, locs_then, Make, Get, Put, Call, Clone, Active, Serve, Let, Steps, If, Repeat, Operate, Print, Echo, Scatter, Size, Member, WaitAll, Environment, location_of, has_text, put_in}
+use Rattle.asp_model.specs.Term.{SignShape, Add, Subtract, Multiply, Divide, Remainder, Less, Equal, MethodHead, Head, Tree, Trees, node, none, more, loc, locs_then, Make, Get, Put, Call, Clone, Active, Serve, Pending, Let, Steps, If, Repeat, Operate, Print, Echo, Scatter, Size, Member, WaitAll, Environment, location_of, has_text, put_in}
 use Rattle.asp_model.specs.Term as term
 use Rattle.asp_model.specs.Split.{Redex}
 use Rattle.asp_model.specs.Store.{MethodShape, CellShape, Number, Object, Reference, Future, Group, Store, cell}
@@ -202,6 +202,7 @@ module _ (s : Store) where
   row_fits Clone (i ∷ []) none x g e = allots_fits (cell s i) [] (λ k. cell_proper s k i)
   row_fits (Active l) (i ∷ []) none x g e = active_fits i l (cell s i)
   row_fits (Serve ls) [] none x g e = tt
+  row_fits (Pending ls) [] none x g e = tt
   row_fits (Let y) (i ∷ []) (more t none) x g e = becomes (put_in ((y, i) ∷ []) t) (λ k. put_proper ((y, i) ∷ []) (y ∷ []) [] (all_bound (y ∷ []) (i ∷ []) ((y, i) ∷ []) refl) t g.2.1.0)
   row_fits Steps (i ∷ []) (more t ts) x g e = rest_fits i t ts g.2.1
   row_fits If (i ∷ []) (more t (more u none)) x g e = if_fits t u (cell s i) g.2.1.0 g.2.1.1.0

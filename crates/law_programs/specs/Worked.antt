@@ -1,14 +1,14 @@
 -- Programs that a text makes, and that none makes.
 use Rattle.std.specs.Prelude.{ℕ, pos, negsuc, ◌^◌, [], ◌∷◌, Some, None, codes}
-use Rattle.asp_model.specs.Term.{Tree, node, leaf, one, two, trees, loc, Add, Hole, Var, Number, Make, Get, Put, Call, Clone, Active, Serve, Let, Steps, If, Repeat, Operate, Print, Echo, Group, Scatter, Size, Member, WaitAll}
+use Rattle.asp_model.specs.Term.{Tree, node, leaf, one, two, trees, loc, Add, Hole, Var, Number, Make, Get, Put, Call, Clone, Active, Serve, Let, Steps, If, Repeat, Operate, Print, Echo, Group, Scatter, Size, Member, WaitAll, Pending}
 use Rattle.asp_model.specs.Readable.{IsReadable}
 
 abbrev pub number : ℕ → Tree
 number n = leaf (Number (pos n))
 
 -- let o = [a_1 = 7; f(s, v) = print(v)] in
--- (o.a_1 := 2 + 3; clone(o).f(1); active(o, f); active(o); serve(f); echo("t"); repeat(if (0) {1} else {2});
---  waitall(group(o)); scatter(group(), f, group()); member(group(), size(group())); o.a_1)
+-- (o.a_1 := 2 + 3; clone(o).f(1); active(o, f); active(o); serve(f); pending(f); echo("t");
+--  repeat(if (0) {1} else {2}); waitall(group(o)); scatter(group(), f, group()); member(group(), size(group())); o.a_1)
 abbrev pub one_of_each : Tree
 one_of_each =
     let o = leaf (Var (codes "o")) in
@@ -22,6 +22,7 @@ one_of_each =
     ∷ one (Active (Some (codes "f"))) o
     ∷ one (Active None) o
     ∷ leaf (Serve (codes "f" ∷ []))
+    ∷ leaf (Pending (codes "f" ∷ []))
     ∷ leaf (Echo (codes "t"))
     ∷ one Repeat (node If (trees (number 0 ∷ number 1 ∷ number 2 ∷ [])))
     ∷ one WaitAll (one Group o)

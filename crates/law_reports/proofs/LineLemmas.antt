@@ -1,22 +1,24 @@
 -- Lines of a report, written and read.
-use Rattle.std.proofs.Common.{◌≡◌, ◌≤◌, Bool, true, false, not, List, [], ◌∷◌, ◌++◌, map, Some, None, refl, ap, ◌∙◌, arith, append_assoc}
+use Rattle.std.proofs.Common.{◌≡◌, ◌≤◌, ◌<◌, ℕ, sym, subst, Bool, true, false, not, List, [], ◌∷◌, ◌++◌, map, Some, None, refl, ap, ◌∙◌, arith, append_assoc}
 use Rattle.std.specs.Prelude.{◌||◌, ◌&&◌, nat_le, codes}
 use Rattle.std.specs.List.{list_all, flat_map}
 use Rattle.std.specs.Fmt.{decimal, signed_decimal}
 use Rattle.std.proofs.lemmas.Bool.{and_parts, and_from, ne_eqb, leb-true}
 use Rattle.std.proofs.lemmas.List.{append-nil}
+use Rattle.std.proofs.lemmas.Slice.Eq.{bytes_eq-Decides}
 use Rattle.asp_model.specs.declared.limits.TheConstants.{MOST_REDUCTIONS}
-use Rattle.asp_model.specs.Names.{Name, Text}
+use Rattle.asp_model.specs.Names.{Name, Text, same_text}
+use Rattle.asp_model.specs.Configuration.{ReceptionShape, From, Poll}
 use Rattle.asp_model.specs.Contraction.{FaultShape, NoField, NoMethod, NotObject, NotNumber, NotGroup, BadMember, ActiveField, Overflow, ZeroDivisor, LineShape, NumberLine, TextLine}
 use Rattle.asp_model.specs.Intent.{StatusShape, Done, Serving, Running, Awaits, Faulted}
 use Rattle.asp_model.specs.Status.{VerdictShape, End, Blocked, Budget}
 use Rattle.asp_model.specs.Outcome.{ActivityReportShape}
-use Rattle.asp_model.specs.WellFormed.{is_name, is_named_status, is_printable, is_printable_line}
-use Rattle.asp_model.specs.Report.{name_text, future_text, fault_text, status_text, verdict_line, activity_line, senders_line, output_line}
-use Rattle.asp_model.specs.ReportLines.{parts, name_of, count_of, are_status_words, counted, activity_in, senders_of, is_output}
+use Rattle.asp_model.specs.WellFormed.{is_named_reception, is_name, is_named_status, is_printable, is_printable_line}
+use Rattle.asp_model.specs.Report.{reception_text, name_text, future_text, fault_text, status_text, verdict_line, activity_line, senders_line, output_line}
+use Rattle.asp_model.specs.ReportLines.{all_found, is_found, from_name, reception_in, parts, name_of, count_of, are_status_words, counted, activity_in, senders_of, is_output}
 use Rattle.law_reports.proofs.PartsLemmas.{lacks, lacks-append, parts_one, parts_at}
 use Rattle.law_reports.proofs.DigitLemmas.{decimal_lacks, signed_lacks_feed, count_is_read}
-use Rattle.law_reports.proofs.NameLemmas.{name_lacks, future_lacks, name_is_read, names_are_read, future_is_read}
+use Rattle.law_reports.proofs.NameLemmas.{name_lacks, future_lacks, name_is_read, all_found-cons, future_is_read}
 
 -- Statuses
 
@@ -40,7 +42,7 @@ status_is_read Serving h = refl
 status_is_read Running h = refl
 status_is_read (Awaits f) h =
     ap (λ (ts : List Text). are_status_words (codes "awaits" ∷ ts)) (parts_one 32 (future_text f) (future_lacks 32 (omega arith) f))
-    ∙ or_true _ _ (future_is_read f h)
+    ∙ or_true _ _ (ap is_found (future_is_read f h))
 status_is_read (Faulted f) h = faulted_is_read f
 
 faulted_lacks : (f : FaultShape) → lacks 10 (fault_text f) ≡ true
@@ -89,19 +91,43 @@ activity_lacks a =
 
 -- Senders lines
 
-sender_parts : (t : Text) (ns : List Name) → lacks 32 t ≡ true → parts 32 (t ++ flat_map (λ n. codes " " ++ name_text n) ns) ≡ t ∷ map name_text ns
+reception_lacks : (c : ℕ) → c < 46 → (x : ReceptionShape) → lacks c (reception_text x) ≡ true
+reception_lacks c small (From n) = name_lacks c small n
+reception_lacks c small Poll = and_from _ _ (ap not (ne_eqb 63 c (λ e. omega (arith, e, small)))) refl
+
+sender_parts : (t : Text) (ns : List ReceptionShape) → lacks 32 t ≡ true → parts 32 (t ++ flat_map (λ n. codes " " ++ reception_text n) ns) ≡ t ∷ map reception_text ns
 sender_parts t [] h = ap (parts 32) (append-nil t) ∙ parts_one 32 t h
-sender_parts t (n ∷ ns) h = parts_at 32 t _ h ∙ ap (λ (ts : List Text). t ∷ ts) (sender_parts (name_text n) ns (name_lacks 32 (omega arith) n))
+sender_parts t (n ∷ ns) h = parts_at 32 t _ h ∙ ap (λ (ts : List Text). t ∷ ts) (sender_parts (reception_text n) ns (reception_lacks 32 (omega arith) n))
 
-pub senders_are_read : (ns : List Name) → list_all is_name ns ≡ true → senders_of (parts 32 (senders_line ns)) ≡ Some ns
-senders_are_read ns h = ap senders_of (sender_parts (codes "senders") ns refl) ∙ names_are_read ns h
+abbrev only_true : Bool → Type 0
+only_true true = Unit {0}
+only_true false = ⊥
 
-names_lack : (ns : List Name) → lacks 10 (flat_map (λ n. codes " " ++ name_text n) ns) ≡ true
+no_question : {C : Type 0} (n : Name) → is_name n ≡ true → name_text n ≡ codes "?" → C
+no_question n named is = absurd (subst only_true (sym (ap is_found (ap name_of (sym is) ∙ name_is_read n named))) tt)
+
+reception_is_read : (x : ReceptionShape) → is_named_reception x ≡ true → reception_in true (reception_text x) ≡ Some x
+reception_is_read Poll h = refl
+reception_is_read (From n) h = elim (same_text (name_text n) (codes "?")) as (λ b. same_text (name_text n) (codes "?") ≡ b → elim b [ true ↦ Some Poll | false ↦ from_name (name_of (name_text n)) ] ≡ Some (From n)) [
+  | true ↦ λ is. no_question n h ((bytes_eq-Decides (name_text n) (codes "?")).0 is)
+  | false ↦ λ is. ap from_name (name_is_read n h)
+] refl
+
+receptions_are_read : (xs : List ReceptionShape) → list_all is_named_reception xs ≡ true → all_found (reception_in true) (map reception_text xs) ≡ Some xs
+receptions_are_read [] h = refl
+receptions_are_read (x ∷ xs) h =
+    let p = and_parts (is_named_reception x) (list_all is_named_reception xs) h in
+    all_found-cons (reception_in true) (reception_text x) (map reception_text xs) x xs (reception_is_read x p.0) (receptions_are_read xs p.1)
+
+pub senders_are_read : (xs : List ReceptionShape) → list_all is_named_reception xs ≡ true → senders_of true (parts 32 (senders_line xs)) ≡ Some xs
+senders_are_read xs h = ap (senders_of true) (sender_parts (codes "senders") xs refl) ∙ receptions_are_read xs h
+
+names_lack : (ns : List ReceptionShape) → lacks 10 (flat_map (λ n. codes " " ++ reception_text n) ns) ≡ true
 names_lack [] = refl
-names_lack (n ∷ ns) = lacks-append 10 (codes " " ++ name_text n) (flat_map (λ m. codes " " ++ name_text m) ns) (lacks-append 10 (codes " ") (name_text n) refl (name_lacks 10 (omega arith) n)) (names_lack ns)
+names_lack (n ∷ ns) = lacks-append 10 (codes " " ++ reception_text n) (flat_map (λ m. codes " " ++ reception_text m) ns) (lacks-append 10 (codes " ") (reception_text n) refl (reception_lacks 10 (omega arith) n)) (names_lack ns)
 
-pub senders_lack : (ns : List Name) → lacks 10 (senders_line ns) ≡ true
-senders_lack ns = lacks-append 10 (codes "senders") (flat_map (λ n. codes " " ++ name_text n) ns) refl (names_lack ns)
+pub senders_lack : (ns : List ReceptionShape) → lacks 10 (senders_line ns) ≡ true
+senders_lack ns = lacks-append 10 (codes "senders") (flat_map (λ n. codes " " ++ reception_text n) ns) refl (names_lack ns)
 
 -- Other lines
 

@@ -8,7 +8,7 @@ use Rattle.std.proofs.lemmas.Fmt.{decimal_digit}
 use Rattle.asp_model.specs.Names.{Name, Text, FutureShape, same_text}
 use Rattle.asp_model.specs.WellFormed.{is_index, is_name, is_future_name}
 use Rattle.asp_model.specs.Report.{name_text, future_text}
-use Rattle.asp_model.specs.ReportLines.{parts, all_found, index_of, under_main, name_of_parts, name_of, is_found, are_future_parts}
+use Rattle.asp_model.specs.ReportLines.{parts, all_found, index_of, under_main, name_of_parts, name_of, asked_under, future_of, future_of_parts}
 use Rattle.law_reports.proofs.PartsLemmas.{lacks, lacks-append, parts_one, parts_at, parts_joined}
 use Rattle.law_reports.proofs.DigitLemmas.{decimal_lacks, index_is_read}
 
@@ -62,14 +62,8 @@ name_is_read (m ∷ ns) h =
     let p = and_parts (m == 0) (list_all is_index ns) h in
     subst (λ k. name_of (name_text (k ∷ ns)) ≡ Some (k ∷ ns)) (sym (eqb-true m 0 p.0)) (under_zero ns p.1)
 
-pub names_are_read : (ns : List Name) → list_all is_name ns ≡ true → all_found name_of (map name_text ns) ≡ Some ns
-names_are_read [] h = refl
-names_are_read (n ∷ ns) h =
-    let p = and_parts (is_name n) (list_all is_name ns) h in
-    all_found-cons name_of (name_text n) (map name_text ns) n ns (name_is_read n p.0) (names_are_read ns p.1)
-
-pub future_is_read : (f : FutureShape) → is_future_name f ≡ true → are_future_parts (parts 35 (future_text f)) ≡ true
+pub future_is_read : (f : FutureShape) → is_future_name f ≡ true → future_of (future_text f) ≡ Some f
 future_is_read f h =
     let p = and_parts (is_name f.by) (is_index f.index) h in
-    ap are_future_parts (ap (parts 35) (future_whole f) ∙ parts_at 35 (name_text f.by) (decimal f.index) (name_lacks 35 (omega arith) f.by) ∙ ap (λ (ts : List Text). name_text f.by ∷ ts) (parts_one 35 (decimal f.index) (decimal_lacks 35 f.index (omega arith))))
-    ∙ and_from _ _ (ap is_found (name_is_read f.by p.0)) (ap is_found (index_is_read f.index p.1))
+    ap future_of_parts (ap (parts 35) (future_whole f) ∙ parts_at 35 (name_text f.by) (decimal f.index) (name_lacks 35 (omega arith) f.by) ∙ ap (λ (ts : List Text). name_text f.by ∷ ts) (parts_one 35 (decimal f.index) (decimal_lacks 35 f.index (omega arith))))
+    ∙ (λ i. asked_under (name_is_read f.by p.0 i) (index_is_read f.index p.1 i))

@@ -12,9 +12,9 @@ use Rattle.asp_model.specs.Step.{ListsShape}
 use Rattle.asp_model.specs.Replay.{CountsShape, total}
 use Rattle.asp_model.specs.Status.{VerdictShape, End, Blocked, Budget}
 use Rattle.asp_model.specs.Outcome.{ActivityReportShape, OutcomeShape, lists_in, counts_in}
-use Rattle.asp_model.specs.WellFormed.{IsWellFormed, is_name, is_named_status, is_printable_line, is_sound_report, begins_with_main}
+use Rattle.asp_model.specs.WellFormed.{is_named_reception, IsWellFormed, is_name, is_named_status, is_printable_line, is_sound_report, begins_with_main}
 use Rattle.asp_model.specs.Report.{verdict_line, activity_line, senders_line, output_line, activity_lines, report_lines, text_of, report_of}
-use Rattle.asp_model.specs.ReportLines.{parts, activity_in, is_output}
+use Rattle.asp_model.specs.ReportLines.{parts, activity_in, senders_of, is_output}
 use Rattle.asp_model.specs.ReadReport.{Title, Verdict, Main, Senders, Later, Progress, with_activity, with_senders, is_behind, behind, Reading, Reads, BadLine, read_on, read_report}
 use Rattle.law_reports.proofs.PartsLemmas.{lacks, parts_lines}
 use Rattle.law_reports.proofs.LineLemmas.{activity_is_read, activity_lacks, senders_are_read, senders_lack, is_plain, output_is_read, output_lacks, verdict_lacks}
@@ -32,14 +32,14 @@ outputs_lack (l ∷ ls) h = let p = and_parts (is_printable_line l) (list_all is
 record Sound (a : ActivityReportShape) : Type 0 where
   name : is_name a.name ≡ true
   status : is_named_status a.status ≡ true
-  senders : list_all is_name a.senders ≡ true
+  senders : list_all is_named_reception a.senders ≡ true
   lines : list_all is_printable_line a.lines ≡ true
 
 sound_parts : (a : ActivityReportShape) → is_sound_report a ≡ true → Sound a
 sound_parts a h =
-    let p = and_parts (is_name a.name) (is_named_status a.status && (list_all is_name a.senders && list_all is_printable_line a.lines)) h in
-    let q = and_parts (is_named_status a.status) (list_all is_name a.senders && list_all is_printable_line a.lines) p.1 in
-    let r = and_parts (list_all is_name a.senders) (list_all is_printable_line a.lines) q.1 in
+    let p = and_parts (is_name a.name) (is_named_status a.status && (list_all is_named_reception a.senders && list_all is_printable_line a.lines)) h in
+    let q = and_parts (is_named_status a.status) (list_all is_named_reception a.senders && list_all is_printable_line a.lines) p.1 in
+    let r = and_parts (list_all is_named_reception a.senders) (list_all is_printable_line a.lines) q.1 in
     record { name = p.0; status = q.0; senders = r.0; lines = r.1 }
 
 activity_lack : (a : ActivityReportShape) → is_sound_report a ≡ true → list_all (lacks 10) (activity_lines a) ≡ true
@@ -64,7 +64,7 @@ one_more p q t [] r e h number = ap (going number ([] ∷ [])) e ∙ h (suc numb
 one_more p q t (u ∷ ts) r e h number = ap (going number ((u ∷ ts) ++ [] ∷ [])) e ∙ h (suc number)
 
 abbrev later : Name → ListsShape → CountsShape → Progress
-later n lists counts = record { next = Later n; lists = lists; counts = counts }
+later n lists counts = record { next = Later n; lists = lists; counts = counts; polls = true }
 
 outputs_give : (n : Name) (lists : ListsShape) (counts : CountsShape) (xs ts : List Text) (r : Reading) → list_all is_output xs ≡ true → Gives (later n lists counts) ts r → Gives (later n lists counts) (xs ++ ts) r
 outputs_give n lists counts [] ts r o h = h
@@ -81,32 +81,32 @@ all_outputs (l ∷ ls) xs h = and_from _ _ (output_is_read l) (all_outputs ls xs
 
 -- an activity that may stand here
 activity_gives : (fits : Name → Bool) (p : Progress) (a : ActivityReportShape) → Sound a → fits a.name ≡ true → a.count ≤ MOST_REDUCTIONS → total (p.counts ++ (a.name, a.count) ∷ []) ≤ MOST_REDUCTIONS
-    → with_activity fits p (activity_in (parts 32 (activity_line a))) ≡ Some (record { next = Senders a.name; lists = p.lists; counts = p.counts ++ (a.name, a.count) ∷ [] })
+    → with_activity fits p (activity_in (parts 32 (activity_line a))) ≡ Some (record { next = Senders a.name; lists = p.lists; counts = p.counts ++ (a.name, a.count) ∷ []; polls = p.polls })
 activity_gives fits p a s f small within =
     ap (with_activity fits p) (activity_is_read a s.name s.status small)
-    ∙ ap (λ b. elim b [ true ↦ Some (record { next = Senders a.name; lists = p.lists; counts = p.counts ++ (a.name, a.count) ∷ [] }) | false ↦ None ]) (and_from _ _ f (le-leb (total (p.counts ++ (a.name, a.count) ∷ [])) MOST_REDUCTIONS within))
+    ∙ ap (λ b. elim b [ true ↦ Some (record { next = Senders a.name; lists = p.lists; counts = p.counts ++ (a.name, a.count) ∷ []; polls = p.polls }) | false ↦ None ]) (and_from _ _ f (le-leb (total (p.counts ++ (a.name, a.count) ∷ [])) MOST_REDUCTIONS within))
 
 total-append : (xs ys : CountsShape) → total (xs ++ ys) ≡ total xs + total ys
 total-append [] ys = omega arith
 total-append (x ∷ xs) ys = ap (λ n. x.1 + n) (total-append xs ys) ∙ omega arith
 
 -- the lines of an activity, further ones that may stand where outputs do, and then others
-lines_give : (fits : Name → Bool) (p : Progress) (a : ActivityReportShape) (xs ts : List Text) (r : Reading) → Sound a → list_all is_plain xs ≡ true → fits a.name ≡ true → total (p.counts ++ (a.name, a.count) ∷ []) ≤ MOST_REDUCTIONS
+lines_give : (fits : Name → Bool) (p : Progress) (a : ActivityReportShape) (xs ts : List Text) (r : Reading) → p.polls ≡ true → Sound a → list_all is_plain xs ≡ true → fits a.name ≡ true → total (p.counts ++ (a.name, a.count) ∷ []) ≤ MOST_REDUCTIONS
     → behind p.next p (activity_line a) ≡ with_activity fits p (activity_in (parts 32 (activity_line a)))
     → Gives (later a.name (p.lists ++ (a.name, a.senders) ∷ []) (p.counts ++ (a.name, a.count) ∷ [])) ts r
     → Gives p ((activity_lines a ++ xs) ++ ts) r
-lines_give fits p a xs ts r s plain f within line h =
+lines_give fits p a xs ts r polls s plain f within line h =
     let counts : CountsShape = p.counts ++ (a.name, a.count) ∷ [] in
     let small : a.count ≤ MOST_REDUCTIONS = omega (arith, total-append p.counts ((a.name, a.count) ∷ []), within) in
-    let between : Progress = record { next = Senders a.name; lists = p.lists; counts = counts } in
+    let between : Progress = record { next = Senders a.name; lists = p.lists; counts = counts; polls = p.polls } in
     let end : Progress = later a.name (p.lists ++ (a.name, a.senders) ∷ []) counts in
     let shown : List Text = map output_line a.lines ++ xs in
     one_more p between (activity_line a) (senders_line a.senders ∷ (shown ++ ts)) r (line ∙ activity_gives fits p a s f small within)
-    (one_more between end (senders_line a.senders) (shown ++ ts) r (ap (with_senders a.name between) (senders_are_read a.senders s.senders))
+    (one_more between end (senders_line a.senders) (shown ++ ts) r (ap (λ b. with_senders a.name (record between { polls = b }) (senders_of b (parts 32 (senders_line a.senders)))) polls ∙ ap (with_senders a.name (record between { polls = true })) (senders_are_read a.senders s.senders))
     (outputs_give a.name (p.lists ++ (a.name, a.senders) ∷ []) counts shown ts r (all_outputs a.lines xs plain) h))
 
 abbrev at_main : Progress
-at_main = record { next = Main; lists = []; counts = [] }
+at_main = record { next = Main; lists = []; counts = []; polls = true }
 
 verdict_goes_on : (v : VerdictShape) (p : Progress) → behind Verdict p (verdict_line v) ≡ Some (record p { next = Main })
 verdict_goes_on End p = refl
@@ -145,7 +145,7 @@ module _ {X : Type 0} (report : X → ActivityReportShape) (extra : X → List T
       let result : Reads ((lists ++ (a.name, a.senders) ∷ []) ++ map (λ b. (b.name, b.senders)) (map report rest)) (so_far ++ all) ≡ Reads (lists ++ map (λ b. (b.name, b.senders)) (map report (x ∷ rest))) (counts ++ map (λ b. (b.name, b.count)) (map report (x ∷ rest))) =
       λ i. Reads (append_assoc lists ((a.name, a.senders) ∷ []) (map (λ b. (b.name, b.senders)) (map report rest)) i) (same i) in
       subst (Gives (later n lists counts) (flat_map lines_of (x ∷ rest))) result
-      (lines_give (is_behind n) (later n lists counts) a (extra x) (flat_map lines_of rest) _ (sound_parts a p.0) q.0 first up_to refl behind_it)
+      (lines_give (is_behind n) (later n lists counts) a (extra x) (flat_map lines_of rest) _ refl (sound_parts a p.0) q.0 first up_to refl behind_it)
 
   main_gives : (rest : List X) → begins_with_main (map report rest) ≡ true → is_sorted name_cmp (map (λ a. (a.name, a.count)) (map report rest)) ≡ true → list_all is_sound_report (map report rest) ≡ true
       → list_all (λ x. list_all is_plain (extra x)) rest ≡ true → total (map (λ a. (a.name, a.count)) (map report rest)) ≤ MOST_REDUCTIONS
@@ -156,18 +156,18 @@ module _ {X : Type 0} (report : X → ActivityReportShape) (extra : X → List T
       let p = and_parts (is_sound_report a) (list_all is_sound_report (map report rest)) h in
       let q = and_parts (list_all is_plain (extra x)) (list_all (λ y. list_all is_plain (extra y)) rest) g in
       let up_to : total ((a.name, a.count) ∷ []) ≤ MOST_REDUCTIONS = omega (arith, within) in
-      lines_give (same_name main_name) at_main a (extra x) (flat_map lines_of rest) _ (sound_parts a p.0) q.0 m up_to refl
+      lines_give (same_name main_name) at_main a (extra x) (flat_map lines_of rest) _ refl (sound_parts a p.0) q.0 m up_to refl
       (activities_give a.name a.count ((a.name, a.senders) ∷ []) ((a.name, a.count) ∷ []) rest o p.1 q.1 within)
 
   pub extended_is_read : (v : VerdictShape) (xs : List X) → IsWellFormed (record { verdict = v; activities = map report xs }) → list_all (λ x. list_all is_plain (extra x)) xs ≡ true
-      → read_report (text_of (codes "asp report 1" ∷ verdict_line v ∷ flat_map lines_of xs)) ≡ Reads (map (λ a. (a.name, a.senders)) (map report xs)) (map (λ a. (a.name, a.count)) (map report xs))
+      → read_report (text_of (codes "asp report 2" ∷ verdict_line v ∷ flat_map lines_of xs)) ≡ Reads (map (λ a. (a.name, a.senders)) (map report xs)) (map (λ a. (a.name, a.count)) (map report xs))
   extended_is_read v xs w plain =
       let lines : List Text = flat_map lines_of xs in
-      let start : Progress = record { next = Title; lists = []; counts = [] } in
-      let titled : Progress = record { next = Verdict; lists = []; counts = [] } in
-      let lack : list_all (lacks 10) (codes "asp report 1" ∷ verdict_line v ∷ lines) ≡ true = and_from _ _ refl (and_from _ _ (verdict_lacks v) (all_lack xs w.sound plain)) in
-      ap (read_on start 1) (parts_lines (codes "asp report 1" ∷ verdict_line v ∷ lines) lack)
-      ∙ one_more start titled (codes "asp report 1") (verdict_line v ∷ lines) _ refl
+      let start : Progress = record { next = Title; lists = []; counts = []; polls = false } in
+      let titled : Progress = record { next = Verdict; lists = []; counts = []; polls = true } in
+      let lack : list_all (lacks 10) (codes "asp report 2" ∷ verdict_line v ∷ lines) ≡ true = and_from _ _ refl (and_from _ _ (verdict_lacks v) (all_lack xs w.sound plain)) in
+      ap (read_on start 1) (parts_lines (codes "asp report 2" ∷ verdict_line v ∷ lines) lack)
+      ∙ one_more start titled (codes "asp report 2") (verdict_line v ∷ lines) _ refl
       (one_more titled at_main (verdict_line v) lines _ (verdict_goes_on v titled)
       (main_gives xs w.main w.ascending w.sound plain w.within)) 1
 
@@ -191,6 +191,6 @@ unfolding report_lines
 report_is_read o w =
     let same : map (λ a. a) o.activities ≡ o.activities = map-id o.activities in
     let well : IsWellFormed (record { verdict = o.verdict; activities = map (λ a. a) o.activities }) = subst (λ (rs : List ActivityReportShape). IsWellFormed (record { verdict = o.verdict; activities = rs })) (sym same) w in
-    ap (λ (ls : List Text). read_report (text_of (codes "asp report 1" ∷ verdict_line o.verdict ∷ ls))) (bare_lines o.activities)
+    ap (λ (ls : List Text). read_report (text_of (codes "asp report 2" ∷ verdict_line o.verdict ∷ ls))) (bare_lines o.activities)
     ∙ extended_is_read (λ a. a) no_lines o.verdict o.activities well (none_plain o.activities)
     ∙ ap (λ (rs : List ActivityReportShape). Reads (map (λ a. (a.name, a.senders)) rs) (map (λ a. (a.name, a.count)) rs)) same

@@ -22,7 +22,7 @@ pub record HasPrintableLabels (o : WholeOutcome) : Type 0 where
   pub stores : list_all (λ e. list_all has_printable_labels e.snapshot.store) o.ends ≡ true
   pub values : list_all (λ x. list_all has_printable_labels x.1.cells) o.futures ≡ true
 
--- the report of such a well-formed outcome gives its sender lists and counts, at every depth
+-- the report of such a well-formed outcome gives its logs and counts, at every depth
 abbrev pub ReportsToDepthsAreRead : Type 0
 ReportsToDepthsAreRead = (depth : Option ℕ) (o : WholeOutcome) → IsWellFormed (reported o) → HasPrintableLabels o
     → read_report (report_to depth o) ≡ Reads (lists_in (reported o)) (counts_in (reported o))

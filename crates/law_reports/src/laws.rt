@@ -3,7 +3,7 @@
 ghost use Rattle.law_reports.specs.Depths.{ReportsToDepthsAreRead};
 ghost use Rattle.law_reports.specs.Laws.{ReportsAreRead};
 
-/// The report of a well-formed outcome is read as its sender lists and counts.
+/// The report of a well-formed outcome is read as its logs and counts.
 pub fn reports_are_read()
     ensures read { ReportsAreRead }
 {}

@@ -7,7 +7,7 @@ use Rattle.std.specs.FinMap.Entries.{below_all}
 use Rattle.std.specs.Ordering.{is_lt}
 use Rattle.asp_model.specs.Names.{Name, name_cmp}
 use Rattle.asp_model.specs.Term.{Tree}
-use Rattle.asp_model.specs.Configuration.{Activity, Configuration, start, requests_of}
+use Rattle.asp_model.specs.Configuration.{Activity, Configuration, start, log_of}
 use Rattle.asp_model.specs.Step.{ListsShape}
 use Rattle.asp_model.specs.Replay.{CountsShape, lists_of, counts_of, entries_of, replay, DivergesAt}
 use Rattle.asp_model.specs.Outcome.{ActivityReportShape, activity_report, outcome_of}
@@ -25,9 +25,9 @@ use Rattle.law_schedules.proofs.RowLemmas.{lists_by, counts_by, in_rows, AreAbov
 abbrev rows_by : Configuration → List (Name × Activity) → List Row
 rows_by c es = map row_of (map (activity_report c) es)
 
-shown_lists : (c : Configuration) (es : List (Name × Activity)) → lists_by (rows_by c es) ≡ map (λ x. (x.0, map (λ r. r.sender) (requests_of c x.0))) es
+shown_lists : (c : Configuration) (es : List (Name × Activity)) → lists_by (rows_by c es) ≡ map (λ x. (x.0, log_of c x.0)) es
 shown_lists c [] = refl
-shown_lists c (e ∷ es) = ap (λ l. (e.0, map (λ r. r.sender) (requests_of c e.0)) ∷ l) (shown_lists c es)
+shown_lists c (e ∷ es) = ap (λ l. (e.0, log_of c e.0) ∷ l) (shown_lists c es)
 
 shown_counts : (c : Configuration) (es : List (Name × Activity)) → counts_by (rows_by c es) ≡ map (λ x. (x.0, x.1.reductions)) es
 shown_counts c [] = refl

@@ -5,7 +5,7 @@ use Rattle.std.specs.FinMap.{find, put}
 use Rattle.asp_model.specs.Names.{Name, name_cmp}
 use Rattle.asp_model.specs.Configuration.{RequestShape, Activity, Configuration, or_none, requests_of}
 use Rattle.asp_model.specs.Intent.{Effect}
-use Rattle.asp_model.specs.Step.{put_some, with_sent}
+use Rattle.asp_model.specs.Step.{put_some, with_last}
 use Rattle.law_schedules.specs.Effects.{NobodyReceives, TargetsReceive, OthersReceiveNone, AbsentReceivedNone, MadeReceivedNone, OwnIsThere, MadeIsThere, OthersAreKept}
 use Rattle.law_steps.proofs.NameLemmas.{name_total, name_same, name_case}
 use Rattle.law_chases.proofs.FutureLemmas.{true_false}
@@ -19,7 +19,7 @@ use Rattle.law_steps.proofs.FrameLemmas.{effects_are_new}
 
 -- the requests of m where this was sent
 abbrev received_by : Configuration → Name → Option (Name × RequestShape) → List RequestShape
-received_by c m o = or_none (find name_cmp m (with_sent o c.received))
+received_by c m o = or_none (find name_cmp m (with_last o c.received))
 
 pub nobody_receives : NobodyReceives
 nobody_receives c n m e is = ap (received_by c m) is

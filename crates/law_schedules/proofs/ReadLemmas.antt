@@ -9,6 +9,7 @@ use Rattle.std.specs.Ordering.{is_lt}
 use Rattle.asp_model.specs.declared.limits.TheConstants.{MOST_REDUCTIONS}
 use Rattle.asp_model.specs.Names.{Name, Text, main_name, name_cmp, same_name, same_text}
 use Rattle.asp_model.specs.Term.{has_text}
+use Rattle.asp_model.specs.Configuration.{ReceptionShape}
 use Rattle.asp_model.specs.Step.{ListsShape}
 use Rattle.asp_model.specs.Replay.{CountsShape, total}
 use Rattle.asp_model.specs.ReportLines.{parts, verdict_lines, activity_in, senders_of, is_output}
@@ -91,7 +92,7 @@ activity_read : (fits : Name → Bool) (p q : Progress) (o : Option (Name × ℕ
 activity_read fits p q None same ascend bounds h = no_some h
 activity_read fits p q (Some a) same ascend bounds h = by_test (fits a.0 && nat_le (total (p.counts ++ a ∷ [])) MOST_REDUCTIONS) refl h
   where
-    by_test : (b : Bool) → (fits a.0 && nat_le (total (p.counts ++ a ∷ [])) MOST_REDUCTIONS) ≡ b → if_fits b (record { next = Senders a.0; lists = p.lists; counts = p.counts ++ a ∷ [] }) ≡ Some q → IsRead q.next q
+    by_test : (b : Bool) → (fits a.0 && nat_le (total (p.counts ++ a ∷ [])) MOST_REDUCTIONS) ≡ b → if_fits b (record { next = Senders a.0; polls = p.polls; lists = p.lists; counts = p.counts ++ a ∷ [] }) ≡ Some q → IsRead q.next q
     by_test false is h = no_some h
     by_test true is h = subst (λ z. IsRead z.next z) (some_is h) (record {
       same = map-append (λ x. x.0) p.counts (a ∷ []) ∙ ap (λ ns. ns ++ a.0 ∷ []) same;
@@ -99,7 +100,7 @@ activity_read fits p q (Some a) same ascend bounds h = by_test (fits a.0 && nat_
       bounds = bounds a.0 (and_parts (fits a.0) (nat_le (total (p.counts ++ a ∷ [])) MOST_REDUCTIONS) is).0;
     })
 
-senders_read : (n : Name) (p q : Progress) (o : Option (List Name)) → IsRead (Senders n) p → with_senders n p o ≡ Some q → IsRead q.next q
+senders_read : (n : Name) (p q : Progress) (o : Option (List ReceptionShape)) → IsRead (Senders n) p → with_senders n p o ≡ Some q → IsRead q.next q
 senders_read n p q None r h = no_some h
 senders_read n p q (Some ns) r h =
     let grown : names (p.lists ++ (n, ns) ∷ []) ≡ names p.lists ++ n ∷ [] = map-append (λ x. x.0) p.lists ((n, ns) ∷ []) in
@@ -113,11 +114,16 @@ later_read : (n : Name) (p q : Progress) (line : Text) (b : Bool) → p.next ≡
 later_read n p q line true is r h = subst (λ z. IsRead z.next z) (some_is h) (subst (λ k. IsRead k p) (sym is) r)
 later_read n p q line false is r h = activity_read (is_behind n) p q (activity_in (parts 32 line)) r.same r.ascend r.bounds h
 
+title_read : (new old : Bool) (p q : Progress) → IsRead Title p
+    → elim new [ true ↦ goes_on Verdict (record p { polls = true }) true | false ↦ goes_on Verdict p old ] ≡ Some q → IsRead q.next q
+title_read true old p q r h = went_on Verdict (record p { polls = true }) q true (record { same = r.same; ascend = r.ascend; bounds = r.bounds }) h
+title_read false old p q r h = went_on Verdict p q old (record { same = r.same; ascend = r.ascend; bounds = r.bounds }) h
+
 line_read : (next : Next) (p q : Progress) (line : Text) → p.next ≡ next → IsRead next p → behind next p line ≡ Some q → IsRead q.next q
-line_read Title p q line is r h = went_on Verdict p q (same_text line (codes "asp report 1")) (record { same = r.same; ascend = r.ascend; bounds = r.bounds }) h
+line_read Title p q line is r h = title_read (same_text line (codes "asp report 2")) (same_text line (codes "asp report 1")) p q r h
 line_read Verdict p q line is r h = went_on Main p q (has_text line verdict_lines) (record { same = r.same; ascend = r.ascend; bounds = r.bounds }) h
 line_read Main p q line is r h = activity_read (same_name main_name) p q (activity_in (parts 32 line)) r.same r.ascend (λ m e. r.bounds m) h
-line_read (Senders n) p q line is r h = senders_read n p q (senders_of (parts 32 line)) r h
+line_read (Senders n) p q line is r h = senders_read n p q (senders_of p.polls (parts 32 line)) r h
 line_read (Later n) p q line is r h = later_read n p q line (is_output line) is r h
 
 -- The end
@@ -166,4 +172,4 @@ lines_read p number (t ∷ u ∷ ts) lists counts r h = elim (behind p.next p t)
 ] refl h
 
 pub reports_are_in_order : ReportsAreInOrder
-reports_are_in_order bytes lists counts h = lines_read (record { next = Title; lists = []; counts = [] }) 1 (parts 10 bytes) lists counts (record { same = refl; ascend = tt; bounds = λ m. tt }) h
+reports_are_in_order bytes lists counts h = lines_read (record { next = Title; polls = false; lists = []; counts = [] }) 1 (parts 10 bytes) lists counts (record { same = refl; ascend = tt; bounds = λ m. tt }) h

@@ -7,19 +7,21 @@ use Rattle.std.specs.FinMap.{find}
 use Rattle.asp_model.specs.Names.{Name, FutureShape, name_cmp, future_cmp}
 use Rattle.asp_model.specs.Parcel.{ParcelShape}
 use Rattle.asp_model.specs.Term.{Tree, has_text}
-use Rattle.asp_model.specs.Configuration.{RequestShape, Activity, Configuration, requests_of}
+use Rattle.asp_model.specs.Configuration.{RequestShape, ReceptionShape, From, Poll, Activity, Configuration, or_none, requests_of, log_of}
 use Rattle.asp_model.specs.Intent.{StatusShape, Done, Serving, Running, Awaits, Faulted, Intent, Acts, Rests, Effect}
-use Rattle.asp_model.specs.Step.{ListsShape, intent_in, put_some, with_effect, may_send, is_next, name_at, step}
+use Rattle.asp_model.specs.Step.{ListsShape, intent_in, put_some, with_last, with_effect, may_log, is_next, reception_at, step}
 use Rattle.asp_model.specs.Status.{status_of_intent, status_of, is_running, is_awaiting}
-use Rattle.asp_model.specs.Replay.{senders_in}
-use Rattle.law_steps.specs.Reached.{IsReached, IsAt, IsStep}
+use Rattle.asp_model.specs.Replay.{log_in}
+use Rattle.law_steps.specs.Reached.{IsReached, IsAt, IsThere, IsStep}
 use Rattle.law_steps.specs.Waking.{has_wanted, labels_wanted}
-use Rattle.law_schedules.specs.Schedules.{WaitsFor, IsSentTo, IsFilledBy, IsNextIn}
-use Rattle.law_steps.proofs.NameLemmas.{name_case, named_is}
-use Rattle.law_chases.proofs.FutureLemmas.{future_case, future_total, future_same, none_true, no_some, true_false}
+use Rattle.law_schedules.specs.Schedules.{WaitsFor, IsSentTo, IsLoggedTo, IsOf, IsFilledBy, IsNextIn}
+use Rattle.law_steps.proofs.NameLemmas.{name_total, name_same, name_case, reception_is}
+use Rattle.law_chases.proofs.FutureLemmas.{some_is, future_case, future_total, future_same, none_true, no_some, true_false}
 use Rattle.law_chases.proofs.MapLemmas as Maps
 use Rattle.law_steps.proofs.StepLemmas.{step_taken, held_back, holds_back}
-use Rattle.law_steps.proofs.FrameLemmas.{intends_stay}
+use Rattle.law_steps.proofs.FrameLemmas.{intends_stay, polls_stay}
+use Rattle.law_steps.specs.Steps.{IsPoll}
+use Rattle.law_steps.proofs.FactLemmas.{IsLogged, acts_facts}
 use Rattle.law_steps.proofs.LinkedLemmas.{targets_are_there}
 use Rattle.law_steps.proofs.WakeLemmas.{none_rests_running, done_stays, fault_stays, serving_stays, awaiting_stays, cycles_stay, others_stay_next}
 use Rattle.law_schedules.proofs.EffectLemmas.{nobody_receives, others_receive_none, targets_receive}
@@ -46,6 +48,15 @@ rests_step lists d m s not is = by_step (step lists d m) refl
 
 -- Sends and fills
 
+abbrev is_poll : ReceptionShape → Bool
+is_poll (From n) = false
+is_poll Poll = true
+
+-- what is logged by one that acts
+abbrev logged_by : Effect → Intent → Option (Name × ReceptionShape)
+logged_by e (Acts g) = g.logged
+logged_by e (Rests s) = e.logged
+
 same_target : (z : Name × RequestShape) (k : Name) (r : RequestShape) → Some z ≡ Some (k, r) → z.0 ≡ k
 same_target z k r h = ap (λ o. elim o [ None ↦ k | Some y ↦ y.0 ]) h
 
@@ -68,6 +79,36 @@ unsent_same c n k e not = by_sent e.sent refl
     by_sent None is = nobody_receives c n k e is
     by_sent (Some z) is = others_receive_none c n k z.0 e z.1 is (λ p. not z.1 (is ∙ ap (λ q. Some (q, z.1)) (sym p)))
 
+-- it logs there, or it does not
+logged_to : (e : Effect) (k : Name) → IsLoggedTo e k ⊎ ((x : ReceptionShape) → e.logged ≢ Some (k, x))
+logged_to e k = by_logged e.logged refl
+  where
+    by_logged : (o : Option (Name × ReceptionShape)) → e.logged ≡ o → IsLoggedTo e k ⊎ ((x : ReceptionShape) → e.logged ≢ Some (k, x))
+    by_logged None is = inr (λ x h. no_some (sym is ∙ h))
+    by_logged (Some z) is = ⊎_elim
+        (λ p. inl (z.1, is ∙ ap (λ q. Some (q, z.1)) p))
+        (λ a. inr (λ x h. a (ap (λ o. elim o [ None ↦ k | Some y ↦ y.0 ]) (sym is ∙ h))))
+        (name_case z.0 k)
+
+-- where it does not log, the log is as before
+unlogged_same : (c : Configuration) (n k : Name) (e : Effect) → ((x : ReceptionShape) → e.logged ≢ Some (k, x)) → log_of (with_effect n e c) k ≡ log_of c k
+unlogged_same c n k e not = by_logged e.logged refl
+  where
+    by_logged : (o : Option (Name × ReceptionShape)) → e.logged ≡ o → or_none (find name_cmp k (with_last e.logged c.logs)) ≡ log_of c k
+    by_logged None is = ap (λ o. or_none (find name_cmp k (with_last o c.logs))) is
+    by_logged (Some z) is = ap (λ o. or_none (find name_cmp k (with_last o c.logs))) is
+        ∙ ap or_none (Maps.find_other name_cmp name_total name_same k z.0 (log_of c z.0 ++ z.1 ∷ []) c.logs (λ p. not z.1 (is ∙ ap (λ q. Some (q, z.1)) (sym p))))
+
+-- a send is logged where it goes
+sent_logs : (n k : Name) (e : Effect) → IsLogged n e.sent e.logged → IsSentTo e k → IsLoggedTo e k
+sent_logs n k e logged to = (From n, subst (λ o. IsLogged n o e.logged) to.1 logged)
+
+-- what an effect logs is of who steps
+logged_of : (n : Name) (o : Option (Name × RequestShape)) (x : Name × ReceptionShape) → IsLogged n o (Some x) → IsOf n x.0 x.1
+logged_of n None x (inl h) = no_some (sym h)
+logged_of n None x (inr h) = subst (λ y. IsOf n y.0 y.1) (sym (some_is h)) refl
+logged_of n (Some z) x h = subst (λ y. IsOf n y.0 y.1) (sym (some_is h)) refl
+
 -- what is not filled stays so, where the effect does not fill it
 unfilled_after : (c : Configuration) (n : Name) (e : Effect) (f : FutureShape) → find future_cmp f c.futures ≡ None → (IsFilledBy e f → ⊥) → find future_cmp f (with_effect n e c).futures ≡ None
 unfilled_after c n e f none not = by_filled e.filled refl
@@ -86,11 +127,20 @@ next_refused true b p h = h
 next_refused false b p h = none_true p
 
 -- who was not next, and is not in the list now, is not next
-still_not_next : (lists : Option ListsShape) (c d : Configuration) (k m : Name) → is_next lists c k m ≡ false → (IsNextIn lists d k m → ⊥) → is_next lists d k m ≡ false
-still_not_next None c d k m not uncalled = not
-still_not_next (Some lists) c d k m not uncalled =
-    let o : Option Name = name_at (senders_in lists k) (length (requests_of d k)) in
-    false_from_ne_true (is_next (Some lists) d k m) (λ h. uncalled (named_is m o h))
+still_not_next : (lists : Option ListsShape) (c d : Configuration) (k m : Name) (x : ReceptionShape) → IsOf m k x → is_next lists c k x ≡ false → (IsNextIn lists d k m → ⊥) → is_next lists d k x ≡ false
+still_not_next None c d k m x its not uncalled = not
+still_not_next (Some lists) c d k m x its not uncalled =
+    let o : Option ReceptionShape = reception_at (log_in lists k) (length (log_of d k)) in
+    false_from_ne_true (is_next (Some lists) d k x) (λ h. uncalled (x, reception_is x o h, its))
+
+-- where it logs somebody is there
+logged_are_there : (program : Tree) (c : Configuration) (n : Name) (e : Effect) (x : Name × ReceptionShape) → IsReached program c → intent_in c n ≡ Acts e → e.logged ≡ Some x → IsThere c x.0
+logged_are_there program c n e x reached intends is = by_sent e.sent refl (acts_facts c n e intends).1.logged
+  where
+    by_sent : (o : Option (Name × RequestShape)) → e.sent ≡ o → IsLogged n o e.logged → IsThere c x.0
+    by_sent None none (inl h) = no_some (sym h ∙ is)
+    by_sent None none (inr h) = subst (λ k. IsThere c k) (ap (λ z. z.0) (some_is (sym h ∙ is))) (acts_facts c n e intends).0
+    by_sent (Some z) sent h = subst (λ k. IsThere c k) (ap (λ z. z.0) (some_is (sym h ∙ is))) (targets_are_there program c n e z reached intends sent)
 
 -- Who is beside a step
 
@@ -99,7 +149,7 @@ pub record StillRests (lists : Option ListsShape) (c d : Configuration) (m : Nam
   pub none : step lists d m ≡ None
   pub waits : (f : FutureShape) → WaitsFor d m f → noted f m ≡ true
   pub serves : status_of d m ≡ Serving → status_of c m ≡ Serving
-  pub acts : (g : Effect) → intent_in d m ≡ Acts g → intent_in c m ≡ Acts g
+  pub acts : (g : Effect) → intent_in d m ≡ Acts g → (h : Effect) × (intent_in c m ≡ Acts h) × (h.logged ≡ g.logged)
 
 -- it receives what it does not ask for, or nothing
 pub record Receives (c d : Configuration) (m : Name) (a : Activity) : Type 0 where
@@ -107,9 +157,9 @@ pub record Receives (c d : Configuration) (m : Name) (a : Activity) : Type 0 whe
   pub grown : requests_of d m ≡ requests_of c m ++ more
   pub unwanted : has_wanted (labels_wanted a) more ≡ false
 
-module _ (program : Tree) (lists : Option ListsShape) (c : Configuration) (n m : Name) (e : Effect) (a : Activity) (noted : FutureShape → Name → Bool) (reached : IsReached program c) (steps : step lists c n ≡ Some (with_effect n e c)) (apart : m ≢ n) (is : IsAt c m a)
+module _ (program : Tree) (lists : Option ListsShape) (c : Configuration) (n m : Name) (e : Effect) (a : Activity) (noted : FutureShape → Name → Bool) (reached : IsReached program c) (intends_it : intent_in c n ≡ Acts e) (steps : step lists c n ≡ Some (with_effect n e c)) (apart : m ≢ n) (is : IsAt c m a)
     (unasked : (r : RequestShape) → e.sent ≡ Some (m, r) → status_of c m ≡ Serving → has_text r.label (labels_wanted a) ≡ false)
-    (uncalled : (g : Effect) (x : Name × RequestShape) → intent_in c m ≡ Acts g → g.sent ≡ Some x → IsSentTo e x.0 → IsNextIn lists (with_effect n e c) x.0 m → ⊥)
+    (uncalled : (g : Effect) (x : Name × ReceptionShape) → intent_in c m ≡ Acts g → g.logged ≡ Some x → IsLoggedTo e x.0 → IsNextIn lists (with_effect n e c) x.0 m → ⊥)
     (unfilled : (f : FutureShape) → IsFilledBy e f → noted f m ≡ true → ⊥) (waits : (f : FutureShape) → WaitsFor c m f → noted f m ≡ true) (none : step lists c m ≡ None) where
   abbrev d : Configuration
   d = with_effect n e c
@@ -146,19 +196,48 @@ module _ (program : Tree) (lists : Option ListsShape) (c : Configuration) (n m :
       let x = cycles_stay program c d n m a f stepped apart is (ap is_some filled) st in
       awaiting x.0 (λ z. absurd (true_false (is_some (find future_cmp x.0 d.futures)) x.1 (ap is_some z))) x.2
 
-  refused : (g : Effect) → intent_in c m ≡ Acts g → (o : Option (Name × RequestShape)) → g.sent ≡ o → step lists d m ≡ None
-  refused g intends None sent = absurd (true_false (may_send lists c m g.sent) (ap (may_send lists c m) sent) (held_back lists c m g intends none))
+  its_log : IsLogged n e.sent e.logged
+  its_log = (acts_facts c n e intends_it).1.logged
+
+  -- who polls, and at whom nothing is logged, has received nothing
+  quiet_there : (g : Effect) (x : Name × ReceptionShape) → g.logged ≡ Some x → ((y : ReceptionShape) → e.logged ≢ Some (x.0, y)) → IsPoll m g → requests_of d m ≡ requests_of c m
+  quiet_there g x logged other poll =
+      let home : x.0 ≡ m = ap (λ z. z.0) (some_is (sym logged ∙ poll)) in
+      unsent_same c n m e (λ r h. let to = sent_logs n m e its_log (r, h) in other to.0 (to.1 ∙ ap (λ k. Some (k, to.0)) (sym home)))
+
+  -- it logs the same after the step
+  logs_still : (g : Effect) → intent_in c m ≡ Acts g → (h : Effect) × (intent_in d m ≡ Acts h) × (g.logged ≡ h.logged)
+  logs_still g intends = by_logged (acts_facts c m g intends).1.logged
+    where
+      by_sent : (o : Option (Name × RequestShape)) → IsLogged m o g.logged → (IsPoll m g → ⊥) ⊎ IsPoll m g
+      by_sent None (inl h) = inl (λ p. no_some (sym h ∙ p))
+      by_sent None (inr h) = inr h
+      by_sent (Some z) h = inl (λ p. no_poll (ap (λ z. z.1) (some_is (sym h ∙ p))))
+        where
+          no_poll : From m ≡ Poll → ⊥
+          no_poll q = none_true (ap is_poll q)
+
+      by_logged : IsLogged m g.sent g.logged → (h : Effect) × (intent_in d m ≡ Acts h) × (g.logged ≡ h.logged)
+      by_logged l = ⊎_elim
+          (λ no. (g, intends_stay program c d n m g stepped apart (λ p. absurd (no p)) intends, refl))
+          (λ poll. let y = polls_stay program c d n m g stepped apart poll intends in (y.0, y.1, poll ∙ sym y.2))
+          (by_sent g.sent l)
+
+  refused : (g : Effect) → intent_in c m ≡ Acts g → (o : Option (Name × ReceptionShape)) → g.logged ≡ o → step lists d m ≡ None
+  refused g intends None sent = absurd (true_false (may_log lists c g.logged) (ap (may_log lists c) sent) (held_back lists c m g intends none))
   refused g intends (Some x) sent =
-      let there = targets_are_there program c m g x reached intends sent in
-      let before : may_send lists c m (Some x) ≡ false = ap (may_send lists c m) (sym sent) ∙ held_back lists c m g intends none in
-      let not : is_next lists c x.0 m ≡ false = next_refused (is_some (find name_cmp x.0 c.activities)) (is_next lists c x.0 m) there before in
+      let there = logged_are_there program c m g x reached intends sent in
+      let before : may_log lists c (Some x) ≡ false = ap (may_log lists c) (sym sent) ∙ held_back lists c m g intends none in
+      let not : is_next lists c x.0 x.1 ≡ false = next_refused (is_some (find name_cmp x.0 c.activities)) (is_next lists c x.0 x.1) there before in
       ⊎_elim
       (λ to.
-      let next = still_not_next lists c d x.0 m not (uncalled g x intends sent to) in
-      let may : may_send lists d m (Some x) ≡ false = and_right (is_some (find name_cmp x.0 d.activities)) (is_next lists d x.0 m) next in
-      holds_back lists d m g (intends_stay program c d n m g stepped apart intends) (ap (may_send lists d m) sent ∙ may))
-      (λ other. others_stay_next program lists c d n m g x stepped apart intends sent there (unsent_same c n x.0 e other) none)
-      (sent_to e x.0)
+      let its = logged_of m g.sent x (subst (IsLogged m g.sent) sent (acts_facts c m g intends).1.logged) in
+      let next = still_not_next lists c d x.0 m x.1 its not (uncalled g x intends sent to) in
+      let may : may_log lists d (Some x) ≡ false = and_right (is_some (find name_cmp x.0 d.activities)) (is_next lists d x.0 x.1) next in
+      let y = logs_still g intends in
+      holds_back lists d m y.0 y.1 (ap (may_log lists d) (sym y.2 ∙ sent) ∙ may))
+      (λ other. others_stay_next program lists c d n m g x stepped apart intends sent there (unlogged_same c n x.0 e other) (quiet_there g x sent other) none)
+      (logged_to e x.0)
 
   -- what it receives at a `serve`
   received : status_of c m ≡ Serving → Receives c d m a
@@ -178,12 +257,12 @@ module _ (program : Tree) (lists : Option ListsShape) (c : Configuration) (n m :
 
   by_intent : (p : Intent) → intent_in c m ≡ p → StillRests lists c d m noted
   by_intent (Acts g) intends =
-      let stays : intent_in d m ≡ Acts g = intends_stay program c d n m g stepped apart intends in
+      let y = logs_still g intends in
       record {
-        none = refused g intends g.sent refl;
-        waits = λ f w. none_true (ap is_awaiting (sym (ap status_of_intent stays) ∙ w.0));
-        serves = λ h. none_true (ap is_running (sym h ∙ ap status_of_intent stays));
-        acts = λ h i. intends ∙ sym stays ∙ i;
+        none = refused g intends g.logged refl;
+        waits = λ f w. none_true (ap is_awaiting (sym (ap status_of_intent y.1) ∙ w.0));
+        serves = λ h. none_true (ap is_running (sym h ∙ ap status_of_intent y.1));
+        acts = λ h i. (g, intends, y.2 ∙ ap (logged_by y.0) (sym y.1 ∙ i));
       }
   by_intent (Rests Done) intends = quiet Done refl refl (ap status_of_intent intends) (done_stays program c d n m a stepped apart is (ap status_of_intent intends))
   by_intent (Rests Serving) intends = serving (ap status_of_intent intends)

@@ -5,16 +5,16 @@ use Rattle.std.proofs.lemmas.Bool.{and_parts, and_from, eqb-true, eq-eqb}
 use Rattle.std.proofs.lemmas.Option.{same_Some}
 use Rattle.std.specs.declared.cmp.Ordering.{Ordering}
 use Rattle.std.specs.declared.cmp.Ordering.TheVariants.{Less, Equal, Greater}
-use Rattle.std.specs.Ordering.{is_lt, is_eq, ordering_reverse}
+use Rattle.std.specs.Ordering.{is_lt, ordering_reverse}
 use Rattle.std.specs.Cmp.{tied_itself}
-use Rattle.std.specs.Cmp.Lexicographic.{pointwise, slice_cmp, lists_ties}
-use Rattle.std.specs.FinMap.{slice_cmp-IsAntisymmetric}
+use Rattle.std.specs.Cmp.Lexicographic.{pointwise}
 use Rattle.asp_model.specs.Names.{Name, name_cmp, same_name}
-use Rattle.asp_model.specs.Step.{ListsShape}
+use Rattle.asp_model.specs.Configuration.{ReceptionShape}
+use Rattle.asp_model.specs.Step.{ListsShape, same_reception}
 use Rattle.asp_model.specs.Replay.{CountsShape, entries_of}
 use Rattle.law_schedules.specs.Divergence.{Row, same_row, lesser_name, first_difference}
-use Rattle.law_steps.proofs.NameLemmas.{name_total, name_same, name_case, names_tied, name_itself, names_apart}
-use Rattle.law_chases.proofs.FutureLemmas.{no_some, none_true, true_false}
+use Rattle.law_steps.proofs.NameLemmas.{name_total, name_same, name_case, names_tied, name_itself, names_apart, reception_is, reception_itself}
+use Rattle.law_chases.proofs.FutureLemmas.{no_some, none_true, true_false, some_is}
 
 abbrev pub lists_by : List Row → ListsShape
 lists_by rows = map (λ r. (r.name, r.senders)) rows
@@ -23,10 +23,10 @@ abbrev pub counts_by : List Row → CountsShape
 counts_by rows = map (λ r. (r.name, r.count)) rows
 
 abbrev Entry : Type 0
-Entry = Option (List Name) × Option ℕ
+Entry = Option (List ReceptionShape) × Option ℕ
 
 -- what rows have of an activity
-abbrev pub in_rows : List Row → Name → Option (List Name) × Option ℕ
+abbrev pub in_rows : List Row → Name → Option (List ReceptionShape) × Option ℕ
 in_rows rows n = entries_of (lists_by rows) (counts_by rows) n
 
 -- the names of these rows are above it
@@ -86,22 +86,24 @@ not_nothing r p = no_some (ap (λ e. e.1) p)
 
 -- Rows that are the same
 
-same_senders : (xs ys : List Name) → pointwise same_name xs ys ≡ true → xs ≡ ys
-same_senders xs ys h = slice_cmp-IsAntisymmetric name_same xs ys (tied (slice_cmp name_cmp xs ys) (sym (lists_ties name_cmp (λ x y. refl) xs ys) ∙ h))
-  where
-    tied : (r : Ordering) → is_eq r ≡ true → r ≡ Equal
-    tied Less h = none_true h
-    tied Equal h = refl
-    tied Greater h = none_true h
+same_senders : (xs ys : List ReceptionShape) → pointwise same_reception xs ys ≡ true → xs ≡ ys
+same_senders [] [] h = refl
+same_senders [] (y ∷ ys) h = none_true h
+same_senders (x ∷ xs) [] h = none_true h
+same_senders (x ∷ xs) (y ∷ ys) h =
+    let p = and_parts (same_reception x y) (pointwise same_reception xs ys) h in
+    let q : x ≡ y = some_is (sym (reception_is x (Some y) p.0)) in
+    let r = same_senders xs ys p.1 in
+    λ i. q i ∷ r i
 
-senders_themselves : (xs : List Name) → pointwise same_name xs xs ≡ true
+senders_themselves : (xs : List ReceptionShape) → pointwise same_reception xs xs ≡ true
 senders_themselves [] = refl
-senders_themselves (x ∷ xs) = and_from (same_name x x) (pointwise same_name xs xs) (name_itself x) (senders_themselves xs)
+senders_themselves (x ∷ xs) = and_from (same_reception x x) (pointwise same_reception xs xs) (reception_itself x) (senders_themselves xs)
 
 rows_tied : (x y : Row) → same_row x y ≡ true → x ≡ y
 rows_tied x y h =
-    let p = and_parts (same_name x.name y.name) (nat_eq x.count y.count && pointwise same_name x.senders y.senders) h in
-    let q = and_parts (nat_eq x.count y.count) (pointwise same_name x.senders y.senders) p.1 in
+    let p = and_parts (same_name x.name y.name) (nat_eq x.count y.count && pointwise same_reception x.senders y.senders) h in
+    let q = and_parts (nat_eq x.count y.count) (pointwise same_reception x.senders y.senders) p.1 in
     let name = names_tied x.name y.name p.0 in
     let count = eqb-true x.count y.count q.0 in
     let senders = same_senders x.senders y.senders q.1 in
@@ -111,11 +113,11 @@ entries_tied : (x y : Row) → x.name ≡ y.name → entry x ≡ entry y → sam
 entries_tied x y p e =
     let count = same_Some x.count y.count (ap (λ z. z.1) e) in
     let senders = same_Some x.senders y.senders (ap (λ z. z.0) e) in
-    and_from (same_name x.name y.name) (nat_eq x.count y.count && pointwise same_name x.senders y.senders)
+    and_from (same_name x.name y.name) (nat_eq x.count y.count && pointwise same_reception x.senders y.senders)
     (ap (same_name x.name) (sym p) ∙ name_itself x.name)
-    (and_from (nat_eq x.count y.count) (pointwise same_name x.senders y.senders)
+    (and_from (nat_eq x.count y.count) (pointwise same_reception x.senders y.senders)
     (eq-eqb x.count y.count count)
-    (ap (pointwise same_name x.senders) (sym senders) ∙ senders_themselves x.senders))
+    (ap (pointwise same_reception x.senders) (sym senders) ∙ senders_themselves x.senders))
 
 -- The first difference
 

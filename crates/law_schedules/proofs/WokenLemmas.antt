@@ -6,8 +6,8 @@ use Rattle.std.specs.FinMap.{find}
 use Rattle.asp_model.specs.Names.{Name, FutureShape, name_cmp}
 use Rattle.asp_model.specs.Term.{Tree, has_text}
 use Rattle.asp_model.specs.Configuration.{Activity, Configuration, RequestShape}
-use Rattle.asp_model.specs.Intent.{Effect, Serving}
-use Rattle.asp_model.specs.Step.{ListsShape, with_effect, step}
+use Rattle.asp_model.specs.Intent.{Effect, Acts, Serving}
+use Rattle.asp_model.specs.Step.{ListsShape, intent_in, with_effect, step}
 use Rattle.asp_model.specs.Status.{status_of}
 use Rattle.law_steps.specs.Waking.{labels_wanted}
 use Rattle.law_steps.specs.Reached.{IsReached, IsAt, IsThere}
@@ -24,7 +24,7 @@ below_or_not k l = elim (nat_lt k l) as (λ b. nat_lt k l ≡ b → (k < l) ⊎ 
   | false ↦ λ h. inr (ltb-false k l h)
 ] refl
 
-module _ (program : Tree) (lists : Option ListsShape) (count : Name → ℕ) (c : Configuration) (n : Name) (e : Effect) (noted : FutureShape → Name → Bool) (w : Watches) (before after : Name → Bool) (reached : IsReached program c) (steps : step lists c n ≡ Some (with_effect n e c))
+module _ (program : Tree) (lists : Option ListsShape) (count : Name → ℕ) (c : Configuration) (n : Name) (e : Effect) (noted : FutureShape → Name → Bool) (w : Watches) (before after : Name → Bool) (reached : IsReached program c) (intends : intent_in c n ≡ Acts e) (steps : step lists c n ≡ Some (with_effect n e c))
     (scheduled : IsScheduled lists count c before noted) (watched : IsWatched w count c before) (kept : (m : Name) → before m ≡ true → after m ≡ true) (called : IsCalledBy lists c n e noted w after) where
   -- who is not ready is another
   apart : (m : Name) → after m ≡ false → m ≢ n
@@ -43,7 +43,7 @@ module _ (program : Tree) (lists : Option ListsShape) (count : Name → ℕ) (c 
       true_false (after m) (called.target m r sent ((watched m (was_not m not)).serving a r.label is below st h)) not)
 
   stands : (m : Name) (a : Activity) → after m ≡ false → IsAt c m a → a.reductions < count m → step lists c m ≡ None → StillRests lists c (with_effect n e c) m noted
-  stands m a not is below none = rests_still program lists c n m e a noted reached steps (apart m not) is
+  stands m a not is below none = rests_still program lists c n m e a noted reached intends steps (apart m not) is
       (unasked m a not is below)
       (λ g x intends sent to next. true_false (after m) (called.next x.0 m to next ((watched m (was_not m not)).sending a g x is below intends sent)) not)
       (λ f by note. true_false (after m) (called.filled f m by note) not)
@@ -82,13 +82,15 @@ module _ (program : Tree) (lists : Option ListsShape) (count : Name → ℕ) (c 
   watched_after : IsWatched w count (with_effect n e c) after
   watched_after m not = record {
     serving = λ a l at below st h. (watched m (was_not m not)).serving a l (sym (same m not) ∙ at) below ((after_it m a not at below).serves st) h;
-    sending = λ a g x at below intends sent. (watched m (was_not m not)).sending a g x (sym (same m not) ∙ at) below ((after_it m a not at below).acts g intends) sent;
+    sending = λ a g x at below intends sent.
+        let y = (after_it m a not at below).acts g intends in
+        (watched m (was_not m not)).sending a y.0 x (sym (same m not) ∙ at) below y.1 (y.2 ∙ sent);
   }
 
 pub called_are_scheduled : CalledAreScheduled
 called_are_scheduled program lists count c n e noted w before after reached intends steps scheduled watched kept called = (
-  scheduled_after program lists count c n e noted w before after reached steps scheduled watched kept called,
-  watched_after program lists count c n e noted w before after reached steps scheduled watched kept called,
+  scheduled_after program lists count c n e noted w before after reached intends steps scheduled watched kept called,
+  watched_after program lists count c n e noted w before after reached intends steps scheduled watched kept called,
 )
 
 -- all are noted everywhere

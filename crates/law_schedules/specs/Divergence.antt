@@ -5,7 +5,8 @@ use Rattle.std.specs.FinMap.{is_sorted}
 use Rattle.std.specs.Ordering.{is_lt}
 use Rattle.asp_model.specs.Names.{Name, Text, name_cmp, same_name}
 use Rattle.asp_model.specs.Term.{Tree}
-use Rattle.asp_model.specs.Step.{ListsShape}
+use Rattle.asp_model.specs.Configuration.{ReceptionShape}
+use Rattle.asp_model.specs.Step.{ListsShape, same_reception}
 use Rattle.asp_model.specs.Replay.{CountsShape, replay, Fits, IsLeastDiverging}
 use Rattle.asp_model.specs.Outcome.{ActivityReportShape, OutcomeShape, outcome_of, lists_in, counts_in}
 use Rattle.asp_model.specs.ReadReport.{Reads, read_report}
@@ -14,7 +15,7 @@ use Rattle.asp_model.specs.ReadReport.{Reads, read_report}
 pub record Row : Type 0 where
   pub name : Name
   pub count : ℕ
-  pub senders : List Name
+  pub senders : List ReceptionShape
 
 -- the row of an activity's report
 abbrev pub row_of : ActivityReportShape → Row
@@ -30,9 +31,9 @@ rows_given [] counts = []
 rows_given (x ∷ lists) [] = []
 rows_given (x ∷ lists) (y ∷ counts) = record { name = x.0; count = y.1; senders = x.1 } ∷ rows_given lists counts
 
--- one name, one count, and the same senders in the same order
+-- one name, one count, and one log
 abbrev pub same_row : Row → Row → Bool
-same_row x y = same_name x.name y.name && (nat_eq x.count y.count && pointwise same_name x.senders y.senders)
+same_row x y = same_name x.name y.name && (nat_eq x.count y.count && pointwise same_reception x.senders y.senders)
 
 -- the lesser in the order of names
 abbrev pub lesser_name : Name → Name → Name

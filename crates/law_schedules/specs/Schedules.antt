@@ -5,11 +5,11 @@ use Rattle.std.specs.Ordering.{is_lt}
 use Rattle.asp_model.specs.Names.{Name, FutureShape, name_cmp, future_cmp, main_name}
 use Rattle.asp_model.specs.Parcel.{ParcelShape}
 use Rattle.asp_model.specs.Term.{Tree}
-use Rattle.asp_model.specs.Configuration.{RequestShape, Activity, Configuration, start, requests_of}
+use Rattle.asp_model.specs.Configuration.{RequestShape, ReceptionShape, From, Poll, Activity, Configuration, start, log_of}
 use Rattle.asp_model.specs.Intent.{Effect, Acts, Awaits}
-use Rattle.asp_model.specs.Step.{ListsShape, name_at, intent_in, step, with_effect}
+use Rattle.asp_model.specs.Step.{ListsShape, reception_at, intent_in, step, with_effect}
 use Rattle.asp_model.specs.Status.{status_of}
-use Rattle.asp_model.specs.Replay.{senders_in, least_step}
+use Rattle.asp_model.specs.Replay.{log_in, least_step}
 use Rattle.law_steps.specs.Reached.{IsReached, IsAt, IsThere}
 
 -- an activity is at its count, if it is there
@@ -39,19 +39,29 @@ IsSentTo e m = (r : RequestShape) × (e.sent ≡ Some (m, r))
 abbrev pub IsFilledBy : Effect → FutureShape → Type 0
 IsFilledBy e f = (p : ParcelShape) × (e.filled ≡ Some (f, p))
 
--- the lists have this sender next for an activity
+-- it logs at this activity
+abbrev pub IsLoggedTo : Effect → Name → Type 0
+IsLoggedTo e m = (x : ReceptionShape) × (e.logged ≡ Some (m, x))
+
+-- a reception of this activity in the log of another: it sends there, or it is its own and it polls
+abbrev pub IsOf : Name → Name → ReceptionShape → Type 0
+IsOf q m (From n) = n ≡ q
+IsOf q m Poll = m ≡ q
+
+-- the log has this one's reception next for an activity
 abbrev pub IsNextIn : Option ListsShape → Configuration → Name → Name → Type 0
 IsNextIn None c m q = ⊥
-IsNextIn (Some lists) c m q = name_at (senders_in lists m) (length (requests_of c m)) ≡ Some q
+IsNextIn (Some lists) c m q = (x : ReceptionShape)
+    × (reception_at (log_in lists m) (length (log_of c m)) ≡ Some x) × IsOf q m x
 
--- those that an effect of n wakes are ready: n, whom it makes, whom it sends to, who is next in the list
--- there, and who is noted at the future that it fills
+-- those that an effect of n wakes are ready: n, whom it makes, whom it sends to, who is next in the log
+-- where it logs, and who is noted at the future that it fills
 pub record IsWokenBy (lists : Option ListsShape) (c : Configuration) (n : Name) (e : Effect)
     (noted : FutureShape → Name → Bool) (ready : Name → Bool) : Type 0 where
   pub stepper : ready n ≡ true
   pub made : (m : Name) (b : Activity) → e.made ≡ Some (m, b) → ready m ≡ true
   pub target : (m : Name) → IsSentTo e m → ready m ≡ true
-  pub next : (m q : Name) → IsSentTo e m → IsNextIn lists (with_effect n e c) m q → ready q ≡ true
+  pub next : (m q : Name) → IsLoggedTo e m → IsNextIn lists (with_effect n e c) m q → ready q ≡ true
   pub filled : (f : FutureShape) (q : Name) → IsFilledBy e f → noted f q ≡ true → ready q ≡ true
 
 -- Laws

@@ -7,9 +7,9 @@ use Rattle.asp_model.specs.Term.{Head, has_text}
 use Rattle.asp_model.specs.Split.{Context, Redex, Split, Stands, Splits, split}
 use Rattle.asp_model.specs.Store.{CellShape, Number, Object, Reference, Future, Group, Store, cell, moved_cell}
 use Rattle.asp_model.specs.Parcel.{ParcelShape, parcel_of, has_place, place_at}
-use Rattle.asp_model.specs.Contraction.{Contraction, Becomes, Faults, Needs, Communicates, Breaks, Creates, Sends, Serves, contract, strict_operands, strict_members}
+use Rattle.asp_model.specs.Contraction.{Contraction, Becomes, Faults, Needs, Communicates, Breaks, Creates, Sends, Serves, Polls, contract, strict_operands, strict_members}
 use Rattle.asp_model.specs.Chase.{Chase, Value, Unfilled, Cycle}
-use Rattle.asp_model.specs.Configuration.{RequestShape, ServiceShape, Activity}
+use Rattle.asp_model.specs.Configuration.{RequestShape, ServiceShape, ReceptionShape, Activity}
 use Rattle.asp_model.specs.Intent.{Done, Serving, Running, Awaits, Faulted, Intent, Acts, Rests, Effect, Ready, Reads, Lacks, fetched, operand_ready, operands_ready, redex_ready, Numbered, oldest_match, labels_served, serves, newest, filling, ends_service, sends, creates, contracts, intent}
 use Rattle.law_steps.specs.Linked.{Each}
 use Rattle.law_chases.proofs.FutureLemmas.{no_some, some_is}
@@ -87,6 +87,7 @@ module _ (P : CellShape → Type 0) (requests : List RequestShape) (n : Name) (a
   contraction_aims h contexts s (Communicates (Creates object service)) fine = λ z e. no_some e
   contraction_aims h contexts s (Communicates (Sends to label arguments)) fine = λ z e. subst (λ k. P (Reference k)) (ap (λ x. x.0) (some_is e)) fine
   contraction_aims h contexts s (Communicates (Serves labels)) fine = serves_aims contexts (oldest_match (labels_served labels (cell s a.active)) a.served 0 requests)
+  contraction_aims h contexts s (Communicates (Polls labels)) fine = λ z e. no_some e
   contraction_aims h contexts s Breaks fine = tt
 
 module _ (P : CellShape → Type 0) (o : IsOfNames P) (chases : FutureShape → Chase) (read : AllRead P chases) (lacked : AllLacked P chases) (requests : List RequestShape) (n : Name) (a : Activity) (h : Each P a.store) where
@@ -117,8 +118,8 @@ pub record NamesOf (P : CellShape → Type 0) (e : Effect) : Type 0 where
   pub made : (z : Name × Activity) → e.made ≡ Some z → P (Reference z.0)
   pub sent : (z : Name × RequestShape) → e.sent ≡ Some z → P (Future z.1.future)
 
-clean_alone : (P : CellShape → Type 0) (a : Activity) → Each P a.store → Clean P (record { own = a; sent = None; made = None; filled = None })
-clean_alone P a h = record { own = h; made = λ z e. no_some e; sent = λ z e. no_some e; filled = λ z e. no_some e }
+clean_alone : (P : CellShape → Type 0) (a : Activity) (l : Option (Name × ReceptionShape)) → Each P a.store → Clean P (record { own = a; sent = None; logged = l; made = None; filled = None })
+clean_alone P a l h = record { own = h; made = λ z e. no_some e; sent = λ z e. no_some e; filled = λ z e. no_some e }
 
 match_all : (P : CellShape → Type 0) (labels : List Text) (served : List ℕ) (k : ℕ) (rs : List RequestShape) (x : Numbered) → AllSent P rs → oldest_match labels served k rs ≡ Some x → Each P x.1.arguments.cells
 match_all P labels served k [] x h e = no_some e
@@ -130,7 +131,7 @@ match_all P labels served k (r ∷ rs) x h e = elim (not (has_place k served) &&
 module _ (P : CellShape → Type 0) (o : IsOfNames P) (requests : List RequestShape) (sent : AllSent P requests) (n : Name) (a : Activity) (h : Each P a.store) where
   serves_clean : (contexts : List Context) (v : Option Numbered) → ((x : Numbered) → v ≡ Some x → Each P x.1.arguments.cells) → (e : Effect) → serves a contexts v ≡ Acts e → Clean P e
   serves_clean contexts None k e q = no_acts q
-  serves_clean contexts (Some x) k e q = subst (Clean P) (acts_is q) (clean_alone P _ (each_both P a.store (map (moved_cell (λ i. i + length a.store)) x.1.arguments.cells) h (all_moved P o (λ i. i + length a.store) x.1.arguments.cells (k x refl))))
+  serves_clean contexts (Some x) k e q = subst (Clean P) (acts_is q) (clean_alone P _ None (each_both P a.store (map (moved_cell (λ i. i + length a.store)) x.1.arguments.cells) h (all_moved P o (λ i. i + length a.store) x.1.arguments.cells (k x refl))))
 
   filling_all : (f : Option FutureShape) (p : ParcelShape) → Each P p.cells → (z : FutureShape × ParcelShape) → filling f p ≡ Some z → Each P z.1.cells
   filling_all None p k z q = no_some q
@@ -161,12 +162,13 @@ module _ (P : CellShape → Type 0) (o : IsOfNames P) (requests : List RequestSh
       }
 
   contraction_clean : (k : Head) (contexts : List Context) (s : Store) (r : Contraction) (e : Effect) → Each P s → Fine P k r → contracts requests n a contexts s r ≡ Acts e → NamesOf P e → Clean P e
-  contraction_clean k contexts s (Becomes t store lines) e g fine q names = subst (Clean P) (acts_is q) (clean_alone P _ fine)
+  contraction_clean k contexts s (Becomes t store lines) e g fine q names = subst (Clean P) (acts_is q) (clean_alone P _ None fine)
   contraction_clean k contexts s (Faults x) e g fine q names = no_acts q
   contraction_clean k contexts s (Needs place) e g fine q names = no_acts q
   contraction_clean k contexts s (Communicates (Creates object service)) e g fine q names = creates_clean contexts s object service e g q names
   contraction_clean k contexts s (Communicates (Sends to label arguments)) e g fine q names = sends_clean contexts s to label arguments e g q names
   contraction_clean k contexts s (Communicates (Serves labels)) e g fine q names = serves_clean contexts (oldest_match (labels_served labels (cell s a.active)) a.served 0 requests) (λ x r. match_all P (labels_served labels (cell s a.active)) a.served 0 requests x sent r) e q
+  contraction_clean k contexts s (Communicates (Polls labels)) e g fine q names = subst (Clean P) (acts_is q) (clean_alone P _ _ (each_both P s (Number _ ∷ []) g (o.number _, tt)))
   contraction_clean k contexts s Breaks e g fine q names = no_acts q
 
   ready_clean : (contexts : List Context) (redex : Redex) (r : Ready) → IsRead P r → (e : Effect) → elim r [ Lacks f ↦ Rests (Awaits f) | Reads s ↦ contracts requests n a contexts s (contract s redex) ] ≡ Acts e → NamesOf P e → Clean P e

@@ -1,15 +1,15 @@
 -- What a step leaves and gives is closed.
-use Rattle.std.specs.Prelude.{◌≡◌, ℕ, suc, ◌<◌, ◌≤◌, List, [], ◌∷◌, ◌++◌, Option, Some, None, length, slice_get}
+use Rattle.std.specs.Prelude.{◌≡◌, ℕ, suc, ◌<◌, ◌≤◌, List, [], ◌∷◌, ◌++◌, Option, Some, None, length, slice_get, is_some}
 use Rattle.std.proofs.Common.{refl, sym, subst, arith, length-append}
 use Rattle.asp_model.specs.Names.{Name, FutureShape, Text, created_name}
 use Rattle.asp_model.specs.Term.{Head, Tree, leaf, none, Call, Make, WaitAll, Get, Put, Clone, Active, If, Operate, Print, Scatter, Size, Member, loc, locations, locations_below, own_locations}
 use Rattle.asp_model.specs.Split.{Context, Redex, Split, Stands, Splits, split, plug}
 use Rattle.asp_model.specs.Store.{CellShape, Number, Object, Reference, Future, Group, Store, cell, reached}
 use Rattle.asp_model.specs.Parcel.{ParcelShape, parcel_of, unpack, unpacked_roots}
-use Rattle.asp_model.specs.Contraction.{Contraction, Becomes, Faults, Needs, Communicates, Breaks, Creates, Sends, Serves, contract, first_of, strict_operands, strict_members, members_of, members_at}
+use Rattle.asp_model.specs.Contraction.{Contraction, Becomes, Faults, Needs, Communicates, Breaks, Creates, Sends, Serves, Polls, truth, contract, first_of, strict_operands, strict_members, members_of, members_at}
 use Rattle.asp_model.specs.Chase.{Chase, Value, Unfilled, Cycle}
-use Rattle.asp_model.specs.Configuration.{RequestShape, ServiceShape, Activity, begun}
-use Rattle.asp_model.specs.Intent.{Intent, Acts, Rests, Awaits, Effect, Ready, Reads, Lacks, fetched, operand_ready, operands_ready, redex_ready, start_term, creates, sends, Numbered, oldest_match, labels_served, serves, newest, but_newest, filling, ends_service, contracts, intent}
+use Rattle.asp_model.specs.Configuration.{RequestShape, ServiceShape, ReceptionShape, Poll, Activity, begun}
+use Rattle.asp_model.specs.Intent.{Intent, Acts, Rests, Awaits, Effect, Ready, Reads, Lacks, fetched, operand_ready, operands_ready, redex_ready, start_term, creates, sends, polls, Numbered, oldest_match, labels_served, serves, newest, but_newest, filling, ends_service, contracts, intent}
 use Rattle.law_steps.specs.Linked.{Each}
 use Rattle.law_steps.specs.Closed.{AreBelow, IsClosedStore, IsClosedParcel, IsClosedValue, ContextsBelow, SplitBelow, places_round, places_of, IsClosedActivity}
 use Rattle.law_chases.proofs.FutureLemmas.{no_some, some_is}
@@ -109,8 +109,8 @@ contexts_more j k le = each_weaker (λ x. AreBelow j (places_round x)) (λ x. Ar
 pub services_more : (j k : ℕ) → j ≤ k → (vs : List ServiceShape) → Each (λ v. ContextsBelow j v.contexts) vs → Each (λ v. ContextsBelow k v.contexts) vs
 services_more j k le = each_weaker (λ v. ContextsBelow j v.contexts) (λ v. ContextsBelow k v.contexts) (λ v. contexts_more j k le v.contexts)
 
-alone_closed : (a : Activity) → IsClosedActivity a → IsClosedEffect (record { own = a; sent = None; made = None; filled = None })
-alone_closed a h = record { own = h; made = λ z e. no_some e; sent = λ z e. no_some e; filled = λ z e. no_some e }
+alone_closed : (a : Activity) (l : Option (Name × ReceptionShape)) → IsClosedActivity a → IsClosedEffect (record { own = a; sent = None; logged = l; made = None; filled = None })
+alone_closed a l h = record { own = h; made = λ z e. no_some e; sent = λ z e. no_some e; filled = λ z e. no_some e }
 
 -- an activity that goes on with a term in contexts, over a store that is no shorter
 going_on : (a : Activity) (contexts : List Context) (t : Tree) (s : Store) → IsClosedActivity a → IsClosedStore s → length a.store ≤ length s → ContextsBelow (length a.store) contexts → AreBelow (length s) (locations t) → (b : Activity) → b.term ≡ plug contexts t → b.store ≡ s → b.services ≡ a.services → b.active ≡ a.active → IsClosedActivity b
@@ -173,13 +173,19 @@ module _ (requests : List RequestShape) (received : (k : ℕ) (r : RequestShape)
         filled = λ z is. no_some is;
       }
 
+  polls_closed : (contexts : List Context) (s : Store) (o : Option Numbered) → IsClosedStore s → length a.store ≤ length s → ContextsBelow (length a.store) contexts → ClosedIntent (polls n a contexts s o)
+  polls_closed contexts s o k le round =
+      let c : CellShape = Number (truth (is_some o)) in
+      let e = one_longer s c in
+      alone_closed _ (Some (n, Poll)) (going_on a contexts (loc (length s)) (s ++ c ∷ []) h (allotted s c k tt) (omega (arith, le, e)) round (omega (arith, e), tt) _ refl refl refl refl)
+
   serves_closed : (contexts : List Context) (o : Option Numbered) → ContextsBelow (length a.store) contexts → ((x : Numbered) → o ≡ Some x → IsClosedParcel x.1.arguments) → ClosedIntent (serves a contexts o)
   serves_closed contexts None round k = tt
   serves_closed contexts (Some x) round k =
       let p = k x refl in
       let s = unpack a.store x.1.arguments in
       let le : length a.store ≤ length s = omega (arith, unpacked_length a.store x.1.arguments) in
-      alone_closed _ (record {
+      alone_closed _ None (record {
         term = (omega (arith, h.active, le), locs_below (length s) (unpacked_roots a.store x.1.arguments) none (unpacked_roots_below a.store x.1.arguments p.roots) tt);
         services = each_both (λ v. ContextsBelow (length s) v.contexts) a.services (record { contexts = contexts; future = a.present } ∷ []) (services_more (length a.store) (length s) le a.services h.services) (contexts_more (length a.store) (length s) le contexts round, tt);
         store = unpacked_closed a.store x.1.arguments h.store p.cells;
@@ -201,12 +207,13 @@ module _ (requests : List RequestShape) (received : (k : ℕ) (r : RequestShape)
   }
 
   contraction_closed : (contexts : List Context) (s : Store) (r : Contraction) → IsClosedStore s → length a.store ≤ length s → ContextsBelow (length a.store) contexts → Closes s r → ClosedIntent (contracts requests n a contexts s r)
-  contraction_closed contexts s (Becomes t store lines) k le round c = alone_closed _ (going_on a contexts t store h c.0 (omega (arith, le, c.2)) round c.1 _ refl refl refl refl)
+  contraction_closed contexts s (Becomes t store lines) k le round c = alone_closed _ None (going_on a contexts t store h c.0 (omega (arith, le, c.2)) round c.1 _ refl refl refl refl)
   contraction_closed contexts s (Faults x) k le round c = tt
   contraction_closed contexts s (Needs place) k le round c = tt
   contraction_closed contexts s (Communicates (Creates object service)) k le round c = creates_closed contexts s object service k le round c
   contraction_closed contexts s (Communicates (Sends to label arguments)) k le round c = sends_closed contexts s to label arguments k le round c
   contraction_closed contexts s (Communicates (Serves labels)) k le round c = serves_closed contexts (oldest_match (labels_served labels (cell s a.active)) a.served 0 requests) round (λ x is. let m = match_is (labels_served labels (cell s a.active)) a.served 0 requests x is in received m.0 x.1 m.2)
+  contraction_closed contexts s (Communicates (Polls labels)) k le round c = polls_closed contexts s (oldest_match (labels_served labels (cell s a.active)) a.served 0 requests) k le round
   contraction_closed contexts s Breaks k le round c = tt
 
   ready_closed : (contexts : List Context) (redex : Redex) (r : Ready) → ContextsBelow (length a.store) contexts → AreBelow (length a.store) (places_of redex) → IsReadFrom (length a.store) r → ClosedIntent (elim r [ Lacks f ↦ Rests (Awaits f) | Reads s ↦ contracts requests n a contexts s (contract s redex) ])

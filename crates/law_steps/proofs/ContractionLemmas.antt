@@ -3,12 +3,12 @@
 use Rattle.std.specs.Prelude.{◌≡◌, ℕ, ℤ, pos, negsuc, zero, suc, ◌+ℤ◌, ◌-ℤ◌, ◌*ℤ◌, int_lt, int_le, int_div, int_rem, ◌&&◌, true, false, List, [], ◌∷◌, Option, Some, None, length, map}
 use Rattle.std.proofs.Common.{refl, subst}
 use Rattle.asp_model.specs.Names.{Text}
-use Rattle.asp_model.specs.Term.{SignShape, Add, Subtract, Multiply, Divide, Remainder, Less, Equal, Head, Tree, Trees, none, more, Make, Get, Put, Call, Clone, Active, Serve, Let, Steps, If, Repeat, Operate, Print, Echo, Scatter, Size, Member, WaitAll, Environment}
+use Rattle.asp_model.specs.Term.{SignShape, Add, Subtract, Multiply, Divide, Remainder, Less, Equal, Head, Tree, Trees, none, more, Make, Get, Put, Call, Clone, Active, Serve, Let, Steps, If, Repeat, Operate, Print, Echo, Scatter, Size, Member, WaitAll, Pending, Environment}
 use Rattle.asp_model.specs.Term as term
 use Rattle.asp_model.specs.Split.{Redex}
 use Rattle.asp_model.specs.Store.{MethodShape, Field, CellShape, Number, Object, Reference, Future, Group, Store, cell, with_cell, moved_cell}
 use Rattle.asp_model.specs.Parcel.{parcel_of, visit_order, number_in, with_cells_at}
-use Rattle.asp_model.specs.Contraction.{Contraction, Becomes, Faults, Needs, Communicates, Breaks, Creates, Sends, Serves, LineShape, TextLine, row, contract}
+use Rattle.asp_model.specs.Contraction.{Contraction, Becomes, Faults, Needs, Communicates, Breaks, Creates, Sends, Serves, Polls, LineShape, TextLine, row, contract}
 use Rattle.asp_model.specs.Contraction as rows
 use Rattle.law_steps.specs.Linked.{Each}
 use Rattle.law_steps.proofs.EachLemmas.{each_both}
@@ -60,6 +60,7 @@ Fine P h (Needs place) = Unit {0}
 Fine P h (Communicates (Creates object service)) = Unit {0}
 Fine P h (Communicates (Sends to label arguments)) = P (Reference to)
 Fine P h (Communicates (Serves labels)) = h ≡ Serve labels
+Fine P h (Communicates (Polls labels)) = h ≡ Pending labels
 Fine P h Breaks = Unit {0}
 
 module _ (P : CellShape → Type 0) (o : IsOfNames P) (s : Store) (k : Each P s) (h : Head) where
@@ -172,6 +173,7 @@ module _ (P : CellShape → Type 0) (o : IsOfNames P) (s : Store) (k : Each P s)
   row_fine Clone (i ∷ []) none = allots_fine P o s k Clone (cell s i) [] (of_cell P o s k i)
   row_fine (Active l) (i ∷ []) none = active_fine P o s k (Active l) i l (cell s i)
   row_fine (Serve ls) [] none = refl
+  row_fine (Pending ls) [] none = refl
   row_fine (Let x) (i ∷ []) (more a none) = k
   row_fine Steps (i ∷ []) ts = k
   row_fine If (i ∷ []) (more a (more b none)) = if_fine P o s k If a b (cell s i)
@@ -205,3 +207,7 @@ all_any (c ∷ s) = (tt, all_any s)
 -- a `serve` alone asks for requests
 pub serves_by_head : (s : Store) (r : Redex) (labels : List Text) → contract s r ≡ Communicates (Serves labels) → r.head ≡ Serve labels
 serves_by_head s r labels e = subst (Fine Any r.head) e (contract_fine Any any_of_names s (all_any s) r)
+
+-- a `pending` alone polls
+pub polls_by_head : (s : Store) (r : Redex) (labels : List Text) → contract s r ≡ Communicates (Polls labels) → r.head ≡ Pending labels
+polls_by_head s r labels e = subst (Fine Any r.head) e (contract_fine Any any_of_names s (all_any s) r)

@@ -10,8 +10,8 @@ use Rattle.asp_model.specs.Parcel.{ParcelShape, has_place, unpack_at}
 use Rattle.asp_model.specs.Configuration.{Activity, Configuration}
 use Rattle.def_journals.specs.Deliveries.{with_store, holders_from, unpack_each, at_holders, edge_delivered, value_of, value_needed, at_place, need_delivered}
 use Rattle.law_steps.specs.Kept.{AreDistinct, mark, one_unless}
-use Rattle.law_steps.proofs.NameLemmas.{name_total, name_same, name_case}
-use Rattle.law_chases.proofs.FutureLemmas.{some_is, no_some, futures_tied}
+use Rattle.law_steps.proofs.NameLemmas.{name_total, name_same, name_case, not_some}
+use Rattle.law_chases.proofs.FutureLemmas.{some_is, no_some, futures_tied, true_false}
 use Rattle.law_chases.proofs.MapLemmas as Maps
 use Rattle.law_steps.proofs.FactLemmas.{face, holds}
 use Rattle.law_steps.proofs.SoundLemmas.{Sound, at_name, in_map}
@@ -43,7 +43,7 @@ module _ (c : Configuration) (n : Name) (a : Activity) (t : Store) (at : find na
 
   pub sound_delivered : Sound c → Sound after
   sound_delivered h = record {
-    ordered = record { activities = is_sorted-put name_cmp name_total n (record a { store = t }) c.activities h.ordered.activities; received = h.ordered.received; futures = h.ordered.futures };
+    ordered = record { activities = is_sorted-put name_cmp name_total n (record a { store = t }) c.activities h.ordered.activities; received = h.ordered.received; logs = h.ordered.logs; futures = h.ordered.futures };
     named = λ m k q. subst (λ f. k ≤ f.creations) (sym (same_face m)) (h.named m k (sym (same_there (m ++ k ∷ [])) ∙ q));
     begun = λ m k r st. subst (λ f. r.future.index ≤ f.sends) (sym (same_face r.future.by)) (h.begun m k r st);
     apart = h.apart;
@@ -67,6 +67,7 @@ module _ (c : Configuration) (n : Name) (a : Activity) (t : Store) (at : find na
     housed = λ m k r st. same_there m ∙ h.housed m k r st;
     by = h.by;
     distinct = λ m. subst (λ x. AreDistinct x.served) (sym (same_face m)) (h.distinct m);
+    quiet = λ m none. h.quiet m (not_some (find name_cmp m c.activities) (λ there. true_false (is_some (find name_cmp m after.activities)) (same_there m ∙ there) (ap is_some none)));
   }
 
 -- What a delivery finds

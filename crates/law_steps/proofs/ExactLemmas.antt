@@ -6,7 +6,7 @@ use Rattle.asp_model.specs.Names.{Name, name_cmp}
 use Rattle.asp_model.specs.Term.{Tree}
 use Rattle.asp_model.specs.Configuration.{RequestShape, Activity, Configuration, or_none, requests_of, start}
 use Rattle.asp_model.specs.Intent.{Effect}
-use Rattle.asp_model.specs.Step.{put_some, with_sent, with_effect}
+use Rattle.asp_model.specs.Step.{put_some, with_last, with_effect}
 use Rattle.law_steps.specs.Reached.{IsThere}
 use Rattle.law_steps.specs.Kept.{Stands}
 use Rattle.law_steps.proofs.NameLemmas.{name_total, name_same, name_case}
@@ -73,7 +73,7 @@ sent_own c n e (Some z) is m x k le = ⊎_elim
     (λ p. let y = x.sent n k p in (y.0, placed_after c n e y.0 (record { by = n; index = suc k }) y.1))
     (λ p.
     let q : (at_name c n).sends ≡ k = omega (arith, p, le, m.1) in
-    let there : requests_of (with_effect n e c) z.0 ≡ requests_of c z.0 ++ z.1 ∷ [] = ap (λ o. or_none (find name_cmp z.0 (with_sent o c.received))) is ∙ ap or_none (Maps.find_same name_cmp name_total name_same z.0 (requests_of c z.0 ++ z.1 ∷ []) c.received) in
+    let there : requests_of (with_effect n e c) z.0 ≡ requests_of c z.0 ++ z.1 ∷ [] = ap (λ o. or_none (find name_cmp z.0 (with_last o c.received))) is ∙ ap or_none (Maps.find_same name_cmp name_total name_same z.0 (requests_of c z.0 ++ z.1 ∷ []) c.received) in
     (z.0, (length (requests_of c z.0), z.1, ap (λ b. slice_get b (length (requests_of c z.0))) there ∙ at_end (requests_of c z.0) z.1, m.0 ∙ (λ i. record { by = n; index = suc (q i) }))))
     (le_or_more (suc k) (at_name c n).sends)
   where

@@ -1,16 +1,16 @@
 -- What a step does beside its term, store and lines.
 use Rattle.std.specs.Prelude.{◌≡◌, ℕ, suc, ◌+◌, ◌≤◌, ◌&&◌, not, Bool, true, false, T, List, [], ◌∷◌, ◌++◌, Option, Some, None, is_some, slice_get}
-use Rattle.std.proofs.Common.{refl, ap, subst, arith}
+use Rattle.std.proofs.Common.{refl, ap, subst, arith, inl, inr, ◌⊎◌}
 use Rattle.std.specs.FinMap.{find}
 use Rattle.asp_model.specs.Names.{Name, FutureShape, Text, name_cmp, created_name}
 use Rattle.asp_model.specs.Term.{has_text}
 use Rattle.asp_model.specs.Split.{Context, Split, Stands, Splits, Redex, split}
 use Rattle.asp_model.specs.Store.{Store, cell}
 use Rattle.asp_model.specs.Parcel.{ParcelShape, parcel_of, has_place}
-use Rattle.asp_model.specs.Contraction.{Contraction, Becomes, Faults, Needs, Communicates, Breaks, Creates, Sends, Serves, contract}
+use Rattle.asp_model.specs.Contraction.{Contraction, Becomes, Faults, Needs, Communicates, Breaks, Creates, Sends, Serves, Polls, contract}
 use Rattle.asp_model.specs.Chase.{Chase, chase}
-use Rattle.asp_model.specs.Configuration.{RequestShape, ServiceShape, Activity, Configuration, requests_of}
-use Rattle.asp_model.specs.Intent.{Intent, Acts, Rests, Done, Effect, StatusShape, Ready, Reads, Lacks, Awaits, redex_ready, Numbered, oldest_match, labels_served, serves, newest, but_newest, filling, ends_service, creates, sends, contracts, intent}
+use Rattle.asp_model.specs.Configuration.{RequestShape, ServiceShape, ReceptionShape, From, Poll, Activity, Configuration, requests_of}
+use Rattle.asp_model.specs.Intent.{Intent, Acts, Rests, Done, Effect, StatusShape, Ready, Reads, Lacks, Awaits, redex_ready, Numbered, oldest_match, labels_served, serves, newest, but_newest, filling, ends_service, creates, sends, polls, contracts, intent}
 use Rattle.asp_model.specs.Step.{intent_in}
 use Rattle.law_steps.specs.Kept.{tally, tally_all}
 use Rattle.law_chases.proofs.FutureLemmas.{no_some, some_is}
@@ -43,6 +43,11 @@ abbrev pub IsSent : Name → Face → Face → Option (Name × RequestShape) →
 IsSent n x y None = y.sends ≡ x.sends
 IsSent n x y (Some z) = (z.1.future ≡ record { by = n; index = suc x.sends }) × (y.sends ≡ suc x.sends) × (z.1.sender ≡ n)
 
+-- a send is logged where it goes, a poll at home, and nothing else is logged
+abbrev pub IsLogged : Name → Option (Name × RequestShape) → Option (Name × ReceptionShape) → Type 0
+IsLogged n None l = (l ≡ None) ⊎ (l ≡ Some (n, Poll))
+IsLogged n (Some z) l = l ≡ Some (z.0, From n)
+
 -- which futures an activity has to answer after a step
 pub data Holding (requests : List RequestShape) (x y : Face) (filled : Option (FutureShape × ParcelShape)) : Type 0 where
   as_before : filled ≡ None → y.served ≡ x.served → ((w : FutureShape → ℕ) → holds w y ≡ holds w x) → Holding requests x y filled
@@ -55,6 +60,7 @@ pub record Facts (requests : List RequestShape) (n : Name) (x : Face) (e : Effec
   pub more_sent : x.sends ≤ e.own.sends
   pub made : IsMade n x (face_of e.own) e.made
   pub sent : IsSent n x (face_of e.own) e.sent
+  pub logged : IsLogged n e.sent e.logged
   pub holding : Holding requests x (face_of e.own) e.filled
 
 -- Intents
@@ -101,13 +107,14 @@ match_is labels served k (r ∷ rs) x e =
     ] refl e
 
 module _ (requests : List RequestShape) (n : Name) (a : Activity) where
-  quiet : (b : Activity) → face_of b ≡ record (face_of a) { reductions = suc a.reductions } → Facts requests n (face_of a) (record { own = b; sent = None; made = None; filled = None })
+  quiet : (b : Activity) → face_of b ≡ record (face_of a) { reductions = suc a.reductions } → Facts requests n (face_of a) (record { own = b; sent = None; logged = None; made = None; filled = None })
   quiet b is = record {
     counted = ap (λ z. z.reductions) is;
     more_made = let h : b.creations ≡ a.creations = ap (λ z. z.creations) is in omega (arith, h);
     more_sent = let h : b.sends ≡ a.sends = ap (λ z. z.sends) is in omega (arith, h);
     made = ap (λ z. z.creations) is;
     sent = ap (λ z. z.sends) is;
+    logged = inl refl;
     holding = as_before refl (ap (λ z. z.served) is) (λ w. ap (λ z. holds w z) is);
   }
 
@@ -121,6 +128,7 @@ module _ (requests : List RequestShape) (n : Name) (a : Activity) where
         more_sent = omega arith;
         made = refl;
         sent = refl;
+        logged = inl refl;
         holding = serving x.0 x.1 refl (subst (λ i. slice_get requests i ≡ Some x.1) (omega (arith, p.1)) p.2) p.3 refl (λ w. omega (arith, tally_both w a.services (record { contexts = contexts; future = a.present } ∷ [])));
       })
 
@@ -133,6 +141,7 @@ module _ (requests : List RequestShape) (n : Name) (a : Activity) where
         more_sent = omega arith;
         made = refl;
         sent = refl;
+        logged = inl refl;
         holding = ending (parcel_of a.store (place ∷ [])) refl refl (λ w. omega (arith, tally_newest w a.services v is));
       })
 
@@ -143,6 +152,7 @@ module _ (requests : List RequestShape) (n : Name) (a : Activity) where
     more_sent = omega arith;
     made = (refl, refl, refl);
     sent = refl;
+    logged = inl refl;
     holding = as_before refl refl (λ w. refl);
   })
 
@@ -153,6 +163,18 @@ module _ (requests : List RequestShape) (n : Name) (a : Activity) where
     more_sent = omega arith;
     made = refl;
     sent = (refl, refl, refl);
+    logged = refl;
+    holding = as_before refl refl (λ w. refl);
+  })
+
+  poll_facts : (contexts : List Context) (s : Store) (o : Option Numbered) (e : Effect) → polls n a contexts s o ≡ Acts e → Facts requests n (face_of a) e
+  poll_facts contexts s o e h = subst (Facts requests n (face_of a)) (acts_is h) (record {
+    counted = refl;
+    more_made = omega arith;
+    more_sent = omega arith;
+    made = refl;
+    sent = refl;
+    logged = inr refl;
     holding = as_before refl refl (λ w. refl);
   })
 
@@ -163,6 +185,7 @@ module _ (requests : List RequestShape) (n : Name) (a : Activity) where
   contraction_facts contexts s (Communicates (Creates object service)) e h = create_facts contexts s object service e h
   contraction_facts contexts s (Communicates (Sends to label arguments)) e h = send_facts contexts s to label arguments e h
   contraction_facts contexts s (Communicates (Serves labels)) e h = serve_facts contexts (labels_served labels (cell s a.active)) _ refl e h
+  contraction_facts contexts s (Communicates (Polls labels)) e h = poll_facts contexts s (oldest_match (labels_served labels (cell s a.active)) a.served 0 requests) e h
   contraction_facts contexts s Breaks e h = no_acts h
 
   ready_facts : (contexts : List Context) (redex : Redex) (o : Ready) (e : Effect) → elim o [ Lacks f ↦ Rests (Awaits f) | Reads s ↦ contracts requests n a contexts s (contract s redex) ] ≡ Acts e → Facts requests n (face_of a) e

@@ -1,29 +1,27 @@
 -- Configurations as a system of labelled steps under lists, and runs without lists as runs of it.
-use Rattle.std.specs.Prelude.{◌≡◌, suc, ◌+◌, true, List, [], ◌∷◌, ◌++◌, Option, Some, None, length, map, is_some}
+use Rattle.std.specs.Prelude.{◌≡◌, suc, ◌+◌, true, List, [], ◌∷◌, ◌++◌, Option, Some, None, length, is_some}
 use Rattle.std.proofs.Common.{refl, sym, ap, subst, ◌∙◌, arith, ⊎_elim, append_assoc}
 use Rattle.std.proofs.lemmas.Bool.{and_from}
-use Rattle.std.proofs.lemmas.List.{length-map}
 use Rattle.std.specs.FinMap.{find}
 use Rattle.law_steps.specs.Systems.{System, hit, count}
 use Rattle.law_steps.proofs.SystemCounts.{hit_same, hit_other}
 use Rattle.law_steps.proofs.SystemJoins.{one_end}
 use Rattle.asp_model.specs.Names.{Name, name_cmp}
 use Rattle.asp_model.specs.Term.{Tree}
-use Rattle.asp_model.specs.Configuration.{RequestShape, Configuration, or_none, requests_of, start}
+use Rattle.asp_model.specs.Configuration.{ReceptionShape, Configuration, or_none, log_of, start}
 use Rattle.asp_model.specs.Intent.{Effect}
-use Rattle.asp_model.specs.Step.{ListsShape, with_sent, with_effect, name_at, is_named, is_next, may_send, step}
-use Rattle.asp_model.specs.Replay.{senders_in, lists_of, counts_of, count_in, log_of}
+use Rattle.asp_model.specs.Step.{ListsShape, with_last, with_effect, reception_at, is_reception, is_next, may_log, step}
+use Rattle.asp_model.specs.Replay.{log_in, lists_of, counts_of, count_in}
 use Rattle.law_steps.specs.Reached.{RunsTo}
-use Rattle.law_steps.proofs.NameLemmas.{name_case, name_itself}
+use Rattle.law_steps.proofs.NameLemmas.{name_case, reception_itself}
 use Rattle.law_chases.proofs.FutureLemmas.{some_is}
 use Rattle.law_steps.proofs.StepLemmas.{step_taken, takes_step}
 use Rattle.law_steps.proofs.SoundLemmas.{Took, at_name, own_after, other_after}
-use Rattle.law_steps.proofs.KeptLemmas.{is_sent}
-use Rattle.law_steps.proofs.TidyLemmas.{target_there}
+use Rattle.law_steps.proofs.TidyLemmas.{logged_there}
 use Rattle.law_steps.proofs.CommuteLemmas.{took}
 use Rattle.law_steps.proofs.ReachedLemmas.{Right, step_right, start_right}
 use Rattle.law_steps.proofs.DiamondLemmas.{listed_commute}
-use Rattle.law_steps.proofs.ListLemmas.{IsPrefix, prefix_both, prefix_same, name_next, senders_own, count_own, grown_by, sent_list}
+use Rattle.law_steps.proofs.ListLemmas.{IsPrefix, prefix_both, prefix_same, reception_next, senders_own, count_own, grown_by, logged_list}
 
 -- the steps with these lists
 abbrev pub StepOf : ListsShape → Name → Configuration → Configuration → Type 0
@@ -43,28 +41,27 @@ machine lists = record {
 
 -- Runs without lists
 
--- the lists begin with the senders
+-- the lists begin with the logs
 abbrev pub Within : Configuration → ListsShape → Type 0
-Within c lists = (m : Name) → IsPrefix (log_of c m) (senders_in lists m)
+Within c lists = (m : Name) → IsPrefix (log_of c m) (log_in lists m)
 
-next_in : (lists : ListsShape) (c : Configuration) (n : Name) (z : Name × RequestShape) → z.1.sender ≡ n → IsPrefix (map (λ r. r.sender) (or_none (find name_cmp z.0 (with_sent (Some z) c.received)))) (senders_in lists z.0) → is_next (Some lists) c z.0 n ≡ true
-next_in lists c n z by p =
-    let q : log_of c z.0 ++ n ∷ p.0 ≡ senders_in lists z.0 = ap (λ k. log_of c z.0 ++ k ∷ p.0) (sym by) ∙ sym (append_assoc (log_of c z.0) (z.1.sender ∷ []) p.0) ∙ ap (λ l. l ++ p.0) (sym (sent_list z c)) ∙ p.1 in
-    let at : name_at (senders_in lists z.0) (length (requests_of c z.0)) ≡ Some n = ap (λ l. name_at l (length (requests_of c z.0))) (sym q) ∙ ap (name_at (log_of c z.0 ++ n ∷ p.0)) (sym (length-map (requests_of c z.0) (λ r. r.sender))) ∙ name_next (log_of c z.0) n p.0 in
-    ap (is_named n) at ∙ name_itself n
+next_in : (lists : ListsShape) (c : Configuration) (z : Name × ReceptionShape) → IsPrefix (or_none (find name_cmp z.0 (with_last (Some z) c.logs))) (log_in lists z.0) → is_next (Some lists) c z.0 z.1 ≡ true
+next_in lists c z p =
+    let q : log_of c z.0 ++ z.1 ∷ p.0 ≡ log_in lists z.0 = sym (append_assoc (log_of c z.0) (z.1 ∷ []) p.0) ∙ ap (λ l. l ++ p.0) (sym (logged_list z c)) ∙ p.1 in
+    let at : reception_at (log_in lists z.0) (length (log_of c z.0)) ≡ Some z.1 = ap (λ l. reception_at l (length (log_of c z.0))) (sym q) ∙ reception_next (log_of c z.0) z.1 p.0 in
+    ap (is_reception z.1) at ∙ reception_itself z.1
 
-may_in : (lists : ListsShape) (c : Configuration) (n : Name) (o : Option (Name × RequestShape)) → ((z : Name × RequestShape) → o ≡ Some z → (z.1.sender ≡ n) × (is_some (find name_cmp z.0 c.activities) ≡ true)) → ((m : Name) → IsPrefix (map (λ r. r.sender) (or_none (find name_cmp m (with_sent o c.received)))) (senders_in lists m)) → may_send (Some lists) c n o ≡ true
-may_in lists c n None by within = refl
-may_in lists c n (Some z) by within = let x = by z refl in and_from (is_some (find name_cmp z.0 c.activities)) (is_next (Some lists) c z.0 n) x.1 (next_in lists c n z x.0 (within z.0))
+may_in : (lists : ListsShape) (c : Configuration) (o : Option (Name × ReceptionShape)) → ((z : Name × ReceptionShape) → o ≡ Some z → is_some (find name_cmp z.0 c.activities) ≡ true) → ((m : Name) → IsPrefix (or_none (find name_cmp m (with_last o c.logs))) (log_in lists m)) → may_log (Some lists) c o ≡ true
+may_in lists c None there within = refl
+may_in lists c (Some z) there within = and_from (is_some (find name_cmp z.0 c.activities)) (is_next (Some lists) c z.0 z.1) (there z refl) (next_in lists c z (within z.0))
 
 pub listed_step : (lists : ListsShape) (n : Name) (c d : Configuration) → Right c → step None c n ≡ Some d → Within d lists → StepOf lists n c d × Within c lists
 listed_step lists n c d r h within =
     let x = step_taken None c n d h in
-    let t = took None c n x.0 r.sound x.1 in
-    let after : (m : Name) → IsPrefix (log_of (with_effect n x.0 c) m) (senders_in lists m) = subst (λ z. Within z lists) (sym x.2) within in
-    let may = may_in lists c n x.0.sent (λ z p. ((is_sent c n x.0 t z p).2, target_there None c n x.0 x.1 z p)) after in (
+    let after : (m : Name) → IsPrefix (log_of (with_effect n x.0 c) m) (log_in lists m) = subst (λ z. Within z lists) (sym x.2) within in
+    let may = may_in lists c x.0.logged (λ z p. logged_there None c n x.0 x.1 z p) after in (
       takes_step (Some lists) c n x.0 (record { intends = x.1.intends; may = may }) ∙ ap Some x.2,
-      λ m. prefix_both _ _ _ (grown_by x.0.sent c m) (after m),
+      λ m. prefix_both _ _ _ (grown_by x.0.logged c m) (after m),
     )
 
 pub listed_run : (lists : ListsShape) (ns : List Name) (c d : Configuration) → Right c → RunsTo None c ns d → Within d lists → RunsTo (Some lists) c ns d × Within c lists
@@ -79,7 +76,7 @@ right_run lists [] c d r run = subst Right run r
 right_run lists (n ∷ ns) c d r run = right_run lists ns run.0 d (step_right lists n c run.0 run.1 r) run.2
 
 pub within_own : (c : Configuration) → Right c → Within c (lists_of c)
-within_own c r m = prefix_same (log_of c m) (senders_in (lists_of c) m) (sym (senders_own c r.tidy m))
+within_own c r m = prefix_same (log_of c m) (log_in (lists_of c) m) (sym (senders_own c r.tidy m))
 
 -- a run is one under the lists that it leaves
 pub own_run : (program : Tree) (ns : List Name) (c : Configuration) → RunsTo None (start program) ns c → RunsTo (Some (lists_of c)) (start program) ns c

@@ -7,9 +7,9 @@ use Rattle.asp_model.specs.Names.{Name, FutureShape, name_cmp, future_cmp, creat
 use Rattle.asp_model.specs.Parcel.{ParcelShape}
 use Rattle.asp_model.specs.Configuration.{RequestShape, Activity, Configuration, or_none, requests_of}
 use Rattle.asp_model.specs.Intent.{Acts, Effect}
-use Rattle.asp_model.specs.Step.{ListsShape, intent_in, step, put_some, with_sent}
+use Rattle.asp_model.specs.Step.{ListsShape, intent_in, step, put_some, with_last}
 use Rattle.law_steps.specs.Reached.{IsAt}
-use Rattle.law_steps.specs.Steps.{FillsOne, IsNewTo, ListedIsFree, StepsCount, OthersStay, OneIsMade, RequestsGrow, FuturesFill, IntentsStay, EffectsAreNew}
+use Rattle.law_steps.specs.Steps.{FillsOne, IsNewTo, ListedIsFree, StepsCount, OthersStay, OneIsMade, RequestsGrow, FuturesFill, IsPoll, IntentsStay, PollsStay, EffectsAreNew}
 use Rattle.law_steps.proofs.NameLemmas.{name_total, name_same, name_case, is_there}
 use Rattle.law_chases.proofs.FutureLemmas.{no_some}
 use Rattle.law_chases.proofs.MapLemmas as Maps
@@ -18,7 +18,7 @@ use Rattle.law_steps.proofs.OrderLemmas.{IsNew, own_kept}
 use Rattle.law_steps.proofs.FactLemmas.{Face, face, face_of, IsMade, IsSent, acts_facts}
 use Rattle.law_steps.proofs.SoundLemmas.{Sound, Took, at_name, made_new, own_by, box_sent}
 use Rattle.law_steps.proofs.KeptLemmas.{fresh, not_begun}
-use Rattle.law_steps.proofs.CommuteLemmas.{took, acts_still}
+use Rattle.law_steps.proofs.CommuteLemmas.{took, acts_after, acts_still}
 use Rattle.law_steps.proofs.ReachedLemmas.{reached_sound}
 
 pub listed_steps : ListedIsFree
@@ -60,11 +60,11 @@ one_is_made program c d n m a b s is none there =
     made_is c n m x.0.own a b (face_of x.0.own) x.0.made is (subst (λ o. IsMade n (face o) (face_of x.0.own) x.0.made) is t.facts.made) none (ap (λ z. find name_cmp m z.activities) x.2 ∙ there)
 
 grows_by : (c : Configuration) (n m : Name) (o : Option (Name × RequestShape)) → ((z : Name × RequestShape) → o ≡ Some z → z.1.sender ≡ n)
-    → (or_none (find name_cmp m (with_sent o c.received)) ≡ requests_of c m) ⊎ ((r : RequestShape) × (or_none (find name_cmp m (with_sent o c.received)) ≡ requests_of c m ++ r ∷ []) × (r.sender ≡ n))
+    → (or_none (find name_cmp m (with_last o c.received)) ≡ requests_of c m) ⊎ ((r : RequestShape) × (or_none (find name_cmp m (with_last o c.received)) ≡ requests_of c m ++ r ∷ []) × (r.sender ≡ n))
 grows_by c n m None by = inl refl
 grows_by c n m (Some z) by = ⊎_elim (λ x. inr (z.1, x.1, by z refl)) (λ x. inl x) (box_sent z c.received m)
 
-sender_of : (n : Name) (x y : Face) (o : Option (Name × RequestShape)) → IsSent n x y o → (z : Name × RequestShape) → o ≡ Some z → z.1.sender ≡ n
+pub sender_of : (n : Name) (x y : Face) (o : Option (Name × RequestShape)) → IsSent n x y o → (z : Name × RequestShape) → o ≡ Some z → z.1.sender ≡ n
 sender_of n x y o s z p = (subst (IsSent n x y) p s).2
 
 pub requests_grow : RequestsGrow
@@ -89,14 +89,26 @@ fills_on lists c d n sound steps =
 pub futures_fill : FuturesFill
 futures_fill program c d n s = fills_on s.lists c d n (reached_sound program c s.reached) s.steps
 
-pub intents_on : (lists : Option ListsShape) (c d : Configuration) (n m : Name) (e : Effect) → Sound c → step lists c n ≡ Some d → m ≢ n → intent_in c m ≡ Acts e → intent_in d m ≡ Acts e
-intents_on lists c d n m e sound steps apart intends =
+pub intents_on : (lists : Option ListsShape) (c d : Configuration) (n m : Name) (e : Effect) → Sound c → step lists c n ≡ Some d → m ≢ n → (IsPoll m e → requests_of d m ≡ requests_of c m) → intent_in c m ≡ Acts e → intent_in d m ≡ Acts e
+intents_on lists c d n m e sound steps apart quiet intends =
     let x = step_taken lists c n d steps in
     let t = took lists c n x.0 sound x.1 in
-    ap (λ z. intent_in z m) (sym x.2) ∙ acts_still c m n e x.0 apart t intends
+    ap (λ z. intent_in z m) (sym x.2) ∙ acts_still c m n e x.0 apart t (λ poll. ap (λ z. requests_of z m) x.2 ∙ quiet poll) intends
+
+pub polls_on : (lists : Option ListsShape) (c d : Configuration) (n m : Name) (e : Effect) → Sound c → step lists c n ≡ Some d → m ≢ n → IsPoll m e → intent_in c m ≡ Acts e → (x : Effect) × (intent_in d m ≡ Acts x) × IsPoll m x
+polls_on lists c d n m e sound steps apart poll intends =
+    let x = step_taken lists c n d steps in
+    let t = took lists c n x.0 sound x.1 in
+    ⊎_elim
+    (λ p. (e, ap (λ z. intent_in z m) (sym x.2) ∙ p, poll))
+    (λ y. (y.1, ap (λ z. intent_in z m) (sym x.2) ∙ y.2, y.3))
+    (acts_after c m n e x.0 apart t intends)
 
 pub intends_stay : IntentsStay
-intends_stay program c d n m e s apart intends = intents_on s.lists c d n m e (reached_sound program c s.reached) s.steps apart intends
+intends_stay program c d n m e s apart quiet intends = intents_on s.lists c d n m e (reached_sound program c s.reached) s.steps apart quiet intends
+
+pub polls_stay : PollsStay
+polls_stay program c d n m e s apart poll intends = polls_on s.lists c d n m e (reached_sound program c s.reached) s.steps apart poll intends
 
 new_key : {K X : Type 0} (R : K → K → Ordering) (o : Option (K × X)) (es : List (K × X)) → IsNew R o es → (z : K × X) → o ≡ Some z → find R z.0 es ≡ None
 new_key R o es new z is = subst (λ o. IsNew R o es) is new

@@ -7,9 +7,9 @@ use Rattle.std.specs.FinMap.Entries.{below_all, same_entries}
 use Rattle.asp_model.specs.Names.{Name, name_cmp}
 use Rattle.asp_model.specs.Term.{Tree}
 use Rattle.asp_model.specs.Configuration.{Activity, Configuration, start}
-use Rattle.asp_model.specs.Step.{names_or_none}
+use Rattle.asp_model.specs.Configuration.{ReceptionShape, or_none, log_of}
 use Rattle.asp_model.specs.Status.{IsStuck}
-use Rattle.asp_model.specs.Replay.{lists_of, counts_of, senders_in, zero_or, longer, log_of}
+use Rattle.asp_model.specs.Replay.{lists_of, counts_of, log_in, zero_or, longer}
 use Rattle.law_steps.specs.Reached.{RunsTo}
 use Rattle.law_steps.specs.Replays.{ListedRunsStayWithin}
 use Rattle.law_steps.specs.Joins.{AreCompatibleRuns, lists_of_both, counts_of_both, JoinedFits, StuckIsJoined, StuckRunsAgree}
@@ -76,7 +76,7 @@ or_true : (a b : Bool) → (a ≡ true) ⊎ (b ≡ true) → (a || b) ≡ true
 or_true a b (inl p) = ap (λ z. z || b) p
 or_true a b (inr p) = ap (λ z. a || z) p ∙ sym (or_one_of a)
 
-same_list : (o p : Option (List Name)) → is_some o ≡ is_some p → names_or_none o ≡ names_or_none p → o ≡ p
+same_list : (o p : Option (List ReceptionShape)) → is_some o ≡ is_some p → or_none o ≡ or_none p → o ≡ p
 same_list None None h e = refl
 same_list None (Some y) h e = none_true h
 same_list (Some x) None h e = none_true (sym h)
@@ -91,7 +91,7 @@ same_count (Some x) (Some y) h e = ap Some e
 -- a configuration that has the activities, log_of and counts of two has their joined lists and counts
 record IsBoth (c d e : Configuration) : Type 0 where
   there : (q : Name) → is_some (find name_cmp q e.activities) ≡ (is_some (find name_cmp q c.activities) || is_some (find name_cmp q d.activities))
-  received : (q : Name) → log_of e q ≡ senders_in (lists_of_both c d) q
+  received : (q : Name) → log_of e q ≡ log_in (lists_of_both c d) q
   counts : (q : Name) → (at_name e q).reductions ≡ max (at_name c q).reductions (at_name d q).reductions
 
 -- the same with the entries of lists, or of counts
@@ -124,7 +124,7 @@ pub listed_runs_stay_within : ListedRunsStayWithin
 listed_runs_stay_within program lists ns c run m =
     let r = start_right program in
     let w = within_run lists ns (start program) c r run (within_start program lists) m in
-    test_of_prefix (senders_in (lists_of c) m) (senders_in lists m) (subst (λ l. IsPrefix l (senders_in lists m)) (sym (senders_own c (right_run (Some lists) ns (start program) c r run).tidy m)) w)
+    test_of_prefix (log_in (lists_of c) m) (log_in lists m) (subst (λ l. IsPrefix l (log_in lists m)) (sym (senders_own c (right_run (Some lists) ns (start program) c r run).tidy m)) w)
 
 -- Compatible runs
 
@@ -136,9 +136,9 @@ joined_both program c d r =
     let rc = run_right program r.names c r.run in
     let rd = run_right program r.others d r.other in
     λ m. subst (IsJoin (log_of c m) (log_of d m)) (sym (senders_joined (lists_of c) (lists_of d) (lists_sorted d rd) m))
-    (subst (λ l. IsJoin l (log_of d m) (longer (senders_in (lists_of c) m) (senders_in (lists_of d) m))) (senders_own c rc.tidy m)
-    (subst (λ l. IsJoin (senders_in (lists_of c) m) l (longer (senders_in (lists_of c) m) (senders_in (lists_of d) m))) (senders_own d rd.tidy m)
-    (longer_joins (senders_in (lists_of c) m) (senders_in (lists_of d) m) (r.compatible m))))
+    (subst (λ l. IsJoin l (log_of d m) (longer (log_in (lists_of c) m) (log_in (lists_of d) m))) (senders_own c rc.tidy m)
+    (subst (λ l. IsJoin (log_in (lists_of c) m) l (longer (log_in (lists_of c) m) (log_in (lists_of d) m))) (senders_own d rd.tidy m)
+    (longer_joins (log_in (lists_of c) m) (log_in (lists_of d) m) (r.compatible m))))
 
 pub joined_fits : JoinedFits
 joined_fits program c d r =
@@ -176,7 +176,7 @@ stuck_is_joined program c d r stuck =
     } in
     (both_lists c d c rc rd rc b, both_counts c d c rc rd rc b)
 
-other_way : (xs ys zs : List Name) → IsJoin xs ys zs → IsJoin ys xs zs
+other_way : (xs ys zs : List ReceptionShape) → IsJoin xs ys zs → IsJoin ys xs zs
 other_way xs ys zs (inl p) = inr p
 other_way xs ys zs (inr p) = inl p
 
@@ -186,7 +186,7 @@ second_is_joined program c d r stuck =
     let rc = run_right program r.names c r.run in
     let rd = run_right program r.others d r.other in
     let joins = joined_both program c d r in
-    let x = still_joined program r.others r.names d c (lists_of_both c d) r.other r.run (λ m. other_way (log_of c m) (log_of d m) (senders_in (lists_of_both c d) m) (joins m)) (still program r.others d r.other stuck) in
+    let x = still_joined program r.others r.names d c (lists_of_both c d) r.other r.run (λ m. other_way (log_of c m) (log_of d m) (log_in (lists_of_both c d) m) (joins m)) (still program r.others d r.other stuck) in
     let b : IsBoth c d d = record {
       there = λ q. same_truth (is_some (find name_cmp q d.activities)) (is_some (find name_cmp q c.activities) || is_some (find name_cmp q d.activities)) (λ h. or_true _ _ (inr h)) (λ h. ⊎_elim (x.2 q) (λ p. p) (or_cases _ _ h));
       received = x.0;

@@ -1,61 +1,59 @@
 -- Runs with compatible lists go on to one end.
-use Rattle.std.specs.Prelude.{◌≡◌, ℕ, zero, suc, ◌≤◌, true, max, List, [], ◌∷◌, ◌++◌, Option, Some, None, length, is_some, map}
+use Rattle.std.specs.Prelude.{◌≡◌, ℕ, zero, suc, ◌≤◌, true, max, List, [], ◌∷◌, ◌++◌, Option, Some, None, length, is_some}
 use Rattle.std.proofs.Common.{refl, sym, ap, subst, ◌∙◌, arith, inl, inr, ⊎_elim, ◌⊎◌}
 use Rattle.std.proofs.lemmas.Bool.{and_parts}
-use Rattle.std.proofs.lemmas.List.{append-nil, length-map}
+use Rattle.std.proofs.lemmas.List.{append-nil}
 use Rattle.std.specs.FinMap.{find}
 use Rattle.law_steps.specs.Systems.{count}
 use Rattle.law_steps.proofs.SystemCounts.{run_both, count_both, hit_same}
 use Rattle.law_steps.proofs.SystemJoins.{Joined, runs_join, stopped_end}
 use Rattle.asp_model.specs.Names.{Name, name_cmp}
 use Rattle.asp_model.specs.Term.{Tree}
-use Rattle.asp_model.specs.Configuration.{RequestShape, Configuration, or_none, requests_of, start}
-use Rattle.asp_model.specs.Step.{ListsShape, with_sent, name_at, is_next, may_send, step}
-use Rattle.asp_model.specs.Replay.{senders_in, log_of}
+use Rattle.asp_model.specs.Configuration.{ReceptionShape, Configuration, or_none, log_of, start}
+use Rattle.asp_model.specs.Step.{ListsShape, with_last, reception_at, is_next, may_log, step}
+use Rattle.asp_model.specs.Replay.{log_in}
 use Rattle.law_steps.specs.Reached.{IsThere, RunsTo}
-use Rattle.law_steps.proofs.NameLemmas.{named_is}
+use Rattle.law_steps.proofs.NameLemmas.{reception_is}
 use Rattle.law_chases.proofs.FutureLemmas.{no_some, some_is}
 use Rattle.law_steps.proofs.StepLemmas.{step_taken, listed_is_free}
 use Rattle.law_steps.proofs.SoundLemmas.{at_name, other_after}
-use Rattle.law_steps.proofs.KeptLemmas.{is_sent}
 use Rattle.law_steps.proofs.ExactLemmas.{Child, here_after}
 use Rattle.law_steps.proofs.CommuteLemmas.{took}
 use Rattle.law_steps.proofs.ReachedLemmas.{Right, start_right, step_right}
-use Rattle.law_steps.proofs.ListLemmas.{IsPrefix, prefix_both, sender_by, grown_by}
+use Rattle.law_steps.proofs.ListLemmas.{IsPrefix, prefix_both, logged_by, grown_by}
 use Rattle.law_steps.proofs.FlowLemmas.{StepOf, machine, Within, listed_run, right_run, counts_run}
 use Rattle.law_steps.proofs.MergeLemmas.{IsJoin, prefix_anti}
 
-prefix_next : (xs zs : List Name) (n : Name) → name_at (xs ++ zs) (length xs) ≡ Some n → IsPrefix (xs ++ n ∷ []) (xs ++ zs)
+prefix_next : (xs zs : List ReceptionShape) (n : ReceptionShape) → reception_at (xs ++ zs) (length xs) ≡ Some n → IsPrefix (xs ++ n ∷ []) (xs ++ zs)
 prefix_next [] [] n h = no_some h
 prefix_next [] (z ∷ zs) n h = (zs, ap (λ k. k ∷ zs) (sym (some_is h)))
 prefix_next (x ∷ xs) zs n h = let p = prefix_next xs zs n h in (p.0, ap (λ l. x ∷ l) p.1)
 
 -- Steps with lists stay within the lists, and each list grows
 
-within_by : (lists : ListsShape) (n : Name) (c : Configuration) (o : Option (Name × RequestShape)) → ((z : Name × RequestShape) → o ≡ Some z → z.1.sender ≡ n) → may_send (Some lists) c n o ≡ true → Within c lists → (m : Name) → IsPrefix (map (λ r. r.sender) (or_none (find name_cmp m (with_sent o c.received)))) (senders_in lists m)
-within_by lists n c None by may w m = w m
-within_by lists n c (Some z) by may w m = ⊎_elim
+within_by : (lists : ListsShape) (c : Configuration) (o : Option (Name × ReceptionShape)) → may_log (Some lists) c o ≡ true → Within c lists → (m : Name) → IsPrefix (or_none (find name_cmp m (with_last o c.logs))) (log_in lists m)
+within_by lists c None may w m = w m
+within_by lists c (Some z) may w m = ⊎_elim
     (λ x.
     let p = w m in
-    let expected : name_at (senders_in lists z.0) (length (requests_of c z.0)) ≡ Some n = named_is n (name_at (senders_in lists z.0) (length (requests_of c z.0))) (and_parts (is_some (find name_cmp z.0 c.activities)) (is_next (Some lists) c z.0 n) may).1 in
-    let next : name_at (log_of c m ++ p.0) (length (log_of c m)) ≡ Some n = ap (λ l. name_at l (length (log_of c m))) p.1 ∙ ap (name_at (senders_in lists m)) (length-map (requests_of c m) (λ r. r.sender)) ∙ ap (λ k. name_at (senders_in lists k) (length (requests_of c k))) (sym x.0) ∙ expected in
-    let q = prefix_next (log_of c m) p.0 n next in
-    (q.0, ap (λ l. l ++ q.0) (x.1 ∙ ap (λ k. log_of c m ++ k ∷ []) (by z refl)) ∙ q.1 ∙ p.1))
-    (λ x. subst (λ l. IsPrefix l (senders_in lists m)) (sym x) (w m))
-    (sender_by z c m)
+    let expected : reception_at (log_in lists z.0) (length (log_of c z.0)) ≡ Some z.1 = reception_is z.1 (reception_at (log_in lists z.0) (length (log_of c z.0))) (and_parts (is_some (find name_cmp z.0 c.activities)) (is_next (Some lists) c z.0 z.1) may).1 in
+    let next : reception_at (log_of c m ++ p.0) (length (log_of c m)) ≡ Some z.1 = ap (λ l. reception_at l (length (log_of c m))) p.1 ∙ ap (λ k. reception_at (log_in lists k) (length (log_of c k))) (sym x.0) ∙ expected in
+    let q = prefix_next (log_of c m) p.0 z.1 next in
+    (q.0, ap (λ l. l ++ q.0) x.1 ∙ q.1 ∙ p.1))
+    (λ x. subst (λ l. IsPrefix l (log_in lists m)) (sym x) (w m))
+    (logged_by z c m)
 
 within_step : (lists : ListsShape) (n : Name) (c d : Configuration) → Right c → StepOf lists n c d → Within c lists → Within d lists
 within_step lists n c d r h w =
     let x = step_taken (Some lists) c n d h in
-    let t = took (Some lists) c n x.0 r.sound x.1 in
-    subst (λ z. Within z lists) x.2 (within_by lists n c x.0.sent (λ z p. (is_sent c n x.0 t z p).2) x.1.may w)
+    subst (λ z. Within z lists) x.2 (within_by lists c x.0.logged x.1.may w)
 
 pub within_run : (lists : ListsShape) (ns : List Name) (c d : Configuration) → Right c → RunsTo (Some lists) c ns d → Within c lists → Within d lists
 within_run lists [] c d r run w = subst (λ z. Within z lists) run w
 within_run lists (n ∷ ns) c d r run w = within_run lists ns run.0 d (step_right (Some lists) n c run.0 run.1 r) run.2 (within_step lists n c run.0 r run.1 w)
 
 grown_step : (lists : Option ListsShape) (n : Name) (c d : Configuration) → step lists c n ≡ Some d → (m : Name) → IsPrefix (log_of c m) (log_of d m)
-grown_step lists n c d h m = let x = step_taken lists c n d h in subst (λ z. IsPrefix (log_of c m) (log_of z m)) x.2 (grown_by x.0.sent c m)
+grown_step lists n c d h m = let x = step_taken lists c n d h in subst (λ z. IsPrefix (log_of c m) (log_of z m)) x.2 (grown_by x.0.logged c m)
 
 pub grown_run : (lists : Option ListsShape) (ns : List Name) (c d : Configuration) → RunsTo lists c ns d → (m : Name) → IsPrefix (log_of c m) (log_of d m)
 grown_run lists [] c d run m = ([], append-nil _ ∙ ap (λ z. log_of z m) run)
@@ -63,15 +61,15 @@ grown_run lists (n ∷ ns) c d run m = prefix_both _ _ _ (grown_step lists n c r
 
 -- Joining
 
-join_left : (xs ys zs : List Name) → IsJoin xs ys zs → IsPrefix xs zs
+join_left : (xs ys zs : List ReceptionShape) → IsJoin xs ys zs → IsPrefix xs zs
 join_left xs ys zs (inl p) = subst (IsPrefix xs) (sym p.1) p.0
 join_left xs ys zs (inr p) = ([], append-nil xs ∙ sym p.1)
 
-join_right : (xs ys zs : List Name) → IsJoin xs ys zs → IsPrefix ys zs
+join_right : (xs ys zs : List ReceptionShape) → IsJoin xs ys zs → IsPrefix ys zs
 join_right xs ys zs (inl p) = ([], append-nil ys ∙ sym p.1)
 join_right xs ys zs (inr p) = subst (IsPrefix ys) (sym p.1) p.0
 
-join_least : (xs ys zs ws : List Name) → IsJoin xs ys zs → IsPrefix xs ws → IsPrefix ys ws → IsPrefix zs ws
+join_least : (xs ys zs ws : List ReceptionShape) → IsJoin xs ys zs → IsPrefix xs ws → IsPrefix ys ws → IsPrefix zs ws
 join_least xs ys zs ws (inl p) a b = subst (λ l. IsPrefix l ws) (sym p.1) b
 join_least xs ys zs ws (inr p) a b = subst (λ l. IsPrefix l ws) (sym p.1) a
 
@@ -80,13 +78,13 @@ pub record JoinedRun (program : Tree) (c d : Configuration) (lists : ListsShape)
   pub end : Configuration
   pub names : List Name
   pub run : RunsTo (Some lists) (start program) names end
-  pub met : (m : Name) → log_of end m ≡ senders_in lists m
+  pub met : (m : Name) → log_of end m ≡ log_in lists m
   pub counts : (q : Name) → (at_name end q).reductions ≡ max (at_name c q).reductions (at_name d q).reductions
   pub created : (q : Name) → IsThere end q → IsThere c q ⊎ IsThere d q
   pub kept : (q : Name) → IsThere c q ⊎ IsThere d q → IsThere end q
 
 abbrev pub AreJoined : (c d : Configuration) → ListsShape → Type 0
-AreJoined c d lists = (m : Name) → IsJoin (log_of c m) (log_of d m) (senders_in lists m)
+AreJoined c d lists = (m : Name) → IsJoin (log_of c m) (log_of d m) (log_in lists m)
 
 pub left_run : (program : Tree) (ns : List Name) (c d : Configuration) (lists : ListsShape) → RunsTo None (start program) ns c → AreJoined c d lists → RunsTo (Some lists) (start program) ns c
 left_run program ns c d lists run j = (listed_run lists ns (start program) c (start_right program) run (λ m. join_left _ _ _ (j m))).0
@@ -95,7 +93,7 @@ pub right_side : (program : Tree) (ms : List Name) (c d : Configuration) (lists 
 right_side program ms c d lists run j = (listed_run lists ms (start program) d (start_right program) run (λ m. join_right _ _ _ (j m))).0
 
 pub within_start : (program : Tree) (lists : ListsShape) → Within (start program) lists
-within_start program lists m = (senders_in lists m, refl)
+within_start program lists m = (log_in lists m, refl)
 
 -- an activity that takes no step of a run keeps its face
 same_face : (lists : ListsShape) (ns : List Name) (c d : Configuration) (q : Name) → Right c → RunsTo (Some lists) c ns d → count (machine lists) q ns ≡ 0 → at_name d q ≡ at_name c q
@@ -135,7 +133,7 @@ runs_joined program ns ms c d lists run other joins =
       end = j.end;
       names = ns ++ j.left;
       run = whole;
-      met = λ m. prefix_anti (log_of j.end m) (senders_in lists m) (within_run lists (ns ++ j.left) (start program) j.end r whole (within_start program lists) m)
+      met = λ m. prefix_anti (log_of j.end m) (log_in lists m) (within_run lists (ns ++ j.left) (start program) j.end r whole (within_start program lists) m)
           (join_least _ _ _ _ (joins m) (grown_run (Some lists) j.left c j.end j.on_left m) (grown_run (Some lists) j.right d j.end j.on_right m));
       counts = λ q. omega (arith, j.counts_left q, count_both (machine lists) q ns j.left, counts_run lists (ns ++ j.left) (start program) j.end r whole q, counts_run lists ns (start program) c r a q, counts_run lists ms (start program) d r b q);
       created = created_in program lists ns ms c d rc rd j (right_run (Some lists) j.left c j.end rc j.on_left);
@@ -147,13 +145,13 @@ abbrev pub NobodySteps : Configuration → Type 0
 NobodySteps c = (n : Name) (d : Configuration) → step None c n ≡ Some d → ⊥
 
 -- where the one is still, its lists and counts are the joined ones
-pub still_joined : (program : Tree) (ns ms : List Name) (c d : Configuration) (lists : ListsShape) → RunsTo None (start program) ns c → RunsTo None (start program) ms d → AreJoined c d lists → NobodySteps c → ((m : Name) → log_of c m ≡ senders_in lists m) × ((q : Name) → (at_name d q).reductions ≤ (at_name c q).reductions) × ((q : Name) → IsThere d q → IsThere c q)
+pub still_joined : (program : Tree) (ns ms : List Name) (c d : Configuration) (lists : ListsShape) → RunsTo None (start program) ns c → RunsTo None (start program) ms d → AreJoined c d lists → NobodySteps c → ((m : Name) → log_of c m ≡ log_in lists m) × ((q : Name) → (at_name d q).reductions ≤ (at_name c q).reductions) × ((q : Name) → IsThere d q → IsThere c q)
 still_joined program ns ms c d lists run other joins still =
     let r = start_right program in
     let a = left_run program ns c d lists run joins in
     let b = right_side program ms c d lists other joins in
     let x = stopped_end (machine lists) ns ms (start program) c d r a b (λ q e st. absurd (still q e (listed_is_free (Some lists) c q e st))) in (
-      λ m. prefix_anti (log_of c m) (senders_in lists m) (join_left _ _ _ (joins m)) (join_least _ _ _ _ (joins m) ([], append-nil _) (grown_run (Some lists) x.labels d c x.run m)),
+      λ m. prefix_anti (log_of c m) (log_in lists m) (join_left _ _ _ (joins m)) (join_least _ _ _ _ (joins m) ([], append-nil _) (grown_run (Some lists) x.labels d c x.run m)),
       λ q. omega (arith, x.counts q, counts_run lists ns (start program) c r a q, counts_run lists ms (start program) d r b q),
       there_run (Some lists) x.labels d c x.run,
     )

@@ -8,7 +8,7 @@ use Rattle.asp_model.specs.Names.{Name, FutureShape, name_cmp, future_cmp}
 use Rattle.asp_model.specs.Parcel.{ParcelShape, has_place}
 use Rattle.asp_model.specs.Configuration.{RequestShape, Activity, Configuration, or_none, requests_of}
 use Rattle.asp_model.specs.Intent.{Effect, filling}
-use Rattle.asp_model.specs.Step.{put_some, with_sent, with_effect}
+use Rattle.asp_model.specs.Step.{put_some, with_last, with_effect}
 use Rattle.law_steps.specs.Kept.{Stands, mark, tally, one_where, one_unless}
 use Rattle.law_steps.proofs.NameLemmas.{name_total, name_same, name_case, last_same}
 use Rattle.law_chases.proofs.FutureLemmas.{future_total, future_same, future_case, no_some, some_is}
@@ -183,7 +183,7 @@ new_balance c n e t m k r new =
     let d : in_map r.future (with_effect n e c).futures ≡ 0 = ap one_where (false_from_ne_true (is_some (find future_cmp r.future (with_effect n e c).futures)) (λ h. let x = filled_before c n e t r.future h in never x.0 x.1)) in
     omega (arith, a, b, d)
 
-sorted_sent : (o : Option (Name × RequestShape)) (bs : List (Name × List RequestShape)) → T (is_sorted name_cmp bs) → T (is_sorted name_cmp (with_sent o bs))
+sorted_sent : {X : Type 0} (o : Option (Name × X)) (bs : List (Name × List X)) → T (is_sorted name_cmp bs) → T (is_sorted name_cmp (with_last o bs))
 sorted_sent None bs h = h
 sorted_sent (Some z) bs h = is_sorted-put name_cmp name_total z.0 (or_none (find name_cmp z.0 bs) ++ z.1 ∷ []) bs h
 
@@ -195,6 +195,7 @@ sound_after c n e t = record {
   ordered = record {
     activities = sorted_some name_cmp name_total e.made (put name_cmp n e.own c.activities) (is_sorted-put name_cmp name_total n e.own c.activities t.sound.ordered.activities);
     received = sorted_sent e.sent c.received t.sound.ordered.received;
+    logs = sorted_sent e.logged c.logs t.sound.ordered.logs;
     futures = sorted_some future_cmp future_total e.filled c.futures t.sound.ordered.futures;
   };
   named = named_after c n e t;

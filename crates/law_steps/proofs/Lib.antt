@@ -19,6 +19,7 @@ pub mod CommuteLemmas
 pub mod DeliveryLemmas
 pub mod ReachedLemmas
 pub mod FrameLemmas
+pub mod LogLemmas
 pub mod WakeLemmas
 pub mod DiamondLemmas
 pub mod NamesLaws

@@ -9,9 +9,9 @@ use Rattle.asp_model.specs.Term.{Tree}
 use Rattle.asp_model.specs.Store.{CellShape, Number, Object, Reference, Future, Group, cell, Store, moved_cell}
 use Rattle.asp_model.specs.Parcel.{ParcelShape, place_at, unpack_at}
 use Rattle.asp_model.specs.Chase.{Lead, Ends, Goes, lead_of, lead_by, chase}
-use Rattle.asp_model.specs.Configuration.{RequestShape, Activity, Configuration, requests_of, start}
+use Rattle.asp_model.specs.Configuration.{RequestShape, ReceptionShape, Activity, Configuration, requests_of, start}
 use Rattle.asp_model.specs.Intent.{StatusShape, Awaits, Running, Done, Serving, Faulted, Intent, Acts, Rests, Effect, intent}
-use Rattle.asp_model.specs.Step.{ListsShape, intent_in, put_some, with_effect, may_send, step}
+use Rattle.asp_model.specs.Step.{ListsShape, intent_in, put_some, with_effect, may_log, step}
 use Rattle.asp_model.specs.Status.{status_of_intent, status_of, is_running, IsStuck}
 use Rattle.law_steps.specs.Reached.{IsThere, Move, Steps, Makes, Edges, Needs}
 use Rattle.law_steps.specs.Kept.{IsBegun, sends_of}
@@ -24,7 +24,7 @@ use Rattle.law_steps.proofs.StepLemmas.{step_taken, takes_step}
 use Rattle.law_steps.proofs.EachLemmas.{each_weaker}
 use Rattle.law_steps.proofs.ContractionLemmas.{IsOfNames, of_cell, all_placed, all_moved}
 use Rattle.law_chases.proofs.ChaseLemmas.{KeepsLeads, chase_finds, chase_awaits}
-use Rattle.law_steps.proofs.FactLemmas.{acts_facts}
+use Rattle.law_steps.proofs.FactLemmas.{IsLogged, acts_facts}
 use Rattle.law_steps.proofs.SoundLemmas.{Took, at_name, came, own_after}
 use Rattle.law_steps.proofs.KeptLemmas.{sends_grow, is_sent}
 use Rattle.law_steps.proofs.ExactLemmas.{here_after}
@@ -242,12 +242,18 @@ awaited_on c n f r l st = by_entry (find name_cmp n c.activities) refl
 pub awaited_are_begun : AwaitedAreBegun
 awaited_are_begun program c n f reached st = awaited_on c n f (reached_right program c reached) (cells_are_linked program c reached) st
 
-may_freely : (c : Configuration) (n : Name) (o : Option (Name × RequestShape)) → ((x : Name × RequestShape) → o ≡ Some x → IsThere c x.0) → may_send None c n o ≡ true
-may_freely c n None there = refl
-may_freely c n (Some x) there = ap (λ b. b && true) (there x refl)
+may_freely : (c : Configuration) (o : Option (Name × ReceptionShape)) → ((x : Name × ReceptionShape) → o ≡ Some x → IsThere c x.0) → may_log None c o ≡ true
+may_freely c None there = refl
+may_freely c (Some x) there = ap (λ b. b && true) (there x refl)
+
+-- what is logged is logged at one that is there
+logged_at : (c : Configuration) (n : Name) (o : Option (Name × RequestShape)) (l : Option (Name × ReceptionShape)) → IsLogged n o l → IsThere c n → ((x : Name × RequestShape) → o ≡ Some x → IsThere c x.0) → (x : Name × ReceptionShape) → l ≡ Some x → IsThere c x.0
+logged_at c n None l (inl p) here there x is = no_some (sym p ∙ is)
+logged_at c n None l (inr p) here there x is = subst (IsThere c) (ap (λ z. z.0) (some_is (sym p ∙ is))) here
+logged_at c n (Some z) l p here there x is = subst (IsThere c) (ap (λ y. y.0) (some_is (sym p ∙ is))) (there z refl)
 
 pub step_on : (c : Configuration) (n : Name) (e : Effect) → Right c → IsLinked c → intent_in c n ≡ Acts e → step None c n ≡ Some (with_effect n e c)
-step_on c n e r l intends = takes_step None c n e (record { intends = intends; may = may_freely c n e.sent (λ x sent. targets_on c n e x r l intends sent) })
+step_on c n e r l intends = takes_step None c n e (record { intends = intends; may = (let f = acts_facts c n e intends in may_freely c e.logged (logged_at c n e.sent e.logged f.1.logged f.0 (λ x sent. targets_on c n e x r l intends sent))) })
 
 pub intends_step : IntentsStep
 intends_step program c n e reached intends = step_on c n e (reached_right program c reached) (cells_are_linked program c reached) intends

@@ -10,9 +10,10 @@ use Rattle.std.specs.Ordering.{is_eq, is_lt}
 use Rattle.std.specs.declared.cmp.Ordering.{Ordering}
 use Rattle.std.specs.declared.cmp.Ordering.TheVariants.{Less, Equal, Greater}
 use Rattle.asp_model.specs.Names.{Name, name_cmp, same_name}
-use Rattle.asp_model.specs.Step.{ListsShape, names_or_none}
-use Rattle.asp_model.specs.Replay.{CountsShape, senders_in, count_in, zero_or, longer, joined_lists, joined_counts}
-use Rattle.law_steps.proofs.NameLemmas.{name_total, name_same, name_case, names_tied, name_itself, names_apart}
+use Rattle.asp_model.specs.Configuration.{ReceptionShape, or_none}
+use Rattle.asp_model.specs.Step.{ListsShape, same_reception}
+use Rattle.asp_model.specs.Replay.{CountsShape, log_in, count_in, zero_or, longer, joined_lists, joined_counts}
+use Rattle.law_steps.proofs.NameLemmas.{name_total, name_same, name_case, name_itself, names_apart, receptions_tied, reception_itself}
 use Rattle.law_chases.proofs.FutureLemmas.{none_true}
 use Rattle.law_chases.proofs.MapLemmas as Maps
 use Rattle.law_steps.proofs.ListLemmas.{IsPrefix}
@@ -20,51 +21,51 @@ use Rattle.law_steps.proofs.EntryLemmas.{first_of_both, second_of_both}
 
 -- Prefixes
 
-pub prefix_of_test : (ys xs : List Name) → starts_with same_name xs ys ≡ true → IsPrefix ys xs
+pub prefix_of_test : (ys xs : List ReceptionShape) → starts_with same_reception xs ys ≡ true → IsPrefix ys xs
 prefix_of_test [] xs h = (xs, refl)
 prefix_of_test (y ∷ ys) [] h = none_true h
 prefix_of_test (y ∷ ys) (x ∷ xs) h =
-    let b = and_parts (same_name y x) (starts_with same_name xs ys) h in
+    let b = and_parts (same_reception y x) (starts_with same_reception xs ys) h in
     let r = prefix_of_test ys xs b.1 in
-    (r.0, λ i. names_tied y x b.0 i ∷ r.1 i)
+    (r.0, λ i. receptions_tied y x b.0 i ∷ r.1 i)
 
-test_of_append : (ys zs : List Name) → starts_with same_name (ys ++ zs) ys ≡ true
+test_of_append : (ys zs : List ReceptionShape) → starts_with same_reception (ys ++ zs) ys ≡ true
 test_of_append [] zs = refl
-test_of_append (y ∷ ys) zs = and_from (same_name y y) (starts_with same_name (ys ++ zs) ys) (name_itself y) (test_of_append ys zs)
+test_of_append (y ∷ ys) zs = and_from (same_reception y y) (starts_with same_reception (ys ++ zs) ys) (reception_itself y) (test_of_append ys zs)
 
-pub test_of_prefix : (ys xs : List Name) → IsPrefix ys xs → starts_with same_name xs ys ≡ true
-test_of_prefix ys xs p = ap (λ l. starts_with same_name l ys) (sym p.1) ∙ test_of_append ys p.0
+pub test_of_prefix : (ys xs : List ReceptionShape) → IsPrefix ys xs → starts_with same_reception xs ys ≡ true
+test_of_prefix ys xs p = ap (λ l. starts_with same_reception l ys) (sym p.1) ∙ test_of_append ys p.0
 
-empty_of : (xs : List Name) → length xs ≡ 0 → xs ≡ []
+empty_of : (xs : List ReceptionShape) → length xs ≡ 0 → xs ≡ []
 empty_of [] h = refl
 empty_of (x ∷ xs) h = absurd (omega (arith, h))
 
-pub prefix_length : (xs ys : List Name) → IsPrefix xs ys → length xs ≤ length ys
+pub prefix_length : (xs ys : List ReceptionShape) → IsPrefix xs ys → length xs ≤ length ys
 prefix_length xs ys p = let h : length ys ≡ length (xs ++ p.0) = ap length (sym p.1) in omega (arith, h, length-append xs p.0)
 
-pub prefix_short : (xs ys : List Name) → IsPrefix xs ys → length ys ≤ length xs → xs ≡ ys
+pub prefix_short : (xs ys : List ReceptionShape) → IsPrefix xs ys → length ys ≤ length xs → xs ≡ ys
 prefix_short xs ys p le =
     let h : length ys ≡ length (xs ++ p.0) = ap length (sym p.1) in
     sym (append-nil xs) ∙ ap (λ l. xs ++ l) (sym (empty_of p.0 (omega (arith, h, length-append xs p.0, le)))) ∙ p.1
 
-pub prefix_anti : (xs ys : List Name) → IsPrefix xs ys → IsPrefix ys xs → xs ≡ ys
+pub prefix_anti : (xs ys : List ReceptionShape) → IsPrefix xs ys → IsPrefix ys xs → xs ≡ ys
 prefix_anti xs ys p q = prefix_short xs ys p (prefix_length ys xs q)
 
 -- the longer of two lists, where one begins with the other
-abbrev pub IsJoin : List Name → List Name → List Name → Type 0
+abbrev pub IsJoin : List ReceptionShape → List ReceptionShape → List ReceptionShape → Type 0
 IsJoin xs ys zs = (IsPrefix xs ys × (zs ≡ ys)) ⊎ (IsPrefix ys xs × (zs ≡ xs))
 
-longer_second : (xs ys : List Name) → IsPrefix xs ys → longer xs ys ≡ ys
+longer_second : (xs ys : List ReceptionShape) → IsPrefix xs ys → longer xs ys ≡ ys
 longer_second xs ys p = elim (nat_lt (length xs) (length ys)) as (λ b. nat_lt (length xs) (length ys) ≡ b → elim b [ true ↦ ys | false ↦ xs ] ≡ ys) [ true ↦ λ h. refl | false ↦ λ h. prefix_short xs ys p (ltb-false (length xs) (length ys) h) ] refl
 
-longer_first : (xs ys : List Name) → IsPrefix ys xs → longer xs ys ≡ xs
+longer_first : (xs ys : List ReceptionShape) → IsPrefix ys xs → longer xs ys ≡ xs
 longer_first xs ys p = ap (λ b. elim b [ true ↦ ys | false ↦ xs ]) (le-ltb (length xs) (length ys) (prefix_length ys xs p))
 
-pub longer_joins : (xs ys : List Name) → (starts_with same_name xs ys || starts_with same_name ys xs) ≡ true → IsJoin xs ys (longer xs ys)
+pub longer_joins : (xs ys : List ReceptionShape) → (starts_with same_reception xs ys || starts_with same_reception ys xs) ≡ true → IsJoin xs ys (longer xs ys)
 longer_joins xs ys h = ⊎_elim
     (λ a. let p = prefix_of_test ys xs a in inr (p, longer_first xs ys p))
     (λ b. let p = prefix_of_test xs ys b in inl (p, longer_second xs ys p))
-    (or_cases (starts_with same_name xs ys) (starts_with same_name ys xs) h)
+    (or_cases (starts_with same_reception xs ys) (starts_with same_reception ys xs) h)
 
 -- Joined entries
 
@@ -106,30 +107,30 @@ module _ {X : Type 0} (g : Option X → X → X) where
   joined_sorted es [] h = h
   joined_sorted es (x ∷ xs) h = joined_sorted (put name_cmp x.0 (g (find name_cmp x.0 es) x.1) es) xs (is_sorted-put name_cmp name_total x.0 (g (find name_cmp x.0 es) x.1) es h)
 
-abbrev pub join_names : Option (List Name) → List Name → List Name
-join_names o ns = longer (names_or_none o) ns
+abbrev pub join_names : Option (List ReceptionShape) → List ReceptionShape → List ReceptionShape
+join_names o ns = longer (or_none o) ns
 
 abbrev pub join_count : Option ℕ → ℕ → ℕ
 join_count o n = max (zero_or o) n
 
 pub lists_joined : (lists others : ListsShape) → joined_lists lists others ≡ joined join_names lists others
 lists_joined lists [] = refl
-lists_joined lists (x ∷ xs) = lists_joined (put name_cmp x.0 (longer (senders_in lists x.0) x.1) lists) xs
+lists_joined lists (x ∷ xs) = lists_joined (put name_cmp x.0 (longer (log_in lists x.0) x.1) lists) xs
 
 pub counts_joined : (counts others : CountsShape) → joined_counts counts others ≡ joined join_count counts others
 counts_joined counts [] = refl
 counts_joined counts (x ∷ xs) = counts_joined (put name_cmp x.0 (max (count_in counts x.0) x.1) counts) xs
 
-longer_none : (xs : List Name) → longer xs [] ≡ xs
+longer_none : (xs : List ReceptionShape) → longer xs [] ≡ xs
 longer_none xs = longer_first xs [] (xs, refl)
 
-join_names_is : (o p : Option (List Name)) → names_or_none (join_entry join_names o p) ≡ longer (names_or_none o) (names_or_none p)
-join_names_is o None = sym (longer_none (names_or_none o))
+join_names_is : (o p : Option (List ReceptionShape)) → or_none (join_entry join_names o p) ≡ longer (or_none o) (or_none p)
+join_names_is o None = sym (longer_none (or_none o))
 join_names_is o (Some ns) = refl
 
 -- the joined lists and counts at a name
-pub senders_joined : (lists others : ListsShape) → T (is_sorted name_cmp others) → (q : Name) → senders_in (joined_lists lists others) q ≡ longer (senders_in lists q) (senders_in others q)
-senders_joined lists others h q = ap (λ l. senders_in l q) (lists_joined lists others) ∙ ap names_or_none (find_joined join_names lists others h q) ∙ join_names_is (find name_cmp q lists) (find name_cmp q others)
+pub senders_joined : (lists others : ListsShape) → T (is_sorted name_cmp others) → (q : Name) → log_in (joined_lists lists others) q ≡ longer (log_in lists q) (log_in others q)
+senders_joined lists others h q = ap (λ l. log_in l q) (lists_joined lists others) ∙ ap or_none (find_joined join_names lists others h q) ∙ join_names_is (find name_cmp q lists) (find name_cmp q others)
 
 max_none : (n : ℕ) → n ≡ max n 0
 max_none n = omega arith

@@ -9,7 +9,8 @@ use Rattle.std.specs.Cmp.{IsTotalOrder, tied_itself}
 use Rattle.std.specs.Cmp.Lexicographic.{nat_list_cmp_total}
 use Rattle.std.specs.FinMap.{IsAntisymmetric, nat_cmp-IsAntisymmetric, slice_cmp-IsAntisymmetric}
 use Rattle.asp_model.specs.Names.{Name, name_cmp, same_name}
-use Rattle.asp_model.specs.Step.{is_named}
+use Rattle.asp_model.specs.Configuration.{ReceptionShape, From, Poll}
+use Rattle.asp_model.specs.Step.{same_reception, is_reception}
 use Rattle.law_chases.proofs.MapLemmas.{key_case}
 use Rattle.law_chases.proofs.FutureLemmas.{none_true}
 
@@ -60,6 +61,18 @@ last_same x y (a ∷ xs) (b ∷ ys) e =
     let h : a ≡ b = ap (λ l. elim l [ [] ↦ a | z ∷ zs ↦ z ]) e in
     ((λ i. h i ∷ t.0 i), t.1)
 
-pub named_is : (n : Name) (o : Option Name) → is_named n o ≡ true → o ≡ Some n
-named_is n None h = none_true h
-named_is n (Some m) h = ap Some (sym (names_tied n m h))
+-- Tests of receptions
+
+pub receptions_tied : (x y : ReceptionShape) → same_reception x y ≡ true → x ≡ y
+receptions_tied (From n) (From m) h = ap From (names_tied n m h)
+receptions_tied (From n) Poll h = none_true h
+receptions_tied Poll (From m) h = none_true h
+receptions_tied Poll Poll h = refl
+
+pub reception_itself : (x : ReceptionShape) → same_reception x x ≡ true
+reception_itself (From n) = name_itself n
+reception_itself Poll = refl
+
+pub reception_is : (x : ReceptionShape) (o : Option ReceptionShape) → is_reception x o ≡ true → o ≡ Some x
+reception_is x None h = none_true h
+reception_is x (Some y) h = ap Some (sym (receptions_tied x y h))

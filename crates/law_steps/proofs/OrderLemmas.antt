@@ -8,9 +8,9 @@ use Rattle.std.specs.FinMap.{IsAntisymmetric, find, put, is_sorted}
 use Rattle.std.specs.FinMap.Entries.{is_sorted-put}
 use Rattle.asp_model.specs.Names.{Name, FutureShape, name_cmp, future_cmp}
 use Rattle.asp_model.specs.Parcel.{ParcelShape}
-use Rattle.asp_model.specs.Configuration.{RequestShape, Activity, Configuration, or_none}
+use Rattle.asp_model.specs.Configuration.{Activity, Configuration, or_none}
 use Rattle.asp_model.specs.Intent.{Effect}
-use Rattle.asp_model.specs.Step.{put_some, with_sent, with_effect}
+use Rattle.asp_model.specs.Step.{put_some, with_last, with_effect}
 use Rattle.law_steps.proofs.NameLemmas.{name_total, name_same, name_case}
 use Rattle.law_chases.proofs.FutureLemmas.{future_total, future_same}
 use Rattle.law_chases.proofs.ChaseLemmas.{MoreFilled}
@@ -45,10 +45,10 @@ pub own_kept : (c : Configuration) (n m : Name) (d : Effect) → n ≢ m → IsF
 own_kept c n m d apart new is = made_apart n d.made c.activities is new.made (put name_cmp m d.own c.activities) ∙ Maps.find_other name_cmp name_total name_same n m d.own c.activities apart
 
 -- the requests_of with what another activity may have sent
-pub box_grows : (n : Name) (o : Option (Name × RequestShape)) (bs : List (Name × List RequestShape)) → (qs : List RequestShape) × (or_none (find name_cmp n (with_sent o bs)) ≡ or_none (find name_cmp n bs) ++ qs)
+pub box_grows : {X : Type 0} (n : Name) (o : Option (Name × X)) (bs : List (Name × List X)) → (qs : List X) × (or_none (find name_cmp n (with_last o bs)) ≡ or_none (find name_cmp n bs) ++ qs)
 box_grows n None bs = ([], sym (append-nil _))
-box_grows n (Some x) bs =
-    let rs : List RequestShape = or_none (find name_cmp x.0 bs) ++ x.1 ∷ [] in
+box_grows {X} n (Some x) bs =
+    let rs : List X = or_none (find name_cmp x.0 bs) ++ x.1 ∷ [] in
     ⊎_elim
     (λ e. (x.1 ∷ [], ap (λ k. or_none (find name_cmp k (put name_cmp x.0 rs bs))) e ∙ ap or_none (Maps.find_same name_cmp name_total name_same x.0 rs bs) ∙ ap (λ k. or_none (find name_cmp k bs) ++ x.1 ∷ []) (sym e)))
     (λ apart. ([], ap or_none (Maps.find_other name_cmp name_total name_same n x.0 rs bs apart) ∙ sym (append-nil _)))

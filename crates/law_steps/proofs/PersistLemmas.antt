@@ -1,18 +1,19 @@
 -- What more filled futures and more requests leave of an intent.
-use Rattle.std.specs.Prelude.{◌≡◌, ℕ, suc, ◌&&◌, not, Bool, true, false, List, [], ◌∷◌, ◌++◌, Option, Some, None}
-use Rattle.std.proofs.Common.{refl, sym, ap, subst, ◌∙◌}
+use Rattle.std.specs.Prelude.{◌≡◌, ◌≢◌, ℕ, suc, ◌&&◌, not, Bool, true, false, List, [], ◌∷◌, ◌++◌, Option, Some, None}
+use Rattle.std.proofs.Common.{refl, sym, ap, subst, ◌∙◌, inl, inr, ⊎_elim, ◌⊎◌}
+use Rattle.std.proofs.lemmas.List.{append-nil}
 use Rattle.std.proofs.lemmas.Bool.{or_parts, and_right}
 use Rattle.asp_model.specs.Names.{Name, FutureShape, Text}
 use Rattle.asp_model.specs.Term.{Serve, has_text}
 use Rattle.asp_model.specs.Split.{Context, Redex, Split, Stands, Splits, split}
 use Rattle.asp_model.specs.Store.{CellShape, Number, Object, Reference, Future, Group, Store, cell}
 use Rattle.asp_model.specs.Parcel.{ParcelShape, has_place}
-use Rattle.asp_model.specs.Contraction.{Contraction, Becomes, Faults, Needs, Communicates, Breaks, Creates, Sends, Serves, contract, strict_operands, strict_members}
+use Rattle.asp_model.specs.Contraction.{Contraction, Becomes, Faults, Needs, Communicates, Breaks, Creates, Sends, Serves, Polls, contract, strict_operands, strict_members}
 use Rattle.asp_model.specs.Chase.{Chase, Value, Unfilled, Cycle}
-use Rattle.asp_model.specs.Configuration.{RequestShape, ServiceShape, Activity}
-use Rattle.asp_model.specs.Intent.{Done, Serving, Running, Awaits, Faulted, Intent, Acts, Rests, Ready, Reads, Lacks, fetched, operand_ready, operands_ready, redex_ready, Numbered, oldest_match, labels_served, serves, newest, ends_service, contracts, intent}
+use Rattle.asp_model.specs.Configuration.{RequestShape, ServiceShape, Poll, Activity}
+use Rattle.asp_model.specs.Intent.{Done, Serving, Running, Awaits, Faulted, Intent, Acts, Rests, Ready, Reads, Lacks, fetched, operand_ready, operands_ready, redex_ready, Numbered, oldest_match, labels_served, serves, polls, Effect, newest, ends_service, contracts, intent}
 use Rattle.law_steps.specs.Waking.{labels_of_head, labels_at, labels_wanted, has_wanted}
-use Rattle.law_chases.proofs.FutureLemmas.{no_some, some_is}
+use Rattle.law_chases.proofs.FutureLemmas.{no_some, some_is, none_true}
 use Rattle.law_steps.proofs.ContractionLemmas.{serves_by_head}
 use Rattle.law_chases.proofs.ChaseLemmas.{awaited}
 
@@ -67,6 +68,10 @@ module _ (f g : FutureShape → Chase) (keeps : KeepsValues f g) (holds : Future
 
 -- Requests
 
+abbrev is_empty : List RequestShape → Bool
+is_empty [] = true
+is_empty (x ∷ xs) = false
+
 abbrev matched : Bool → Numbered → Option Numbered → Option Numbered
 matched b x o = elim b [ true ↦ Some x | false ↦ o ]
 
@@ -95,9 +100,13 @@ none_more labels served k (r ∷ rs) qs h w =
 -- Intents
 
 module _ (f g : FutureShape → Chase) (keeps : KeepsValues f g) (holds : FutureShape → FutureShape → Type 0) (rs qs : List RequestShape) (n : Name) (a : Activity) where
+  -- a poll that is a poll still, where more requests are there
+  abbrev pub PollsAnew : Effect → Intent → Type 0
+  PollsAnew e p = (e.logged ≡ Some (n, Poll)) × (x : Effect) × (p ≡ Acts x) × (x.logged ≡ Some (n, Poll)) × (qs ≢ [])
+
   -- what becomes of an intent, where these labels are asked for
   abbrev pub GoesOn : List Text → Intent → Intent → Type 0
-  GoesOn labels (Acts e) p = p ≡ Acts e
+  GoesOn labels (Acts e) p = (p ≡ Acts e) ⊎ PollsAnew e p
   GoesOn labels (Rests Done) p = p ≡ Rests Done
   GoesOn labels (Rests (Faulted x)) p = p ≡ Rests (Faulted x)
   GoesOn labels (Rests Running) p = ⊥
@@ -106,15 +115,20 @@ module _ (f g : FutureShape → Chase) (keeps : KeepsValues f g) (holds : Future
 
   serves_on : (contexts : List Context) (labels : List Text) (o : Option Numbered) → oldest_match labels a.served 0 rs ≡ o → GoesOn labels (serves a contexts o) (serves a contexts (oldest_match labels a.served 0 (rs ++ qs)))
   serves_on contexts labels None is = λ w. ap (serves a contexts) (none_more labels a.served 0 rs qs is w)
-  serves_on contexts labels (Some x) is = ap (serves a contexts) (match_more labels a.served 0 rs qs x is)
+  serves_on contexts labels (Some x) is = inl (ap (serves a contexts) (match_more labels a.served 0 rs qs x is))
+
+  polls_on : (contexts : List Context) (s : Store) (labels : List Text) (l : List RequestShape) → l ≡ qs → (polls n a contexts s (oldest_match labels a.served 0 (rs ++ qs)) ≡ polls n a contexts s (oldest_match labels a.served 0 rs)) ⊎ (qs ≢ [])
+  polls_on contexts s labels [] is = inl (ap (λ l. polls n a contexts s (oldest_match labels a.served 0 l)) (ap (λ l. rs ++ l) (sym is) ∙ append-nil rs))
+  polls_on contexts s labels (l ∷ ls) is = inr (λ none. none_true (ap is_empty (is ∙ none)))
 
   contracts_on : (contexts : List Context) (s : Store) (wanted : List Text) (r : Contraction) → ((labels : List Text) → r ≡ Communicates (Serves labels) → wanted ≡ labels_served labels (cell s a.active)) → GoesOn wanted (contracts rs n a contexts s r) (contracts (rs ++ qs) n a contexts s r)
-  contracts_on contexts s wanted (Becomes t store lines) by = refl
+  contracts_on contexts s wanted (Becomes t store lines) by = inl refl
   contracts_on contexts s wanted (Faults x) by = refl
   contracts_on contexts s wanted (Needs place) by = refl
   contracts_on contexts s wanted Breaks by = refl
-  contracts_on contexts s wanted (Communicates (Creates object service)) by = refl
-  contracts_on contexts s wanted (Communicates (Sends to label arguments)) by = refl
+  contracts_on contexts s wanted (Communicates (Creates object service)) by = inl refl
+  contracts_on contexts s wanted (Communicates (Sends to label arguments)) by = inl refl
+  contracts_on contexts s wanted (Communicates (Polls labels)) by = ⊎_elim (λ p. inl p) (λ more. inr (refl, _, refl, refl, more)) (polls_on contexts s (labels_served labels (cell s a.active)) qs refl)
   contracts_on contexts s wanted (Communicates (Serves labels)) by = subst (λ w. GoesOn w (contracts rs n a contexts s (Communicates (Serves labels))) (contracts (rs ++ qs) n a contexts s (Communicates (Serves labels)))) (sym (by labels refl)) (serves_on contexts (labels_served labels (cell s a.active)) _ refl)
 
   reads_it : (s : Store) (r : Redex) (labels : List Text) → r.head ≡ Serve labels → redex_ready f s r ≡ Reads s
@@ -138,7 +152,7 @@ module _ (f g : FutureShape → Chase) (keeps : KeepsValues f g) (holds : Future
 
   ends_on : (place : ℕ) (o : Option ServiceShape) → GoesOn [] (ends_service a place o) (ends_service a place o)
   ends_on place None = refl
-  ends_on place (Some x) = refl
+  ends_on place (Some x) = inl refl
 
   abbrev intent_by : (FutureShape → Chase) → List RequestShape → Split → Intent
   intent_by chases ps t = elim t [

@@ -3,11 +3,11 @@ use Rattle.std.specs.Prelude.{◌≡◌, ℕ, ℤ, pos, negsuc, zero, suc, ◌<�
 use Rattle.std.specs.List.{flat_map}
 use Rattle.std.proofs.Common.{sym, subst, arith, length-append}
 use Rattle.asp_model.specs.Names.{Text, same_text}
-use Rattle.asp_model.specs.Term.{SignShape, Add, Subtract, Multiply, Divide, Remainder, Less, Equal, MethodHead, Head, Tree, Trees, node, none, more, loc, locs_then, own_locations, locations, locations_below, Make, Get, Put, Call, Clone, Active, Serve, Let, Steps, If, Repeat, Operate, Print, Echo, Scatter, Size, Member, WaitAll, Environment}
+use Rattle.asp_model.specs.Term.{SignShape, Add, Subtract, Multiply, Divide, Remainder, Less, Equal, MethodHead, Head, Tree, Trees, node, none, more, loc, locs_then, own_locations, locations, locations_below, Make, Get, Put, Call, Clone, Active, Serve, Let, Steps, If, Repeat, Operate, Print, Echo, Scatter, Size, Member, WaitAll, Pending, Environment}
 use Rattle.asp_model.specs.Term as term
 use Rattle.asp_model.specs.Split.{Redex}
 use Rattle.asp_model.specs.Store.{MethodShape, Field, CellShape, Number, Object, Reference, Future, Group, Store, cell, with_cell, reached}
-use Rattle.asp_model.specs.Contraction.{Contraction, Becomes, Faults, Needs, Communicates, Breaks, Creates, Sends, Serves, LineShape, TextLine, row, contract}
+use Rattle.asp_model.specs.Contraction.{Contraction, Becomes, Faults, Needs, Communicates, Breaks, Creates, Sends, Serves, Polls, LineShape, TextLine, row, contract}
 use Rattle.asp_model.specs.Contraction as rows
 use Rattle.law_steps.specs.Linked.{Each}
 use Rattle.law_steps.specs.Closed.{AreBelow, IsClosedStore, places_of}
@@ -23,6 +23,7 @@ Closes s (Needs place) = Unit {0}
 Closes s (Communicates (Creates object service)) = object < length s
 Closes s (Communicates (Sends to label arguments)) = AreBelow (length s) arguments
 Closes s (Communicates (Serves labels)) = Unit {0}
+Closes s (Communicates (Polls labels)) = Unit {0}
 Closes s Breaks = Unit {0}
 
 -- Objects
@@ -243,6 +244,7 @@ module _ (s : Store) (k : IsClosedStore s) where
   row_closes Clone (i ∷ []) none a b = copies_closes (cell s i) [] (at i)
   row_closes (Active l) (i ∷ []) none a b = active_closes i l (cell s i) a.0
   row_closes (Serve ls) [] none a b = tt
+  row_closes (Pending ls) [] none a b = tt
   row_closes (Let x) (i ∷ []) (more t none) a b = becomes (term.put_in ((x, i) ∷ []) t) [] (put_in_below (length s) ((x, i) ∷ []) (a.0, tt) t (front (length s) (locations t) [] b))
   row_closes Steps (i ∷ []) ts a b = becomes (rows.remaining ts) [] (remaining_below ts b)
   row_closes If (i ∷ []) (more t (more u none)) a b = if_closes t u (cell s i) (front (length s) (locations t) (locations u ++ []) b) (front (length s) (locations u) [] (back (length s) (locations t) (locations u ++ []) b))

@@ -6,7 +6,7 @@ use Rattle.asp_model.specs.Names.{Name, FutureShape, name_cmp, future_cmp}
 use Rattle.asp_model.specs.Parcel.{ParcelShape, has_place}
 use Rattle.asp_model.specs.Configuration.{RequestShape, Activity, Configuration, or_none, requests_of}
 use Rattle.asp_model.specs.Intent.{Effect}
-use Rattle.asp_model.specs.Step.{put_some, with_sent, with_effect}
+use Rattle.asp_model.specs.Step.{put_some, with_last, with_effect}
 use Rattle.law_steps.specs.Kept.{IsOrdered, Stands, mark, one_where, one_unless}
 use Rattle.law_steps.proofs.NameLemmas.{name_total, name_same, name_case, not_some}
 use Rattle.law_chases.proofs.FutureLemmas.{future_itself, futures_apart, no_some, some_is, true_false}
@@ -72,9 +72,9 @@ at_below (x ∷ rs) zero r e = omega arith
 at_below (x ∷ rs) (suc k) r e = omega (arith, at_below rs k r e)
 
 -- the requests_of of m after what was sent
-pub box_sent : (z : Name × RequestShape) (bs : List (Name × List RequestShape)) (m : Name) → ((z.0 ≡ m) × (or_none (find name_cmp m (with_sent (Some z) bs)) ≡ or_none (find name_cmp m bs) ++ z.1 ∷ [])) ⊎ (or_none (find name_cmp m (with_sent (Some z) bs)) ≡ or_none (find name_cmp m bs))
+pub box_sent : {X : Type 0} (z : Name × X) (bs : List (Name × List X)) (m : Name) → ((z.0 ≡ m) × (or_none (find name_cmp m (with_last (Some z) bs)) ≡ or_none (find name_cmp m bs) ++ z.1 ∷ [])) ⊎ (or_none (find name_cmp m (with_last (Some z) bs)) ≡ or_none (find name_cmp m bs))
 box_sent z bs m = ⊎_elim
-    (λ e. inl (sym e, ap (λ k. or_none (find name_cmp k (with_sent (Some z) bs))) e ∙ ap or_none (Maps.find_same name_cmp name_total name_same z.0 (or_none (find name_cmp z.0 bs) ++ z.1 ∷ []) bs) ∙ ap (λ k. or_none (find name_cmp k bs) ++ z.1 ∷ []) (sym e)))
+    (λ e. inl (sym e, ap (λ k. or_none (find name_cmp k (with_last (Some z) bs))) e ∙ ap or_none (Maps.find_same name_cmp name_total name_same z.0 (or_none (find name_cmp z.0 bs) ++ z.1 ∷ []) bs) ∙ ap (λ k. or_none (find name_cmp k bs) ++ z.1 ∷ []) (sym e)))
     (λ a. inr (ap or_none (Maps.find_other name_cmp name_total name_same m z.0 (or_none (find name_cmp z.0 bs) ++ z.1 ∷ []) bs a)))
     (name_case m z.0)
 
@@ -86,7 +86,7 @@ pub record IsLast (c : Configuration) (o : Option (Name × RequestShape)) (m : N
   pub place : k ≡ length (requests_of c m)
   pub request : r ≡ sent.1
 
-came_by : (c : Configuration) (o : Option (Name × RequestShape)) (m : Name) (k : ℕ) (r : RequestShape) → slice_get (or_none (find name_cmp m (with_sent o c.received))) k ≡ Some r → Stands c m k r ⊎ IsLast c o m k r
+came_by : (c : Configuration) (o : Option (Name × RequestShape)) (m : Name) (k : ℕ) (r : RequestShape) → slice_get (or_none (find name_cmp m (with_last o c.received))) k ≡ Some r → Stands c m k r ⊎ IsLast c o m k r
 came_by c None m k r h = inl h
 came_by c (Some z) m k r h = ⊎_elim
     (λ x. ⊎_elim (λ old. inl old) (λ new. inr (record { sent = z; is = refl; to = x.0; place = new.0; request = new.1 })) (at_more (requests_of c m) z.1 k r (subst (λ b. slice_get b k ≡ Some r) x.1 h)))
@@ -96,7 +96,7 @@ came_by c (Some z) m k r h = ⊎_elim
 pub came : (c : Configuration) (n : Name) (e : Effect) (m : Name) (k : ℕ) (r : RequestShape) → Stands (with_effect n e c) m k r → Stands c m k r ⊎ IsLast c e.sent m k r
 came c n e m k r h = came_by c e.sent m k r h
 
-stays_by : (c : Configuration) (o : Option (Name × RequestShape)) (m : Name) (k : ℕ) (r : RequestShape) → Stands c m k r → slice_get (or_none (find name_cmp m (with_sent o c.received))) k ≡ Some r
+stays_by : (c : Configuration) (o : Option (Name × RequestShape)) (m : Name) (k : ℕ) (r : RequestShape) → Stands c m k r → slice_get (or_none (find name_cmp m (with_last o c.received))) k ≡ Some r
 stays_by c None m k r h = h
 stays_by c (Some z) m k r h = ⊎_elim (λ x. subst (λ b. slice_get b k ≡ Some r) (sym x.1) (at_front (requests_of c m) (z.1 ∷ []) k r h)) (λ x. subst (λ b. slice_get b k ≡ Some r) (sym x) h) (box_sent z c.received m)
 
@@ -107,7 +107,7 @@ pub length_more : (rs : List RequestShape) (q : RequestShape) → length (rs ++ 
 length_more [] q = refl
 length_more (x ∷ rs) q = ap suc (length_more rs q)
 
-pub longer_by : (c : Configuration) (o : Option (Name × RequestShape)) (m : Name) → length (requests_of c m) ≤ length (or_none (find name_cmp m (with_sent o c.received)))
+pub longer_by : (c : Configuration) (o : Option (Name × RequestShape)) (m : Name) → length (requests_of c m) ≤ length (or_none (find name_cmp m (with_last o c.received)))
 longer_by c None m = omega arith
 longer_by c (Some z) m = ⊎_elim (λ x. subst (λ b. length (requests_of c m) ≤ length b) (sym x.1) (omega (arith, length_more (requests_of c m) z.1))) (λ x. subst (λ b. length (requests_of c m) ≤ length b) (sym x) (omega arith)) (box_sent z c.received m)
 

@@ -25,7 +25,7 @@ start_face t m = ⊎_elim
 
 pub sound_start : (t : Tree) → Sound (start t)
 sound_start t = record {
-  ordered = record { activities = tt; received = tt; futures = tt };
+  ordered = record { activities = tt; received = tt; logs = tt; futures = tt };
   named = λ m k h. ⊎_elim
       (λ p. omega (arith, (last_same k 0 m [] p).1))
       (λ a. none_true (ap is_some (sym (Maps.find_other name_cmp name_total name_same (m ++ k ∷ []) (0 ∷ []) (first t) [] a)) ∙ h))

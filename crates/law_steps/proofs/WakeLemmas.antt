@@ -9,7 +9,7 @@ use Rattle.asp_model.specs.Chase.{chase}
 use Rattle.asp_model.specs.Parcel.{ParcelShape}
 use Rattle.asp_model.specs.Configuration.{RequestShape, Activity, Configuration, requests_of}
 use Rattle.asp_model.specs.Intent.{StatusShape, Done, Serving, Running, Awaits, Faulted, Intent, Acts, Rests, Effect, intent}
-use Rattle.asp_model.specs.Step.{ListsShape, intent_in, put_some, with_effect, may_send, is_next, step}
+use Rattle.asp_model.specs.Step.{ListsShape, intent_in, put_some, with_effect, may_log, is_next, step}
 use Rattle.asp_model.specs.Status.{status_of_intent, status_of, is_running}
 use Rattle.law_steps.specs.Reached.{IsFilled}
 use Rattle.law_steps.specs.Waking.{labels_wanted, has_wanted, NoneRestsRunning, DoneStays, FaultStays, ServingStays, AwaitingStays, OthersStayNext, CyclesStay}
@@ -109,11 +109,11 @@ and_second true b p h = h
 and_second false b p h = none_true p
 
 pub others_stay_next : OthersStayNext
-others_stay_next program lists c d n m e x s apart intends sent there same none =
-    let before : may_send lists c m (Some x) ≡ false = ap (may_send lists c m) (sym sent) ∙ held_back lists c m e intends none in
-    let next : is_next lists c x.0 m ≡ false = and_second (is_some (find name_cmp x.0 c.activities)) (is_next lists c x.0 m) there before in
-    let after : may_send lists d m (Some x) ≡ false = and_right (is_some (find name_cmp x.0 d.activities)) (is_next lists d x.0 m) (next_same lists c d x.0 m same ∙ next) in
-    holds_back lists d m e (intends_stay program c d n m e s apart intends) (ap (may_send lists d m) sent ∙ after)
+others_stay_next program lists c d n m e x s apart intends logged there same quiet none =
+    let before : may_log lists c (Some x) ≡ false = ap (may_log lists c) (sym logged) ∙ held_back lists c m e intends none in
+    let next : is_next lists c x.0 x.1 ≡ false = and_second (is_some (find name_cmp x.0 c.activities)) (is_next lists c x.0 x.1) there before in
+    let after : may_log lists d (Some x) ≡ false = and_right (is_some (find name_cmp x.0 d.activities)) (is_next lists d x.0 x.1) (next_same lists c d x.0 x.1 same ∙ next) in
+    holds_back lists d m e (intends_stay program c d n m e s apart quiet intends) (ap (may_log lists d) logged ∙ after)
 
 pub cycles_stay : CyclesStay
 cycles_stay program c d n m a f s apart is filled st =

@@ -12,7 +12,7 @@ use Rattle.law_chases.proofs.FutureLemmas.{none_true}
 use Rattle.law_steps.proofs.FactLemmas.{face, holds}
 use Rattle.law_steps.proofs.SoundLemmas.{Sound, at_name, in_map, Placed}
 use Rattle.law_steps.proofs.ReachedLemmas.{Right, move_right, start_right, reached_right}
-use Rattle.law_steps.proofs.FrameLemmas.{others_on, intents_on, fills_on, effects_on}
+use Rattle.law_steps.proofs.FrameLemmas.{others_on, intents_on, polls_on, fills_on, effects_on}
 use Rattle.law_steps.proofs.NamesLaws.{creations_at, sends_at, answers_by, served_by, names_on, requests_on, served_on, stand_on, begun_on}
 use Rattle.law_steps.proofs.LinkedLemmas.{linked_start, move_linked, cells_are_linked, targets_on, awaited_on, step_on, stuck_on}
 use Rattle.law_steps.specs.Linked.{IsLinked}
@@ -28,6 +28,7 @@ sound_from c r l = record {
   stand = λ n i le. stand_on c n i r le;
   begun = λ f h. begun_on c f r h;
   linked = l;
+  quiet = r.tidy.quiet;
 }
 
 -- And back
@@ -114,6 +115,7 @@ module _ (c : Configuration) (s : IsSound c) where
       housed = λ m k r st. (s.requests m k r st).received;
       by = λ m k r st. (s.requests m k r st).by;
       distinct = λ m. distinct_in m (find name_cmp m c.activities) refl;
+      quiet = s.quiet;
     };
   }
 
@@ -154,6 +156,7 @@ sound_steps lists c d n s h =
     let r = (right_of c s).sound in
     record {
       others = λ m a apart is. others_on lists c d n m a r h apart is;
-      intents = λ m e apart is. intents_on lists c d n m e r h apart is;
+      intents = λ m e apart quiet is. intents_on lists c d n m e r h apart quiet is;
+      polls = λ m e apart poll is. polls_on lists c d n m e r h apart poll is;
       fills = fills_on lists c d n r h;
     }

@@ -2,7 +2,7 @@
 use Rattle.std.specs.Prelude.{◌≡◌, ◌≢◌, ◌⊎◌, Option, Some, None}
 use Rattle.asp_model.specs.Names.{Name}
 use Rattle.asp_model.specs.Term.{Tree}
-use Rattle.asp_model.specs.Configuration.{Configuration, requests_of}
+use Rattle.asp_model.specs.Configuration.{Configuration, log_of}
 use Rattle.asp_model.specs.Step.{ListsShape, step}
 use Rattle.law_steps.specs.Reached.{IsReached}
 
@@ -17,14 +17,13 @@ StepsCommute = (program : Tree) (lists : ListsShape) (c d e : Configuration) (n 
     → step (Some lists) c n ≡ Some d → step (Some lists) c m ≡ Some e
     → Commute (Some lists) n m d e
 
--- no activity receives a request in both steps
-abbrev pub ReceiveApart : (c d e : Configuration) → Type 0
-ReceiveApart c d e = (q : Name)
-    → (requests_of d q ≡ requests_of c q) ⊎ (requests_of e q ≡ requests_of c q)
+-- no activity's log grows in both steps
+abbrev pub GrowApart : (c d e : Configuration) → Type 0
+GrowApart c d e = (q : Name) → (log_of d q ≡ log_of c q) ⊎ (log_of e q ≡ log_of c q)
 
--- without lists they commute where no activity receives from both
+-- without lists they commute where no log grows in both
 abbrev pub FreeStepsCommute : Type 0
 FreeStepsCommute = (program : Tree) (c d e : Configuration) (n m : Name)
     → IsReached program c → n ≢ m
-    → step None c n ≡ Some d → step None c m ≡ Some e → ReceiveApart c d e
+    → step None c n ≡ Some d → step None c m ≡ Some e → GrowApart c d e
     → Commute None n m d e

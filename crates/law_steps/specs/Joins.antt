@@ -1,12 +1,12 @@
--- Runs with compatible lists join, and one sender to each receiver is enough.
-use Rattle.std.specs.Prelude.{◌≡◌, ℕ, true, List, Some, None}
-use Rattle.std.specs.List.{starts_with}
-use Rattle.asp_model.specs.Names.{Name, same_name}
+-- Runs with compatible lists join, and one sender in each log, without a poll, is enough.
+use Rattle.std.specs.Prelude.{◌≡◌, Bool, true, false, List, [], ◌∷◌, None}
+use Rattle.std.specs.List.{starts_with, list_all}
+use Rattle.asp_model.specs.Names.{Name}
 use Rattle.asp_model.specs.Term.{Tree}
-use Rattle.asp_model.specs.Configuration.{Configuration, start}
-use Rattle.asp_model.specs.Step.{ListsShape, name_at}
+use Rattle.asp_model.specs.Configuration.{ReceptionShape, From, Poll, Configuration, start}
+use Rattle.asp_model.specs.Step.{ListsShape, same_reception}
 use Rattle.asp_model.specs.Status.{IsStuck}
-use Rattle.asp_model.specs.Replay.{CountsShape, lists_of, counts_of, senders_in, AreCompatible, joined_lists, joined_counts, Fits}
+use Rattle.asp_model.specs.Replay.{CountsShape, lists_of, counts_of, log_in, AreCompatible, joined_lists, joined_counts, Fits}
 use Rattle.law_steps.specs.Reached.{RunsTo}
 
 -- two runs of a program without lists, with compatible lists
@@ -39,23 +39,28 @@ abbrev pub StuckRunsAgree : Type 0
 StuckRunsAgree = (program : Tree) (c d : Configuration)
     → AreCompatibleRuns program c d → IsStuck c → IsStuck d → c ≡ d
 
--- all entries of a list are one name
-abbrev pub HasOneSender : List Name → Type 0
-HasOneSender ns = (i j : ℕ) (a b : Name)
-    → name_at ns i ≡ Some a → name_at ns j ≡ Some b → a ≡ b
+-- one sender at most, and no poll
+abbrev pub is_narrow : List ReceptionShape → Bool
+is_narrow [] = true
+is_narrow (Poll ∷ xs) = false
+is_narrow (From n ∷ xs) = list_all (same_reception (From n)) xs
 
--- a stuck run without lists, in which each activity received from one sender at most
+-- each log is so
+abbrev pub AreNarrow : ListsShape → Type 0
+AreNarrow lists = (m : Name) → is_narrow (log_in lists m) ≡ true
+
+-- a stuck run without lists, in which each log is narrow
 pub record IsOneSenderEnd (program : Tree) (c : Configuration) : Type 0 where
   pub names : List Name
   pub run : RunsTo None (start program) names c
   pub stuck : IsStuck c
-  pub one : (m : Name) → HasOneSender (senders_in (lists_of c) m)
+  pub one : AreNarrow (lists_of c)
 
 -- then the lists of each other run are beginnings of its lists
 abbrev pub OneSenderBounds : Type 0
 OneSenderBounds = (program : Tree) (c d : Configuration) (others : List Name)
     → IsOneSenderEnd program c → RunsTo None (start program) others d → (m : Name)
-    → starts_with same_name (senders_in (lists_of c) m) (senders_in (lists_of d) m) ≡ true
+    → starts_with same_reception (log_in (lists_of c) m) (log_in (lists_of d) m) ≡ true
 
 -- and each other run that is stuck ends as it does
 abbrev pub OneSenderEnds : Type 0

@@ -1,16 +1,17 @@
 -- What every reached configuration keeps of names, requests and futures.
-use Rattle.std.specs.Prelude.{◌≡◌, ◌≢◌, ◌⊎◌, ℕ, suc, ◌+◌, ◌<◌, ◌≤◌, Bool, true, false, T, List, [], ◌∷◌, Option, Some, None, is_some, length, slice_get}
+use Rattle.std.specs.Prelude.{◌≡◌, ◌≢◌, ◌⊎◌, ℕ, suc, ◌+◌, ◌<◌, ◌≤◌, Bool, true, false, T, List, [], ◌∷◌, Option, Some, None, is_some, length, map, slice_get}
 use Rattle.std.specs.FinMap.{find, is_sorted}
 use Rattle.asp_model.specs.Names.{Name, FutureShape, name_cmp, future_cmp, main_name, created_name, same_future}
 use Rattle.asp_model.specs.Term.{Tree}
 use Rattle.asp_model.specs.Parcel.{has_place}
-use Rattle.asp_model.specs.Configuration.{RequestShape, ServiceShape, Activity, Configuration, requests_of}
+use Rattle.asp_model.specs.Configuration.{RequestShape, ServiceShape, ReceptionShape, From, Poll, Activity, Configuration, requests_of, log_of}
 use Rattle.law_steps.specs.Reached.{IsReached, IsAt, IsThere, IsFilled}
 
 -- names ascend
 pub record IsOrdered (c : Configuration) : Type 0 where
   pub activities : T (is_sorted name_cmp c.activities)
   pub received : T (is_sorted name_cmp c.received)
+  pub logs : T (is_sorted name_cmp c.logs)
   pub futures : T (is_sorted future_cmp c.futures)
 
 abbrev pub EntriesAscend : Type 0
@@ -55,6 +56,21 @@ pub record IsRightRequest (c : Configuration) (m : Name) (r : RequestShape) : Ty
 abbrev pub RequestsAreSends : Type 0
 RequestsAreSends = (program : Tree) (c : Configuration) (m : Name) (k : ℕ) (r : RequestShape)
     → IsReached program c → Stands c m k r → IsRightRequest c m r
+
+-- the senders in a log
+abbrev pub senders_among : List ReceptionShape → List Name
+senders_among [] = []
+senders_among (From n ∷ xs) = n ∷ senders_among xs
+senders_among (Poll ∷ xs) = senders_among xs
+
+-- a log has the senders of these requests, in order
+abbrev pub Tells : List ReceptionShape → List RequestShape → Type 0
+Tells log rs = senders_among log ≡ map (λ r. r.sender) rs
+
+-- from the start of a program, a log has the senders of all requests that came
+abbrev pub LogsTell : Type 0
+LogsTell = (program : Tree) (c : Configuration) (m : Name) → IsReached program c
+    → Tells (log_of c m) (requests_of c m)
 
 -- no number stands twice
 abbrev pub AreDistinct : List ℕ → Type 0

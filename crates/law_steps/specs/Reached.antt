@@ -10,7 +10,7 @@ use Rattle.asp_model.specs.Step.{ListsShape, step}
 use Rattle.def_journals.specs.Deliveries.{edge_delivered, need_delivered}
 
 pub data Move : Type 0 where
-  -- a step of an activity, with sender lists or without
+  -- a step of an activity, with lists or without
   Steps : (lists : Option ListsShape) (name : Name) → Move
   -- a delivery of a future's own value, at each place of an activity that holds the future
   Edges : (future : FutureShape) (to : Name) → Move

@@ -1,29 +1,29 @@
 -- Runs and their replays, under lists and counts.
-use Rattle.std.specs.Prelude.{◌≡◌, ◌⊎◌, ◌≤◌, ℕ, true, List, Option, Some, None, length, map}
+use Rattle.std.specs.Prelude.{◌≡◌, ◌⊎◌, ◌≤◌, ℕ, true, List, Option, Some, None, length}
 use Rattle.std.specs.List.{starts_with}
-use Rattle.asp_model.specs.Names.{Name, same_name}
+use Rattle.asp_model.specs.Names.{Name}
 use Rattle.asp_model.specs.Term.{Tree}
-use Rattle.asp_model.specs.Configuration.{Configuration, start, requests_of}
-use Rattle.asp_model.specs.Step.{ListsShape}
+use Rattle.asp_model.specs.Configuration.{Configuration, start, log_of}
+use Rattle.asp_model.specs.Step.{ListsShape, same_reception}
 use Rattle.asp_model.specs.Status.{IsStuck}
-use Rattle.asp_model.specs.Replay.{CountsShape, total, lists_of, counts_of, senders_in, count_in, least_step, plain_run, replay, Fits}
+use Rattle.asp_model.specs.Replay.{CountsShape, total, lists_of, counts_of, log_in, count_in, least_step, plain_run, replay, Fits}
 use Rattle.law_steps.specs.Reached.{IsReached, RunsTo}
 
--- the own lists have each activity's senders, in order of arrival
+-- the own lists have each activity's log
 abbrev pub OwnListsShow : Type 0
 OwnListsShow = (program : Tree) (c : Configuration) (m : Name) → IsReached program c
-    → senders_in (lists_of c) m ≡ map (λ r. r.sender) (requests_of c m)
+    → log_in (lists_of c) m ≡ log_of c m
 
 -- a run without lists is one under the lists that it leaves
 abbrev pub RunsUnderOwnLists : Type 0
 RunsUnderOwnLists = (program : Tree) (names : List Name) (c : Configuration)
     → RunsTo None (start program) names c → RunsTo (Some (lists_of c)) (start program) names c
 
--- under lists, each activity's log_of are a beginning of its list
+-- under lists, each activity's log is a beginning of its list
 abbrev pub ListedRunsStayWithin : Type 0
 ListedRunsStayWithin = (program : Tree) (lists : ListsShape) (names : List Name) (c : Configuration)
     → RunsTo (Some lists) (start program) names c → (m : Name)
-    → starts_with same_name (senders_in lists m) (senders_in (lists_of c) m) ≡ true
+    → starts_with same_reception (log_in lists m) (log_in (lists_of c) m) ≡ true
 
 -- where a run under lists leads, the replay under them and its counts leads
 abbrev pub ReplaysLead : Type 0

@@ -1,15 +1,16 @@
 -- What every reached configuration has, as one fact that each move keeps. So a later run may begin from any
 -- configuration that has it.
 use Rattle.std.specs.Prelude.{◌≡◌, ◌≢◌, ◌⊎◌, ℕ, suc, ◌≤◌, [], Option, Some, None}
-use Rattle.asp_model.specs.Names.{Name, FutureShape}
+use Rattle.std.specs.FinMap.{find}
+use Rattle.asp_model.specs.Names.{Name, FutureShape, name_cmp}
 use Rattle.asp_model.specs.Term.{Tree, locations}
-use Rattle.asp_model.specs.Configuration.{RequestShape, Activity, Configuration, start}
+use Rattle.asp_model.specs.Configuration.{RequestShape, Activity, Configuration, start, requests_of, log_of}
 use Rattle.asp_model.specs.Intent.{Effect, Acts, Awaits}
 use Rattle.asp_model.specs.Step.{ListsShape, intent_in, step, with_effect}
 use Rattle.asp_model.specs.Status.{status_of, IsStuck}
 use Rattle.law_steps.specs.Reached.{Move, Makes, IsReached, IsAt, IsThere, IsFilled}
 use Rattle.law_steps.specs.Kept.{IsOrdered, IsCreated, sends_of, Stands, IsRightRequest, ServesOnce, answers_at, StandsOnce, IsBegun}
-use Rattle.law_steps.specs.Steps.{FillsOne, IsNewTo}
+use Rattle.law_steps.specs.Steps.{FillsOne, IsNewTo, IsPoll}
 use Rattle.law_steps.specs.Linked.{IsLinked, IsStill}
 use Rattle.law_steps.specs.Closed.{IsClosed}
 
@@ -29,6 +30,8 @@ pub record IsSound (c : Configuration) : Type 0 where
   pub begun : (f : FutureShape) → IsFilled c f ⊎ ((m : Name) × (1 ≤ answers_at c m f)) → IsBegun c f
   -- all that stands in cells is there, or was begun
   pub linked : IsLinked c
+  -- who is not there has an empty log
+  pub quiet : (m : Name) → find name_cmp m c.activities ≡ None → log_of c m ≡ []
 
 -- The start has it, and each move keeps it
 
@@ -69,7 +72,11 @@ SoundIntents = (c : Configuration) → IsSound c → HasRightIntents c
 -- a step of one leaves the others as they are, with what they intend
 pub record LeavesOthers (c d : Configuration) (n : Name) : Type 0 where
   pub others : (m : Name) (a : Activity) → m ≢ n → IsAt c m a → IsAt d m a
-  pub intents : (m : Name) (e : Effect) → m ≢ n → intent_in c m ≡ Acts e → intent_in d m ≡ Acts e
+  pub intents : (m : Name) (e : Effect) → m ≢ n → (IsPoll m e → requests_of d m ≡ requests_of c m)
+      → intent_in c m ≡ Acts e → intent_in d m ≡ Acts e
+  -- a poll with the answer of its time
+  pub polls : (m : Name) (e : Effect) → m ≢ n → IsPoll m e → intent_in c m ≡ Acts e
+      → (x : Effect) × (intent_in d m ≡ Acts x) × IsPoll m x
   -- one future at most is filled, which was not
   pub fills : (d.futures ≡ c.futures) ⊎ FillsOne c d
 

@@ -1,10 +1,10 @@
 -- What a step of one activity does, and what it leaves of the others.
-use Rattle.std.specs.Prelude.{◌≡◌, ◌≢◌, ◌⊎◌, ℕ, suc, ◌++◌, ◌∷◌, [], Option, Some, None}
+use Rattle.std.specs.Prelude.{◌≡◌, ◌≢◌, ◌⊎◌, ℕ, suc, List, ◌++◌, ◌∷◌, [], Option, Some, None}
 use Rattle.std.specs.FinMap.{find, put}
 use Rattle.asp_model.specs.Names.{Name, FutureShape, name_cmp, future_cmp, created_name}
 use Rattle.asp_model.specs.Term.{Tree}
 use Rattle.asp_model.specs.Parcel.{ParcelShape}
-use Rattle.asp_model.specs.Configuration.{RequestShape, Activity, Configuration, requests_of}
+use Rattle.asp_model.specs.Configuration.{RequestShape, ReceptionShape, From, Poll, Activity, Configuration, requests_of, log_of}
 use Rattle.asp_model.specs.Intent.{Effect, Acts}
 use Rattle.asp_model.specs.Step.{ListsShape, intent_in, step}
 use Rattle.law_steps.specs.Reached.{IsReached, IsStep, IsAt}
@@ -41,6 +41,17 @@ abbrev pub RequestsGrow : Type 0
 RequestsGrow = (lists : Option ListsShape) (c d : Configuration) (n m : Name)
     → step lists c n ≡ Some d → (requests_of d m ≡ requests_of c m) ⊎ ReceivesFrom n c d m
 
+-- a log and requests are as before; or both have one more, from who steps; or it is a poll of who steps
+abbrev pub Grown : (n m : Name) → (was now : List ReceptionShape) → (had has : List RequestShape) → Type 0
+Grown n m was now had has = ((now ≡ was) × (has ≡ had))
+    ⊎ (((r : RequestShape) × (now ≡ was ++ From n ∷ []) × (has ≡ had ++ r ∷ []) × (r.sender ≡ n))
+    ⊎ ((m ≡ n) × (now ≡ was ++ Poll ∷ []) × (has ≡ had)))
+
+-- so each activity's log and requests grow in a step
+abbrev pub LogsGrow : Type 0
+LogsGrow = (lists : Option ListsShape) (c d : Configuration) (n m : Name) → step lists c n ≡ Some d
+    → Grown n m (log_of c m) (log_of d m) (requests_of c m) (requests_of d m)
+
 -- one future more is filled, which was not
 abbrev pub FillsOne : (c d : Configuration) → Type 0
 FillsOne c d = (f : FutureShape) × (value : ParcelShape) × (find future_cmp f c.futures ≡ None)
@@ -51,10 +62,21 @@ abbrev pub FuturesFill : Type 0
 FuturesFill = (program : Tree) (c d : Configuration) (n : Name)
     → IsStep program c d n → (d.futures ≡ c.futures) ⊎ FillsOne c d
 
--- what another activity intends to do, it does after the step too
+-- an effect is a poll
+abbrev pub IsPoll : Name → Effect → Type 0
+IsPoll n e = e.logged ≡ Some (n, Poll)
+
+-- what another activity intends to do, it does after the step too, if it does not poll what the step sent
 abbrev pub IntentsStay : Type 0
 IntentsStay = (program : Tree) (c d : Configuration) (n m : Name) (e : Effect)
-    → IsStep program c d n → m ≢ n → intent_in c m ≡ Acts e → intent_in d m ≡ Acts e
+    → IsStep program c d n → m ≢ n → (IsPoll m e → requests_of d m ≡ requests_of c m)
+    → intent_in c m ≡ Acts e → intent_in d m ≡ Acts e
+
+-- and a poll is one still
+abbrev pub PollsStay : Type 0
+PollsStay = (program : Tree) (c d : Configuration) (n m : Name) (e : Effect)
+    → IsStep program c d n → m ≢ n → IsPoll m e → intent_in c m ≡ Acts e
+    → (x : Effect) × (intent_in d m ≡ Acts x) × IsPoll m x
 
 -- what an effect makes, sends and fills is new: the activity, the request's future and the value
 pub record IsNewTo (c : Configuration) (e : Effect) : Type 0 where

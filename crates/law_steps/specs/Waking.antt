@@ -7,11 +7,12 @@ use Rattle.asp_model.specs.Term.{Head, Serve, Tree, has_text}
 use Rattle.asp_model.specs.Split.{Split, Stands, Splits, split}
 use Rattle.asp_model.specs.Store.{CellShape, cell}
 use Rattle.asp_model.specs.Contraction.{FaultShape}
-use Rattle.asp_model.specs.Configuration.{RequestShape, Activity, Configuration, requests_of}
+use Rattle.asp_model.specs.Configuration.{RequestShape, ReceptionShape, Activity, Configuration, requests_of, log_of}
 use Rattle.asp_model.specs.Intent.{Effect, Acts, labels_served, Done, Serving, Running, Awaits, Faulted, Rests}
 use Rattle.asp_model.specs.Step.{ListsShape, intent_in, step}
 use Rattle.asp_model.specs.Status.{status_of}
 use Rattle.law_steps.specs.Reached.{IsStep, IsAt, IsFilled, IsThere}
+use Rattle.law_steps.specs.Steps.{IsPoll}
 
 abbrev pub labels_of_head : Head → CellShape → List Text
 labels_of_head (Serve labels) c = labels_served labels c
@@ -64,10 +65,11 @@ CyclesStay = (program : Tree) (c d : Configuration) (n m : Name) (a : Activity) 
     → IsStep program c d n → m ≢ n → IsAt c m a → IsFilled c f
     → status_of c m ≡ Awaits f → (g : FutureShape) × IsFilled d g × (status_of d m ≡ Awaits g)
 
--- who intends to send, and is not next in the lists, is not next until its target receives a request
+-- who intends to send or to poll, and is not next in the log where that is noted, is not next until that log grows
 abbrev pub OthersStayNext : Type 0
 OthersStayNext = (program : Tree) (lists : Option ListsShape) (c d : Configuration) (n m : Name)
-    (e : Effect) (x : Name × RequestShape)
-    → IsStep program c d n → m ≢ n → intent_in c m ≡ Acts e → e.sent ≡ Some x
-    → IsThere c x.0 → requests_of d x.0 ≡ requests_of c x.0
+    (e : Effect) (x : Name × ReceptionShape)
+    → IsStep program c d n → m ≢ n → intent_in c m ≡ Acts e → e.logged ≡ Some x
+    → IsThere c x.0 → log_of d x.0 ≡ log_of c x.0
+    → (IsPoll m e → requests_of d m ≡ requests_of c m)
     → step lists c m ≡ None → step lists d m ≡ None

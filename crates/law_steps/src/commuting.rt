@@ -7,7 +7,7 @@ pub fn steps_commute()
     ensures { StepsCommute }
 {}
 
-/// Steps of two activities without lists commute, where no activity receives from both.
+/// Steps of two activities without lists commute, where no log grows in both.
 pub fn free_steps_commute()
     ensures { FreeStepsCommute }
 {}

@@ -1,4 +1,4 @@
-//! Runs with compatible lists join, and one sender to each receiver is enough.
+//! Runs with compatible lists join, and one sender in each log, without a poll, is enough.
 
 ghost use Rattle.law_steps.specs.Joins.{JoinedFits, OneSenderBounds, OneSenderEnds, StuckIsJoined, StuckRunsAgree};
 
@@ -17,8 +17,8 @@ pub fn stuck_runs_agree()
     ensures { StuckRunsAgree }
 {}
 
-/// Beside a stuck run with one sender to each receiver, the lists of each other run are beginnings
-/// of its lists.
+/// Beside a stuck run whose logs are narrow, each of one sender and without a poll, the lists of
+/// each other run are beginnings of its lists.
 pub fn one_sender_bounds()
     ensures { OneSenderBounds }
 {}

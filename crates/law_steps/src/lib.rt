@@ -23,7 +23,7 @@ pub use linked::{
     awaited_are_begun, cells_are_linked, intends_step, stuck_is_still, targets_are_there,
 };
 pub use names::{
-    entries_ascend, futures_stand_once, futures_were_begun, names_are_creations,
+    entries_ascend, futures_stand_once, futures_were_begun, logs_tell, names_are_creations,
     requests_are_sends, served_once,
 };
 pub use reached::{moves_go_on, runs_go_on, start_is_reached};
@@ -37,8 +37,8 @@ pub use sound::{
     start_is_closed, start_is_sound,
 };
 pub use steps::{
-    effects_are_new, futures_fill, intends_stay, listed_is_free, one_is_made, others_stay,
-    requests_grow, steps_count,
+    effects_are_new, futures_fill, intends_stay, listed_is_free, logs_grow, one_is_made,
+    others_stay, polls_stay, requests_grow, steps_count,
 };
 pub use waking::{
     awaiting_stays, cycles_stay, done_stays, fault_stays, none_rests_running, others_stay_next,

@@ -1,6 +1,6 @@
 //! What every reached configuration keeps of names, requests and futures.
 
-ghost use Rattle.law_steps.specs.Kept.{EntriesAscend, FuturesStandOnce, FuturesWereBegun, NamesAreCreations, RequestsAreSends, ServedOnce};
+ghost use Rattle.law_steps.specs.Kept.{EntriesAscend, FuturesStandOnce, FuturesWereBegun, LogsTell, NamesAreCreations, RequestsAreSends, ServedOnce};
 
 /// Activities, received requests and filled futures stand in the order of their names.
 pub fn entries_ascend()
@@ -15,6 +15,11 @@ pub fn names_are_creations()
 /// A request is received by one that is there, and its future is one that its sender has begun.
 pub fn requests_are_sends()
     ensures { RequestsAreSends }
+{}
+
+/// From the start of a program, a log has the senders of all requests that came, in order.
+pub fn logs_tell()
+    ensures { LogsTell }
 {}
 
 /// An activity serves requests that it received, each once.

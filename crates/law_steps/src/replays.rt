@@ -2,7 +2,7 @@
 
 ghost use Rattle.law_steps.specs.Replays.{CountsSum, FitsWhereRun, ListedRunsStayWithin, OwnListsShow, PlainRunsAreRuns, PlainRunsReplay, PlainRunsSpend, ReplaysAreRuns, ReplaysLead, ReplaysRest, RunsAgree, RunsReplay, RunsUnderOwnLists};
 
-/// The lists of a configuration have each activity's senders, in order of arrival.
+/// The lists of a configuration have each activity's log.
 pub fn own_lists_show()
     ensures { OwnListsShow }
 {}
@@ -12,7 +12,7 @@ pub fn runs_under_own_lists()
     ensures { RunsUnderOwnLists }
 {}
 
-/// Under lists, each activity's senders are a beginning of its list.
+/// Under lists, each activity's log is a beginning of its list.
 pub fn listed_runs_stay_within()
     ensures { ListedRunsStayWithin }
 {}

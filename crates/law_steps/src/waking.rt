@@ -32,7 +32,8 @@ pub fn cycles_stay()
     ensures { CyclesStay }
 {}
 
-/// Who is not next in the list of its target is not, until the target receives a request.
+/// Who intends to send or to poll, and is not next in the log where that is noted, is not next until
+/// that log grows.
 pub fn others_stay_next()
     ensures { OthersStayNext }
 {}

@@ -2,6 +2,7 @@
 use Rattle.std.specs.Prelude.{◌≡◌, List, [], ◌∷◌, Some}
 use Rattle.std.specs.FinMap.{find}
 use Rattle.asp_model.specs.Names.{FutureShape, main_name, future_cmp}
+use Rattle.asp_model.specs.Configuration.{From}
 use Rattle.asp_model.specs.Term.{Tree}
 use Rattle.asp_model.specs.Store.{Future}
 use Rattle.asp_model.specs.Chase.{Values, Cycle, chase}
@@ -22,11 +23,11 @@ circling = let_in "b" (active keeper)
     (steps (call (variable "b") "n" (variable "f" ∷ []) ∷ print (variable "f") ∷ [])))
 
 abbrev pub circling_entries : List Entry
-circling_entries = (main_name, 8, []) ∷ (created 1, 14, main_name ∷ main_name ∷ []) ∷ []
+circling_entries = (main_name, 8, []) ∷ (created 1, 14, From main_name ∷ From main_name ∷ []) ∷ []
 
 abbrev pub CirclingReports : Type 0
 CirclingReports = Reports circling 100 circling_entries 4 (
-    "asp report 1"
+    "asp report 2"
     ∷ "verdict blocked"
     ∷ "activity 0 8 awaits 0#1"
     ∷ "senders"
@@ -65,14 +66,14 @@ circling_twice = let_in "w" keeper
 
 abbrev pub circling_twice_entries : List Entry
 circling_twice_entries = (main_name, 15, [])
-    ∷ (created 1, 14, main_name ∷ main_name ∷ [])
-    ∷ (created 2, 14, main_name ∷ main_name ∷ [])
+    ∷ (created 1, 14, From main_name ∷ From main_name ∷ [])
+    ∷ (created 2, 14, From main_name ∷ From main_name ∷ [])
     ∷ []
 
 -- each of two futures has the other as its value
 abbrev pub CirclingTwiceReports : Type 0
 CirclingTwiceReports = Reports circling_twice 100 circling_twice_entries 4 (
-    "asp report 1"
+    "asp report 2"
     ∷ "verdict blocked"
     ∷ "activity 0 15 awaits 0#1"
     ∷ "senders"
@@ -93,8 +94,9 @@ self_asking = let_in "a"
     (call (variable "a") "me" (variable "a" ∷ []))
 
 abbrev pub SelfAskingReports : Type 0
-SelfAskingReports = Reports self_asking 100 ((main_name, 4, []) ∷ (created 1, 4, main_name ∷ created 1 ∷ []) ∷ []) 4 (
-    "asp report 1"
+SelfAskingReports = Reports self_asking 100
+    ((main_name, 4, []) ∷ (created 1, 4, From main_name ∷ From (created 1) ∷ []) ∷ []) 4 (
+    "asp report 2"
     ∷ "verdict blocked"
     ∷ "activity 0 4 done"
     ∷ "senders"

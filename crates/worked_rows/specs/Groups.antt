@@ -1,6 +1,7 @@
 -- Groups, of activities and of passive objects.
 use Rattle.std.specs.Prelude.{List, [], ◌∷◌}
 use Rattle.asp_model.specs.Names.{main_name}
+use Rattle.asp_model.specs.Configuration.{From}
 use Rattle.asp_model.specs.Term.{Tree}
 use Rattle.worked_rows.specs.Programs.{number, variable, method, object, call, active, let_in, steps, add, multiply, print, group, scatter, size, member, waitall}
 use Rattle.worked_rows.specs.Reports.{Entry, created, Reports, ReportsAlone}
@@ -8,7 +9,7 @@ use Rattle.worked_rows.specs.Reports.{Entry, created, Reports, ReportsAlone}
 -- print(size(group()))
 abbrev pub EmptyGroupReports : Type 0
 EmptyGroupReports = ReportsAlone (print (size (group []))) 100 3 0 (
-    "asp report 1"
+    "asp report 2"
     ∷ "verdict end"
     ∷ "activity 0 3 done"
     ∷ "senders"
@@ -19,7 +20,7 @@ EmptyGroupReports = ReportsAlone (print (size (group []))) 100 3 0 (
 -- member(group(1), 1)
 abbrev pub NoMemberReports : Type 0
 NoMemberReports = ReportsAlone (member (group (number 1 ∷ [])) (number 1)) 100 3 1 (
-    "asp report 1"
+    "asp report 2"
     ∷ "verdict end"
     ∷ "activity 0 3 fault BadMember"
     ∷ "senders"
@@ -34,7 +35,7 @@ passive = let_in "o" (object [] (method "f" "s" ("v" ∷ []) (add (variable "v")
 
 abbrev pub PassiveGroupReports : Type 0
 PassiveGroupReports = ReportsAlone passive 100 19 0 (
-    "asp report 1"
+    "asp report 2"
     ∷ "verdict end"
     ∷ "activity 0 19 done"
     ∷ "senders"
@@ -57,15 +58,15 @@ workers = let_in "w" (object [] (method "sq" "s" ("v" ∷ []) (multiply (variabl
 
 abbrev pub workers_entries : List Entry
 workers_entries = (main_name, 40, [])
-    ∷ (created 1, 15, main_name ∷ main_name ∷ [])
-    ∷ (created 2, 15, main_name ∷ main_name ∷ [])
-    ∷ (created 3, 15, main_name ∷ main_name ∷ [])
+    ∷ (created 1, 15, From main_name ∷ From main_name ∷ [])
+    ∷ (created 2, 15, From main_name ∷ From main_name ∷ [])
+    ∷ (created 3, 15, From main_name ∷ From main_name ∷ [])
     ∷ []
 
 -- the last two groups differ in size
 abbrev pub WorkersReport : Type 0
 WorkersReport = Reports workers 100 workers_entries 1 (
-    "asp report 1"
+    "asp report 2"
     ∷ "verdict end"
     ∷ "activity 0 40 fault BadMember"
     ∷ "senders"

@@ -1,17 +1,20 @@
 -- Journals: what a lease may be granted and commit, and a delivery that a run takes or does without.
-use Rattle.std.specs.Prelude.{◌≡◌, ℕ, List, [], ◌∷◌, ◌++◌, Option, Some, None}
+use Rattle.std.specs.Prelude.{◌≡◌, ℕ, pos, List, [], ◌∷◌, ◌++◌, Option, Some, None, map}
 use Rattle.std.specs.List.{flat_map}
 use Rattle.asp_model.specs.Names.{Name, FutureShape, main_name}
 use Rattle.asp_model.specs.Term.{Tree}
+use Rattle.asp_model.specs.Contraction.{LineShape, NumberLine}
+use Rattle.asp_model.specs.Configuration.{ReceptionShape, From, Poll, log_of}
 use Rattle.asp_model.specs.Intent.{StatusShape, Done, Serving, Running}
 use Rattle.asp_model.specs.Replay.{CountsShape, counts_of}
 use Rattle.asp_model.specs.Status.{VerdictShape, End, Budget, statuses_of, verdict_of}
-use Rattle.asp_model.specs.History.{Edge, Need, EntryShape, Lent, Committed, Delivered}
+use Rattle.asp_model.specs.History.{Edge, Need, EntryShape, HistoryShape, Lent, Committed, Delivered, program_history}
 use Rattle.def_journals.specs.Journals.{RunShape, run_of}
 use Rattle.def_journals.specs.Passing.{holders_of}
 use Rattle.def_journals.specs.Owed.{next_owed, verdict_told}
 use Rattle.worked_rows.specs.Reports.{created}
 use Rattle.worked_rows.specs.Services.{asking}
+use Rattle.worked_rows.specs.Polls.{asked_once}
 
 -- an activity goes out, and comes in with so many reductions
 abbrev pub lease : (number reductions : ℕ) → List EntryShape
@@ -47,7 +50,7 @@ if_run f (Some s) = Some (f s)
 
 -- what a lawful journal leaves; none where it is not lawful
 abbrev pub journal_shows : Tree → ℕ → List EntryShape → Option Seen
-journal_shows program budget journal = if_run seen (run_of program budget journal)
+journal_shows program budget journal = if_run seen (run_of (program_history program budget journal))
 
 -- Leases
 
@@ -110,6 +113,9 @@ DeliversAnswer = journal_shows asking 100 until_delivered ≡ Some (record {
 abbrev pub lacking : List EntryShape
 lacking = until_answered ++ lease 1 3
 
+abbrev pub lacking_history : HistoryShape
+lacking_history = program_history asking 100 lacking
+
 pub record LacksAnswer : Type 0 where
   pub shows : journal_shows asking 100 lacking ≡ Some (record {
     counts = (main_name, 5) ∷ (created 1, 9) ∷ [];
@@ -118,6 +124,36 @@ pub record LacksAnswer : Type 0 where
     left = 86;
     out = [];
   })
-  pub owed : if_run (λ s. next_owed s (holders_of asking 100 lacking) []) (run_of asking 100 lacking)
+  pub owed : if_run (λ s. next_owed s (holders_of lacking_history) []) (run_of lacking_history)
       ≡ Some (Some (Need (sent_by main_name 1) main_name 4))
-  pub verdict : if_run (λ s. verdict_told s (holders_of asking 100 lacking) []) (run_of asking 100 lacking) ≡ Some None
+  pub verdict : if_run (λ s. verdict_told s (holders_of lacking_history) []) (run_of lacking_history) ≡ Some None
+
+-- Polls
+
+-- main has asked 0.1 to go, which has taken that request
+abbrev pub until_asked : List EntryShape
+until_asked = leases ((0, 2) ∷ (0, 2) ∷ (1, 2) ∷ [])
+
+-- what is in the log of 0.1, and what all have written
+pub record Told : Type 0 where
+  pub log : List ReceptionShape
+  pub lines : List (List LineShape)
+
+abbrev pub told : RunShape → Told
+told s = record { log = log_of s.configuration (created 1); lines = map (λ x. x.1.lines) s.configuration.activities }
+
+abbrev pub journal_tells : List EntryShape → Option Told
+journal_tells journal = if_run told (run_of (program_history asked_once 100 journal))
+
+-- 0.1 invokes its method and asks; only then it prints
+pub record PollsInCommits : Type 0 where
+  pub before : journal_tells (until_asked ++ leases ((1, 2) ∷ (1, 1) ∷ [])) ≡ Some (record {
+    log = From main_name ∷ Poll ∷ [];
+    lines = [] ∷ (NumberLine (pos 0) ∷ []) ∷ [];
+  })
+  -- main asks while 0.1 is out
+  pub while_out : journal_tells (until_asked ++ (Lent 1 ∷ lease 0 2 ++ (Committed 1 2 ∷ lease 1 1))) ≡ Some (record {
+    log = From main_name ∷ From main_name ∷ Poll ∷ [];
+    lines = [] ∷ (NumberLine (pos 1) ∷ []) ∷ [];
+  })
+  pub not_last : journal_tells (until_asked ++ lease 1 3) ≡ None

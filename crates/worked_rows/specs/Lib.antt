@@ -6,6 +6,7 @@ pub mod Objects
 pub mod Services
 pub mod Circles
 pub mod Senders
+pub mod Polls
 pub mod Copies
 pub mod Passing
 pub mod Chases

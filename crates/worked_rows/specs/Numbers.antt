@@ -11,7 +11,7 @@ sum = print (add (number 1) (number 2))
 -- two literals, the sum and the print
 abbrev pub SumReports : Type 0
 SumReports = ReportsAlone sum 100 4 0 (
-    "asp report 1"
+    "asp report 2"
     ∷ "verdict end"
     ∷ "activity 0 4 done"
     ∷ "senders"
@@ -22,7 +22,7 @@ SumReports = ReportsAlone sum 100 4 0 (
 -- one reduction is left to do where the budget ends
 abbrev pub CutSumReports : Type 0
 CutSumReports = ReportsAlone sum 3 3 5 (
-    "asp report 1"
+    "asp report 2"
     ∷ "verdict budget"
     ∷ "activity 0 3 running"
     ∷ "senders"
@@ -32,7 +32,7 @@ CutSumReports = ReportsAlone sum 3 3 5 (
 -- print(9223372036854775807 + 1)
 abbrev pub OverflowReports : Type 0
 OverflowReports = ReportsAlone (print (add (number 9223372036854775807) (number 1))) 100 2 1 (
-    "asp report 1"
+    "asp report 2"
     ∷ "verdict end"
     ∷ "activity 0 2 fault Overflow"
     ∷ "senders"
@@ -42,7 +42,7 @@ OverflowReports = ReportsAlone (print (add (number 9223372036854775807) (number 
 -- print(7 / 0)
 abbrev pub ZeroDivisorReports : Type 0
 ZeroDivisorReports = ReportsAlone (print (divide (number 7) (number 0))) 100 2 1 (
-    "asp report 1"
+    "asp report 2"
     ∷ "verdict end"
     ∷ "activity 0 2 fault ZeroDivisor"
     ∷ "senders"
@@ -68,7 +68,7 @@ signs = steps (
 -- four times three literals, two signs and a print, twice two literals, a sign and a print, and five sequences
 abbrev pub SignsReport : Type 0
 SignsReport = ReportsAlone signs 100 37 0 (
-    "asp report 1"
+    "asp report 2"
     ∷ "verdict end"
     ∷ "activity 0 37 done"
     ∷ "senders"
@@ -88,7 +88,7 @@ least = subtract (negative 9223372036854775807) (number 1)
 -- eight reductions, and then the fault
 abbrev pub OverflowsBehindEight : Tree → Type 0
 OverflowsBehindEight program = ReportsAlone program 100 8 1 (
-    "asp report 1"
+    "asp report 2"
     ∷ "verdict end"
     ∷ "activity 0 8 fault Overflow"
     ∷ "senders"
@@ -106,7 +106,7 @@ LeastRemainderReports = OverflowsBehindEight (remainder least (negative 1))
 -- repeat(0)
 abbrev pub EndlessReports : Type 0
 EndlessReports = ReportsAlone (repeat (number 0)) 100 100 5 (
-    "asp report 1"
+    "asp report 2"
     ∷ "verdict budget"
     ∷ "activity 0 100 running"
     ∷ "senders"
@@ -116,7 +116,7 @@ EndlessReports = ReportsAlone (repeat (number 0)) 100 100 5 (
 -- 1
 abbrev pub LiteralReports : Type 0
 LiteralReports = ReportsAlone (number 1) 1 1 0 (
-    "asp report 1"
+    "asp report 2"
     ∷ "verdict end"
     ∷ "activity 0 1 done"
     ∷ "senders"
@@ -130,7 +130,7 @@ choosing = steps (echo "ready" ∷ if_else (less (number 2) (number 3)) (print (
 -- echo, sequence, two literals, comparison, `if`, two literals, remainder and print
 abbrev pub ChoosingReports : Type 0
 ChoosingReports = ReportsAlone choosing 100 10 0 (
-    "asp report 1"
+    "asp report 2"
     ∷ "verdict end"
     ∷ "activity 0 10 done"
     ∷ "senders"

@@ -14,7 +14,7 @@ doubling = let_in "o"
 
 abbrev pub DoublingReports : Type 0
 DoublingReports = ReportsAlone doubling 100 12 1 (
-    "asp report 1"
+    "asp report 2"
     ∷ "verdict end"
     ∷ "activity 0 12 fault NoField"
     ∷ "senders"
@@ -30,7 +30,7 @@ cloning = let_in "o" (object (field "v" (number 1) ∷ []) [])
 
 abbrev pub CloningReports : Type 0
 CloningReports = ReportsAlone cloning 100 13 0 (
-    "asp report 1"
+    "asp report 2"
     ∷ "verdict end"
     ∷ "activity 0 13 done"
     ∷ "senders"
@@ -45,7 +45,7 @@ sharing = let_in "o" (object (field "v" (number 1) ∷ []) []) (object (field "a
 
 abbrev pub SharingReports : Type 0
 SharingReports = ReportsAlone sharing 100 4 0 (
-    "asp report 1"
+    "asp report 2"
     ∷ "verdict end"
     ∷ "activity 0 4 done"
     ∷ "senders"

@@ -4,7 +4,7 @@ use Rattle.std.specs.List.{list_any}
 use Rattle.asp_model.specs.Names.{Name, FutureShape, main_name}
 use Rattle.asp_model.specs.Intent.{Done, Serving}
 use Rattle.asp_model.specs.Status.{End}
-use Rattle.asp_model.specs.History.{ChoiceShape, Forward, FromHome, Leave, Edge, EntryShape, Delivered}
+use Rattle.asp_model.specs.History.{ChoiceShape, Forward, FromHome, Leave, Edge, EntryShape, HistoryShape, Delivered, program_history}
 use Rattle.def_journals.specs.Journals.{RunShape, begun, entered}
 use Rattle.def_journals.specs.Edges.{EdgeShape, HoldersShape, no_holders, after_events, is_owed}
 use Rattle.def_journals.specs.Passing.{entry_events, holders_of}
@@ -17,6 +17,10 @@ edge f from to = record { future = f; from = from; to = to }
 
 abbrev pub delivery : EdgeShape → EntryShape
 delivery x = Delivered (Edge x.future x.from x.to)
+
+-- a history of the program
+abbrev pub handed : List EntryShape → HistoryShape
+handed = program_history handing 1000
 
 -- the answers of the calls of `slow`, `hand`, `pass` and `take`
 abbrev pub slow : FutureShape
@@ -69,7 +73,7 @@ HandsOn = journal_shows handing 1000 handing_on ≡ Some (record {
 
 -- in the order in which they arise
 abbrev pub HasTenEdges : Type 0
-HasTenEdges = (holders_of handing 1000 handing_on).edges ≡ edge slow (created 1) main_name
+HasTenEdges = (holders_of (handed handing_on)).edges ≡ edge slow (created 1) main_name
     ∷ edge hand (created 4) main_name
     ∷ edge slow main_name (created 4)
     ∷ edge pass (created 3) (created 4)
@@ -82,7 +86,7 @@ HasTenEdges = (holders_of handing 1000 handing_on).edges ≡ edge slow (created 
     ∷ []
 
 abbrev pub DeliversAll : Type 0
-DeliversAll = (holders_of handing 1000 handing_on).delivered ≡ before_take ++ after_take
+DeliversAll = (holders_of (handed handing_on)).delivered ≡ before_take ++ after_take
 
 -- Owed by an answer that each edge has
 
@@ -99,7 +103,7 @@ all_owed answer (x ∷ xs) s h = is_owed_entry answer h x && elim (entered x s) 
 ]
 
 abbrev pub owed_at_end : ChoiceShape → List EntryShape → Bool
-owed_at_end answer journal = let h : HoldersShape = holders_of handing 1000 journal in list_any (is_owed h answer) h.edges
+owed_at_end answer journal = let h : HoldersShape = holders_of (handed journal) in list_any (is_owed h answer) h.edges
 
 pub record OwedWhenDelivered : Type 0 where
   pub forward : all_owed Forward handing_on (begun handing 1000) no_holders ≡ true
@@ -115,5 +119,5 @@ lazily = until_taken ++ leases ((2, 3) ∷ (2, 3) ∷ [])
 
 -- without deliveries it unpacks the value itself, and has received it
 pub record ReadsItself : Type 0 where
-  pub received : (holders_of handing 1000 lazily).received ≡ (slow, created 2) ∷ []
-  pub delivered : (holders_of handing 1000 lazily).delivered ≡ []
+  pub received : (holders_of (handed lazily)).received ≡ (slow, created 2) ∷ []
+  pub delivered : (holders_of (handed lazily)).delivered ≡ []

@@ -2,7 +2,7 @@
 use Rattle.std.specs.Prelude.{◌≡◌, List, [], ◌∷◌, map}
 use Rattle.asp_model.specs.Names.{main_name}
 use Rattle.asp_model.specs.Term.{Tree}
-use Rattle.asp_model.specs.Configuration.{requests_of}
+use Rattle.asp_model.specs.Configuration.{requests_of, From}
 use Rattle.worked_rows.specs.Programs.{number, variable, field, method, object, get, put, call, active, let_in, steps, add, multiply, print}
 use Rattle.worked_rows.specs.Reports.{Entry, created, replayed, Reports}
 use Rattle.worked_rows.specs.Copies.{shared_parcel}
@@ -19,16 +19,16 @@ handing = let_in "q" (active (object [] (method "slow" "s" ("v" ∷ []) (multipl
 
 abbrev pub handing_entries : List Entry
 handing_entries = (main_name, 15, [])
-    ∷ (created 1, 9, main_name ∷ [])
-    ∷ (created 2, 10, created 3 ∷ [])
-    ∷ (created 3, 8, created 4 ∷ [])
-    ∷ (created 4, 8, main_name ∷ [])
+    ∷ (created 1, 9, From main_name ∷ [])
+    ∷ (created 2, 10, From (created 3) ∷ [])
+    ∷ (created 3, 8, From (created 4) ∷ [])
+    ∷ (created 4, 8, From main_name ∷ [])
     ∷ []
 
 -- a future passes three activities unread
 abbrev pub HandingReports : Type 0
 HandingReports = Reports handing 100 handing_entries 0 (
-    "asp report 1"
+    "asp report 2"
     ∷ "verdict end"
     ∷ "activity 0 15 done"
     ∷ "senders"
@@ -62,12 +62,13 @@ keeping = let_in "a" (active (object [] (method "make" "s" [] (object (field "v"
     (steps (call (variable "k") "keep" (variable "f" ∷ []) ∷ call (variable "k") "set" (variable "f" ∷ []) ∷ []))))
 
 abbrev pub keeping_entries : List Entry
-keeping_entries = (main_name, 12, []) ∷ (created 1, 9, main_name ∷ []) ∷ (created 2, 25, main_name ∷ main_name ∷ []) ∷ []
+keeping_entries = (main_name, 12, []) ∷ (created 1, 9, From main_name ∷ [])
+    ∷ (created 2, 25, From main_name ∷ From main_name ∷ []) ∷ []
 
 -- one value is received by two messages, and one copy of it changes
 abbrev pub KeepingReports : Type 0
 KeepingReports = Reports keeping 100 keeping_entries 0 (
-    "asp report 1"
+    "asp report 2"
     ∷ "verdict end"
     ∷ "activity 0 12 done"
     ∷ "senders"
@@ -93,12 +94,12 @@ sending_both = let_in "t"
     (call (variable "t") "both" (object (field "a" (variable "o") ∷ field "b" (variable "o") ∷ []) [] ∷ [])))
 
 abbrev pub sending_entries : List Entry
-sending_entries = (main_name, 8, []) ∷ (created 1, 14, main_name ∷ []) ∷ []
+sending_entries = (main_name, 8, []) ∷ (created 1, 14, From main_name ∷ []) ∷ []
 
 -- two fields of an argument share one object
 abbrev pub SendingReports : Type 0
 SendingReports = Reports sending_both 100 sending_entries 0 (
-    "asp report 1"
+    "asp report 2"
     ∷ "verdict end"
     ∷ "activity 0 8 done"
     ∷ "senders"

@@ -2,7 +2,7 @@
 use Prim.Native.String.{String}
 use Rattle.std.specs.Prelude.{ℕ, pos, List, ◌++◌, Some, None, map, codes}
 use Rattle.asp_model.specs.Names.{Text}
-use Rattle.asp_model.specs.Term.{Add, Subtract, Multiply, Divide, Remainder, Less, Equal, Number, Var, Make, Get, Put, Call, Clone, Active, Serve, Let, Steps, If, Repeat, Operate, Print, Echo, Group, Scatter, Size, Member, WaitAll, Tree, node, none, more, trees, leaf, one, two}
+use Rattle.asp_model.specs.Term.{Add, Subtract, Multiply, Divide, Remainder, Less, Equal, Number, Var, Make, Get, Put, Call, Clone, Active, Serve, Let, Steps, If, Repeat, Operate, Print, Echo, Group, Scatter, Size, Member, WaitAll, Pending, Tree, node, none, more, trees, leaf, one, two}
 use Rattle.asp_model.specs.Store.{MethodShape}
 
 abbrev pub number : ℕ → Tree
@@ -43,6 +43,10 @@ active_by t l = one (Active (Some (codes l))) t
 
 abbrev pub serve : List String → Tree
 serve labels = leaf (Serve (map codes labels))
+
+-- whether a request with one of these labels is pending
+abbrev pub pending : List String → Tree
+pending labels = leaf (Pending (map codes labels))
 
 abbrev pub let_in : String → Tree → Tree → Tree
 let_in x t u = two (Let (codes x)) t u

@@ -3,7 +3,7 @@ use Prim.Native.String.{String}
 use Rattle.std.specs.Prelude.{◌≡◌, ℕ, List, [], ◌∷◌, map, codes}
 use Rattle.asp_model.specs.Names.{Name, main_name, created_name}
 use Rattle.asp_model.specs.Term.{Tree}
-use Rattle.asp_model.specs.Configuration.{Configuration, requests_of}
+use Rattle.asp_model.specs.Configuration.{ReceptionShape, Configuration, log_of}
 use Rattle.asp_model.specs.Step.{ListsShape}
 use Rattle.asp_model.specs.Replay.{CountsShape, Fits, plain_run, replay}
 use Rattle.asp_model.specs.Outcome.{outcome_of, exit_status}
@@ -14,9 +14,9 @@ use Rattle.asp_model.specs.ReadReport.{Reading, Reads, read_report}
 abbrev pub created : ℕ → Name
 created k = created_name main_name k
 
--- what a report says of an activity: its count, and the senders of its requests in order of arrival
+-- what a report says of an activity: its count, and its log
 abbrev pub Entry : Type 0
-Entry = Name × ℕ × List Name
+Entry = Name × ℕ × List ReceptionShape
 
 abbrev pub lists_in : List Entry → ListsShape
 lists_in entries = map (λ e. (e.0, e.2)) entries
@@ -26,7 +26,7 @@ counts_in entries = map (λ e. (e.0, e.1)) entries
 
 -- what a configuration leaves of each activity
 abbrev pub entries_of : Configuration → List Entry
-entries_of c = map (λ x. (x.0, x.1.reductions, map (λ r. r.sender) (requests_of c x.0))) c.activities
+entries_of c = map (λ x. (x.0, x.1.reductions, log_of c x.0)) c.activities
 
 abbrev pub replayed : Tree → List Entry → Configuration
 replayed program entries = replay program (lists_in entries) (counts_in entries)

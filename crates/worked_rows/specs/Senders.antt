@@ -1,7 +1,8 @@
 -- Two senders to one receiver: the runs under both lists, and lists and counts that do not fit.
 use Prim.Native.String.{String}
 use Rattle.std.specs.Prelude.{ℕ, List, [], ◌∷◌}
-use Rattle.asp_model.specs.Names.{Name, main_name}
+use Rattle.asp_model.specs.Names.{main_name}
+use Rattle.asp_model.specs.Configuration.{ReceptionShape, From}
 use Rattle.asp_model.specs.Term.{Tree}
 use Rattle.worked_rows.specs.Programs.{number, variable, field, method, object, get, put, call, active, active_by, serve, let_in, steps, add, multiply, print}
 use Rattle.worked_rows.specs.Reports.{Entry, created, Reports, Replays, Diverges}
@@ -21,16 +22,16 @@ racing = let_in "c"
     (steps (call (variable "a") "go" [] ∷ call (variable "b") "go" [] ∷ []))))
 
 -- the run's entries, with these of the counter
-abbrev pub racing_entries : ℕ → List Name → List Entry
+abbrev pub racing_entries : ℕ → List ReceptionShape → List Entry
 racing_entries count senders = (main_name, 13, [])
     ∷ (created 1, count, senders)
-    ∷ (created 2, 9, main_name ∷ [])
-    ∷ (created 3, 9, main_name ∷ [])
+    ∷ (created 2, 9, From main_name ∷ [])
+    ∷ (created 3, 9, From main_name ∷ [])
     ∷ []
 
 abbrev pub RacingReports : Type 0
-RacingReports = Reports racing 100 (racing_entries 29 (created 2 ∷ created 3 ∷ [])) 0 (
-    "asp report 1"
+RacingReports = Reports racing 100 (racing_entries 29 (From (created 2) ∷ From (created 3) ∷ [])) 0 (
+    "asp report 2"
     ∷ "verdict end"
     ∷ "activity 0 13 done"
     ∷ "senders"
@@ -47,8 +48,8 @@ RacingReports = Reports racing 100 (racing_entries 29 (created 2 ∷ created 3 �
 
 -- the list of the counter turned round
 abbrev pub TurnedReports : Type 0
-TurnedReports = Replays racing (racing_entries 29 (created 3 ∷ created 2 ∷ [])) 0 (
-    "asp report 1"
+TurnedReports = Replays racing (racing_entries 29 (From (created 3) ∷ From (created 2) ∷ [])) 0 (
+    "asp report 2"
     ∷ "verdict end"
     ∷ "activity 0 13 done"
     ∷ "senders"
@@ -65,15 +66,16 @@ TurnedReports = Replays racing (racing_entries 29 (created 3 ∷ created 2 ∷ [
 
 -- the counter cannot take a 30th reduction
 abbrev pub CountDiverges : Type 0
-CountDiverges = Diverges racing (racing_entries 30 (created 2 ∷ created 3 ∷ [])) (racing_entries 29 (created 2 ∷ created 3 ∷ []))
+CountDiverges = Diverges racing (racing_entries 30 (From (created 2) ∷ From (created 3) ∷ []))
+    (racing_entries 29 (From (created 2) ∷ From (created 3) ∷ []))
 
 -- 0.2 sends once, and 0.3 stands before its request for good
 abbrev pub ListDiverges : Type 0
-ListDiverges = Diverges racing (racing_entries 29 (created 2 ∷ created 2 ∷ [])) (
+ListDiverges = Diverges racing (racing_entries 29 (From (created 2) ∷ From (created 2) ∷ [])) (
     (main_name, 13, [])
-    ∷ (created 1, 15, created 2 ∷ [])
-    ∷ (created 2, 9, main_name ∷ [])
-    ∷ (created 3, 4, main_name ∷ [])
+    ∷ (created 1, 15, From (created 2) ∷ [])
+    ∷ (created 2, 9, From main_name ∷ [])
+    ∷ (created 3, 4, From main_name ∷ [])
     ∷ []
     )
 
@@ -90,16 +92,16 @@ ordering = let_in "c"
     (let_in "q" (active (object [] (method "go" "s" [] (call (variable "c") "b" (number 1 ∷ [])) ∷ [])))
     (steps (call (variable "p") "go" [] ∷ call (variable "q") "go" [] ∷ []))))
 
-abbrev pub ordering_entries : List Name → List Entry
+abbrev pub ordering_entries : List ReceptionShape → List Entry
 ordering_entries senders = (main_name, 12, [])
     ∷ (created 1, 14, senders)
-    ∷ (created 2, 9, main_name ∷ [])
-    ∷ (created 3, 9, main_name ∷ [])
+    ∷ (created 2, 9, From main_name ∷ [])
+    ∷ (created 3, 9, From main_name ∷ [])
     ∷ []
 
 -- the report with this senders line of 0.1
 abbrev pub ordering_lines : String → List String
-ordering_lines senders = "asp report 1"
+ordering_lines senders = "asp report 2"
     ∷ "verdict end"
     ∷ "activity 0 12 done"
     ∷ "senders"
@@ -115,7 +117,9 @@ ordering_lines senders = "asp report 1"
 
 -- services by label are in one order, whoever sends first
 abbrev pub OrderingReports : Type 0
-OrderingReports = Reports ordering 100 (ordering_entries (created 2 ∷ created 3 ∷ [])) 0 (ordering_lines "senders 0.2 0.3")
+OrderingReports = Reports ordering 100 (ordering_entries (From (created 2) ∷ From (created 3) ∷ [])) 0
+    (ordering_lines "senders 0.2 0.3")
 
 abbrev pub OrderingTurnedReports : Type 0
-OrderingTurnedReports = Replays ordering (ordering_entries (created 3 ∷ created 2 ∷ [])) 0 (ordering_lines "senders 0.3 0.2")
+OrderingTurnedReports = Replays ordering (ordering_entries (From (created 3) ∷ From (created 2) ∷ [])) 0
+    (ordering_lines "senders 0.3 0.2")

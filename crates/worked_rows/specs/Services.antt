@@ -1,6 +1,7 @@
 -- Activities that ask each other and serve.
 use Rattle.std.specs.Prelude.{[], ◌∷◌}
 use Rattle.asp_model.specs.Names.{main_name}
+use Rattle.asp_model.specs.Configuration.{From}
 use Rattle.asp_model.specs.Term.{Tree}
 use Rattle.worked_rows.specs.Programs.{number, variable, method, object, get, call, active, serve, let_in, steps, add, divide, print}
 use Rattle.worked_rows.specs.Reports.{created, Reports}
@@ -13,8 +14,8 @@ asking = let_in "a"
 
 -- of 0.1: `repeat`, the service, invocation, literal, sum, the service's end, the new `[]`, the sequence, `repeat`
 abbrev pub AskingReports : Type 0
-AskingReports = Reports asking 100 ((main_name, 6, []) ∷ (created 1, 9, main_name ∷ []) ∷ []) 0 (
-    "asp report 1"
+AskingReports = Reports asking 100 ((main_name, 6, []) ∷ (created 1, 9, From main_name ∷ []) ∷ []) 0 (
+    "asp report 2"
     ∷ "verdict end"
     ∷ "activity 0 6 done"
     ∷ "senders"
@@ -32,8 +33,8 @@ asking_early = let_in "a"
     (steps (number 0 ∷ number 0 ∷ print (variable "f") ∷ [])))
 
 abbrev pub AskingEarlyReports : Type 0
-AskingEarlyReports = Reports asking_early 100 ((main_name, 11, []) ∷ (created 1, 9, main_name ∷ []) ∷ []) 0 (
-    "asp report 1"
+AskingEarlyReports = Reports asking_early 100 ((main_name, 11, []) ∷ (created 1, 9, From main_name ∷ []) ∷ []) 0 (
+    "asp report 2"
     ∷ "verdict end"
     ∷ "activity 0 11 done"
     ∷ "senders"
@@ -50,8 +51,9 @@ faulting = let_in "a" (active (object [] (method "num" "s" [] (get (variable "s"
     (steps (call (variable "a") "num" [] ∷ call (variable "b") "div" (number 0 ∷ []) ∷ get (variable "a") "y" ∷ [])))
 
 abbrev pub FaultingReports : Type 0
-FaultingReports = Reports faulting 100 ((main_name, 11, []) ∷ (created 1, 3, main_name ∷ []) ∷ (created 2, 4, main_name ∷ []) ∷ []) 1 (
-    "asp report 1"
+FaultingReports = Reports faulting 100
+    ((main_name, 11, []) ∷ (created 1, 3, From main_name ∷ []) ∷ (created 2, 4, From main_name ∷ []) ∷ []) 1 (
+    "asp report 2"
     ∷ "verdict end"
     ∷ "activity 0 11 fault ActiveField"
     ∷ "senders"
@@ -65,7 +67,7 @@ FaultingReports = Reports faulting 100 ((main_name, 11, []) ∷ (created 1, 3, m
 -- serve()
 abbrev pub ServingReports : Type 0
 ServingReports = Reports (serve []) 100 ((main_name, 0, []) ∷ []) 0 (
-    "asp report 1"
+    "asp report 2"
     ∷ "verdict end"
     ∷ "activity 0 0 serving"
     ∷ "senders"

@@ -15,7 +15,7 @@ ShowsTo program depth lines = report_lines_to (Some depth) (whole_outcome_of (pl
 -- a future that is its own value stays a future
 abbrev pub CirclingShows : Type 0
 CirclingShows = ShowsTo circling 1 (
-    "asp report 1"
+    "asp report 2"
     ∷ "verdict blocked"
     ∷ "activity 0 8 awaits 0#1"
     ∷ "senders"
@@ -33,7 +33,7 @@ sharing = let_in "o" (object (field "v" (number 1) ∷ []) []) (object (field "a
 
 abbrev pub SharingShows : Type 0
 SharingShows = ShowsTo sharing 2 (
-    "asp report 1"
+    "asp report 2"
     ∷ "verdict end"
     ∷ "activity 0 4 done"
     ∷ "senders"
@@ -48,7 +48,7 @@ SharingShows = ShowsTo sharing 2 (
 -- one value is received twice, and the copy that was kept is not the one that changed
 abbrev pub KeepingShows : Type 0
 KeepingShows = ShowsTo keeping 2 (
-    "asp report 1"
+    "asp report 2"
     ∷ "verdict end"
     ∷ "activity 0 12 done"
     ∷ "senders"
@@ -75,7 +75,7 @@ circling_object = let_in "o" (object (field "a" (number 0) ∷ []) [])
 -- an object that holds itself, and a group that holds it twice
 abbrev pub CirclingObjectShows : Type 0
 CirclingObjectShows = ShowsTo circling_object 2 (
-    "asp report 1"
+    "asp report 2"
     ∷ "verdict end"
     ∷ "activity 0 7 done"
     ∷ "senders"

@@ -1,10 +1,15 @@
 //! Reports with a bad line, and reports that are read all the same.
 
-ghost use Rattle.worked_rows.specs.BadReports.{WholeReports, WrongForms, WrongNumbers, WrongOrders, CutReports};
+ghost use Rattle.worked_rows.specs.BadReports.{Versions, WholeReports, WrongForms, WrongNumbers, WrongOrders, CutReports};
 
 /// Outputs and statuses that a reader does not look at.
 pub fn whole_reports()
     ensures read { WholeReports }
+{}
+
+/// Logs with polls, and without them in version 1.
+pub fn versions()
+    ensures read { Versions }
 {}
 
 /// Lines that have not their form.

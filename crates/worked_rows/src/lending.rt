@@ -1,6 +1,6 @@
 //! Leases, commits and a delivery.
 
-ghost use Rattle.worked_rows.specs.Lending.{CommitsTwo, DeliversAnswer, IsGranted, LacksAnswer, RefusesEntries};
+ghost use Rattle.worked_rows.specs.Lending.{CommitsTwo, DeliversAnswer, IsGranted, LacksAnswer, PollsInCommits, RefusesEntries};
 
 /// A grant leaves the budget, and what a commit does not use goes back.
 pub fn grants()
@@ -18,4 +18,9 @@ pub fn refused_entries()
 pub fn delivered_answer()
     ensures delivered { DeliversAnswer }
     ensures owed { LacksAnswer }
+{}
+
+/// A poll ends a commit, and stands in the log behind what came while the activity was out.
+pub fn polls_in_commits()
+    ensures polls { PollsInCommits }
 {}
