@@ -117,6 +117,7 @@ impl<'a> Walk<'a> {
             | Term::Hole(_)
             | Term::Number(_, _)
             | Term::Serve(_, _)
+            | Term::Pending(_, _)
             | Term::Echo(_, _) => Ok(()),
             Term::Var(name, mark) => {
                 self.visit_variable(name, mark.at);

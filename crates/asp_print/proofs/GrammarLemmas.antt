@@ -13,7 +13,7 @@ use Rattle.syntax_grammar.specs.Signs.{IsHead, head, parameter, IsService, no_se
 use Rattle.syntax_grammar.specs.Grammar.{IsPrim, number, variable, parentheses, object, word, active, serve, choice, echo, group_none, group, scatter, member, IsPost, prim, get, call_none, call, IsArgs, argument, and_argument, IsFields, field, and_field, IsMethods, first_method, and_method, IsFieldPart, no_fields, fields, IsMethodPart, no_methods, methods, IsProd, post, times, IsSum, prod, plus, IsTest, sum, test, IsExpr, tested, assign, IsSeq, last, then, bind}
 use Rattle.asp_print.specs.Tokens.{behind_each, between, name_pieces, service_tokens, method_part, sign_of, tokens_of, pieces_of}
 use Rattle.asp_print.specs.Parts.{field_tokens, method_tokens}
-use Rattle.asp_print.proofs.PieceLemmas.{both, behind_more, grown, between_is, method_part_is, pieces_all, steps_are, parentheses_tokens, put_tokens, put_is_get, word_laid, product_sign, sum_sign, test_sign, make_tokens}
+use Rattle.asp_print.proofs.PieceLemmas.{both, behind_more, grown, between_is, method_part_is, pieces_all, steps_are, parentheses_tokens, put_tokens, put_is_get, label_word_laid, word_laid, product_sign, sum_sign, test_sign, make_tokens}
 
 abbrev one_name : Text → List Token
 one_name x = tokens.Name x ∷ []
@@ -71,8 +71,9 @@ mutual
       ap (λ (xs : List Token). tokens.Active ∷ tokens.Open ∷ xs)
       (both ls (us ++ lexeme tokens.Close close_at ∷ []) (steps_are n (tokens_in ls) ts (seq_tokens h e)) (both us (lexeme tokens.Close close_at ∷ []) (service_is i) refl)
       ∙ sym (append_assoc (tokens_of (terms_at n ts)) (service_tokens label) (tokens.Close ∷ [])))
-  prim_tokens (serve s at open_at close_at ls ns xs h) e =
-      ap (λ (ts : List Token). tokens.Serve ∷ tokens.Open ∷ ts) (both ls (lexeme tokens.Close close_at ∷ []) (labels_tokens h) refl)
+  prim_tokens (serve s token polls at open_at close_at ls ns xs w h) e =
+      ap (λ (ts : List Token). token ∷ tokens.Open ∷ ts) (both ls (lexeme tokens.Close close_at ∷ []) (labels_tokens h) refl)
+      ∙ sym (label_word_laid w xs)
   prim_tokens (choice s at open_at close_at then_open then_close else_at else_open else_close ls us vs n m k cs ts es f g h) e =
       let third : tokens_in (vs ++ lexeme tokens.BraceClose else_close ∷ []) ≡ tokens_of (terms_at k es) ++ tokens.BraceClose ∷ [] =
       both vs (lexeme tokens.BraceClose else_close ∷ []) (steps_are k (tokens_in vs) es (seq_tokens h e)) refl in

@@ -71,9 +71,9 @@ mutual
       along (IsPrim s) (active s (f at) (f open_at) (f close_at) (moved_all f ls) (moved_all f us) (f n) (map (moved f) ts) (map f ns) label (seq_moved f h) (service_moved f i))
       (ap (λ (ys : List Lexeme). lexeme tokens.Active (f at) ∷ lexeme tokens.Open (f open_at) ∷ ys) (ap (λ (ys : List Lexeme). moved_all f ls ++ ys) (split f us close) ∙ split f ls (us ++ close)))
       (ap (λ (t : Marked). part (f at) (active_at (f at) (map f ns) label t)) (terms_moved f n ts))
-  prim_moved f (serve s at open_at close_at ls ns xs h) =
-      along (IsPrim s) (serve s (f at) (f open_at) (f close_at) (moved_all f ls) (map f ns) xs (label_part_moved f h))
-      (ap (λ (ys : List Lexeme). lexeme tokens.Serve (f at) ∷ lexeme tokens.Open (f open_at) ∷ ys) (split f ls (lexeme tokens.Close close_at ∷ []))) refl
+  prim_moved f (serve s token polls at open_at close_at ls ns xs w h) =
+      along (IsPrim s) (serve s token polls (f at) (f open_at) (f close_at) (moved_all f ls) (map f ns) xs w (label_part_moved f h))
+      (ap (λ (ys : List Lexeme). lexeme token (f at) ∷ lexeme tokens.Open (f open_at) ∷ ys) (split f ls (lexeme tokens.Close close_at ∷ []))) refl
   prim_moved f (choice s at open_at close_at then_open then_close else_at else_open else_close ls us vs n m k cs ts es h g i) =
       let ending : List Lexeme = lexeme tokens.BraceClose else_close ∷ [] in
       let elses : List Lexeme = lexeme tokens.BraceClose then_close ∷ lexeme tokens.Else else_at ∷ lexeme tokens.BraceOpen else_open ∷ (vs ++ ending) in

@@ -8,20 +8,23 @@ use Rattle.asp_model.specs.declared.term.Sign.{Sign}
 use Rattle.asp_model.specs.declared.term.Term.{Term}
 use Rattle.asp_model.specs.declared.term.Method.{Method}
 use Rattle.asp_model.specs.declared.term.Term.TheOpen as layer
-use Rattle.asp_model.specs.declared.term.Term.TheVariants.{Make, Get, Put, Call, Serve, Let, Steps, If, Operate, Group, Scatter, Member, rolls-Group, rolls-Scatter, rolls-Member, rolls-Put, rolls-Let, rolls-If, rolls-Make, rolls-Get, rolls-Call, rolls-Serve, rolls-Steps, rolls-Operate}
+use Rattle.asp_model.specs.declared.term.Term.TheVariants.{Make, Get, Put, Call, Serve, Let, Steps, If, Operate, Group, Scatter, Member, Pending, rolls-Pending, rolls-Group, rolls-Scatter, rolls-Member, rolls-Put, rolls-Let, rolls-If, rolls-Make, rolls-Get, rolls-Call, rolls-Serve, rolls-Steps, rolls-Operate}
 use Rattle.asp_model.specs.declared.term.Term.TheFolds.{the_lemmas, fold-roll-Term, fold_out-Method}
 use Rattle.asp_model.specs.Names.{Text}
 use Rattle.asp_model.specs.Marked.{Marked, all_marked}
 use Rattle.asp_model.specs.Shapes.{MarkedMethod, marked_of, method_of, mark_shape, field_of, make_shape, sign_shape, term_step, method_step}
 use Rattle.syntax_tokens.specs.declared.token.Token.{Token}
 use Rattle.syntax_tokens.specs.declared.token.Token.TheVariants as tokens
-use Rattle.asp_print.specs.Tokens.{access_tokens, between, call_tokens, choice_tokens, enclosed, let_tokens, method_part, node_tokens, pieces_of, scatter_tokens, sign_of, word_tokens}
+use Rattle.asp_print.specs.Tokens.{access_tokens, between, call_tokens, choice_tokens, enclosed, let_tokens, method_part, name_pieces, node_tokens, pieces_of, scatter_tokens, sign_of, word_tokens}
 use Rattle.asp_print.specs.Parts.{field_tokens, method_tokens, term_tokens, label_piece, field_piece, method_piece, object_pieces}
 use Rattle.asp_print.proofs.PieceLemmas.{make_node}
 
 map_map : {A B C : Type 0} (f : A → B) (g : B → C) (h : A → C) → ((x : A) → g (f x) ≡ h x) → (xs : List A) → map g (map f xs) ≡ map h xs
 map_map f g h e [] = refl
 map_map f g h e (x ∷ xs) = λ i. e x i ∷ map_map f g h e xs i
+
+labels_laid : (ls : List Label) → name_pieces (map (λ l. l.text) ls) ≡ map label_piece ls
+labels_laid ls = map_map (λ (l : Label). l.text) (λ (x : Text). tokens.Name x ∷ []) label_piece (λ l. refl) ls
 
 pieces_terms : (ts : List Term) → pieces_of (all_marked (map marked_of ts)) ≡ map term_tokens ts
 pieces_terms [] = refl
@@ -66,7 +69,12 @@ member_is a b m = ap (λ (t : Term). node_tokens (marked_of t)) (sym (rolls-Memb
 pub serve_is : (ls : Vec Label) (m : Mark) → node_tokens (marked_of (Serve ls m)) ≡ word_tokens tokens.Serve (between tokens.Comma (map label_piece ls.items))
 serve_is ls m =
     ap (λ (t : Term). node_tokens (marked_of t)) (sym (rolls-Serve ls m)) ∙ ap node_tokens (fold-roll-Term Marked MarkedMethod term_step method_step (layer.Serve ls m))
-    ∙ ap (λ (ps : List (List Token)). word_tokens tokens.Serve (between tokens.Comma ps)) (map_map (λ (l : Label). l.text) (λ (x : Text). tokens.Name x ∷ []) label_piece (λ l. refl) ls.items)
+    ∙ ap (λ (ps : List (List Token)). word_tokens tokens.Serve (between tokens.Comma ps)) (labels_laid ls.items)
+
+pub pending_is : (ls : Vec Label) (m : Mark) → node_tokens (marked_of (Pending ls m)) ≡ word_tokens tokens.Pending (between tokens.Comma (map label_piece ls.items))
+pending_is ls m =
+    ap (λ (t : Term). node_tokens (marked_of t)) (sym (rolls-Pending ls m)) ∙ ap node_tokens (fold-roll-Term Marked MarkedMethod term_step method_step (layer.Pending ls m))
+    ∙ ap (λ (ps : List (List Token)). word_tokens tokens.Pending (between tokens.Comma ps)) (labels_laid ls.items)
 
 method_is : (m : Method) → method_tokens (method_of m) ≡ method_piece m
 method_is m = ap method_tokens (fold_out-Method Marked MarkedMethod term_step method_step m)
@@ -80,4 +88,4 @@ make_is fs ms m =
     ∙ make_node (mark_shape m) (map field_of fs.items) (map method_of ms.items)
     ∙ (λ i. tokens.SquareOpen ∷ (between tokens.Comma (fields i) ++ (method_part (methods i) ++ tokens.SquareClose ∷ [])))
 
-pub ruleset nodes_are = (append-nil, append_assoc, get_is, operate_is, call_is, steps_is, group_is, scatter_is, member_is, serve_is, make_is, the_lemmas)
+pub ruleset nodes_are = (append-nil, append_assoc, get_is, operate_is, call_is, steps_is, group_is, scatter_is, member_is, serve_is, pending_is, make_is, the_lemmas)

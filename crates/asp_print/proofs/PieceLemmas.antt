@@ -9,10 +9,10 @@ use Rattle.asp_model.specs.Shapes.{MarkedMethod, make_shape}
 use Rattle.syntax_tokens.specs.declared.token.Token.{Token}
 use Rattle.syntax_tokens.specs.declared.token.Token.TheVariants as tokens
 use Rattle.syntax_tokens.specs.Tokens.{Lexeme, lexeme, tokens_in}
-use Rattle.syntax_grammar.specs.Nodes.{put_to, is_get, terms_at, in_parentheses}
-use Rattle.syntax_grammar.specs.Signs.{IsProductSign, multiplies, divides, leaves, IsSumSign, adds, subtracts, IsTestSign, is_less, is_same, IsWord, clones, repeats, prints, sizes, awaits}
+use Rattle.syntax_grammar.specs.Nodes.{labelled, put_to, is_get, terms_at, in_parentheses}
+use Rattle.syntax_grammar.specs.Signs.{IsProductSign, multiplies, divides, leaves, IsSumSign, adds, subtracts, IsTestSign, is_less, is_same, IsWord, clones, repeats, prints, sizes, awaits, IsLabelWord, is_serve, is_pending}
 use Rattle.syntax_grammar.specs.Grammar.{may_put}
-use Rattle.asp_print.specs.Tokens.{enclosed, behind_each, between, first, sign_of, field_pieces, behind_fields, method_pieces, method_part, word_tokens, laid, tokens_of, pieces_of, node_tokens}
+use Rattle.asp_print.specs.Tokens.{enclosed, behind_each, between, first, sign_of, name_pieces, field_pieces, behind_fields, method_pieces, method_part, word_tokens, laid, tokens_of, pieces_of, node_tokens}
 use Rattle.asp_print.specs.Parts.{field_tokens, method_tokens, object_tokens}
 
 -- Lists of lexemes
@@ -74,6 +74,10 @@ word_laid repeats ps = refl
 word_laid prints ps = refl
 word_laid sizes ps = refl
 word_laid awaits ps = refl
+
+pub label_word_laid : {word : Token} {polls : Bool} → IsLabelWord word polls → (xs : List Text) → laid (labelled polls xs) 0 [] ≡ word_tokens word (between tokens.Comma (name_pieces xs))
+label_word_laid is_serve xs = refl
+label_word_laid is_pending xs = refl
 
 pub product_sign : {token : Token} {sign : SignShape} → IsProductSign token sign → token ≡ sign_of sign
 product_sign multiplies = refl

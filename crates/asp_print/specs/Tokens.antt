@@ -117,6 +117,7 @@ laid (term.Scatter label) left ps = scatter_tokens (first ps) label (first (othe
 laid term.Size left ps = word_tokens tokens.Size (first ps)
 laid term.Member left ps = word_tokens tokens.Member (first ps ++ tokens.Comma ∷ first (others ps))
 laid term.WaitAll left ps = word_tokens tokens.WaitAll (first ps)
+laid (term.Pending labels) left ps = word_tokens tokens.Pending (between tokens.Comma (name_pieces labels))
 -- what no program has
 laid h left ps = []
 

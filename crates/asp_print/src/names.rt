@@ -102,6 +102,17 @@ pub fn put_serve(text: &mut String, labels: &[Label]) -> Result<(), AllocError>
     put_point(text, Point::Close)
 }
 
+/// Writes a `pending` with its labels.
+pub fn put_pending(text: &mut String, labels: &[Label]) -> Result<(), AllocError>
+    ensures { let inside = between tokens.Comma (map label_piece labels.now) in
+        OnOk result (Writes text.old (word_tokens tokens.Pending inside) text.new) }
+{
+    put(text, "pending")?;
+    put_point(text, Point::Open)?;
+    put_labels(text, labels)?;
+    put_point(text, Point::Close)
+}
+
 /// Writes an `echo` with its text.
 pub fn put_echo(text: &mut String, echoed: &Word) -> Result<(), AllocError>
     ensures { let inside = tokens.Text echoed.now ∷ [] in

@@ -8,7 +8,8 @@ ghost use Rattle.asp_print.specs.Parts.{Writes, field_piece, label_text, method_
 
 use crate::names::{
     put_access, put_between, put_echo, put_else, put_equation, put_head, put_if, put_let,
-    put_member, put_method, put_scatter, put_serve, put_service, put_sign, put_target, put_then,
+    put_member, put_method, put_pending, put_scatter, put_serve, put_service, put_sign, put_target,
+    put_then,
 };
 use crate::text::{Point, put, put_lead, put_name, put_number, put_point, put_times};
 use asp_model::{Label, Mark, Method, Term};
@@ -51,7 +52,8 @@ fn own_mark(term: &Term) -> &Mark
         | Term::Scatter(_, _, _, mark)
         | Term::Size(_, mark)
         | Term::Member(_, _, mark)
-        | Term::WaitAll(_, mark) => mark,
+        | Term::WaitAll(_, mark)
+        | Term::Pending(_, mark) => mark,
     }
 }
 
@@ -94,6 +96,7 @@ fn print_node(alloc: Global, text: &mut String, term: &Term) -> Result<(), Alloc
         Term::Clone(object, _) => print_word(alloc, text, "clone", object),
         Term::Active(object, service, _) => print_active(alloc, text, object, service),
         Term::Serve(labels, _) => put_serve(text, labels),
+        Term::Pending(labels, _) => put_pending(text, labels),
         Term::Let(name, binding, body, _) => {
             put_let(text, name)?;
             print_term(alloc, text, binding)?;

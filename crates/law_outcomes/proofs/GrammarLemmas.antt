@@ -1,5 +1,5 @@
 -- A program of the grammar, of sound tokens, is readable.
-use Rattle.std.specs.Prelude.{◌≡◌, ℕ, suc, Bool, true, List, [], ◌∷◌, ◌++◌, Option, length, map}
+use Rattle.std.specs.Prelude.{◌≡◌, ℕ, suc, Bool, true, false, List, [], ◌∷◌, ◌++◌, Option, length, map}
 use Rattle.std.specs.List.{list_all, flat_map}
 use Rattle.std.proofs.Common.{refl, sym, ap, subst, ◌∙◌, arith, length-append}
 use Rattle.std.proofs.lemmas.Bool.{and_from}
@@ -12,7 +12,7 @@ use Rattle.asp_model.specs.Readable.{is_identifier, names_of_method, is_written,
 use Rattle.asp_model.specs.Shapes.{MarkedMethod}
 use Rattle.syntax_tokens.specs.declared.token.Token.{Token}
 use Rattle.syntax_tokens.specs.Tokens.{Lexeme}
-use Rattle.syntax_grammar.specs.Nodes.{PartShape, put_to, is_get, terms_at, in_parentheses, made, ObjectShape}
+use Rattle.syntax_grammar.specs.Nodes.{PartShape, labelled, named_mark, put_to, is_get, terms_at, in_parentheses, made, ObjectShape}
 use Rattle.syntax_grammar.specs.Signs.{IsWord, clones, repeats, prints, sizes, awaits, IsHead, head, parameter, IsService, no_service, service, IsLabels, first_label, and_label, IsLabelPart, no_labels, labels}
 use Rattle.syntax_grammar.specs.Grammar.{may_put, IsPrim, number, variable, parentheses, object, word, active, serve, choice, echo, group_none, group, scatter, member, IsPost, prim, get, call_none, call, IsArgs, argument, and_argument, IsFields, field, and_field, IsMethods, first_method, and_method, IsFieldPart, no_fields, fields, IsMethodPart, no_methods, methods, IsProd, post, times, IsSum, prod, plus, IsTest, sum, test, IsExpr, tested, assign, IsSeq, last, then, bind, IsProgram}
 use Rattle.law_steps.specs.Linked.{Each}
@@ -161,6 +161,12 @@ object_read x f m =
       all_read below (each_both Reads (field_terms x.fields) (method_bodies x.methods) (field_terms_read x.fields f) (bodies_read x.methods m)),
     )
 
+-- A `serve` or a `pending`
+
+labelled_read : (polls : Bool) (xs : List Text) (at : ℕ) (ns : List ℕ) → list_all is_identifier xs ≡ true → Reads (marked (labelled polls xs) (named_mark at ns) no_marked)
+labelled_read false xs at ns h = (h, refl, tt)
+labelled_read true xs at ns h = (h, refl, tt)
+
 -- The grammar, with its rule on `:=`
 
 mutual
@@ -171,7 +177,7 @@ mutual
   prim_read e (object s at close_at ls us ns ms fs xs f g) w = object_read (record { at = at; names = ns ++ ms; fields = fs; methods = xs }) (field_part_read e f (before ls _ w.1)) (method_part_read e g (before us _ (behind ls _ w.1)))
   prim_read e (word s token h at open_at close_at ls n ts i g) w = (word_written i, word_arity i, (terms_read n ts (seq_read e g (before ls _ w.1.1)), tt))
   prim_read e (active s at open_at close_at ls us n ts ns label h i) w = (service_named i (before us _ (behind ls _ w.1.1)), refl, (terms_read n ts (seq_read e h (before ls _ w.1.1)), tt))
-  prim_read e (serve s at open_at close_at ls ns xs h) w = (label_part_named h (before ls _ w.1.1), refl, tt)
+  prim_read e (serve s token polls at open_at close_at ls ns xs k h) w = labelled_read polls xs at ns (label_part_named h (before ls _ w.1.1))
   prim_read e (choice s at open_at close_at then_open then_close else_at else_open else_close ls us vs n m k cs ts es f g h) w =
       let thens = behind ls _ w.1.1 in
       let elses = behind us _ thens.1.1 in

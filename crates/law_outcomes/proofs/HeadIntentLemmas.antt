@@ -1,15 +1,15 @@
 -- What holds of each head of an activity, its requests and the values holds of what an intent leaves and gives.
-use Rattle.std.specs.Prelude.{◌≡◌, ℕ, suc, ◌+◌, List, [], ◌∷◌, Option, Some, None, length, map, slice_get}
+use Rattle.std.specs.Prelude.{◌≡◌, ℕ, suc, ◌+◌, List, [], ◌∷◌, Option, Some, None, length, map, slice_get, is_some}
 use Rattle.std.proofs.Common.{refl, subst}
 use Rattle.asp_model.specs.Names.{Name, FutureShape, Text, created_name}
 use Rattle.asp_model.specs.Term.{Head, leaf, none, Make, loc}
 use Rattle.asp_model.specs.Split.{Context, Redex, Split, Stands, Splits, split}
 use Rattle.asp_model.specs.Store.{CellShape, Number, Object, Reference, Future, Group, Store, cell, moved_cell}
 use Rattle.asp_model.specs.Parcel.{ParcelShape, parcel_of, unpack, unpacked_roots, place_at, with_cells_at}
-use Rattle.asp_model.specs.Contraction.{Contraction, Becomes, Faults, Needs, Communicates, Breaks, Creates, Sends, Serves, contract, strict_operands, strict_members}
+use Rattle.asp_model.specs.Contraction.{Contraction, Becomes, Faults, Needs, Communicates, Breaks, Creates, Sends, Serves, Polls, contract, truth, strict_operands, strict_members}
 use Rattle.asp_model.specs.Chase.{Chase, Value, Unfilled, Cycle}
 use Rattle.asp_model.specs.Configuration.{RequestShape, ServiceShape, Activity, begun}
-use Rattle.asp_model.specs.Intent.{Intent, Acts, Rests, Awaits, Effect, Ready, Reads, Lacks, fetched, operand_ready, operands_ready, redex_ready, start_term, creates, sends, Numbered, oldest_match, labels_served, serves, newest, but_newest, filling, ends_service, contracts, intent}
+use Rattle.asp_model.specs.Intent.{Intent, Acts, Rests, Awaits, Effect, Ready, Reads, Lacks, fetched, operand_ready, operands_ready, redex_ready, start_term, creates, sends, polls, Numbered, oldest_match, labels_served, serves, newest, but_newest, filling, ends_service, contracts, intent}
 use Rattle.law_steps.specs.Linked.{Each}
 use Rattle.law_chases.proofs.FutureLemmas.{no_some, some_is}
 use Rattle.law_steps.proofs.FactLemmas.{match_is}
@@ -45,7 +45,7 @@ module _ (P : Head → Type 0) where
   filled_has None p h z e = no_some e
   filled_has (Some f) p h z e = subst (λ u. Each (CellHas P) u.1.cells) (some_is e) h
 
-  alone_has : (a : Activity) → ActivityHas P a → EffectHas P (record { own = a; sent = None; made = None; filled = None })
+  alone_has : (a : Activity) → ActivityHas P a → EffectHas P (record { own = a; sent = None; logged = None; made = None; filled = None })
   alone_has a h = record { own = h; made = λ z e. no_some e; sent = λ z e. no_some e; filled = λ z e. no_some e }
 
 module _ (P : Head → Type 0) (w : HoldsOfWritten P) where
@@ -116,6 +116,14 @@ module _ (P : Head → Type 0) (w : HoldsOfWritten P) (requests : List RequestSh
     lines = h.lines;
   })
 
+  polls_has : (contexts : List Context) (s : Store) (o : Option Numbered) → Each (CellHas P) s → Each (ContextHas P) contexts → IntentHas P (polls n a contexts s o)
+  polls_has contexts s o k round = record {
+    own = record { term = plug_has P w contexts (loc (length s)) round (w.loc (length s), tt); services = h.services; store = each_both (CellHas P) s (Number (truth (is_some o)) ∷ []) k (tt, tt); lines = h.lines };
+    made = λ z is. no_some is;
+    sent = λ z is. no_some is;
+    filled = λ z is. no_some is;
+  }
+
   ends_has : (place : ℕ) (o : Option ServiceShape) → newest a.services ≡ o → IntentHas P (ends_service a place o)
   ends_has place None is = tt
   ends_has place (Some v) is = record {
@@ -132,6 +140,7 @@ module _ (P : Head → Type 0) (w : HoldsOfWritten P) (requests : List RequestSh
   contraction_has contexts s (Communicates (Creates object service)) k round c = creates_has contexts s object service k round
   contraction_has contexts s (Communicates (Sends to label arguments)) k round c = sends_has contexts s to label arguments k round
   contraction_has contexts s (Communicates (Serves labels)) k round c = serves_has contexts (oldest_match (labels_served labels (cell s a.active)) a.served 0 requests) round (λ x is. let m = match_is (labels_served labels (cell s a.active)) a.served 0 requests x is in received m.0 x.1 m.2)
+  contraction_has contexts s (Communicates (Polls labels)) k round c = polls_has contexts s (oldest_match (labels_served labels (cell s a.active)) a.served 0 requests) k round
   contraction_has contexts s Breaks k round c = tt
 
   ready_has : (contexts : List Context) (redex : Redex) (r : Ready) → SplitHas P (Splits contexts redex) → IsRead P w r → IntentHas P (elim r [ Lacks f ↦ Rests (Awaits f) | Reads s ↦ contracts requests n a contexts s (contract s redex) ])

@@ -1,7 +1,7 @@
 -- What holds of each head of a redex and of a store holds of what a contraction leaves.
 use Rattle.std.specs.Prelude.{ℕ, ℤ, pos, negsuc, zero, suc, ◌+ℤ◌, ◌-ℤ◌, ◌*ℤ◌, int_lt, int_le, int_div, int_rem, ◌&&◌, true, false, List, [], ◌∷◌, Option, Some, None, length}
 use Rattle.asp_model.specs.Names.{Text, same_text}
-use Rattle.asp_model.specs.Term.{SignShape, Add, Subtract, Multiply, Divide, Remainder, Less, Equal, MethodHead, Head, Tree, Trees, node, none, more, loc, Make, Get, Put, Call, Clone, Active, Serve, Let, Steps, If, Repeat, Operate, Print, Echo, Scatter, Size, Member, WaitAll, Environment}
+use Rattle.asp_model.specs.Term.{SignShape, Add, Subtract, Multiply, Divide, Remainder, Less, Equal, MethodHead, Head, Tree, Trees, node, none, more, loc, Make, Get, Put, Call, Clone, Active, Serve, Pending, Let, Steps, If, Repeat, Operate, Print, Echo, Scatter, Size, Member, WaitAll, Environment}
 use Rattle.asp_model.specs.Term as term
 use Rattle.asp_model.specs.Split.{Redex}
 use Rattle.asp_model.specs.Store.{MethodShape, Field, CellShape, Number, Object, Group, Store, cell}
@@ -191,6 +191,7 @@ module _ (P : Head → Type 0) (w : HoldsOfWritten P) (s : Store) (k : Each (Cel
   row_keeps Clone (i ∷ []) none p b = allots_keeps (cell s i) [] (cell_has P w s k i) tt
   row_keeps (Active l) (i ∷ []) none p b = active_keeps i l (cell s i)
   row_keeps (Serve ls) [] none p b = tt
+  row_keeps (Pending ls) [] none p b = tt
   row_keeps (Let x) (i ∷ []) (more t none) p b = becomes (term.put_in ((x, i) ∷ []) t) (put_in_has P w ((x, i) ∷ []) t b.0)
   row_keeps Steps (i ∷ []) ts p b = becomes (rows.remaining ts) (remaining_has P p ts b)
   row_keeps If (i ∷ []) (more t (more u none)) p b = if_keeps t u (cell s i) b.0 b.1.0

@@ -10,14 +10,16 @@ use Rattle.std.specs.Ordering.{is_lt}
 use Rattle.asp_model.specs.declared.limits.TheConstants.{MOST_REDUCTIONS}
 use Rattle.asp_model.specs.Names.{Name, FutureShape, main_name, name_cmp, same_name}
 use Rattle.asp_model.specs.Term.{Tree}
-use Rattle.asp_model.specs.Configuration.{RequestShape, Activity, Configuration, requests_of}
+use Rattle.asp_model.specs.Configuration.{RequestShape, ReceptionShape, From, Poll, Activity, Configuration, log_of, requests_of}
 use Rattle.asp_model.specs.Intent.{StatusShape, Awaits}
 use Rattle.asp_model.specs.Status.{status_of, verdict_of}
 use Rattle.asp_model.specs.Replay.{total, lists_of, counts_of}
 use Rattle.asp_model.specs.Outcome.{ActivityReportShape, activity_report, outcome_of, lists_in, counts_in}
-use Rattle.asp_model.specs.WellFormed.{is_index, is_name, is_future_name, is_named_status, is_sound_report, begins_with_main}
+use Rattle.asp_model.specs.WellFormed.{is_index, is_name, is_future_name, is_named_reception, is_named_status, is_sound_report, begins_with_main}
 use Rattle.def_paths.specs.Outcomes.{EndShape, end_of, whole_outcome_of, reported}
 use Rattle.law_steps.specs.Reached.{IsAt}
+use Rattle.law_steps.specs.Kept.{Tells}
+use Rattle.law_steps.proofs.LogLemmas.{logs_tell}
 use Rattle.law_steps.proofs.NameLemmas.{name_itself, is_there}
 use Rattle.law_chases.proofs.FutureLemmas.{none_true}
 use Rattle.law_steps.proofs.EntryLemmas.{In, entry_found, found_entry, first_of_both, second_of_both}
@@ -30,9 +32,9 @@ use Rattle.law_outcomes.proofs.NumberLemmas.{there_is_named, sender_is_named, be
 
 -- What an outcome shows of a configuration
 
-lists_shown : (c : Configuration) (es : List (Name × Activity)) → map {B = Name × List Name} (λ a. (a.name, a.senders)) (map (activity_report c) es) ≡ map (λ x. (x.0, map (λ r. r.sender) (requests_of c x.0))) es
+lists_shown : (c : Configuration) (es : List (Name × Activity)) → map {B = Name × List ReceptionShape} (λ a. (a.name, a.senders)) (map (activity_report c) es) ≡ map (λ x. (x.0, log_of c x.0)) es
 lists_shown c [] = refl
-lists_shown c (e ∷ es) = ap (λ l. (e.0, map (λ r. r.sender) (requests_of c e.0)) ∷ l) (lists_shown c es)
+lists_shown c (e ∷ es) = ap (λ l. (e.0, log_of c e.0) ∷ l) (lists_shown c es)
 
 counts_shown : (c : Configuration) (es : List (Name × Activity)) → map {B = Name × ℕ} (λ a. (a.name, a.count)) (map (activity_report c) es) ≡ map (λ x. (x.0, x.1.reductions)) es
 counts_shown c [] = refl
@@ -85,9 +87,15 @@ status_named : (s : StatusShape) → ((f : FutureShape) → s ≡ Awaits f → i
 status_named (Awaits f) h = h f refl
 status_named s h = refl
 
-senders_named : (rs : List RequestShape) → ((k : ℕ) (r : RequestShape) → slice_get rs k ≡ Some r → is_name r.sender ≡ true) → list_all is_name (map (λ r. r.sender) rs) ≡ true
-senders_named [] h = refl
-senders_named (r ∷ rs) h = and_from _ _ (h 0 r refl) (senders_named rs (λ k. h (suc k)))
+-- the senders in a log have names, where those of its requests have
+log_named : (log : List ReceptionShape) (rs : List RequestShape) → Tells log rs → ((k : ℕ) (r : RequestShape) → slice_get rs k ≡ Some r → is_name r.sender ≡ true) → list_all is_named_reception log ≡ true
+log_named [] rs t h = refl
+log_named (Poll ∷ xs) rs t h = log_named xs rs t h
+log_named (From n ∷ xs) [] t h = cc
+log_named (From n ∷ xs) (r ∷ rs) t h =
+    let head : n ≡ r.sender = ap (λ l. elim l [ [] ↦ n | y ∷ ys ↦ y ]) t in
+    let rest : Tells xs rs = ap (λ l. elim l [ [] ↦ [] | y ∷ ys ↦ ys ]) t in
+    and_from _ _ (subst (λ m. is_name m ≡ true) (sym head) (h 0 r refl)) (log_named xs rs rest (λ k. h (suc k)))
 
 all_sound : (c : Configuration) (es : List (Name × Activity)) → ((x : Name × Activity) → In x es → is_sound_report (activity_report c x) ≡ true) → list_all is_sound_report (map (activity_report c) es) ≡ true
 all_sound c [] h = refl
@@ -99,7 +107,7 @@ sound_report program c s x is = and_from _ _
     (and_from _ _
     (status_named (status_of c x.0) (λ f st. begun_is_named program c s.reached s.within f (awaited_are_begun program c x.0 f s.reached st)))
     (and_from _ _
-    (senders_named (requests_of c x.0) (λ k r st. let q = requests_are_sends program c x.0 k r s.reached st in sender_is_named program c s.reached s.within r.sender (omega (arith, q.first, q.last))))
+    (log_named (log_of c x.0) (requests_of c x.0) (logs_tell program c x.0 s.reached) (λ k r st. let q = requests_are_sends program c x.0 k r s.reached st in sender_is_named program c s.reached s.within r.sender (omega (arith, q.first, q.last))))
     (lines_are_printable program c x.0 x.1 s.texts s.reached is)))
 
 pub outcomes_are_well_formed : OutcomesAreWellFormed

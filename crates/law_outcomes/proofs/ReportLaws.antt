@@ -1,14 +1,14 @@
 -- The reports of runs are read as the lists and counts of the runs.
-use Rattle.std.specs.Prelude.{◌≡◌, ◌≤◌, ◌||◌, List, [], ◌∷◌, Option, None, Some}
+use Rattle.std.specs.Prelude.{◌≡◌, ◌≤◌, ◌||◌, true, List, [], ◌∷◌, Option, None, Some}
 use Rattle.std.specs.List.{starts_with}
 use Rattle.std.proofs.Common.{sym, ap, subst, ◌∙◌, arith}
 use Rattle.asp_model.specs.declared.limits.TheConstants.{MOST_REDUCTIONS}
-use Rattle.asp_model.specs.Names.{Name, same_name}
+use Rattle.asp_model.specs.Names.{Name}
 use Rattle.asp_model.specs.Term.{Tree}
 use Rattle.asp_model.specs.Configuration.{Configuration, start}
-use Rattle.asp_model.specs.Step.{ListsShape}
+use Rattle.asp_model.specs.Step.{ListsShape, same_reception}
 use Rattle.asp_model.specs.Status.{IsStuck}
-use Rattle.asp_model.specs.Replay.{CountsShape, total, lists_of, counts_of, senders_in, AreCompatible, plain_run, replay, Fits}
+use Rattle.asp_model.specs.Replay.{CountsShape, total, lists_of, counts_of, log_in, AreCompatible, plain_run, replay, Fits}
 use Rattle.asp_model.specs.Outcome.{outcome_of, lists_in, counts_in}
 use Rattle.asp_model.specs.WellFormed.{IsWellFormed}
 use Rattle.asp_model.specs.ReadReport.{Reads}
@@ -16,6 +16,8 @@ use Rattle.def_paths.specs.Outcomes.{WholeOutcome, whole_outcome_of, reported}
 use Rattle.law_reports.specs.Depths.{report_to}
 use Rattle.law_reports.proofs.DepthLemmas.{depths_are_read}
 use Rattle.law_steps.specs.Reached.{RunsTo}
+use Rattle.law_steps.specs.Joins.{IsOneSenderEnd, is_narrow}
+use Rattle.law_steps.proofs.SenderLemmas.{one_sender_ends}
 use Rattle.law_steps.proofs.StepLemmas.{listed_is_free}
 use Rattle.law_steps.proofs.ListLemmas.{prefix_same}
 use Rattle.law_steps.proofs.MergeLemmas.{test_of_prefix}
@@ -23,7 +25,7 @@ use Rattle.law_steps.proofs.JoinLaws.{stuck_runs_agree}
 use Rattle.law_steps.proofs.ReachedLemmas.{start_is_reached, runs_go_on}
 use Rattle.law_steps.proofs.ReplayLemmas.{runs_replay, plain_runs_replay, plain_runs_are_runs, replays_are_runs}
 use Rattle.law_steps.proofs.SpendLemmas.{counts_sum, plain_runs_spend}
-use Rattle.law_outcomes.specs.Outcomes.{IsShown, ReportsOfRunsAreRead, ReportsShowReplays, RunsShowReplays, PlainRunsShowReplays, ReplayReportsAreRead, EndReportsAgree}
+use Rattle.law_outcomes.specs.Outcomes.{IsShown, ReportsOfRunsAreRead, ReportsShowReplays, RunsShowReplays, PlainRunsShowReplays, ReplayReportsAreRead, EndReportsAgree, NarrowReportsAreAll}
 use Rattle.law_outcomes.specs.Texts.{HasPrintableTexts}
 use Rattle.law_outcomes.proofs.LabelLemmas.{labels_are_printable}
 use Rattle.law_outcomes.proofs.OutcomeLemmas.{reported_is, outcome_lists, outcome_counts, outcomes_are_well_formed}
@@ -76,8 +78,8 @@ free_run lists (n ∷ names) c d run = (run.0, listed_is_free lists c n run.0 ru
 
 equal_compatible : (lists others : ListsShape) → lists ≡ others → AreCompatible lists others
 equal_compatible lists others e n =
-    let begins = test_of_prefix (senders_in others n) (senders_in lists n) (prefix_same (senders_in others n) (senders_in lists n) (ap (λ (l : ListsShape). senders_in l n) (sym e))) in
-    ap (λ b. b || starts_with same_name (senders_in others n) (senders_in lists n)) begins
+    let begins = test_of_prefix (log_in others n) (log_in lists n) (prefix_same (log_in others n) (log_in lists n) (ap (λ (l : ListsShape). log_in l n) (sym e))) in
+    ap (λ b. b || starts_with same_reception (log_in others n) (log_in lists n)) begins
 
 stuck_replays_agree : (program : Tree) (lists : ListsShape) (counts others : CountsShape) → Fits program lists counts → Fits program lists others
     → IsStuck (replay program lists counts) → IsStuck (replay program lists others) → replay program lists counts ≡ replay program lists others
@@ -97,3 +99,17 @@ stuck_replays_agree program lists counts others fits fits_too stuck stuck_too =
 pub end_reports_agree : EndReportsAgree
 end_reports_agree depth program lists report other r s =
     r.same ∙ ap (λ c. report_to depth (whole_outcome_of c)) (stuck_replays_agree program lists r.counts s.counts r.fits s.fits r.stuck s.stuck) ∙ sym s.same
+
+pub narrow_reports_are_all : NarrowReportsAreAll
+narrow_reports_are_all depth program lists others report other r narrow s =
+    let c = replay program lists r.counts in
+    let d = replay program others s.counts in
+    let x = replays_are_runs program lists r.counts in
+    let y = replays_are_runs program others s.counts in
+    let end : IsOneSenderEnd program c = record {
+      names = x.0;
+      run = free_run (Some lists) x.0 (start program) c x.1;
+      stuck = r.stuck;
+      one = λ m. subst (λ l. is_narrow (log_in l m) ≡ true) (sym r.fits.used_up) (narrow m);
+    } in
+    s.same ∙ ap (λ z. report_to depth (whole_outcome_of z)) (one_sender_ends program c d y.0 end (free_run (Some others) y.0 (start program) d y.1) s.stuck) ∙ sym r.same

@@ -14,6 +14,7 @@ use Rattle.def_paths.specs.Outcomes.{WholeOutcome, whole_outcome_of}
 use Rattle.law_reports.specs.Depths.{report_to}
 use Rattle.law_steps.specs.Reached.{IsReached, RunsTo}
 use Rattle.law_steps.specs.Kept.{creations_of, sends_of}
+use Rattle.law_steps.specs.Joins.{AreNarrow}
 use Rattle.law_steps.specs.Replays.{IsItsReplay}
 use Rattle.law_outcomes.specs.Texts.{HasPrintableTexts}
 
@@ -33,7 +34,7 @@ abbrev pub OutcomesAreWellFormed : Type 0
 OutcomesAreWellFormed = (program : Tree) (c : Configuration)
     → IsShown program c → IsWellFormed (outcome_of c)
 
--- and its report, at whatever depth it shows states, reads as the configuration's sender lists and counts
+-- and its report, at whatever depth it shows states, reads as the configuration's logs and counts
 abbrev pub ReportsOfRunsAreRead : Type 0
 ReportsOfRunsAreRead = (depth : Option ℕ) (program : Tree) (c : Configuration)
     → IsShown program c → read_report (report_to depth (whole_outcome_of c)) ≡ Reads (lists_of c) (counts_of c)
@@ -69,7 +70,7 @@ ReplayReportsAreRead = (depth : Option ℕ) (program : Tree) (lists : ListsShape
     → HasPrintableTexts program → Fits program lists counts → total counts ≤ MOST_REDUCTIONS
     → read_report (report_to depth (whole_outcome_of (replay program lists counts))) ≡ Reads lists counts
 
--- the report at a depth of a run of the program that ended: it reads as these sender lists, with counts that
+-- the report at a depth of a run of the program that ended: it reads as these logs, with counts that
 -- fit beside them, and is that of the replay under them, which is stuck
 pub record IsEndReport (depth : Option ℕ) (program : Tree) (lists : ListsShape) (report : List ℕ) : Type 0 where
   pub counts : CountsShape
@@ -82,3 +83,9 @@ pub record IsEndReport (depth : Option ℕ) (program : Tree) (lists : ListsShape
 abbrev pub EndReportsAgree : Type 0
 EndReportsAgree = (depth : Option ℕ) (program : Tree) (lists : ListsShape) (report other : List ℕ)
     → IsEndReport depth program lists report → IsEndReport depth program lists other → report ≡ other
+
+-- where the logs of such a report are narrow, each of one sender and without a poll, every run of the program that
+-- ends prints these bytes at this depth
+abbrev pub NarrowReportsAreAll : Type 0
+NarrowReportsAreAll = (depth : Option ℕ) (program : Tree) (lists others : ListsShape) (report other : List ℕ)
+    → IsEndReport depth program lists report → AreNarrow lists → IsEndReport depth program others other → other ≡ report

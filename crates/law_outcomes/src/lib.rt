@@ -8,8 +8,9 @@ mod programs;
 mod texts;
 
 pub use outcomes::{
-    end_reports_agree, numbers_are_within, outcomes_are_well_formed, plain_runs_show_replays,
-    replay_reports_are_read, reports_of_runs_are_read, reports_show_replays, runs_show_replays,
+    end_reports_agree, narrow_reports_are_all, numbers_are_within, outcomes_are_well_formed,
+    plain_runs_show_replays, replay_reports_are_read, reports_of_runs_are_read,
+    reports_show_replays, runs_show_replays,
 };
 pub use programs::{program_texts_are_printable, programs_are_readable, programs_have_no_places};
 pub use texts::{labels_are_printable, lines_are_printable, reached_have};

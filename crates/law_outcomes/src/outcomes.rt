@@ -1,6 +1,6 @@
 //! The outcomes of runs, and their reports.
 
-ghost use Rattle.law_outcomes.specs.Outcomes.{EndReportsAgree, NumbersAreWithin, OutcomesAreWellFormed, PlainRunsShowReplays, ReplayReportsAreRead, ReportsOfRunsAreRead, ReportsShowReplays, RunsShowReplays};
+ghost use Rattle.law_outcomes.specs.Outcomes.{EndReportsAgree, NumbersAreWithin, OutcomesAreWellFormed, PlainRunsShowReplays, ReplayReportsAreRead, ReportsOfRunsAreRead, ReportsShowReplays, RunsShowReplays, NarrowReportsAreAll};
 
 /// No activity has created, or has sent, more often than all together have reduced.
 pub fn numbers_are_within()
@@ -13,7 +13,7 @@ pub fn outcomes_are_well_formed()
     ensures { OutcomesAreWellFormed }
 {}
 
-/// Its report reads as its sender lists and counts.
+/// Its report reads as its logs and counts.
 pub fn reports_of_runs_are_read()
     ensures { ReportsOfRunsAreRead }
 {}
@@ -38,7 +38,13 @@ pub fn replay_reports_are_read()
     ensures { ReplayReportsAreRead }
 {}
 
-/// Two ended runs of one program whose reports read as equal sender lists print the same bytes.
+/// Two ended runs of one program whose reports read as equal logs print the same bytes.
 pub fn end_reports_agree()
     ensures { EndReportsAgree }
+{}
+
+/// Where the logs of an ended run are narrow, each of one sender and without a poll, every run of
+/// the program that ends prints the same bytes.
+pub fn narrow_reports_are_all()
+    ensures { NarrowReportsAreAll }
 {}

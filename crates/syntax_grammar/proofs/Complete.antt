@@ -5,15 +5,15 @@ use Rattle.asp_model.specs.Marked.{Marked}
 use Rattle.asp_model.specs.Shapes.{MarkedMethod}
 use Rattle.syntax_tokens.specs.declared.token.Token.TheVariants as tokens
 use Rattle.syntax_tokens.specs.Tokens.{Lexeme, lexeme}
-use Rattle.syntax_grammar.specs.Nodes.{PartShape, part, word_at, if_at, scatter_at, member_at, operated, called, put, terms_at, in_parentheses, ObjectShape, method, active_at}
+use Rattle.syntax_grammar.specs.Nodes.{PartShape, part, served, word_at, if_at, scatter_at, member_at, operated, called, put, terms_at, in_parentheses, ObjectShape, method, active_at}
 use Rattle.syntax_grammar.specs.Signs.{no_service, service}
 use Rattle.syntax_grammar.specs.Grammar.{may_put, IsPrim, number, variable, parentheses, object, word, choice, echo, IsPost, prim, get, call_none, call, IsArgs, argument, and_argument, IsFields, field, and_field, IsMethods, first_method, and_method, IsFieldPart, no_fields, fields, IsMethodPart, no_methods, methods, IsProd, post, times, IsSum, prod, plus, IsTest, sum, test, IsExpr, tested, assign, IsSeq, last, then, bind, IsProgram, active, serve, group_none, group, scatter, member}
-use Rattle.syntax_grammar.specs.States.{Top, InParentheses, InWord, InCondition, InThen, InElse, OfCall, OfGroup, InList, InScatter, InArguments, InMember, InIndex, InBinding, InBody, InField, OpenShape, Plain, Access, ByRound, Begin, Want, Have, ListBegun, Opening, ObjectBegun, FieldNaming, MethodNaming, StateShape, At, Done, pending, opened_with, fresh, new_object, operand_part, joined, put_all, first_start, sequence_part, InActive}
+use Rattle.syntax_grammar.specs.States.{Top, InParentheses, InWord, InCondition, InThen, InElse, OfCall, OfGroup, InList, InScatter, InArguments, InMember, InIndex, InBinding, InBody, InField, OpenShape, Plain, Access, ByRound, Begin, Want, Have, ListBegun, Opening, ObjectBegun, FieldNaming, MethodNaming, ServeOpening, StateShape, At, Done, operator, opened_with, fresh, new_object, operand_part, joined, put_all, first_start, sequence_part, InActive}
 use Rattle.syntax_grammar.specs.Machine as machine
 use Rattle.syntax_grammar.specs.Closings.{◌>>=◌, FinishedShape, over, concluded, first_mode, close, close_brace, comma, bound, ended}
 use Rattle.syntax_grammar.specs.Changes.{ChangeShape, changed, operand}
 use Rattle.syntax_grammar.specs.Machine.{next_term, have, run, start}
-use Rattle.syntax_grammar.proofs.Running.{goes_on, steps, word_goes, times_goes, plus_goes, test_goes, begun_prim, listed_runs, PostRuns, ProdRuns, SumRuns, TestRuns, ExprRuns, SeqRuns, ArgsRuns, object_of, FieldsRun, MethodsRun, method_runs, next_goes, later_start, FieldPartRun, no_field_run, fields_run, MethodPartRun, no_method_run, methods_run, object_runs, labels_run}
+use Rattle.syntax_grammar.proofs.Running.{goes_on, steps, label_word_goes, word_goes, times_goes, plus_goes, test_goes, begun_prim, listed_runs, PostRuns, ProdRuns, SumRuns, TestRuns, ExprRuns, SeqRuns, ArgsRuns, object_of, FieldsRun, MethodsRun, method_runs, next_goes, later_start, FieldPartRun, no_field_run, fields_run, MethodPartRun, no_method_run, methods_run, object_runs, labels_run}
 
 mutual
   prim_wanted : {s : Bool} {ls : List Lexeme} {p : PartShape} → IsPrim s ls p → (r : OpenShape) (o : List OpenShape) → run s (At Want r o) ls ≡ Some (At (Have (Plain p)) r o)
@@ -38,7 +38,10 @@ mutual
       let z : Option StateShape = Some (At (Have (Plain (part at (active_at at (label_at ∷ []) (Some name) (terms_at n ts))))) r o) in
       let lasts : List Lexeme = lexeme (tokens.Name name) label_at ∷ lexeme tokens.Close close_at ∷ [] in
       goes_on s (At Begin (fresh (InActive at)) (r ∷ o)) (At (Have y.0) y.1 y.2) ls (lexeme tokens.Comma comma_at ∷ lasts) z y.3 (ap (λ (f : FinishedShape). concluded comma f >>= λ v. run s v lasts) y.4)
-  prim_wanted (serve s at open_at close_at ls ns xs h) r o = labels_run h s at close_at r o
+  prim_wanted (serve s token polls at open_at close_at ls ns xs w h) r o =
+      let z : Option StateShape = Some (At (Have (Plain (served (record { at = at; polls = polls; names = ns; labels = xs })))) r o) in
+      steps s (changed (operand token at) r o) (Some (At (ServeOpening polls at) r o)) (lexeme tokens.Open open_at ∷ (ls ++ lexeme tokens.Close close_at ∷ [])) z (ap (λ (c : Option ChangeShape). changed c r o) (label_word_goes w at))
+      (labels_run h s polls at close_at r o)
   prim_wanted (choice s at open_at close_at then_open then_close else_at else_open else_close ls us vs n m k cs ts es f g h) r o =
       let c : Marked = terms_at n cs in
       let t : Marked = terms_at m ts in
@@ -188,10 +191,10 @@ mutual
   prod_complete (times s token sign at ls us p q i h g) b k n before puts t m o =
       let y = prod_complete h b k n before puts t m o in
       let a : PartShape = joined y.0 (operand_part y.1) in
-      let w = post_complete g false (opened_with k n before puts t m (Some (pending sign a))) o in
-      let z : Option StateShape = Some (At (Have w.0) (opened_with k n before puts t m (Some (pending sign a))) o) in
+      let w = post_complete g false (opened_with k n before puts t m (Some (operator sign a))) o in
+      let z : Option StateShape = Some (At (Have w.0) (opened_with k n before puts t m (Some (operator sign a))) o) in
       let from : OpenShape = opened_with k n before puts t m y.0 in (
-        Some (pending sign a),
+        Some (operator sign a),
         w.0,
         goes_on s (At (first_mode b) (opened_with k n before puts t m None) o) (At (Have y.1) from o) ls (lexeme token at ∷ us) z y.2
             (steps s (have s y.1 from o token) (machine.times sign (operand_part y.1) from o) us z (times_goes i s y.1 from o) w.1),
@@ -205,10 +208,10 @@ mutual
   sum_complete (plus s token sign at ls us p q i h g) b k n before puts t o =
       let y = sum_complete h b k n before puts t o in
       let a : PartShape = joined y.0 (joined y.1 (operand_part y.2)) in
-      let w = prod_complete g false k n before puts t (Some (pending sign a)) o in
-      let z : Option StateShape = Some (At (Have w.1) (opened_with k n before puts t (Some (pending sign a)) w.0) o) in
+      let w = prod_complete g false k n before puts t (Some (operator sign a)) o in
+      let z : Option StateShape = Some (At (Have w.1) (opened_with k n before puts t (Some (operator sign a)) w.0) o) in
       let from : OpenShape = opened_with k n before puts t y.0 y.1 in (
-        Some (pending sign a),
+        Some (operator sign a),
         w.0,
         w.1,
         goes_on s (At (first_mode b) (opened_with k n before puts t None None) o) (At (Have y.2) from o) ls (lexeme token at ∷ us) z y.3
@@ -223,10 +226,10 @@ mutual
   test_complete (test s token sign at ls us p q i h g) b k n before puts o =
       let y = sum_complete h b k n before puts None o in
       let a : PartShape = joined y.0 (joined y.1 (operand_part y.2)) in
-      let w = sum_complete g false k n before puts (Some (pending sign a)) o in
-      let z : Option StateShape = Some (At (Have w.2) (opened_with k n before puts (Some (pending sign a)) w.0 w.1) o) in
+      let w = sum_complete g false k n before puts (Some (operator sign a)) o in
+      let z : Option StateShape = Some (At (Have w.2) (opened_with k n before puts (Some (operator sign a)) w.0 w.1) o) in
       let from : OpenShape = opened_with k n before puts None y.0 y.1 in (
-        Some (pending sign a),
+        Some (operator sign a),
         w.0,
         w.1,
         w.2,

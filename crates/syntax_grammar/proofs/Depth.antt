@@ -7,7 +7,7 @@ use Rattle.syntax_tokens.specs.declared.token.Token.{Token}
 use Rattle.syntax_tokens.specs.declared.token.Token.TheVariants as tokens
 use Rattle.syntax_grammar.specs.Nodes.{PartShape, part, let_at, put_to, terms_at, in_parentheses}
 use Rattle.syntax_grammar.specs.Grammar.{may_put}
-use Rattle.syntax_grammar.specs.States.{PendingShape, TargetShape, OfCall, OfGroup, KindShape, Top, InParentheses, InWord, InCondition, InThen, InElse, InList, InScatter, InArguments, InMember, InIndex, InBinding, InBody, InField, InMethod, OpenShape, OpenerShape, ByEquals, ByComma, ModeShape, Have, ListBegun, Opening, EchoText, EchoClosing, ObjectBegun, FieldNaming, MethodNaming, MethodNamed, SelfNaming, HeadNamed, ParameterNaming, StateShape, At, Done, operand_part, listed, joined, put_all, term_in, test_in, value, InActive, ServiceNaming, ServiceNamed, ScatterNaming, ServeBegun, LabelNaming, LabelNamed}
+use Rattle.syntax_grammar.specs.States.{OperatorShape, TargetShape, OfCall, OfGroup, KindShape, Top, InParentheses, InWord, InCondition, InThen, InElse, InList, InScatter, InArguments, InMember, InIndex, InBinding, InBody, InField, InMethod, OpenShape, OpenerShape, ByEquals, ByComma, ModeShape, Have, ListBegun, Opening, EchoText, EchoClosing, ObjectBegun, FieldNaming, MethodNaming, MethodNamed, SelfNaming, HeadNamed, ParameterNaming, StateShape, At, Done, operand_part, listed, joined, put_all, term_in, test_in, value, InActive, ServiceNaming, ServiceNamed, ScatterNaming, ServeBegun, LabelNaming, LabelNamed}
 use Rattle.syntax_grammar.specs.Closings as closings
 use Rattle.syntax_grammar.specs.Machine as machine
 use Rattle.syntax_grammar.specs.Closings.{FinishedShape, finished, over, finish, back, ClosingShape, Back, Again, concluded, close, close_brace, close_square, comma, bound, ended}
@@ -77,7 +77,7 @@ brackets_after tokens.BraceClose n = n - 1
 brackets_after _ n = n
 
 -- a term that an operand ends has no more parentheses round it than the operand
-joined_few : (l : Option PendingShape) (p : PartShape) → parentheses_of (joined l p).term ≤ parentheses_of p.term
+joined_few : (l : Option OperatorShape) (p : PartShape) → parentheses_of (joined l p).term ≤ parentheses_of p.term
 joined_few None p = omega arith
 joined_few (Some l) p = omega arith
 
@@ -183,7 +183,7 @@ term_fits : (k : KindShape) (e : PartShape) (s : OpenShape) (o : List OpenShape)
 term_fits (InField x label) e s o n h g = back_fits _ o n (omega (arith, h), omega (arith, g))
 term_fits _ e s o n h g = (omega (arith, h), omega (arith, g))
 
-test_fits : (a : Option PendingShape) (sign : term.SignShape) (p : PartShape) (s : OpenShape) (o : List OpenShape) (n : ℕ) → stack_brackets (s ∷ o) ≤ n → n ≤ MOST_LEVEL
+test_fits : (a : Option OperatorShape) (sign : term.SignShape) (p : PartShape) (s : OpenShape) (o : List OpenShape) (n : ℕ) → stack_brackets (s ∷ o) ≤ n → n ≤ MOST_LEVEL
     → IfFits (machine.test_behind a sign p s o) n
 test_fits None sign p s o n h g = (omega (arith, h), omega (arith, g))
 test_fits (Some a) sign p s o n h g = tt

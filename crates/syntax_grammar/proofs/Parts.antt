@@ -8,24 +8,24 @@ use Rattle.syntax_tokens.specs.declared.token.Token.{Token}
 use Rattle.syntax_tokens.specs.declared.token.Token.TheVariants as tokens
 use Rattle.syntax_tokens.specs.Tokens.{Lexeme, lexeme}
 use Rattle.syntax_grammar.specs.Nodes.{PartShape, terms_at, ObjectShape, LabelsShape}
-use Rattle.syntax_grammar.specs.Signs.{IsProductSign, IsSumSign, IsTestSign, IsWord, IsHead, IsLabels}
+use Rattle.syntax_grammar.specs.Signs.{IsProductSign, IsLabelWord, IsSumSign, IsTestSign, IsWord, IsHead, IsLabels}
 use Rattle.syntax_grammar.specs.Grammar.{may_put, IsPost, IsArgs, IsFields, IsMethods, IsFieldPart, IsProd, IsSum, IsTest, IsExpr, IsSeq, IsProgram}
-use Rattle.syntax_grammar.specs.States.{PendingShape, TargetShape, OfCall, OfGroup, KindShape, Top, InParentheses, InWord, InCondition, InThen, InElse, InList, InScatter, InArguments, InMember, InIndex, InBinding, InBody, InField, InMethod, OpenShape, Plain, Access, OpenerShape, ByRound, ByBrace, ByEquals, ByComma, Begin, Want, Have, Dotted, ListBegun, Opening, LetNaming, ElseComing, EchoOpening, EchoText, EchoClosing, ObjectBegun, FieldNaming, MethodNaming, MethodNamed, SelfNaming, HeadNamed, ParameterNaming, StateShape, At, Done, pending, has_terms, opened_with, new_object, with_name, first_start, InActive, new_labels, ServiceNaming, ServiceNamed, GroupOpening, ScatterNaming, ServeOpening, ServeBegun, LabelNaming, LabelNamed}
+use Rattle.syntax_grammar.specs.States.{OperatorShape, TargetShape, OfCall, OfGroup, KindShape, Top, InParentheses, InWord, InCondition, InThen, InElse, InList, InScatter, InArguments, InMember, InIndex, InBinding, InBody, InField, InMethod, OpenShape, Plain, Access, OpenerShape, ByRound, ByBrace, ByEquals, ByComma, Begin, Want, Have, Dotted, ListBegun, Opening, LetNaming, ElseComing, EchoOpening, EchoText, EchoClosing, ObjectBegun, FieldNaming, MethodNaming, MethodNamed, SelfNaming, HeadNamed, ParameterNaming, StateShape, At, Done, operator, has_terms, opened_with, new_object, with_name, first_start, InActive, new_labels, ServiceNaming, ServiceNamed, GroupOpening, ScatterNaming, ServeOpening, ServeBegun, LabelNaming, LabelNamed}
 
-pub data ProductPart : Bool → List Lexeme → Option PendingShape → Type 0 where
+pub data ProductPart : Bool → List Lexeme → Option OperatorShape → Type 0 where
   no_product : {s : Bool} → ProductPart s [] None
   some_product : {s : Bool} {ls : List Lexeme} {a : PartShape} {token : Token} {sign : SignShape} (at : ℕ) → IsProductSign token sign → IsProd s ls a
-      → ProductPart s (ls ++ lexeme token at ∷ []) (Some (pending sign a))
+      → ProductPart s (ls ++ lexeme token at ∷ []) (Some (operator sign a))
 
-pub data SumPart : Bool → List Lexeme → Option PendingShape → Type 0 where
+pub data SumPart : Bool → List Lexeme → Option OperatorShape → Type 0 where
   no_sum : {s : Bool} → SumPart s [] None
   some_sum : {s : Bool} {ls : List Lexeme} {a : PartShape} {token : Token} {sign : SignShape} (at : ℕ) → IsSumSign token sign → IsSum s ls a
-      → SumPart s (ls ++ lexeme token at ∷ []) (Some (pending sign a))
+      → SumPart s (ls ++ lexeme token at ∷ []) (Some (operator sign a))
 
-pub data TestPart : Bool → List Lexeme → Option PendingShape → Type 0 where
+pub data TestPart : Bool → List Lexeme → Option OperatorShape → Type 0 where
   no_test : {s : Bool} → TestPart s [] None
   some_test : {s : Bool} {ls : List Lexeme} {a : PartShape} {token : Token} {sign : SignShape} (at : ℕ) → IsTestSign token sign → IsSum s ls a
-      → TestPart s (ls ++ lexeme token at ∷ []) (Some (pending sign a))
+      → TestPart s (ls ++ lexeme token at ∷ []) (Some (operator sign a))
 
 pub data PutPart : Bool → List Lexeme → List PartShape → Type 0 where
   no_put : {s : Bool} → PutPart s [] []
@@ -40,14 +40,14 @@ pub data StepPart : Bool → KindShape → List Lexeme → ℕ → List Marked �
 
 -- the lexemes of a sequence up to an operand
 pub data InLevel : Bool → List Lexeme → OpenShape → Type 0 where
-  in_level : {s : Bool} {ws us ts vs zs : List Lexeme} {k : KindShape} {n : ℕ} {before : List Marked} {puts : List PartShape} {t m p : Option PendingShape}
+  in_level : {s : Bool} {ws us ts vs zs : List Lexeme} {k : KindShape} {n : ℕ} {before : List Marked} {puts : List PartShape} {t m p : Option OperatorShape}
       → StepPart s k ws n before → PutPart s us puts → TestPart s ts t → SumPart s vs m → ProductPart s zs p → InLevel s (ws ++ (us ++ (ts ++ (vs ++ zs)))) (opened_with k n before puts t m p)
 
 abbrev pub object_of : ℕ → List ℕ → List (Text × Marked) → List MarkedMethod → ObjectShape
 object_of at ns fs ms = record { at = at; names = ns; fields = fs; methods = ms }
 
-abbrev pub labels_of : ℕ → List ℕ → List Text → LabelsShape
-labels_of at ns xs = record { at = at; names = ns; labels = xs }
+abbrev pub labels_of : Bool → ℕ → List ℕ → List Text → LabelsShape
+labels_of polls at ns xs = record { at = at; polls = polls; names = ns; labels = xs }
 
 abbrev pub names_more : ObjectShape → List ℕ → ObjectShape
 names_more x ns = record x { names = x.names ++ ns }
@@ -164,15 +164,15 @@ pub data Leads : Bool → List Lexeme → StateShape → Type 0 where
   scatter_comes : {s : Bool} {ts us vs : List Lexeme} {r : OpenShape} {o : List OpenShape} {at n : ℕ} {xs : List Marked} (open_at comma_at : ℕ)
       → Opened s ts r.kind o → InLevel s us r → IsSeq s vs n xs
       → Leads s (ts ++ (us ++ lexeme tokens.Scatter at ∷ lexeme tokens.Open open_at ∷ (vs ++ lexeme tokens.Comma comma_at ∷ []))) (At (ScatterNaming at (terms_at n xs)) r o)
-  serves : {s : Bool} {ts us : List Lexeme} {r : OpenShape} {o : List OpenShape} {at : ℕ} → Opened s ts r.kind o → InLevel s us r → Leads s (ts ++ (us ++ lexeme tokens.Serve at ∷ [])) (At (ServeOpening at) r o)
-  serve_opens : {s : Bool} {ts us : List Lexeme} {r : OpenShape} {o : List OpenShape} {at : ℕ} (open_at : ℕ)
-      → Opened s ts r.kind o → InLevel s us r → Leads s (ts ++ (us ++ lexeme tokens.Serve at ∷ lexeme tokens.Open open_at ∷ [])) (At (ServeBegun (new_labels at)) r o)
-  label_comes : {s : Bool} {ts us vs : List Lexeme} {r : OpenShape} {o : List OpenShape} {at : ℕ} {ns : List ℕ} {xs : List Text} (open_at comma_at : ℕ)
-      → Opened s ts r.kind o → InLevel s us r → IsLabels vs ns xs
-      → Leads s (ts ++ (us ++ lexeme tokens.Serve at ∷ lexeme tokens.Open open_at ∷ (vs ++ lexeme tokens.Comma comma_at ∷ []))) (At (LabelNaming (labels_of at ns xs)) r o)
-  label_named : {s : Bool} {ts us vs : List Lexeme} {r : OpenShape} {o : List OpenShape} {at : ℕ} {ns : List ℕ} {xs : List Text} (open_at : ℕ)
-      → Opened s ts r.kind o → InLevel s us r → IsLabels vs ns xs
-      → Leads s (ts ++ (us ++ lexeme tokens.Serve at ∷ lexeme tokens.Open open_at ∷ vs)) (At (LabelNamed (labels_of at ns xs)) r o)
+  serves : {s : Bool} {ts us : List Lexeme} {r : OpenShape} {o : List OpenShape} {at : ℕ} {leader : Token} {polls : Bool} → Opened s ts r.kind o → InLevel s us r → IsLabelWord leader polls → Leads s (ts ++ (us ++ lexeme leader at ∷ [])) (At (ServeOpening polls at) r o)
+  serve_opens : {s : Bool} {ts us : List Lexeme} {r : OpenShape} {o : List OpenShape} {at : ℕ} {leader : Token} {polls : Bool} (open_at : ℕ)
+      → Opened s ts r.kind o → InLevel s us r → IsLabelWord leader polls → Leads s (ts ++ (us ++ lexeme leader at ∷ lexeme tokens.Open open_at ∷ [])) (At (ServeBegun (new_labels polls at)) r o)
+  label_comes : {s : Bool} {ts us vs : List Lexeme} {r : OpenShape} {o : List OpenShape} {at : ℕ} {leader : Token} {polls : Bool} {ns : List ℕ} {xs : List Text} (open_at comma_at : ℕ)
+      → Opened s ts r.kind o → InLevel s us r → IsLabelWord leader polls → IsLabels vs ns xs
+      → Leads s (ts ++ (us ++ lexeme leader at ∷ lexeme tokens.Open open_at ∷ (vs ++ lexeme tokens.Comma comma_at ∷ []))) (At (LabelNaming (labels_of polls at ns xs)) r o)
+  label_named : {s : Bool} {ts us vs : List Lexeme} {r : OpenShape} {o : List OpenShape} {at : ℕ} {leader : Token} {polls : Bool} {ns : List ℕ} {xs : List Text} (open_at : ℕ)
+      → Opened s ts r.kind o → InLevel s us r → IsLabelWord leader polls → IsLabels vs ns xs
+      → Leads s (ts ++ (us ++ lexeme leader at ∷ lexeme tokens.Open open_at ∷ vs)) (At (LabelNamed (labels_of polls at ns xs)) r o)
   else_comes : {s : Bool} {ts us vs ws : List Lexeme} {r : OpenShape} {o : List OpenShape} {at n m : ℕ} {cs es : List Marked} (open_at close_at brace_at end_at : ℕ)
       → Opened s ts r.kind o → InLevel s us r → IsSeq s vs n cs → IsSeq s ws m es
       → Leads s (ts ++ (us ++ lexeme tokens.If at ∷ lexeme tokens.Open open_at ∷ (vs ++ lexeme tokens.Close close_at ∷ lexeme tokens.BraceOpen brace_at ∷ (ws ++ lexeme tokens.BraceClose end_at ∷ []))))

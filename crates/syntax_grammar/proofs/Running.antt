@@ -9,9 +9,9 @@ use Rattle.syntax_tokens.specs.declared.token.Token.{Token}
 use Rattle.syntax_tokens.specs.declared.token.Token.TheVariants as tokens
 use Rattle.syntax_tokens.specs.Tokens.{Lexeme, lexeme}
 use Rattle.syntax_grammar.specs.Nodes.{PartShape, terms_at, ObjectShape, made, with_parameter, served}
-use Rattle.syntax_grammar.specs.Signs.{IsProductSign, multiplies, divides, leaves, IsSumSign, adds, subtracts, IsTestSign, is_less, is_same, IsWord, clones, repeats, prints, sizes, awaits, IsHead, head, parameter, IsLabels, first_label, and_label, IsLabelPart, no_labels, labels}
+use Rattle.syntax_grammar.specs.Signs.{IsProductSign, multiplies, divides, leaves, IsSumSign, adds, subtracts, IsTestSign, is_less, is_same, IsWord, clones, repeats, prints, sizes, awaits, IsLabelWord, is_serve, is_pending, IsHead, head, parameter, IsLabels, first_label, and_label, IsLabelPart, no_labels, labels}
 use Rattle.syntax_grammar.specs.Grammar.{IsPrim, number, variable, parentheses, object, word, choice, echo, active, serve, group_none, group, scatter, member}
-use Rattle.syntax_grammar.specs.States.{PendingShape, TargetShape, KindShape, InWord, InList, InField, InMethod, OpenShape, OperandShape, Plain, ByRound, Begin, Want, Have, ListBegun, Opening, ObjectBegun, MethodNaming, HeadNamed, StateShape, At, has_terms, opened_with, fresh, new_object, with_field, with_method, operand_part, listed, joined, put_all, first_start, sequence_part, ServeBegun, LabelNamed, new_labels}
+use Rattle.syntax_grammar.specs.States.{OperatorShape, TargetShape, KindShape, InWord, InList, InField, InMethod, OpenShape, OperandShape, Plain, ByRound, Begin, Want, Have, ListBegun, Opening, ObjectBegun, MethodNaming, HeadNamed, StateShape, At, has_terms, opened_with, fresh, new_object, with_field, with_method, operand_part, listed, joined, put_all, first_start, sequence_part, ServeOpening, ServeBegun, LabelNamed, new_labels}
 use Rattle.syntax_grammar.specs.Machine as machine
 use Rattle.syntax_grammar.specs.Closings.{◌>>=◌, FinishedShape, finished, over, finish, concluded, first_mode, close, close_square}
 use Rattle.syntax_grammar.specs.Changes.{ChangeShape, Goes, changed, operand, begin}
@@ -64,6 +64,14 @@ pub test_goes : {token : Token} {sign : SignShape} → IsTestSign token sign →
 test_goes is_less s x r o = refl
 test_goes is_same s x r o = refl
 
+pub label_word_goes : {token : Token} {polls : Bool} → IsLabelWord token polls → (at : ℕ) → operand token at ≡ Some (Goes (ServeOpening polls at))
+label_word_goes is_serve at = refl
+label_word_goes is_pending at = refl
+
+label_word_begins : {token : Token} {polls : Bool} → IsLabelWord token polls → (at : ℕ) → begin token at ≡ operand token at
+label_word_begins is_serve at = refl
+label_word_begins is_pending at = refl
+
 -- an operand is read where a term begins as where one is wanted
 pub begun_prim : {s : Bool} {ls : List Lexeme} {p : PartShape} → IsPrim s ls p → (b : Bool) (r : OpenShape) (o : List OpenShape) → run s (At (first_mode b) r o) ls ≡ run s (At Want r o) ls
 begun_prim h false r o = refl
@@ -74,7 +82,8 @@ begun_prim (object s at c ls us ns ms fs xs f g) true r o = refl
 begun_prim (word s token h at o c ls n ts w g) true r q =
     ap (λ (w : Option ChangeShape). changed w r q >>= λ v. run s v (lexeme tokens.Open o ∷ (ls ++ lexeme tokens.Close c ∷ []))) (word_begins w at)
 begun_prim (active s at a c ls us n ts ns label h i) true r o = refl
-begun_prim (serve s at a c ls ns xs h) true r o = refl
+begun_prim (serve s token polls at o c ls ns xs w h) true r q =
+    ap (λ (w : Option ChangeShape). changed w r q >>= λ v. run s v (lexeme tokens.Open o ∷ (ls ++ lexeme tokens.Close c ∷ []))) (label_word_begins w at)
 begun_prim (choice s at a b c d e f g ls us vs n m k cs ts es x y z) true r o = refl
 begun_prim (echo s at a b c text) true r o = refl
 begun_prim (group_none s at a c) true r o = refl
@@ -102,24 +111,24 @@ abbrev pub PostRuns : Bool → List Lexeme → PartShape → Type 0
 PostRuns s ls p = (b : Bool) (r : OpenShape) (o : List OpenShape) → (x : OperandShape) × (run s (At (first_mode b) r o) ls ≡ Some (At (Have x) r o)) × (operand_part x ≡ p)
 
 abbrev pub ProdRuns : Bool → List Lexeme → PartShape → Type 0
-ProdRuns s ls e = (b : Bool) (k : KindShape) (n : ℕ) (before : List Marked) (puts : List PartShape) (t m : Option PendingShape) (o : List OpenShape)
-    → (p : Option PendingShape) × (x : OperandShape)
+ProdRuns s ls e = (b : Bool) (k : KindShape) (n : ℕ) (before : List Marked) (puts : List PartShape) (t m : Option OperatorShape) (o : List OpenShape)
+    → (p : Option OperatorShape) × (x : OperandShape)
     × (run s (At (first_mode b) (opened_with k n before puts t m None) o) ls ≡ Some (At (Have x) (opened_with k n before puts t m p) o)) × (joined p (operand_part x) ≡ e)
 
 abbrev pub SumRuns : Bool → List Lexeme → PartShape → Type 0
-SumRuns s ls e = (b : Bool) (k : KindShape) (n : ℕ) (before : List Marked) (puts : List PartShape) (t : Option PendingShape) (o : List OpenShape)
-    → (m p : Option PendingShape) × (x : OperandShape)
+SumRuns s ls e = (b : Bool) (k : KindShape) (n : ℕ) (before : List Marked) (puts : List PartShape) (t : Option OperatorShape) (o : List OpenShape)
+    → (m p : Option OperatorShape) × (x : OperandShape)
     × (run s (At (first_mode b) (opened_with k n before puts t None None) o) ls ≡ Some (At (Have x) (opened_with k n before puts t m p) o)) × (joined m (joined p (operand_part x)) ≡ e)
 
 abbrev pub TestRuns : Bool → List Lexeme → PartShape → Type 0
 TestRuns s ls e = (b : Bool) (k : KindShape) (n : ℕ) (before : List Marked) (puts : List PartShape) (o : List OpenShape)
-    → (t m p : Option PendingShape) × (x : OperandShape)
+    → (t m p : Option OperatorShape) × (x : OperandShape)
     × (run s (At (first_mode b) (opened_with k n before puts None None None) o) ls ≡ Some (At (Have x) (opened_with k n before puts t m p) o))
     × (joined t (joined m (joined p (operand_part x))) ≡ e)
 
 abbrev pub ExprRuns : Bool → List Lexeme → PartShape → Type 0
 ExprRuns s ls e = (b : Bool) (k : KindShape) (n : ℕ) (before : List Marked) (puts : List PartShape) (o : List OpenShape)
-    → (qs : List PartShape) × (t m p : Option PendingShape) × (x : OperandShape)
+    → (qs : List PartShape) × (t m p : Option OperatorShape) × (x : OperandShape)
     × (run s (At (first_mode b) (opened_with k n before puts None None None) o) ls ≡ Some (At (Have x) (opened_with k n before qs t m p) o))
     × (put_all qs (joined t (joined m (joined p (operand_part x)))) ≡ put_all puts e)
 
@@ -146,9 +155,9 @@ listed_runs s us ts f target close_at r o =
 pub record FieldRun (s : Bool) (from : StateShape) (ls : List Lexeme) (r : OpenShape) (o : List OpenShape) (to : ObjectShape) : Type 0 where
   pub x : OperandShape
   pub puts : List PartShape
-  pub t : Option PendingShape
-  pub m : Option PendingShape
-  pub p : Option PendingShape
+  pub t : Option OperatorShape
+  pub m : Option OperatorShape
+  pub p : Option OperatorShape
   pub object : ObjectShape
   pub label : Text
   pub ran : run s from ls ≡ Some (At (Have x) (opened_with (InField object label) 0 [] puts t m p) (r ∷ o))
@@ -188,20 +197,20 @@ head_complete (parameter ls ns h comma_at at name g) s x r o =
     (Some (At (HeadNamed (names_more x (ns ++ at ∷ [])) (with_parameter h name)) r o)) (head_complete g s x r o)
     (ap (λ (ms : List ℕ). Some (At (HeadNamed (record x { names = ms }) (with_parameter h name)) r o)) (append_assoc x.names ns (at ∷ [])))
 
-pub labels_complete : {ls : List Lexeme} {ns : List ℕ} {xs : List Text} → IsLabels ls ns xs → (s : Bool) (at : ℕ) (r : OpenShape) (o : List OpenShape)
-    → run s (At (ServeBegun (new_labels at)) r o) ls ≡ Some (At (LabelNamed (record { at = at; names = ns; labels = xs })) r o)
-labels_complete (first_label label_at label) s at r o = refl
-labels_complete (and_label ls ns xs comma_at label_at label h) s at r o =
-    goes_on s (At (ServeBegun (new_labels at)) r o) (At (LabelNamed (record { at = at; names = ns; labels = xs })) r o) ls (lexeme tokens.Comma comma_at ∷ lexeme (tokens.Name label) label_at ∷ [])
-    (Some (At (LabelNamed (record { at = at; names = ns ++ label_at ∷ []; labels = xs ++ label ∷ [] })) r o)) (labels_complete h s at r o) refl
+pub labels_complete : {ls : List Lexeme} {ns : List ℕ} {xs : List Text} → IsLabels ls ns xs → (s polls : Bool) (at : ℕ) (r : OpenShape) (o : List OpenShape)
+    → run s (At (ServeBegun (new_labels polls at)) r o) ls ≡ Some (At (LabelNamed (record { at = at; polls = polls; names = ns; labels = xs })) r o)
+labels_complete (first_label label_at label) s polls at r o = refl
+labels_complete (and_label ls ns xs comma_at label_at label h) s polls at r o =
+    goes_on s (At (ServeBegun (new_labels polls at)) r o) (At (LabelNamed (record { at = at; polls = polls; names = ns; labels = xs })) r o) ls (lexeme tokens.Comma comma_at ∷ lexeme (tokens.Name label) label_at ∷ [])
+    (Some (At (LabelNamed (record { at = at; polls = polls; names = ns ++ label_at ∷ []; labels = xs ++ label ∷ [] })) r o)) (labels_complete h s polls at r o) refl
 
--- the labels of a `serve`, up to its end
-pub labels_run : {ls : List Lexeme} {ns : List ℕ} {xs : List Text} → IsLabelPart ls ns xs → (s : Bool) (at close_at : ℕ) (r : OpenShape) (o : List OpenShape)
-    → run s (At (ServeBegun (new_labels at)) r o) (ls ++ lexeme tokens.Close close_at ∷ []) ≡ Some (At (Have (Plain (served (record { at = at; names = ns; labels = xs })))) r o)
-labels_run no_labels s at close_at r o = refl
-labels_run (labels ls ns xs h) s at close_at r o =
-    goes_on s (At (ServeBegun (new_labels at)) r o) (At (LabelNamed (record { at = at; names = ns; labels = xs })) r o) ls (lexeme tokens.Close close_at ∷ [])
-    (Some (At (Have (Plain (served (record { at = at; names = ns; labels = xs })))) r o)) (labels_complete h s at r o) refl
+-- the labels of a `serve` or a `pending`, up to its end
+pub labels_run : {ls : List Lexeme} {ns : List ℕ} {xs : List Text} → IsLabelPart ls ns xs → (s polls : Bool) (at close_at : ℕ) (r : OpenShape) (o : List OpenShape)
+    → run s (At (ServeBegun (new_labels polls at)) r o) (ls ++ lexeme tokens.Close close_at ∷ []) ≡ Some (At (Have (Plain (served (record { at = at; polls = polls; names = ns; labels = xs })))) r o)
+labels_run no_labels s polls at close_at r o = refl
+labels_run (labels ls ns xs h) s polls at close_at r o =
+    goes_on s (At (ServeBegun (new_labels polls at)) r o) (At (LabelNamed (record { at = at; polls = polls; names = ns; labels = xs })) r o) ls (lexeme tokens.Close close_at ∷ [])
+    (Some (At (Have (Plain (served (record { at = at; polls = polls; names = ns; labels = xs })))) r o)) (labels_complete h s polls at r o) refl
 
 -- a method's body behind its head
 pub method_runs : (s : Bool) (us : List Lexeme) (n : ℕ) (ts : List Marked) {ls : List Lexeme} {ns : List ℕ} {h : MethodHead} → IsHead ls ns h → SeqRuns s us n ts → (close_at equals_at : ℕ) (x to : ObjectShape) (r : OpenShape) (o : List OpenShape)

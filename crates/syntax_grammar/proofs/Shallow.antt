@@ -53,6 +53,7 @@ operand_fits tokens.Scatter at b n h g = (omega (arith, h), omega (arith, g))
 operand_fits tokens.Size at b n h g = (omega (arith, h), omega (arith, g))
 operand_fits tokens.Member at b n h g = (omega (arith, h), omega (arith, g))
 operand_fits tokens.WaitAll at b n h g = (omega (arith, h), omega (arith, g))
+operand_fits tokens.Pending at b n h g = (omega (arith, h), omega (arith, g))
 operand_fits _ at b n h g = tt
 
 begin_fits : (t : Token) (at b n : ℕ) → b ≤ n → brackets_after t n ≤ MOST_LEVEL → ChangeFits (begin t at) b (brackets_after t n)
@@ -85,8 +86,8 @@ change_fits (GroupOpening i) tokens.Open at b n h g = (omega (arith, h), omega (
 change_fits (GroupOpening i) _ at b n h g = tt
 change_fits (ScatterNaming i u) (tokens.Name label) at b n h g = (omega (arith, h), omega (arith, g))
 change_fits (ScatterNaming i u) _ at b n h g = tt
-change_fits (ServeOpening i) tokens.Open at b n h g = (omega (arith, h), omega (arith, g))
-change_fits (ServeOpening i) _ at b n h g = tt
+change_fits (ServeOpening polls i) tokens.Open at b n h g = (omega (arith, h), omega (arith, g))
+change_fits (ServeOpening polls i) _ at b n h g = tt
 change_fits (ServeBegun x) tokens.Close at b n h g = (omega (arith, h), omega (arith, g))
 change_fits (ServeBegun x) (tokens.Name label) at b n h g = (omega (arith, h), omega (arith, g))
 change_fits (ServeBegun x) _ at b n h g = tt
@@ -145,7 +146,7 @@ mode_fits (ServiceNaming i u) s o t at n h g = changed_fits (change_of (ServiceN
 mode_fits (ServiceNamed i u j label) s o t at n h g = changed_fits (change_of (ServiceNamed i u j label) t at) s o (brackets_after t n) (change_fits (ServiceNamed i u j label) t at (stack_brackets (s ∷ o)) n h.0 g)
 mode_fits (GroupOpening i) s o t at n h g = changed_fits (change_of (GroupOpening i) t at) s o (brackets_after t n) (change_fits (GroupOpening i) t at (stack_brackets (s ∷ o)) n h.0 g)
 mode_fits (ScatterNaming i u) s o t at n h g = changed_fits (change_of (ScatterNaming i u) t at) s o (brackets_after t n) (change_fits (ScatterNaming i u) t at (stack_brackets (s ∷ o)) n h.0 g)
-mode_fits (ServeOpening i) s o t at n h g = changed_fits (change_of (ServeOpening i) t at) s o (brackets_after t n) (change_fits (ServeOpening i) t at (stack_brackets (s ∷ o)) n h.0 g)
+mode_fits (ServeOpening polls i) s o t at n h g = changed_fits (change_of (ServeOpening polls i) t at) s o (brackets_after t n) (change_fits (ServeOpening polls i) t at (stack_brackets (s ∷ o)) n h.0 g)
 mode_fits (ServeBegun x) s o t at n h g = changed_fits (change_of (ServeBegun x) t at) s o (brackets_after t n) (change_fits (ServeBegun x) t at (stack_brackets (s ∷ o)) n h.0 g)
 mode_fits (LabelNaming x) s o t at n h g = changed_fits (change_of (LabelNaming x) t at) s o (brackets_after t n) (change_fits (LabelNaming x) t at (stack_brackets (s ∷ o)) n h.0 g)
 mode_fits (LabelNamed x) s o t at n h g = changed_fits (change_of (LabelNamed x) t at) s o (brackets_after t n) (change_fits (LabelNamed x) t at (stack_brackets (s ∷ o)) n h.0 g)

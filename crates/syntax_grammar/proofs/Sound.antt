@@ -8,9 +8,9 @@ use Rattle.syntax_tokens.specs.declared.token.Token.{Token}
 use Rattle.syntax_tokens.specs.declared.token.Token.TheVariants as tokens
 use Rattle.syntax_tokens.specs.Tokens.{Lexeme, lexeme}
 use Rattle.syntax_grammar.specs.Nodes.{PartShape, terms_at, ObjectShape, with_parameter}
-use Rattle.syntax_grammar.specs.Signs.{IsProductSign, multiplies, divides, leaves, IsSumSign, adds, subtracts, IsTestSign, is_less, is_same, clones, repeats, prints, sizes, awaits, IsHead, head, parameter, service, IsLabels, first_label, and_label, no_labels, labels}
+use Rattle.syntax_grammar.specs.Signs.{IsProductSign, multiplies, divides, leaves, IsSumSign, adds, subtracts, IsTestSign, is_less, is_same, clones, repeats, prints, sizes, awaits, IsLabelWord, is_serve, is_pending, IsHead, head, parameter, service, IsLabels, first_label, and_label, no_labels, labels}
 use Rattle.syntax_grammar.specs.Grammar.{may_put, number, variable, object, echo, IsPost, get, no_fields, no_methods, IsSeq, IsProgram, active, serve}
-use Rattle.syntax_grammar.specs.States.{PendingShape, TargetShape, KindShape, InField, OpenShape, Plain, Access, OpenerShape, ByRound, ByBrace, ByEquals, ByComma, HeadNamed, StateShape, At, Done, has_terms, opened_with, test_in, term_in, new_object, with_name, new_labels}
+use Rattle.syntax_grammar.specs.States.{OperatorShape, TargetShape, KindShape, InField, OpenShape, Plain, Access, OpenerShape, ByRound, ByBrace, ByEquals, ByComma, HeadNamed, StateShape, At, Done, has_terms, opened_with, test_in, term_in, new_object, with_name, new_labels}
 use Rattle.syntax_grammar.specs.Changes as changes
 use Rattle.syntax_grammar.specs.Machine as machine
 use Rattle.syntax_grammar.specs.Closings.{◌>>=◌}
@@ -39,7 +39,7 @@ put_next at f g h false e = nothing
 put_next at f (in_level a b c d e) h true i = comes (leads_moved (wants f (in_level a (more_put at b (as_test c d e h) i) no_test no_sum no_product)) (simp (append_assoc, append-nil) refl))
 
 -- another term of a sequence, or the first method
-term_next : {s : Bool} {ls us vs : List Lexeme} (k : KindShape) {n : ℕ} {before : List Marked} {puts : List PartShape} {t m p : Option PendingShape} {o : List OpenShape} {x : PartShape} (at : ℕ)
+term_next : {s : Bool} {ls us vs : List Lexeme} (k : KindShape) {n : ℕ} {before : List Marked} {puts : List PartShape} {t m p : Option OperatorShape} {o : List OpenShape} {x : PartShape} (at : ℕ)
     → Opened s ls k o → InLevel s us (opened_with k n before puts t m p) → IsPost s vs x
     → After s (ls ++ (us ++ (vs ++ lexeme tokens.Semicolon at ∷ []))) (next_term k (term_in (opened_with k n before puts t m p) x) (opened_with k n before puts t m p) o)
 term_next (InField y label) at (in_field name_at equals_at f g i) (in_level no_step b c d e) h =
@@ -87,7 +87,8 @@ want_next f g tokens.Open at = opened_is (in_parentheses {at = at} f g) refl
 want_next f g tokens.SquareOpen at = comes (object_begins f g)
 want_next f g tokens.Clone at = comes (opens (λ i. opened_moved (in_word {at = at} i f g clones) (simp append_assoc refl)))
 want_next f g tokens.Active at = comes (opens (λ i. opened_moved (in_active {at = at} i f g) (simp append_assoc refl)))
-want_next f g tokens.Serve at = comes (serves f g)
+want_next f g tokens.Serve at = comes (serves f g is_serve)
+want_next f g tokens.Pending at = comes (serves f g is_pending)
 want_next f g tokens.Repeat at = comes (opens (λ i. opened_moved (in_word {at = at} i f g repeats) (simp append_assoc refl)))
 want_next f g tokens.Print at = comes (opens (λ i. opened_moved (in_word {at = at} i f g prints) (simp append_assoc refl)))
 want_next f g tokens.If at = comes (opens (λ i. opened_moved (in_condition {at = at} i f g) (simp append_assoc refl)))
@@ -171,27 +172,27 @@ module _ {s : Bool} {ls us : List Lexeme} {r : OpenShape} {o : List OpenShape} (
   scatter_next h scatter_at open_at comma_at (tokens.Name label) at = comes (opens (λ i. opened_moved (in_arguments {at = scatter_at} open_at comma_at i f g h) (simp append_assoc refl)))
   scatter_next h scatter_at open_at comma_at _ at = nothing
 
-  serve_next : (serve_at : ℕ) (token : Token) (at : ℕ) → After s ((ls ++ (us ++ lexeme tokens.Serve serve_at ∷ [])) ++ lexeme token at ∷ []) (changed (changes.serve_opened serve_at token) r o)
-  serve_next serve_at tokens.Open at = comes (leads_moved (serve_opens {at = serve_at} at f g) (simp append_assoc refl))
-  serve_next serve_at _ at = nothing
+  serve_next : {leader : Token} {polls : Bool} → IsLabelWord leader polls → (serve_at : ℕ) (token : Token) (at : ℕ) → After s ((ls ++ (us ++ lexeme leader serve_at ∷ [])) ++ lexeme token at ∷ []) (changed (changes.serve_opened polls serve_at token) r o)
+  serve_next w serve_at tokens.Open at = comes (leads_moved (serve_opens {at = serve_at} at f g w) (simp append_assoc refl))
+  serve_next w serve_at _ at = nothing
 
-  first_label_next : (serve_at open_at : ℕ) (token : Token) (at : ℕ)
-      → After s ((ls ++ (us ++ lexeme tokens.Serve serve_at ∷ lexeme tokens.Open open_at ∷ [])) ++ lexeme token at ∷ []) (changed (changes.serve_begun (new_labels serve_at) token at) r o)
-  first_label_next serve_at open_at tokens.Close at = has_prim f g (serve _ serve_at open_at at _ _ _ no_labels) (simp append_assoc refl)
-  first_label_next serve_at open_at (tokens.Name label) at = comes (leads_moved (label_named {at = serve_at} open_at f g (first_label at label)) (simp append_assoc refl))
-  first_label_next serve_at open_at _ at = nothing
+  first_label_next : {leader : Token} {polls : Bool} → IsLabelWord leader polls → (serve_at open_at : ℕ) (token : Token) (at : ℕ)
+      → After s ((ls ++ (us ++ lexeme leader serve_at ∷ lexeme tokens.Open open_at ∷ [])) ++ lexeme token at ∷ []) (changed (changes.serve_begun (new_labels polls serve_at) token at) r o)
+  first_label_next w serve_at open_at tokens.Close at = has_prim f g (serve _ _ _ serve_at open_at at _ _ _ w no_labels) (simp append_assoc refl)
+  first_label_next w serve_at open_at (tokens.Name label) at = comes (leads_moved (label_named {at = serve_at} open_at f g w (first_label at label)) (simp append_assoc refl))
+  first_label_next w serve_at open_at _ at = nothing
 
   module _ {vs : List Lexeme} {ns : List ℕ} {xs : List Text} (h : IsLabels vs ns xs) where
-    label_next : (serve_at open_at comma_at : ℕ) (token : Token) (at : ℕ)
-        → After s ((ls ++ (us ++ lexeme tokens.Serve serve_at ∷ lexeme tokens.Open open_at ∷ (vs ++ lexeme tokens.Comma comma_at ∷ []))) ++ lexeme token at ∷ []) (changed (changes.label_named (labels_of serve_at ns xs) token at) r o)
-    label_next serve_at open_at comma_at (tokens.Name label) at = comes (leads_moved (label_named {at = serve_at} open_at f g (and_label _ _ _ comma_at at label h)) (simp append_assoc refl))
-    label_next serve_at open_at comma_at _ at = nothing
+    label_next : {leader : Token} {polls : Bool} → IsLabelWord leader polls → (serve_at open_at comma_at : ℕ) (token : Token) (at : ℕ)
+        → After s ((ls ++ (us ++ lexeme leader serve_at ∷ lexeme tokens.Open open_at ∷ (vs ++ lexeme tokens.Comma comma_at ∷ []))) ++ lexeme token at ∷ []) (changed (changes.label_named (labels_of polls serve_at ns xs) token at) r o)
+    label_next w serve_at open_at comma_at (tokens.Name label) at = comes (leads_moved (label_named {at = serve_at} open_at f g w (and_label _ _ _ comma_at at label h)) (simp append_assoc refl))
+    label_next w serve_at open_at comma_at _ at = nothing
 
-    labels_next : (serve_at open_at : ℕ) (token : Token) (at : ℕ)
-        → After s ((ls ++ (us ++ lexeme tokens.Serve serve_at ∷ lexeme tokens.Open open_at ∷ vs)) ++ lexeme token at ∷ []) (changed (changes.labels_go_on (labels_of serve_at ns xs) token) r o)
-    labels_next serve_at open_at tokens.Comma at = comes (leads_moved (label_comes {at = serve_at} open_at at f g h) (simp append_assoc refl))
-    labels_next serve_at open_at tokens.Close at = has_prim f g (serve _ serve_at open_at at _ _ _ (labels _ _ _ h)) (simp append_assoc refl)
-    labels_next serve_at open_at _ at = nothing
+    labels_next : {leader : Token} {polls : Bool} → IsLabelWord leader polls → (serve_at open_at : ℕ) (token : Token) (at : ℕ)
+        → After s ((ls ++ (us ++ lexeme leader serve_at ∷ lexeme tokens.Open open_at ∷ vs)) ++ lexeme token at ∷ []) (changed (changes.labels_go_on (labels_of polls serve_at ns xs) token) r o)
+    labels_next w serve_at open_at tokens.Comma at = comes (leads_moved (label_comes {at = serve_at} open_at at f g w h) (simp append_assoc refl))
+    labels_next w serve_at open_at tokens.Close at = has_prim f g (serve _ _ _ serve_at open_at at _ _ _ w (labels _ _ _ h)) (simp append_assoc refl)
+    labels_next w serve_at open_at _ at = nothing
 
   field_next : {vs : List Lexeme} {x : ObjectShape} → NextField s vs x → (token : Token) (at : ℕ) → After s ((ls ++ (us ++ vs)) ++ lexeme token at ∷ []) (changed (changes.field_named x token at) r o)
   field_next h (tokens.Name label) at = comes (opens (λ i. opened_moved (in_field at i f g h) (simp append_assoc refl)))
@@ -248,10 +249,10 @@ next (service_comes {at = at} open_at comma_at f g h) l = service_next f g h at 
 next (service_named {at = at} {label_at = label_at} {label = label} open_at comma_at f g h) l = service_end_next f g h at open_at comma_at label_at label l.token l.at
 next (groups {at = at} f g) l = group_next f g at l.token l.at
 next (scatter_comes {at = at} open_at comma_at f g h) l = scatter_next f g h at open_at comma_at l.token l.at
-next (serves {at = at} f g) l = serve_next f g at l.token l.at
-next (serve_opens {at = at} open_at f g) l = first_label_next f g at open_at l.token l.at
-next (label_comes {at = at} open_at comma_at f g h) l = label_next f g h at open_at comma_at l.token l.at
-next (label_named {at = at} open_at f g h) l = labels_next f g h at open_at l.token l.at
+next (serves {at = at} f g w) l = serve_next f g w at l.token l.at
+next (serve_opens {at = at} open_at f g w) l = first_label_next f g w at open_at l.token l.at
+next (label_comes {at = at} open_at comma_at f g w h) l = label_next f g h w at open_at comma_at l.token l.at
+next (label_named {at = at} open_at f g w h) l = labels_next f g h w at open_at l.token l.at
 next (else_comes {at = at} open_at close_at brace_at end_at f g c t) l = else_next at open_at close_at brace_at end_at f g c t l.token l.at
 next (echoes {at = at} f g) l = echo_next f g at l.token l.at
 next (echo_opens {at = at} open_at f g) l = text_next f g at open_at l.token l.at

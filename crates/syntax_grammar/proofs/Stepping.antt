@@ -6,7 +6,7 @@ use Rattle.syntax_tokens.specs.declared.token.Token.TheVariants as tokens
 use Rattle.syntax_tokens.specs.Tokens.{Lexeme}
 use Rattle.syntax_grammar.specs.Nodes.{PartShape}
 use Rattle.syntax_grammar.specs.Grammar.{may_put}
-use Rattle.syntax_grammar.specs.States.{KindShape, Top, InList, InField, PendingShape, OpenShape, OperandShape, ByRound, ByBrace, ByEquals, ByComma, ModeShape, Begin, Want, Have, Dotted, ListBegun, Opening, LetNaming, ElseComing, EchoOpening, EchoText, EchoClosing, ObjectBegun, FieldNaming, MethodNaming, MethodNamed, SelfNaming, HeadNamed, ParameterNaming, StateShape, At, Done, fresh, operand_part, test_in, term_in, ServiceNaming, ServiceNamed, GroupOpening, ScatterNaming, ServeOpening, ServeBegun, LabelNaming, LabelNamed}
+use Rattle.syntax_grammar.specs.States.{KindShape, Top, InList, InField, OperatorShape, OpenShape, OperandShape, ByRound, ByBrace, ByEquals, ByComma, ModeShape, Begin, Want, Have, Dotted, ListBegun, Opening, LetNaming, ElseComing, EchoOpening, EchoText, EchoClosing, ObjectBegun, FieldNaming, MethodNaming, MethodNamed, SelfNaming, HeadNamed, ParameterNaming, StateShape, At, Done, fresh, operand_part, test_in, term_in, ServiceNaming, ServiceNamed, GroupOpening, ScatterNaming, ServeOpening, ServeBegun, LabelNaming, LabelNamed}
 use Rattle.syntax_grammar.specs.Changes as changes
 use Rattle.syntax_grammar.specs.Machine as machine
 use Rattle.syntax_grammar.specs.Closings.{FinishedShape, finished, finish, ClosingShape, Back, Again, closed, concluded, back, close, close_brace, close_square, comma, bound, ended}
@@ -111,7 +111,7 @@ term_on : (k : KindShape) (e : PartShape) (s : OpenShape) (o : List OpenShape) �
 term_on (InField x label) e s o = back_on _ o
 term_on _ e s o = tt
 
-test_on : (a : Option PendingShape) (sign : _) (p : PartShape) (s : OpenShape) (o : List OpenShape) → IsOn (machine.test_behind a sign p s o)
+test_on : (a : Option OperatorShape) (sign : _) (p : PartShape) (s : OpenShape) (o : List OpenShape) → IsOn (machine.test_behind a sign p s o)
 test_on None sign p s o = tt
 test_on (Some a) sign p s o = tt
 
@@ -147,7 +147,7 @@ mode_on (ServiceNaming i u) s o t at = inl (changed_on (changes.service_named i 
 mode_on (ServiceNamed i u j label) s o t at = inl (changed_on (changes.service_closed i u j label t) s o)
 mode_on (GroupOpening i) s o t at = inl (changed_on (changes.group_opened i t) s o)
 mode_on (ScatterNaming i u) s o t at = inl (changed_on (changes.scatter_named i u t at) s o)
-mode_on (ServeOpening i) s o t at = inl (changed_on (changes.serve_opened i t) s o)
+mode_on (ServeOpening polls i) s o t at = inl (changed_on (changes.serve_opened polls i t) s o)
 mode_on (ServeBegun x) s o t at = inl (changed_on (changes.serve_begun x t at) s o)
 mode_on (LabelNaming x) s o t at = inl (changed_on (changes.label_named x t at) s o)
 mode_on (LabelNamed x) s o t at = inl (changed_on (changes.labels_go_on x t) s o)

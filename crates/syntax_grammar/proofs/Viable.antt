@@ -86,11 +86,11 @@ begins (service_named {at = at} {label_at = label_at} {label = label} open_at co
 begins (groups {at = at} f g) = less (lexeme tokens.Open 0 ∷ lexeme tokens.Close 0 ∷ []) (ends_in f (as_body g (list_none 0 (of_group {at = at} 0)))) (simp append_assoc refl)
 begins (scatter_comes {at = at} open_at comma_at f g h) =
     less (lexeme (tokens.Name []) 0 ∷ lexeme tokens.Comma 0 ∷ []) (begun_in (in_arguments {at = at} {label_at = 0} {label = []} open_at comma_at 0 f g h)) (simp append_assoc refl)
-begins (serves {at = at} f g) = less (lexeme tokens.Open 0 ∷ lexeme tokens.Close 0 ∷ []) (ends_in f (as_body g (prim _ _ _ (serve _ at 0 0 _ _ _ no_labels)))) (simp append_assoc refl)
-begins (serve_opens {at = at} open_at f g) = less (lexeme tokens.Close 0 ∷ []) (ends_in f (as_body g (prim _ _ _ (serve _ at open_at 0 _ _ _ no_labels)))) (simp append_assoc refl)
-begins (label_comes {at = at} open_at comma_at f g h) =
-    less (lexeme (tokens.Name []) 0 ∷ lexeme tokens.Close 0 ∷ []) (ends_in f (as_body g (prim _ _ _ (serve _ at open_at 0 _ _ _ (labels _ _ _ (and_label _ _ _ comma_at 0 [] h)))))) (simp append_assoc refl)
-begins (label_named {at = at} open_at f g h) = less (lexeme tokens.Close 0 ∷ []) (ends_in f (as_body g (prim _ _ _ (serve _ at open_at 0 _ _ _ (labels _ _ _ h))))) (simp append_assoc refl)
+begins (serves {at = at} f g w) = less (lexeme tokens.Open 0 ∷ lexeme tokens.Close 0 ∷ []) (ends_in f (as_body g (prim _ _ _ (serve _ _ _ at 0 0 _ _ _ w no_labels)))) (simp append_assoc refl)
+begins (serve_opens {at = at} open_at f g w) = less (lexeme tokens.Close 0 ∷ []) (ends_in f (as_body g (prim _ _ _ (serve _ _ _ at open_at 0 _ _ _ w no_labels)))) (simp append_assoc refl)
+begins (label_comes {at = at} open_at comma_at f g w h) =
+    less (lexeme (tokens.Name []) 0 ∷ lexeme tokens.Close 0 ∷ []) (ends_in f (as_body g (prim _ _ _ (serve _ _ _ at open_at 0 _ _ _ w (labels _ _ _ (and_label _ _ _ comma_at 0 [] h)))))) (simp append_assoc refl)
+begins (label_named {at = at} open_at f g w h) = less (lexeme tokens.Close 0 ∷ []) (ends_in f (as_body g (prim _ _ _ (serve _ _ _ at open_at 0 _ _ _ w (labels _ _ _ h))))) (simp append_assoc refl)
 begins (else_comes {at = at} open_at close_at brace_at end_at f g c t) =
     less (lexeme tokens.Else 0 ∷ lexeme tokens.BraceOpen 0 ∷ []) (begun_in (in_else {at = at} open_at close_at brace_at end_at 0 0 f g c t)) (simp append_assoc refl)
 begins (echoes {at = at} f g) = less (lexeme tokens.Open 0 ∷ lexeme (tokens.Text []) 0 ∷ lexeme tokens.Close 0 ∷ []) (ends_in f (as_body g (prim _ _ _ (echo _ at 0 0 0 [])))) (simp append_assoc refl)

@@ -9,7 +9,7 @@ use Rattle.syntax_tokens.specs.Tokens.{Lexeme, lexeme}
 use Rattle.syntax_grammar.specs.Nodes.{PartShape, terms_at, ObjectShape, made, method}
 use Rattle.syntax_grammar.specs.Signs.{IsHead}
 use Rattle.syntax_grammar.specs.Grammar.{IsPrim, object, group_none, group, IsPost, prim, call_none, call, IsArgs, field, and_field, first_method, and_method, fields, no_methods, methods, IsProd, post, times, IsSum, prod, plus, IsTest, sum, test, IsExpr, tested, assign, IsSeq, last, then}
-use Rattle.syntax_grammar.specs.States.{PendingShape, TargetShape, KindShape, InField, OpenShape, StateShape, has_terms, with_name, with_field, with_method, listed, joined, put_all, first_start, sequence_part, value}
+use Rattle.syntax_grammar.specs.States.{OperatorShape, TargetShape, KindShape, InField, OpenShape, StateShape, has_terms, with_name, with_field, with_method, listed, joined, put_all, first_start, sequence_part, value}
 use Rattle.syntax_grammar.proofs.Parts.{ProductPart, SumPart, TestPart, PutPart, StepPart, InLevel, object_of, names_more, NextField, NextMethod, Fielded, Methoded, IsTarget, of_call, of_group, waiting, Opened, Leads, no_product, some_product, no_sum, some_sum, no_test, some_test, no_put, more_put, no_step, more_step, in_level, a_field, next_field, a_method, next_method, fielded, methoded}
 
 -- the same, of equal lexemes
@@ -40,15 +40,15 @@ leads_moved {s = s} {x = x} h e = subst (λ l. Leads s l x) e h
 pub opened_moved : {s : Bool} {ls ms : List Lexeme} {k : KindShape} {o : List OpenShape} → Opened s ls k o → ls ≡ ms → Opened s ms k o
 opened_moved {s = s} {k = k} {o = o} h e = subst (λ l. Opened s l k o) e h
 
-pub product_is : {s : Bool} {us vs : List Lexeme} {p : Option PendingShape} {x : PartShape} → ProductPart s us p → IsPost s vs x → IsProd s (us ++ vs) (joined p x)
+pub product_is : {s : Bool} {us vs : List Lexeme} {p : Option OperatorShape} {x : PartShape} → ProductPart s us p → IsPost s vs x → IsProd s (us ++ vs) (joined p x)
 product_is no_product h = post _ _ _ h
 product_is (some_product at i g) h = prod_moved (times _ _ _ at _ _ _ _ i g h) (simp append_assoc refl)
 
-pub sum_is : {s : Bool} {us vs : List Lexeme} {p : Option PendingShape} {x : PartShape} → SumPart s us p → IsProd s vs x → IsSum s (us ++ vs) (joined p x)
+pub sum_is : {s : Bool} {us vs : List Lexeme} {p : Option OperatorShape} {x : PartShape} → SumPart s us p → IsProd s vs x → IsSum s (us ++ vs) (joined p x)
 sum_is no_sum h = prod _ _ _ h
 sum_is (some_sum at i g) h = sum_moved (plus _ _ _ at _ _ _ _ i g h) (simp append_assoc refl)
 
-pub test_is : {s : Bool} {us vs : List Lexeme} {p : Option PendingShape} {x : PartShape} → TestPart s us p → IsSum s vs x → IsTest s (us ++ vs) (joined p x)
+pub test_is : {s : Bool} {us vs : List Lexeme} {p : Option OperatorShape} {x : PartShape} → TestPart s us p → IsSum s vs x → IsTest s (us ++ vs) (joined p x)
 test_is no_test h = sum _ _ _ h
 test_is (some_test at i g) h = test_moved (test _ _ _ at _ _ _ _ i g h) (simp append_assoc refl)
 
@@ -69,14 +69,14 @@ step_is {s = s} {vs = vs} {m = m} {ys = ys} (more_step {us = us} {vs = ws} {n = 
     subst (λ j. IsSeq s ls j ((ts ++ e.term ∷ []) ++ ys)) (sym (later_start ts e.term i m)) (subst (λ l. IsSeq s ls i l) (sym (append_assoc ts (e.term ∷ []) ys)) x)
 
 -- an operand in its place
-pub as_sum : {s : Bool} {us vs ws : List Lexeme} {m p : Option PendingShape} {x : PartShape} → SumPart s us m → ProductPart s vs p → IsPost s ws x → IsSum s (us ++ (vs ++ ws)) (joined m (joined p x))
+pub as_sum : {s : Bool} {us vs ws : List Lexeme} {m p : Option OperatorShape} {x : PartShape} → SumPart s us m → ProductPart s vs p → IsPost s ws x → IsSum s (us ++ (vs ++ ws)) (joined m (joined p x))
 as_sum f g h = sum_is f (product_is g h)
 
-pub as_test : {s : Bool} {ts us vs ws : List Lexeme} {t m p : Option PendingShape} {x : PartShape} → TestPart s ts t → SumPart s us m → ProductPart s vs p → IsPost s ws x
+pub as_test : {s : Bool} {ts us vs ws : List Lexeme} {t m p : Option OperatorShape} {x : PartShape} → TestPart s ts t → SumPart s us m → ProductPart s vs p → IsPost s ws x
     → IsTest s (ts ++ (us ++ (vs ++ ws))) (joined t (joined m (joined p x)))
 as_test e f g h = test_is e (as_sum f g h)
 
-pub as_expr : {s : Bool} {zs ts us vs ws : List Lexeme} {ps : List PartShape} {t m p : Option PendingShape} {x : PartShape} → PutPart s zs ps → TestPart s ts t → SumPart s us m → ProductPart s vs p → IsPost s ws x
+pub as_expr : {s : Bool} {zs ts us vs ws : List Lexeme} {ps : List PartShape} {t m p : Option OperatorShape} {x : PartShape} → PutPart s zs ps → TestPart s ts t → SumPart s us m → ProductPart s vs p → IsPost s ws x
     → IsExpr s (zs ++ (ts ++ (us ++ (vs ++ ws)))) (put_all ps (joined t (joined m (joined p x))))
 as_expr d e f g h = put_is d (tested _ _ _ (as_test e f g h))
 

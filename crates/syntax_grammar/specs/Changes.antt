@@ -1,5 +1,5 @@
 -- What a token makes of a mode in which no operand was read.
-use Rattle.std.specs.Prelude.{ℕ, List, [], ◌∷◌, Option, Some, None}
+use Rattle.std.specs.Prelude.{ℕ, Bool, true, false, List, [], ◌∷◌, Option, Some, None}
 use Rattle.asp_model.specs.Names.{Text}
 use Rattle.asp_model.specs.Term.{MethodHead}
 use Rattle.asp_model.specs.Term as term
@@ -33,7 +33,7 @@ operand tokens.Open at = Some (Opens (InParentheses at))
 operand tokens.SquareOpen at = Some (Goes (ObjectBegun (new_object at)))
 operand tokens.Clone at = Some (Goes (Opening ByRound (InWord term.Clone at)))
 operand tokens.Active at = Some (Goes (Opening ByRound (InActive at)))
-operand tokens.Serve at = Some (Goes (ServeOpening at))
+operand tokens.Serve at = Some (Goes (ServeOpening false at))
 operand tokens.Repeat at = Some (Goes (Opening ByRound (InWord term.Repeat at)))
 operand tokens.Print at = Some (Goes (Opening ByRound (InWord term.Print at)))
 operand tokens.If at = Some (Goes (Opening ByRound (InCondition at)))
@@ -43,6 +43,7 @@ operand tokens.Scatter at = Some (Goes (Opening ByRound (InScatter at)))
 operand tokens.Size at = Some (Goes (Opening ByRound (InWord term.Size at)))
 operand tokens.Member at = Some (Goes (Opening ByRound (InMember at)))
 operand tokens.WaitAll at = Some (Goes (Opening ByRound (InWord term.WaitAll at)))
+operand tokens.Pending at = Some (Goes (ServeOpening true at))
 operand token at = None
 
 -- a token that begins a sequence's term
@@ -83,15 +84,15 @@ abbrev pub scatter_named : ℕ → Marked → Token → ℕ → Option ChangeSha
 scatter_named scatter_at t (tokens.Name label) at = Some (Goes (Opening ByComma (InArguments scatter_at t at label)))
 scatter_named scatter_at t token at = None
 
-abbrev pub serve_opened : ℕ → Token → Option ChangeShape
-serve_opened at tokens.Open = Some (Goes (ServeBegun (new_labels at)))
-serve_opened at token = None
+abbrev pub serve_opened : Bool → ℕ → Token → Option ChangeShape
+serve_opened polls at tokens.Open = Some (Goes (ServeBegun (new_labels polls at)))
+serve_opened polls at token = None
 
 abbrev pub label_named : LabelsShape → Token → ℕ → Option ChangeShape
 label_named x (tokens.Name label) at = Some (Goes (LabelNamed (with_label x at label)))
 label_named x token at = None
 
--- the first token in a `serve`
+-- the first token in a `serve` or a `pending`
 abbrev pub serve_begun : LabelsShape → Token → ℕ → Option ChangeShape
 serve_begun x tokens.Close at = Some (Goes (Have (Plain (served x))))
 serve_begun x token at = label_named x token at

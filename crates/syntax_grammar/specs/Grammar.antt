@@ -9,7 +9,7 @@ use Rattle.syntax_tokens.specs.declared.token.Token.{Token}
 use Rattle.syntax_tokens.specs.declared.token.Token.TheVariants as tokens
 use Rattle.syntax_tokens.specs.Tokens.{Lexeme, lexeme}
 use Rattle.syntax_grammar.specs.Nodes.{PartShape, part, number_at, variable_at, echo_at, word_at, active_at, if_at, let_at, group_at, scatter_at, member_at, operated, got, called, put, is_get, terms_at, in_parentheses, made, served, method}
-use Rattle.syntax_grammar.specs.Signs.{IsProductSign, IsSumSign, IsTestSign, IsWord, IsHead, IsService, IsLabelPart}
+use Rattle.syntax_grammar.specs.Signs.{IsProductSign, IsSumSign, IsTestSign, IsWord, IsLabelWord, IsHead, IsService, IsLabelPart}
 
 abbrev pub may_put : Bool → Marked → Bool
 may_put false t = true
@@ -29,8 +29,8 @@ mutual
         → IsPrim s (lexeme token at ∷ lexeme tokens.Open open_at ∷ (ls ++ lexeme tokens.Close close_at ∷ [])) (part at (word_at head at (terms_at n ts)))
     active : (s : Bool) (at open_at close_at : ℕ) (ls us : List Lexeme) (n : ℕ) (ts : List Marked) (ns : List ℕ) (label : Option Text) → IsSeq s ls n ts → IsService us ns label
         → IsPrim s (lexeme tokens.Active at ∷ lexeme tokens.Open open_at ∷ (ls ++ (us ++ lexeme tokens.Close close_at ∷ []))) (part at (active_at at ns label (terms_at n ts)))
-    serve : (s : Bool) (at open_at close_at : ℕ) (ls : List Lexeme) (ns : List ℕ) (labels : List Text) → IsLabelPart ls ns labels
-        → IsPrim s (lexeme tokens.Serve at ∷ lexeme tokens.Open open_at ∷ (ls ++ lexeme tokens.Close close_at ∷ [])) (served (record { at = at; names = ns; labels = labels }))
+    serve : (s : Bool) (token : Token) (polls : Bool) (at open_at close_at : ℕ) (ls : List Lexeme) (ns : List ℕ) (labels : List Text) → IsLabelWord token polls → IsLabelPart ls ns labels
+        → IsPrim s (lexeme token at ∷ lexeme tokens.Open open_at ∷ (ls ++ lexeme tokens.Close close_at ∷ [])) (served (record { at = at; polls = polls; names = ns; labels = labels }))
     choice : (s : Bool) (at open_at close_at then_open then_close else_at else_open else_close : ℕ) (ls us vs : List Lexeme) (n m k : ℕ) (cs ts es : List Marked)
         → IsSeq s ls n cs → IsSeq s us m ts → IsSeq s vs k es
         → IsPrim s (lexeme tokens.If at ∷ lexeme tokens.Open open_at ∷ (ls ++ lexeme tokens.Close close_at ∷ lexeme tokens.BraceOpen then_open

@@ -6,7 +6,7 @@ use Rattle.syntax_tokens.specs.declared.token.Token.TheVariants as tokens
 use Rattle.syntax_tokens.specs.Tokens.{Lexeme}
 use Rattle.syntax_grammar.specs.Nodes.{PartShape, echo_at, if_at, let_at}
 use Rattle.syntax_grammar.specs.Grammar.{may_put}
-use Rattle.syntax_grammar.specs.States.{PendingShape, TargetShape, KindShape, Top, InList, InField, OpenShape, OperandShape, Plain, ModeShape, Begin, Want, Have, Dotted, ListBegun, Opening, LetNaming, ServiceNaming, ServiceNamed, GroupOpening, ScatterNaming, ServeOpening, ServeBegun, LabelNaming, LabelNamed, ElseComing, EchoOpening, EchoText, EchoClosing, ObjectBegun, FieldNaming, MethodNaming, MethodNamed, SelfNaming, HeadNamed, ParameterNaming, StateShape, At, Done, with_product, with_sum, with_test, with_put, fresh, with_field, operand_part, listed, test_in, term_in, first_start}
+use Rattle.syntax_grammar.specs.States.{OperatorShape, TargetShape, KindShape, Top, InList, InField, OpenShape, OperandShape, Plain, ModeShape, Begin, Want, Have, Dotted, ListBegun, Opening, LetNaming, ServiceNaming, ServiceNamed, GroupOpening, ScatterNaming, ServeOpening, ServeBegun, LabelNaming, LabelNamed, ElseComing, EchoOpening, EchoText, EchoClosing, ObjectBegun, FieldNaming, MethodNaming, MethodNamed, SelfNaming, HeadNamed, ParameterNaming, StateShape, At, Done, with_product, with_sum, with_test, with_put, fresh, with_field, operand_part, listed, test_in, term_in, first_start}
 use Rattle.syntax_grammar.specs.Closings.{◌>>=◌, finish, back, concluded, close, close_brace, close_square, comma, bound, ended}
 use Rattle.syntax_grammar.specs.Changes.{ChangeShape, changed, call_begun, operand, begin, opening, dotted, let_named, service_named, service_closed, group_opened, scatter_named, serve_opened, serve_begun, label_named, labels_go_on, else_came, echo_opened, echo_read, echo_closed, field_named, object_begun, method_named, method_opened, self_named, head_goes_on, parameter_named}
 
@@ -32,7 +32,7 @@ abbrev pub plus : term.SignShape → PartShape → OpenShape → List OpenShape 
 plus sign p s outer = Some (At Want (with_sum sign p s) outer)
 
 -- one test in a term, unless parentheses part them
-abbrev pub test_behind : Option PendingShape → term.SignShape → PartShape → OpenShape → List OpenShape → Option StateShape
+abbrev pub test_behind : Option OperatorShape → term.SignShape → PartShape → OpenShape → List OpenShape → Option StateShape
 test_behind (Some a) sign p s outer = None
 test_behind None sign p s outer = Some (At Want (with_test sign p s) outer)
 
@@ -82,7 +82,7 @@ change_of (ServiceNaming active_at t) token at = service_named active_at t token
 change_of (ServiceNamed active_at t label_at label) token at = service_closed active_at t label_at label token
 change_of (GroupOpening group_at) token at = group_opened group_at token
 change_of (ScatterNaming scatter_at t) token at = scatter_named scatter_at t token at
-change_of (ServeOpening serve_at) token at = serve_opened serve_at token
+change_of (ServeOpening polls serve_at) token at = serve_opened polls serve_at token
 change_of (ServeBegun x) token at = serve_begun x token at
 change_of (LabelNaming x) token at = label_named x token at
 change_of (LabelNamed x) token at = labels_go_on x token
@@ -111,7 +111,7 @@ stepped rule (ServiceNaming active_at t) s outer token at = changed (service_nam
 stepped rule (ServiceNamed active_at t label_at label) s outer token at = changed (service_closed active_at t label_at label token) s outer
 stepped rule (GroupOpening group_at) s outer token at = changed (group_opened group_at token) s outer
 stepped rule (ScatterNaming scatter_at t) s outer token at = changed (scatter_named scatter_at t token at) s outer
-stepped rule (ServeOpening serve_at) s outer token at = changed (serve_opened serve_at token) s outer
+stepped rule (ServeOpening polls serve_at) s outer token at = changed (serve_opened polls serve_at token) s outer
 stepped rule (ServeBegun x) s outer token at = changed (serve_begun x token at) s outer
 stepped rule (LabelNaming x) s outer token at = changed (label_named x token at) s outer
 stepped rule (LabelNamed x) s outer token at = changed (labels_go_on x token) s outer

@@ -100,14 +100,20 @@ pub record ObjectShape : Type 0 where
 abbrev pub made : ObjectShape → PartShape
 made x = part x.at (make_shape (named_mark x.at x.names) x.fields x.methods)
 
--- a `serve` that was begun: its place, the places of its labels, and the labels
+-- a `serve` or a `pending` with these labels
+abbrev pub labelled : Bool → List Text → Head
+labelled false labels = term.Serve labels
+labelled true labels = term.Pending labels
+
+-- one that was begun: its place, whether it is a `pending`, the places of its labels, and the labels
 pub record LabelsShape : Type 0 where
   pub at : ℕ
+  pub polls : Bool
   pub names : List ℕ
   pub labels : List Text
 
 abbrev pub served : LabelsShape → PartShape
-served x = part x.at (marked (term.Serve x.labels) (named_mark x.at x.names) no_marked)
+served x = part x.at (marked (labelled x.polls x.labels) (named_mark x.at x.names) no_marked)
 
 abbrev pub method : MethodHead → Marked → MarkedMethod
 method head body = record { head = head; body = body }

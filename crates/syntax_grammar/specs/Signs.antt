@@ -1,5 +1,5 @@
 -- The parts of the grammar that hold no term: signs, words, and names.
-use Rattle.std.specs.Prelude.{ℕ, List, [], ◌∷◌, ◌++◌, Option, Some, None}
+use Rattle.std.specs.Prelude.{ℕ, Bool, true, false, List, [], ◌∷◌, ◌++◌, Option, Some, None}
 use Rattle.asp_model.specs.Names.{Text}
 use Rattle.asp_model.specs.Term.{Head, SignShape, MethodHead}
 use Rattle.asp_model.specs.Term as term
@@ -28,6 +28,11 @@ pub data IsWord : Token → Head → Type 0 where
   prints : IsWord tokens.Print term.Print
   sizes : IsWord tokens.Size term.Size
   awaits : IsWord tokens.WaitAll term.WaitAll
+
+-- a word before labels in parentheses, and whether it polls
+pub data IsLabelWord : Token → Bool → Type 0 where
+  is_serve : IsLabelWord tokens.Serve false
+  is_pending : IsLabelWord tokens.Pending true
 
 -- NAME "(" NAME { "," NAME }, with the places of the names
 pub data IsHead : List Lexeme → List ℕ → MethodHead → Type 0 where

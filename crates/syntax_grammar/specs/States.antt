@@ -6,7 +6,7 @@ use Rattle.asp_model.specs.Marked.{Marked}
 use Rattle.syntax_grammar.specs.Nodes.{PartShape, part, operated, got, called, put, group_at, terms_at, ObjectShape, LabelsShape, method}
 
 -- an operator whose right side has to come, and what stands on its left
-pub record PendingShape : Type 0 where
+pub record OperatorShape : Type 0 where
   pub sign : SignShape
   pub left : PartShape
 
@@ -41,9 +41,9 @@ pub record OpenShape : Type 0 where
   pub start : ℕ
   pub before : List Marked
   pub puts : List PartShape
-  pub test : Option PendingShape
-  pub sum : Option PendingShape
-  pub product : Option PendingShape
+  pub test : Option OperatorShape
+  pub sum : Option OperatorShape
+  pub product : Option OperatorShape
 
 -- an operand; a bracket behind a field access makes it a call
 pub data OperandShape : Type 0 where
@@ -70,7 +70,7 @@ pub data ModeShape : Type 0 where
   ServiceNamed : (at : ℕ) (object : Marked) (label_at : ℕ) (label : Text) → ModeShape
   GroupOpening : (at : ℕ) → ModeShape
   ScatterNaming : (at : ℕ) (group : Marked) → ModeShape
-  ServeOpening : (at : ℕ) → ModeShape
+  ServeOpening : (polls : Bool) (at : ℕ) → ModeShape
   ServeBegun : (labels : LabelsShape) → ModeShape
   LabelNaming : (labels : LabelsShape) → ModeShape
   LabelNamed : (labels : LabelsShape) → ModeShape
@@ -90,15 +90,15 @@ pub data StateShape : Type 0 where
   At : (mode : ModeShape) (inner : OpenShape) (outer : List OpenShape) → StateShape
   Done : (term : Marked) → StateShape
 
-abbrev pub pending : SignShape → PartShape → PendingShape
-pending sign left = record { sign = sign; left = left }
+abbrev pub operator : SignShape → PartShape → OperatorShape
+operator sign left = record { sign = sign; left = left }
 
 -- a field's term is no sequence
 abbrev pub has_terms : KindShape → Bool
 has_terms (InField object label) = false
 has_terms kind = true
 
-abbrev pub opened_with : KindShape → ℕ → List Marked → List PartShape → Option PendingShape → Option PendingShape → Option PendingShape → OpenShape
+abbrev pub opened_with : KindShape → ℕ → List Marked → List PartShape → Option OperatorShape → Option OperatorShape → Option OperatorShape → OpenShape
 opened_with kind start before puts test sum product =
     record { kind = kind; start = start; before = before; puts = puts; test = test; sum = sum; product = product }
 
@@ -118,12 +118,12 @@ with_field x label t = record x { fields = x.fields ++ (label, t) ∷ [] }
 abbrev pub with_method : ObjectShape → MethodHead → Marked → ObjectShape
 with_method x head t = record x { methods = x.methods ++ method head t ∷ [] }
 
--- a `serve` of which no label was read
-abbrev pub new_labels : ℕ → LabelsShape
-new_labels at = record { at = at; names = []; labels = [] }
+-- a `serve` or a `pending` of which no label was read
+abbrev pub new_labels : Bool → ℕ → LabelsShape
+new_labels polls at = record { at = at; polls = polls; names = []; labels = [] }
 
 abbrev pub with_label : LabelsShape → ℕ → Text → LabelsShape
-with_label x at label = record { at = x.at; names = x.names ++ at ∷ []; labels = x.labels ++ label ∷ [] }
+with_label x at label = record x { names = x.names ++ at ∷ []; labels = x.labels ++ label ∷ [] }
 
 abbrev pub operand_part : OperandShape → PartShape
 operand_part (Plain p) = p
@@ -135,7 +135,7 @@ listed (OfCall receiver at label) ts = called receiver at label ts
 listed (OfGroup at) ts = part at (group_at at ts)
 
 -- an operator with its right side
-abbrev pub joined : Option PendingShape → PartShape → PartShape
+abbrev pub joined : Option OperatorShape → PartShape → PartShape
 joined None p = p
 joined (Some a) p = operated a.sign a.left p
 
@@ -165,13 +165,13 @@ without_puts s = record s { puts = []; test = None; sum = None; product = None }
 
 -- once a sign stands behind an operand
 abbrev pub with_product : SignShape → PartShape → OpenShape → OpenShape
-with_product sign p s = record s { product = Some (pending sign (joined s.product p)) }
+with_product sign p s = record s { product = Some (operator sign (joined s.product p)) }
 
 abbrev pub with_sum : SignShape → PartShape → OpenShape → OpenShape
-with_sum sign p s = record s { sum = Some (pending sign (sum_in s p)); product = None }
+with_sum sign p s = record s { sum = Some (operator sign (sum_in s p)); product = None }
 
 abbrev pub with_test : SignShape → PartShape → OpenShape → OpenShape
-with_test sign p s = record s { test = Some (pending sign (sum_in s p)); sum = None; product = None }
+with_test sign p s = record s { test = Some (operator sign (sum_in s p)); sum = None; product = None }
 
 -- once a `:=` stands behind a field access
 abbrev pub with_put : PartShape → OpenShape → OpenShape

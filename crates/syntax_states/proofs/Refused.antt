@@ -73,9 +73,9 @@ pub scatter_other : (at : ℕ) (u : Marked) (t : Token) (name_at : ℕ) → ((w 
 scatter_other at u (tokens.Name w) name_at h = absurd (h w refl)
 scatter_other at u _ name_at h = refl
 
-pub serve_other : (at : ℕ) (t : Token) → t ≢ tokens.Open → serve_opened at t ≡ None
-serve_other at tokens.Open h = absurd (h refl)
-serve_other at _ h = refl
+pub serve_other : (polls : Bool) (at : ℕ) (t : Token) → t ≢ tokens.Open → serve_opened polls at t ≡ None
+serve_other polls at tokens.Open h = absurd (h refl)
+serve_other polls at _ h = refl
 
 pub label_other : (x : LabelsShape) (t : Token) (at : ℕ) → ((w : Text) → t ≢ tokens.Name w) → label_named x t at ≡ None
 label_other x (tokens.Name w) at h = absurd (h w refl)

@@ -36,7 +36,10 @@ pub fn change(alloc: Global, mode: Mode, token: Token, at: usize) -> Result<Mode
         Mode::ServiceNamed(service) => service_closed(alloc, service, token),
         Mode::GroupOpening(group_at) => group_opened(group_at, token),
         Mode::ScatterNaming(scatter_at, group) => scatter_named(scatter_at, group, token, at),
-        Mode::ServeOpening(serve_at) => serve_opened(alloc, serve_at, token),
+        Mode::ServeOpening {
+            polls,
+            at: serve_at,
+        } => serve_opened(alloc, polls, serve_at, token),
         Mode::ServeBegun(labels) => serve_begun(alloc, labels, token, at),
         Mode::LabelNaming(labels) => label_named(labels, token, at),
         Mode::LabelNamed(labels) => labels_go_on(alloc, labels, token),
@@ -197,18 +200,18 @@ fn scatter_named(at: usize, group: Box<Term>, token: Token, label_at: usize) -> 
     }
 }
 
-// The bracket behind a `serve`.
+// The bracket behind a `serve` or a `pending`.
 #[tactic(auto, using(crate::proofs::Refused::serve_other))]
-fn serve_opened(alloc: Global, serve_at: usize, token: Token) -> Result<Mode, Stop>
-    ensures { Becomes result (opened_change serve_at token) }
+fn serve_opened(alloc: Global, polls: bool, serve_at: usize, token: Token) -> Result<Mode, Stop>
+    ensures { Becomes result (opened_change polls serve_at token) }
 {
     match token {
-        Token::Open => Ok(Mode::ServeBegun(new_labels(alloc, serve_at))),
+        Token::Open => Ok(Mode::ServeBegun(new_labels(alloc, polls, serve_at))),
         other => refused(other),
     }
 }
 
-// The first token in a `serve`.
+// The first token in a `serve` or a `pending`.
 #[tactic(auto, using(crate::proofs::Refused::serve_begun_other))]
 fn serve_begun(alloc: Global, labels: Labels, token: Token, at: usize) -> Result<Mode, Stop>
     ensures { Becomes result (begun_change (labels_shape labels) token at) }
@@ -219,7 +222,7 @@ fn serve_begun(alloc: Global, labels: Labels, token: Token, at: usize) -> Result
     }
 }
 
-// A label of a `serve`.
+// A label of a `serve` or a `pending`.
 #[tactic(auto, using(crate::proofs::Refused::label_other))]
 fn label_named(mut labels: Labels, token: Token, at: usize) -> Result<Mode, Stop>
     ensures { Becomes result (label_change (labels_shape labels) token at) }
@@ -233,7 +236,7 @@ fn label_named(mut labels: Labels, token: Token, at: usize) -> Result<Mode, Stop
     }
 }
 
-// A comma or the bracket behind a label of a `serve`.
+// A comma or the bracket behind a label of a `serve` or a `pending`.
 #[tactic(auto, using(crate::proofs::Refused::labels_other))]
 fn labels_go_on(alloc: Global, labels: Labels, token: Token) -> Result<Mode, Stop>
     ensures { Becomes result (labels_change (labels_shape labels) token) }

@@ -93,7 +93,8 @@ fn operand_mode(alloc: Global, token: Token, at: usize) -> Result<Mode, Stop>
         Token::SquareOpen => Ok(Mode::ObjectBegun(new_object(alloc, at))),
         Token::Clone => Ok(round(Kind::InWord(Wrap::Clone, at))),
         Token::Active => Ok(round(Kind::InActive(at))),
-        Token::Serve => Ok(Mode::ServeOpening(at)),
+        Token::Serve => Ok(Mode::ServeOpening { polls: false, at }),
+        Token::Pending => Ok(Mode::ServeOpening { polls: true, at }),
         Token::Repeat => Ok(round(Kind::InWord(Wrap::Repeat, at))),
         Token::Print => Ok(round(Kind::InWord(Wrap::Print, at))),
         Token::If => Ok(round(Kind::InCondition(at))),
@@ -124,7 +125,6 @@ fn operand_mode(alloc: Global, token: Token, at: usize) -> Result<Mode, Stop>
         | Token::Let
         | Token::In
         | Token::Else
-        | Token::Pending
         | Token::End
         | Token::BadByte
         | Token::BadNumber => refused(token),

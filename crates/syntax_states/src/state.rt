@@ -52,7 +52,8 @@ pub enum Mode {
     GroupOpening(usize),
     /// The label behind the first group of a `scatter` has to come.
     ScatterNaming(usize, Box<Term>),
-    ServeOpening(usize),
+    /// The bracket behind a `serve` or a `pending` has to come.
+    ServeOpening { polls: bool, at: usize },
     ServeBegun(Labels),
     LabelNaming(Labels),
     LabelNamed(Labels),

@@ -5,7 +5,7 @@ use Rattle.asp_model.specs.Term as term
 use Rattle.asp_model.specs.Marked.{marked, one_marked}
 use Rattle.asp_model.specs.Shapes.{marked_of, mark_shape, method_of, field_of, sign_shape}
 use Rattle.syntax_terms.specs.declared.open.Part.{Part}
-use Rattle.syntax_terms.specs.declared.open.Pending.{Pending}
+use Rattle.syntax_terms.specs.declared.open.Operator.{Operator}
 use Rattle.syntax_terms.specs.declared.open.Access.{Access}
 use Rattle.syntax_terms.specs.declared.open.Field.{Field}
 use Rattle.syntax_terms.specs.declared.open.Target.{Target}
@@ -20,18 +20,18 @@ use Rattle.syntax_terms.specs.declared.open.Kind.{Kind}
 use Rattle.syntax_terms.specs.declared.open.Kind.TheVariants as kind
 use Rattle.syntax_terms.specs.declared.open.Open.{Open}
 use Rattle.syntax_grammar.specs.Nodes.{PartShape, part, got, ObjectShape, LabelsShape}
-use Rattle.syntax_grammar.specs.States.{PendingShape, TargetShape, KindShape, OpenShape, pending, listed}
+use Rattle.syntax_grammar.specs.States.{OperatorShape, TargetShape, KindShape, OpenShape, operator, listed}
 use Rattle.syntax_grammar.specs.States as states
 
 abbrev pub part_shape : Part → PartShape
 part_shape p = record { start = p.start; term = marked_of p.term.value }
 
-abbrev pub pending_shape : Pending → PendingShape
-pending_shape p = pending (sign_shape p.sign) (part_shape p.left)
+abbrev pub operator_shape : Operator → OperatorShape
+operator_shape p = operator (sign_shape p.sign) (part_shape p.left)
 
-abbrev pub waiting_shape : Option Pending → Option PendingShape
+abbrev pub waiting_shape : Option Operator → Option OperatorShape
 waiting_shape None = None
-waiting_shape (Some p) = Some (pending_shape p)
+waiting_shape (Some p) = Some (operator_shape p)
 
 abbrev pub access_shape : Access → PartShape
 access_shape a = part a.start (marked (term.Get a.label.text) (mark_shape a.mark) (one_marked (marked_of a.receiver.value)))
@@ -52,7 +52,7 @@ abbrev pub object_shape : Object → ObjectShape
 object_shape x = record { at = x.at; names = x.names.items; fields = map field_of x.fields.items; methods = map method_of x.methods.items }
 
 abbrev pub labels_shape : Labels → LabelsShape
-labels_shape x = record { at = x.at; names = x.names.items; labels = map (λ l. l.text) x.labels.items }
+labels_shape x = record { at = x.at; polls = x.polls; names = x.names.items; labels = map (λ l. l.text) x.labels.items }
 
 abbrev pub head_shape : declared_head.Head → MethodHead
 head_shape h = record { label = h.label.text; slf = h.slf; parameters = h.parameters.items }

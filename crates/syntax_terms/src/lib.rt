@@ -18,7 +18,7 @@ pub use object::{
     with_parameter,
 };
 pub use open::{
-    Access, Binding, Choice, Field, Head, Kind, Labels, Listing, Object, Open, Part, Pending,
+    Access, Binding, Choice, Field, Head, Kind, Labels, Listing, Object, Open, Operator, Part,
     Scatter, Service, Target, Wrap,
 };
 pub use steps::{mark_at, sequence};

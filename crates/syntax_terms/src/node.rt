@@ -102,18 +102,27 @@ pub fn active_with(alloc: Global, service: Service) -> Result<Part, AllocError>
     }
 }
 
-/// A `serve` with the labels that were read.
+/// A `serve` or a `pending` with the labels that were read.
 pub fn served(alloc: Global, labels: Labels) -> Result<Part, AllocError>
     ensures served { IfOk result (λ p. part_shape p ≡ served_part (labels_shape labels)) }
 {
-    let Labels { at, names, labels } = labels;
+    let Labels {
+        at,
+        polls,
+        names,
+        labels,
+    } = labels;
     let mark = Mark {
         at,
         parentheses: 0,
         left: 0,
         names,
     };
-    part_of(alloc, at, Term::Serve(labels, mark))
+    if polls {
+        part_of(alloc, at, Term::Pending(labels, mark))
+    } else {
+        part_of(alloc, at, Term::Serve(labels, mark))
+    }
 }
 
 /// An `if` at its place.
@@ -341,5 +350,6 @@ pub fn enclose(term: &mut Term)
         Term::Size(_, mark) => once_more(mark),
         Term::Member(_, _, mark) => once_more(mark),
         Term::WaitAll(_, mark) => once_more(mark),
+        Term::Pending(_, mark) => once_more(mark),
     }
 }

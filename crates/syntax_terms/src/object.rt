@@ -77,12 +77,13 @@ pub fn with_parameter(head: &mut Head, name: Word) -> Result<(), AllocError>
     Ok(())
 }
 
-/// A `serve` of which no label was read.
-pub fn new_labels(alloc: Global, at: usize) -> Labels
-    ensures { labels_shape result ≡ labels_at at }
+/// A `serve` or a `pending` of which no label was read.
+pub fn new_labels(alloc: Global, polls: bool, at: usize) -> Labels
+    ensures { labels_shape result ≡ labels_at polls at }
 {
     Labels {
         at,
+        polls,
         names: Vec::new(alloc),
         labels: Vec::new(alloc),
     }

@@ -11,7 +11,7 @@ pub struct Part {
 
 /// An operator whose right side has to come, and what stands on its left.
 #[derive(Drop)]
-pub struct Pending {
+pub struct Operator {
     pub sign: Sign,
     pub left: Part,
 }
@@ -65,10 +65,13 @@ pub struct Object {
     pub methods: Vec<Method>,
 }
 
-/// A `serve` that was begun: its place, and the labels that were read, with their places.
+/// A `serve` or a `pending` that was begun: its place, and the labels that were read, with their
+/// places.
 #[derive(Drop)]
 pub struct Labels {
     pub at: usize,
+    /// They are those of a `pending`.
+    pub polls: bool,
     pub names: Vec<usize>,
     pub labels: Vec<Label>,
 }
@@ -148,7 +151,7 @@ pub struct Open {
     pub before: Vec<Term>,
     /// The left sides of the `:=` of that term, the innermost last.
     pub puts: Vec<Access>,
-    pub test: Option<Pending>,
-    pub sum: Option<Pending>,
-    pub product: Option<Pending>,
+    pub test: Option<Operator>,
+    pub sum: Option<Operator>,
+    pub product: Option<Operator>,
 }

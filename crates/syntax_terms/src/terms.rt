@@ -2,12 +2,12 @@
 
 ghost use Rattle.std.specs.Prelude.{◌≡◌, ◌∷◌, [], ◌++◌, map, IfOk, OnOk, Some, None, true};
 ghost use Rattle.asp_model.specs.Shapes.{marked_of, sign_shape};
-ghost use Rattle.syntax_grammar.specs.States.{joined as joined_part, put_all as all_puts, sum_in as sum_of, test_in as test_of, term_in as term_of, value as value_part, fresh as fresh_open, first_start as first_of, pending, without_sum, without_test, without_puts, with_product, with_sum, with_test};
-ghost use Rattle.syntax_terms.specs.Shapes.{part_shape, pending_shape, waiting_shape, access_shape, put_stack, kind_shape, open_shape};
+ghost use Rattle.syntax_grammar.specs.States.{joined as joined_part, put_all as all_puts, sum_in as sum_of, test_in as test_of, term_in as term_of, value as value_part, fresh as fresh_open, first_start as first_of, operator, without_sum, without_test, without_puts, with_product, with_sum, with_test};
+ghost use Rattle.syntax_terms.specs.Shapes.{part_shape, operator_shape, waiting_shape, access_shape, put_stack, kind_shape, open_shape};
 ghost use Rattle.syntax_terms.specs.Answers.{Puts};
 
 use crate::node::{access_of, operated, put};
-use crate::open::{Access, Kind, Open, Part, Pending};
+use crate::open::{Access, Kind, Open, Operator, Part};
 use crate::steps::sequence;
 use crate::stop::{Stop, stopped};
 use asp_model::{Sign, Term};
@@ -30,14 +30,14 @@ pub fn fresh(alloc: Global, kind: Kind) -> Open
 }
 
 // An operator that waits gets its right side, and waits no longer.
-fn joined(alloc: Global, slot: &mut Option<Pending>, part: Part) -> Result<Part, AllocError>
+fn joined(alloc: Global, slot: &mut Option<Operator>, part: Part) -> Result<Part, AllocError>
     ensures part { let whole = joined_part (waiting_shape slot.old) (part_shape part) in
         IfOk result (λ p. part_shape p ≡ whole) }
     ensures none { slot.new ≡ None }
 {
     match slot.take() {
         None => Ok(part),
-        Some(pending) => operated(alloc, pending.sign, pending.left, part),
+        Some(operator) => operated(alloc, operator.sign, operator.left, part),
     }
 }
 
@@ -105,10 +105,10 @@ pub fn value_of(alloc: Global, inner: &mut Open, part: Part) -> Result<Part, All
 }
 
 // An operator waits for its right side.
-fn waits(slot: &mut Option<Pending>, sign: Sign, left: Part)
-    ensures { waiting_shape slot.new ≡ Some (pending (sign_shape sign) (part_shape left)) }
+fn waits(slot: &mut Option<Operator>, sign: Sign, left: Part)
+    ensures { waiting_shape slot.new ≡ Some (operator (sign_shape sign) (part_shape left)) }
 {
-    drop(slot.replace(Pending { sign, left }))
+    drop(slot.replace(Operator { sign, left }))
 }
 
 /// `*`, `/` or `%` behind an operand.
