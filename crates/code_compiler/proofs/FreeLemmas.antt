@@ -7,7 +7,7 @@ use Rattle.asp_model.specs.declared.term.Sign.{Sign}
 use Rattle.asp_model.specs.declared.term.Mark.{Mark}
 use Rattle.asp_model.specs.declared.term.Term.{Term}
 use Rattle.asp_model.specs.declared.term.Method.{Method}
-use Rattle.asp_model.specs.declared.term.Term.TheVariants.{Make, Loc, Hole, Var, Number, Get, Put, Call, Clone, Active, Serve, Let, Steps, If, Repeat, Operate, Print, Echo, Group, Scatter, Size, Member, WaitAll}
+use Rattle.asp_model.specs.declared.term.Term.TheVariants.{Make, Loc, Hole, Var, Number, Get, Put, Call, Clone, Active, Serve, Let, Steps, If, Repeat, Operate, Print, Echo, Group, Scatter, Size, Member, WaitAll, Pending}
 use Rattle.asp_model.specs.Names.{Text}
 use Rattle.asp_model.specs.Term.{trees}
 use Rattle.asp_model.specs.Shapes.{tree_of}
@@ -16,7 +16,7 @@ use Rattle.code_compiler.specs.Slots.{bound_in}
 use Rattle.code_table.specs.Parts.{body_tree, field_label, field_tree, method_head}
 use Rattle.code_compiler.specs.Free.{with_free, free_in, free_below}
 use Rattle.code_compiler.specs.Parts.{terms_below, fields_below, bodies_below}
-use Rattle.code_table.proofs.TermTrees.{make_is, loc_is, hole_is, var_is, number_is, get_is, put_is, call_is, clone_is, active_is, serve_is, let_is, steps_is, if_is, repeat_is, operate_is, print_is, echo_is, group_is, scatter_is, size_is, member_is, waitall_is}
+use Rattle.code_table.proofs.TermTrees.{make_is, loc_is, hole_is, var_is, number_is, get_is, put_is, call_is, clone_is, active_is, serve_is, let_is, steps_is, if_is, repeat_is, operate_is, print_is, echo_is, group_is, scatter_is, size_is, member_is, waitall_is, pending_is}
 
 pub loc_free : (b acc : List Text) (n : ℕ) (m : Mark) → free_in b acc (tree_of (Loc n m)) ≡ acc
 loc_free b acc n m = ap (free_in b acc) (loc_is n m)
@@ -84,6 +84,9 @@ member_free b acc a b2 m = ap (free_in b acc) (member_is a b2 m)
 pub waitall_free : (b acc : List Text) (a : Box Term) (m : Mark) → free_in b acc (tree_of (WaitAll a m)) ≡ free_in b acc (tree_of a.value)
 waitall_free b acc a m = ap (free_in b acc) (waitall_is a m)
 
+pub pending_free : (b acc : List Text) (ls : Vec Label) (m : Mark) → free_in b acc (tree_of (Pending ls m)) ≡ acc
+pending_free b acc ls m = ap (free_in b acc) (pending_is ls m)
+
 object_free : (b acc : List Text) (fs : List (Label × Term)) (ms : List Method)
     → free_below b acc (map (λ (l : Text). let no_name : List Text = [] in no_name) (map field_label fs) ++ map head_names (map method_head ms)) (trees (map field_tree fs ++ map body_tree ms))
     ≡ free_below b (free_below b acc [] (fields_below fs)) (map bound_in ms) (bodies_below ms)
@@ -100,4 +103,4 @@ pub make_free : (b acc : List Text) (fs : Vec (Label × Term)) (ms : Vec Method)
     → free_in b acc (tree_of (Make fs ms m)) ≡ free_below b (free_below b acc [] (fields_below fs.items)) (map bound_in ms.items) (bodies_below ms.items)
 make_free b acc fs ms m = ap (free_in b acc) (make_is fs ms m) ∙ object_free b acc fs.items ms.items
 
-pub ruleset free_laws = (make_free, loc_free, hole_free, var_free, number_free, get_free, put_free, call_free, clone_free, active_free, serve_free, let_free, steps_free, if_free, repeat_free, operate_free, print_free, echo_free, group_free, scatter_free, size_free, member_free, waitall_free)
+pub ruleset free_laws = (make_free, loc_free, hole_free, var_free, number_free, get_free, put_free, call_free, clone_free, active_free, serve_free, let_free, steps_free, if_free, repeat_free, operate_free, print_free, echo_free, group_free, scatter_free, size_free, member_free, waitall_free, pending_free)

@@ -55,6 +55,7 @@ pub fn note_term(
         | Term::Hole(_)
         | Term::Number(_, _)
         | Term::Serve(_, _)
+        | Term::Pending(_, _)
         | Term::Echo(_, _) => Ok(()),
         Term::Var(name, _) => note_free(alloc, bound, found, name),
         Term::Make {

@@ -99,6 +99,7 @@ pub fn kind_of(alloc: Global, term: &Term) -> Result<Kind, AllocError>
         Term::Size(_, _) => Ok(Kind::Size),
         Term::Member(_, _, _) => Ok(Kind::Member),
         Term::WaitAll(_, _) => Ok(Kind::WaitAll),
+        Term::Pending(labels, _) => Ok(Kind::Pending(copy_labels(alloc, labels)?)),
         Term::Var(_, _) | Term::Make { .. } | Term::Let(_, _, _, _) => unreachable!(),
         Term::Loc(_, _) | Term::Hole(_) => unreachable!(),
     }

@@ -115,7 +115,7 @@ fn compile_below(
         (AddsTerms scope.now uses.old uses.new nodes.old nodes.new children.old children.new ts) }
 {
     match term {
-        Term::Number(_, _) | Term::Serve(_, _) | Term::Echo(_, _) => Ok(()),
+        Term::Number(_, _) | Term::Serve(_, _) | Term::Pending(_, _) | Term::Echo(_, _) => Ok(()),
         Term::Get(a, _, _)
         | Term::Clone(a, _)
         | Term::Active(a, _, _)

@@ -2,7 +2,6 @@
 pub mod SeenLemmas
 pub mod DecodeLemmas
 pub mod BehindLemmas
-pub mod CellLemmas
 pub mod WalkLemmas
 pub mod TermLemmas
 pub mod GroupLemmas

@@ -3,10 +3,6 @@ use Rattle.std.specs.Prelude.{◌≡◌, ◌<◌, ◌≤◌, ℕ, zero, suc, Opt
 use Rattle.asp_model.specs.Names.{Text}
 use Rattle.asp_model.specs.Term.{Hole, Var, Make, Steps, Tree, Trees, node, none, more, trees, leaf, loc, Environment}
 use Rattle.asp_model.specs.Split.{plugged}
-use Rattle.asp_model.specs.declared.store.Object.{Object}
-use Rattle.asp_model.specs.Store as store
-use Rattle.asp_model.specs.Store.{CellShape}
-use Rattle.asp_model.specs.Shapes.{field_shape, stored_method}
 use Rattle.code_table.specs.declared.code.Child.{Child}
 use Rattle.code_table.specs.declared.code.Child.TheVariants as child
 use Rattle.code_table.specs.declared.code.Kind.{Kind}
@@ -69,12 +65,6 @@ rolled_tree ts p us = node Steps (trees (us ++ shown ts p ∷ []))
 -- what a `repeat` with these terms below it has become, over its first terms
 abbrev pub IsRolled : List Tree → Pieces → Piece → List Tree → Tree → Type 0
 IsRolled ts below p us t = length us ≤ 2 → t ≡ node Steps (trees_then us (rest (length us) (more (shown ts (nth 0 below)) (more (shown ts p) none))))
-
--- Cells
-
--- an object of a store
-abbrev pub plain_object : Object → CellShape
-plain_object o = store.Object (map field_shape o.fields.items) (map stored_method o.methods.items)
 
 -- Environments
 

@@ -21,7 +21,7 @@ pub fn built(alloc: Global, kind: &Kind, terms: Vec<Term>) -> Result<Term, Decod
         (λ r. tree_of r ≡ node (kind_head kind.now) (trees (map tree_of terms.items))) }
 {
     match kind {
-        Kind::Number(_) | Kind::Serve(_) | Kind::Echo(_) => {
+        Kind::Number(_) | Kind::Serve(_) | Kind::Pending(_) | Kind::Echo(_) => {
             if !terms.is_empty() {
                 return Err(DecodeError::Unfit);
             }
@@ -53,6 +53,10 @@ fn over_none(alloc: Global, kind: &Kind) -> Result<Term, DecodeError>
         Kind::Serve(labels) => {
             let labels = copy_labels(alloc, labels)?;
             Ok(Term::Serve(labels, Mark::blank(alloc)))
+        }
+        Kind::Pending(labels) => {
+            let labels = copy_labels(alloc, labels)?;
+            Ok(Term::Pending(labels, Mark::blank(alloc)))
         }
         Kind::Echo(text) => {
             let text = text.copy(alloc)?;

@@ -136,7 +136,7 @@ fn method_of<'a>(
 
 /// A method over what it captured.
 #[cycle(decoder)]
-pub fn method_over<'a>(
+fn method_over<'a>(
     alloc: Global,
     code: &'a Code,
     captured: &[Seen<'a>],

@@ -4,7 +4,6 @@
 #![tactic(auto)]
 
 mod built;
-mod cells;
 mod copies;
 mod cursor;
 mod decoder;
@@ -17,7 +16,6 @@ mod shown;
 mod split;
 mod terms;
 
-pub use cells::cell_of;
 pub use cursor::{Cursor, all_but, behind, below, innermost, last_of, up_to, waiting};
 pub use errors::DecodeError;
 pub use focus::taken_by;

@@ -8,13 +8,13 @@ use Rattle.asp_model.specs.declared.term.Mark.{Mark}
 use Rattle.asp_model.specs.declared.term.Term.{Term}
 use Rattle.asp_model.specs.declared.term.Method.{Method}
 use Rattle.asp_model.specs.declared.term.Term.TheOpen as layer
-use Rattle.asp_model.specs.declared.term.Term.TheVariants.{Make, Loc, Hole, Var, Number, Get, Put, Call, Clone, Active, Serve, Let, Steps, If, Repeat, Operate, Print, Echo, Group, Scatter, Size, Member, WaitAll, rolls-Make, rolls-Loc, rolls-Hole, rolls-Var, rolls-Number, rolls-Get, rolls-Put, rolls-Call, rolls-Clone, rolls-Active, rolls-Serve, rolls-Let, rolls-Steps, rolls-If, rolls-Repeat, rolls-Operate, rolls-Print, rolls-Echo, rolls-Group, rolls-Scatter, rolls-Size, rolls-Member, rolls-WaitAll}
+use Rattle.asp_model.specs.declared.term.Term.TheVariants.{Make, Loc, Hole, Var, Number, Get, Put, Call, Clone, Active, Serve, Let, Steps, If, Repeat, Operate, Print, Echo, Group, Scatter, Size, Member, WaitAll, Pending, rolls-Make, rolls-Loc, rolls-Hole, rolls-Var, rolls-Number, rolls-Get, rolls-Put, rolls-Call, rolls-Clone, rolls-Active, rolls-Serve, rolls-Let, rolls-Steps, rolls-If, rolls-Repeat, rolls-Operate, rolls-Print, rolls-Echo, rolls-Group, rolls-Scatter, rolls-Size, rolls-Member, rolls-WaitAll, rolls-Pending}
 use Rattle.asp_model.specs.declared.term.Term.TheFolds.{fold-roll-Term, fold-roll-Method}
 use Rattle.asp_model.specs.Names.{Text}
 use Rattle.asp_model.specs.Term as term
 use Rattle.asp_model.specs.Term.{Trees, node, none, more, trees, loc, leaf, one, two}
 use Rattle.asp_model.specs.Marked.{Marked, all_marked, plain, plain_below}
-use Rattle.asp_model.specs.Shapes.{MarkedMethod, term_step, method_step, marked_of, method_of, tree_of, sign_shape, field_of, make_shape, mark_shape, stored_method}
+use Rattle.asp_model.specs.Shapes.{MarkedMethod, term_step, method_step, marked_of, method_of, tree_of, sign_shape, field_of, make_shape, mark_shape}
 use Rattle.code_table.specs.Tables.{text_of}
 use Rattle.code_table.specs.Parts.{field_label, field_tree, method_head, body_tree}
 
@@ -88,6 +88,9 @@ member_is a b m = ap tree_of (sym (rolls-Member a b m)) ∙ ap plain (fold-roll-
 pub waitall_is : (a : Box Term) (m : Mark) → tree_of (WaitAll a m) ≡ one term.WaitAll (tree_of a.value)
 waitall_is a m = ap tree_of (sym (rolls-WaitAll a m)) ∙ ap plain (fold-roll-Term Marked MarkedMethod term_step method_step (layer.WaitAll a m))
 
+pub pending_is : (ls : Vec Label) (m : Mark) → tree_of (Pending ls m) ≡ leaf (term.Pending (map text_of ls.items))
+pending_is ls m = ap tree_of (sym (rolls-Pending ls m)) ∙ ap plain (fold-roll-Term Marked MarkedMethod term_step method_step (layer.Pending ls m))
+
 -- Objects
 
 map_map : {A B C : Type 0} (f : A → B) (g : B → C) (h : A → C) → ((x : A) → g (f x) ≡ h x) → (xs : List A) → map g (map f xs) ≡ map h xs
@@ -120,14 +123,10 @@ make_is fs ms m =
     ∙ ap (λ (xs : List (Text × Marked)). plain (make_shape (mark_shape m) xs (map method_of ms.items))) (map_map _ (λ f. (f.0.text, f.1)) field_of (λ x. refl) fs.items)
     ∙ (λ i. node (term.Make (labels_are fs.items i) (heads_are ms.items i)) (below_are fs.items ms.items i))
 
-pub ruleset trees_are = (make_is, loc_is, hole_is, var_is, number_is, get_is, put_is, call_is, clone_is, active_is, serve_is, let_is, steps_is, if_is, repeat_is, operate_is, print_is, echo_is, group_is, scatter_is, size_is, member_is, waitall_is)
-
--- a method of a store
-pub stored_is : (m : Method) → stored_method m ≡ record { head = method_head m; body = body_tree m }
-stored_is m = λ i. record { head = (method_is m i).head; body = plain (method_is m i).body }
+pub ruleset trees_are = (make_is, loc_is, hole_is, var_is, number_is, get_is, put_is, call_is, clone_is, active_is, serve_is, let_is, steps_is, if_is, repeat_is, operate_is, print_is, echo_is, group_is, scatter_is, size_is, member_is, waitall_is, pending_is)
 
 -- those over so many terms
-pub ruleset leaves_are = (number_is, serve_is, echo_is)
+pub ruleset leaves_are = (number_is, serve_is, echo_is, pending_is)
 
 pub ruleset ones_are = (get_is, clone_is, active_is, repeat_is, print_is, size_is, waitall_is)
 

@@ -3,7 +3,7 @@ use Rattle.std.specs.Prelude.{ℕ, ◌==◌, Bool, true, false, List, [], ◌∷
 use Rattle.std.specs.Option.{option_map}
 use Rattle.asp_model.specs.declared.word.Label.{Label}
 use Rattle.asp_model.specs.Names.{Text}
-use Rattle.asp_model.specs.Term.{Head, MethodHead, Hole, Number, Make, Get, Put, Call, Clone, Active, Serve, Let, Steps, If, Repeat, Operate, Print, Echo, Scatter, Size, Member, WaitAll, loc}
+use Rattle.asp_model.specs.Term.{Head, MethodHead, Hole, Number, Make, Get, Put, Call, Clone, Active, Serve, Let, Steps, If, Repeat, Operate, Print, Echo, Scatter, Size, Member, WaitAll, Pending, loc}
 use Rattle.asp_model.specs.Term as term
 use Rattle.asp_model.specs.Shapes.{sign_shape}
 use Rattle.asp_model.specs.Store.{MethodShape, CellShape, Object}
@@ -74,6 +74,7 @@ kind_head (kind.Scatter l) = Scatter l.text
 kind_head kind.Size = Size
 kind_head kind.Member = Member
 kind_head kind.WaitAll = WaitAll
+kind_head (kind.Pending ls) = Pending (map text_of ls.items)
 
 abbrev pub kind_piece : List Piece → Kind → Pieces → Piece
 kind_piece ps (kind.Make k) us = object (labels_of k.value) us (bodies_of ps k.value.methods.items)

@@ -84,6 +84,7 @@ pub enum Kind {
     Size,
     Member,
     WaitAll,
+    Pending(Vec<Label>),
 }
 
 /// A node, with the terms below it.
