@@ -29,6 +29,7 @@ stopped k x t vs s ls go n r (advance.Needs p) h at is = record { contexts = at.
 stopped k x t vs s ls go n r (advance.Creates p) h at is = record { contexts = at.contexts; redex = r; splits = at.splits; is = subst (λ (q : Store). IsTold (advance.Creates p) (contract q r)) h.store is; kept = h }
 stopped k x t vs s ls go n r advance.Sends h at is = record { contexts = at.contexts; redex = r; splits = at.splits; is = subst (λ (q : Store). IsTold advance.Sends (contract q r)) h.store is; kept = h }
 stopped k x t vs s ls go n r advance.Serves h at is = record { contexts = at.contexts; redex = r; splits = at.splits; is = subst (λ (q : Store). IsTold advance.Serves (contract q r)) h.store is; kept = h }
+stopped k x t vs s ls go n r advance.Polls h at is = record { contexts = at.contexts; redex = r; splits = at.splits; is = subst (λ (q : Store). IsTold advance.Polls (contract q r)) h.store is; kept = h }
 
 -- a contraction is told where none may be taken
 pub could : (k : List Node) (x : State) (t : Tree) (vs : List ServiceShape) (s : Store) (ls : List LineShape) (go : Bool) (n : ℕ) (r : Redex) → Stands k x t vs s ls → IsAtRedex k (view_of x.machine) t vs n r → go ≡ false
@@ -89,6 +90,7 @@ taken k x t vs s ls (advance.Needs p) h = h.kept
 taken k x t vs s ls (advance.Creates p) h = h.kept
 taken k x t vs s ls advance.Sends h = h.kept
 taken k x t vs s ls advance.Serves h = h.kept
+taken k x t vs s ls advance.Polls h = h.kept
 
 -- a number below a node became a place
 pub given : (k : List Node) (x y : State) (t : Tree) (vs : List ServiceShape) (s : Store) (ls : List LineShape) (number from done p : ℕ) (z : ℤ) (added : List LineShape) → Stands k x t vs s ls → IsBefore k t vs (view_of x.machine) number from done z
@@ -114,6 +116,7 @@ stop_advance k x t vs s ls go (advance.Needs p) h = h
 stop_advance k x t vs s ls go (advance.Creates p) h = h
 stop_advance k x t vs s ls go advance.Sends h = h
 stop_advance k x t vs s ls go advance.Serves h = h
+stop_advance k x t vs s ls go advance.Polls h = h
 
 pub stop_stays : (k : List Node) (x : State) (t : Tree) (vs : List ServiceShape) (s : Store) (ls : List LineShape) (r : Advance) → IsStop k x t vs s ls r → reduces r ≡ false
 stop_stays k x t vs s ls advance.Reduces h = absurd h
@@ -123,3 +126,4 @@ stop_stays k x t vs s ls (advance.Needs p) h = refl
 stop_stays k x t vs s ls (advance.Creates p) h = refl
 stop_stays k x t vs s ls advance.Sends h = refl
 stop_stays k x t vs s ls advance.Serves h = refl
+stop_stays k x t vs s ls advance.Polls h = refl

@@ -63,6 +63,7 @@ stops x y a go (advance.Needs p) h t n = record { stands = kept x y a h t.kept; 
 stops x y a go (advance.Creates p) h t n = record { stands = kept x y a h t.kept; stop = told_at x y a (advance.Creates p) h t }
 stops x y a go advance.Sends h t n = record { stands = kept x y a h t.kept; stop = told_at x y a advance.Sends h t }
 stops x y a go advance.Serves h t n = record { stands = kept x y a h t.kept; stop = told_at x y a advance.Serves h t }
+stops x y a go advance.Polls h t n = record { stands = kept x y a h t.kept; stop = told_at x y a advance.Polls h t }
 
 pub after_stop : (x : Activity) (a : model.Activity) (go : Bool) (r : Advance) → (go ≡ true → reduces r ≡ true → ⊥) → IsStopped x a r → IsAfter x a go r
 after_stop x a true advance.Reduces n s = absurd (n refl refl)
@@ -73,12 +74,14 @@ after_stop x a true (advance.Needs p) n s = s
 after_stop x a true (advance.Creates p) n s = s
 after_stop x a true advance.Sends n s = s
 after_stop x a true advance.Serves n s = s
+after_stop x a true advance.Polls n s = s
 after_stop x a false (advance.Rests p) n s = s
 after_stop x a false (advance.Faults f) n s = s
 after_stop x a false (advance.Needs p) n s = s
 after_stop x a false (advance.Creates p) n s = s
 after_stop x a false advance.Sends n s = s
 after_stop x a false advance.Serves n s = s
+after_stop x a false advance.Polls n s = s
 
 pub after_step : (x : Activity) (a : model.Activity) (go : Bool) (r : Advance) → go ≡ true → reduces r ≡ true → IsStepped x a → IsAfter x a go r
 after_step x a true advance.Reduces g e s = s
@@ -88,6 +91,7 @@ after_step x a true (advance.Needs p) g e s = absurd (false≢true e)
 after_step x a true (advance.Creates p) g e s = absurd (false≢true e)
 after_step x a true advance.Sends g e s = absurd (false≢true e)
 after_step x a true advance.Serves g e s = absurd (false≢true e)
+after_step x a true advance.Polls g e s = absurd (false≢true e)
 after_step x a false r g e s = absurd (false≢true g)
 
 -- the advance that took a contraction
@@ -99,6 +103,7 @@ reduced_advance k y a true (advance.Needs p) t g e = absurd (false≢true e)
 reduced_advance k y a true (advance.Creates p) t g e = absurd (false≢true e)
 reduced_advance k y a true advance.Sends t g e = absurd (false≢true e)
 reduced_advance k y a true advance.Serves t g e = absurd (false≢true e)
+reduced_advance k y a true advance.Polls t g e = absurd (false≢true e)
 reduced_advance k y a false r t g e = absurd (false≢true g)
 
 -- what a step tells
@@ -110,6 +115,7 @@ step_taken x a (advance.Needs p) h e = absurd (false≢true e)
 step_taken x a (advance.Creates p) h e = absurd (false≢true e)
 step_taken x a advance.Sends h e = absurd (false≢true e)
 step_taken x a advance.Serves h e = absurd (false≢true e)
+step_taken x a advance.Polls h e = absurd (false≢true e)
 
 -- a run that stops before all contractions were taken
 pub stopped_run : (x : Activity) (a b : model.Activity) (n most : ℕ) (r : Advance) → LocalRun n a b → n ≤ most → IsAfter x b true r → reduces r ≡ false → IsRun x a most r
@@ -120,6 +126,7 @@ stopped_run x a b n most (advance.Needs p) run le h e = record { count = n; end 
 stopped_run x a b n most (advance.Creates p) run le h e = record { count = n; end = b; run = run; within = le; stands = h.stands; stop = h.stop; used = tt }
 stopped_run x a b n most advance.Sends run le h e = record { count = n; end = b; run = run; within = le; stands = h.stands; stop = h.stop; used = tt }
 stopped_run x a b n most advance.Serves run le h e = record { count = n; end = b; run = run; within = le; stands = h.stands; stop = h.stop; used = tt }
+stopped_run x a b n most advance.Polls run le h e = record { count = n; end = b; run = run; within = le; stands = h.stands; stop = h.stop; used = tt }
 
 all_used : (n : ℕ) (r : Advance) → IsUsed n n r
 all_used n advance.Reduces = refl
@@ -129,6 +136,7 @@ all_used n (advance.Needs p) = tt
 all_used n (advance.Creates p) = tt
 all_used n advance.Sends = tt
 all_used n advance.Serves = tt
+all_used n advance.Polls = tt
 
 stop_of : (x : Activity) (b : model.Activity) (r : Advance) → IsAfter x b false r → IsStopped x b r
 stop_of x b advance.Reduces h = h
@@ -138,6 +146,7 @@ stop_of x b (advance.Needs p) h = h
 stop_of x b (advance.Creates p) h = h
 stop_of x b advance.Sends h = h
 stop_of x b advance.Serves h = h
+stop_of x b advance.Polls h = h
 
 -- a run whose contractions were all taken
 pub full_run : (x : Activity) (a b : model.Activity) (most : ℕ) (r : Advance) → LocalRun most a b → IsAfter x b false r → IsRun x a most r

@@ -172,6 +172,7 @@ shown_here w (redex.Scatter i l k) s = value_at w w.node.kind refl s.0 (redex.Sc
 shown_here w (redex.Size i) s = value_at w w.node.kind refl s.0 (redex.Size i) s.1
 shown_here w (redex.Member i k) s = value_at w w.node.kind refl s.0 (redex.Member i k) s.1
 shown_here w (redex.WaitAll i) s = value_at w w.node.kind refl s.0 (redex.WaitAll i) s.1
+shown_here w (redex.Pending ls) s = value_at w w.node.kind refl s.0 (redex.Pending ls) s.1
 
 -- what a node shows is where an activity stands
 pub shown_at : (k : List Node) (v : View) (number from n : ℕ) (x : Node) (a : model.Activity) (r : Redex) → Standing k v a.term (reverse a.services) → AtNode k v number from n x → IsShown x.kind (last n v.operands) r → IsAt a r

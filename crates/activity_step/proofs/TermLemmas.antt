@@ -1,5 +1,5 @@
 -- Contractions of the term alone, where a machine stands at a node.
-use Rattle.std.proofs.Common.{◌≡◌, true, ℕ, ℤ, zero, suc, ◌+◌, List, [], ◌∷◌, length, sym, ap, ◌∙◌, arith}
+use Rattle.std.proofs.Common.{◌≡◌, true, ℕ, ℤ, zero, suc, ◌+◌, List, [], ◌∷◌, length, sym, ap, subst, ◌∙◌, arith}
 use Rattle.asp_model.specs.Names.{Text}
 use Rattle.asp_model.specs.Term.{Tree}
 use Rattle.asp_model.specs.Store.{Store, Number, cell}
@@ -9,14 +9,17 @@ use Rattle.code_table.specs.declared.code.Kind.{Kind}
 use Rattle.code_table.specs.declared.code.Kind.TheVariants as kind
 use Rattle.code_table.specs.declared.code.Node.{Node}
 use Rattle.code_table.specs.Pieces.{Piece}
-use Rattle.code_table.specs.Tables.{kind_piece, pieces, pieces_of, piece_at, piece_of}
+use Rattle.code_table.specs.Tables.{kind_head, kind_piece, node_piece, pieces, pieces_of, piece_at, piece_of}
 use Rattle.code_laws.specs.Nodes.{nth, in_place, operand_count}
+use Rattle.step_rows.specs.Decisions.{value_redex}
+use Rattle.step_machine.specs.declared.frames.Focus.TheVariants as focus
 use Rattle.step_machine.specs.Sequences.{later}
 use Rattle.code_laws.proofs.NodeLemmas.{part_count, node_in_place}
-use Rattle.step_machine.specs.Rows.{AtNode, IsAtIf, Contracts, chosen, bound_view, child_view, node_view, is_simple}
+use Rattle.step_machine.specs.Rows.{AtNode, IsAtIf, IsAtRedex, Contracts, chosen, bound_view, child_view, node_view, is_simple}
 use Rattle.step_machine.specs.Stacks.{last}
 use Rattle.step_machine.specs.Standing.{View, Standing}
-use Rattle.step_machine.proofs.RowLemmas.{let_row, if_at, if_row_here, steps_last, steps_more, repeat_row, again_row, simple_from}
+use Rattle.step_machine.proofs.RowLemmas.{let_row, if_at, if_row_here, steps_last, steps_more, repeat_row, again_row, simple_from, value_row}
+use Rattle.step_machine.proofs.StackLemmas.{last_none}
 
 pub node_is : (k : List Node) (v : View) (number from n : ℕ) (x : Node) (q : Kind) → AtNode k v number from n x → x.kind ≡ q → piece_at (pieces k) number ≡ kind_piece (pieces k) q (pieces_of (pieces k) x.children.items)
 node_is k v number from n x q at is = at.node ∙ ap (λ (q : Kind). kind_piece (pieces k) q (pieces_of (pieces k) x.children.items)) is
@@ -57,3 +60,22 @@ choice_at k v number from n x t vs h at is = if_at k v number from n (pieces_of 
 pub simple_size : (k : List Node) (v : View) (number from n : ℕ) (x : Node) → AtNode k v number from n x → is_simple x.kind ≡ true → n ≡ operand_count x.kind (length x.children.items)
 simple_size k v number from n x at simple =
     at.full ∙ ap (λ (p : Piece). in_place (later from p)) at.node ∙ ap in_place (simple_from from (pieces k) x.kind (pieces_of (pieces k) x.children.items) simple) ∙ sym (ap in_place (simple_from 0 (pieces k) x.kind (pieces_of (pieces k) x.children.items) simple)) ∙ node_in_place (pieces k) x
+
+-- a redex of a kind that has no operands
+pub bare_row : (k : List Node) (v : View) (t : Tree) (vs : List ServiceShape) (n size : ℕ) (p q : Kind) → p ≡ q → operand_count q size ≡ 0 → n ≡ operand_count p size → IsAtRedex k v t vs n (value_redex (kind_head p) (last n v.operands))
+    → IsAtRedex k v t vs n (value_redex (kind_head q) [])
+bare_row k v t vs n size p q is none whole at =
+    let no_operand : n ≡ 0 = whole ∙ ap (λ (x : Kind). operand_count x size) is ∙ none in
+    let empty : last n v.operands ≡ [] = ap (λ (m : ℕ). last m v.operands) no_operand ∙ last_none v.operands in
+    subst (λ (ops : List ℕ). IsAtRedex k v t vs n (value_redex (kind_head q) ops)) empty (subst (λ (x : Kind). IsAtRedex k v t vs n (value_redex (kind_head x) (last n v.operands))) is at)
+
+-- the same at a node of such a kind
+pub bare_at : (k : List Node) (v : View) (number from n : ℕ) (x : Node) (q : Kind) (t : Tree) (vs : List ServiceShape) → Standing k v t vs → AtNode k v number from n x → x.kind ≡ q → is_simple q ≡ true → operand_count q (length x.children.items) ≡ 0
+    → IsAtRedex k v t vs n (value_redex (kind_head q) [])
+bare_at k v number from n x q t vs h at is simple none =
+    let known : is_simple x.kind ≡ true = ap is_simple is ∙ simple in
+    bare_row k v t vs n (length x.children.items) x.kind q is none (simple_size k v number from n x at known) (value_row k v number from n x t vs h at.focus at.full at.node known)
+
+-- all terms of a node are done that are reduced in place
+pub at_node : (k : List Node) (v : View) (number from n : ℕ) (x : Node) → v.focus ≡ focus.Node number from n → n ≡ in_place (later from (node_piece (pieces k) x)) → piece_at (pieces k) number ≡ node_piece (pieces k) x → AtNode k v number from n x
+at_node k v number from n x at full is = record { focus = at; full = full ∙ ap (λ (p : Piece). in_place (later from p)) (sym is); node = is }

@@ -6,7 +6,7 @@ use Rattle.asp_model.specs.Split as split
 use Rattle.asp_model.specs.Split.{Context, Redex, Splits, plug}
 use Rattle.asp_model.specs.Store.{Store}
 use Rattle.asp_model.specs.Configuration.{ServiceShape}
-use Rattle.asp_model.specs.Contraction.{Contraction, LineShape, Becomes, Faults, Needs, Communicates, Creates, Sends, Serves, contract}
+use Rattle.asp_model.specs.Contraction.{Contraction, LineShape, Becomes, Faults, Needs, Communicates, Creates, Sends, Serves, Polls, contract}
 use Rattle.asp_model.specs.Shapes.{fault_shape, line_shape}
 use Rattle.asp_model.specs.declared.outcome.Line.{Line}
 use Rattle.code_table.specs.declared.code.Node.{Node}
@@ -45,6 +45,7 @@ IsTold (advance.Needs p) c = c ≡ Needs p
 IsTold (advance.Creates p) c = (service : Option Text) × (c ≡ Communicates (Creates p service))
 IsTold advance.Sends c = (n : Name) × (l : Text) × (ns : List ℕ) × (c ≡ Communicates (Sends n l ns))
 IsTold advance.Serves c = (ls : List Text) × (c ≡ Communicates (Serves ls))
+IsTold advance.Polls c = (ls : List Text) × (c ≡ Communicates (Polls ls))
 IsTold (advance.Rests p) c = ⊥
 
 -- it is told, and it is no contraction

@@ -1,7 +1,9 @@
 -- Where an activity stands, and what a communication makes of it.
-use Rattle.std.specs.Prelude.{◌≡◌, suc, List, [], ◌∷◌, ◌++◌, Some}
+use Rattle.std.specs.Prelude.{◌≡◌, suc, Bool, List, [], ◌∷◌, ◌++◌, Some}
 use Rattle.std.specs.Arc.{arc_value}
 use Rattle.asp_model.specs.Names.{FutureShape, Text}
+use Rattle.asp_model.specs.Store.{Number}
+use Rattle.asp_model.specs.Contraction.{truth}
 use Rattle.asp_model.specs.Term.{Call, Make, leaf, loc, locs_then, more, node, none}
 use Rattle.asp_model.specs.Split as split
 use Rattle.asp_model.specs.Split.{Context, Splits, plug}
@@ -13,6 +15,7 @@ use Rattle.code_table.specs.declared.code.Node.{Node}
 use Rattle.step_rows.specs.declared.redex.Redex.{Redex}
 use Rattle.step_rows.specs.Redexes.{IsRedex}
 use Rattle.activity_step.specs.declared.activity.Activity.{Activity}
+use Rattle.activity_step.specs.Activities.{with_new_cell}
 use Rattle.activity_step.specs.declared.standing.Standing.{Standing}
 use Rattle.activity_step.specs.declared.standing.Standing.TheVariants as standing
 
@@ -49,3 +52,7 @@ going_on v a = record a {
   present = v.future;
   reductions = suc a.reductions;
 }
+
+-- its term asked what is pending: it becomes 1 where the answer is yes, and else 0
+abbrev pub polled : List Context → Bool → model.Activity → model.Activity
+polled contexts answer a = with_new_cell contexts (Number (truth answer)) a

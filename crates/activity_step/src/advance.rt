@@ -26,6 +26,8 @@ pub enum Advance {
     Sends,
     /// A service.
     Serves,
+    /// A poll.
+    Polls,
     /// The term is a place.
     Rests(Place),
 }

@@ -2,17 +2,34 @@
 
 ghost use Rattle.std.specs.Prelude.{◌≡◌, Err, List, OnErr, OnOk, alloc_error, true};
 ghost use Rattle.asp_model.specs.Configuration.{Activity as ActivityShape};
+ghost use Rattle.asp_model.specs.Contraction.{truth};
 ghost use Rattle.asp_model.specs.Shapes.{future_shape};
 ghost use Rattle.asp_model.specs.Split.{Context, Redex, Splits, split};
-ghost use Rattle.asp_model.specs.Store.{Future as FutureCell, Reference as ReferenceCell};
+ghost use Rattle.asp_model.specs.Store.{
+  Future as FutureCell,
+  Number as NumberCell,
+  Reference as ReferenceCell,
+};
+ghost use Rattle.code_table.specs.declared.code.Node.{Node as NodeShape};
 ghost use Rattle.code_table.specs.Shapes.{cell_shape};
 ghost use Rattle.activity_step.specs.Activities.{StandsFor, with_new_cell};
-ghost use Rattle.activity_step.specs.Standings.{code_of};
+ghost use Rattle.activity_step.specs.Standings.{code_of, polled};
 
 use crate::activity::Activity;
 use asp_model::{ActivityName, FutureName};
 use code_table::Cell;
 use std::alloc::{AllocError, Global};
+
+/// The number of an answer.
+fn number_cell(answer: bool) -> Cell
+    ensures cell { (k : List NodeShape) → cell_shape k result ≡ NumberCell (truth answer) }
+{
+    if answer {
+        Cell::Number(1)
+    } else {
+        Cell::Number(0)
+    }
+}
 
 impl Activity {
     /// The redex becomes a new cell, which is one reduction.
@@ -55,6 +72,16 @@ impl Activity {
         self.become_cell(cell)
     }
 
+    /// The redex becomes the number of an answer.
+    fn become_number(&mut self, answer: bool) -> Result<(), AllocError>
+        ensures becomes { (a : ActivityShape) (contexts : List Context) (redex : Redex) →
+            StandsFor self.old a → split a.term ≡ Splits contexts redex →
+            OnOk result (StandsFor self.new (polled contexts answer a)) }
+        ensures code { code_of self.new ≡ code_of self.old }
+    {
+        self.become_cell(number_cell(answer))
+    }
+
     /// The activity that it asked for was created, and has this name. After `AllocError` it is spent.
     pub fn created(&mut self, alloc: Global, name: ActivityName) -> Result<(), AllocError>
         ensures becomes { (a : ActivityShape) (contexts : List Context) (redex : Redex) →
@@ -82,6 +109,21 @@ impl Activity {
     {
         self.unspent()?;
         let outcome = self.become_future(alloc, future);
+        self.noted(outcome)
+    }
+
+    /// What is pending was told: the redex becomes 1 where the answer is yes, and else 0. After
+    /// `AllocError` it is spent.
+    pub fn polled(&mut self, _alloc: Global, answer: bool) -> Result<(), AllocError>
+        ensures becomes { (a : ActivityShape) (contexts : List Context) (redex : Redex) →
+            StandsFor self.old a → split a.term ≡ Splits contexts redex →
+            OnOk result (StandsFor self.new (polled contexts answer a)) }
+        ensures spent { self.old.spent ≡ true → result ≡ Err alloc_error }
+        ensures gives_up { OnErr result (self.new.spent ≡ true) }
+        ensures code { code_of self.new ≡ code_of self.old }
+    {
+        self.unspent()?;
+        let outcome = self.become_number(answer);
         self.noted(outcome)
     }
 }

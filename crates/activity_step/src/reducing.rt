@@ -62,6 +62,7 @@ impl State {
             Kind::Group => self.group_advance(alloc, count, count, go),
             Kind::Active(_) => self.active_advance(alloc, count, go),
             Kind::Serve(_) => Ok(Advance::Serves),
+            Kind::Pending(_) => Ok(Advance::Polls),
             Kind::Clone => self.value_advance(alloc, code, kind, count, go),
             Kind::Print => self.value_advance(alloc, code, kind, count, go),
             Kind::Size => self.value_advance(alloc, code, kind, count, go),
@@ -107,6 +108,7 @@ impl State {
             Kind::Clone
             | Kind::Active(_)
             | Kind::Serve(_)
+            | Kind::Pending(_)
             | Kind::Print
             | Kind::Echo(_)
             | Kind::Group

@@ -47,6 +47,7 @@ fn redex_of<'a>(kind: &'a Kind, operands: &'a [Place]) -> Option<Redex<'a>>
         (Kind::Clone, [at]) => Some(Redex::Clone(*at)),
         (Kind::Active(label), [at]) => Some(Redex::Active(*at, label.as_ref())),
         (Kind::Serve(labels), []) => Some(Redex::Serve(labels)),
+        (Kind::Pending(labels), []) => Some(Redex::Pending(labels)),
         (Kind::If, [at]) => Some(Redex::If(*at)),
         (Kind::Operate(sign), [first, second]) => Some(Redex::Operate(*sign, *first, *second)),
         (Kind::Print, [at]) => Some(Redex::Print(*at)),

@@ -81,6 +81,7 @@ impl State {
             Kind::Call(label) => self.stop_call(code, label, number, count),
             Kind::Active(_) => self.stop_active(count),
             Kind::Serve(_) => Some(Advance::Serves),
+            Kind::Pending(_) => Some(Advance::Polls),
             _ => None,
         }
     }

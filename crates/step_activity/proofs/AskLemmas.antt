@@ -2,11 +2,11 @@
 use Rattle.std.specs.Prelude.{◌≡◌, ℕ, ℤ, pos, negsuc, zero, suc, ◌+ℤ◌, ◌-ℤ◌, ◌*ℤ◌, int_div, int_rem, true, false, List, [], ◌∷◌, Option, Some, None}
 use Rattle.std.proofs.Common.{refl, subst, sym}
 use Rattle.asp_model.specs.Names.{Text}
-use Rattle.asp_model.specs.Term.{SignShape, Add, Subtract, Multiply, Divide, Remainder, Less, Equal, Head, Tree, Trees, none, more, Make, Get, Put, Call, Clone, Active, Serve, Let, Steps, If, Repeat, Operate, Print, Echo, Scatter, Size, Member, WaitAll, Environment}
+use Rattle.asp_model.specs.Term.{SignShape, Add, Subtract, Multiply, Divide, Remainder, Less, Equal, Head, Tree, Trees, none, more, Make, Get, Put, Call, Clone, Active, Serve, Let, Steps, If, Repeat, Operate, Print, Echo, Scatter, Size, Member, WaitAll, Pending, Environment}
 use Rattle.asp_model.specs.Term as term
 use Rattle.asp_model.specs.Split.{Redex}
 use Rattle.asp_model.specs.Store.{MethodShape, CellShape, Number, Object, Reference, Future, Group, Store, cell}
-use Rattle.asp_model.specs.Contraction.{Contraction, Becomes, Faults, Needs, Communicates, Breaks, Creates, Sends, Serves, row, contract}
+use Rattle.asp_model.specs.Contraction.{Contraction, Becomes, Faults, Needs, Communicates, Breaks, Creates, Sends, Serves, Polls, row, contract}
 use Rattle.asp_model.specs.Contraction as rows
 
 abbrev pub IsObject : CellShape → Type 0
@@ -18,6 +18,7 @@ abbrev pub Asks : Store → Head → List ℕ → Contraction → Type 0
 Asks s h ns (Communicates (Creates p service)) = (h ≡ Active service) × (ns ≡ p ∷ []) × IsObject (cell s p)
 Asks s h ns (Communicates (Sends n l ks)) = (i : ℕ) × (h ≡ Call l) × (ns ≡ i ∷ ks) × (cell s i ≡ Reference n)
 Asks s h ns (Communicates (Serves ls)) = h ≡ Serve ls
+Asks s h ns (Communicates (Polls ls)) = h ≡ Pending ls
 Asks s h ns c = Unit {0}
 
 module _ (s : Store) (h : Head) (ns : List ℕ) where
@@ -140,6 +141,7 @@ row_asks s (Scatter l) (i ∷ j ∷ []) none = scatter_asks s (Scatter l) (i ∷
 row_asks s Size (i ∷ []) none = size_asks s Size (i ∷ []) (cell s i)
 row_asks s Member (i ∷ j ∷ []) none = member_asks s Member (i ∷ j ∷ []) (cell s i) (cell s j)
 row_asks s WaitAll (i ∷ []) none = wait_asks s WaitAll (i ∷ []) i (cell s i)
+row_asks s (Pending ls) [] none = refl
 row_asks s h ns ts = tt
 
 needed_asks : (s : Store) (h : Head) (ns : List ℕ) (n : Option ℕ) (r : Contraction) → Asks s h ns r → Asks s h ns (elim n [ Some m ↦ Needs m | None ↦ r ])

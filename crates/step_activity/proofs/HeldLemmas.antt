@@ -127,4 +127,5 @@ plain_are s x r p is =
 -- they stand at these places
 pub held_are : (s : Store) (x : Redex) (r : split.Redex) → IsRedex r x → held_places s (strict_in x) ≡ strict_operands r.head r.places ++ strict_members s r.head r.places
 held_are s (redex.WaitAll i) r is = ap (λ (q : split.Redex). strict_operands q.head q.places ++ strict_members s q.head q.places) (sym is)
+held_are s (redex.Pending ls) r is = ap (λ (q : split.Redex). strict_operands q.head q.places ++ strict_members s q.head q.places) (sym is)
 held_are s x r is = plain_are s x r tt is

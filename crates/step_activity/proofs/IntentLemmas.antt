@@ -7,7 +7,7 @@ use Rattle.asp_model.specs.Split as terms
 use Rattle.asp_model.specs.Split.{Context, Redex, Split, Splits, split}
 use Rattle.asp_model.specs.Chase.{Chase}
 use Rattle.asp_model.specs.Contraction as contraction
-use Rattle.asp_model.specs.Contraction.{Communication, Contraction, Becomes, Faults, Needs, Communicates, Breaks, Creates, Sends, Serves, contract, strict_members, strict_operands}
+use Rattle.asp_model.specs.Contraction.{Communication, Contraction, Becomes, Faults, Needs, Communicates, Breaks, Creates, Sends, Serves, Polls, contract, strict_members, strict_operands}
 use Rattle.asp_model.specs.Configuration as model
 use Rattle.asp_model.specs.Configuration.{RequestShape}
 use Rattle.asp_model.specs.Intent.{Intent, Rests, Awaits, Ready, Reads, Lacks, operands_ready, redex_ready, intent, contracts, ends_service, newest}
@@ -54,6 +54,7 @@ contracts_over rs n a cs s (Needs p) own = refl
 contracts_over rs n a cs s (Communicates (Creates p service)) own = refl
 contracts_over rs n a cs s (Communicates (Sends m l ks)) own = refl
 contracts_over rs n a cs s (Communicates (Serves labels)) own = ap (λ (t : Store). contracts rs n (record a { store = t }) cs s (Communicates (Serves labels))) (sym (own labels refl))
+contracts_over rs n a cs s (Communicates (Polls labels)) own = refl
 contracts_over rs n a cs s Breaks own = refl
 
 reads_is : (s t : Store) → Reads s ≡ Reads t → s ≡ t
@@ -99,6 +100,7 @@ stays y a (advance.Needs p) h is = h.stands
 stays y a (advance.Creates p) h is = h.stands
 stays y a advance.Sends h is = h.stands
 stays y a advance.Serves h is = h.stands
+stays y a advance.Polls h is = h.stands
 stays y a (advance.Rests p) h is = h.stands
 
 -- it stands as before, and asks this of others
@@ -120,11 +122,14 @@ asking y a cs r advance.Sends e h is =
 asking y a cs r advance.Serves e h is =
     let same : h.stop.redex ≡ r = same_redex h.stop.contexts cs h.stop.redex r (sym h.stop.splits ∙ e) in
     record { stands = h.stands; communication = Serves h.stop.is.0; is = ap (contract a.store) (sym same) ∙ h.stop.is.1 }
+asking y a cs r advance.Polls e h is =
+    let same : h.stop.redex ≡ r = same_redex h.stop.contexts cs h.stop.redex r (sym h.stop.splits ∙ e) in
+    record { stands = h.stands; communication = Polls h.stop.is.0; is = ap (contract a.store) (sym same) ∙ h.stop.is.1 }
 asking y a cs r (advance.Rests p) e h is = absurd cc
 
 module _ (x : Actor) (y : Activity) (a : model.Activity) (rs : List RequestShape) (n : Name) (cs : List Context) (r : Redex) (h : Stands x a rs) (code : step.code_of y ≡ code_of x) (e : split a.term ≡ Splits cs r) where
   abbrev Done : Contraction → Type 0
-  Done c = IsDoneBy (contracts rs n a cs a.store c) rs (record x { activity = y; clear = 0 }) given.Nothing
+  Done c = IsDoneBy n (contracts rs n a cs a.store c) rs (record x { activity = y; clear = 0 }) given.Nothing
 
   became : (next : model.Activity) (ds : List Context) (q : Redex) (t : Tree) (s : Store) (ls : List contraction.LineShape) → StandsFor y next → split a.term ≡ Splits ds q → contract a.store q ≡ Becomes t s ls
       → next ≡ record a { term = terms.plug ds t; store = s; lines = a.lines ++ ls; reductions = suc a.reductions } → Done (contract a.store r)
@@ -133,7 +138,7 @@ module _ (x : Actor) (y : Activity) (a : model.Activity) (rs : List RequestShape
       let b : model.Activity = record a { term = terms.plug cs t; store = s; lines = a.lines ++ ls; reductions = suc a.reductions } in
       let same : next ≡ b = after ∙ ap (λ (ks : List Context). record a { term = terms.plug ks t; store = s; lines = a.lines ++ ls; reductions = suc a.reductions }) (sym (same_contexts cs ds r q both)) in
       let now : StandsFor y b = subst (StandsFor y) same for in
-      subst Done (sym (ap (contract a.store) (same_redex cs ds r q both) ∙ is)) (stands_with x y a b rs h now code refl refl refl, (refl, refl, refl))
+      subst Done (sym (ap (contract a.store) (same_redex cs ds r q both) ∙ is)) (stands_with x y a b rs h now code refl refl refl, (refl, refl, refl, refl))
 
   -- what is left where the advance asked nothing of others
   pub turned : (v : Advance) → IsAfter y a true v → communicates v ≡ false → Done (contract a.store r)
@@ -147,4 +152,5 @@ module _ (x : Actor) (y : Activity) (a : model.Activity) (rs : List RequestShape
   turned (advance.Creates p) k is = absurd cc
   turned advance.Sends k is = absurd cc
   turned advance.Serves k is = absurd cc
+  turned advance.Polls k is = absurd cc
   turned (advance.Rests p) k is = absurd (no_place cs r p (sym e ∙ k.stop))

@@ -1,5 +1,5 @@
 -- The oldest match among pending requests.
-use Rattle.std.proofs.Common.{◌≡◌, ◌<◌, ◌≤◌, ◌+◌, ℕ, suc, Bool, true, false, cond, IsSome, List, [], ◌∷◌, ◌++◌, Option, Some, None, length, map, refl, sym, ap, ◌∙◌, subst, zero-add, length-append, arith}
+use Rattle.std.proofs.Common.{◌≡◌, ◌<◌, ◌≤◌, ◌+◌, ℕ, suc, Bool, true, false, cond, IsSome, is_some, List, [], ◌∷◌, ◌++◌, Option, Some, None, length, map, refl, sym, ap, ◌∙◌, subst, zero-add, length-append, arith}
 use Rattle.std.proofs.lemmas.List.{map-append}
 use Rattle.std.proofs.lemmas.Bool.Decides.{nat_tests}
 use Rattle.std.specs.declared.cmp.Ordering.{Ordering}
@@ -220,3 +220,13 @@ none_asked (e ∷ es) = none_asked es
 pub is_none : (o : Option Numbered) → None ≡ number_of o → o ≡ None
 is_none None e = refl
 is_none (Some x) e = no_some e
+
+-- whether there is one
+
+pub some_found : (n : ℕ) (o : Option Numbered) → Some n ≡ number_of o → true ≡ is_some o
+some_found n None e = no_some (sym e)
+some_found n (Some x) e = refl
+
+pub none_found : (o : Option Numbered) → None ≡ number_of o → false ≡ is_some o
+none_found None e = refl
+none_found (Some x) e = no_some e

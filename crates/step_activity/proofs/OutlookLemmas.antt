@@ -1,17 +1,19 @@
 -- What an activity does next, by what its redex comes to.
-use Rattle.std.proofs.Common.{◌≡◌, ℕ, List, length, refl, sym, ap, ◌∙◌, subst}
+use Rattle.std.proofs.Common.{◌≡◌, ℕ, List, Option, Some, None, length, refl, sym, ap, ◌∙◌, subst}
 use Rattle.asp_model.specs.declared.name.FutureName.{FutureName}
 use Rattle.asp_model.specs.declared.outcome.Fault.{Fault}
 use Rattle.std.specs.Borrow.{Bor}
+use Rattle.std.specs.Option.{option_map}
 use Rattle.asp_model.specs.Names.{Name, FutureShape, Text}
 use Rattle.asp_model.specs.Store.{Store, cell}
 use Rattle.asp_model.specs.Split.{Context, Redex}
-use Rattle.asp_model.specs.Contraction.{Contraction, Becomes, Faults, Needs, Communicates, Breaks, Creates, Sends, Serves, contract, strict_members, strict_operands}
+use Rattle.asp_model.specs.Contraction.{Contraction, Becomes, Faults, Needs, Communicates, Breaks, Creates, Sends, Serves, Polls, contract, strict_members, strict_operands}
 use Rattle.asp_model.specs.Configuration as model
 use Rattle.asp_model.specs.Configuration.{RequestShape}
 use Rattle.asp_model.specs.Chase.{Values, chase}
-use Rattle.asp_model.specs.Intent.{Intent, Ready, Reads, Lacks, contracts, intent, labels_served, oldest_match, redex_ready, serves}
+use Rattle.asp_model.specs.Intent.{Intent, Numbered, Ready, Reads, Lacks, contracts, intent, labels_served, oldest_match, redex_ready, serves}
 use Rattle.asp_model.specs.Shapes.{fault_shape, future_shape}
+use Rattle.step_reads.specs.Prospects as prospects
 use Rattle.step_reads.specs.Prospects.{ProspectShape, Goes, GoesTo, Stops, Asks, Awaits, Still, comes_to, prospect_by}
 use Rattle.law_steps.specs.Closed.{AreBelow, IsClosedStore}
 use Rattle.code_table.proofs.CodedLemmas.{length-store_of}
@@ -34,46 +36,63 @@ use Rattle.step_activity.proofs.RedexLemmas.{operands, operands_within, same_ope
 use Rattle.step_activity.proofs.StandLemmas.{size}
 
 module _ (rs : List RequestShape) (n : Name) (a : model.Activity) (cs : List Context) where
-  goes_by : (s : Store) (c : Contraction) → Goes ≡ prospect_by c → IsOutlook (contracts rs n a cs s c) outlook.Steps
-  goes_by s (Becomes t u ls) e = refl
-  goes_by s (Communicates (Creates p service)) e = refl
+  goes_by : (s : Store) (c : Contraction) → Goes ≡ prospect_by c → IsOutlook n (contracts rs n a cs s c) outlook.Steps
+  goes_by s (Becomes t u ls) e = (refl, refl)
+  goes_by s (Communicates (Creates p service)) e = (refl, refl)
   goes_by s (Faults f) e = absurd cc
   goes_by s (Communicates (Sends m l ks)) e = absurd cc
   goes_by s (Communicates (Serves ls)) e = absurd cc
+  goes_by s (Communicates (Polls ls)) e = absurd cc
   goes_by s (Needs p) e = absurd cc
   goes_by s Breaks e = absurd cc
 
-  pub goes : (r : Redex) (x : Ready) → Goes ≡ comes_to x r → IsOutlook (intended rs n a cs r x) outlook.Steps
+  pub goes : (r : Redex) (x : Ready) → Goes ≡ comes_to x r → IsOutlook n (intended rs n a cs r x) outlook.Steps
   goes r (Reads s) e = goes_by s (contract s r) e
   goes r (Lacks f) e = absurd cc
 
-  goes_to_by : (m : Bor Name) (s : Store) (c : Contraction) → GoesTo m.now ≡ prospect_by c → IsOutlook (contracts rs n a cs s c) (outlook.Sends m)
+  goes_to_by : (m : Bor Name) (s : Store) (c : Contraction) → GoesTo m.now ≡ prospect_by c → IsOutlook n (contracts rs n a cs s c) (outlook.Sends m)
   goes_to_by m s (Communicates (Sends k l ks)) e = cc
   goes_to_by m s (Becomes t u ls) e = absurd cc
   goes_to_by m s (Communicates (Creates p service)) e = absurd cc
   goes_to_by m s (Faults f) e = absurd cc
   goes_to_by m s (Communicates (Serves ls)) e = absurd cc
+  goes_to_by m s (Communicates (Polls ls)) e = absurd cc
   goes_to_by m s (Needs p) e = absurd cc
   goes_to_by m s Breaks e = absurd cc
 
-  pub goes_to : (m : Bor Name) (r : Redex) (x : Ready) → GoesTo m.now ≡ comes_to x r → IsOutlook (intended rs n a cs r x) (outlook.Sends m)
+  pub goes_to : (m : Bor Name) (r : Redex) (x : Ready) → GoesTo m.now ≡ comes_to x r → IsOutlook n (intended rs n a cs r x) (outlook.Sends m)
   goes_to m r (Reads s) e = goes_to_by m s (contract s r) e
   goes_to m r (Lacks f) e = absurd cc
 
-  stops_by : (g : Fault) (s : Store) (c : Contraction) → Stops (fault_shape g) ≡ prospect_by c → IsOutlook (contracts rs n a cs s c) (outlook.Faulted g)
+  stops_by : (g : Fault) (s : Store) (c : Contraction) → Stops (fault_shape g) ≡ prospect_by c → IsOutlook n (contracts rs n a cs s c) (outlook.Faulted g)
   stops_by g s (Faults f) e = cc
   stops_by g s (Becomes t u ls) e = absurd cc
   stops_by g s (Communicates (Creates p service)) e = absurd cc
   stops_by g s (Communicates (Sends k l ks)) e = absurd cc
   stops_by g s (Communicates (Serves ls)) e = absurd cc
+  stops_by g s (Communicates (Polls ls)) e = absurd cc
   stops_by g s (Needs p) e = absurd cc
   stops_by g s Breaks e = absurd cc
 
-  pub stops : (g : Fault) (r : Redex) (x : Ready) → Stops (fault_shape g) ≡ comes_to x r → IsOutlook (intended rs n a cs r x) (outlook.Faulted g)
+  pub stops : (g : Fault) (r : Redex) (x : Ready) → Stops (fault_shape g) ≡ comes_to x r → IsOutlook n (intended rs n a cs r x) (outlook.Faulted g)
   stops g r (Reads s) e = stops_by g s (contract s r) e
   stops g r (Lacks f) e = absurd cc
 
-  still_by : (s : Store) (c : Contraction) → Still ≡ prospect_by c → IsOutlook (contracts rs n a cs s c) outlook.Done
+  polls_by : (s : Store) (c : Contraction) → prospects.Polls ≡ prospect_by c → IsOutlook n (contracts rs n a cs s c) outlook.Polls
+  polls_by s (Communicates (Polls ls)) e = refl
+  polls_by s (Becomes t u ls) e = absurd cc
+  polls_by s (Communicates (Creates p service)) e = absurd cc
+  polls_by s (Communicates (Sends m l ks)) e = absurd cc
+  polls_by s (Communicates (Serves ls)) e = absurd cc
+  polls_by s (Faults f) e = absurd cc
+  polls_by s (Needs p) e = absurd cc
+  polls_by s Breaks e = absurd cc
+
+  pub polls : (r : Redex) (x : Ready) → prospects.Polls ≡ comes_to x r → IsOutlook n (intended rs n a cs r x) outlook.Polls
+  polls r (Reads s) e = polls_by s (contract s r) e
+  polls r (Lacks f) e = absurd cc
+
+  still_by : (s : Store) (c : Contraction) → Still ≡ prospect_by c → IsOutlook n (contracts rs n a cs s c) outlook.Done
   still_by s (Needs p) e = tt
   still_by s Breaks e = tt
   still_by s (Becomes t u ls) e = absurd cc
@@ -81,8 +100,9 @@ module _ (rs : List RequestShape) (n : Name) (a : model.Activity) (cs : List Con
   still_by s (Faults f) e = absurd cc
   still_by s (Communicates (Sends m l ks)) e = absurd cc
   still_by s (Communicates (Serves ls)) e = absurd cc
+  still_by s (Communicates (Polls ls)) e = absurd cc
 
-  pub still : (r : Redex) (x : Ready) → Still ≡ comes_to x r → IsOutlook (intended rs n a cs r x) outlook.Done
+  pub still : (r : Redex) (x : Ready) → Still ≡ comes_to x r → IsOutlook n (intended rs n a cs r x) outlook.Done
   still r (Reads s) e = still_by s (contract s r) e
   still r (Lacks f) e = absurd cc
 
@@ -92,10 +112,11 @@ module _ (rs : List RequestShape) (n : Name) (a : model.Activity) (cs : List Con
   no_awaits f (Faults g) e = absurd cc
   no_awaits f (Communicates (Sends m l ks)) e = absurd cc
   no_awaits f (Communicates (Serves ls)) e = absurd cc
+  no_awaits f (Communicates (Polls ls)) e = absurd cc
   no_awaits f (Needs p) e = absurd cc
   no_awaits f Breaks e = absurd cc
 
-  pub awaits : (g : Bor FutureName) (r : Redex) (x : Ready) → Awaits (future_shape g.now) ≡ comes_to x r → IsOutlook (intended rs n a cs r x) (outlook.Awaits g)
+  pub awaits : (g : Bor FutureName) (r : Redex) (x : Ready) → Awaits (future_shape g.now) ≡ comes_to x r → IsOutlook n (intended rs n a cs r x) (outlook.Awaits g)
   awaits g r (Reads s) e = absurd (no_awaits (future_shape g.now) (contract s r) e)
   awaits g r (Lacks f) e = let same : future_shape g.now ≡ f = cc in sym same
 
@@ -105,8 +126,19 @@ serves_by (Becomes t u ls) e = absurd cc
 serves_by (Communicates (Creates p service)) e = absurd cc
 serves_by (Faults f) e = absurd cc
 serves_by (Communicates (Sends m l ks)) e = absurd cc
+serves_by (Communicates (Polls ls)) e = absurd cc
 serves_by (Needs p) e = absurd cc
 serves_by Breaks e = absurd cc
+
+-- At a `serve`, by whether a request matches
+
+pub serve_steps : (n : Name) (a : model.Activity) (cs : List Context) (k : ℕ) (o : Option Numbered) → Some k ≡ option_map (λ x. x.0) o → IsOutlook n (serves a cs o) outlook.Steps
+serve_steps n a cs k None e = absurd cc
+serve_steps n a cs k (Some x) e = (refl, refl)
+
+pub serve_rests : (n : Name) (a : model.Activity) (cs : List Context) (o : Option Numbered) → None ≡ option_map (λ x. x.0) o → IsOutlook n (serves a cs o) outlook.Serving
+serve_rests n a cs None e = tt
+serve_rests n a cs (Some x) e = absurd cc
 
 -- the redex is a `serve`
 pub record IsServe (r : Redex) (x : Ready) : Type 0 where

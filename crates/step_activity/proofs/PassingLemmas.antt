@@ -49,6 +49,7 @@ waits i (redex.Operate sign j m) is = let e : WaitAll ≡ term.Operate _ = ap (�
 waits i (redex.Print j) is = let e : WaitAll ≡ term.Print = ap (λ (q : Redex). q.head) is in absurd cc
 waits i (redex.Scatter j l m) is = let e : WaitAll ≡ term.Scatter l.now.text = ap (λ (q : Redex). q.head) is in absurd cc
 waits i (redex.Size j) is = let e : WaitAll ≡ term.Size = ap (λ (q : Redex). q.head) is in absurd cc
+waits i (redex.Pending ls) is = let e : WaitAll ≡ term.Pending _ = ap (λ (q : Redex). q.head) is in absurd cc
 waits i (redex.Member j m) is = let e : WaitAll ≡ term.Member = ap (λ (q : Redex). q.head) is in absurd cc
 
 module _ (chases : FutureShape → Chase) (a : model.Activity) (k : ℕ) where

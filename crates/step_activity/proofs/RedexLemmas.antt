@@ -9,7 +9,7 @@ use Rattle.law_steps.specs.Closed.{AreBelow, CellsBelow, IsClosedStore}
 use Rattle.law_steps.specs.Waking.{labels_at, labels_of_head, labels_wanted}
 use Rattle.asp_model.specs.Store as store
 use Rattle.asp_model.specs.Store.{CellShape, Store, cell, reached}
-use Rattle.asp_model.specs.Contraction.{Communication, Contraction, LineShape, Creates, Sends, Serves, Communicates, Becomes, Needs, active_row, call_row, contract, is_future, members_at, members_of, strict_members, strict_operands}
+use Rattle.asp_model.specs.Contraction.{Communication, Contraction, LineShape, Creates, Sends, Serves, Polls, Communicates, Becomes, Needs, active_row, call_row, contract, is_future, members_at, members_of, strict_members, strict_operands}
 use Rattle.step_rows.specs.declared.redex.Redex.{Redex as Told}
 use Rattle.step_rows.specs.declared.redex.Redex.TheVariants as redex
 use Rattle.step_rows.specs.Decisions.{value_redex}
@@ -54,6 +54,7 @@ same_operands r q (redex.Scatter i l j) h g = ap operands (h ∙ sym g)
 same_operands r q (redex.Size i) h g = ap operands (h ∙ sym g)
 same_operands r q (redex.Member i j) h g = ap operands (h ∙ sym g)
 same_operands r q (redex.WaitAll i) h g = ap operands (h ∙ sym g)
+same_operands r q (redex.Pending ls) h g = ap operands (h ∙ sym g)
 
 -- What is asked
 
@@ -91,6 +92,9 @@ if_sends l e = absurd cc
 if_serves : (ls : List Text) → term.If ≡ term.Serve ls → ⊥
 if_serves ls e = absurd cc
 
+if_polls : (ls : List Text) → term.If ≡ term.Pending ls → ⊥
+if_polls ls e = absurd cc
+
 module _ (k : List Node) (s : CodedStore) where
   created : (r : Redex) (x : Told) (p : ℕ) (service : Option Text) → IsRedex r x → contract (store_of k s) r ≡ Communicates (Creates p service) → r.head ≡ term.Active service → r.places ≡ p ∷ [] → IsObject (cell (store_of k s) p) → asked_in s x ≡ Some (Creates p service)
   created r redex.Goes p service h e head places at = absurd (goes_on r (store_of k s) (Creates p service) (h.goes (store_of k s)) e)
@@ -110,6 +114,7 @@ module _ (k : List Node) (s : CodedStore) where
   created r (redex.Size i) p service h _ head places at = absurd cc
   created r (redex.Member i j) p service h _ head places at = absurd cc
   created r (redex.WaitAll i) p service h _ head places at = absurd cc
+  created r (redex.Pending ls) p service h _ head places at = absurd cc
 
   sent : (r : Redex) (x : Told) (i : ℕ) (n : List ℕ) (l : Text) (js : List ℕ) → IsRedex r x → contract (store_of k s) r ≡ Communicates (Sends n l js) → r.head ≡ term.Call l → r.places ≡ i ∷ js → cell (store_of k s) i ≡ store.Reference n → asked_in s x ≡ Some (Sends n l js)
   sent r redex.Goes i n l js h e head places at = absurd (goes_on r (store_of k s) (Sends n l js) (h.goes (store_of k s)) e)
@@ -132,6 +137,7 @@ module _ (k : List Node) (s : CodedStore) where
   sent r (redex.Size j) i n l js h _ head places at = absurd cc
   sent r (redex.Member j q) i n l js h _ head places at = absurd cc
   sent r (redex.WaitAll j) i n l js h _ head places at = absurd cc
+  sent r (redex.Pending ls) i n l js h _ head places at = absurd cc
 
   served : (r : Redex) (x : Told) (ls : List Text) → IsRedex r x → contract (store_of k s) r ≡ Communicates (Serves ls) → r.head ≡ term.Serve ls → asked_in s x ≡ Some (Serves ls)
   served r redex.Goes ls h e head = absurd (goes_on r (store_of k s) (Serves ls) (h.goes (store_of k s)) e)
@@ -148,12 +154,31 @@ module _ (k : List Node) (s : CodedStore) where
   served r (redex.Size i) ls h _ head = absurd cc
   served r (redex.Member i j) ls h _ head = absurd cc
   served r (redex.WaitAll i) ls h _ head = absurd cc
+  served r (redex.Pending ms) ls h _ head = absurd cc
+
+  polled : (r : Redex) (x : Told) (ls : List Text) → IsRedex r x → contract (store_of k s) r ≡ Communicates (Polls ls) → r.head ≡ term.Pending ls → asked_in s x ≡ Some (Polls ls)
+  polled r redex.Goes ls h e head = absurd (goes_on r (store_of k s) (Polls ls) (h.goes (store_of k s)) e)
+  polled r (redex.Get i l) ls h _ head = absurd cc
+  polled r (redex.Put i l j) ls h _ head = absurd cc
+  polled r (redex.Call i l ks) ls h _ head = absurd cc
+  polled r (redex.Clone i) ls h _ head = absurd cc
+  polled r (redex.Active i l) ls h _ head = absurd cc
+  polled r (redex.Serve ms) ls h _ head = absurd cc
+  polled r (redex.If i) ls h _ head = absurd (if_polls ls (sym (ap (λ (q : Redex). q.head) h.2) ∙ head))
+  polled r (redex.Operate sign i j) ls h _ head = absurd cc
+  polled r (redex.Print i) ls h _ head = absurd cc
+  polled r (redex.Scatter i l j) ls h _ head = absurd cc
+  polled r (redex.Size i) ls h _ head = absurd cc
+  polled r (redex.Member i j) ls h _ head = absurd cc
+  polled r (redex.WaitAll i) ls h _ head = absurd cc
+  polled r (redex.Pending ms) ls h _ head = cc
 
   -- what the redex asks of others is told
   pub asked : (r : Redex) (x : Told) (y : Communication) → IsRedex r x → contract (store_of k s) r ≡ Communicates y → asked_in s x ≡ Some y
   asked r x (Creates p service) h e = let a = contract_asks (store_of k s) r (Communicates (Creates p service)) e in created r x p service h e a.0 a.1 a.2
   asked r x (Sends n l js) h e = let a = contract_asks (store_of k s) r (Communicates (Sends n l js)) e in sent r x a.0 n l js h e a.1 a.2 a.3
   asked r x (Serves ls) h e = served r x ls h e (contract_asks (store_of k s) r (Communicates (Serves ls)) e)
+  asked r x (Polls ls) h e = polled r x ls h e (contract_asks (store_of k s) r (Communicates (Polls ls)) e)
 
 -- What is asked as the store stands
 
@@ -197,6 +222,7 @@ module _ (k : List Node) (s : CodedStore) where
   asks r (redex.Active i l) y h e = ap (contract (store_of k s)) h ∙ created_now k (store_of k s) i (lent_text l) (cell_at s i) y (cell_seen k s i (cell_at s i) refl) e
   asks r (redex.Call i l ks) y h e = ap (contract (store_of k s)) h ∙ sent_now k (store_of k s) i l.now.text ks.now (cell_at s i) y (cell_seen k s i (cell_at s i) refl) e
   asks r (redex.Serve ls) y h e = ap (contract (store_of k s)) h ∙ ap Communicates (some_is e)
+  asks r (redex.Pending ls) y h e = ap (contract (store_of k s)) h ∙ ap Communicates (some_is e)
   asks r redex.Goes y h e = absurd cc
   asks r (redex.Get i l) y h e = absurd cc
   asks r (redex.Put i l j) y h e = absurd cc
@@ -255,6 +281,7 @@ labels_told s (redex.Scatter i l j) ls e = ap labels_of e
 labels_told s (redex.Size i) ls e = ap labels_of e
 labels_told s (redex.Member i j) ls e = ap labels_of e
 labels_told s (redex.WaitAll i) ls e = ap labels_of e
+labels_told s (redex.Pending ms) ls e = ap labels_of e
 
 -- the labels of a `serve` are told
 pub serve_labels : (k : List Node) (s : CodedStore) (r : Redex) (x : Told) (ls : List Text) → IsRedex r x → contract (store_of k s) r ≡ Communicates (Serves ls) → labels_in x ≡ ls
@@ -287,6 +314,7 @@ placed n r (redex.Scatter i l j) h b = tt
 placed n r (redex.Size i) h b = tt
 placed n r (redex.Member i j) h b = tt
 placed n r (redex.WaitAll i) h b = tt
+placed n r (redex.Pending ls) h b = tt
 
 sent_within : (n : ℕ) (c : CodedCell) (l : Text) (ks : List ℕ) → AreBelow n ks → IsWithin n (sent_to c l ks)
 sent_within n (coded.Reference m) l ks h = h
@@ -318,6 +346,7 @@ asked_within n s r (redex.Scatter i l j) h b = tt
 asked_within n s r (redex.Size i) h b = tt
 asked_within n s r (redex.Member i j) h b = tt
 asked_within n s r (redex.WaitAll i) h b = tt
+asked_within n s r (redex.Pending ls) h b = tt
 
 -- strict operands are among the places
 pub operands_within : (n : ℕ) (r : Redex) (x : Told) → IsRedex r x → AreBelow n r.places → AreBelow n (operands r)
@@ -335,6 +364,7 @@ operands_within n r (redex.Scatter i l j) h b = subst (AreBelow n) (sym (ap oper
 operands_within n r (redex.Size i) h b = subst (AreBelow n) (sym (ap operands h)) (subst (AreBelow n) (ap places h) b)
 operands_within n r (redex.Member i j) h b = subst (AreBelow n) (sym (ap operands h)) (subst (AreBelow n) (ap places h) b)
 operands_within n r (redex.WaitAll i) h b = subst (AreBelow n) (sym (ap operands h)) (subst (AreBelow n) (ap places h) b)
+operands_within n r (redex.Pending ls) h b = subst (AreBelow n) (sym (ap operands h)) tt
 
 members_within : (s : Store) (c : CellShape) (k : ℕ) → AreBelow k (reached c) → AreBelow k (members_of c)
 members_within s (store.Number z) k h = tt
@@ -364,6 +394,11 @@ serve_goes s ls [] none t u added e = cc
 serve_goes s ls [] (more x xs) t u added e = cc
 serve_goes s ls (n ∷ ns) ts t u added e = cc
 
+pub pending_goes : (s : Store) (ls : List Text) (ns : List ℕ) (ts : Trees) (t : Tree) (u : Store) (added : List LineShape) → contract s (record { head = term.Pending ls; places = ns; behind = ts }) ≡ Becomes t u added → ⊥
+pending_goes s ls [] none t u added e = cc
+pending_goes s ls [] (more x xs) t u added e = cc
+pending_goes s ls (n ∷ ns) ts t u added e = cc
+
 free_asks : (h : Head) (ns : List ℕ) (ts : Trees) (c : CellShape) → ((s : Store) → (t : Tree) × (u : Store) × (added : List LineShape) × (contract s (record { head = h; places = ns; behind = ts }) ≡ Becomes t u added)) → labels_of_head h c ≡ []
 free_asks (term.Serve ls) ns ts c goes = let g = goes [] in absurd (serve_goes [] ls ns ts g.0 g.1 g.2 g.3)
 free_asks h ns ts c goes = refl
@@ -383,6 +418,7 @@ asks_for r (redex.Scatter i l k) c h = ap (λ (q : Redex). labels_of_head q.head
 asks_for r (redex.Size i) c h = ap (λ (q : Redex). labels_of_head q.head c) h
 asks_for r (redex.Member i k) c h = ap (λ (q : Redex). labels_of_head q.head c) h
 asks_for r (redex.WaitAll i) c h = ap (λ (q : Redex). labels_of_head q.head c) h
+asks_for r (redex.Pending ls) c h = ap (λ (q : Redex). labels_of_head q.head c) h
 
 -- an activity at a redex asks for what that asks for
 pub wanted_at : (a : Activity) (x : Told) → IsAt a x → labels_wanted a ≡ asked_for x (cell a.store a.active)

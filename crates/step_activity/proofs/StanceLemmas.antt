@@ -13,9 +13,9 @@ use Rattle.asp_model.specs.Term as term
 use Rattle.asp_model.specs.Chase as chase
 use Rattle.asp_model.specs.Chase.{Chase}
 use Rattle.asp_model.specs.Contraction as contraction
-use Rattle.asp_model.specs.Contraction.{Communication, Contraction, Becomes, Faults, Communicates, Breaks, Creates, Sends, Serves, LineShape, active_row, contract, first_future, is_future, row, strict_members, strict_operands}
+use Rattle.asp_model.specs.Contraction.{Communication, Contraction, Becomes, Faults, Communicates, Breaks, Creates, Sends, Serves, Polls, LineShape, active_row, contract, first_future, is_future, row, strict_members, strict_operands}
 use Rattle.asp_model.specs.Configuration as model
-use Rattle.asp_model.specs.Configuration.{RequestShape, ServiceShape}
+use Rattle.asp_model.specs.Configuration.{Poll, RequestShape, ServiceShape}
 use Rattle.asp_model.specs.Intent as intent
 use Rattle.asp_model.specs.Intent.{Acts, Intent, Lacks, Numbered, Reads, Ready, contracts, ends_service, labels_served, newest, oldest_match, redex_ready, serves}
 use Rattle.asp_model.specs.Shapes.{fault_shape, future_shape}
@@ -24,6 +24,7 @@ use Rattle.def_journals.specs.Owed.{need_at, need_in, needed_at}
 use Rattle.step_rows.specs.declared.redex.Redex.{Redex as Told}
 use Rattle.step_rows.specs.declared.redex.Redex.TheVariants as redex
 use Rattle.step_rows.specs.Redexes.{IsFree, IsRedex}
+use Rattle.law_chases.proofs.FutureLemmas.{no_some}
 use Rattle.code_table.specs.declared.code.Node.{Node}
 use Rattle.code_table.specs.Cells as coded
 use Rattle.code_table.specs.Cells.{CodedCell, CodedStore, cell_at}
@@ -44,7 +45,7 @@ use Rattle.step_activity.specs.Outlook.{IsOutlook}
 use Rattle.step_activity.specs.Stances.{IsHeld, StanceShape, Goes, Needs, Rests, asks_others, free_stance, held_places, held_stance, place_stance, stance_by, stance_of}
 use Rattle.step_activity.proofs.HeldLemmas.{held_are, redex_lacks, redex_reads}
 use Rattle.step_activity.proofs.IntentLemmas.{intended, intent_at, intent_redex}
-use Rattle.step_activity.proofs.RedexLemmas.{asked, serve_goes}
+use Rattle.step_activity.proofs.RedexLemmas.{asked, pending_goes, serve_goes}
 
 -- By where the term splits
 
@@ -162,6 +163,7 @@ becomes_asks : (s : Store) (r : Redex) (x : Told) (t : Tree) (u : Store) (ls : L
 becomes_asks s r (redex.Active i l) t u ls is e =
     absurd (active_becomes i _ (first_future s (i ∷ [])) (cell s i) t u ls (ap (contract s) (sym is) ∙ e))
 becomes_asks s r (redex.Serve labels) t u ls is e = absurd (serve_goes s _ [] term.none t u ls (ap (contract s) (sym is) ∙ e))
+becomes_asks s r (redex.Pending labels) t u ls is e = absurd (pending_goes s _ [] term.none t u ls (ap (contract s) (sym is) ∙ e))
 becomes_asks s r x t u ls is e = refl
 
 sends_none : (c : CodedCell) (l : Text) (ks : List ℕ) (y : Communication) → sent_to c l ks ≡ Some y → (m : Name) × (y ≡ Sends m l ks)
@@ -174,6 +176,7 @@ sends_none (coded.Group ns) l ks y e = absurd cc
 creates_asks : (s : CodedStore) (x : Told) (p : ℕ) (service : Option Text) → asked_in s x ≡ Some (Creates p service) → true ≡ asks_others x
 creates_asks s (redex.Active i l) p service e = refl
 creates_asks s (redex.Serve ls) p service e = refl
+creates_asks s (redex.Pending ls) p service e = refl
 creates_asks s (redex.Call i l ks) p service e =
     let sends = sends_none (cell_at s i) l.now.text ks.now (Creates p service) e in
     let is : Creates p service ≡ Sends sends.0 l.now.text ks.now = sends.1 in
@@ -183,6 +186,7 @@ creates_asks s x p service e = absurd cc
 serves_asks : (s : CodedStore) (x : Told) (labels : List Text) → asked_in s x ≡ Some (Serves labels) → true ≡ asks_others x
 serves_asks s (redex.Active i l) labels e = refl
 serves_asks s (redex.Serve ls) labels e = refl
+serves_asks s (redex.Pending ls) labels e = refl
 serves_asks s (redex.Call i l ks) labels e =
     let sends = sends_none (cell_at s i) l.now.text ks.now (Serves labels) e in
     let is : Serves labels ≡ Sends sends.0 l.now.text ks.now = sends.1 in
@@ -195,11 +199,11 @@ module _ (rs : List RequestShape) (n : Name) (a : model.Activity) (cs : List Con
   abbrev By : Contraction → StanceShape
   By c = stance_by (is_asking c) (contracts rs n a cs s c)
 
-  serves_steps : (b : Bool) (o : Option Numbered) → IsOutlook (serves a cs o) outlook.Steps → true ≡ b → Goes b ≡ stance_by true (serves a cs o)
+  serves_steps : (b : Bool) (o : Option Numbered) → IsOutlook n (serves a cs o) outlook.Steps → true ≡ b → Goes b ≡ stance_by true (serves a cs o)
   serves_steps b None h e = absurd h
   serves_steps b (Some x) h e = ap Goes (sym e)
 
-  steps_by : (b : Bool) (c : Contraction) → IsOutlook (contracts rs n a cs s c) outlook.Steps
+  steps_by : (b : Bool) (c : Contraction) → IsOutlook n (contracts rs n a cs s c) outlook.Steps
       → ((t : Tree) (u : Store) (ls : List LineShape) → c ≡ Becomes t u ls → b ≡ false)
       → ((p : ℕ) (service : Option Text) → c ≡ Communicates (Creates p service) → true ≡ b)
       → ((labels : List Text) → c ≡ Communicates (Serves labels) → true ≡ b)
@@ -207,25 +211,41 @@ module _ (rs : List RequestShape) (n : Name) (a : model.Activity) (cs : List Con
   steps_by b (Becomes t u ls) h becomes creates serving = ap Goes (becomes t u ls refl)
   steps_by b (Communicates (Creates p service)) h becomes creates serving = ap Goes (sym (creates p service refl))
   steps_by b (Communicates (Serves labels)) h becomes creates serving = serves_steps b (oldest_match (labels_served labels (cell s a.active)) a.served 0 rs) h (serving labels refl)
-  steps_by b (Communicates (Sends m l ks)) h becomes creates serving = absurd cc
+  steps_by b (Communicates (Sends m l ks)) h becomes creates serving = no_some (sym h.0)
+  steps_by b (Communicates (Polls labels)) h becomes creates serving = no_some (sym h.1)
   steps_by b (Faults f) h becomes creates serving = absurd h
   steps_by b (contraction.Needs p) h becomes creates serving = absurd h
   steps_by b Breaks h becomes creates serving = absurd h
 
-  serves_sends : (m : Bor Name) (o : Option Numbered) → IsOutlook (serves a cs o) (outlook.Sends m) → Goes true ≡ stance_by true (serves a cs o)
+  serves_sends : (m : Bor Name) (o : Option Numbered) → IsOutlook n (serves a cs o) (outlook.Sends m) → Goes true ≡ stance_by true (serves a cs o)
   serves_sends m None h = absurd h
   serves_sends m (Some x) h = absurd h
 
-  sends_by : (m : Bor Name) (c : Contraction) → IsOutlook (contracts rs n a cs s c) (outlook.Sends m) → Goes true ≡ By c
+  sends_by : (m : Bor Name) (c : Contraction) → IsOutlook n (contracts rs n a cs s c) (outlook.Sends m) → Goes true ≡ By c
   sends_by m (Communicates (Sends k l ks)) h = refl
   sends_by m (Communicates (Creates p service)) h = absurd h
+  sends_by m (Communicates (Polls labels)) h = absurd h
   sends_by m (Communicates (Serves labels)) h = serves_sends m (oldest_match (labels_served labels (cell s a.active)) a.served 0 rs) h
   sends_by m (Becomes t u ls) h = absurd h
   sends_by m (Faults f) h = absurd h
   sends_by m (contraction.Needs p) h = absurd h
   sends_by m Breaks h = absurd h
 
-  rests_awaits : (g : Bor FutureName) (b : Bool) (i : Intent) → IsOutlook i (outlook.Awaits g) → Rests (intent.Awaits (future_shape g.now)) ≡ stance_by b i
+  serves_polls : (o : Option Numbered) → IsOutlook n (serves a cs o) outlook.Polls → Goes true ≡ stance_by true (serves a cs o)
+  serves_polls None h = absurd h
+  serves_polls (Some x) h = refl
+
+  polls_by : (c : Contraction) → IsOutlook n (contracts rs n a cs s c) outlook.Polls → Goes true ≡ By c
+  polls_by (Communicates (Polls labels)) h = refl
+  polls_by (Communicates (Sends k l ks)) h = refl
+  polls_by (Communicates (Creates p service)) h = refl
+  polls_by (Communicates (Serves labels)) h = serves_polls (oldest_match (labels_served labels (cell s a.active)) a.served 0 rs) h
+  polls_by (Becomes t u ls) h = no_some h
+  polls_by (Faults f) h = absurd h
+  polls_by (contraction.Needs p) h = absurd h
+  polls_by Breaks h = absurd h
+
+  rests_awaits : (g : Bor FutureName) (b : Bool) (i : Intent) → IsOutlook n i (outlook.Awaits g) → Rests (intent.Awaits (future_shape g.now)) ≡ stance_by b i
   rests_awaits g b (intent.Rests (intent.Awaits f)) h = ap (λ (x : FutureShape). Rests (intent.Awaits x)) (sym h)
   rests_awaits g b (intent.Rests (intent.Faulted x)) h = absurd h
   rests_awaits g b (intent.Rests intent.Serving) h = absurd h
@@ -233,7 +253,7 @@ module _ (rs : List RequestShape) (n : Name) (a : model.Activity) (cs : List Con
   rests_awaits g b (intent.Rests intent.Running) h = absurd h
   rests_awaits g b (Acts e) h = absurd h
 
-  rests_faulted : (y : Fault) (b : Bool) (i : Intent) → IsOutlook i (outlook.Faulted y) → Rests (intent.Faulted (fault_shape y)) ≡ stance_by b i
+  rests_faulted : (y : Fault) (b : Bool) (i : Intent) → IsOutlook n i (outlook.Faulted y) → Rests (intent.Faulted (fault_shape y)) ≡ stance_by b i
   rests_faulted y b (intent.Rests (intent.Faulted x)) h = ap (λ (z : contraction.FaultShape). Rests (intent.Faulted z)) (sym h)
   rests_faulted y b (intent.Rests (intent.Awaits f)) h = absurd h
   rests_faulted y b (intent.Rests intent.Serving) h = absurd h
@@ -241,7 +261,7 @@ module _ (rs : List RequestShape) (n : Name) (a : model.Activity) (cs : List Con
   rests_faulted y b (intent.Rests intent.Running) h = absurd h
   rests_faulted y b (Acts e) h = absurd h
 
-  rests_serving : (b : Bool) (i : Intent) → IsOutlook i outlook.Serving → Rests intent.Serving ≡ stance_by b i
+  rests_serving : (b : Bool) (i : Intent) → IsOutlook n i outlook.Serving → Rests intent.Serving ≡ stance_by b i
   rests_serving b (intent.Rests intent.Serving) h = refl
   rests_serving b (intent.Rests (intent.Awaits f)) h = absurd h
   rests_serving b (intent.Rests (intent.Faulted x)) h = absurd h
@@ -249,7 +269,7 @@ module _ (rs : List RequestShape) (n : Name) (a : model.Activity) (cs : List Con
   rests_serving b (intent.Rests intent.Running) h = absurd h
   rests_serving b (Acts e) h = absurd h
 
-  rests_done : (b : Bool) (i : Intent) → IsOutlook i outlook.Done → Rests intent.Done ≡ stance_by b i
+  rests_done : (b : Bool) (i : Intent) → IsOutlook n i outlook.Done → Rests intent.Done ≡ stance_by b i
   rests_done b (intent.Rests intent.Done) h = refl
   rests_done b (intent.Rests (intent.Awaits f)) h = absurd h
   rests_done b (intent.Rests (intent.Faulted x)) h = absurd h
@@ -257,13 +277,14 @@ module _ (rs : List RequestShape) (n : Name) (a : model.Activity) (cs : List Con
   rests_done b (intent.Rests intent.Running) h = absurd h
   rests_done b (Acts e) h = absurd h
 
-  outlook_by : (b : Bool) (o : Outlook) (c : Contraction) → IsOutlook (contracts rs n a cs s c) o
+  outlook_by : (b : Bool) (o : Outlook) (c : Contraction) → IsOutlook n (contracts rs n a cs s c) o
       → ((t : Tree) (u : Store) (ls : List LineShape) → c ≡ Becomes t u ls → b ≡ false)
       → ((p : ℕ) (service : Option Text) → c ≡ Communicates (Creates p service) → true ≡ b)
       → ((labels : List Text) → c ≡ Communicates (Serves labels) → true ≡ b)
       → free_stance b o ≡ By c
   outlook_by b outlook.Steps c h becomes creates serving = steps_by b c h becomes creates serving
   outlook_by b (outlook.Sends m) c h becomes creates serving = sends_by m c h
+  outlook_by b outlook.Polls c h becomes creates serving = polls_by c h
   outlook_by b (outlook.Awaits g) c h becomes creates serving = rests_awaits g (is_asking c) (contracts rs n a cs s c) h
   outlook_by b (outlook.Faulted y) c h becomes creates serving = rests_faulted y (is_asking c) (contracts rs n a cs s c) h
   outlook_by b outlook.Serving c h becomes creates serving = rests_serving (is_asking c) (contracts rs n a cs s c) h
@@ -271,10 +292,10 @@ module _ (rs : List RequestShape) (n : Name) (a : model.Activity) (cs : List Con
 
 -- where no operand is a future: by what it does next, and whether its redex asks others
 pub stance_free : (chases : FutureShape → Chase) (rs : List RequestShape) (n : Name) (a : model.Activity) (cs : List Context) (r : Redex) (e : split a.term ≡ Splits cs r) → first_future a.store (operands chases rs n a cs r e) ≡ None
-    → (k : List Node) (cells : CodedStore) → store_of k cells ≡ a.store → (x : Told) → IsRedex r x → (o : Outlook) → IsOutlook (intent.intent chases rs n a) o → free_stance (asks_others x) o ≡ stance_of chases rs n a
+    → (k : List Node) (cells : CodedStore) → store_of k cells ≡ a.store → (x : Told) → IsRedex r x → (o : Outlook) → IsOutlook n (intent.intent chases rs n a) o → free_stance (asks_others x) o ≡ stance_of chases rs n a
 stance_free chases rs n a cs r e none k cells own x is o h =
     let c : Contraction = contract a.store r in
-    let intends : IsOutlook (contracts rs n a cs a.store c) o = subst (λ (i : Intent). IsOutlook i o) (intent_free chases rs n a cs r e none) h in
+    let intends : IsOutlook n (contracts rs n a cs a.store c) o = subst (λ (i : Intent). IsOutlook n i o) (intent_free chases rs n a cs r e none) h in
     let here : contract (store_of k cells) r ≡ c = ap (λ (t : Store). contract t r) own in
     outlook_by rs n a cs a.store (asks_others x) o c intends
     (λ t u ls q. becomes_asks a.store r x t u ls is q)

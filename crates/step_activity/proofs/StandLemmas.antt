@@ -30,14 +30,12 @@ AreCoded k es = AllByRecursion (λ e. arc_value e.1.arguments.code ≡ k) es
 pub record Keeps (x z : Actor) : Type 0 where
   pub pending : z.queue.pending ≡ x.queue.pending
   pub arrived : z.queue.arrived ≡ x.queue.arrived
-  pub senders : z.senders.items ≡ x.senders.items
   pub code : code_of z ≡ code_of x
 
 pub queue_to : (x z : Actor) (served : List ℕ) (rs : List RequestShape) → Keeps x z → IsQueue x served rs → IsQueue z served rs
 queue_to x z served rs k h = record {
   pending = ap (map numbered) k.pending ∙ h.pending;
   arrived = k.arrived ∙ h.arrived;
-  senders = k.senders ∙ h.senders;
   below = h.below;
   coded = subst (AreCoded (code_of z)) (sym k.pending) (subst (λ (m : List Node). AreCoded m x.queue.pending) (sym k.code) h.coded);
 }
@@ -50,7 +48,7 @@ stands_knowing x y k a b rs h for code sends creations served clear =
       activity = for;
       sends = h.sends ∙ sends;
       creations = h.creations ∙ creations;
-      queue = subst (λ (ns : List ℕ). IsQueue z ns rs) served (queue_to x z a.served rs (record { pending = refl; arrived = refl; senders = refl; code = code }) h.queue);
+      queue = subst (λ (ns : List ℕ). IsQueue z ns rs) served (queue_to x z a.served rs (record { pending = refl; arrived = refl; code = code }) h.queue);
       clear = clear;
     }
 

@@ -1,13 +1,14 @@
--- The activity of a configuration that an actor stands for, and the requests that it received.
+-- The activity of a configuration that an actor stands for, the requests that it received, and its log.
 use Rattle.std.specs.Prelude.{◌≡◌, ℕ, List, length, map, Some}
 use Rattle.std.specs.Prelude.{slice_get}
 use Rattle.std.specs.List.{AllByRecursion}
 use Rattle.std.specs.Arc.{arc_value}
 use Rattle.asp_model.specs.Configuration as model
-use Rattle.asp_model.specs.Configuration.{RequestShape}
+use Rattle.asp_model.specs.Configuration.{ReceptionShape, RequestShape}
 use Rattle.asp_model.specs.Names.{FutureShape}
 use Rattle.asp_model.specs.Chase.{Chase}
 use Rattle.asp_model.specs.Intent.{redex_ready}
+use Rattle.asp_model.specs.Shapes.{reception_shape}
 use Rattle.asp_model.specs.Split as terms
 use Rattle.asp_model.specs.Split.{Context, Splits, split}
 use Rattle.law_steps.specs.Closed.{AreBelow, IsClosedActivity, IsClosedParcel}
@@ -24,11 +25,14 @@ use Rattle.step_activity.specs.Clear.{HasClear}
 abbrev pub code_of : Actor → List Node
 code_of x = step.code_of x.activity
 
--- what it received from these senders: the pending requests are those that were not served
+-- what it received and asked, oldest first
+abbrev pub log_in : Actor → List ReceptionShape
+log_in x = map reception_shape x.log.items
+
+-- what it received: the pending requests are those that were not served
 pub record IsQueue (x : Actor) (served : List ℕ) (rs : List RequestShape) : Type 0 where
   pub pending : waiting x.queue ≡ pending_of served 0 rs
   pub arrived : x.queue.arrived ≡ length rs
-  pub senders : x.senders.items ≡ map (λ r. r.sender) rs
   pub below : AreBelow (length rs) served
   -- the arguments of the pending requests are of its code
   pub coded : AllByRecursion (λ e. arc_value e.1.arguments.code ≡ code_of x) x.queue.pending

@@ -5,7 +5,7 @@ use Rattle.std.specs.Borrow.{Bor}
 use Rattle.asp_model.specs.declared.word.Label.{Label}
 use Rattle.asp_model.specs.Names.{Text}
 use Rattle.asp_model.specs.Store.{CellShape}
-use Rattle.asp_model.specs.Contraction.{Communication, Contraction, Communicates, Creates, Sends, Serves}
+use Rattle.asp_model.specs.Contraction.{Communication, Contraction, Communicates, Creates, Sends, Serves, Polls}
 use Rattle.asp_model.specs.Intent.{labels_served}
 use Rattle.step_rows.specs.declared.redex.Redex.{Redex}
 use Rattle.step_rows.specs.declared.redex.Redex.TheVariants as redex
@@ -32,6 +32,7 @@ abbrev pub asked_shape : Asked → Option Communication
 asked_shape (asked.Creates i l) = Some (Creates i (lent_text l))
 asked_shape (asked.Sends n l ks) = Some (Sends n.now l.now.text ks.now)
 asked_shape (asked.Serves ls) = Some (Serves (map label_text ls.now))
+asked_shape (asked.Polls ls) = Some (Polls (map label_text ls.now))
 asked_shape asked.Nothing = None
 
 -- the receiver is another activity
@@ -48,6 +49,7 @@ abbrev pub asked_in : CodedStore → Redex → Option Communication
 asked_in s (redex.Active i l) = created_at (cell_at s i) i (lent_text l)
 asked_in s (redex.Call i l ks) = sent_to (cell_at s i) l.now.text ks.now
 asked_in s (redex.Serve ls) = Some (Serves (map label_text ls.now))
+asked_in s (redex.Pending ls) = Some (Polls (map label_text ls.now))
 asked_in s x = None
 
 -- a redex that comes to this asks so of others
@@ -77,6 +79,7 @@ abbrev pub communicates : Advance → Bool
 communicates (advance.Creates p) = true
 communicates advance.Sends = true
 communicates advance.Serves = true
+communicates advance.Polls = true
 communicates r = false
 
 -- the class of an object; another cell has none

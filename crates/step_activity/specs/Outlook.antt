@@ -5,6 +5,7 @@ use Rattle.asp_model.specs.Configuration.{RequestShape}
 use Rattle.asp_model.specs.Intent as intent
 use Rattle.asp_model.specs.Intent.{Intent, Acts, Rests}
 use Rattle.asp_model.specs.Shapes.{fault_shape, future_shape}
+use Rattle.law_steps.specs.Steps.{IsPoll}
 use Rattle.step_parts.specs.declared.outlook.Outlook.{Outlook}
 use Rattle.step_parts.specs.declared.outlook.Outlook.TheVariants as outlook
 
@@ -13,12 +14,13 @@ abbrev pub IsTo : Option (Name × RequestShape) → Name → Type 0
 IsTo None n = ⊥
 IsTo (Some x) n = x.0 ≡ n
 
--- the intent acts, and sends to no other or to this one; or it rests so
-abbrev pub IsOutlook : Intent → Outlook → Type 0
-IsOutlook (Acts e) outlook.Steps = e.sent ≡ None
-IsOutlook (Acts e) (outlook.Sends n) = IsTo e.sent n.now
-IsOutlook (Rests (intent.Awaits f)) (outlook.Awaits g) = f ≡ future_shape g.now
-IsOutlook (Rests (intent.Faulted x)) (outlook.Faulted y) = x ≡ fault_shape y
-IsOutlook (Rests intent.Serving) outlook.Serving = Unit {0}
-IsOutlook (Rests intent.Done) outlook.Done = Unit {0}
-IsOutlook p o = ⊥
+-- the intent of this activity acts, and logs nothing, or sends to this one, or polls; or it rests so
+abbrev pub IsOutlook : Name → Intent → Outlook → Type 0
+IsOutlook n (Acts e) outlook.Steps = (e.sent ≡ None) × (e.logged ≡ None)
+IsOutlook n (Acts e) (outlook.Sends m) = IsTo e.sent m.now
+IsOutlook n (Acts e) outlook.Polls = IsPoll n e
+IsOutlook n (Rests (intent.Awaits f)) (outlook.Awaits g) = f ≡ future_shape g.now
+IsOutlook n (Rests (intent.Faulted x)) (outlook.Faulted y) = x ≡ fault_shape y
+IsOutlook n (Rests intent.Serving) outlook.Serving = Unit {0}
+IsOutlook n (Rests intent.Done) outlook.Done = Unit {0}
+IsOutlook n p o = ⊥

@@ -59,6 +59,7 @@ held_stance (chase.Cycle f) p = Rests (intent.Awaits f)
 abbrev pub asks_others : Redex → Bool
 asks_others (redex.Active i l) = true
 asks_others (redex.Serve ls) = true
+asks_others (redex.Pending ls) = true
 asks_others x = false
 
 -- at a place a service ends, if one is suspended

@@ -6,14 +6,15 @@ ghost use Rattle.asp_model.specs.Configuration as model;
 ghost use Rattle.asp_model.specs.Configuration.{RequestShape};
 ghost use Rattle.asp_model.specs.Contraction.{contract};
 ghost use Rattle.asp_model.specs.Intent.{contracts, ends_service, intent, newest};
+ghost use Rattle.asp_model.specs.Names.{Name};
 ghost use Rattle.asp_model.specs.Split as terms;
 ghost use Rattle.asp_model.specs.Split.{Context, Redex, Splits, split};
 ghost use Rattle.activity_step.specs.Activities.{StandsFor};
 ghost use Rattle.future_table.specs.Values.{AreOfCode, values_of};
 ghost use Rattle.step_reads.specs.Values.{AreClosedValues};
-ghost use Rattle.step_activity.specs.Actors.{HasOperands, IsClosedFor, Stands, code_of};
+ghost use Rattle.step_activity.specs.Actors.{HasOperands, IsClosedFor, Stands, code_of, log_in};
 ghost use Rattle.step_activity.specs.Asking.{communicates};
-ghost use Rattle.step_activity.specs.Effects.{IsDoneBy, IsGivenOf};
+ghost use Rattle.step_activity.specs.Effects.{IsDoneBy, IsGivenOf, IsLogAfter};
 
 use crate::actor::Actor;
 use crate::asked::Asked;
@@ -36,6 +37,8 @@ pub enum Given {
     Sent(ActivityName, Request),
     /// The value of a future.
     Filled(FutureName, Parcel),
+    /// Nothing, and the activity asked what is pending.
+    Polled,
 }
 
 impl Actor {
@@ -52,7 +55,8 @@ impl Actor {
         requires code { AreOfCode (code_of self.old) futures.now }
         ensures acts { (a : model.Activity) (rs : List RequestShape) → Stands self.old a rs →
             let intended = intent (chase (values_of futures.now)) rs name.now a in
-            IfOk result (IsDoneBy intended rs self.new) }
+            IfOk result (IsDoneBy name.now intended rs self.new) }
+        ensures log { IfOk result (IsLogAfter (log_in self.old) (log_in self.new)) }
         ensures code { code_of self.new ≡ code_of self.old }
         ensures given { IfOk result (IsGivenOf (code_of self.old)) }
     {
@@ -78,6 +82,10 @@ impl Actor {
                 };
                 return self.serve(alloc, number);
             }
+            Asked::Polls(labels) => {
+                let answer = self.has_match(alloc, labels)?;
+                return self.poll(alloc, answer);
+            }
             Asked::Nothing => {
                 let strict = strict_of(redex);
                 return self.reduce(alloc, name, futures, strict);
@@ -89,9 +97,10 @@ impl Actor {
     fn end_service(&mut self, alloc: Global, place: Place) -> Result<Given, AllocError>
         requires closed { IsClosedFor self.old }
         requires within { place < length self.old.activity.state.store.cells }
-        ensures ended { (a : model.Activity) (rs : List RequestShape) → Stands self.old a rs →
-            split a.term ≡ terms.Stands place →
-            IfOk result (IsDoneBy (ends_service a place (newest a.services)) rs self.new) }
+        ensures ended { (a : model.Activity) (rs : List RequestShape) (n : Name) →
+            Stands self.old a rs → split a.term ≡ terms.Stands place →
+            IfOk result (IsDoneBy n (ends_service a place (newest a.services)) rs self.new) }
+        ensures log { IfOk result (IsLogAfter (log_in self.old) (log_in self.new)) }
         ensures code { code_of self.new ≡ code_of self.old }
         ensures given { IfOk result (IsGivenOf (code_of self.old)) }
     {
@@ -122,7 +131,8 @@ impl Actor {
             HasOperands a strict }
         ensures acts { (a : model.Activity) (rs : List RequestShape) → Stands self.old a rs →
             let intended = intent (chase (values_of futures.now)) rs name.now a in
-            IfOk result (IsDoneBy intended rs self.new) }
+            IfOk result (IsDoneBy name.now intended rs self.new) }
+        ensures log { IfOk result (IsLogAfter (log_in self.old) (log_in self.new)) }
         ensures code { code_of self.new ≡ code_of self.old }
         ensures given { IfOk result (IsGivenOf (code_of self.old)) }
     {
@@ -140,7 +150,8 @@ impl Actor {
         ensures contracts { (a : model.Activity) (rs : List RequestShape) (cs : List Context)
             (r : Redex) → Stands self.old a rs → split a.term ≡ Splits cs r →
             let intended = contracts rs name.now a cs a.store (contract a.store r) in
-            IfOk result (IsDoneBy intended rs self.new) }
+            IfOk result (IsDoneBy name.now intended rs self.new) }
+        ensures log { IfOk result (IsLogAfter (log_in self.old) (log_in self.new)) }
         ensures code { code_of self.new ≡ code_of self.old }
         ensures given { IfOk result (IsGivenOf (code_of self.old)) }
     {
@@ -159,6 +170,6 @@ fn is_communication(advance: Advance) -> bool
 {
     matches!(
         advance,
-        Advance::Creates(_) | Advance::Sends | Advance::Serves
+        Advance::Creates(_) | Advance::Sends | Advance::Serves | Advance::Polls
     )
 }

@@ -1,9 +1,9 @@
-//! An activity with the requests that it received.
+//! An activity with the requests that it received, and its log.
 
-ghost use Rattle.std.specs.Prelude.{◌≡◌, ◌∷◌, ◌++◌, [], IfOk, List, OnOk, length, map};
+ghost use Rattle.std.specs.Prelude.{◌≡◌, ◌∷◌, ◌++◌, [], IfOk, List, OnOk, length};
 ghost use Rattle.std.specs.Arc.{arc_value};
 ghost use Rattle.asp_model.specs.Configuration as model;
-ghost use Rattle.asp_model.specs.Configuration.{RequestShape, begun};
+ghost use Rattle.asp_model.specs.Configuration.{From, RequestShape, begun};
 ghost use Rattle.asp_model.specs.Shapes.{activity_shape as report_shape, status_shape};
 ghost use Rattle.asp_model.specs.Store.{Object as ObjectCell};
 ghost use Rattle.code_table.specs.Shapes.{store_of};
@@ -14,10 +14,10 @@ ghost use Rattle.activity_step.specs.Activities.{StandsFor};
 ghost use Rattle.def_paths.specs.Snapshots.{snapshot_of};
 ghost use Rattle.request_queue.specs.Requests.{request_shape};
 ghost use Rattle.run_ends.specs.Ends.{IsSnapshotOf};
-ghost use Rattle.step_activity.specs.Actors.{Stands, code_of};
+ghost use Rattle.step_activity.specs.Actors.{Stands, code_of, log_in};
 
 use activity_step::{Activity, State};
-use asp_model::{ActivityName, ActivityReport, Status};
+use asp_model::{ActivityName, ActivityReport, Reception, Status};
 use code_table::Code;
 use object_store::Store;
 use request_queue::{Queue, Request};
@@ -25,13 +25,13 @@ use run_ends::EndState;
 use std::alloc::{AllocError, Global};
 use std::sync::Arc;
 
-/// An activity with its pending requests, who sent all that it received, how many requests and
+/// An activity with its pending requests, what it received and asked, how many requests and
 /// activities it has made, and how many members of a group that it waits for are known to have come.
 #[derive(Drop)]
 pub struct Actor {
     pub(crate) activity: Activity,
     pub(crate) queue: Queue,
-    pub(crate) senders: Vec<ActivityName>,
+    pub(crate) log: Vec<Reception>,
     pub(crate) sends: u32,
     pub(crate) creations: u32,
     pub(crate) clear: usize,
@@ -42,12 +42,13 @@ impl Actor {
     pub(crate) fn begin(alloc: Global, activity: Activity) -> Actor
         ensures stands { (a : model.Activity) → StandsFor activity a → a.sends ≡ 0 →
             a.creations ≡ 0 → a.served ≡ [] → Stands result a [] }
+        ensures log { log_in result ≡ [] }
         ensures code { code_of result ≡ arc_value activity.code }
     {
         Actor {
             activity,
             queue: Queue::new(alloc),
-            senders: Vec::new(alloc),
+            log: Vec::new(alloc),
             sends: 0,
             creations: 0,
             clear: 0,
@@ -59,20 +60,22 @@ impl Actor {
         ensures stands { let k = arc_value code in
             let first = begun (tree [] (piece_at (pieces k) (root_of k))) (ObjectCell [] [] ∷ []) in
             IfOk result (λ x. Stands x first []) }
+        ensures log { IfOk result (λ x. log_in x ≡ []) }
         ensures code { IfOk result (λ x. code_of x ≡ arc_value code) }
     {
         Ok(Actor::begin(alloc, Activity::main(alloc, code)?))
     }
 
-    /// A request that comes. It is pending behind the others.
+    /// A request that comes. It is pending behind the others, and its sender is noted in the log.
     pub fn receive(&mut self, alloc: Global, request: Request) -> Result<(), AllocError>
         requires code { arc_value request.arguments.code ≡ code_of self.old }
         ensures stands { (a : model.Activity) (rs : List RequestShape) → Stands self.old a rs →
             OnOk result (Stands self.new a (rs ++ request_shape request ∷ [])) }
+        ensures log { OnOk result (log_in self.new ≡ log_in self.old ++ From request.sender ∷ []) }
         ensures code { code_of self.new ≡ code_of self.old }
     {
         let sender = request.sender.copy(alloc)?;
-        push_sender(&mut self.senders, sender)?;
+        push_reception(&mut self.log, Reception::From(sender))?;
         self.queue.push(request)?;
         Ok(())
     }
@@ -85,12 +88,11 @@ impl Actor {
         self.activity.count()
     }
 
-    /// How many requests it received.
-    pub fn received(&self) -> usize
-        ensures received { (a : model.Activity) (rs : List RequestShape) → Stands self.now a rs →
-            result ≡ length rs }
+    /// How many receptions its log has.
+    pub fn logged(&self) -> usize
+        ensures logged { result ≡ length (log_in self.now) }
     {
-        self.senders.len()
+        self.log.len()
     }
 
     /// The code that it runs.
@@ -115,7 +117,7 @@ impl Actor {
               name = name;
               count = a.reductions;
               status = status_shape status;
-              senders = map (λ r. r.sender) rs;
+              senders = log_in self;
               lines = a.lines;
             } }
         ensures state { (a : model.Activity) (rs : List RequestShape) → Stands self a rs →
@@ -132,7 +134,7 @@ impl Actor {
             name,
             count,
             status,
-            senders: self.senders,
+            senders: self.log,
             lines,
         };
         let end = EndState {
@@ -144,14 +146,17 @@ impl Actor {
     }
 }
 
-/// A name more. The first takes no more room than it needs, since most activities receive one
+/// A reception more. The first takes no more room than it needs, since most activities receive one
 /// request.
-fn push_sender(senders: &mut Vec<ActivityName>, sender: ActivityName) -> Result<(), AllocError>
-    ensures items { OnOk result (senders.new.items ≡ senders.old.items ++ sender ∷ []) }
+pub(crate) fn push_reception(
+    log: &mut Vec<Reception>,
+    reception: Reception,
+) -> Result<(), AllocError>
+    ensures items { OnOk result (log.new.items ≡ log.old.items ++ reception ∷ []) }
 {
-    if senders.is_empty() {
-        senders.reserve_exact(1)?;
+    if log.is_empty() {
+        log.reserve_exact(1)?;
     }
-    senders.push(sender)?;
+    log.push(reception)?;
     Ok(())
 }

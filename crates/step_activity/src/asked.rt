@@ -33,6 +33,8 @@ pub enum Asked<'a> {
     Sends(&'a ActivityName, &'a Label, &'a [Place]),
     /// The oldest request with one of these labels.
     Serves(&'a [Label]),
+    /// Whether a request with one of these labels is pending.
+    Polls(&'a [Label]),
     Nothing,
 }
 
@@ -51,6 +53,7 @@ fn asked_at<'a>(store: &'a Store, redex: Redex<'a>) -> Asked<'a>
             _ => Asked::Nothing,
         },
         Redex::Serve(labels) => Asked::Serves(labels),
+        Redex::Pending(labels) => Asked::Polls(labels),
         _ => Asked::Nothing,
     }
 }

@@ -1,27 +1,47 @@
 //! What a reduction asks of others.
 
-ghost use Rattle.std.specs.Prelude.{◌≡◌, ◌<◌, IfOk, IsSome, List, Some, length, suc, ℕ};
+ghost use Rattle.std.specs.Prelude.{
+  ◌≡◌,
+  ◌<◌,
+  IfOk,
+  IsSome,
+  List,
+  Option,
+  Some,
+  is_some,
+  length,
+  suc,
+  ℕ,
+};
 ghost use Rattle.std.specs.Arc.{arc_value};
 ghost use Rattle.std.specs.Option.{option_map};
 ghost use Rattle.asp_model.specs.Configuration as model;
 ghost use Rattle.asp_model.specs.Configuration.{RequestShape};
 ghost use Rattle.asp_model.specs.Contraction.{Communication, Communicates, contract};
-ghost use Rattle.asp_model.specs.Intent.{communicates, creates, oldest_match, sends, serves};
-ghost use Rattle.asp_model.specs.Names.{Text};
+ghost use Rattle.asp_model.specs.Intent.{
+  Numbered,
+  communicates,
+  creates,
+  oldest_match,
+  polls,
+  sends,
+  serves,
+};
+ghost use Rattle.asp_model.specs.Names.{Name, Text};
 ghost use Rattle.asp_model.specs.Parcel.{parcel_of};
 ghost use Rattle.asp_model.specs.Split.{Context, Redex, Splits, split};
 ghost use Rattle.activity_step.specs.Activities.{StandsFor};
 ghost use Rattle.code_table.specs.Shapes.{parcel_shape};
 ghost use Rattle.request_queue.specs.Pending.{request_at};
-ghost use Rattle.step_activity.specs.Actors.{IsClosedFor, Stands, code_of};
+ghost use Rattle.step_activity.specs.Actors.{IsClosedFor, Stands, code_of, log_in};
 ghost use Rattle.step_activity.specs.Asking.{IsWithin, asked_shape, lent_text, service_text};
-ghost use Rattle.step_activity.specs.Effects.{IsDoneBy, IsGivenOf};
+ghost use Rattle.step_activity.specs.Effects.{IsDoneBy, IsGivenOf, IsLogAfter};
 
 use crate::act::Given;
-use crate::actor::Actor;
+use crate::actor::{Actor, push_reception};
 use crate::asked::Asked;
 use activity_step::{Activity, Standing};
-use asp_model::{ActivityName, Label};
+use asp_model::{ActivityName, Label, Reception};
 use code_table::{Parcel, Place};
 use request_queue::Request;
 use std::alloc::{AllocError, Global};
@@ -35,7 +55,9 @@ impl Actor {
         ensures done { (a : model.Activity) (rs : List RequestShape) (cs : List Context) (r : Redex)
             (x : Communication) → Stands self.old a rs → split a.term ≡ Splits cs r →
             contract a.store r ≡ Communicates x →
-            IfOk result (IsDoneBy (communicates rs name.now a cs a.store x) rs self.new) }
+            let intended = communicates rs name.now a cs a.store x in
+            IfOk result (IsDoneBy name.now intended rs self.new) }
+        ensures log { IfOk result (IsLogAfter (log_in self.old) (log_in self.new)) }
         ensures code { code_of self.new ≡ code_of self.old }
         ensures given { IfOk result (IsGivenOf (code_of self.old)) }
     {
@@ -54,6 +76,10 @@ impl Actor {
                 Some(number) => self.serve(alloc, number),
                 None => Ok(Given::Nothing),
             },
+            Asked::Polls(labels) => {
+                let answer = self.has_match(alloc, labels)?;
+                self.poll(alloc, answer)
+            }
             Asked::Nothing => Ok(Given::Nothing),
         }
     }
@@ -87,7 +113,8 @@ impl Actor {
         ensures done { (a : model.Activity) (rs : List RequestShape) (cs : List Context) (r : Redex)
             → Stands self.old a rs → split a.term ≡ Splits cs r →
             let intended = creates name.now a cs a.store object (service_text service) in
-            IfOk result (IsDoneBy intended rs self.new) }
+            IfOk result (IsDoneBy name.now intended rs self.new) }
+        ensures log { IfOk result (IsLogAfter (log_in self.old) (log_in self.new)) }
         ensures code { code_of self.new ≡ code_of self.old }
         ensures given { IfOk result (IsGivenOf (code_of self.old)) }
     {
@@ -119,7 +146,9 @@ impl Actor {
         ensures done { (a : model.Activity) (rs : List RequestShape) (cs : List Context) (r : Redex)
             (places : List ℕ) → Stands self.old a rs → split a.term ≡ Splits cs r →
             parcel_shape arguments ≡ parcel_of a.store places →
-            IfOk result (IsDoneBy (sends name.now a cs a.store to label.text places) rs self.new) }
+            let intended = sends name.now a cs a.store to label.text places in
+            IfOk result (IsDoneBy name.now intended rs self.new) }
+        ensures log { IfOk result (IsLogAfter (log_in self.old) (log_in self.new)) }
         ensures code { code_of self.new ≡ code_of self.old }
         ensures given { IfOk result (IsGivenOf (code_of self.old)) }
     {
@@ -144,10 +173,11 @@ impl Actor {
         requires closed { IsClosedFor self.old }
         requires pending { IsSome (request_at number self.old.queue.pending) }
         ensures done { (a : model.Activity) (rs : List RequestShape) (cs : List Context) (r : Redex)
-            (labels : List Text) → Stands self.old a rs → split a.term ≡ Splits cs r →
+            (labels : List Text) (n : Name) → Stands self.old a rs → split a.term ≡ Splits cs r →
             let oldest = oldest_match labels a.served 0 rs in
             Some number ≡ option_map (λ x. x.0) oldest →
-            IfOk result (IsDoneBy (serves a cs oldest) rs self.new) }
+            IfOk result (IsDoneBy n (serves a cs oldest) rs self.new) }
+        ensures log { IfOk result (IsLogAfter (log_in self.old) (log_in self.new)) }
         ensures code { code_of self.new ≡ code_of self.old }
         ensures given { IfOk result (IsGivenOf (code_of self.old)) }
     {
@@ -160,6 +190,22 @@ impl Actor {
         self.clear = 0;
         self.activity.serves(alloc, label, future, &arguments)?;
         Ok(Given::Nothing)
+    }
+
+    /// The activity is told whether such a request is pending, and its log notes that it asked.
+    pub(crate) fn poll(&mut self, alloc: Global, answer: bool) -> Result<Given, AllocError>
+        ensures done { (a : model.Activity) (rs : List RequestShape) (cs : List Context) (r : Redex)
+            (found : Option Numbered) (n : Name) → Stands self.old a rs →
+            split a.term ≡ Splits cs r → answer ≡ is_some found →
+            IfOk result (IsDoneBy n (polls n a cs a.store found) rs self.new) }
+        ensures log { IfOk result (IsLogAfter (log_in self.old) (log_in self.new)) }
+        ensures code { code_of self.new ≡ code_of self.old }
+        ensures given { IfOk result (IsGivenOf (code_of self.old)) }
+    {
+        self.clear = 0;
+        self.activity.polled(alloc, answer)?;
+        push_reception(&mut self.log, Reception::Poll)?;
+        Ok(Given::Polled)
     }
 }
 

@@ -10,7 +10,7 @@ ghost use Rattle.code_table.specs.Shapes.{parcel_shape};
 ghost use Rattle.def_journals.specs.Deliveries.{holders_from, unpack_each};
 ghost use Rattle.law_steps.specs.Closed.{AreBelow, IsClosedValue};
 ghost use Rattle.activity_step.specs.Activities.{StandsFor};
-ghost use Rattle.step_activity.specs.Actors.{IsSomebody, Stands, code_of};
+ghost use Rattle.step_activity.specs.Actors.{IsSomebody, Stands, code_of, log_in};
 ghost use Rattle.step_activity.specs.Clear.{HasClear};
 
 use crate::actor::Actor;
@@ -30,6 +30,7 @@ impl Actor {
         ensures stands { (a : model.Activity) (rs : List RequestShape) → Stands self.old a rs →
             let filled = unpack_at a.store place (parcel_shape value.now) in
             OnOk result (Stands self.new (record a { store = filled }) rs) }
+        ensures log { log_in self.new ≡ log_in self.old }
         ensures code { code_of self.new ≡ code_of self.old }
     {
         self.clear = self.clear_kept(place);
@@ -81,6 +82,7 @@ impl Actor {
         ensures stands { (a : model.Activity) (rs : List RequestShape) → Stands self.old a rs →
             let filled = unpack_each a.store places.now (parcel_shape value.now) in
             OnOk result (Stands self.new (record a { store = filled }) rs) }
+        ensures log { log_in self.new ≡ log_in self.old }
         ensures code { code_of self.new ≡ code_of self.old }
     {
         for place in places {
@@ -104,6 +106,7 @@ impl Actor {
             let places = holders_from 0 (future_shape future.now) a.store in
             let filled = unpack_each a.store places (parcel_shape value.now) in
             OnOk result (Stands self.new (record a { store = filled }) rs) }
+        ensures log { log_in self.new ≡ log_in self.old }
         ensures code { code_of self.new ≡ code_of self.old }
     {
         let places = self.activity.store().holders_of(future)?;

@@ -1,6 +1,6 @@
-//! The pending request that a `serve` asks for.
+//! The pending request that a `serve` or a `pending` asks for.
 
-ghost use Rattle.std.specs.Prelude.{◌≡◌, IfOk, List, map};
+ghost use Rattle.std.specs.Prelude.{◌≡◌, IfOk, List, is_some, map};
 ghost use Rattle.std.specs.Option.{option_map};
 ghost use Rattle.asp_model.specs.Configuration as model;
 ghost use Rattle.asp_model.specs.Configuration.{RequestShape};
@@ -25,8 +25,8 @@ use std::alloc::{AllocError, Global};
 use step_rows::Redex;
 
 impl Actor {
-    /// The number of the oldest pending request that a `serve` with these labels asks for. It takes no
-    /// memory.
+    /// The number of the oldest pending request that a `serve` or a `pending` with these labels asks
+    /// for. It takes no memory.
     pub fn match_of(&self, _alloc: Global, labels: &[Label]) -> Result<Option<u64>, AllocError>
         requires closed { IsClosedFor self.now }
         ensures oldest { (a : model.Activity) (rs : List RequestShape) → Stands self.now a rs →
@@ -38,6 +38,19 @@ impl Actor {
         }
         let active = self.activity.store().cell(self.activity.active());
         Ok(oldest_for(&self.queue, self.activity.code(), active, labels))
+    }
+
+    /// Whether a pending request has one of these labels. It takes no memory.
+    pub(crate) fn has_match(&self, alloc: Global, labels: &[Label]) -> Result<bool, AllocError>
+        requires closed { IsClosedFor self.now }
+        ensures found { (a : model.Activity) (rs : List RequestShape) → Stands self.now a rs →
+            let wanted = labels_served (map label_text labels.now) (cell_in a.store a.active) in
+            IfOk result (λ b. b ≡ is_some (oldest_match wanted a.served 0 rs)) }
+    {
+        match self.match_of(alloc, labels)? {
+            Some(_number) => Ok(true),
+            None => Ok(false),
+        }
     }
 
     /// The labels that the activity asks for where it stands, once it has settled: those of a

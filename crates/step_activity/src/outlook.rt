@@ -20,7 +20,7 @@ ghost use Rattle.activity_step.specs.Standings.{IsAt};
 ghost use Rattle.future_table.specs.Values.{values_of};
 ghost use Rattle.step_reads.specs.Values.{AreClosedValues};
 ghost use Rattle.serve_rules.specs.Labels.{label_text};
-ghost use Rattle.step_activity.specs.Actors.{IsClosedFor, Stands, code_of};
+ghost use Rattle.step_activity.specs.Actors.{IsClosedFor, Stands, code_of, log_in};
 ghost use Rattle.step_activity.specs.Outlook.{IsOutlook};
 ghost use Rattle.step_activity.specs.Passing.{HasPassed, IsPassedFor};
 
@@ -46,6 +46,7 @@ impl Actor {
     pub fn settle(&mut self) -> Result<(), AllocError>
         ensures stands { (a : model.Activity) (rs : List RequestShape) → Stands self.old a rs →
             OnOk result (Stands self.new a rs) }
+        ensures log { log_in self.new ≡ log_in self.old }
         ensures code { code_of self.new ≡ code_of self.old }
     {
         self.clear = 0;
@@ -64,7 +65,8 @@ impl Actor {
         requires values { AreClosedValues (values_of futures.now) }
         ensures outlook { (a : model.Activity) (rs : List RequestShape) (n : Name) →
             Stands self.now a rs →
-            IfOk result (IsOutlook (intent (chase (values_of futures.now)) rs n a)) }
+            let intended = intent (chase (values_of futures.now)) rs n a in
+            IfOk result (IsOutlook n intended) }
     {
         Ok(self.outlook_from(alloc, futures, 0)?.outlook)
     }
@@ -82,7 +84,7 @@ impl Actor {
         requires passed { IsPassedFor (chase (values_of futures.now)) self.now from }
         ensures outlook { (a : model.Activity) (rs : List RequestShape) (n : Name) →
             Stands self.now a rs → let intended = intent (chase (values_of futures.now)) rs n a in
-            IfOk result (λ x. IsOutlook intended x.outlook) }
+            IfOk result (λ x. IsOutlook n intended x.outlook) }
         ensures passed { (a : model.Activity) (rs : List RequestShape) → Stands self.now a rs →
             IfOk result (λ x. HasPassed (chase (values_of futures.now)) a x.passed) }
     {
@@ -96,8 +98,9 @@ impl Actor {
     }
 
     fn at_place(&self) -> Outlook<'_>
-        ensures outlook { (a : model.Activity) (place : ℕ) → StandsFor self.now.activity a →
-            IsOutlook (ends_service a place (newest a.services)) result }
+        ensures outlook { (a : model.Activity) (place : ℕ) (n : Name) →
+            StandsFor self.now.activity a →
+            IsOutlook n (ends_service a place (newest a.services)) result }
     {
         if self.activity.is_serving() {
             Outlook::Steps
@@ -119,7 +122,7 @@ impl Actor {
         requires passed { IsPassedFor (chase (values_of futures.now)) self.now from }
         ensures outlook { (a : model.Activity) (rs : List RequestShape) (n : Name) →
             Stands self.now a rs → let intended = intent (chase (values_of futures.now)) rs n a in
-            IfOk result (λ x. IsOutlook intended x.outlook) }
+            IfOk result (λ x. IsOutlook n intended x.outlook) }
         ensures passed { (a : model.Activity) (rs : List RequestShape) → Stands self.now a rs →
             IfOk result (λ x. HasPassed (chase (values_of futures.now)) a x.passed) }
     {
@@ -143,6 +146,10 @@ impl Actor {
                 let outlook = self.at_serve(alloc, served_labels(redex))?;
                 Ok(Looked { outlook, passed })
             }
+            Prospect::Polls => Ok(Looked {
+                outlook: Outlook::Polls,
+                passed,
+            }),
             Prospect::Awaits(future) => Ok(Looked {
                 outlook: Outlook::Awaits(future),
                 passed,
@@ -156,13 +163,13 @@ impl Actor {
 
     fn at_serve(&self, alloc: Global, labels: &[Label]) -> Result<Outlook<'_>, AllocError>
         requires closed { IsClosedFor self.now }
-        ensures outlook { (a : model.Activity) (rs : List RequestShape) (cs : List Context) →
-            Stands self.now a rs →
+        ensures outlook { (a : model.Activity) (rs : List RequestShape) (cs : List Context)
+            (n : Name) → Stands self.now a rs →
             let wanted = labels_served (map label_text labels.now) (cell_in a.store a.active) in
-            IfOk result (IsOutlook (serves a cs (oldest_match wanted a.served 0 rs))) }
+            IfOk result (IsOutlook n (serves a cs (oldest_match wanted a.served 0 rs))) }
     {
         match self.match_of(alloc, labels)? {
-            Some(_) => Ok(Outlook::Steps),
+            Some(_number) => Ok(Outlook::Steps),
             None => Ok(Outlook::Serving),
         }
     }

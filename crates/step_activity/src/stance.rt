@@ -47,7 +47,10 @@ fn held_stance<'a>(futures: &'a FutureTable, held: Held<'a>) -> Stance<'a>
 fn asks_others(redex: Redex) -> bool
     ensures { result ≡ asks_others redex.entry }
 {
-    matches!(redex, Redex::Active(_, _) | Redex::Serve(_))
+    matches!(
+        redex,
+        Redex::Active(_, _) | Redex::Serve(_) | Redex::Pending(_)
+    )
 }
 
 impl Actor {
@@ -121,6 +124,7 @@ impl Actor {
                 Some(_number) => Ok(Stance::Communicates),
                 None => Ok(Stance::Serving),
             },
+            Asked::Polls(_labels) => Ok(Stance::Communicates),
             Asked::Nothing => self.other_stance(alloc, futures, redex),
         }
     }

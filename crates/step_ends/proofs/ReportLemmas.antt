@@ -16,7 +16,7 @@ use Rattle.asp_model.specs.Names.{Name, main_name, name_cmp}
 use Rattle.asp_model.specs.Order.{name_cmp_same}
 use Rattle.asp_model.specs.Chase.{Values, chase}
 use Rattle.asp_model.specs.Configuration as model
-use Rattle.asp_model.specs.Configuration.{Configuration, RequestShape, requests_of}
+use Rattle.asp_model.specs.Configuration.{Configuration, RequestShape, log_of, requests_of}
 use Rattle.asp_model.specs.Intent.{Rests, Done, intent}
 use Rattle.asp_model.specs.Status.{status_of, status_of_intent, statuses_of, verdict_of}
 use Rattle.asp_model.specs.Outcome.{ActivityReportShape, activity_report, outcome_of}
@@ -39,7 +39,7 @@ use Rattle.law_steps.proofs.NamesLaws.{entries_ascend}
 use Rattle.law_steps.proofs.WholeLemmas.{reached_are_sound}
 use Rattle.step_reads.specs.Values.{AreClosedValues}
 use Rattle.step_activity.specs.declared.actor.Actor.{Actor}
-use Rattle.step_activity.specs.Actors.{Stands, code_of}
+use Rattle.step_activity.specs.Actors.{Stands, code_of, log_in}
 use Rattle.step_ends.specs.Activities.{StandForReached, StandsAt, actor_at}
 use Rattle.step_ends.specs.Ends.{AreClosedStates, AreEndsBy, AreEndsFor, IsEndBy, IsEndFor, end_with}
 use Rattle.step_ends.proofs.EntryLemmas.{absent_below, absent_less, find_head, find_skip, lookup_find, sorted_by}
@@ -125,14 +125,17 @@ paired c (x ∷ xs) (y ∷ ys) s t h = by (name_cmp x.0 y.0) refl (λ e. paired 
 abbrev AreThere : Configuration → List (Name × model.Activity) → Type 0
 AreThere c ys = (y : Name × model.Activity) → In y ys → IsAt c y.0 y.1
 
-report_is : (c : Configuration) (n : Name) (y : Name × model.Activity) → n ≡ y.0 → IsAt c y.0 y.1 → activity_report c y ≡ (end_with c.futures n y.1 (requests_of c y.0)).report
+report_is : (c : Configuration) (n : Name) (y : Name × model.Activity) → n ≡ y.0 → IsAt c y.0 y.1 → activity_report c y ≡ (end_with c.futures n y.1 (requests_of c y.0) (log_of c y.0)).report
 report_is c n y e is =
     let status : status_of c y.0 ≡ status_of_intent (intent (chase c.futures) (requests_of c y.0) y.0 y.1) = ap (λ (q : Option model.Activity). status_of_intent (elim q [ None ↦ Rests Done | Some a ↦ intent (chase c.futures) (requests_of c y.0) y.0 a ])) is in
-    (λ i. record { name = y.0; count = y.1.reductions; status = status i; senders = map (λ r. r.sender) (requests_of c y.0); lines = y.1.lines })
-    ∙ (λ i. record { name = sym e i; count = y.1.reductions; status = status_of_intent (intent (chase c.futures) (requests_of c y.0) (sym e i) y.1); senders = map (λ r. r.sender) (requests_of c y.0); lines = y.1.lines })
+    (λ i. record { name = y.0; count = y.1.reductions; status = status i; senders = log_of c y.0; lines = y.1.lines })
+    ∙ (λ i. record { name = sym e i; count = y.1.reductions; status = status_of_intent (intent (chase c.futures) (requests_of c y.0) (sym e i) y.1); senders = log_of c y.0; lines = y.1.lines })
 
-end_is : (c : Configuration) (n : Name) (y : Name × model.Activity) → n ≡ y.0 → IsAt c y.0 y.1 → end_of c y ≡ end_with c.futures n y.1 (requests_of c y.0)
-end_is c n y e is = let report = report_is c n y e is in λ i. record { report = report i; snapshot = snapshot_of y.1 }
+end_is : (c : Configuration) (n : Name) (y : Name × model.Activity) (x : Actor) → n ≡ y.0 → IsAt c y.0 y.1 → log_in x ≡ log_of c n → end_of c y ≡ end_with c.futures n y.1 (requests_of c y.0) (log_in x)
+end_is c n y x e is log =
+    let report = report_is c n y e is in
+    let same : log_of c y.0 ≡ log_in x = ap (log_of c) (sym e) ∙ sym log in
+    (λ i. record { report = report i; snapshot = snapshot_of y.1 }) ∙ ap (end_with c.futures n y.1 (requests_of c y.0)) same
 
 -- Codes
 
@@ -152,15 +155,33 @@ coded k (x ∷ xs) s h = (
       (name_case n x.0)),
 )
 
+-- Logs
+
+abbrev AreLogged : Configuration → List (Name × Box Actor) → Type 0
+AreLogged c = AllByRecursion (λ x. log_in x.1.value ≡ log_of c x.0)
+
+abbrev LoggedBy : Configuration → List (Name × Box Actor) → Type 0
+LoggedBy c xs = (n : Name) (x : Actor) → at_name n xs ≡ Some x → log_in x ≡ log_of c n
+
+logged : (c : Configuration) (xs : List (Name × Box Actor)) → T (is_sorted name_cmp xs) → LoggedBy c xs → AreLogged c xs
+logged c [] s h = tt
+logged c (x ∷ xs) s h = (
+  h x.0 x.1.value (at_head x xs),
+  logged c xs (second_of_both _ _ s) (λ n y e. ⊎_elim
+      (λ q. no_some (sym (ap (λ m. at_name m xs) q ∙ at_none x.0 xs (absent_below x.0 xs (first_of_both _ _ s))) ∙ e))
+      (λ d. h n y (at_skip n x xs d ∙ e))
+      (name_case n x.0)),
+)
+
 -- Ends
 
-ends_paired : (k : List Node) (c : Configuration) (xs : List (Name × Box Actor)) (ys : List (Name × model.Activity)) → AreCoded k xs → ArePaired c xs ys → AreThere c ys → AreEndsFor k c.futures xs (map (end_of c) ys)
-ends_paired k c [] [] d h t = tt
-ends_paired k c [] (y ∷ ys) d h t = absurd h
-ends_paired k c (x ∷ xs) [] d h t = absurd h
-ends_paired k c (x ∷ xs) (y ∷ ys) d h t = (
-  record { activity = y.1; received = requests_of c y.0; stands = h.1; is = end_is c x.0 y h.0 (t y (inl refl)); coded = d.0 },
-  ends_paired k c xs ys d.1 h.2 (λ z i. t z (inr i)),
+ends_paired : (k : List Node) (c : Configuration) (xs : List (Name × Box Actor)) (ys : List (Name × model.Activity)) → AreCoded k xs → AreLogged c xs → ArePaired c xs ys → AreThere c ys → AreEndsFor k c.futures xs (map (end_of c) ys)
+ends_paired k c [] [] d g h t = tt
+ends_paired k c [] (y ∷ ys) d g h t = absurd h
+ends_paired k c (x ∷ xs) [] d g h t = absurd h
+ends_paired k c (x ∷ xs) (y ∷ ys) d g h t = (
+  record { activity = y.1; received = requests_of c y.0; stands = h.1; is = end_is c x.0 y x.1.value h.0 (t y (inl refl)) g.0; coded = d.0 },
+  ends_paired k c xs ys d.1 g.1 h.2 (λ z i. t z (inr i)),
 )
 
 closed_paired : (c : Configuration) (xs : List (Name × Box Actor)) (ys : List (Name × model.Activity)) → IsClosed c → ArePaired c xs ys → AreThere c ys → AreClosedStates xs
@@ -202,8 +223,11 @@ module _ (xs : List (Name × Box Actor)) (futures : List (FutureName × Parcel))
     all_coded : AreCoded h.population.code xs
     all_coded = coded h.population.code xs (sorted_by xs sorted) (λ n x e. h.population.actors n x (ap unboxed (lookup_find n xs) ∙ e))
 
+    all_logged : AreLogged c xs
+    all_logged = logged c xs (sorted_by xs sorted) (λ n x e. h.population.logs n x (ap unboxed (lookup_find n xs) ∙ e))
+
     pub all_ends : AreEndsFor h.population.code (values_of futures) xs (map (end_of c) c.activities)
-    all_ends = subst (λ (vs : Values). AreEndsFor h.population.code vs xs (map (end_of c) c.activities)) (sym h.population.futures) (ends_paired h.population.code c xs c.activities all_coded all_paired all_there)
+    all_ends = subst (λ (vs : Values). AreEndsFor h.population.code vs xs (map (end_of c) c.activities)) (sym h.population.futures) (ends_paired h.population.code c xs c.activities all_coded all_logged all_paired all_there)
 
     pub all_closed : AreClosedStates xs
     all_closed = closed_paired c xs c.activities (reached_are_closed program c h.bare h.reached) all_paired all_there
@@ -237,14 +261,14 @@ ends_more k rs ss es e r s h g = record {
 
 -- one more end is made
 pub one_made : (k : List Node) (values : Values) (x : Name × Box Actor) (xs : List (Name × Box Actor)) (es : List EndShape) (rs : List ActivityReport) (ss : List EndState) (r : ActivityReport) (s : EndState) → IsPart k values (x ∷ xs) es rs ss
-    → ((a : model.Activity) (qs : List RequestShape) → Stands x.1.value a qs → IsEndBy (code_of x.1.value) (end_with values x.0 a qs) (r, s)) → IsPart k values xs es (rs ++ r ∷ []) (ss ++ s ∷ [])
+    → ((a : model.Activity) (qs : List RequestShape) → Stands x.1.value a qs → IsEndBy (code_of x.1.value) (end_with values x.0 a qs (log_in x.1.value)) (r, s)) → IsPart k values xs es (rs ++ r ∷ []) (ss ++ s ∷ [])
 one_made k values x xs es rs ss r s p is = by p.rest p.all p.left
   where
     by : (rest : List EndShape) → es ≡ p.done ++ rest → AreEndsFor k values (x ∷ xs) rest → IsPart k values xs es (rs ++ r ∷ []) (ss ++ s ∷ [])
     by [] all left = absurd left
     by (e ∷ rest) all left =
         let f : IsEndFor k values x e = left.0 in
-        let here : IsEndBy k (end_with values x.0 f.activity f.received) (r, s) = subst (λ (c : List Node). IsEndBy c (end_with values x.0 f.activity f.received) (r, s)) f.coded (is f.activity f.received f.stands) in
+        let here : IsEndBy k (end_with values x.0 f.activity f.received (log_in x.1.value)) (r, s) = subst (λ (c : List Node). IsEndBy c (end_with values x.0 f.activity f.received (log_in x.1.value)) (r, s)) f.coded (is f.activity f.received f.stands) in
         record {
           done = p.done ++ e ∷ [];
           rest = rest;

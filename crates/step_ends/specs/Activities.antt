@@ -9,13 +9,13 @@ use Rattle.asp_model.specs.declared.name.FutureName.{FutureName}
 use Rattle.asp_model.specs.Names.{Name, name_cmp}
 use Rattle.asp_model.specs.Term.{Tree, locations}
 use Rattle.asp_model.specs.Configuration as model
-use Rattle.asp_model.specs.Configuration.{Configuration, RequestShape, requests_of}
+use Rattle.asp_model.specs.Configuration.{Configuration, RequestShape, log_of, requests_of}
 use Rattle.code_table.specs.declared.cells.Parcel.{Parcel}
 use Rattle.code_table.specs.declared.code.Node.{Node}
 use Rattle.future_table.specs.Values.{AreOfCode, values_of}
 use Rattle.law_steps.specs.Reached.{IsReached}
 use Rattle.step_activity.specs.declared.actor.Actor.{Actor}
-use Rattle.step_activity.specs.Actors.{Stands, code_of}
+use Rattle.step_activity.specs.Actors.{Stands, code_of, log_in}
 
 abbrev pub actor_at : List (Name × Box Actor) → Name → Option Actor
 actor_at xs n = option_map (λ b. b.value) (lookup (is_at (name_cmp n)) xs)
@@ -30,9 +30,14 @@ StandsAt x a rs = ⊥
 abbrev pub RunCode : List Node → List (Name × Box Actor) → Type 0
 RunCode k xs = (n : Name) (x : Actor) → actor_at xs n ≡ Some x → code_of x ≡ k
 
--- the activities and the filled futures are those of the configuration, all of one code
+-- all activities have the configuration's logs
+abbrev pub HaveLogs : Configuration → List (Name × Box Actor) → Type 0
+HaveLogs c xs = (n : Name) (x : Actor) → actor_at xs n ≡ Some x → log_in x ≡ log_of c n
+
+-- the activities with their logs and the filled futures are those of the configuration, all of one code
 pub record StandFor (xs : List (Name × Box Actor)) (filled : List (FutureName × Parcel)) (c : Configuration) : Type 0 where
   pub activities : (n : Name) → StandsAt (actor_at xs n) (find name_cmp n c.activities) (requests_of c n)
+  pub logs : HaveLogs c xs
   pub futures : values_of filled ≡ c.futures
   pub code : List Node
   pub actors : RunCode code xs

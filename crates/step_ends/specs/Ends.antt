@@ -6,7 +6,7 @@ use Rattle.asp_model.specs.declared.outcome.ActivityReport.{ActivityReport}
 use Rattle.asp_model.specs.Names.{Name}
 use Rattle.asp_model.specs.Chase.{Values, chase}
 use Rattle.asp_model.specs.Configuration as model
-use Rattle.asp_model.specs.Configuration.{RequestShape}
+use Rattle.asp_model.specs.Configuration.{ReceptionShape, RequestShape}
 use Rattle.asp_model.specs.Intent.{intent}
 use Rattle.asp_model.specs.Status.{status_of_intent}
 use Rattle.asp_model.specs.Shapes.{activity_shape}
@@ -16,16 +16,16 @@ use Rattle.def_paths.specs.Outcomes.{EndShape}
 use Rattle.run_ends.specs.declared.ends.EndState.{EndState}
 use Rattle.run_ends.specs.Ends.{AreSnapshotsOf, IsSnapshotOf}
 use Rattle.step_activity.specs.declared.actor.Actor.{Actor}
-use Rattle.step_activity.specs.Actors.{IsClosedFor, Stands, code_of}
+use Rattle.step_activity.specs.Actors.{IsClosedFor, Stands, code_of, log_in}
 
--- the end of an activity that received these requests
-abbrev pub end_with : Values → Name → model.Activity → List RequestShape → EndShape
-end_with values n a rs = record {
+-- the end of an activity that received these requests and has this log
+abbrev pub end_with : Values → Name → model.Activity → List RequestShape → List ReceptionShape → EndShape
+end_with values n a rs log = record {
   report = record {
     name = n;
     count = a.reductions;
     status = status_of_intent (intent (chase values) rs n a);
-    senders = map (λ r. r.sender) rs;
+    senders = log;
     lines = a.lines;
   };
   snapshot = snapshot_of a;
@@ -45,7 +45,7 @@ pub record IsEndFor (k : List Node) (values : Values) (x : Name × Box Actor) (e
   pub activity : model.Activity
   pub received : List RequestShape
   pub stands : Stands x.1.value activity received
-  pub is : e ≡ end_with values x.0 activity received
+  pub is : e ≡ end_with values x.0 activity received (log_in x.1.value)
   pub coded : code_of x.1.value ≡ k
 
 abbrev pub AreEndsFor : List Node → Values → List (Name × Box Actor) → List EndShape → Type 0

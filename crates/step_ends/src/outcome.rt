@@ -19,7 +19,7 @@ ghost use Rattle.asp_model.specs.Outcome.{outcome_of as outcome_shown};
 ghost use Rattle.asp_model.specs.Shapes.{outcome_shape, status_shape, verdict_shape};
 ghost use Rattle.future_table.specs.Values.{values_of};
 ghost use Rattle.step_reads.specs.Values.{AreClosedValues};
-ghost use Rattle.step_activity.specs.Actors.{IsClosedFor, Stands, code_of};
+ghost use Rattle.step_activity.specs.Actors.{IsClosedFor, Stands, code_of, log_in};
 ghost use Rattle.def_paths.specs.Outcomes.{EndShape, whole_outcome_of};
 ghost use Rattle.code_table.specs.declared.code.Node.{Node as NodeShape};
 ghost use Rattle.run_ends.specs.Ends.{IsEndOf};
@@ -45,7 +45,7 @@ fn status_of(alloc: Global, actor: &Actor, futures: &FutureTable) -> Result<Stat
         IfOk result (λ s. status_shape s ≡ status_of_intent intended) }
 {
     match actor.outlook(alloc, futures)? {
-        Outlook::Steps | Outlook::Sends(_) => Ok(Status::Running),
+        Outlook::Steps | Outlook::Sends(_) | Outlook::Polls => Ok(Status::Running),
         Outlook::Awaits(future) => Ok(Status::Awaits(future.copy(alloc)?)),
         Outlook::Faulted(fault) => Ok(Status::Faulted(fault)),
         Outlook::Serving => Ok(Status::Serving),
@@ -62,7 +62,7 @@ fn end_of(
     requires closed { IsClosedFor actor.value }
     requires values { AreClosedValues (values_of futures.now) }
     ensures end { (a : model.Activity) (rs : List RequestShape) → Stands actor.value a rs →
-        let end = end_with (values_of futures.now) name a rs in
+        let end = end_with (values_of futures.now) name a rs (log_in actor.value) in
         IfOk result (IsEndBy (code_of actor.value) end) }
 {
     let here = actor.as_mut();

@@ -33,7 +33,7 @@ pub fn in_place_count(node: &Node, from: usize) -> usize
     ensures count { (ps : List Piece) → result ≡ in_place (later from (node_piece ps node.now)) }
 {
     match &node.kind {
-        Kind::Number(_) | Kind::Serve(_) | Kind::Echo(_) => 0,
+        Kind::Number(_) | Kind::Serve(_) | Kind::Pending(_) | Kind::Echo(_) => 0,
         Kind::Make(_) | Kind::Call(_) | Kind::Group => node.children.len(),
         Kind::Put(_) | Kind::Operate(_) | Kind::Scatter(_) | Kind::Member => 2,
         Kind::Repeat => from.min(1),

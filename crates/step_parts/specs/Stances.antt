@@ -29,6 +29,7 @@ stance_shape stance.Done = Rests intent.Done
 abbrev pub free_stance : Bool → Outlook → StanceShape
 free_stance b outlook.Steps = Goes b
 free_stance b (outlook.Sends n) = Goes true
+free_stance b outlook.Polls = Goes true
 free_stance b (outlook.Awaits f) = Rests (intent.Awaits (future_shape f.now))
 free_stance b (outlook.Faulted x) = Rests (intent.Faulted (fault_shape x))
 free_stance b outlook.Serving = Rests intent.Serving

@@ -39,7 +39,7 @@ pub fn free_stance(outlook: Outlook, asks: bool) -> Stance
                 Stance::Contracts
             }
         }
-        Outlook::Sends(_) => Stance::Communicates,
+        Outlook::Sends(_) | Outlook::Polls => Stance::Communicates,
         Outlook::Awaits(future) => Stance::Awaits(future),
         Outlook::Faulted(fault) => Stance::Faulted(fault),
         Outlook::Serving => Stance::Serving,

@@ -226,6 +226,10 @@ told_by s (redex.Serve ls) f g r e =
     let q : split.Redex = value_redex (term.Serve (map (λ x. x.text) ls.now)) [] in
     let is : IsBy s (redex.Serve ls) f g q = λ stand faces. refl in
     subst (IsBy s (redex.Serve ls) f g) (sym e) is
+told_by s (redex.Pending ls) f g r e =
+    let q : split.Redex = value_redex (term.Pending (map (λ x. x.text) ls.now)) [] in
+    let is : IsBy s (redex.Pending ls) f g q = λ stand faces. refl in
+    subst (IsBy s (redex.Pending ls) f g) (sym e) is
 told_by s (redex.If i) f g r e =
     let q : split.Redex = record { head = term.If; places = i ∷ []; behind = more e.0 (more e.1 none) } in
     let is : IsBy s (redex.If i) f g q = λ stand faces. ap prospect_by (by_row s q stand) ∙ if_by s e.0 e.1 (cell s i) ∙ ap at_number faces in

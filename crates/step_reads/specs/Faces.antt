@@ -8,7 +8,7 @@ use Rattle.asp_model.specs.Shapes.{fault_shape, sign_shape}
 use Rattle.step_rows.specs.Numbers.{Answer, answer}
 use Rattle.step_rows.specs.declared.redex.Redex.{Redex}
 use Rattle.step_rows.specs.declared.redex.Redex.TheVariants as redex
-use Rattle.step_reads.specs.Prospects.{ProspectShape, Goes, GoesTo, Stops, Asks, Still}
+use Rattle.step_reads.specs.Prospects.{ProspectShape, Goes, GoesTo, Stops, Asks, Polls, Still}
 
 -- a cell without its places
 pub data Face : Type 0 where
@@ -113,6 +113,7 @@ prospect_at (redex.Call i l ks) f g = at_call l.now.text (length ks.now) f
 prospect_at (redex.Clone i) f g = Goes
 prospect_at (redex.Active i l) f g = at_object f
 prospect_at (redex.Serve ls) f g = Asks
+prospect_at (redex.Pending ls) f g = Polls
 prospect_at (redex.If i) f g = at_number f
 prospect_at (redex.Operate sign i k) f g = at_sign (sign_shape sign) f g
 prospect_at (redex.Print i) f g = at_number f

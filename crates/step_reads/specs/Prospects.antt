@@ -16,6 +16,8 @@ pub data ProspectShape : Type 0 where
   Stops : (fault : FaultShape) → ProspectShape
   -- a `serve`
   Asks : ProspectShape
+  -- a poll
+  Polls : ProspectShape
   -- the value of this future is needed
   Awaits : (f : FutureShape) → ProspectShape
   Still : ProspectShape
@@ -26,6 +28,7 @@ prospect_by (contraction.Faults fault) = Stops fault
 prospect_by (contraction.Communicates (contraction.Creates i service)) = Goes
 prospect_by (contraction.Communicates (contraction.Sends n l ks)) = GoesTo n
 prospect_by (contraction.Communicates (contraction.Serves labels)) = Asks
+prospect_by (contraction.Communicates (contraction.Polls labels)) = Polls
 prospect_by (contraction.Needs n) = Still
 prospect_by contraction.Breaks = Still
 
@@ -39,5 +42,6 @@ prospect_shape prospect.Goes = Goes
 prospect_shape (prospect.GoesTo n) = GoesTo n.now
 prospect_shape (prospect.Stops fault) = Stops (fault_shape fault)
 prospect_shape prospect.Asks = Asks
+prospect_shape prospect.Polls = Polls
 prospect_shape (prospect.Awaits f) = Awaits (future_shape f.now)
 prospect_shape prospect.Still = Still

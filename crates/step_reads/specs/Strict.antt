@@ -28,6 +28,7 @@ strict_in (redex.Call i l ks) = strict.One i
 strict_in (redex.Clone i) = strict.One i
 strict_in (redex.Active i l) = strict.One i
 strict_in (redex.Serve ls) = strict.Nothing
+strict_in (redex.Pending ls) = strict.Nothing
 strict_in (redex.If i) = strict.One i
 strict_in (redex.Operate sign i k) = strict.Two i k
 strict_in (redex.Print i) = strict.One i

@@ -13,6 +13,8 @@ pub enum Prospect<'a> {
     Stops(Fault),
     /// A `serve`.
     Asks,
+    /// A poll.
+    Polls,
     /// The value of a future is needed, which has none.
     Awaits(&'a FutureName),
     /// No redex of a checked program comes to this.

@@ -220,6 +220,7 @@ pub fn by_operands<'a>(redex: Redex, first: Seen<'a>, second: Seen<'a>) -> Prosp
         Redex::Member(_, _) => at_member(first, second),
         Redex::Size(_) | Redex::WaitAll(_) => at_group(first),
         Redex::Serve(_) => Prospect::Asks,
+        Redex::Pending(_) => Prospect::Polls,
         Redex::Goes | Redex::Clone(_) => Prospect::Goes,
     }
 }

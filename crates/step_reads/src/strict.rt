@@ -33,6 +33,6 @@ pub fn strict_of(redex: Redex) -> Strict
         | Redex::Scatter(first, _, second)
         | Redex::Member(first, second) => Strict::Two(first, second),
         Redex::WaitAll(place) => Strict::Members(place),
-        Redex::Goes | Redex::Serve(_) => Strict::Nothing,
+        Redex::Goes | Redex::Serve(_) | Redex::Pending(_) => Strict::Nothing,
     }
 }

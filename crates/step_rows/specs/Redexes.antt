@@ -32,3 +32,4 @@ IsRedex r (redex.Scatter i l k) = r ≡ value_redex (term.Scatter l.now.text) (i
 IsRedex r (redex.Size i) = r ≡ value_redex term.Size (i ∷ [])
 IsRedex r (redex.Member i k) = r ≡ value_redex term.Member (i ∷ k ∷ [])
 IsRedex r (redex.WaitAll i) = r ≡ value_redex term.WaitAll (i ∷ [])
+IsRedex r (redex.Pending ls) = r ≡ value_redex (term.Pending (map (λ x. x.text) ls.now)) []

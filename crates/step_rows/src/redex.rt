@@ -24,4 +24,5 @@ pub enum Redex<'a> {
     /// A group, and the member's number.
     Member(Place, Place),
     WaitAll(Place),
+    Pending(&'a [Label]),
 }

@@ -41,7 +41,7 @@ loop-name-preserved c =
       (subst AreClosedStates c.in-Some.ensures.steps c.loop-name.invariant.0).1,
       (λ k es h.
           let before : IsPart k values (x ∷ xs) es rs ss = subst (λ (y : List (Name × Box Actor)). IsPart k values y es rs ss) c.in-Some.ensures.steps (c.loop-name.invariant.1 k es h) in
-          moved k values es xs xs (rs ++ r ∷ []) c.push.new.self.items (ss ++ s ∷ []) c.push-in-loop-name.new.self.items (λ i. xs) (sym c.in_ok-push.ensures.items) (sym c.in_ok-push-2.ensures.items)
+          moved k values es xs xs (rs ++ r ∷ []) c.push.new.self.items (ss ++ s ∷ []) c.push-in-loop-name.new.self.items (λ i. xs) (sym {A = List ActivityReport} c.in_ok-push.ensures.items) (sym {A = List EndState} c.in_ok-push-2.ensures.items)
           (one_made k values x xs es rs ss r s before c.in_ok-report.ensures.end)),
     )
 

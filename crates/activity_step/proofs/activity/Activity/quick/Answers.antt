@@ -8,7 +8,6 @@ use Rattle.asp_model.specs.Term.{Tree}
 use Rattle.code_table.specs.declared.code.Node.{Node}
 use Rattle.activity_step.specs.declared.activity.Activity.{Activity}
 use Rattle.activity_step.specs.declared.state.State.{State}
-use Rattle.activity_step.specs.Activities.{StandsFor}
 use Rattle.activity_step.specs.Advances.{IsTaken, Stands}
 use Rattle.activity_step.proofs.RunLemmas.{stepped}
 use Rattle.activity_step.proofs.activity.Activity.quick.Goals as goal

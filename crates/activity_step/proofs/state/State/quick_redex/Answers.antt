@@ -1,23 +1,19 @@
-use Rattle.std.proofs.Common.{rules, ◌≡◌, ℕ, List, [], true, Some, length, inl, inr, sym, ap, subst, ◌∙◌, to_z, of_z, w64}
+use Rattle.std.proofs.Common.{rules, ◌≡◌, [], true, Some, refl, sym, ap, ◌∙◌, to_z, of_z, w64}
 use Rattle.asp_model.specs.Term.{Number}
 use Rattle.asp_model.specs.Store as store
 use Rattle.asp_model.specs.Contraction.{allots}
-use Rattle.code_table.specs.declared.code.Kind.{Kind}
 use Rattle.code_table.specs.declared.code.Kind.TheVariants as kind
 use Rattle.code_table.specs.Tables.{kind_head}
-use Rattle.code_laws.specs.Nodes.{operand_count}
 use Rattle.code_table.specs.Shapes.{store_of}
 use Rattle.step_rows.specs.Decisions.{value_redex}
 use Rattle.code_table.specs.declared.code.Node.{Node}
 use Rattle.step_machine.specs.Rows.{AtNode, IsAtRedex, is_simple}
-use Rattle.step_machine.specs.Stacks.{last}
-use Rattle.step_machine.proofs.StackLemmas.{last_none}
 use Rattle.step_machine.specs.Standing.{View, view_of}
 use Rattle.step_machine.proofs.RowLemmas.{value_row}
 use Rattle.step_machine.proofs.SpreadLemmas.{at_call}
 use Rattle.code_table.specs.Classes.{class_of}
 use Rattle.code_table.specs.declared.code.Class.{Class}
-use Rattle.activity_step.proofs.TermLemmas.{simple_size}
+use Rattle.activity_step.proofs.TermLemmas.{bare_at}
 use Rattle.activity_step.proofs.state.State.quick_redex.Goals as goal
 
 pub returns-in-Make : goal.returns-in-Make
@@ -87,14 +83,8 @@ returns-in-Number c = record {
       let v : View = view_of c.args.self.now.machine in
       let n : Node = c.in-Some.node.now in
       let here : AtNode k v c.args.number c.args.from c.args.count n = record { focus = at; full = full; node = c.in-Some.ensures.piece } in
-      let a = c.args.self.now in
-      let q = a.store.cells in
-      let ops : List ℕ = last c.args.count a.machine.operands.items in
-      let is = c.in-Number.is in
-      let simple : is_simple n.kind ≡ true = ap is_simple is in
-      let none_done : c.args.count ≡ 0 = simple_size k v c.args.number c.args.from c.args.count n here simple ∙ ap (λ (x : Kind). operand_count x (length n.children.items)) is in
-      let empty : ops ≡ [] = ap (λ (m : ℕ). last m a.machine.operands.items) none_done ∙ last_none a.machine.operands.items in
-      let alone : IsAtRedex k v t vs c.args.count (value_redex (kind_head (kind.Number c.in-Number.n)) []) = subst (λ (x : List ℕ). IsAtRedex k v t vs c.args.count (value_redex (kind_head (kind.Number c.in-Number.n)) x)) empty (subst (λ (x : Kind). IsAtRedex k v t vs c.args.count (value_redex (kind_head x) ops)) is (value_row k v c.args.number c.args.from c.args.count n t vs h.machine at full c.in-Some.ensures.piece simple)) in
+      let q = c.args.self.now.store.cells in
+      let alone : IsAtRedex k v t vs c.args.count (value_redex (kind_head (kind.Number c.in-Number.n)) []) = bare_at k v c.args.number c.args.from c.args.count n (kind.Number c.in-Number.n) t vs h.machine here c.in-Number.is refl refl in
       let same : to_z w64 (of_z w64 c.in-Number.n) ≡ c.in-Number.n = search rules in
       c.taken-in-Number.ensures.taken k c.decided_advance.new.self t vs s ls (c.decided_advance.ensures.advance k t vs s ls (value_redex (Number c.in-Number.n) []) h alone (ap (λ z. allots (store_of k q) (store.Number z) []) (sym same)));
 }

@@ -1,15 +1,14 @@
-use Rattle.std.proofs.Common.{rules, ◌≡◌, ℕ, Bool, true, false, List, [], ◌∷◌, Option, Some, refl, sym, ap, subst, ◌∙◌, to_z, of_z, w64}
+use Rattle.std.proofs.Common.{ℕ, List, [], map, refl, subst}
 use Rattle.code_table.specs.declared.code.Kind.{Kind}
 use Rattle.code_table.specs.Tables.{kind_head, text_of}
 use Rattle.step_rows.specs.Decisions.{value_redex}
 use Rattle.step_machine.specs.Rows.{IsAtRedex}
 use Rattle.step_machine.specs.Stacks.{last}
 use Rattle.step_machine.specs.Standing.{View, view_of}
-use Rattle.step_machine.proofs.StackLemmas.{last_none}
 use Rattle.activity_step.specs.declared.advance.Advance.TheVariants as advance
 use Rattle.activity_step.proofs.AdvanceLemmas.{stopped}
+use Rattle.activity_step.proofs.TermLemmas.{bare_row}
 use Rattle.code_table.specs.declared.code.Kind.TheVariants as kind
-use Rattle.code_laws.specs.Nodes.{operand_count}
 use Rattle.std.specs.Option.{option_map}
 use Rattle.activity_step.proofs.state.State.simple_advance.Goals as goal
 
@@ -19,12 +18,8 @@ returns-in-Echo c = record {
       let k = c.args.code.now in
       let a = c.args.self.now in
       let v : View = view_of a.machine in
-      let q = a.store.cells in
-      let ops : List ℕ = last c.args.count a.machine.operands.items in
-      let is = c.in-Echo.is in
-      let none_done : c.args.count ≡ 0 = whole ∙ ap (λ (x : Kind). operand_count x size) is in
-      let empty : ops ≡ [] = ap (λ (n : ℕ). last n a.machine.operands.items) none_done ∙ last_none a.machine.operands.items in
-      let here : IsAtRedex k v t vs c.args.count (value_redex (kind_head (kind.Echo c.in-Echo.text)) []) = subst (λ (x : List ℕ). IsAtRedex k v t vs c.args.count (value_redex (kind_head (kind.Echo c.in-Echo.text)) x)) empty (subst (λ (x : Kind). IsAtRedex k v t vs c.args.count (value_redex (kind_head x) ops)) is at) in
+      let q : Kind = kind.Echo c.in-Echo.text in
+      let here : IsAtRedex k v t vs c.args.count (value_redex (kind_head q) []) = bare_row k v t vs c.args.count size c.args.kind.now q c.in-Echo.is refl whole at in
       c.echo_advance.ensures.advance k t vs s ls sound h here;
 }
 
@@ -34,13 +29,20 @@ returns-in-Serve c = record {
       let k = c.args.code.now in
       let a = c.args.self.now in
       let v : View = view_of a.machine in
-      let q = a.store.cells in
-      let ops : List ℕ = last c.args.count a.machine.operands.items in
-      let is = c.in-Serve.is in
-      let none_done : c.args.count ≡ 0 = whole ∙ ap (λ (x : Kind). operand_count x size) is in
-      let empty : ops ≡ [] = ap (λ (n : ℕ). last n a.machine.operands.items) none_done ∙ last_none a.machine.operands.items in
-      let here : IsAtRedex k v t vs c.args.count (value_redex (kind_head (kind.Serve c.in-Serve.field-0)) []) = subst (λ (x : List ℕ). IsAtRedex k v t vs c.args.count (value_redex (kind_head (kind.Serve c.in-Serve.field-0)) x)) empty (subst (λ (x : Kind). IsAtRedex k v t vs c.args.count (value_redex (kind_head x) ops)) is at) in
-      stopped k a t vs s ls c.args.go c.args.count (value_redex (kind_head (kind.Serve c.in-Serve.field-0)) []) advance.Serves h here (Rattle.std.proofs.Common.map text_of c.in-Serve.field-0.items, refl);
+      let q : Kind = kind.Serve c.in-Serve.field-0 in
+      let here : IsAtRedex k v t vs c.args.count (value_redex (kind_head q) []) = bare_row k v t vs c.args.count size c.args.kind.now q c.in-Serve.is refl whole at in
+      stopped k a t vs s ls c.args.go c.args.count (value_redex (kind_head q) []) advance.Serves h here (map text_of c.in-Serve.field-0.items, refl);
+}
+
+pub returns-in-Pending : goal.returns-in-Pending
+returns-in-Pending c = record {
+  advance = λ size t vs s ls sound h at whole.
+      let k = c.args.code.now in
+      let a = c.args.self.now in
+      let v : View = view_of a.machine in
+      let q : Kind = kind.Pending c.in-Pending.field-0 in
+      let here : IsAtRedex k v t vs c.args.count (value_redex (kind_head q) []) = bare_row k v t vs c.args.count size c.args.kind.now q c.in-Pending.is refl whole at in
+      stopped k a t vs s ls c.args.go c.args.count (value_redex (kind_head q) []) advance.Polls h here (map text_of c.in-Pending.field-0.items, refl);
 }
 
 pub returns-in-Group : goal.returns-in-Group

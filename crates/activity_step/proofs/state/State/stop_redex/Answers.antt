@@ -1,23 +1,19 @@
-use Rattle.std.proofs.Common.{rules, ◌≡◌, ℕ, List, [], false, true, length, map, refl, sym, ap, subst, ◌∙◌}
+use Rattle.std.proofs.Common.{rules, ◌≡◌, ℕ, List, [], false, true, map, refl, ap, subst, ◌∙◌}
 use Rattle.std.specs.Option.{option_map}
 use Rattle.asp_model.specs.Split.{Redex}
-use Rattle.code_laws.specs.Nodes.{in_place, operand_count}
-use Rattle.code_table.specs.Pieces.{Piece}
-use Rattle.code_table.specs.Tables.{kind_head, node_piece, piece_at, pieces, text_of}
+use Rattle.code_table.specs.Tables.{kind_head, pieces, text_of}
 use Rattle.code_table.specs.declared.code.Kind.{Kind}
 use Rattle.code_table.specs.declared.code.Kind.TheVariants as kind
 use Rattle.code_table.specs.declared.code.Node.{Node}
 use Rattle.step_rows.specs.Decisions.{value_redex}
 use Rattle.step_machine.specs.Rows.{AtNode, IsAtRedex, is_simple}
-use Rattle.step_machine.specs.Sequences.{later}
-use Rattle.step_machine.specs.Stacks.{last, piece_from}
+use Rattle.step_machine.specs.Stacks.{last}
 use Rattle.step_machine.specs.Standing.{View, view_of}
 use Rattle.step_machine.proofs.RowLemmas.{value_row}
 use Rattle.step_machine.proofs.SpreadLemmas.{at_call}
-use Rattle.step_machine.proofs.StackLemmas.{last_none}
 use Rattle.activity_step.specs.declared.advance.Advance.TheVariants as advance
 use Rattle.activity_step.proofs.AdvanceLemmas.{stopped}
-use Rattle.activity_step.proofs.TermLemmas.{simple_size}
+use Rattle.activity_step.proofs.TermLemmas.{at_node, bare_at}
 use Rattle.activity_step.proofs.state.State.stop_redex.Goals as goal
 
 pub returns-in-Call : goal.returns-in-Call
@@ -27,10 +23,8 @@ returns-in-Call c = record {
       let a = c.args.self.now in
       let v : View = view_of a.machine in
       let n : Node = c.in-Some.node.now in
-      let piece : piece_at (pieces k) c.args.number ≡ node_piece (pieces k) n = c.in-Some.ensures.piece in
       let all : c.args.count ≡ c.in_place_count.result = search (rules, c.if-count-in_place_count.false) in
-      let full : c.args.count ≡ in_place (piece_from k c.args.number c.args.from) = all ∙ c.in_place_count.ensures.count (pieces k) ∙ ap (λ (p : Piece). in_place (later c.args.from p)) (sym piece) in
-      let here : AtNode k v c.args.number c.args.from c.args.count n = record { focus = at; full = full; node = piece } in
+      let here : AtNode k v c.args.number c.args.from c.args.count n = at_node k v c.args.number c.args.from c.args.count n at (all ∙ c.in_place_count.ensures.count (pieces k)) c.in-Some.ensures.piece in
       c.stop_call.ensures.stop t vs s ls h (at_call k v c.args.number c.args.from c.args.count n c.in-Call.label t vs h.machine here c.in-Call.is);
 }
 
@@ -41,14 +35,12 @@ returns-in-Active c = record {
       let a = c.args.self.now in
       let v : View = view_of a.machine in
       let n : Node = c.in-Some.node.now in
-      let piece : piece_at (pieces k) c.args.number ≡ node_piece (pieces k) n = c.in-Some.ensures.piece in
       let all : c.args.count ≡ c.in_place_count.result = search (rules, c.if-count-in_place_count.false) in
-      let full : c.args.count ≡ in_place (piece_from k c.args.number c.args.from) = all ∙ c.in_place_count.ensures.count (pieces k) ∙ ap (λ (p : Piece). in_place (later c.args.from p)) (sym piece) in
-      let here : AtNode k v c.args.number c.args.from c.args.count n = record { focus = at; full = full; node = piece } in
+      let here : AtNode k v c.args.number c.args.from c.args.count n = at_node k v c.args.number c.args.from c.args.count n at (all ∙ c.in_place_count.ensures.count (pieces k)) c.in-Some.ensures.piece in
       let ops : List ℕ = last c.args.count a.machine.operands.items in
       let is = c.in-Active.is in
       let simple : is_simple n.kind ≡ true = ap is_simple is in
-      let there : IsAtRedex k v t vs c.args.count (value_redex (kind_head (kind.Active c.in-Active.field-0)) ops) = subst (λ (x : Kind). IsAtRedex k v t vs c.args.count (value_redex (kind_head x) ops)) is (value_row k v c.args.number c.args.from c.args.count n t vs h.machine at full piece simple) in
+      let there : IsAtRedex k v t vs c.args.count (value_redex (kind_head (kind.Active c.in-Active.field-0)) ops) = subst (λ (x : Kind). IsAtRedex k v t vs c.args.count (value_redex (kind_head x) ops)) is (value_row k v c.args.number c.args.from c.args.count n t vs h.machine at here.full here.node simple) in
       c.stop_active.ensures.stop k (option_map text_of c.in-Active.field-0) t vs s ls h there;
 }
 
@@ -59,16 +51,25 @@ returns-in-Serve c = record {
       let a = c.args.self.now in
       let v : View = view_of a.machine in
       let n : Node = c.in-Some.node.now in
-      let piece : piece_at (pieces k) c.args.number ≡ node_piece (pieces k) n = c.in-Some.ensures.piece in
       let all : c.args.count ≡ c.in_place_count.result = search (rules, c.if-count-in_place_count.false) in
-      let full : c.args.count ≡ in_place (piece_from k c.args.number c.args.from) = all ∙ c.in_place_count.ensures.count (pieces k) ∙ ap (λ (p : Piece). in_place (later c.args.from p)) (sym piece) in
-      let here : AtNode k v c.args.number c.args.from c.args.count n = record { focus = at; full = full; node = piece } in
-      let ops : List ℕ = last c.args.count a.machine.operands.items in
-      let is = c.in-Serve.is in
-      let simple : is_simple n.kind ≡ true = ap is_simple is in
-      let none_done : c.args.count ≡ 0 = simple_size k v c.args.number c.args.from c.args.count n here simple ∙ ap (λ (x : Kind). operand_count x (length n.children.items)) is in
-      let empty : ops ≡ [] = ap (λ (m : ℕ). last m a.machine.operands.items) none_done ∙ last_none a.machine.operands.items in
-      let redex : Redex = value_redex (kind_head (kind.Serve c.in-Serve.field-0)) [] in
-      let alone : IsAtRedex k v t vs c.args.count redex = subst (λ (x : List ℕ). IsAtRedex k v t vs c.args.count (value_redex (kind_head (kind.Serve c.in-Serve.field-0)) x)) empty (subst (λ (x : Kind). IsAtRedex k v t vs c.args.count (value_redex (kind_head x) ops)) is (value_row k v c.args.number c.args.from c.args.count n t vs h.machine at full piece simple)) in
+      let here : AtNode k v c.args.number c.args.from c.args.count n = at_node k v c.args.number c.args.from c.args.count n at (all ∙ c.in_place_count.ensures.count (pieces k)) c.in-Some.ensures.piece in
+      let q : Kind = kind.Serve c.in-Serve.field-0 in
+      let redex : Redex = value_redex (kind_head q) [] in
+      let alone : IsAtRedex k v t vs c.args.count redex = bare_at k v c.args.number c.args.from c.args.count n q t vs h.machine here c.in-Serve.is refl refl in
       stopped k a t vs s ls false c.args.count redex advance.Serves h alone (map text_of c.in-Serve.field-0.items, refl);
+}
+
+pub returns-in-Pending : goal.returns-in-Pending
+returns-in-Pending c = record {
+  stop = λ t vs s ls h at.
+      let k = c.args.code.now in
+      let a = c.args.self.now in
+      let v : View = view_of a.machine in
+      let n : Node = c.in-Some.node.now in
+      let all : c.args.count ≡ c.in_place_count.result = search (rules, c.if-count-in_place_count.false) in
+      let here : AtNode k v c.args.number c.args.from c.args.count n = at_node k v c.args.number c.args.from c.args.count n at (all ∙ c.in_place_count.ensures.count (pieces k)) c.in-Some.ensures.piece in
+      let q : Kind = kind.Pending c.in-Pending.field-0 in
+      let redex : Redex = value_redex (kind_head q) [] in
+      let alone : IsAtRedex k v t vs c.args.count redex = bare_at k v c.args.number c.args.from c.args.count n q t vs h.machine here c.in-Pending.is refl refl in
+      stopped k a t vs s ls false c.args.count redex advance.Polls h alone (map text_of c.in-Pending.field-0.items, refl);
 }

@@ -2,7 +2,7 @@ use Rattle.std.proofs.Common.{◌≡◌, ◌<◌, List, ◌∙◌, ℕ, IfOk, Op
 use Rattle.asp_model.specs.Chase.{Chase, chase}
 use Rattle.asp_model.specs.Configuration as model
 use Rattle.asp_model.specs.Configuration.{RequestShape}
-use Rattle.asp_model.specs.Contraction.{Creates, Sends, Serves, contract}
+use Rattle.asp_model.specs.Contraction.{Creates, Polls, Sends, Serves, contract}
 use Rattle.asp_model.specs.Intent.{Intent, Numbered, creates, labels_served, oldest_match, sends, serves}
 use Rattle.asp_model.specs.Names.{FutureShape, Name, Text}
 use Rattle.asp_model.specs.Store.{cell}
@@ -61,8 +61,8 @@ returns-in-Creates-clause-acts c = λ a rs was.
     let chases : FutureShape → Chase = chase (values_of c.args.futures.now) in
     let at : IsAt a c.in-Redex.redex = is_at a c.in_ok-place.field-0 c.in-Redex.redex c.in-Redex.is (c.in_ok-place.ensures.standing a h.activity) in
     let is = subst (λ (k : Asked). IsAsked (asked_shape k) (contract a.store at.redex)) c.in-Creates.is (c.asks.ensures.asked a at.contexts at.redex h.activity at.splits) in
-    let done = subst (λ (l : Option Text). IfOk c.create.result (IsDoneBy (creates n a at.contexts a.store object l) rs new)) c.in_ok-service-in-Creates.ensures (c.create.ensures.done a rs at.contexts at.redex h at.splits) in
-    subst (λ (i : Intent). IfOk c.create.result (IsDoneBy i rs new)) (sym (intent_asks chases rs n a at.contexts at.redex at.splits (Creates object (lent_text c.in-Creates.service)) is)) done
+    let done = subst (λ (l : Option Text). IfOk c.create.result (IsDoneBy n (creates n a at.contexts a.store object l) rs new)) c.in_ok-service-in-Creates.ensures (c.create.ensures.done a rs at.contexts at.redex h at.splits) in
+    subst (λ (i : Intent). IfOk c.create.result (IsDoneBy n i rs new)) (sym (intent_asks chases rs n a at.contexts at.redex at.splits (Creates object (lent_text c.in-Creates.service)) is)) done
 
 pub returns-in-Sends-clause-acts : goal.returns-in-Sends-clause-acts
 returns-in-Sends-clause-acts c = λ a rs was.
@@ -76,9 +76,9 @@ returns-in-Sends-clause-acts c = λ a rs was.
     let at : IsAt a c.in-Redex.redex = is_at a c.in_ok-place.field-0 c.in-Redex.redex c.in-Redex.is (c.in_ok-place.ensures.standing a h.activity) in
     let is = subst (λ (k : Asked). IsAsked (asked_shape k) (contract a.store at.redex)) c.in-Sends.is (c.asks.ensures.asked a at.contexts at.redex h.activity at.splits) in
     let done = c.send.ensures.done a rs at.contexts at.redex ks h at.splits (c.in_ok-arguments-in-Sends.ensures.parcel a h.activity) in
-    let named = subst (λ (m : Name). IfOk c.send.result (IsDoneBy (sends n a at.contexts a.store m c.in_ok-label-in-Sends.label.text ks) rs new)) c.in_ok-to-in-Sends.ensures.name done in
-    let labelled = subst (λ (m : Text). IfOk c.send.result (IsDoneBy (sends n a at.contexts a.store to m ks) rs new)) c.in_ok-label-in-Sends.ensures.label named in
-    subst (λ (i : Intent). IfOk c.send.result (IsDoneBy i rs new)) (sym (intent_asks chases rs n a at.contexts at.redex at.splits (Sends to l ks) is)) labelled
+    let named = subst (λ (m : Name). IfOk c.send.result (IsDoneBy n (sends n a at.contexts a.store m c.in_ok-label-in-Sends.label.text ks) rs new)) c.in_ok-to-in-Sends.ensures.name done in
+    let labelled = subst (λ (m : Text). IfOk c.send.result (IsDoneBy n (sends n a at.contexts a.store to m ks) rs new)) c.in_ok-label-in-Sends.ensures.label named in
+    subst (λ (i : Intent). IfOk c.send.result (IsDoneBy n i rs new)) (sym (intent_asks chases rs n a at.contexts at.redex at.splits (Sends to l ks) is)) labelled
 
 pub returns-in-Serves-clause-acts : goal.returns-in-Serves-clause-acts
 returns-in-Serves-clause-acts c = λ a rs was.
@@ -90,8 +90,8 @@ returns-in-Serves-clause-acts c = λ a rs was.
     let chases : FutureShape → Chase = chase (values_of c.args.futures.now) in
     let at : IsAt a c.in-Redex.redex = is_at a c.in_ok-place.field-0 c.in-Redex.redex c.in-Redex.is (c.in_ok-place.ensures.standing a h.activity) in
     let is = subst (λ (k : Asked). IsAsked (asked_shape k) (contract a.store at.redex)) c.in-Serves.is (c.asks.ensures.asked a at.contexts at.redex h.activity at.splits) in
-    let done = c.serve.ensures.done a rs at.contexts at.redex wanted h at.splits (sym c.in-Some.is ∙ c.in_ok-number-in-Serves.ensures.oldest a rs h) in
-    subst (λ (i : Intent). IfOk c.serve.result (IsDoneBy i rs new)) (sym (intent_asks chases rs n a at.contexts at.redex at.splits (Serves texts) is)) done
+    let done = c.serve.ensures.done a rs at.contexts at.redex wanted n h at.splits (sym c.in-Some.is ∙ c.in_ok-number-in-Serves.ensures.oldest a rs h) in
+    subst (λ (i : Intent). IfOk c.serve.result (IsDoneBy n i rs new)) (sym (intent_asks chases rs n a at.contexts at.redex at.splits (Serves texts) is)) done
 
 pub returns-in_default-clause-acts : goal.returns-in_default-clause-acts
 returns-in_default-clause-acts c = λ a rs was.
@@ -104,5 +104,18 @@ returns-in_default-clause-acts c = λ a rs was.
     let at : IsAt a c.in-Redex.redex = is_at a c.in_ok-place.field-0 c.in-Redex.redex c.in-Redex.is (c.in_ok-place.ensures.standing a h.activity) in
     let is = subst (λ (k : Asked). IsAsked (asked_shape k) (contract a.store at.redex)) c.in-Serves.is (c.asks.ensures.asked a at.contexts at.redex h.activity at.splits) in
     let none : oldest_match wanted a.served 0 rs ≡ None = is_none (oldest_match wanted a.served 0 rs) (sym c.in_default.is ∙ c.in_ok-number-in-Serves.ensures.oldest a rs h) in
-    let done = subst (λ (o : Option Numbered). IsDoneBy (serves a at.contexts o) rs old given.Nothing) (sym none) tt in
-    subst (λ (i : Intent). IsDoneBy i rs old given.Nothing) (sym (intent_asks chases rs n a at.contexts at.redex at.splits (Serves texts) is)) done
+    let done = subst (λ (o : Option Numbered). IsDoneBy n (serves a at.contexts o) rs old given.Nothing) (sym none) tt in
+    subst (λ (i : Intent). IsDoneBy n i rs old given.Nothing) (sym (intent_asks chases rs n a at.contexts at.redex at.splits (Serves texts) is)) done
+
+pub returns-in-Polls-clause-acts : goal.returns-in-Polls-clause-acts
+returns-in-Polls-clause-acts c = λ a rs was.
+    let h : Stands c.settle.new.self a rs = c.in_ok-settle.ensures.stands a rs was in
+    let n : Name = c.args.name.now in
+    let new : Actor = c.poll.new.self in
+    let texts = map label_text c.in-Polls.labels.now in
+    let wanted = labels_served texts (cell a.store a.active) in
+    let chases : FutureShape → Chase = chase (values_of c.args.futures.now) in
+    let at : IsAt a c.in-Redex.redex = is_at a c.in_ok-place.field-0 c.in-Redex.redex c.in-Redex.is (c.in_ok-place.ensures.standing a h.activity) in
+    let is = subst (λ (k : Asked). IsAsked (asked_shape k) (contract a.store at.redex)) c.in-Polls.is (c.asks.ensures.asked a at.contexts at.redex h.activity at.splits) in
+    let done = c.poll.ensures.done a rs at.contexts at.redex (oldest_match wanted a.served 0 rs) n h at.splits (c.in_ok-answer-in-Polls.ensures.found a rs h) in
+    subst (λ (i : Intent). IfOk c.poll.result (IsDoneBy n i rs new)) (sym (intent_asks chases rs n a at.contexts at.redex at.splits (Polls texts) is)) done

@@ -1,6 +1,6 @@
 use Rattle.std.proofs.Common.{◌∙◌, map, sym, subst}
 use Rattle.asp_model.specs.Chase.{Chase, chase}
-use Rattle.asp_model.specs.Contraction.{Creates, Sends, Serves, contract}
+use Rattle.asp_model.specs.Contraction.{Creates, Polls, Sends, Serves, contract}
 use Rattle.asp_model.specs.Intent.{labels_served, oldest_match}
 use Rattle.asp_model.specs.Names.{FutureShape}
 use Rattle.asp_model.specs.Store.{cell}
@@ -51,4 +51,13 @@ returns-in-None c = record {
       let is = subst (λ (k : Asked). IsAsked (asked_shape k) (contract a.store at.redex)) c.in-Serves.is (c.asks.ensures.asked a at.contexts at.redex h.activity at.splits) in
       match_rests a at.contexts (oldest_match wanted a.served 0 rs) (sym c.in-None.is ∙ c.in_ok-_number-in-Serves.ensures.oldest a rs h)
       ∙ sym (stance_asks chases rs n a at.contexts at.redex at.splits (Serves texts) is);
+}
+
+pub returns-in-Polls : goal.returns-in-Polls
+returns-in-Polls c = record {
+  stance = λ a rs n h.
+      let chases : FutureShape → Chase = chase (values_of c.args.futures.now) in
+      let at = c.requires.stands a h.activity in
+      let is = subst (λ (k : Asked). IsAsked (asked_shape k) (contract a.store at.redex)) c.in-Polls.is (c.asks.ensures.asked a at.contexts at.redex h.activity at.splits) in
+      sym (stance_asks chases rs n a at.contexts at.redex at.splits (Polls (map label_text c.in-Polls._labels.now)) is);
 }

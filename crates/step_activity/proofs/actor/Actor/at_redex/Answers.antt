@@ -7,12 +7,13 @@ use Rattle.asp_model.specs.Shapes.{fault_shape, future_shape}
 use Rattle.future_table.specs.Values.{values_of}
 use Rattle.serve_rules.specs.Labels.{label_text}
 use Rattle.step_reads.specs.declared.prospect.Prospect.{Prospect}
+use Rattle.step_reads.specs.Prospects as prospects
 use Rattle.step_reads.specs.Prospects.{Asks, Awaits, Goes, GoesTo, Still, Stops, prospect_shape}
 use Rattle.step_activity.specs.declared.actor.Actor.{Actor}
 use Rattle.step_parts.specs.declared.outlook.Outlook.TheVariants as outlook
 use Rattle.step_activity.specs.Actors.{code_of}
 use Rattle.step_activity.specs.Outlook.{IsOutlook}
-use Rattle.step_activity.proofs.OutlookLemmas.{By, asks, awaits, by_own, goes, goes_to, outlook_at, serve_intent, still, stops}
+use Rattle.step_activity.proofs.OutlookLemmas.{By, asks, awaits, by_own, goes, goes_to, outlook_at, polls, serve_intent, still, stops}
 use Rattle.step_activity.proofs.PassingLemmas.{passed_before, passed_now}
 use Rattle.step_activity.proofs.actor.Actor.at_redex.Goals as goal
 
@@ -36,7 +37,7 @@ returns-in-Goes c =
     record {
       outlook = λ a rs n h.
           let at = c.requires.stands a h.activity in
-          outlook_at x values c.args.redex c.requires.stands Goes c.requires.closed by a rs n h.activity (λ (i : Intent). IsOutlook i outlook.Steps) (goes rs n a at.contexts at.redex (redex_ready chases a.store at.redex));
+          outlook_at x values c.args.redex c.requires.stands Goes c.requires.closed by a rs n h.activity (λ (i : Intent). IsOutlook n i outlook.Steps) (goes rs n a at.contexts at.redex (redex_ready chases a.store at.redex));
       passed = λ a rs h. passed_now x chases a c.args.redex (c.requires.stands a h.activity) h.activity c.deref.result.now c.store.result.now code c.store.ensures.store c.prospect_from-reading.result.passed c.prospect_from-reading.ensures.passed;
     }
 
@@ -51,7 +52,7 @@ returns-in-GoesTo c =
     record {
       outlook = λ a rs n h.
           let at = c.requires.stands a h.activity in
-          outlook_at x values c.args.redex c.requires.stands (GoesTo c.in-GoesTo.name.now) c.requires.closed by a rs n h.activity (λ (i : Intent). IsOutlook i (outlook.Sends c.in-GoesTo.name)) (goes_to rs n a at.contexts c.in-GoesTo.name at.redex (redex_ready chases a.store at.redex));
+          outlook_at x values c.args.redex c.requires.stands (GoesTo c.in-GoesTo.name.now) c.requires.closed by a rs n h.activity (λ (i : Intent). IsOutlook n i (outlook.Sends c.in-GoesTo.name)) (goes_to rs n a at.contexts c.in-GoesTo.name at.redex (redex_ready chases a.store at.redex));
       passed = λ a rs h. passed_now x chases a c.args.redex (c.requires.stands a h.activity) h.activity c.deref.result.now c.store.result.now code c.store.ensures.store c.prospect_from-reading.result.passed c.prospect_from-reading.ensures.passed;
     }
 
@@ -66,7 +67,7 @@ returns-in-Stops c =
     record {
       outlook = λ a rs n h.
           let at = c.requires.stands a h.activity in
-          outlook_at x values c.args.redex c.requires.stands (Stops (fault_shape c.in-Stops.fault)) c.requires.closed by a rs n h.activity (λ (i : Intent). IsOutlook i (outlook.Faulted c.in-Stops.fault)) (stops rs n a at.contexts c.in-Stops.fault at.redex (redex_ready chases a.store at.redex));
+          outlook_at x values c.args.redex c.requires.stands (Stops (fault_shape c.in-Stops.fault)) c.requires.closed by a rs n h.activity (λ (i : Intent). IsOutlook n i (outlook.Faulted c.in-Stops.fault)) (stops rs n a at.contexts c.in-Stops.fault at.redex (redex_ready chases a.store at.redex));
       passed = λ a rs h. passed_now x chases a c.args.redex (c.requires.stands a h.activity) h.activity c.deref.result.now c.store.result.now code c.store.ensures.store c.prospect_from-reading.result.passed c.prospect_from-reading.ensures.passed;
     }
 
@@ -81,7 +82,22 @@ returns-in-Awaits c =
     record {
       outlook = λ a rs n h.
           let at = c.requires.stands a h.activity in
-          outlook_at x values c.args.redex c.requires.stands (Awaits (future_shape c.in-Awaits.future.now)) c.requires.closed by a rs n h.activity (λ (i : Intent). IsOutlook i (outlook.Awaits c.in-Awaits.future)) (awaits rs n a at.contexts c.in-Awaits.future at.redex (redex_ready chases a.store at.redex));
+          outlook_at x values c.args.redex c.requires.stands (Awaits (future_shape c.in-Awaits.future.now)) c.requires.closed by a rs n h.activity (λ (i : Intent). IsOutlook n i (outlook.Awaits c.in-Awaits.future)) (awaits rs n a at.contexts c.in-Awaits.future at.redex (redex_ready chases a.store at.redex));
+      passed = λ a rs h. passed_now x chases a c.args.redex (c.requires.stands a h.activity) h.activity c.deref.result.now c.store.result.now code c.store.ensures.store c.prospect_from-reading.result.passed c.prospect_from-reading.ensures.passed;
+    }
+
+pub returns-in-Polls : goal.returns-in-Polls
+returns-in-Polls c =
+    let x : Actor = c.args.self.now in
+    let values : Values = values_of c.args.futures.now in
+    let chases : FutureShape → Chase = chase values in
+    let code : c.deref.result.now ≡ code_of x = c.deref.ensures ∙ ap arc_value c.code-code.ensures.code in
+    let told = subst (λ (q : Prospect). By values c.args.redex (prospect_shape q) c.deref.result.now c.store.result.now) c.in-Polls.is c.prospect_from-reading.ensures.prospect in
+    let by = by_own values c.args.redex prospects.Polls c.deref.result.now (code_of x) c.store.result.now x.activity.state.store code c.store.ensures.store told in
+    record {
+      outlook = λ a rs n h.
+          let at = c.requires.stands a h.activity in
+          outlook_at x values c.args.redex c.requires.stands prospects.Polls c.requires.closed by a rs n h.activity (λ (i : Intent). IsOutlook n i outlook.Polls) (polls rs n a at.contexts at.redex (redex_ready chases a.store at.redex));
       passed = λ a rs h. passed_now x chases a c.args.redex (c.requires.stands a h.activity) h.activity c.deref.result.now c.store.result.now code c.store.ensures.store c.prospect_from-reading.result.passed c.prospect_from-reading.ensures.passed;
     }
 
@@ -96,7 +112,7 @@ returns-in-Still c =
     record {
       outlook = λ a rs n h.
           let at = c.requires.stands a h.activity in
-          outlook_at x values c.args.redex c.requires.stands Still c.requires.closed by a rs n h.activity (λ (i : Intent). IsOutlook i outlook.Done) (still rs n a at.contexts at.redex (redex_ready chases a.store at.redex));
+          outlook_at x values c.args.redex c.requires.stands Still c.requires.closed by a rs n h.activity (λ (i : Intent). IsOutlook n i outlook.Done) (still rs n a at.contexts at.redex (redex_ready chases a.store at.redex));
       passed = λ a rs h. passed_now x chases a c.args.redex (c.requires.stands a h.activity) h.activity c.deref.result.now c.store.result.now code c.store.ensures.store c.prospect_from-reading.result.passed c.prospect_from-reading.ensures.passed;
     }
 
@@ -111,8 +127,8 @@ returns-in_ok-outlook-in-Asks c =
     record {
       outlook = λ a rs n h.
           let at = c.requires.stands a h.activity in
-          let Q : Intent → Type 0 = λ i. IsOutlook i c.in_ok-outlook-in-Asks.outlook in
+          let Q : Intent → Type 0 = λ i. IsOutlook n i c.in_ok-outlook-in-Asks.outlook in
           outlook_at x values c.args.redex c.requires.stands Asks c.requires.closed by a rs n h.activity Q
-          (λ e. subst Q (sym (serve_intent x values c.args.redex c.requires.stands a rs n h.activity (map label_text c.served_labels.result.now) c.served_labels.ensures.labels (asks at.redex (redex_ready chases a.store at.redex) e))) (c.in_ok-outlook-in-Asks.ensures.outlook a rs at.contexts h));
+          (λ e. subst Q (sym (serve_intent x values c.args.redex c.requires.stands a rs n h.activity (map label_text c.served_labels.result.now) c.served_labels.ensures.labels (asks at.redex (redex_ready chases a.store at.redex) e))) (c.in_ok-outlook-in-Asks.ensures.outlook a rs at.contexts n h));
       passed = λ a rs h. passed_now x chases a c.args.redex (c.requires.stands a h.activity) h.activity c.deref.result.now c.store.result.now code c.store.ensures.store c.prospect_from-reading.result.passed c.prospect_from-reading.ensures.passed;
     }

@@ -1,6 +1,6 @@
 use Rattle.std.proofs.Common.{◌≡◌, ◌∙◌, IfOk, Option, Some, None, map, sym, subst}
 use Rattle.asp_model.specs.Configuration as model
-use Rattle.asp_model.specs.Contraction.{Communication, Creates, Sends, Serves}
+use Rattle.asp_model.specs.Contraction.{Communication, Creates, Polls, Sends, Serves}
 use Rattle.asp_model.specs.Intent.{Numbered, communicates, creates, labels_served, oldest_match, sends, serves}
 use Rattle.asp_model.specs.Names.{Name, Text}
 use Rattle.asp_model.specs.Store.{cell}
@@ -35,8 +35,8 @@ returns-in_ok-service-in-Creates-clause-done c = λ a rs cs r x h e is.
     let new : Actor = c.create.new.self in
     let object = c.in-Creates.object in
     let same : Creates object (lent_text c.in-Creates.service) ≡ x = some_is (told c.in_ok-object.field-0 (asked.Creates object c.in-Creates.service) x c.in-Creates.is (c.in_ok-object.ensures.asked a cs r x h.activity e is)) in
-    let done = subst (λ (l : Option Text). IfOk c.create.result (IsDoneBy (creates n a cs a.store object l) rs new)) c.in_ok-service-in-Creates.ensures (c.create.ensures.done a rs cs r h e) in
-    subst (λ (y : Communication). IfOk c.create.result (IsDoneBy (communicates rs n a cs a.store y) rs new)) same done
+    let done = subst (λ (l : Option Text). IfOk c.create.result (IsDoneBy n (creates n a cs a.store object l) rs new)) c.in_ok-service-in-Creates.ensures (c.create.ensures.done a rs cs r h e) in
+    subst (λ (y : Communication). IfOk c.create.result (IsDoneBy n (communicates rs n a cs a.store y) rs new)) same done
 
 pub returns-in_ok-arguments-in-Sends-clause-done : goal.returns-in_ok-arguments-in-Sends-clause-done
 returns-in_ok-arguments-in-Sends-clause-done c = λ a rs cs r x h e is.
@@ -47,9 +47,9 @@ returns-in_ok-arguments-in-Sends-clause-done c = λ a rs cs r x h e is.
     let ks = c.in-Sends.arguments.now in
     let same : Sends to l ks ≡ x = some_is (told c.in_ok-object.field-0 (asked.Sends c.in-Sends.to c.in-Sends.label c.in-Sends.arguments) x c.in-Sends.is (c.in_ok-object.ensures.asked a cs r x h.activity e is)) in
     let done = c.send.ensures.done a rs cs r ks h e (c.in_ok-arguments-in-Sends.ensures.parcel a h.activity) in
-    let named = subst (λ (m : Name). IfOk c.send.result (IsDoneBy (sends n a cs a.store m c.in_ok-label-in-Sends.label.text ks) rs new)) c.in_ok-to-in-Sends.ensures.name done in
-    let labelled = subst (λ (m : Text). IfOk c.send.result (IsDoneBy (sends n a cs a.store to m ks) rs new)) c.in_ok-label-in-Sends.ensures.label named in
-    subst (λ (y : Communication). IfOk c.send.result (IsDoneBy (communicates rs n a cs a.store y) rs new)) same labelled
+    let named = subst (λ (m : Name). IfOk c.send.result (IsDoneBy n (sends n a cs a.store m c.in_ok-label-in-Sends.label.text ks) rs new)) c.in_ok-to-in-Sends.ensures.name done in
+    let labelled = subst (λ (m : Text). IfOk c.send.result (IsDoneBy n (sends n a cs a.store to m ks) rs new)) c.in_ok-label-in-Sends.ensures.label named in
+    subst (λ (y : Communication). IfOk c.send.result (IsDoneBy n (communicates rs n a cs a.store y) rs new)) same labelled
 
 pub returns-in-Some-clause-done : goal.returns-in-Some-clause-done
 returns-in-Some-clause-done c = λ a rs cs r x h e is.
@@ -57,8 +57,8 @@ returns-in-Some-clause-done c = λ a rs cs r x h e is.
     let labels = map label_text c.in-Serves.labels.now in
     let wanted = labels_served labels (cell a.store a.active) in
     let same : Serves labels ≡ x = some_is (told c.in_ok-object.field-0 (asked.Serves c.in-Serves.labels) x c.in-Serves.is (c.in_ok-object.ensures.asked a cs r x h.activity e is)) in
-    let done = c.serve.ensures.done a rs cs r wanted h e (sym c.in-Some.is ∙ c.in_ok-number-in-Serves.ensures.oldest a rs h) in
-    subst (λ (y : Communication). IfOk c.serve.result (IsDoneBy (communicates rs n a cs a.store y) rs c.serve.new.self)) same done
+    let done = c.serve.ensures.done a rs cs r wanted n h e (sym c.in-Some.is ∙ c.in_ok-number-in-Serves.ensures.oldest a rs h) in
+    subst (λ (y : Communication). IfOk c.serve.result (IsDoneBy n (communicates rs n a cs a.store y) rs c.serve.new.self)) same done
 
 pub returns-in-None-clause-done : goal.returns-in-None-clause-done
 returns-in-None-clause-done c = λ a rs cs r x h e is.
@@ -68,5 +68,14 @@ returns-in-None-clause-done c = λ a rs cs r x h e is.
     let wanted = labels_served labels (cell a.store a.active) in
     let same : Serves labels ≡ x = some_is (told c.in_ok-object.field-0 (asked.Serves c.in-Serves.labels) x c.in-Serves.is (c.in_ok-object.ensures.asked a cs r x h.activity e is)) in
     let none : oldest_match wanted a.served 0 rs ≡ None = is_none (oldest_match wanted a.served 0 rs) (sym c.in-None.is ∙ c.in_ok-number-in-Serves.ensures.oldest a rs h) in
-    let done = subst (λ (o : Option Numbered). IsDoneBy (serves a cs o) rs old given.Nothing) (sym none) tt in
-    subst (λ (y : Communication). IsDoneBy (communicates rs n a cs a.store y) rs old given.Nothing) same done
+    let done = subst (λ (o : Option Numbered). IsDoneBy n (serves a cs o) rs old given.Nothing) (sym none) tt in
+    subst (λ (y : Communication). IsDoneBy n (communicates rs n a cs a.store y) rs old given.Nothing) same done
+
+pub returns-in_ok-answer-in-Polls-clause-done : goal.returns-in_ok-answer-in-Polls-clause-done
+returns-in_ok-answer-in-Polls-clause-done c = λ a rs cs r x h e is.
+    let n = c.args.name.now in
+    let labels = map label_text c.in-Polls.labels.now in
+    let wanted = labels_served labels (cell a.store a.active) in
+    let same : Polls labels ≡ x = some_is (told c.in_ok-object.field-0 (asked.Polls c.in-Polls.labels) x c.in-Polls.is (c.in_ok-object.ensures.asked a cs r x h.activity e is)) in
+    let done = c.poll.ensures.done a rs cs r (oldest_match wanted a.served 0 rs) n h e (c.in_ok-answer-in-Polls.ensures.found a rs h) in
+    subst (λ (y : Communication). IfOk c.poll.result (IsDoneBy n (communicates rs n a cs a.store y) rs c.poll.new.self)) same done

@@ -27,7 +27,7 @@ returns-then-is_communication-clause-contracts c = λ a rs cs r h e.
     let asks : communicates v ≡ true = sym c.is_communication.ensures ∙ c.if-is_communication.true in
     let w : Asking y a r = asking y a cs r v e (c.in_ok-advance.ensures.after a h.activity) asks in
     let now : Stands (record x { activity = y; clear = 0 }) a rs = stands_with x y a a rs h w.stands c.in_ok-advance.ensures.code refl refl refl in
-    subst (λ (k : Contraction). IfOk c.communicate.result (IsDoneBy (contracts rs n a cs a.store k) rs c.communicate.new.self)) (sym w.is) (c.communicate.ensures.done a rs cs r w.communication now e w.is)
+    subst (λ (k : Contraction). IfOk c.communicate.result (IsDoneBy n (contracts rs n a cs a.store k) rs c.communicate.new.self)) (sym w.is) (c.communicate.ensures.done a rs cs r w.communication now e w.is)
 
 pub returns-else-is_communication-clause-contracts : goal.returns-else-is_communication-clause-contracts
 returns-else-is_communication-clause-contracts c = λ a rs cs r h e.

@@ -8,6 +8,7 @@ use Rattle.step_activity.proofs.actor.Actor.fill_all.Goals as goal
 pub loop-place-init : goal.loop-place-init
 loop-place-init c = record {
   way = λ a rs h. filling a rs c.args.places.now (parcel_shape c.args.value.now) c.args.self.now h;
+  log = refl;
   code = refl;
 }
 
@@ -27,8 +28,12 @@ loop-place-preserved c = record {
   way = λ a rs h.
       let w = c.loop-place.invariant.way a rs h in
       fills_on a rs c.args.places.now c.loop-place.place-index (parcel_shape c.args.value.now) c.loop-place.self w c.fill.new.self (omega arith) (c.in_ok-fill.ensures.stands (record a { store = w.store }) rs w.stands);
+  log = c.fill.ensures.log ∙ c.loop-place.invariant.log;
   code = c.fill.ensures.code ∙ c.loop-place.invariant.code;
 }
+
+pub returns-in_err-fill-clause-log : goal.returns-in_err-fill-clause-log
+returns-in_err-fill-clause-log c = c.fill.ensures.log ∙ c.loop-place.invariant.log
 
 pub returns-in_err-fill-clause-code : goal.returns-in_err-fill-clause-code
 returns-in_err-fill-clause-code c = c.fill.ensures.code ∙ c.loop-place.invariant.code
@@ -36,6 +41,9 @@ returns-in_err-fill-clause-code c = c.fill.ensures.code ∙ c.loop-place.invaria
 pub returns-clause-stands : goal.returns-clause-stands
 returns-clause-stands c = λ a rs h.
     all_filled a rs c.args.places.now c.loop-place.place-index (parcel_shape c.args.value.now) c.loop-place.self (c.loop-place.invariant.way a rs h) (omega arith)
+
+pub returns-clause-log : goal.returns-clause-log
+returns-clause-log c = c.loop-place.invariant.log
 
 pub returns-clause-code : goal.returns-clause-code
 returns-clause-code c = c.loop-place.invariant.code

@@ -38,7 +38,7 @@ returns-then-branch-clause-acts c = λ a rs h.
     let f : Fetched a (strict_ready chases a.store z) y = fetched_reads a (strict_ready chases a.store z) y c.in_ok-fetch_all.field-0 c.if-branch.true (c.in_ok-fetch_all.ensures.fetched a h.activity) in
     let b : model.Activity = record a { store = f.store } in
     let now : Stands (record x { activity = y; clear = 0 }) b rs = stands_with x y a b rs h f.stands c.in_ok-fetch_all.ensures.code refl refl refl in
-    subst (λ (i : Intent). IfOk c.contract.result (IsDoneBy i rs c.contract.new.self)) (sym (intent_over chases rs n a z ops f.store f.reads)) (c.contract.ensures.contracts b rs ops.contexts ops.redex now ops.splits)
+    subst (λ (i : Intent). IfOk c.contract.result (IsDoneBy n i rs c.contract.new.self)) (sym (intent_over chases rs n a z ops f.store f.reads)) (c.contract.ensures.contracts b rs ops.contexts ops.redex now ops.splits)
 
 pub returns-else-branch-clause-acts : goal.returns-else-branch-clause-acts
 returns-else-branch-clause-acts c = λ a rs h.
@@ -49,4 +49,4 @@ returns-else-branch-clause-acts c = λ a rs h.
     let z : Strict = c.args.strict in
     let ops : HasOperands a z = c.requires.operands a h.activity in
     let lacks = fetched_lacks a (strict_ready chases a.store z) y c.in_ok-fetch_all.field-0 c.if-branch.false (c.in_ok-fetch_all.ensures.fetched a h.activity) in
-    subst (λ (i : Intent). IsDoneBy i rs (record x { activity = y; clear = 0 }) given.Nothing) (sym (intent_lacks chases rs n a z ops lacks.0 lacks.1)) tt
+    subst (λ (i : Intent). IsDoneBy n i rs (record x { activity = y; clear = 0 }) given.Nothing) (sym (intent_lacks chases rs n a z ops lacks.0 lacks.1)) tt

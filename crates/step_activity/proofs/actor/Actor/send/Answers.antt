@@ -1,6 +1,6 @@
 use Rattle.std.proofs.Common.{◌≡◌, suc, Some, refl, sym, ap, ◌∙◌, subst}
 use Rattle.asp_model.specs.Configuration as model
-use Rattle.asp_model.specs.Configuration.{RequestShape}
+use Rattle.asp_model.specs.Configuration.{From, RequestShape}
 use Rattle.asp_model.specs.Names.{FutureShape}
 use Rattle.asp_model.specs.Shapes.{future_shape}
 use Rattle.asp_model.specs.Store.{Future}
@@ -26,8 +26,8 @@ returns-clause-done c = λ a rs cs r places h e is.
         activity = record { state = for.state; present = for.present; active = for.active; count = for.count };
         sends = counted;
         creations = h.creations;
-        queue = queue_to x z a.served rs (record { pending = refl; arrived = refl; senders = refl; code = c.in_ok-sent.ensures.code }) h.queue;
+        queue = queue_to x z a.served rs (record { pending = refl; arrived = refl; code = c.in_ok-sent.ensures.code }) h.queue;
         clear = first_clear b;
       },
-      ((λ i. Some (c.args.to, record { label = c.args.label.text; sender = sym c.in_ok-sender.ensures.name i; future = sym copied i; arguments = sym is i })), refl, refl),
+      ((λ i. Some (c.args.to, record { label = c.args.label.text; sender = sym c.in_ok-sender.ensures.name i; future = sym copied i; arguments = sym is i })), refl, refl, (λ i. Some (c.args.to, From (sym c.in_ok-sender.ensures.name i)))),
     )

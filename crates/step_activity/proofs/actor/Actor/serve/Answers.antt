@@ -34,7 +34,7 @@ serves-requires-clause-code c =
     taken_is (λ (r : Request). arc_value r.arguments.code ≡ code_of x) c.args.number x.queue.pending c.take-label.result h.stands.queue.coded c.take-label.ensures.taken
 
 pub returns-clause-done : goal.returns-clause-done
-returns-clause-done c = λ a rs cs r labels h e found.
+returns-clause-done c = λ a rs cs r labels name h e found.
     let x : Actor = c.args.self.now in
     let n : ℕ = c.args.number in
     let es : Entries = x.queue.pending in
@@ -48,7 +48,7 @@ returns-clause-done c = λ a rs cs r labels h e found.
     let for : StandsFor y (by m.request) = subst (λ (s : RequestShape). StandsFor y (by s)) is (c.in_ok-serves.ensures.serves a cs r h.activity e) in
     let code = c.in_ok-serves.ensures.code in
     let others : c.take-label.new.self.pending ≡ but n es = c.take-label.ensures.others in
-    subst (λ (o : Option Numbered). IsDoneBy (serves a cs o) rs z given.Nothing) (sym m.match) (
+    subst (λ (o : Option Numbered). IsDoneBy name (serves a cs o) rs z given.Nothing) (sym m.match) (
       record {
         activity = record { state = for.state; present = for.present; active = for.active; count = for.count };
         sends = h.sends;
@@ -56,11 +56,10 @@ returns-clause-done c = λ a rs cs r labels h e found.
         queue = record {
           pending = ap (map numbered) others ∙ entries_served es n a.served rs q.pending;
           arrived = c.take-label.ensures.arrived ∙ q.arrived;
-          senders = q.senders;
           below = (m.below, q.below);
           coded = subst (λ (k : List Node). AreCoded k c.take-label.new.self.pending) (sym code) (subst (AreCoded (code_of x)) (sym others) (all_kept _ _ es q.coded));
         };
         clear = first_clear (by m.request);
       },
-      (refl, refl, refl),
+      (refl, refl, refl, refl),
     )
