@@ -7,6 +7,8 @@ use Rattle.std.specs.Ordering.{is_lt}
 use Rattle.asp_model.specs.declared.limits.TheConstants.{MOST_REDUCTIONS}
 use Rattle.asp_model.specs.declared.outcome.ActivityReport.{ActivityReport}
 use Rattle.asp_model.specs.declared.outcome.Outcome.{Outcome}
+use Rattle.asp_model.specs.declared.outcome.Reception.{Reception}
+use Rattle.asp_model.specs.Configuration.{ReceptionShape}
 use Rattle.asp_model.specs.Names.{Name, name_cmp}
 use Rattle.asp_model.specs.Term.{Tree}
 use Rattle.asp_model.specs.Outcome.{OutcomeShape, outcome_of}
@@ -18,11 +20,11 @@ use Rattle.replay_one.specs.Listed.{AreReplayable}
 use Rattle.replay_one.specs.Rows.{list_shape}
 use Rattle.step_ends.proofs.ReportLemmas.{map_map}
 
-abbrev pub difference_in : List ActivityReport → List (Name × Vec Name) → List (Name × ℕ) → Option Name
+abbrev pub difference_in : List ActivityReport → List (Name × Vec Reception) → List (Name × ℕ) → Option Name
 difference_in reports lists counts = first_difference (map (λ (a : ActivityReport). row_of (activity_shape a)) reports) (rows_given (map list_shape lists) counts)
 
 -- the replay's outcome differs where it is found to
-pub divergence_is : (program : Tree) (o : Outcome) (lists : List (Name × Vec Name)) (counts : CountsShape) → outcome_shape o ≡ outcome_of (replay program (map list_shape lists) counts) → divergence_of program (map list_shape lists) counts ≡ difference_in o.activities.items lists counts
+pub divergence_is : (program : Tree) (o : Outcome) (lists : List (Name × Vec Reception)) (counts : CountsShape) → outcome_shape o ≡ outcome_of (replay program (map list_shape lists) counts) → divergence_of program (map list_shape lists) counts ≡ difference_in o.activities.items lists counts
 divergence_is program o lists counts e =
     let given : List Row = rows_given (map list_shape lists) counts in
     ap (λ (q : OutcomeShape). first_difference (rows_shown q) given) (sym e) ∙ ap (λ rows. first_difference rows given) (map_map row_of activity_shape o.activities.items)
@@ -52,8 +54,8 @@ module _ {X : Type 0} where
 pub in_order : {X Y : Type 0} (xs : List (Name × X)) (ys : List (Name × Y)) → map (λ x. x.0) xs ≡ map (λ y. y.0) ys → T (is_sorted name_cmp ys) → T (is_sorted name_cmp xs)
 in_order xs ys same s = subst T (sym (sorted_names xs ∙ ap ascends same ∙ sym (sorted_names ys))) s
 
-pub names_of_lists : (lists : List (Name × Vec Name)) → map (λ x. x.0) (map list_shape lists) ≡ map (λ x. x.0) lists
-names_of_lists lists = map_map (λ (x : Name × List Name). x.0) list_shape lists
+pub names_of_lists : (lists : List (Name × Vec Reception)) → map (λ x. x.0) (map list_shape lists) ≡ map (λ x. x.0) lists
+names_of_lists lists = map_map (λ (x : Name × List ReceptionShape). x.0) list_shape lists
 
 -- what a report gives of lists and counts
 pub replayable_by : (lists : ListsShape) (counts : CountsShape) → map (λ x. x.0) lists ≡ map (λ y. y.0) counts → is_sorted name_cmp counts ≡ true → total counts ≤ MOST_REDUCTIONS → AreReplayable lists counts

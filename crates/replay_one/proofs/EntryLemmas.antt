@@ -1,21 +1,20 @@
 -- Entries in ascending order of names, and the search for one.
-use Rattle.std.proofs.Common.{◌≡◌, ◌≢◌, ◌<◌, ◌≤◌, ◌+◌, ◌&&◌, ◌∷◌, [], ℕ, zero, suc, Bool, true, false, cond, T, List, Option, Some, None, length, map, refl, sym, ap, subst, ◌∙◌, ⊎_elim, arith}
+use Rattle.std.proofs.Common.{◌≡◌, ◌≢◌, ◌<◌, ◌≤◌, ◌+◌, ◌∷◌, [], ℕ, zero, suc, true, false, cond, T, List, Option, Some, None, get_or, length, map, refl, sym, ap, ◌∙◌, ⊎_elim, arith}
 use Rattle.std.proofs.lemmas.Bool.{cases_lt}
-use Rattle.std.specs.List.{AllByRecursion, slice_index_or}
-use Rattle.std.specs.List.Sorted.{IsStrictlySortedBy}
+use Rattle.std.specs.List.{slice_index_or}
 use Rattle.std.specs.Global.{Vec}
 use Rattle.std.specs.FinMap.{find, is_sorted}
 use Rattle.std.specs.FinMap.Entries.{below_all}
-use Rattle.std.specs.Map.{keys_of, lookup}
-use Rattle.std.specs.BTreeMap.{is_at}
 use Rattle.std.specs.Cmp.{tied_itself}
-use Rattle.std.specs.Ordering.{is_eq, is_lt, ordering_reverse}
-use Rattle.std.specs.declared.cmp.Ordering.{Ordering}
+use Rattle.std.specs.Ordering.{is_eq, ordering_reverse}
 use Rattle.std.specs.declared.cmp.Ordering.TheVariants.{Less, Equal, Greater}
 use Rattle.asp_model.specs.Names.{Name, name_cmp}
 use Rattle.asp_model.specs.Order.{name_cmp_same}
-use Rattle.asp_model.specs.Step.{name_at, names_or_none}
-use Rattle.asp_model.specs.Replay.{senders_in}
+use Rattle.asp_model.specs.declared.outcome.Reception.{Reception}
+use Rattle.asp_model.specs.Configuration.{ReceptionShape, or_none}
+use Rattle.asp_model.specs.Step.{reception_at}
+use Rattle.asp_model.specs.Replay.{log_in}
+use Rattle.asp_model.specs.Shapes.{reception_shape}
 use Rattle.law_steps.proofs.EntryLemmas.{first_of_both, second_of_both}
 use Rattle.law_steps.proofs.NameLemmas.{name_total, name_case}
 use Rattle.step_ends.proofs.EntryLemmas.{absent_below, find_head, find_skip, less_of}
@@ -102,26 +101,35 @@ module _ {X : Type 0} (n : Name) where
   pub nowhere : (es : List (Name × X)) (low high : ℕ) → high ≤ low → IsNotAmong n es 0 low → IsNotAmong n es high (length es) → None ≡ find name_cmp n es
   nowhere es low high le lower upper = sym (absent_all es (λ j d lt. ⊎_elim (λ less. lower j d (omega arith) less) (λ more. upper j d (omega (arith, le, more)) lt) (cases_lt j low)))
 
--- Lists
+-- Logs
 
-pub name_past : (ns : List Name) (k : ℕ) → length ns ≤ k → name_at ns k ≡ None
-name_past [] k h = refl
-name_past (n ∷ ns) zero h = absurd (omega (arith, h))
-name_past (n ∷ ns) (suc k) h = name_past ns k (omega (arith, h))
+pub reception_past : (xs : List Reception) (k : ℕ) → length xs ≤ k → reception_at (map reception_shape xs) k ≡ None
+reception_past [] k h = refl
+reception_past (x ∷ xs) zero h = absurd (omega (arith, h))
+reception_past (x ∷ xs) (suc k) h = reception_past xs k (omega (arith, h))
 
-abbrev with_items : Option (Vec Name) → Option (List Name)
+pub reception_there : (xs : List Reception) (k : ℕ) (x : Reception) → k < length xs → x ≡ get_or xs k x → reception_at (map reception_shape xs) k ≡ Some (reception_shape x)
+reception_there [] k x h e = absurd (omega (arith, h))
+reception_there (y ∷ xs) zero x h e = ap (λ (z : Reception). Some (reception_shape z)) (sym e)
+reception_there (y ∷ xs) (suc k) x h e = reception_there xs k x (omega (arith, h)) e
+
+-- the receptions of a log
+abbrev shapes_in : Vec Reception → List ReceptionShape
+shapes_in v = map reception_shape v.items
+
+abbrev with_items : Option (Vec Reception) → Option (List ReceptionShape)
 with_items None = None
-with_items (Some v) = Some v.items
+with_items (Some v) = Some (shapes_in v)
 
-items_found : (es : List (Name × Vec Name)) (n : Name) → find name_cmp n (map (λ (x : Name × Vec Name). (x.0, x.1.items)) es) ≡ with_items (find name_cmp n es)
+items_found : (es : List (Name × Vec Reception)) (n : Name) → find name_cmp n (map (λ (x : Name × Vec Reception). (x.0, shapes_in x.1)) es) ≡ with_items (find name_cmp n es)
 items_found [] n = refl
-items_found (e ∷ es) n = elim (is_eq (name_cmp n e.0)) as (λ b. cond b (Some e.1.items) (find name_cmp n (map (λ (x : Name × Vec Name). (x.0, x.1.items)) es)) ≡ with_items (cond b (Some e.1) (find name_cmp n es))) [
+items_found (e ∷ es) n = elim (is_eq (name_cmp n e.0)) as (λ b. cond b (Some (shapes_in e.1)) (find name_cmp n (map (λ (x : Name × Vec Reception). (x.0, shapes_in x.1)) es)) ≡ with_items (cond b (Some e.1) (find name_cmp n es))) [
   | true ↦ refl
   | false ↦ items_found es n
 ]
 
-pub senders_found : (es : List (Name × Vec Name)) (n : Name) (v : Vec Name) → Some v ≡ find name_cmp n es → senders_in (map (λ (x : Name × Vec Name). (x.0, x.1.items)) es) n ≡ v.items
-senders_found es n v h = ap names_or_none (items_found es n ∙ ap with_items (sym h))
+pub log_found : (es : List (Name × Vec Reception)) (n : Name) (v : Vec Reception) → Some v ≡ find name_cmp n es → log_in (map (λ (x : Name × Vec Reception). (x.0, shapes_in x.1)) es) n ≡ shapes_in v
+log_found es n v h = ap or_none (items_found es n ∙ ap with_items (sym h))
 
-pub no_senders : (es : List (Name × Vec Name)) (n : Name) → None ≡ find name_cmp n es → senders_in (map (λ (x : Name × Vec Name). (x.0, x.1.items)) es) n ≡ []
-no_senders es n h = ap names_or_none (items_found es n ∙ ap with_items (sym h))
+pub no_log : (es : List (Name × Vec Reception)) (n : Name) → None ≡ find name_cmp n es → log_in (map (λ (x : Name × Vec Reception). (x.0, shapes_in x.1)) es) n ≡ []
+no_log es n h = ap or_none (items_found es n ∙ ap with_items (sym h))

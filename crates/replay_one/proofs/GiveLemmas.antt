@@ -1,5 +1,5 @@
 -- What an effect gives to others is handed on.
-use Rattle.std.proofs.Common.{◌≡◌, [], ℕ, true, false, List, Option, Some, None, length, refl, sym, ap, subst, ◌∙◌}
+use Rattle.std.proofs.Common.{◌≡◌, [], ℕ, true, false, List, Option, Some, None, is_some, length, refl, sym, ap, subst, ◌∙◌}
 use Rattle.std.specs.Global.{Box}
 use Rattle.std.proofs.lemmas.Bool.{false_from_ne_true}
 use Rattle.std.specs.FinMap.{find, put}
@@ -9,9 +9,9 @@ use Rattle.asp_model.specs.Term.{Tree}
 use Rattle.asp_model.specs.Parcel.{ParcelShape}
 use Rattle.asp_model.specs.Chase.{Values}
 use Rattle.asp_model.specs.Configuration as model
-use Rattle.asp_model.specs.Configuration.{Configuration, RequestShape, requests_of}
+use Rattle.asp_model.specs.Configuration.{Configuration, From, Poll, ReceptionShape, RequestShape, log_of, requests_of}
 use Rattle.asp_model.specs.Intent.{Effect}
-use Rattle.asp_model.specs.Step.{ListsShape, put_some, with_effect, with_sent}
+use Rattle.asp_model.specs.Step.{ListsShape, put_some, with_effect, with_last}
 use Rattle.asp_model.specs.Shapes.{future_shape}
 use Rattle.code_table.specs.declared.cells.Parcel.{Parcel}
 use Rattle.code_table.specs.Shapes.{parcel_shape}
@@ -26,15 +26,16 @@ use Rattle.law_chases.proofs.MapLemmas.{find_same, stays_there}
 use Rattle.law_steps.proofs.NameLemmas.{name_total, name_same}
 use Rattle.law_chases.proofs.FutureLemmas.{future_total, future_same, no_some, some_is, true_false}
 use Rattle.law_steps.proofs.ReachedLemmas.{moves_go_on}
+use Rattle.law_steps.proofs.WholeLemmas.{reached_are_sound}
 use Rattle.step_activity.specs.declared.actor.Actor.{Actor}
 use Rattle.step_activity.specs.declared.act.Given.TheVariants as given
-use Rattle.step_activity.specs.Actors.{Stands}
+use Rattle.step_activity.specs.Actors.{Stands, log_in}
 use Rattle.step_activity.specs.Effects.{IsMade}
 use Rattle.law_schedules.specs.Schedules.{IsNextIn}
 use Rattle.law_schedules.proofs.EffectLemmas.{absent_received_none}
 use Rattle.replay_one.specs.declared.population.Population.{Population}
 use Rattle.replay_one.specs.declared.schedule.Schedule.{Schedule}
-use Rattle.replay_one.specs.Population.{IsGiving, IsPopulation, with_activity, with_request, with_value}
+use Rattle.replay_one.specs.Population.{IsGiving, IsPopulation, with_activity, with_poll, with_request, with_value}
 use Rattle.replay_one.specs.Schedule.{IsMoreReady, asks_in, noted_in, ready_in, sends_in}
 use Rattle.replay_one.specs.Round.{IsHandedOn}
 
@@ -54,20 +55,20 @@ more_twice s u t x y =
     }
 
 -- the effect's configuration, by what it gives
-effect_of : (n : Name) (e : Effect) (c : Configuration) (s : Option (Name × RequestShape)) (m : Option (Name × model.Activity)) (f : Option (FutureShape × ParcelShape)) → e.sent ≡ s → e.made ≡ m → e.filled ≡ f
-    → record { activities = put_some name_cmp m (put name_cmp n e.own c.activities); received = with_sent s c.received; futures = put_some future_cmp f c.futures } ≡ with_effect n e c
-effect_of n e c s m f p q r = sym (λ i. record { activities = put_some name_cmp (q i) (put name_cmp n e.own c.activities); received = with_sent (p i) c.received; futures = put_some future_cmp (r i) c.futures })
+effect_of : (n : Name) (e : Effect) (c : Configuration) (s : Option (Name × RequestShape)) (m : Option (Name × model.Activity)) (f : Option (FutureShape × ParcelShape)) (l : Option (Name × ReceptionShape)) → e.sent ≡ s → e.made ≡ m → e.filled ≡ f → e.logged ≡ l
+    → record { activities = put_some name_cmp m (put name_cmp n e.own c.activities); received = with_last s c.received; logs = with_last l c.logs; futures = put_some future_cmp f c.futures } ≡ with_effect n e c
+effect_of n e c s m f l p q r t = sym (λ i. record { activities = put_some name_cmp (q i) (put name_cmp n e.own c.activities); received = with_last (p i) c.received; logs = with_last (t i) c.logs; futures = put_some future_cmp (r i) c.futures })
 
 module _ (p : Population) (n : Name) (program : Tree) (c : Configuration) (e : Effect) where
   pub nothing_population : IsGiving p n given.Nothing program c e → IsPopulation p (with_effect n e c)
-  nothing_population h = subst (IsPopulation p) (effect_of n e c None None None h.given.0 h.given.1 h.given.2) h.here.population
+  nothing_population h = subst (IsPopulation p) (effect_of n e c None None None None h.given.0 h.given.1 h.given.2 h.given.3) h.here.population
 
   -- what is made
-  made_is : (o : Option (Name × model.Activity)) (m : Name) (x : Actor) → IsMade o m x → (b : model.Activity) × (o ≡ Some (m, b)) × Stands x b []
+  made_is : (o : Option (Name × model.Activity)) (m : Name) (x : Actor) → IsMade o m x → (b : model.Activity) × (o ≡ Some (m, b)) × Stands x b [] × (log_in x ≡ [])
   made_is None m x h = absurd h
-  made_is (Some z) m x h = (z.1, (λ i. Some (h.0 i, z.1)), h.1)
+  made_is (Some z) m x h = (z.1, (λ i. Some (h.0 i, z.1)), h.1, h.2)
 
-  pub made_given : (m : Name) (x : Box Actor) → IsGiving p n (given.Made m x) program c e → (b : model.Activity) × (e.made ≡ Some (m, b)) × Stands x.value b []
+  pub made_given : (m : Name) (x : Box Actor) → IsGiving p n (given.Made m x) program c e → (b : model.Activity) × (e.made ≡ Some (m, b)) × Stands x.value b [] × (log_in x.value ≡ [])
   made_given m x h = made_is e.made m x.value h.given.1
 
   -- who is made has received nothing
@@ -76,19 +77,32 @@ module _ (p : Population) (n : Name) (program : Tree) (c : Configuration) (e : E
       let b = made_given m x h in
       absent_received_none program c m h.reached ((effects_are_new program c n e h.reached h.intends).made (m, b.0) b.1)
 
+  -- and its log is empty
+  pub made_unlogged : (m : Name) (x : Box Actor) → IsGiving p n (given.Made m x) program c e → log_of (with_activity n e.own c) m ≡ []
+  made_unlogged m x h =
+      let b = made_given m x h in
+      (reached_are_sound program c h.reached).quiet m ((effects_are_new program c n e h.reached h.intends).made (m, b.0) b.1)
+
   pub made_population : (q : Population) (m : Name) (x : Box Actor) (h : IsGiving p n (given.Made m x) program c e) → IsPopulation q (with_activity m (made_given m x h).0 (with_activity n e.own c)) → IsPopulation q (with_effect n e c)
   made_population q m x h k =
       let b = made_given m x h in
-      subst (IsPopulation q) (effect_of n e c None (Some (m, b.0)) None h.given.0 b.1 h.given.2) k
+      subst (IsPopulation q) (effect_of n e c None (Some (m, b.0)) None None h.given.0 b.1 h.given.2 h.given.3) k
 
   pub sent_there : (to : Name) (r : Request) → IsGiving p n (given.Sent to r) program c e → IsThere (with_activity n e.own c) to
   sent_there to r h = stays_there name_cmp name_total name_same n e.own c.activities to (targets_are_there program c n e (to, request_shape r) h.reached h.intends h.given.0)
 
   pub sent_is : (to : Name) (r : Request) → IsGiving p n (given.Sent to r) program c e → with_request to (request_shape r) (with_activity n e.own c) ≡ with_effect n e c
-  sent_is to r h = effect_of n e c (Some (to, request_shape r)) None None h.given.0 h.given.1 h.given.2
+  sent_is to r h = effect_of n e c (Some (to, request_shape r)) None None (Some (to, From r.sender)) h.given.0 h.given.1 h.given.2 h.given.3
+
+  -- who polls is there
+  pub polled_there : IsGiving p n given.Polled program c e → IsThere (with_poll n given.Polled (with_activity n e.own c)) n
+  polled_there h = ap is_some (find_same name_cmp name_total name_same n e.own c.activities)
+
+  pub polled_is : IsGiving p n given.Polled program c e → with_poll n given.Polled (with_activity n e.own c) ≡ with_effect n e c
+  polled_is h = effect_of n e c None None None (Some (n, Poll)) h.given.0 h.given.1 h.given.2 h.given.3
 
   pub filled_is : (f : FutureName) (v : Parcel) → IsGiving p n (given.Filled f v) program c e → with_value (future_shape f) (parcel_shape v) (with_activity n e.own c) ≡ with_effect n e c
-  filled_is f v h = effect_of n e c None None (Some (future_shape f, parcel_shape v)) h.given.0 h.given.1 h.given.2
+  filled_is f v h = effect_of n e c None None (Some (future_shape f, parcel_shape v)) None h.given.0 h.given.1 h.given.2 h.given.3
 
   -- the future was not filled
   pub filled_new : (f : FutureName) (v : Parcel) → IsGiving p n (given.Filled f v) program c e → find future_cmp (future_shape f) (values_of p.futures) ≡ None
@@ -108,7 +122,7 @@ module _ (p : Population) (n : Name) (program : Tree) (c : Configuration) (e : E
   nothing_handed lists s h = record {
     made = λ m b is. no_some (sym h.given.1 ∙ is);
     target = λ m r is. no_some (sym h.given.0 ∙ is);
-    next = λ m q is. no_some (sym h.given.0 ∙ is.1);
+    next = λ m q is. no_some (sym h.given.3 ∙ is.1);
     filled = λ f q is. no_some (sym h.given.2 ∙ is.1);
     ready = λ m r. r;
     noted = λ f m d. refl;
@@ -122,7 +136,7 @@ module _ (p : Population) (n : Name) (program : Tree) (c : Configuration) (e : E
       record {
         made = λ k a is. ap (ready_in t) (ap (λ (z : Name × model.Activity). z.0) (some_is (sym is ∙ b.1))) ∙ woken;
         target = λ k r is. no_some (sym h.given.0 ∙ is);
-        next = λ k q is. no_some (sym h.given.0 ∙ is.1);
+        next = λ k q is. no_some (sym h.given.3 ∙ is.1);
         filled = λ f q is. no_some (sym h.given.2 ∙ is.1);
         ready = more.ready;
         noted = λ f k d. more.noted f k no_some;
@@ -137,7 +151,7 @@ module _ (p : Population) (n : Name) (program : Tree) (c : Configuration) (e : E
       record {
         made = λ k a is. no_some (sym h.given.1 ∙ is);
         target = λ m q is. subst (λ (z : Name × RequestShape). asks_in s z.0 z.1.label ≡ true → ready_in t z.0 ≡ true) (same (m, q) is) (λ a. then.ready to (woken a));
-        next = λ m q is. subst (λ (z : Name × RequestShape). IsNextIn lists (with_effect n e c) z.0 q → sends_in s q z.0 ≡ true → ready_in t q ≡ true) (same (m, is.0) is.1) (λ i a.
+        next = λ m q is. subst (λ (z : Name × ReceptionShape). IsNextIn lists (with_effect n e c) z.0 q → sends_in s q z.0 ≡ true → ready_in t q ≡ true) (some_is (sym h.given.3 ∙ is.1)) (λ i a.
             by_ready u t q (then.ready q) (λ not. next q i (first.sends q to not a)));
         filled = λ f q is. no_some (sym h.given.2 ∙ is.1);
         ready = both.ready;
@@ -150,10 +164,23 @@ module _ (p : Population) (n : Name) (program : Tree) (c : Configuration) (e : E
   filled_handed lists s t f v h more woken = record {
     made = λ k a is. no_some (sym h.given.1 ∙ is);
     target = λ k r is. no_some (sym h.given.0 ∙ is);
-    next = λ k q is. no_some (sym h.given.0 ∙ is.1);
+    next = λ k q is. no_some (sym h.given.3 ∙ is.1);
     filled = λ g q is noted. woken q (ap (λ k. noted_in s k q) (ap (λ (z : FutureShape × ParcelShape). z.0) (some_is (sym h.given.2 ∙ is.1))) ∙ noted);
     ready = more.ready;
     noted = λ g k d. more.noted g k (λ is. d (parcel_shape v, h.given.2 ∙ ap (λ k. Some (k, parcel_shape v)) (some_is is)));
+    asks = more.asks;
+    sends = more.sends;
+  }
+
+  -- whoever is next in its own log
+  pub polled_handed : (lists : Option ListsShape) (s t : Schedule) → IsGiving p n given.Polled program c e → IsMoreReady s None t → ((q : Name) → IsNextIn lists (with_effect n e c) n q → sends_in s q n ≡ true → ready_in t q ≡ true) → IsHandedOn lists c n e s t
+  polled_handed lists s t h more next = record {
+    made = λ k a is. no_some (sym h.given.1 ∙ is);
+    target = λ k r is. no_some (sym h.given.0 ∙ is);
+    next = λ m q is. subst (λ (z : Name × ReceptionShape). IsNextIn lists (with_effect n e c) z.0 q → sends_in s q z.0 ≡ true → ready_in t q ≡ true) (some_is (sym h.given.3 ∙ is.1)) (next q);
+    filled = λ f q is. no_some (sym h.given.2 ∙ is.1);
+    ready = more.ready;
+    noted = λ f k d. more.noted f k no_some;
     asks = more.asks;
     sends = more.sends;
   }

@@ -10,6 +10,7 @@ use Rattle.std.specs.Cmp.{IsTotalOrder, tied_itself}
 use Rattle.std.specs.Cmp.Lexicographic.{nat_list_cmp_total}
 use Rattle.std.specs.FinMap.{is_sorted}
 use Rattle.std.specs.FinMap.Entries.{below_all}
+use Rattle.asp_model.specs.Configuration.{ReceptionShape}
 use Rattle.asp_model.specs.Names.{Name, name_cmp, same_name}
 use Rattle.asp_model.specs.Replay.{CountsShape, total}
 use Rattle.law_schedules.specs.Divergence.{AreInOrder}
@@ -150,12 +151,12 @@ module _ {X : Type 0} where
   names_mapped f [] = refl
   names_mapped f (x ∷ es) = ap (λ ns. x.0 ∷ ns) (names_mapped f es)
 
-  pub in_order : (f : X → List Name) (es : List (Name × X)) (counts : CountsShape) (b : Bool) → names es ≡ names counts → b ≡ is_sorted name_cmp es
-      → (b ≡ true → AreInOrder (map {B = Name × List Name} (λ x. (x.0, f x.1)) es) counts) × (AreInOrder (map {B = Name × List Name} (λ x. (x.0, f x.1)) es) counts → b ≡ true)
+  pub in_order : (f : X → List ReceptionShape) (es : List (Name × X)) (counts : CountsShape) (b : Bool) → names es ≡ names counts → b ≡ is_sorted name_cmp es
+      → (b ≡ true → AreInOrder (map {B = Name × List ReceptionShape} (λ x. (x.0, f x.1)) es) counts) × (AreInOrder (map {B = Name × List ReceptionShape} (λ x. (x.0, f x.1)) es) counts → b ≡ true)
   in_order f es counts b same is = (
     λ yes. record { names = names_mapped f es ∙ same; ascending = truth _ (sorted_mapped f es ∙ sym is ∙ yes) },
     λ order. is ∙ sym (sorted_mapped f es) ∙ true_of _ order.ascending,
   )
 
-  pub names_in_order : (f : X → List Name) (es : List (Name × X)) (counts : CountsShape) → AreInOrder (map {B = Name × List Name} (λ x. (x.0, f x.1)) es) counts → names es ≡ names counts
+  pub names_in_order : (f : X → List ReceptionShape) (es : List (Name × X)) (counts : CountsShape) → AreInOrder (map {B = Name × List ReceptionShape} (λ x. (x.0, f x.1)) es) counts → names es ≡ names counts
   names_in_order f es counts order = sym (names_mapped f es) ∙ order.names

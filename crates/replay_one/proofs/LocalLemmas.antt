@@ -39,7 +39,7 @@ local_intends chases rs n a b x =
 
 -- what is left of it when it acts alone
 abbrev own_effect : Activity → Effect
-own_effect b = record { own = b; sent = None; made = None; filled = None }
+own_effect b = record { own = b; sent = None; logged = None; made = None; filled = None }
 
 local_in : (c : Configuration) (n : Name) (a b : Activity) → IsAt c n a → IsLocalStep a b → intent_in c n ≡ alone b
 local_in c n a b is x =

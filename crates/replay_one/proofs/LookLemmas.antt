@@ -4,18 +4,21 @@ use Rattle.std.specs.FinMap.{find}
 use Rattle.asp_model.specs.declared.name.ActivityName.{ActivityName}
 use Rattle.asp_model.specs.declared.name.FutureName.{FutureName}
 use Rattle.asp_model.specs.declared.outcome.Fault.{Fault}
-use Rattle.asp_model.specs.Names.{Name, FutureShape, name_cmp, same_name}
+use Rattle.asp_model.specs.declared.outcome.Reception.{Reception}
+use Rattle.asp_model.specs.Names.{Name, FutureShape, name_cmp}
 use Rattle.asp_model.specs.Term.{Tree}
 use Rattle.asp_model.specs.Chase.{Values, chase}
 use Rattle.asp_model.specs.Configuration as model
-use Rattle.asp_model.specs.Configuration.{Configuration, RequestShape, requests_of}
+use Rattle.asp_model.specs.Configuration.{Configuration, From, Poll, ReceptionShape, RequestShape, log_of, requests_of}
 use Rattle.asp_model.specs.Intent.{Effect, Intent, Acts, Rests, StatusShape, Done, Serving, Running, Awaits, Faulted, intent}
-use Rattle.asp_model.specs.Step.{ListsShape, is_named, is_next, may_send, name_at, intent_in, step, with_effect}
+use Rattle.asp_model.specs.Step.{ListsShape, is_next, is_reception, may_log, reception_at, same_reception, intent_in, step, with_effect}
 use Rattle.asp_model.specs.Status.{status_of, status_of_intent}
-use Rattle.asp_model.specs.Replay.{senders_in}
-use Rattle.asp_model.specs.Shapes.{fault_shape, future_shape}
+use Rattle.asp_model.specs.Replay.{log_in}
+use Rattle.asp_model.specs.Shapes.{fault_shape, future_shape, reception_shape}
 use Rattle.future_table.specs.Values.{values_of}
 use Rattle.law_steps.specs.Reached.{IsReached, IsAt, IsThere}
+use Rattle.law_steps.specs.Steps.{IsPoll}
+use Rattle.law_steps.proofs.FactLemmas.{IsLogged, acts_facts}
 use Rattle.law_steps.proofs.LinkedLemmas.{targets_are_there}
 use Rattle.law_chases.proofs.FutureLemmas.{no_some, none_true, some_is}
 use Rattle.law_steps.proofs.StepLemmas.{holds_back, takes_step}
@@ -24,85 +27,93 @@ use Rattle.step_parts.specs.declared.outlook.Outlook.{Outlook}
 use Rattle.step_parts.specs.declared.outlook.Outlook.TheVariants as outlook
 use Rattle.step_activity.specs.Actors.{Stands}
 use Rattle.step_activity.specs.Outlook.{IsOutlook, IsTo}
-use Rattle.law_schedules.specs.Schedules.{IsNextIn, RestsIn}
+use Rattle.law_schedules.specs.Schedules.{IsNextIn, IsOf, RestsIn}
 use Rattle.replay_one.specs.declared.bounds.Next.TheVariants as next
 use Rattle.replay_one.specs.declared.population.Population.{Population}
 use Rattle.replay_one.specs.Bounds.{IsNextAt}
 use Rattle.step_activity.specs.Passing.{HasPassed, IsPassedFor}
 use Rattle.replay_one.specs.Population.{HasPassedIn, IsPopulation, found_in}
 use Rattle.step_ends.specs.Activities.{StandsAt}
-use Rattle.replay_one.specs.Round.{CanStep, Leaves, SendsTo}
+use Rattle.replay_one.specs.Round.{CanStep, Leaves, LogsTo}
 use Rattle.replay_one.proofs.PopulationLemmas.{found_stands}
 use Rattle.step_ends.proofs.ReportLemmas.{stands_none}
 
 -- Intents by their outlook
 
 -- the intent of an activity of the population
-pub intended : (p : Population) (c : Configuration) (n : Name) (x : Actor) (o : Outlook) → IsPopulation p c → found_in p n ≡ Some x → ((a : model.Activity) (rs : List RequestShape) (m : Name) → Stands x a rs → IsOutlook (intent (chase (values_of p.futures)) rs m a) o) → IsOutlook (intent_in c n) o
+pub intended : (p : Population) (c : Configuration) (n : Name) (x : Actor) (o : Outlook) → IsPopulation p c → found_in p n ≡ Some x → ((a : model.Activity) (rs : List RequestShape) (m : Name) → Stands x a rs → IsOutlook m (intent (chase (values_of p.futures)) rs m a) o) → IsOutlook n (intent_in c n) o
 intended p c n x o h is looks =
     let s = found_stands p c n x h is in
     let e : intent_in c n ≡ intent (chase c.futures) (requests_of c n) n s.0 = ap (λ (q : Option model.Activity). elim q [ None ↦ Rests Done | Some a ↦ intent (chase c.futures) (requests_of c n) n a ]) s.1 in
     let v = looks s.0 (requests_of c n) n s.2 in
-    subst (λ q. IsOutlook q o) (ap (λ (vs : Values). intent (chase vs) (requests_of c n) n s.0) h.futures ∙ sym e) v
+    subst (λ q. IsOutlook n q o) (ap (λ (vs : Values). intent (chase vs) (requests_of c n) n s.0) h.futures ∙ sym e) v
 
-steps_intent : (p : Intent) → IsOutlook p outlook.Steps → (e : Effect) × (p ≡ Acts e) × (e.sent ≡ None)
-steps_intent (Acts e) h = (e, refl, h)
-steps_intent (Rests Done) h = absurd h
-steps_intent (Rests Serving) h = absurd h
-steps_intent (Rests Running) h = absurd h
-steps_intent (Rests (Awaits f)) h = absurd h
-steps_intent (Rests (Faulted x)) h = absurd h
+steps_intent : (n : Name) (p : Intent) → IsOutlook n p outlook.Steps → (e : Effect) × (p ≡ Acts e) × (e.logged ≡ None)
+steps_intent n (Acts e) h = (e, refl, h.1)
+steps_intent n (Rests Done) h = absurd h
+steps_intent n (Rests Serving) h = absurd h
+steps_intent n (Rests Running) h = absurd h
+steps_intent n (Rests (Awaits f)) h = absurd h
+steps_intent n (Rests (Faulted x)) h = absurd h
 
 sent_to : (o : Option (Name × RequestShape)) (n : Name) → IsTo o n → (x : Name × RequestShape) × (o ≡ Some x) × (x.0 ≡ n)
 sent_to None n h = absurd h
 sent_to (Some x) n h = (x, refl, h)
 
-sends_intent : (p : Intent) (n : Bor ActivityName) → IsOutlook p (outlook.Sends n) → (e : Effect) × (p ≡ Acts e) × (x : Name × RequestShape) × (e.sent ≡ Some x) × (x.0 ≡ n.now)
-sends_intent (Acts e) n h = let s = sent_to e.sent n.now h in (e, refl, s.0, s.1, s.2)
-sends_intent (Rests Done) n h = absurd h
-sends_intent (Rests Serving) n h = absurd h
-sends_intent (Rests Running) n h = absurd h
-sends_intent (Rests (Awaits f)) n h = absurd h
-sends_intent (Rests (Faulted x)) n h = absurd h
+sends_intent : (n : Name) (p : Intent) (to : Bor ActivityName) → IsOutlook n p (outlook.Sends to) → (e : Effect) × (p ≡ Acts e) × (x : Name × RequestShape) × (e.sent ≡ Some x) × (x.0 ≡ to.now)
+sends_intent n (Acts e) to h = let s = sent_to e.sent to.now h in (e, refl, s.0, s.1, s.2)
+sends_intent n (Rests Done) to h = absurd h
+sends_intent n (Rests Serving) to h = absurd h
+sends_intent n (Rests Running) to h = absurd h
+sends_intent n (Rests (Awaits f)) to h = absurd h
+sends_intent n (Rests (Faulted x)) to h = absurd h
 
-pub awaits_intent : (p : Intent) (g : Bor FutureName) → IsOutlook p (outlook.Awaits g) → p ≡ Rests (Awaits (future_shape g.now))
-awaits_intent (Acts e) g h = absurd h
-awaits_intent (Rests Done) g h = absurd h
-awaits_intent (Rests Serving) g h = absurd h
-awaits_intent (Rests Running) g h = absurd h
-awaits_intent (Rests (Awaits f)) g h = ap (λ k. Rests (Awaits k)) h
-awaits_intent (Rests (Faulted x)) g h = absurd h
+polls_intent : (n : Name) (p : Intent) → IsOutlook n p outlook.Polls → (e : Effect) × (p ≡ Acts e) × IsPoll n e
+polls_intent n (Acts e) h = (e, refl, h)
+polls_intent n (Rests Done) h = absurd h
+polls_intent n (Rests Serving) h = absurd h
+polls_intent n (Rests Running) h = absurd h
+polls_intent n (Rests (Awaits f)) h = absurd h
+polls_intent n (Rests (Faulted x)) h = absurd h
 
-pub faulted_intent : (p : Intent) (y : Fault) → IsOutlook p (outlook.Faulted y) → p ≡ Rests (Faulted (fault_shape y))
-faulted_intent (Acts e) y h = absurd h
-faulted_intent (Rests Done) y h = absurd h
-faulted_intent (Rests Serving) y h = absurd h
-faulted_intent (Rests Running) y h = absurd h
-faulted_intent (Rests (Awaits f)) y h = absurd h
-faulted_intent (Rests (Faulted x)) y h = ap (λ k. Rests (Faulted k)) h
+pub awaits_intent : (n : Name) (p : Intent) (g : Bor FutureName) → IsOutlook n p (outlook.Awaits g) → p ≡ Rests (Awaits (future_shape g.now))
+awaits_intent n (Acts e) g h = absurd h
+awaits_intent n (Rests Done) g h = absurd h
+awaits_intent n (Rests Serving) g h = absurd h
+awaits_intent n (Rests Running) g h = absurd h
+awaits_intent n (Rests (Awaits f)) g h = ap (λ k. Rests (Awaits k)) h
+awaits_intent n (Rests (Faulted x)) g h = absurd h
 
-pub serving_intent : (p : Intent) → IsOutlook p outlook.Serving → p ≡ Rests Serving
-serving_intent (Acts e) h = absurd h
-serving_intent (Rests Done) h = absurd h
-serving_intent (Rests Serving) h = refl
-serving_intent (Rests Running) h = absurd h
-serving_intent (Rests (Awaits f)) h = absurd h
-serving_intent (Rests (Faulted x)) h = absurd h
+pub faulted_intent : (n : Name) (p : Intent) (y : Fault) → IsOutlook n p (outlook.Faulted y) → p ≡ Rests (Faulted (fault_shape y))
+faulted_intent n (Acts e) y h = absurd h
+faulted_intent n (Rests Done) y h = absurd h
+faulted_intent n (Rests Serving) y h = absurd h
+faulted_intent n (Rests Running) y h = absurd h
+faulted_intent n (Rests (Awaits f)) y h = absurd h
+faulted_intent n (Rests (Faulted x)) y h = ap (λ k. Rests (Faulted k)) h
 
-pub done_intent : (p : Intent) → IsOutlook p outlook.Done → p ≡ Rests Done
-done_intent (Acts e) h = absurd h
-done_intent (Rests Done) h = refl
-done_intent (Rests Serving) h = absurd h
-done_intent (Rests Running) h = absurd h
-done_intent (Rests (Awaits f)) h = absurd h
-done_intent (Rests (Faulted x)) h = absurd h
+pub serving_intent : (n : Name) (p : Intent) → IsOutlook n p outlook.Serving → p ≡ Rests Serving
+serving_intent n (Acts e) h = absurd h
+serving_intent n (Rests Done) h = absurd h
+serving_intent n (Rests Serving) h = refl
+serving_intent n (Rests Running) h = absurd h
+serving_intent n (Rests (Awaits f)) h = absurd h
+serving_intent n (Rests (Faulted x)) h = absurd h
+
+pub done_intent : (n : Name) (p : Intent) → IsOutlook n p outlook.Done → p ≡ Rests Done
+done_intent n (Acts e) h = absurd h
+done_intent n (Rests Done) h = refl
+done_intent n (Rests Serving) h = absurd h
+done_intent n (Rests Running) h = absurd h
+done_intent n (Rests (Awaits f)) h = absurd h
+done_intent n (Rests (Faulted x)) h = absurd h
 
 -- Who rests
 
 abbrev stepped : Option ListsShape → Configuration → Name → Intent → Option Configuration
 stepped lists c n p = elim p [
   | Rests status ↦ None
-  | Acts e ↦ elim (may_send lists c n e.sent) [ true ↦ Some (with_effect n e c) | false ↦ None ]
+  | Acts e ↦ elim (may_log lists c e.logged) [ true ↦ Some (with_effect n e c) | false ↦ None ]
 ]
 
 pub resting : (lists : Option ListsShape) (c : Configuration) (n : Name) (s : StatusShape) → intent_in c n ≡ Rests s → step lists c n ≡ None
@@ -154,58 +165,93 @@ awaits_rests lists count c n f e = (inr (resting lists c n (Awaits f) e), ap sta
 
 -- Who steps
 
-pub steps_now : (lists : Option ListsShape) (count : Name → ℕ) (c : Configuration) (n : Name) (a : model.Activity) → IsAt c n a → a.reductions < count n → IsOutlook (intent_in c n) outlook.Steps → CanStep lists count c n
+pub steps_now : (lists : Option ListsShape) (count : Name → ℕ) (c : Configuration) (n : Name) (a : model.Activity) → IsAt c n a → a.reductions < count n → IsOutlook n (intent_in c n) outlook.Steps → CanStep lists count c n
 steps_now lists count c n a is below o =
-    let p = steps_intent (intent_in c n) o in
-    let may : may_send lists c n p.0.sent ≡ true = ap (may_send lists c n) p.2 in
+    let p = steps_intent n (intent_in c n) o in
+    let may : may_log lists c p.0.logged ≡ true = ap (may_log lists c) p.2 in
     record { activity = a; there = is; below = below; effect = p.0; intends = p.1; steps = takes_step lists c n p.0 (record { intends = p.1; may = may }) }
 
 -- who is sent to is there
-pub target_there : (program : Tree) (c : Configuration) (n : Name) (to : Bor ActivityName) → IsReached program c → IsOutlook (intent_in c n) (outlook.Sends to) → IsThere c to.now
+pub target_there : (program : Tree) (c : Configuration) (n : Name) (to : Bor ActivityName) → IsReached program c → IsOutlook n (intent_in c n) (outlook.Sends to) → IsThere c to.now
 target_there program c n to r o =
-    let p = sends_intent (intent_in c n) to o in
+    let p = sends_intent n (intent_in c n) to o in
     subst (IsThere c) p.4 (targets_are_there program c n p.0 p.2 r p.1 p.3)
 
-pub sends_now : (lists : Option ListsShape) (count : Name → ℕ) (program : Tree) (c : Configuration) (n : Name) (a : model.Activity) (to : Bor ActivityName) → IsReached program c → IsAt c n a → a.reductions < count n → IsOutlook (intent_in c n) (outlook.Sends to) → is_next lists c to.now n ≡ true → CanStep lists count c n
-sends_now lists count program c n a to r is below o round =
-    let p = sends_intent (intent_in c n) to o in
-    let there = target_there program c n to r o in
-    let may : may_send lists c n p.0.sent ≡ true = ap (may_send lists c n) p.3 ∙ (λ i. is_some (find name_cmp (p.4 i) c.activities) && is_next lists c (p.4 i) n) ∙ (λ i. there i && round i) in
-    record { activity = a; there = is; below = below; effect = p.0; intends = p.1; steps = takes_step lists c n p.0 (record { intends = p.1; may = may }) }
+-- what it intends to log, and where
+record Logs (c : Configuration) (n to : Name) (x : ReceptionShape) : Type 0 where
+  effect : Effect
+  intends : intent_in c n ≡ Acts effect
+  logged : effect.logged ≡ Some (to, x)
 
--- it sends out of round
-pub held_rests : (lists : Option ListsShape) (count : Name → ℕ) (program : Tree) (c : Configuration) (n : Name) (to : Bor ActivityName) → IsReached program c → IsOutlook (intent_in c n) (outlook.Sends to) → is_next lists c to.now n ≡ false → RestsIn lists count c n × SendsTo c n to.now
-held_rests lists count program c n to r o round =
-    let p = sends_intent (intent_in c n) to o in
-    let there = target_there program c n to r o in
-    let may : may_send lists c n p.0.sent ≡ false = ap (may_send lists c n) p.3 ∙ (λ i. is_some (find name_cmp (p.4 i) c.activities) && is_next lists c (p.4 i) n) ∙ (λ i. there i && round i) in
-    (inr (holds_back lists c n p.0 p.1 may), (p.0, p.1, p.2.1, p.3 ∙ ap (λ (m : Name). Some (m, p.2.1)) p.4))
+-- a send is logged where it goes
+sends_log : (c : Configuration) (n : Name) (to : Bor ActivityName) → IsOutlook n (intent_in c n) (outlook.Sends to) → Logs c n to.now (From n)
+sends_log c n to o =
+    let p = sends_intent n (intent_in c n) to o in
+    let logged : p.0.logged ≡ Some (p.2.0, From n) = subst (λ (s : Option (Name × RequestShape)). IsLogged n s p.0.logged) p.3 (acts_facts c n p.0 p.1).1.logged in
+    record { effect = p.0; intends = p.1; logged = logged ∙ ap (λ (m : Name). Some (m, From n)) p.4 }
 
--- Who is next
+-- and a poll at home
+polls_log : (c : Configuration) (n : Name) → IsOutlook n (intent_in c n) outlook.Polls → Logs c n n Poll
+polls_log c n o = let p = polls_intent n (intent_in c n) o in record { effect = p.0; intends = p.1; logged = p.2 }
 
-pub anyone_next : (lists : Option ListsShape) (c : Configuration) (to n : Name) (k : ℕ) → IsNextAt lists to k next.Anyone → is_next lists c to n ≡ true
-anyone_next None c to n k h = refl
-anyone_next (Some lists) c to n k h = absurd h
+module _ (lists : Option ListsShape) (count : Name → ℕ) (c : Configuration) (n to : Name) (x : ReceptionShape) (l : Logs c n to x) (there : IsThere c to) where
+  may_by : (b : Bool) → is_next lists c to x ≡ b → may_log lists c l.effect.logged ≡ b
+  may_by b turn = ap (may_log lists c) l.logged ∙ (λ i. there i && turn i)
 
-pub only_next : (lists : Option ListsShape) (c : Configuration) (to n : Name) (k : ℕ) (q : Bor ActivityName) → k ≡ length (requests_of c to) → IsNextAt lists to k (next.Only q) → is_next lists c to n ≡ same_name n q.now
-only_next None c to n k q e h = absurd h
-only_next (Some lists) c to n k q e h = ap (is_named n) (ap (name_at (senders_in lists to)) (sym e) ∙ h)
+  -- in its turn it steps
+  turn_steps : (a : model.Activity) → IsAt c n a → a.reductions < count n → is_next lists c to x ≡ true → CanStep lists count c n
+  turn_steps a is below turn = record { activity = a; there = is; below = below; effect = l.effect; intends = l.intends; steps = takes_step lists c n l.effect (record { intends = l.intends; may = may_by true turn }) }
 
-pub nobody_next : (lists : Option ListsShape) (c : Configuration) (to n : Name) (k : ℕ) → k ≡ length (requests_of c to) → IsNextAt lists to k next.Nobody → is_next lists c to n ≡ false
-nobody_next None c to n k e h = absurd h
-nobody_next (Some lists) c to n k e h = ap (is_named n) (ap (name_at (senders_in lists to)) (sym e) ∙ h)
+  -- out of turn it rests
+  turn_rests : is_next lists c to x ≡ false → RestsIn lists count c n × LogsTo c n to
+  turn_rests turn = (inr (holds_back lists c n l.effect l.intends (may_by false turn)), (l.effect, l.intends, x, l.logged))
 
-pub next_only : (lists : Option ListsShape) (c : Configuration) (to m : Name) (k : ℕ) (q : Bor ActivityName) → k ≡ length (requests_of c to) → IsNextAt lists to k (next.Only q) → IsNextIn lists c to m → q.now ≡ m
-next_only None c to m k q e h i = absurd h
-next_only (Some lists) c to m k q e h i = some_is (sym h ∙ ap (name_at (senders_in lists to)) e ∙ i)
+pub sends_now : (lists : Option ListsShape) (count : Name → ℕ) (program : Tree) (c : Configuration) (n : Name) (a : model.Activity) (to : Bor ActivityName) → IsReached program c → IsAt c n a → a.reductions < count n → IsOutlook n (intent_in c n) (outlook.Sends to) → is_next lists c to.now (From n) ≡ true → CanStep lists count c n
+sends_now lists count program c n a to r is below o turn = turn_steps lists count c n to.now (From n) (sends_log c n to o) (target_there program c n to r o) a is below turn
 
-pub next_nobody : (lists : Option ListsShape) (c : Configuration) (to m : Name) (k : ℕ) → k ≡ length (requests_of c to) → IsNextAt lists to k next.Nobody → IsNextIn lists c to m → ⊥
-next_nobody None c to m k e h i = absurd h
-next_nobody (Some lists) c to m k e h i = no_some (sym h ∙ ap (name_at (senders_in lists to)) e ∙ i)
+-- it sends out of turn
+pub held_rests : (lists : Option ListsShape) (count : Name → ℕ) (program : Tree) (c : Configuration) (n : Name) (to : Bor ActivityName) → IsReached program c → IsOutlook n (intent_in c n) (outlook.Sends to) → is_next lists c to.now (From n) ≡ false → RestsIn lists count c n × LogsTo c n to.now
+held_rests lists count program c n to r o turn = turn_rests lists count c n to.now (From n) (sends_log c n to o) (target_there program c n to r o) turn
 
-pub next_anyone : (lists : Option ListsShape) (c : Configuration) (to m : Name) (k : ℕ) → IsNextAt lists to k next.Anyone → IsNextIn lists c to m → ⊥
-next_anyone None c to m k h i = i
-next_anyone (Some lists) c to m k h i = h
+pub polls_now : (lists : Option ListsShape) (count : Name → ℕ) (c : Configuration) (n : Name) (a : model.Activity) → IsAt c n a → a.reductions < count n → IsOutlook n (intent_in c n) outlook.Polls → is_next lists c n Poll ≡ true → CanStep lists count c n
+polls_now lists count c n a is below o turn = turn_steps lists count c n n Poll (polls_log c n o) (ap is_some is) a is below turn
+
+-- it polls out of turn
+pub poll_rests : (lists : Option ListsShape) (count : Name → ℕ) (c : Configuration) (n : Name) (a : model.Activity) → IsAt c n a → IsOutlook n (intent_in c n) outlook.Polls → is_next lists c n Poll ≡ false → RestsIn lists count c n × LogsTo c n n
+poll_rests lists count c n a is o turn = turn_rests lists count c n n Poll (polls_log c n o) (ap is_some is) turn
+
+-- What is next
+
+pub anything_next : (lists : Option ListsShape) (c : Configuration) (to : Name) (x : ReceptionShape) (k : ℕ) → IsNextAt lists to k next.Anything → is_next lists c to x ≡ true
+anything_next None c to x k h = refl
+anything_next (Some lists) c to x k h = absurd h
+
+pub only_next : (lists : Option ListsShape) (c : Configuration) (to : Name) (x : ReceptionShape) (k : ℕ) (y : Bor Reception) → k ≡ length (log_of c to) → IsNextAt lists to k (next.Only y) → is_next lists c to x ≡ same_reception x (reception_shape y.now)
+only_next None c to x k y e h = absurd h
+only_next (Some lists) c to x k y e h = ap (is_reception x) (ap (reception_at (log_in lists to)) (sym e) ∙ h)
+
+pub nothing_next : (lists : Option ListsShape) (c : Configuration) (to : Name) (x : ReceptionShape) (k : ℕ) → k ≡ length (log_of c to) → IsNextAt lists to k next.Nothing → is_next lists c to x ≡ false
+nothing_next None c to x k e h = absurd h
+nothing_next (Some lists) c to x k e h = ap (is_reception x) (ap (reception_at (log_in lists to)) (sym e) ∙ h)
+
+-- a reception is one activity's
+of_one : (q m to : Name) (x : ReceptionShape) → IsOf q to x → IsOf m to x → q ≡ m
+of_one q m to (From n) h g = sym h ∙ g
+of_one q m to Poll h g = sym h ∙ g
+
+pub next_only : (lists : Option ListsShape) (c : Configuration) (to m q : Name) (k : ℕ) (y : Bor Reception) → k ≡ length (log_of c to) → IsNextAt lists to k (next.Only y) → IsOf q to (reception_shape y.now) → IsNextIn lists c to m → q ≡ m
+next_only None c to m q k y e h own i = absurd h
+next_only (Some lists) c to m q k y e h own i =
+    let same : reception_shape y.now ≡ i.0 = some_is (sym h ∙ ap (reception_at (log_in lists to)) e ∙ i.1) in
+    of_one q m to (reception_shape y.now) own (subst (IsOf m to) (sym same) i.2)
+
+pub next_nothing : (lists : Option ListsShape) (c : Configuration) (to m : Name) (k : ℕ) → k ≡ length (log_of c to) → IsNextAt lists to k next.Nothing → IsNextIn lists c to m → ⊥
+next_nothing None c to m k e h i = absurd h
+next_nothing (Some lists) c to m k e h i = no_some (sym h ∙ ap (reception_at (log_in lists to)) e ∙ i.1)
+
+pub next_anything : (lists : Option ListsShape) (c : Configuration) (to m : Name) (k : ℕ) → IsNextAt lists to k next.Anything → IsNextIn lists c to m → ⊥
+next_anything None c to m k h i = i
+next_anything (Some lists) c to m k h i = h
 
 -- Members that are passed
 

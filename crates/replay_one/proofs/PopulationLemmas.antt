@@ -11,7 +11,7 @@ use Rattle.asp_model.specs.Term.{Tree}
 use Rattle.asp_model.specs.Parcel.{ParcelShape}
 use Rattle.asp_model.specs.Chase.{Values, chase}
 use Rattle.asp_model.specs.Configuration as model
-use Rattle.asp_model.specs.Configuration.{Configuration, RequestShape, requests_of, or_none}
+use Rattle.asp_model.specs.Configuration.{Configuration, From, Poll, ReceptionShape, RequestShape, log_of, requests_of, or_none}
 use Rattle.asp_model.specs.Intent.{Effect, Acts, intent}
 use Rattle.asp_model.specs.Shapes.{future_shape}
 use Rattle.asp_model.specs.Step.{intent_in}
@@ -27,10 +27,13 @@ use Rattle.law_chases.proofs.FutureLemmas.{no_some, some_is}
 use Rattle.code_table.specs.declared.code.Node.{Node}
 use Rattle.step_reads.specs.Values.{AreClosedValues}
 use Rattle.step_activity.specs.declared.actor.Actor.{Actor}
-use Rattle.step_activity.specs.Actors.{IsClosedFor, Stands, code_of}
+use Rattle.step_activity.specs.declared.act.Given.{Given}
+use Rattle.step_activity.specs.declared.act.Given.TheVariants as given
+use Rattle.step_activity.specs.Effects.{IsLogAfter}
+use Rattle.step_activity.specs.Actors.{IsClosedFor, Stands, code_of, log_in}
 use Rattle.replay_one.specs.declared.population.Population.{Population}
 use Rattle.replay_one.proofs.ScheduleLemmas.{apart_at}
-use Rattle.replay_one.specs.Population.{AreActorsOf, IsPassing, IsPopulation, IsReachedPopulation, found_in, with_activity, with_request, with_value}
+use Rattle.replay_one.specs.Population.{AreActorsOf, IsPassing, IsPopulation, IsReachedPopulation, found_in, with_activity, with_poll, with_request, with_value}
 use Rattle.step_ends.specs.Activities.{StandsAt}
 use Rattle.step_ends.proofs.ReportLemmas as ends
 use Rattle.step_ends.proofs.ReportLemmas.{stands_no, stands_none, unboxed}
@@ -79,15 +82,24 @@ actors_of k p q n x h u e m y is = ⊎_elim
     (λ apart. h m y (sym (others p q n m (Some x) u apart) ∙ is))
     (name_case m n)
 
+-- who was in the population has its log, and so has who stands at the name
+logs_of : (p q : Population) (c d : Configuration) (n : Name) (x : Box Actor) (h : IsPopulation p c) → trees.Updates name_cmp p.activities q.activities n (Some x) → log_in x.value ≡ log_of d n → ((m : Name) → m ≢ n → log_of d m ≡ log_of c m)
+    → (m : Name) (y : Actor) → found_in q m ≡ Some y → log_in y ≡ log_of d m
+logs_of p q c d n x h u log apart m y is = ⊎_elim
+    (λ same. let found : Some x.value ≡ Some y = sym (ap unboxed u.1) ∙ ap (found_in q) (sym same) ∙ is in ap log_in (sym (some_is found)) ∙ log ∙ ap (log_of d) (sym same))
+    (λ other. h.logs m y (sym (others p q n m (Some x) u other) ∙ is) ∙ sym (apart m other))
+    (name_case m n)
+
 -- another stands at a name, in a configuration that differs there alone
 set_at : (p q : Population) (c d : Configuration) (n : Name) (x : Box Actor) (a : model.Activity) (h : IsPopulation p c) → trees.Updates name_cmp p.activities q.activities n (Some x) → q.futures ≡ p.futures → d.futures ≡ c.futures
-    → find name_cmp n d.activities ≡ Some a → Stands x.value a (requests_of d n) → ((m : Name) → m ≢ n → (find name_cmp m d.activities ≡ find name_cmp m c.activities) × (requests_of d m ≡ requests_of c m)) → code_of x.value ≡ h.code → (t : IsPopulation q d) × (t.code ≡ h.code)
-set_at p q c d n x a h u f g is s apart e = (
+    → find name_cmp n d.activities ≡ Some a → Stands x.value a (requests_of d n) → log_in x.value ≡ log_of d n → ((m : Name) → m ≢ n → (find name_cmp m d.activities ≡ find name_cmp m c.activities) × (requests_of d m ≡ requests_of c m) × (log_of d m ≡ log_of c m)) → code_of x.value ≡ h.code → (t : IsPopulation q d) × (t.code ≡ h.code)
+set_at p q c d n x a h u f g is s log apart e = (
   record {
     activities = λ m. ⊎_elim
         (λ e. subst (λ k. StandsAt (found_in q k) (find name_cmp k d.activities) (requests_of d k)) (sym e) (stands_here (found_in q n) (find name_cmp n d.activities) (requests_of d n) x.value a (ap unboxed u.1) is s))
         (λ k. stands_still (found_in p m) (found_in q m) (find name_cmp m c.activities) (find name_cmp m d.activities) (requests_of c m) (requests_of d m) (others p q n m (Some x) u k) (apart m k).0 (apart m k).1 (h.activities m))
         (name_case m n);
+    logs = logs_of p q c d n x h u log (λ m k. (apart m k).2);
     futures = ap values_of f ∙ h.futures ∙ sym g;
     code = h.code;
     actors = actors_of h.code p q n x h.actors u e;
@@ -96,19 +108,48 @@ set_at p q c d n x a h u f g is s apart e = (
   refl,
 )
 
-pub changed : (p q : Population) (c : Configuration) (n : Name) (x : Box Actor) (a : model.Activity) (h : IsPopulation p c) → trees.Updates name_cmp p.activities q.activities n (Some x) → q.futures ≡ p.futures → Stands x.value a (requests_of c n) → code_of x.value ≡ h.code → (t : IsPopulation q (with_activity n a c)) × (t.code ≡ h.code)
-changed p q c n x a h u f s e = set_at p q c (with_activity n a c) n x a h u f refl (find_same name_cmp name_total name_same n a c.activities) s (λ m d. (find_other name_cmp name_total name_same m n a c.activities d, refl)) e
+-- it goes on, and polls or not
+pub given_there : (p q : Population) (c : Configuration) (n : Name) (x : Box Actor) (a : model.Activity) (g : Given) (before : List ReceptionShape) (h : IsPopulation p c) → trees.Updates name_cmp p.activities q.activities n (Some x) → q.futures ≡ p.futures → Stands x.value a (requests_of c n) → before ≡ log_of c n → IsLogAfter before (log_in x.value) g → code_of x.value ≡ h.code → (t : IsPopulation q (with_poll n g (with_activity n a c))) × (t.code ≡ h.code)
+given_there p q c n x a g before h u f s was log e = by g log
+  where
+    here : Configuration
+    here = with_activity n a c
 
-pub received : (p q : Population) (c : Configuration) (n : Name) (x : Box Actor) (r : RequestShape) (a : model.Activity) (h : IsPopulation p c) → trees.Updates name_cmp p.activities q.activities n (Some x) → q.futures ≡ p.futures → find name_cmp n c.activities ≡ Some a → Stands x.value a (requests_of c n ++ r ∷ []) → code_of x.value ≡ h.code → IsPopulation q (with_request n r c)
-received p q c n x r a h u f is s e =
+    there : find name_cmp n here.activities ≡ Some a
+    there = find_same name_cmp name_total name_same n a c.activities
+
+    other : (m : Name) → m ≢ n → find name_cmp m here.activities ≡ find name_cmp m c.activities
+    other m k = find_other name_cmp name_total name_same m n a c.activities k
+
+    quiet : log_in x.value ≡ before → (t : IsPopulation q here) × (t.code ≡ h.code)
+    quiet same = set_at p q c here n x a h u f refl there s (same ∙ was) (λ m k. (other m k, refl, refl)) e
+
+    by : (g : Given) → IsLogAfter before (log_in x.value) g → (t : IsPopulation q (with_poll n g here)) × (t.code ≡ h.code)
+    by given.Nothing same = quiet same
+    by (given.Made m y) same = quiet same
+    by (given.Sent m r) same = quiet same
+    by (given.Filled k v) same = quiet same
+    by given.Polled more =
+        let log : List ReceptionShape = log_of c n ++ Poll ∷ [] in
+        let now : log_in x.value ≡ log_of (with_poll n given.Polled here) n = more ∙ ap (λ (xs : List ReceptionShape). xs ++ Poll ∷ []) was ∙ sym (ap or_none (find_same name_cmp name_total name_same n log c.logs)) in
+        set_at p q c (with_poll n given.Polled here) n x a h u f refl there s now (λ m k. (other m k, refl, ap or_none (find_other name_cmp name_total name_same m n log c.logs k))) e
+
+pub changed : (p q : Population) (c : Configuration) (n : Name) (x : Box Actor) (a : model.Activity) (h : IsPopulation p c) → trees.Updates name_cmp p.activities q.activities n (Some x) → q.futures ≡ p.futures → Stands x.value a (requests_of c n) → log_in x.value ≡ log_of c n → code_of x.value ≡ h.code → (t : IsPopulation q (with_activity n a c)) × (t.code ≡ h.code)
+changed p q c n x a h u f s log e = given_there p q c n x a given.Nothing (log_of c n) h u f s refl log e
+
+pub received : (p q : Population) (c : Configuration) (n : Name) (x : Box Actor) (r : RequestShape) (a : model.Activity) (h : IsPopulation p c) → trees.Updates name_cmp p.activities q.activities n (Some x) → q.futures ≡ p.futures → find name_cmp n c.activities ≡ Some a → Stands x.value a (requests_of c n ++ r ∷ []) → log_in x.value ≡ log_of c n ++ From r.sender ∷ [] → code_of x.value ≡ h.code → IsPopulation q (with_request n r c)
+received p q c n x r a h u f is s log e =
     let d : Configuration = with_request n r c in
     let more : List RequestShape = requests_of c n ++ r ∷ [] in
+    let longer : List ReceptionShape = log_of c n ++ From r.sender ∷ [] in
     let here : requests_of d n ≡ more = ap or_none (find_same name_cmp name_total name_same n more c.received) in
-    (set_at p q c d n x a h u f refl is (subst (Stands x.value a) (sym here) s) (λ m k. (refl, ap or_none (find_other name_cmp name_total name_same m n more c.received k))) e).0
+    let noted : log_of d n ≡ longer = ap or_none (find_same name_cmp name_total name_same n longer c.logs) in
+    (set_at p q c d n x a h u f refl is (subst (Stands x.value a) (sym here) s) (log ∙ sym noted) (λ m k. (refl, ap or_none (find_other name_cmp name_total name_same m n more c.received k), ap or_none (find_other name_cmp name_total name_same m n longer c.logs k))) e).0
 
 pub value_filled : (p q : Population) (c : Configuration) (f : FutureShape) (v : ParcelShape) (h : IsPopulation p c) → q.activities ≡ p.activities → values_of q.futures ≡ put future_cmp f v (values_of p.futures) → AreOfCode h.code q.futures → IsPopulation q (with_value f v c)
 value_filled p q c f v h e g coded = record {
   activities = λ m. subst (λ (t : BTreeMap Name (Box Actor)). StandsAt (unboxed (trees.get name_cmp t m)) (find name_cmp m c.activities) (requests_of c m)) (sym e) (h.activities m);
+  logs = λ m x is. h.logs m x (sym (ap (λ (t : BTreeMap Name (Box Actor)). unboxed (trees.get name_cmp t m)) e) ∙ is);
   futures = g ∙ ap (λ (vs : Values). put future_cmp f v vs) h.futures;
   code = h.code;
   actors = λ m x is. h.actors m x (sym (ap (λ (t : BTreeMap Name (Box Actor)). unboxed (trees.get name_cmp t m)) e) ∙ is);
@@ -116,7 +157,7 @@ value_filled p q c f v h e g coded = record {
 }
 
 abbrev pub nothing_there : Configuration
-nothing_there = record { activities = []; received = []; futures = [] }
+nothing_there = record { activities = []; received = []; logs = []; futures = [] }
 
 none_mapped : {X Y : Type 0} (f : X → Y) (xs : List X) → map f xs ≡ [] → xs ≡ []
 none_mapped f [] h = refl
@@ -127,6 +168,7 @@ pub nobody_yet : (k : List Node) (p : Population) → p.activities.entries ≡ [
 nobody_yet k p none f = (
   record {
     activities = λ m. subst (λ o. StandsAt o None []) (sym (ap (λ es. unboxed (lookup (is_at (name_cmp m)) es)) none)) tt;
+    logs = λ m x is. no_some (sym (ap (λ es. unboxed (lookup (is_at (name_cmp m)) es)) none) ∙ is);
     futures = f;
     code = k;
     actors = λ m x is. no_some (sym (ap (λ es. unboxed (lookup (is_at (name_cmp m)) es)) none) ∙ is);
@@ -171,6 +213,10 @@ if_ok (Err e) P Q f h = h
 pub if_ok_both : {T E : Type 0} (r : Result T E) (P Q R : T → Type 0) → ((t : T) → P t → Q t → R t) → IfOk r P → IfOk r Q → IfOk r R
 if_ok_both (Ok t) P Q R f h k = f t h k
 if_ok_both (Err e) P Q R f h k = h
+
+pub if_ok_all : {T E : Type 0} (r : Result T E) (P Q S R : T → Type 0) → ((t : T) → P t → Q t → S t → R t) → IfOk r P → IfOk r Q → IfOk r S → IfOk r R
+if_ok_all (Ok t) P Q S R f h k l = f t h k l
+if_ok_all (Err e) P Q S R f h k l = h
 
 pub nobody_there : {C : Type 0} (p : Population) (c : Configuration) (n : Name) → IsPopulation p c → found_in p n ≡ None → IsThere c n → C
 nobody_there p c n h is there =

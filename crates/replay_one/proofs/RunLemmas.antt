@@ -6,7 +6,7 @@ use Rattle.std.specs.BTreeMap.{BTreeMap, is_at}
 use Rattle.std.specs.Map.{lookup}
 use Rattle.asp_model.specs.Names.{Name, FutureShape, Text, future_cmp, name_cmp}
 use Rattle.asp_model.specs.Term.{Tree, has_text}
-use Rattle.asp_model.specs.Configuration.{Activity, Configuration, RequestShape}
+use Rattle.asp_model.specs.Configuration.{Activity, Configuration, ReceptionShape}
 use Rattle.asp_model.specs.Intent.{Acts, Effect, Intent, Rests, StatusShape, Awaits, Serving}
 use Rattle.asp_model.specs.Chase.{chase}
 use Rattle.asp_model.specs.Step.{ListsShape, intent_in, put_some, with_effect}
@@ -39,7 +39,7 @@ use Rattle.step_activity.specs.Passing.{HasPassed}
 use Rattle.step_activity.proofs.PassingLemmas.{first_passed}
 use Rattle.replay_one.specs.Population.{ArePassed, HasPassedIn, IsForgotten, IsPassing, IsPopulation, IsReachedPopulation, IsRunIn, or_zero, passed_in, with_activity}
 use Rattle.replay_one.specs.Schedule.{IsMoreReady, IsNoted, IsTaken, IsWatching, asks_in, noted_in, ready_in, sends_in, watches_in}
-use Rattle.replay_one.specs.Round.{CanStep, IsHandedOn, IsRunAt, IsRunBut, LeadsTo, Leaves, SendsTo, next_by}
+use Rattle.replay_one.specs.Round.{CanStep, IsHandedOn, IsRunAt, IsRunBut, LeadsTo, Leaves, LogsTo, next_by}
 use Rattle.replay_one.proofs.LocalLemmas.{local_runs_go_on}
 
 pub reached_population : (b : Bounds) (m : Machine) (program : Tree) (c : Configuration) → IsRunAt b m program c → IsReachedPopulation m.population program c
@@ -90,7 +90,7 @@ pub forgotten_run : (b : Bounds) (program : Tree) (c : Configuration) (m : Machi
 forgotten_run b program c m n q h f = record {
   bare = h.bare;
   reached = h.reached;
-  population = subst (λ (p : Population). IsPopulation p c) (sym f.same) (record { activities = h.population.activities; futures = h.population.futures; code = h.population.code; actors = h.population.actors; values = h.population.values });
+  population = subst (λ (p : Population). IsPopulation p c) (sym f.same) (record { activities = h.population.activities; logs = h.population.logs; futures = h.population.futures; code = h.population.code; actors = h.population.actors; values = h.population.values });
   scheduled = h.scheduled;
   watched = h.watched;
   passed = λ m' k is. h.passed m' k (f.noted m' k is).1;
@@ -101,7 +101,7 @@ pub passing_run : (b : Bounds) (program : Tree) (c : Configuration) (m : Machine
 passing_run b program c m n a k q h f at has = record {
   bare = h.bare;
   reached = h.reached;
-  population = subst (λ (p : Population). IsPopulation p c) (sym f.same) (record { activities = h.population.activities; futures = h.population.futures; code = h.population.code; actors = h.population.actors; values = h.population.values });
+  population = subst (λ (p : Population). IsPopulation p c) (sym f.same) (record { activities = h.population.activities; logs = h.population.logs; futures = h.population.futures; code = h.population.code; actors = h.population.actors; values = h.population.values });
   scheduled = h.scheduled;
   watched = h.watched;
   passed = λ m' j is. ⊎_elim
@@ -190,14 +190,14 @@ module _ (b : Bounds) (program : Tree) (c : Configuration) (n : Name) (p : Popul
     sending = λ a e x is below intends sent. none_true (ap is_running (sym st ∙ ap status_of_intent intends));
   })
 
-  -- a sender is held
-  pub holds_round : (mid new : Schedule) (to : Name) → IsRunAt b (record { population = p; schedule = old }) program c → IsTaken old n mid → IsWatching mid n new → sends_in new n to ≡ true → RestsIn (lists_within b) (count_within b) c n → SendsTo c n to → IsRunAt b (record { population = p; schedule = new }) program c
+  -- a sender or a poller is held
+  pub holds_round : (mid new : Schedule) (to : Name) → IsRunAt b (record { population = p; schedule = old }) program c → IsTaken old n mid → IsWatching mid n new → sends_in new n to ≡ true → RestsIn (lists_within b) (count_within b) c n → LogsTo c n to → IsRunAt b (record { population = p; schedule = new }) program c
   holds_round mid new to h t k sends rests s = quiet_round mid new h t k rests (ap is_awaiting (ap status_of_intent s.1)) (record {
     serving = λ a l is below st has. none_true (ap is_running (sym st ∙ ap status_of_intent s.1));
     sending = λ a e x is below intends sent.
         let same : e ≡ s.0 = acts_is e s.0 (sym intends ∙ s.1) in
-        let target : Some x ≡ Some (to, s.2) = sym sent ∙ ap (λ (y : Effect). y.sent) same ∙ s.3 in
-        ap (sends_in new n) (ap (λ (z : Name × RequestShape). z.0) (some_is target)) ∙ sends;
+        let target : Some x ≡ Some (to, s.2) = sym sent ∙ ap (λ (y : Effect). y.logged) same ∙ s.3 in
+        ap (sends_in new n) (ap (λ (z : Name × ReceptionShape). z.0) (some_is target)) ∙ sends;
   })
 
   -- a step is taken

@@ -1,10 +1,11 @@
--- How far a run may go, and in which order requests may come.
+-- How far a run may go, and in which order requests and polls may come.
 use Rattle.std.specs.Prelude.{◌≡◌, ℕ, T, List, Option, Some, None}
 use Rattle.std.specs.FinMap.{is_sorted}
 use Rattle.asp_model.specs.Names.{Name, name_cmp}
-use Rattle.asp_model.specs.Step.{ListsShape, name_at}
-use Rattle.asp_model.specs.Replay.{count_in, senders_in}
-use Rattle.asp_model.specs.Shapes.{counts_shape, lists_shape}
+use Rattle.asp_model.specs.Configuration.{ReceptionShape}
+use Rattle.asp_model.specs.Step.{ListsShape, reception_at}
+use Rattle.asp_model.specs.Replay.{count_in, log_in}
+use Rattle.asp_model.specs.Shapes.{counts_shape, lists_shape, reception_shape}
 use Rattle.replay_one.specs.declared.bounds.Bounds.{Bounds}
 use Rattle.replay_one.specs.declared.bounds.Bounds.TheVariants as bounds
 use Rattle.replay_one.specs.declared.bounds.Next.{Next}
@@ -24,14 +25,14 @@ abbrev pub IsAscending : Bounds → Type 0
 IsAscending (bounds.Budget n) = Unit {0}
 IsAscending (bounds.Listed lists counts) = T (is_sorted name_cmp lists.now.entries.items) × T (is_sorted name_cmp counts.now.entries.items)
 
--- who may send the k-th request under this list
-abbrev pub IsNextAmong : List Name → ℕ → Next → Type 0
-IsNextAmong senders k next.Anyone = ⊥
-IsNextAmong senders k (next.Only n) = name_at senders k ≡ Some n.now
-IsNextAmong senders k next.Nobody = name_at senders k ≡ None
+-- what may be the k-th reception under this log
+abbrev pub IsNextAmong : List ReceptionShape → ℕ → Next → Type 0
+IsNextAmong log k next.Anything = ⊥
+IsNextAmong log k (next.Only x) = reception_at log k ≡ Some (reception_shape x.now)
+IsNextAmong log k next.Nothing = reception_at log k ≡ None
 
--- who may send the k-th request to an activity
+-- what may be the k-th reception of an activity
 abbrev pub IsNextAt : Option ListsShape → Name → ℕ → Next → Type 0
-IsNextAt None to k next.Anyone = Unit {0}
+IsNextAt None to k next.Anything = Unit {0}
 IsNextAt None to k x = ⊥
-IsNextAt (Some lists) to k x = IsNextAmong (senders_in lists to) k x
+IsNextAt (Some lists) to k x = IsNextAmong (log_in lists to) k x

@@ -8,7 +8,7 @@ use Rattle.asp_model.specs.Outcome.{OutcomeShape, lists_in, counts_in, outcome_o
 use Rattle.replay_one.specs.declared.replays.ReplayStop.{ReplayStop}
 use Rattle.replay_one.specs.declared.replays.ReplayStop.TheVariants as stop
 
--- the outcome is that of the replay under its own sender lists and counts, which fit
+-- the outcome is that of the replay under its own logs and counts, which fit
 pub record IsReplayed (program : Tree) (o : OutcomeShape) : Type 0 where
   pub fits : Fits program (lists_in o) (counts_in o)
   pub outcome : outcome_of (replay program (lists_in o) (counts_in o)) ≡ o

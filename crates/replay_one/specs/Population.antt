@@ -8,9 +8,9 @@ use Rattle.asp_model.specs.Term.{Tree, locations}
 use Rattle.asp_model.specs.Parcel.{ParcelShape}
 use Rattle.asp_model.specs.Chase.{chase}
 use Rattle.asp_model.specs.Configuration as model
-use Rattle.asp_model.specs.Configuration.{Configuration, RequestShape}
+use Rattle.asp_model.specs.Configuration.{Configuration, From, Poll, RequestShape}
 use Rattle.asp_model.specs.Intent.{Effect, Acts}
-use Rattle.asp_model.specs.Step.{intent_in, with_sent}
+use Rattle.asp_model.specs.Step.{intent_in, with_last}
 use Rattle.code_table.specs.declared.code.Node.{Node}
 use Rattle.code_table.specs.Pieces.{tree}
 use Rattle.code_table.specs.Sound.{root_of}
@@ -19,6 +19,7 @@ use Rattle.law_steps.specs.Reached.{IsReached, IsAt}
 use Rattle.activity_step.specs.Local.{LocalRun}
 use Rattle.step_activity.specs.declared.actor.Actor.{Actor}
 use Rattle.step_activity.specs.declared.act.Given.{Given}
+use Rattle.step_activity.specs.declared.act.Given.TheVariants as given
 use Rattle.step_activity.specs.Effects.{IsGiven, IsGivenOf}
 use Rattle.step_activity.specs.Passing.{HasPassed}
 use Rattle.step_ends.specs.Activities.{RunCode, StandFor, StandForReached, StandForSome, actor_at}
@@ -82,8 +83,17 @@ or_zero (Some k) = k
 abbrev pub with_activity : Name → model.Activity → Configuration → Configuration
 with_activity n a c = record c { activities = put name_cmp n a c.activities }
 
+-- the request has come, and its sender is noted
 abbrev pub with_request : Name → RequestShape → Configuration → Configuration
-with_request n r c = record c { received = with_sent (Some (n, r)) c.received }
+with_request n r c = record c {
+  received = with_last (Some (n, r)) c.received;
+  logs = with_last (Some (n, From r.sender)) c.logs;
+}
+
+-- where a poll is given, it is noted at home
+abbrev pub with_poll : Name → Given → Configuration → Configuration
+with_poll n given.Polled c = record c { logs = with_last (Some (n, Poll)) c.logs }
+with_poll n g c = c
 
 abbrev pub with_value : FutureShape → ParcelShape → Configuration → Configuration
 with_value f p c = record c { futures = put future_cmp f p c.futures }
@@ -112,8 +122,8 @@ pub record IsGiving (p : Population) (n : Name) (g : Given) (program : Tree) (c 
   pub bare : locations program ≡ []
   pub reached : IsReached program c
   pub intends : intent_in c n ≡ Acts e
-  pub given : IsGiven e g
-  pub here : IsGivenIn p (with_activity n e.own c) g
+  pub given : IsGiven n e g
+  pub here : IsGivenIn p (with_poll n g (with_activity n e.own c)) g
 
 abbrev pub IsGivingSome : Population → Name → Given → Type 0
 IsGivingSome p n g = (program : Tree) × (c : Configuration) × (e : Effect) × IsGiving p n g program c e

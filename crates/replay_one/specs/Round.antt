@@ -3,14 +3,14 @@ use Rattle.std.specs.Prelude.{◌≡◌, ◌<◌, ◌≤◌, ◌+◌, ℕ, Bool,
 use Rattle.asp_model.specs.Names.{Name, FutureShape, Text}
 use Rattle.asp_model.specs.Term.{Tree, locations}
 use Rattle.asp_model.specs.Configuration as model
-use Rattle.asp_model.specs.Configuration.{Configuration, RequestShape}
+use Rattle.asp_model.specs.Configuration.{Configuration, ReceptionShape, RequestShape}
 use Rattle.asp_model.specs.Intent.{Effect, Acts, Awaits, Serving}
 use Rattle.asp_model.specs.Step.{ListsShape, intent_in, step, with_effect}
 use Rattle.asp_model.specs.Status.{status_of}
 use Rattle.asp_model.specs.Replay.{least_step, steps_from}
 use Rattle.asp_model.specs.Shapes.{future_shape}
 use Rattle.law_steps.specs.Reached.{IsReached, IsAt}
-use Rattle.law_schedules.specs.Schedules.{IsFilledBy, IsNextIn, IsScheduled, IsSentTo, RestsIn, WaitsFor}
+use Rattle.law_schedules.specs.Schedules.{IsFilledBy, IsLoggedTo, IsNextIn, IsScheduled, RestsIn, WaitsFor}
 use Rattle.law_schedules.specs.Watches.{IsWatched}
 use Rattle.replay_one.specs.declared.bounds.Bounds.{Bounds}
 use Rattle.replay_one.specs.declared.schedule.Schedule.{Schedule}
@@ -32,30 +32,36 @@ pub record CanStep (lists : Option ListsShape) (count : Name → ℕ) (c : Confi
   pub intends : intent_in c n ≡ Acts effect
   pub steps : step lists c n ≡ Some (with_effect n effect c)
 
--- it intends to send to this activity
-abbrev pub SendsTo : Configuration → Name → Name → Type 0
-SendsTo c n to = (e : Effect) × (intent_in c n ≡ Acts e) × (r : RequestShape) × (e.sent ≡ Some (to, r))
+-- it intends to log at this activity: it sends there, or polls there at home
+abbrev pub LogsTo : Configuration → Name → Name → Type 0
+LogsTo c n to = (e : Effect) × (intent_in c n ≡ Acts e) × (x : ReceptionShape) × (e.logged ≡ Some (to, x))
 
 -- it rests for good: at its count, or neither at a future that is not filled, nor at a `serve`, nor
--- at a send
+-- at a send or a poll
 pub record Leaves (lists : Option ListsShape) (count : Name → ℕ) (c : Configuration) (n : Name) : Type 0 where
   pub rests : RestsIn lists count c n
   pub waits : (f : FutureShape) (a : model.Activity) → IsAt c n a → a.reductions < count n → WaitsFor c n f → ⊥
   pub serves : (a : model.Activity) → IsAt c n a → a.reductions < count n → status_of c n ≡ Serving → ⊥
-  pub sends : (a : model.Activity) (to : Name) → IsAt c n a → a.reductions < count n → SendsTo c n to → ⊥
+  pub sends : (a : model.Activity) (to : Name) → IsAt c n a → a.reductions < count n → LogsTo c n to → ⊥
 
 abbrev pub IsLook : Option ListsShape → (Name → ℕ) → Configuration → Name → Look → Type 0
 IsLook lists count c n look.Leaves = Leaves lists count c n
 IsLook lists count c n (look.Awaits f) = RestsIn lists count c n × (status_of c n ≡ Awaits (future_shape f.now))
 IsLook lists count c n look.Serves = RestsIn lists count c n × (status_of c n ≡ Serving)
-IsLook lists count c n (look.Holds to) = RestsIn lists count c n × SendsTo c n to.now
+IsLook lists count c n (look.Holds to) = RestsIn lists count c n × LogsTo c n to.now
 IsLook lists count c n look.Steps = CanStep lists count c n
+
+-- in its turn it steps, and else it is held at the log of this activity
+abbrev pub IsTurn : Bool → Name → Look → Type 0
+IsTurn true to look.Steps = Unit {0}
+IsTurn false to (look.Holds x) = x.now ≡ to
+IsTurn b to l = ⊥
 
 -- whom the effect is for, apart from its stepper, is ready, and who is not ready waits for what it did
 pub record IsHandedOn (lists : Option ListsShape) (c : Configuration) (n : Name) (e : Effect) (old new : Schedule) : Type 0 where
   pub made : (m : Name) (b : model.Activity) → e.made ≡ Some (m, b) → ready_in new m ≡ true
   pub target : (m : Name) (r : RequestShape) → e.sent ≡ Some (m, r) → asks_in old m r.label ≡ true → ready_in new m ≡ true
-  pub next : (m q : Name) → IsSentTo e m → IsNextIn lists (with_effect n e c) m q → sends_in old q m ≡ true → ready_in new q ≡ true
+  pub next : (m q : Name) → IsLoggedTo e m → IsNextIn lists (with_effect n e c) m q → sends_in old q m ≡ true → ready_in new q ≡ true
   pub filled : (f : FutureShape) (q : Name) → IsFilledBy e f → noted_in old f q ≡ true → ready_in new q ≡ true
   pub ready : (m : Name) → ready_in old m ≡ true → ready_in new m ≡ true
   pub noted : (f : FutureShape) (m : Name) → (IsFilledBy e f → ⊥) → noted_in new f m ≡ noted_in old f m

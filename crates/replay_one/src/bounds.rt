@@ -1,29 +1,30 @@
-//! How far a run may go, and in which order requests may come.
+//! How far a run may go, and in which order requests and polls may come.
 
-ghost use Rattle.std.specs.Prelude.{◌≡◌, T};
+ghost use Rattle.std.specs.Prelude.{◌≡◌, T, map};
 ghost use Rattle.std.specs.FinMap.{find, is_sorted};
 ghost use Rattle.std.specs.Option.{option_map};
 ghost use Rattle.asp_model.specs.Names.{name_cmp};
+ghost use Rattle.asp_model.specs.Shapes.{reception_shape};
 ghost use Rattle.replay_one.specs.Bounds.{IsAscending, IsNextAmong, IsNextAt, count_within, lists_within};
 
-use asp_model::{ActivityName, Counts, Lists};
+use asp_model::{ActivityName, Counts, Lists, Reception};
 use std::cmp::Ordering;
 
 /// What bounds a run.
 #[derive(Clone, Copy)]
 pub enum Bounds<'a> {
-    /// So many reductions, of each activity and in all, and requests in any order.
+    /// So many reductions, of each activity and in all, and requests and polls in any order.
     Budget(u64),
-    /// The sender lists of a run, and its counts.
+    /// The logs of a run, and its counts.
     Listed(&'a Lists, &'a Counts),
 }
 
-/// Who may send the next request.
+/// What a log may note next.
 #[derive(Clone, Copy)]
 pub enum Next<'a> {
-    Anyone,
-    Only(&'a ActivityName),
-    Nobody,
+    Anything,
+    Only(&'a Reception),
+    Nothing,
 }
 
 /// The value at a name, where names ascend.
@@ -45,12 +46,12 @@ fn value_at<'a, X>(entries: &'a [(ActivityName, X)], name: &ActivityName) -> Opt
     None
 }
 
-fn next_among(senders: &[ActivityName], number: usize) -> Next
-    ensures next { IsNextAmong senders.now number result }
+fn next_among(log: &[Reception], number: usize) -> Next
+    ensures next { IsNextAmong (map reception_shape log.now) number result }
 {
-    match senders.get(number) {
-        Some(name) => Next::Only(name),
-        None => Next::Nobody,
+    match log.get(number) {
+        Some(reception) => Next::Only(reception),
+        None => Next::Nothing,
     }
 }
 
@@ -69,16 +70,16 @@ impl Bounds<'_> {
         }
     }
 
-    /// Who may send the request with a number to an activity, from 0.
+    /// What the log of an activity may note at a number, from 0.
     pub fn next(&self, to: &ActivityName, number: usize) -> Next
         requires ascending { IsAscending self.now }
         ensures next { IsNextAt (lists_within self.now) to.now number result }
     {
         match self {
-            Bounds::Budget(_) => Next::Anyone,
+            Bounds::Budget(_) => Next::Anything,
             Bounds::Listed(lists, _) => match value_at(&lists.entries, to) {
-                Some(senders) => next_among(senders, number),
-                None => Next::Nobody,
+                Some(log) => next_among(log, number),
+                None => Next::Nothing,
             },
         }
     }

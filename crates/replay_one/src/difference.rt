@@ -1,4 +1,4 @@
-//! Where an outcome differs first from lists and counts.
+//! Where an outcome differs first from logs and counts.
 
 ghost use Rattle.std.specs.Prelude.{◌≡◌, map};
 ghost use Rattle.std.specs.Option.{option_map};
@@ -12,7 +12,8 @@ ghost use Rattle.law_schedules.specs.Divergence.{
 };
 ghost use Rattle.replay_one.specs.Rows.{given_row, list_shape};
 
-use asp_model::{ActivityName, ActivityReport};
+use crate::receptions::same_log;
+use asp_model::{ActivityName, ActivityReport, Reception};
 use std::cmp::Ordering;
 
 /// The lesser of two names, the first where they are equal.
@@ -25,16 +26,16 @@ fn lesser<'a>(name: &'a ActivityName, other: &'a ActivityName) -> &'a ActivityNa
     }
 }
 
-fn is_same(report: &ActivityReport, list: &(ActivityName, Vec<ActivityName>), count: u64) -> bool
+fn is_same(report: &ActivityReport, list: &(ActivityName, Vec<Reception>), count: u64) -> bool
     ensures { result ≡ same_row (row_of (activity_shape report.now)) (given_row list.now count) }
 {
-    report.name == list.0 && report.count == count && report.senders == list.1
+    report.name == list.0 && report.count == count && same_log(&report.senders, &list.1)
 }
 
-/// The least name at which the reports of activities differ from their lists and counts.
+/// The least name at which the reports of activities differ from their logs and counts.
 pub fn first_difference<'a>(
     reports: &'a [ActivityReport],
-    lists: &'a [(ActivityName, Vec<ActivityName>)],
+    lists: &'a [(ActivityName, Vec<Reception>)],
     counts: &[(ActivityName, u64)],
 ) -> Option<&'a ActivityName>
     ensures { let shown = map (λ a. row_of (activity_shape a)) reports.now in

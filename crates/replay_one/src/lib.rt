@@ -1,12 +1,13 @@
 //! The one-thread machine of the language: the least-named activity that can step takes one
-//! reduction, until none can. It runs a program within a budget, and replays a run from its sender
-//! lists and counts.
+//! reduction, until none can. It runs a program within a budget, and replays a run from its logs
+//! and counts.
 #![tactic(auto)]
 
 mod bounds;
 mod difference;
 mod listed;
 mod population;
+mod receptions;
 mod replays;
 mod round;
 mod run;

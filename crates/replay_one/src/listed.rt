@@ -1,4 +1,4 @@
-//! Sender lists and counts: those that an outcome shows, and whether a replay takes them.
+//! Logs and counts: those that an outcome shows, and whether a replay takes them.
 
 ghost use Rattle.std.specs.Prelude.{◌≡◌, ◌-◌, ◌^◌, ◌↔◌, IfOk, IsTrue, map, min};
 ghost use Rattle.std.specs.FinMap.{is_sorted};
@@ -9,27 +9,18 @@ ghost use Rattle.asp_model.specs.Shapes.{counts_shape, lists_shape, outcome_shap
 ghost use Rattle.law_schedules.specs.Divergence.{AreInOrder};
 ghost use Rattle.replay_one.specs.Listed.{AreReplayable};
 
-use asp_model::{ActivityName, Counts, Lists, MOST_REDUCTIONS, Outcome};
+use crate::receptions::copies_of;
+use asp_model::{ActivityName, Counts, Lists, MOST_REDUCTIONS, Outcome, Reception};
 use std::alloc::{AllocError, Global};
 
-fn copies_of(alloc: Global, names: &[ActivityName]) -> Result<Vec<ActivityName>, AllocError>
-    ensures names { IfOk result (λ v. v.items ≡ names.now) }
-{
-    let mut copies = Vec::new(alloc);
-    for name in names {
-        copies.push(name.copy(alloc)?)?;
-    }
-    Ok(copies)
-}
-
-/// The sender lists that an outcome shows.
+/// The logs that an outcome shows.
 pub fn lists_in(alloc: Global, outcome: &Outcome) -> Result<Lists, AllocError>
     ensures lists { IfOk result (λ l. lists_shape l ≡ lists_shown (outcome_shape outcome.now)) }
 {
     let mut entries = Vec::new(alloc);
     for activity in &outcome.activities {
-        let senders = copies_of(alloc, &activity.senders)?;
-        entries.push((activity.name.copy(alloc)?, senders))?;
+        let log = copies_of(alloc, &activity.senders)?;
+        entries.push((activity.name.copy(alloc)?, log))?;
     }
     Ok(Lists { entries })
 }
@@ -45,10 +36,7 @@ pub fn counts_in(alloc: Global, outcome: &Outcome) -> Result<Counts, AllocError>
     Ok(Counts { entries })
 }
 
-fn have_same_names(
-    lists: &[(ActivityName, Vec<ActivityName>)],
-    counts: &[(ActivityName, u64)],
-) -> bool
+fn have_same_names(lists: &[(ActivityName, Vec<Reception>)], counts: &[(ActivityName, u64)]) -> bool
     ensures { IsTrue result ↔ (map (λ x. x.0) lists.now ≡ map (λ x. x.0) counts.now) }
 {
     if lists.len() != counts.len() {
@@ -62,7 +50,7 @@ fn have_same_names(
     true
 }
 
-fn ascend(lists: &[(ActivityName, Vec<ActivityName>)]) -> bool
+fn ascend(lists: &[(ActivityName, Vec<Reception>)]) -> bool
     ensures { result ≡ is_sorted name_cmp lists.now }
 {
     for place in 1..lists.len() {
@@ -90,7 +78,7 @@ fn total_of(counts: &[(ActivityName, u64)]) -> u64
     sum
 }
 
-/// Whether lists and counts have the same names in strictly ascending order, and the counts sum to
+/// Whether logs and counts have the same names in strictly ascending order, and the counts sum to
 /// no more reductions than a run may take, 10,000,000.
 pub fn are_replayable(lists: &Lists, counts: &Counts) -> bool
     ensures replayable { let all = lists_shape lists.now in

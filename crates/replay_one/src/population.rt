@@ -7,7 +7,7 @@ ghost use Rattle.std.specs.BTreeMap.{Updates};
 ghost use Rattle.std.specs.Option.{option_map};
 ghost use Rattle.asp_model.specs.Names.{Name, future_cmp, name_cmp};
 ghost use Rattle.asp_model.specs.Configuration as model;
-ghost use Rattle.asp_model.specs.Configuration.{Configuration, requests_of, start as start_of};
+ghost use Rattle.asp_model.specs.Configuration.{Configuration, log_of, requests_of, start as start_of};
 ghost use Rattle.asp_model.specs.Intent.{Acts, Effect};
 ghost use Rattle.asp_model.specs.Shapes.{future_shape};
 ghost use Rattle.asp_model.specs.Step.{intent_in};
@@ -17,7 +17,7 @@ ghost use Rattle.future_table.specs.Values.{values_of};
 ghost use Rattle.law_steps.specs.Reached.{IsAt, IsThere};
 ghost use Rattle.law_steps.specs.Waking.{labels_wanted};
 ghost use Rattle.serve_rules.specs.Labels.{HaveSame};
-ghost use Rattle.step_activity.specs.Actors.{Stands, code_of};
+ghost use Rattle.step_activity.specs.Actors.{Stands, code_of, log_in};
 ghost use Rattle.step_activity.specs.Effects.{IsGiven};
 ghost use Rattle.replay_one.specs.Population.{
   AreActorsOf,
@@ -32,6 +32,7 @@ ghost use Rattle.replay_one.specs.Population.{
   passed_in,
   term_of,
   with_activity,
+  with_poll,
   with_request,
   with_value,
 };
@@ -115,7 +116,8 @@ impl Population {
         ensures acts { (c : Configuration) (e : Effect) → IsPopulation self.old c →
             intent_in c name.now ≡ Acts e →
             let then = with_activity name.now e.own c in
-            IfOk result (λ g. IsGiven e g × IsGivenIn self.new then g) }
+            IfOk result (λ g. let last = with_poll name.now g then in
+            IsGiven name.now e g × IsGivenIn self.new last g) }
         ensures passed { self.new.passed ≡ self.old.passed }
     {
         match self.activities.get_mut(name) {
@@ -127,7 +129,8 @@ impl Population {
     /// An activity that is made.
     pub fn insert(&mut self, name: ActivityName, actor: Box<Actor>) -> Result<(), AllocError>
         ensures made { (c : Configuration) (a : model.Activity) → (p : IsPopulation self.old c) →
-            requests_of c name ≡ [] → Stands actor.value a [] → code_of actor.value ≡ p.code →
+            requests_of c name ≡ [] → log_of c name ≡ [] → Stands actor.value a [] →
+            log_in actor.value ≡ [] → code_of actor.value ≡ p.code →
             OnOk result (IsPopulation self.new (with_activity name a c)) }
         ensures passed { self.new.passed ≡ self.old.passed }
     {
@@ -193,13 +196,13 @@ impl Population {
         self.passed.remove(name).unwrap_or(0)
     }
 
-    /// How many requests an activity received.
-    pub fn received(&self, name: &ActivityName) -> usize
-        ensures received { (c : Configuration) → IsPopulation self.now c → IsThere c name.now →
-            result ≡ length (requests_of c name.now) }
+    /// How many receptions the log of an activity has.
+    pub fn logged(&self, name: &ActivityName) -> usize
+        ensures logged { (c : Configuration) → IsPopulation self.now c → IsThere c name.now →
+            result ≡ length (log_of c name.now) }
     {
         match self.get(name) {
-            Some(actor) => actor.received(),
+            Some(actor) => actor.logged(),
             None => 0,
         }
     }

@@ -1,4 +1,4 @@
-//! The replay of a run from its sender lists and its counts.
+//! The replay of a run from its logs and its counts.
 
 ghost use Rattle.std.specs.Prelude.{◌≡◌, ◌≤◌, IfErr, IfOk};
 ghost use Rattle.asp_model.specs.declared.limits.TheConstants.{MOST_REDUCTIONS};
@@ -22,7 +22,7 @@ use std::alloc::{AllocError, Global};
 /// Why a replay gives no outcome.
 #[derive(Debug, Drop)]
 pub enum ReplayStop {
-    /// It leaves something else of this activity than the lists and counts say, and of none with a
+    /// It leaves something else of this activity than the logs and counts say, and of none with a
     /// lesser name.
     Diverged { activity: ActivityName },
     Memory,
@@ -48,7 +48,7 @@ fn sum_of(counts: &[(ActivityName, u64)]) -> u64
     sum
 }
 
-/// Replays a run of a program from its sender lists and its counts. `are_replayable` tests what is
+/// Replays a run of a program from its logs and its counts. `are_replayable` tests what is
 /// asked of them.
 pub fn replay(
     alloc: Global,

@@ -4,7 +4,7 @@ ghost use Rattle.std.specs.Prelude.{◌≡◌, ◌<◌, true, IfOk, None, OnOk, 
 ghost use Rattle.std.specs.Arc.{arc_value};
 ghost use Rattle.asp_model.specs.Names.{Name, main_name};
 ghost use Rattle.asp_model.specs.Term.{Tree};
-ghost use Rattle.asp_model.specs.Configuration.{Configuration, requests_of, start as start_of};
+ghost use Rattle.asp_model.specs.Configuration.{Configuration, From, Poll, log_of, start as start_of};
 ghost use Rattle.asp_model.specs.Intent.{Effect};
 ghost use Rattle.asp_model.specs.Step.{is_next, with_effect};
 ghost use Rattle.law_steps.specs.Reached.{IsThere};
@@ -34,10 +34,12 @@ ghost use Rattle.replay_one.specs.Round.{
   IsRunSomewhere,
   IsStepped,
   IsTried,
+  IsTurn,
 };
 
 use crate::bounds::{Bounds, Next};
 use crate::population::Population;
+use crate::receptions::{is_from, is_poll, owner_of};
 use crate::schedule::Schedule;
 use asp_model::{ActivityName, FutureName};
 use code_table::Code;
@@ -53,7 +55,7 @@ pub enum Look<'a> {
     Awaits(&'a FutureName),
     /// No pending request matches its `serve`.
     Serves,
-    /// It is not next in the list of the activity that it sends to.
+    /// It is not next in the log of this activity: whom it sends to, or itself where it polls.
     Holds(&'a ActivityName),
     Steps,
 }
@@ -83,15 +85,15 @@ pub struct Machine {
     pub schedule: Schedule,
 }
 
-/// Who may send the next request to an activity.
-fn next_sender<'a>(population: &Population, bounds: &'a Bounds, to: &ActivityName) -> Next<'a>
+/// What the log of an activity may note next.
+fn next_in<'a>(population: &Population, bounds: &'a Bounds, to: &ActivityName) -> Next<'a>
     requires ascending { IsAscending bounds.now }
     ensures next { (c : Configuration) → IsPopulation population.now c → IsThere c to.now →
-        IsNextAt (lists_within bounds.now) to.now (length (requests_of c to.now)) result }
+        IsNextAt (lists_within bounds.now) to.now (length (log_of c to.now)) result }
 {
     match bounds {
-        Bounds::Budget(_) => Next::Anyone,
-        Bounds::Listed(_, _) => bounds.next(to, population.received(to)),
+        Bounds::Budget(_) => Next::Anything,
+        Bounds::Listed(_, _) => bounds.next(to, population.logged(to)),
     }
 }
 
@@ -104,13 +106,35 @@ fn may_come(
 ) -> bool
     requires ascending { IsAscending bounds.now }
     ensures { (c : Configuration) → IsPopulation population.now c → IsThere c to.now →
-        result ≡ is_next (lists_within bounds.now) c to.now name.now }
+        result ≡ is_next (lists_within bounds.now) c to.now (From name.now) }
 {
-    match next_sender(population, bounds, to) {
-        Next::Anyone => true,
-        Next::Only(next) => name == next,
-        Next::Nobody => false,
+    match next_in(population, bounds, to) {
+        Next::Anything => true,
+        Next::Only(next) => is_from(next, name),
+        Next::Nothing => false,
     }
+}
+
+/// Whether an activity may poll now.
+fn may_poll(population: &Population, bounds: &Bounds, name: &ActivityName) -> bool
+    requires ascending { IsAscending bounds.now }
+    ensures { (c : Configuration) → IsPopulation population.now c → IsThere c name.now →
+        result ≡ is_next (lists_within bounds.now) c name.now Poll }
+{
+    match next_in(population, bounds, name) {
+        Next::Anything => true,
+        Next::Only(next) => is_poll(next),
+        Next::Nothing => false,
+    }
+}
+
+/// Where it sends to this activity, or polls as this one, in its turn or out of turn.
+fn in_turn<'a>(may: bool, to: &'a ActivityName, passed: usize) -> View<'a>
+    ensures passed { result.passed ≡ passed }
+    ensures look { IsTurn may to.now result.look }
+{
+    let look = if may { Look::Steps } else { Look::Holds(to) };
+    View { look, passed }
 }
 
 /// What an activity does that stands before a redex that needs others, or is at its count.
@@ -118,7 +142,7 @@ fn look_at<'a>(
     alloc: Global,
     population: &'a Population,
     bounds: &Bounds,
-    name: &ActivityName,
+    name: &'a ActivityName,
     passed: usize,
 ) -> Result<View<'a>, AllocError>
     requires ascending { IsAscending bounds.now }
@@ -144,17 +168,12 @@ fn look_at<'a>(
             passed,
         }),
         Outlook::Sends(to) => {
-            if may_come(population, bounds, to, name) {
-                Ok(View {
-                    look: Look::Steps,
-                    passed,
-                })
-            } else {
-                Ok(View {
-                    look: Look::Holds(to),
-                    passed,
-                })
-            }
+            let may = may_come(population, bounds, to, name);
+            Ok(in_turn(may, to, passed))
+        }
+        Outlook::Polls => {
+            let may = may_poll(population, bounds, name);
+            Ok(in_turn(may, name, passed))
         }
         Outlook::Awaits(future) => Ok(View {
             look: Look::Awaits(future),
@@ -191,7 +210,7 @@ fn passed_after(taken: u64, known: usize) -> usize
     if taken == 0 { known } else { 0 }
 }
 
-/// Who is next in the list of an activity is ready, if it is held that sends there.
+/// Who is next in the log of an activity is ready, if it is held there.
 fn wake_next(
     schedule: &mut Schedule,
     population: &Population,
@@ -205,9 +224,9 @@ fn wake_next(
         IsNextIn (lists_within bounds.now) c to.now q → sends_in schedule.old q to.now ≡ true →
         OnOk result (ready_in schedule.new q ≡ true) }
 {
-    match next_sender(population, bounds, to) {
-        Next::Only(next) => schedule.wake_sender(next, to),
-        Next::Anyone | Next::Nobody => Ok(()),
+    match next_in(population, bounds, to) {
+        Next::Only(next) => schedule.wake_sender(owner_of(next, to), to),
+        Next::Anything | Next::Nothing => Ok(()),
     }
 }
 
@@ -259,6 +278,7 @@ impl Machine {
                 self.schedule.wake_noted(&future)?;
                 self.population.fill(future, value)
             }
+            Given::Polled => wake_next(&mut self.schedule, &self.population, bounds, name),
         }
     }
 

@@ -22,8 +22,8 @@ use std::alloc::{AllocError, Global};
 use std::collections::{BTreeMap, BTreeSet};
 
 /// The names of those who may be able to step. Of the others: for each awaited future the names of
-/// those who wait for it, the labels that each server asks for, and to whom each sender is held that
-/// is not next in the list there.
+/// those who wait for it, the labels that each server asks for, and in whose log each is not next
+/// that is held at a send or at a poll.
 #[derive(Drop)]
 pub struct Schedule {
     ready: BTreeSet<ActivityName>,
@@ -90,7 +90,8 @@ impl Schedule {
         Ok(())
     }
 
-    /// A sender that is not next in a list is noted by whom it sends to.
+    /// Who is not next in a log is noted by whose log it is: that of whom it sends to, or its own
+    /// where it polls.
     pub fn hold(&mut self, name: ActivityName, to: ActivityName) -> Result<(), AllocError>
         ensures watching { OnOk result (IsWatching self.old name self.new) }
         ensures sends { OnOk result (sends_in self.new name to ≡ true) }
@@ -123,7 +124,7 @@ impl Schedule {
         }
     }
 
-    /// A sender is ready, if it is held that sends to this activity.
+    /// One is ready, if it is held at the log of this activity.
     pub fn wake_sender(&mut self, name: &ActivityName, to: &ActivityName) -> Result<(), AllocError>
         ensures more { OnOk result (IsMoreReady self.old None self.new) }
         ensures ready { sends_in self.old name.now to.now ≡ true →

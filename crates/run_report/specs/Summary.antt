@@ -5,11 +5,12 @@ use Rattle.std.specs.List.{flat_map}
 use Rattle.asp_model.specs.Names.{main_name, same_name}
 use Rattle.asp_model.specs.Outcome.{ActivityReportShape, OutcomeShape}
 use Rattle.asp_model.specs.Report.{output_line, verdict_line, text_of}
+use Rattle.law_steps.specs.Kept.{senders_among}
 
--- the lengths of all sender lists, summed
+-- how many senders stand in all logs: each request that came has one there
 abbrev pub requests_in : List ActivityReportShape → ℕ
 requests_in [] = 0
-requests_in (a ∷ activities) = length a.senders + requests_in activities
+requests_in (a ∷ activities) = length (senders_among a.senders) + requests_in activities
 
 -- the output lines of main
 abbrev pub main_lines : List ActivityReportShape → List (List ℕ)

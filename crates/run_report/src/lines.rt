@@ -1,12 +1,12 @@
 //! The lines of a report one by one, without their line feeds.
 
-ghost use Rattle.std.specs.Prelude.{◌≡◌, string_bytes, IfOk, OnOk};
-ghost use Rattle.asp_model.specs.Report.{fault_text as text_of_fault, status_text, verdict_line as line_of_verdict, senders_line as line_of_senders, output_line as line_of_output};
-ghost use Rattle.asp_model.specs.Shapes.{fault_shape, line_shape, status_shape, verdict_shape};
+ghost use Rattle.std.specs.Prelude.{◌≡◌, map, string_bytes, IfOk, OnOk};
+ghost use Rattle.asp_model.specs.Report.{fault_text as text_of_fault, reception_text, status_text, verdict_line as line_of_verdict, senders_line as line_of_senders, output_line as line_of_output};
+ghost use Rattle.asp_model.specs.Shapes.{fault_shape, line_shape, reception_shape, status_shape, verdict_shape};
 ghost use Rattle.state_lines.specs.Texts.{AddsText};
 ghost use Rattle.run_report.specs.Pieces.{activity_text};
 
-use asp_model::{ActivityName, Fault, Line, Status, Verdict};
+use asp_model::{ActivityName, Fault, Line, Reception, Status, Verdict};
 use state_lines::{push_future, push_name};
 use std::alloc::{AllocError, Global};
 
@@ -44,17 +44,29 @@ pub fn activity_line(
     Ok(text)
 }
 
-/// Who sent the requests of an activity, in order of arrival.
-pub fn senders_line(alloc: Global, senders: &[ActivityName]) -> Result<String, AllocError>
-    ensures senders { IfOk result (λ s. string_bytes s ≡ line_of_senders senders.now) }
+/// What an activity received and asked, in order: who sent each request, and each poll.
+pub fn senders_line(alloc: Global, log: &[Reception]) -> Result<String, AllocError>
+    ensures senders { let shapes = map reception_shape log.now in
+        IfOk result (λ s. string_bytes s ≡ line_of_senders shapes) }
 {
     let mut text = String::with_capacity(alloc, SHORT_ROOM)?;
     text.push_str("senders")?;
-    for sender in senders {
+    for reception in log {
         text.push_str(" ")?;
-        push_name(&mut text, sender)?;
+        push_reception(&mut text, reception)?;
     }
     Ok(text)
+}
+
+// A sender's name, or what stands for a poll.
+fn push_reception(text: &mut String, reception: &Reception) -> Result<(), AllocError>
+    ensures { let added = reception_text (reception_shape reception.now) in
+        OnOk result (AddsText text.old text.new added) }
+{
+    match reception {
+        Reception::From(name) => push_name(text, name),
+        Reception::Poll => text.push_str("?"),
+    }
 }
 
 /// A line of an activity's output.

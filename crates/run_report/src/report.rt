@@ -39,7 +39,7 @@ fn all_lines(alloc: Global, end: &RunEnd, depth: Option<u32>) -> Result<Vec<Word
         IfOk result (λ v. v.items ≡ report_lines_to depth o) }
 {
     let mut lines = Vec::new(alloc);
-    lines.push(Word::new(String::from_str(alloc, "asp report 1")?))?;
+    lines.push(Word::new(String::from_str(alloc, "asp report 2")?))?;
     let verdict = verdict_line(end.outcome.verdict);
     lines.push(Word::new(String::from_str(alloc, verdict)?))?;
     push_ends(alloc, &mut lines, end, depth)?;

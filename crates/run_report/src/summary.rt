@@ -1,12 +1,13 @@
 //! The lines of the summary of a run.
 
-ghost use Rattle.std.specs.Prelude.{◌≡◌, ◌++◌, map, IfOk, OnOk};
-ghost use Rattle.asp_model.specs.Shapes.{activity_shape, outcome_shape};
+ghost use Rattle.std.specs.Prelude.{◌≡◌, ◌++◌, length, map, IfOk, OnOk};
+ghost use Rattle.asp_model.specs.Shapes.{activity_shape, outcome_shape, reception_shape};
+ghost use Rattle.law_steps.specs.Kept.{senders_among};
 ghost use Rattle.run_report.specs.Summary.{requests_in as sum_of_requests, main_lines, summary_lines};
 
 use crate::lines::verdict_line;
 use crate::report::push_outputs;
-use asp_model::{ActivityName, ActivityReport, Outcome, Word};
+use asp_model::{ActivityName, ActivityReport, Outcome, Reception, Word};
 use std::alloc::{AllocError, Global};
 
 /// The lines of the summary of a run of the generated program of so many pairs, without their line
@@ -33,9 +34,23 @@ fn requests_in(activities: &[ActivityReport]) -> u128
 {
     let mut sum: u128 = 0;
     for activity in activities {
-        sum += activity.senders.len() as u128;
+        sum += requests_logged(&activity.senders) as u128;
     }
     sum
+}
+
+// How many requests a log notes.
+fn requests_logged(log: &[Reception]) -> usize
+    ensures { result ≡ length (senders_among (map reception_shape log.now)) }
+{
+    let mut count = 0;
+    for reception in log {
+        match reception {
+            Reception::From(_) => count += 1,
+            Reception::Poll => {}
+        }
+    }
+    count
 }
 
 fn push_main_outputs(

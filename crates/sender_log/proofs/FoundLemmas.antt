@@ -1,7 +1,8 @@
 -- What is found in each of the parts of a line, part by part.
-use Rattle.std.proofs.Common.{◌≡◌, ℕ, ◌<◌, List, [], ◌∷◌, ◌++◌, map, length, drop, Option, Some, None, Bor, refl, arith}
-use Rattle.asp_model.specs.Names.{Text}
-use Rattle.asp_model.specs.ReportLines.{all_found, activity_in}
+use Rattle.std.proofs.Common.{◌≡◌, ℕ, ◌<◌, List, [], ◌∷◌, ◌++◌, map, length, drop, Option, Some, None, Bor, is_some, refl, arith}
+use Rattle.std.specs.Prelude.{◌&&◌}
+use Rattle.asp_model.specs.Names.{Name, Text}
+use Rattle.asp_model.specs.ReportLines.{all_found, activity_in, asked_under, is_found}
 
 -- what was found, and then what is found in the rest
 abbrev pub with_front : {X : Type 0} → List X → Option (List X) → Option (List X)
@@ -18,3 +19,9 @@ few_words [] h = refl
 few_words (a ∷ []) h = refl
 few_words (a ∷ b ∷ []) h = refl
 few_words (a ∷ b ∷ c ∷ ws) h = absurd (omega (arith, h))
+
+-- a future's name is found where both its parts are
+pub found_both : (n : Option Name) (k : Option ℕ) → is_found (asked_under n k) ≡ (is_some n && is_some k)
+found_both None k = refl
+found_both (Some n) None = refl
+found_both (Some n) (Some k) = refl

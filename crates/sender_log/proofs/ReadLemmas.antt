@@ -8,6 +8,7 @@ use Rattle.std.proofs.lemmas.List.{map-append}
 use Rattle.asp_model.specs.declared.limits.TheConstants.{MOST_REDUCTIONS}
 use Rattle.asp_model.specs.Names.{Name, Text, main_name, name_cmp, same_name, same_text}
 use Rattle.asp_model.specs.Term.{has_text}
+use Rattle.asp_model.specs.Configuration.{ReceptionShape}
 use Rattle.asp_model.specs.Step.{ListsShape}
 use Rattle.asp_model.specs.Replay.{CountsShape, total}
 use Rattle.asp_model.specs.ReportLines.{parts, verdict_lines, activity_in, senders_of, is_output}
@@ -50,6 +51,11 @@ some_is x y e = ap (λ o. unwrap_or o x) e
 title_keeps : (p q : Progress) (b : Bool) → IsEmpty p → goes_on Verdict p b ≡ Some q → Holds q.next q
 title_keeps p q true h e = subst (λ (r : Progress). Holds r.next r) (some_is _ _ e) h
 title_keeps p q false h e = absurd cc
+
+-- of either version
+version_keeps : (p q : Progress) (second first : Bool) → IsEmpty p → elim second [ true ↦ goes_on Verdict (record p { polls = true }) true | false ↦ goes_on Verdict p first ] ≡ Some q → Holds q.next q
+version_keeps p q true first h e = title_keeps (record p { polls = true }) q true h e
+version_keeps p q false first h e = title_keeps p q first h e
 
 verdict_keeps : (p q : Progress) (b : Bool) → IsEmpty p → goes_on Main p b ≡ Some q → Holds q.next q
 verdict_keeps p q true h e = subst (λ (r : Progress). Holds r.next r) (some_is _ _ e) h
@@ -96,17 +102,17 @@ output_keeps : (n : Name) (p q : Progress) (b : Bool) (o : Option (Name × ℕ))
 output_keeps n p q true o here h e = subst (λ (r : Progress). Holds r.next r) (some_is p q e) (subst (λ (k : Next). Holds k p) (sym here) h)
 output_keeps n p q false o here h e = later_keeps n p q h (takes (is_behind n) p q o e)
 
-senders_keep : (n : Name) (p q : Progress) (o : Option (List Name)) → Holds (Senders n) p → with_senders n p o ≡ Some q → Holds q.next q
+senders_keep : (n : Name) (p q : Progress) (o : Option (List ReceptionShape)) → Holds (Senders n) p → with_senders n p o ≡ Some q → Holds q.next q
 senders_keep n p q None h e = absurd cc
 senders_keep n p q (Some ns) h e =
-    let same : names (p.lists ++ (n, ns) ∷ []) ≡ names p.counts = map-append (λ (x : Name × List Name). x.0) p.lists ((n, ns) ∷ []) ∙ h.1 in
+    let same : names (p.lists ++ (n, ns) ∷ []) ≡ names p.counts = map-append (λ (x : Name × List ReceptionShape). x.0) p.lists ((n, ns) ∷ []) ∙ h.1 in
     subst (λ (r : Progress). Holds r.next r) (some_is _ _ e) (h.0, same)
 
 line_keeps : (next : Next) (p q : Progress) (line : Text) → p.next ≡ next → Holds next p → behind next p line ≡ Some q → Holds q.next q
-line_keeps Title p q line here h e = title_keeps p q (same_text line (codes "asp report 1")) h e
+line_keeps Title p q line here h e = version_keeps p q (same_text line (codes "asp report 2")) (same_text line (codes "asp report 1")) h e
 line_keeps Verdict p q line here h e = verdict_keeps p q (has_text line verdict_lines) h e
 line_keeps Main p q line here h e = main_keeps p q h (takes (same_name main_name) p q (activity_in (parts 32 line)) e)
-line_keeps (Senders n) p q line here h e = senders_keep n p q (senders_of (parts 32 line)) h e
+line_keeps (Senders n) p q line here h e = senders_keep n p q (senders_of p.polls (parts 32 line)) h e
 line_keeps (Later n) p q line here h e = output_keeps n p q (is_output line) (activity_in (parts 32 line)) here h e
 
 -- Whole texts
@@ -137,4 +143,4 @@ lines_give (t ∷ u ∷ ts) p number lists counts h e =
     line_gives p number t (u ∷ ts) (behind p.next p t) lists counts refl h e (λ q k g. lines_give (u ∷ ts) q (suc number) lists counts k g)
 
 pub read_gives : (bytes : Text) (lists : ListsShape) (counts : CountsShape) → read_report bytes ≡ Reads lists counts → IsLog lists counts
-read_gives bytes lists counts e = lines_give (parts 10 bytes) (record { next = Title; lists = []; counts = [] }) 1 lists counts (refl, refl) e
+read_gives bytes lists counts e = lines_give (parts 10 bytes) (record { next = Title; lists = []; counts = []; polls = false }) 1 lists counts (refl, refl) e

@@ -7,9 +7,9 @@ use Rattle.asp_model.specs.ReadReport.{Progress, Reading, Reads, BadLine}
 use Rattle.sender_log.specs.declared.error.LogError.{LogError}
 use Rattle.sender_log.specs.declared.error.LogError.TheVariants as errors
 
--- the lists and counts are those that the definition reads
+-- the logs and counts are those that the definition reads
 abbrev pub Gives : Reading → Lists × Counts → Type 0
-Gives r log = r ≡ Reads (lists_shape log.0) (counts_shape log.1)
+Gives r found = r ≡ Reads (lists_shape found.0) (counts_shape found.1)
 
 -- the line is the one that the definition names; want of memory tells nothing
 abbrev pub TellsOf : Reading → LogError → Type 0

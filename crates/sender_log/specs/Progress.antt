@@ -1,6 +1,7 @@
 -- What definitions see of how far a report has been read.
 use Rattle.std.specs.Prelude.{◌≡◌, ℕ, Bool, true, false, [], ◌∷◌, ◌++◌, map, Option, Some, None}
 use Rattle.asp_model.specs.Names.{Name, Text, main_name, same_name}
+use Rattle.asp_model.specs.Shapes.{reception_shape}
 use Rattle.asp_model.specs.ReadReport.{Next as NextShape, Title, Verdict, Main, Senders, Later, Progress as ProgressShape, is_behind, behind, with_activity, ended, Reading}
 use Rattle.sender_log.specs.declared.progress.Next.{Next}
 use Rattle.sender_log.specs.declared.progress.Next.TheVariants as next
@@ -16,19 +17,19 @@ next_shape (next.Later n) = Later n
 abbrev pub progress_shape : Progress → ProgressShape
 progress_shape p = record {
   next = next_shape p.next;
-  lists = map (λ x. (x.0, x.1.items)) p.lists.items;
+  lists = map (λ x. (x.0, map reception_shape x.1.items)) p.lists.items;
   counts = p.counts.items;
+  polls = p.polls;
 }
 
 -- before the first line
 abbrev pub before_lines : ProgressShape
-before_lines = record { next = Title; lists = []; counts = [] }
+before_lines = record { next = Title; lists = []; counts = []; polls = false }
 
 -- with the activity line of this name
 abbrev pub with_entry : ProgressShape → Name → ℕ → ProgressShape
-with_entry p name count = record {
+with_entry p name count = record p {
   next = Senders name;
-  lists = p.lists;
   counts = p.counts ++ (name, count) ∷ [];
 }
 

@@ -1,4 +1,4 @@
-//! Why no lists and counts are read.
+//! Why no logs and counts are read.
 
 ghost use Rattle.std.specs.Prelude.{◌≡◌};
 ghost use Rattle.sender_log.specs.declared.error.LogError.TheVariants.{Memory};
@@ -6,7 +6,7 @@ ghost use Rattle.sender_log.specs.declared.error.LogError.TheVariants.{Memory};
 use std::alloc::AllocError;
 use thiserror::Error;
 
-/// Why a text gives no lists and counts.
+/// Why a text gives no logs and counts.
 #[derive(Debug, Drop, Error)]
 pub enum LogError {
     /// The line with this number, from 1, is the first that cannot stand in its place.

@@ -1,5 +1,5 @@
-//! What a report says of a run: its sender lists and its counts, or its first line that cannot
-//! stand in its place.
+//! What a report says of a run: its logs and its counts, or its first line that cannot stand in its
+//! place.
 #![tactic(auto)]
 
 mod error;

@@ -3,20 +3,28 @@
 ghost use Rattle.std.specs.Prelude.{◌≡◌, [], ◌∷◌, codes, map, IfOk};
 ghost use Rattle.std.specs.Option.{option_map};
 ghost use Rattle.asp_model.specs.Names.{same_text};
+ghost use Rattle.asp_model.specs.Shapes.{reception_shape};
 ghost use Rattle.asp_model.specs.Term.{has_text};
-ghost use Rattle.asp_model.specs.ReportLines.{parts, verdict_lines, fault_texts, are_status_words, counted as counted_of, activity_in as activity_in_words, senders_of as senders_in_words, all_found, name_of as name_in, is_output as is_output_line};
+ghost use Rattle.asp_model.specs.ReportLines.{parts, verdict_lines, fault_texts, are_status_words, counted as counted_of, activity_in as activity_in_words, senders_of as senders_in_words, all_found, reception_in as reception_in_word, is_output as is_output_line};
 
 use crate::names::{is_future, name_of};
 use crate::numbers::count_of;
 use crate::parts::cut;
-use asp_model::ActivityName;
+use asp_model::{ActivityName, Reception};
 use std::alloc::{AllocError, Global};
 
-/// Whether a line is the title of a report.
+/// Whether a line is the title of a report of the first version.
 pub fn is_title(line: &[u8]) -> bool
     ensures title { result ≡ same_text line.now (codes "asp report 1") }
 {
     line == b"asp report 1".as_slice()
+}
+
+/// Whether a line is the title of a report whose logs may have polls.
+pub fn is_title_with_polls(line: &[u8]) -> bool
+    ensures title { result ≡ same_text line.now (codes "asp report 2") }
+{
+    line == b"asp report 2".as_slice()
 }
 
 /// Whether a line tells a verdict.
@@ -124,35 +132,60 @@ fn is_fault(text: &[u8]) -> bool
         || text == b"ZeroDivisor".as_slice()
 }
 
-/// The names that a senders line shows.
-pub fn senders_in(alloc: Global, line: &[u8]) -> Result<Option<Vec<ActivityName>>, AllocError>
-    ensures senders { IfOk result
-        (λ o. option_map (λ v. v.items) o ≡ senders_in_words (parts 32 line.now)) }
+/// The log that a senders line shows, with polls where it may have them.
+pub fn senders_in(
+    alloc: Global,
+    line: &[u8],
+    polls: bool,
+) -> Result<Option<Vec<Reception>>, AllocError>
+    ensures senders { let words = parts 32 line.now in IfOk result
+        (λ o. option_map (λ v. map reception_shape v.items) o ≡ senders_in_words polls words) }
 {
     let words = cut(alloc, b' ', line)?;
-    senders_of(alloc, &words)
+    senders_of(alloc, &words, polls)
 }
 
-fn senders_of(alloc: Global, words: &[&[u8]]) -> Result<Option<Vec<ActivityName>>, AllocError>
-    ensures { IfOk result
-        (λ o. option_map (λ v. v.items) o ≡ senders_in_words (map (λ w. w.now) words.now)) }
+fn senders_of(
+    alloc: Global,
+    words: &[&[u8]],
+    polls: bool,
+) -> Result<Option<Vec<Reception>>, AllocError>
+    ensures { let texts = map (λ w. w.now) words.now in IfOk result
+        (λ o. option_map (λ v. map reception_shape v.items) o ≡ senders_in_words polls texts) }
 {
     if words.is_empty() || words[0] != b"senders".as_slice() {
         return Ok(None);
     }
-    names_in(alloc, &words[1..])
+    receptions_in(alloc, &words[1..], polls)
 }
 
-fn names_in(alloc: Global, words: &[&[u8]]) -> Result<Option<Vec<ActivityName>>, AllocError>
-    ensures { IfOk result
-        (λ o. option_map (λ v. v.items) o ≡ all_found name_in (map (λ w. w.now) words.now)) }
+fn receptions_in(
+    alloc: Global,
+    words: &[&[u8]],
+    polls: bool,
+) -> Result<Option<Vec<Reception>>, AllocError>
+    ensures { let all = all_found (reception_in_word polls) (map (λ w. w.now) words.now) in
+        IfOk result (λ o. option_map (λ v. map reception_shape v.items) o ≡ all) }
 {
-    let mut names = Vec::new(alloc);
+    let mut log = Vec::new(alloc);
     for word in words {
-        match name_of(alloc, word)? {
-            Some(name) => names.push(name)?,
+        match reception_in(alloc, word, polls)? {
+            Some(reception) => log.push(reception)?,
             None => return Ok(None),
         }
     }
-    Ok(Some(names))
+    Ok(Some(log))
+}
+
+// A sender's name, or a poll where there may be polls.
+fn reception_in(alloc: Global, word: &[u8], polls: bool) -> Result<Option<Reception>, AllocError>
+    ensures { IfOk result (λ o. option_map reception_shape o ≡ reception_in_word polls word.now) }
+{
+    if polls && word == b"?".as_slice() {
+        return Ok(Some(Reception::Poll));
+    }
+    match name_of(alloc, word)? {
+        Some(name) => Ok(Some(Reception::From(name))),
+        None => Ok(None),
+    }
 }

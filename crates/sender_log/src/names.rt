@@ -1,7 +1,7 @@
 //! Names of activities and of futures, as a report shows them.
 
 ghost use Rattle.std.specs.Prelude.{◌≡◌, map, IfOk};
-ghost use Rattle.asp_model.specs.ReportLines.{name_of as name_in, name_of_parts, under_main, all_found, index_of as index_in, are_future_parts, parts};
+ghost use Rattle.asp_model.specs.ReportLines.{name_of as name_in, name_of_parts, under_main, all_found, index_of as index_in, future_of, future_of_parts, is_found};
 
 use crate::numbers::index_of;
 use crate::parts::cut;
@@ -42,14 +42,15 @@ fn name_under_main(alloc: Global, parts: &[&[u8]]) -> Result<Option<ActivityName
 
 /// Whether a text is the name of a future.
 pub fn is_future(alloc: Global, text: &[u8]) -> Result<bool, AllocError>
-    ensures future { IfOk result (λ b. b ≡ are_future_parts (parts 35 text.now)) }
+    ensures future { IfOk result (λ b. b ≡ is_found (future_of text.now)) }
 {
     let parts = cut(alloc, b'#', text)?;
     are_future(alloc, &parts)
 }
 
 fn are_future(alloc: Global, parts: &[&[u8]]) -> Result<bool, AllocError>
-    ensures { IfOk result (λ b. b ≡ are_future_parts (map (λ p. p.now) parts.now)) }
+    ensures { let found = future_of_parts (map (λ p. p.now) parts.now) in
+        IfOk result (λ b. b ≡ is_found found) }
 {
     match parts {
         [name, index] => Ok(name_of(alloc, name)?.is_some() && index_of(index).is_some()),

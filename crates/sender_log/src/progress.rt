@@ -4,7 +4,7 @@ ghost use Rattle.std.specs.Prelude.{◌≡◌, ◌≤◌};
 ghost use Rattle.asp_model.specs.declared.limits.TheConstants.{MOST_REDUCTIONS};
 ghost use Rattle.asp_model.specs.Replay.{total as sum_of};
 
-use asp_model::ActivityName;
+use asp_model::{ActivityName, Reception};
 use std::alloc::Global;
 
 /// What may stand in the next line.
@@ -24,10 +24,12 @@ pub enum Next {
 #[derive(Drop)]
 pub struct Progress {
     pub next: Next,
-    pub lists: Vec<(ActivityName, Vec<ActivityName>)>,
+    pub lists: Vec<(ActivityName, Vec<Reception>)>,
     pub counts: Vec<(ActivityName, u64)>,
     /// The sum of the counts.
     pub total: u64,
+    /// A log may have polls.
+    pub polls: bool,
     pub ghost sum: { total ≡ sum_of counts.items },
     pub ghost within: { total ≤ MOST_REDUCTIONS },
 }
@@ -44,6 +46,7 @@ impl Progress {
             lists: Vec::new(alloc),
             counts: Vec::new(alloc),
             total: 0,
+            polls: false,
         }
     }
 }

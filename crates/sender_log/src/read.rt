@@ -17,7 +17,7 @@ use crate::step::behind;
 use asp_model::{Counts, Lists};
 use std::alloc::Global;
 
-/// The sender lists and the counts that a report shows, or its first line that cannot stand in its
+/// The logs and the counts that a report shows, or its first line that cannot stand in its
 /// place.
 pub fn read_report(alloc: Global, bytes: &[u8]) -> Result<(Lists, Counts), LogError>
     ensures ok { IfOk result
@@ -78,6 +78,7 @@ fn ended(progress: Progress, number: u64, rest: &[u8]) -> Result<(Lists, Counts)
         lists,
         counts,
         total: _,
+        polls: _,
     } = progress;
     match next {
         Next::Later(_) if rest.is_empty() => {

@@ -2,10 +2,10 @@
 
 ghost use Rattle.std.specs.Prelude.{◌≡◌, ◌+◌, ◌≤◌, IfOk, OnOk};
 ghost use Rattle.asp_model.specs.ReportLines.{parts, activity_in as activity_in_words, senders_of as senders_in_words};
-ghost use Rattle.asp_model.specs.ReadReport.{goes_on as goes_on_shape, with_senders as with_senders_shape};
+ghost use Rattle.asp_model.specs.ReadReport.{Title, behind, goes_on as goes_on_shape, with_senders as with_senders_shape};
 ghost use Rattle.sender_log.specs.Progress.{Shows, behind_line, fits_at, next_shape, progress_shape, with_entry, with_found};
 
-use crate::lines::{activity_in, is_output, is_title, is_verdict, senders_in};
+use crate::lines::{activity_in, is_output, is_title, is_title_with_polls, is_verdict, senders_in};
 use crate::progress::{Next, Progress};
 use asp_model::{ActivityName, MOST_REDUCTIONS};
 use std::alloc::{AllocError, Global};
@@ -15,7 +15,7 @@ pub fn behind(alloc: Global, progress: &mut Progress, line: &[u8]) -> Result<boo
     ensures behind { IfOk result (Shows (behind_line progress.old line.now) progress.new) }
 {
     match &progress.next {
-        Next::Title => Ok(goes_on(progress, Next::Verdict, is_title(line))),
+        Next::Title => Ok(with_title(progress, line)),
         Next::Verdict => Ok(goes_on(progress, Next::Main, is_verdict(line))),
         Next::Main => with_activity(alloc, progress, line),
         Next::Senders(name) => {
@@ -30,6 +30,17 @@ pub fn behind(alloc: Global, progress: &mut Progress, line: &[u8]) -> Result<boo
             }
         }
     }
+}
+
+// The title says whether logs may have polls.
+fn with_title(progress: &mut Progress, line: &[u8]) -> bool
+    ensures { Shows (behind Title (progress_shape progress.old) line.now) progress.new result }
+{
+    if is_title_with_polls(line) {
+        progress.polls = true;
+        return goes_on(progress, Next::Verdict, true);
+    }
+    goes_on(progress, Next::Verdict, is_title(line))
 }
 
 fn goes_on(progress: &mut Progress, next: Next, fits: bool) -> bool
@@ -105,15 +116,15 @@ fn with_senders(
     name: ActivityName,
     line: &[u8],
 ) -> Result<bool, AllocError>
-    ensures { let found = senders_in_words (parts 32 line.now) in
+    ensures { let found = senders_in_words progress.old.polls (parts 32 line.now) in
         let shape = with_senders_shape name (progress_shape progress.old) found in
         IfOk result (Shows shape progress.new) }
 {
-    match senders_in(alloc, line)? {
+    match senders_in(alloc, line, progress.polls)? {
         None => Ok(false),
-        Some(senders) => {
+        Some(log) => {
             let next = Next::Later(name.copy(alloc)?);
-            progress.lists.push((name, senders))?;
+            progress.lists.push((name, log))?;
             progress.next = next;
             Ok(true)
         }

@@ -1,6 +1,7 @@
 use Rattle.std.proofs.Common.{◌≡◌, ◌≤◌, ◌∙◌, List, Some, None, map, sym, ap, subst}
 use Rattle.std.specs.Global.{Vec}
 use Rattle.asp_model.specs.declared.limits.TheConstants.{MOST_REDUCTIONS}
+use Rattle.asp_model.specs.declared.outcome.Reception.{Reception}
 use Rattle.asp_model.specs.Names.{Name}
 use Rattle.asp_model.specs.Term.{Tree}
 use Rattle.asp_model.specs.Configuration.{start}
@@ -18,14 +19,14 @@ sum_of-sum-requires c = record { within = subst (λ (cs : CountsShape). total cs
 
 pub run_within-requires : goal.run_within-requires
 run_within-requires c =
-    let ls : List (Name × Vec Name) = c.args.lists.now.entries.items in
+    let ls : List (Name × Vec Reception) = c.args.lists.now.entries.items in
     let cs : CountsShape = c.args.counts.now.entries.items in
     let r = c.requires.replayable.ordered in
     record { ascending = (in_order ls (map list_shape ls) (sym (names_of_lists ls)) r.ascending, in_order cs (map list_shape ls) (sym r.names) r.ascending) }
 
 pub returns-in-None-clause-fits : goal.returns-in-None-clause-fits
 returns-in-None-clause-fits c =
-    let ls : List (Name × Vec Name) = c.args.lists.now.entries.items in
+    let ls : List (Name × Vec Reception) = c.args.lists.now.entries.items in
     let cs : CountsShape = c.args.counts.now.entries.items in
     let t : Tree = tree_of c.args.program.now.program.root in
     let sum : c.sum_of-sum.result ≡ total cs = c.sum_of-sum.ensures ∙ ap total c.deref.ensures.value in
@@ -37,7 +38,7 @@ returns-in-None-clause-fits c =
 
 pub returns-in_ok-copy-in-Some-clause-diverged : goal.returns-in_ok-copy-in-Some-clause-diverged
 returns-in_ok-copy-in-Some-clause-diverged c =
-    let ls : List (Name × Vec Name) = c.args.lists.now.entries.items in
+    let ls : List (Name × Vec Reception) = c.args.lists.now.entries.items in
     let cs : CountsShape = c.args.counts.now.entries.items in
     let t : Tree = tree_of c.args.program.now.program.root in
     let sum : c.sum_of-sum.result ≡ total cs = c.sum_of-sum.ensures ∙ ap total c.deref.ensures.value in

@@ -1,17 +1,21 @@
-use Rattle.std.proofs.Common.{◌≡◌, ◌<◌, Some, sym, subst, ◌∙◌, arith}
+use Rattle.std.proofs.Common.{◌≡◌, ◌<◌, ℕ, Bool, true, false, Option, Some, is_some, refl, sym, ap, subst, ◌∙◌, arith}
 use Rattle.asp_model.specs.Chase.{chase}
-use Rattle.asp_model.specs.Configuration.{requests_of}
+use Rattle.asp_model.specs.Configuration.{Configuration, requests_of}
+use Rattle.asp_model.specs.Names.{Name}
 use Rattle.asp_model.specs.Intent.{Done, Faulted}
 use Rattle.asp_model.specs.Shapes.{fault_shape, future_shape}
 use Rattle.step_activity.specs.declared.actor.Actor.{Actor}
-use Rattle.asp_model.specs.Step.{intent_in}
+use Rattle.asp_model.specs.Step.{ListsShape, intent_in}
+use Rattle.law_schedules.specs.Schedules.{RestsIn}
 use Rattle.step_activity.specs.Outlook.{IsOutlook}
 use Rattle.step_activity.proofs.PassingLemmas.{first_passed}
 use Rattle.replay_one.specs.declared.population.Population.{Population}
 use Rattle.replay_one.specs.Bounds.{count_within, lists_within}
 use Rattle.replay_one.specs.Population.{HasPassedIn, found_in}
-use Rattle.replay_one.specs.Round.{IsLook}
-use Rattle.replay_one.proofs.LookLemmas.{absent_leaves, awaits_intent, awaits_rests, counted_leaves, done_leaves, done_intent, faulted_intent, held_rests, intended, passed_for, seen_passed, sends_now, serves_rests, serving_intent, steps_now, target_there}
+use Rattle.replay_one.specs.declared.round.Look.{Look}
+use Rattle.replay_one.specs.declared.round.Look.TheVariants as look
+use Rattle.replay_one.specs.Round.{CanStep, IsLook, IsTurn, LogsTo}
+use Rattle.replay_one.proofs.LookLemmas.{absent_leaves, awaits_intent, awaits_rests, counted_leaves, done_leaves, done_intent, faulted_intent, held_rests, intended, passed_for, poll_rests, polls_now, seen_passed, sends_now, serves_rests, serving_intent, steps_now, target_there}
 use Rattle.replay_one.proofs.PopulationLemmas.{found_stands, actor_closed, values_closed}
 use Rattle.replay_one.proofs.round.look_at.Goals as goal
 
@@ -66,12 +70,25 @@ returns-in-Steps c =
           let s = found_stands p k n x h.population is in
           let count = c.count.ensures.count s.0 (requests_of k n) s.2 in
           let below : s.0.reductions < count_within b n = omega (arith, c.if-count.false, count, c.count-2.ensures.count) in
-          steps_now (lists_within b) (count_within b) k n s.0 s.1 below (subst (IsOutlook (intent_in k n)) c.in-Steps.is (intended p k n x c.in_ok-seen.seen.outlook h.population is c.in_ok-seen.ensures.outlook));
+          steps_now (lists_within b) (count_within b) k n s.0 s.1 below (subst (IsOutlook n (intent_in k n)) c.in-Steps.is (intended p k n x c.in_ok-seen.seen.outlook h.population is c.in_ok-seen.ensures.outlook));
       passed = λ k h. seen_passed p k n x c.in_ok-seen.seen.passed h is c.in_ok-seen.ensures.passed;
     }
 
-pub returns-then-may_come : goal.returns-then-may_come
-returns-then-may_come c =
+-- whether its turn has come
+by_turn : (lists : Option ListsShape) (count : Name → ℕ) (c : Configuration) (n to : Name) (may : Bool) (l : Look) → IsTurn may to l → (may ≡ true → CanStep lists count c n) → (may ≡ false → RestsIn lists count c n × LogsTo c n to) → IsLook lists count c n l
+by_turn lists count c n to true look.Steps t can rests = can refl
+by_turn lists count c n to true look.Leaves t can rests = absurd t
+by_turn lists count c n to true (look.Awaits f) t can rests = absurd t
+by_turn lists count c n to true look.Serves t can rests = absurd t
+by_turn lists count c n to true (look.Holds x) t can rests = absurd t
+by_turn lists count c n to false (look.Holds x) t can rests = subst (λ (m : Name). RestsIn lists count c n × LogsTo c n m) (sym t) (rests refl)
+by_turn lists count c n to false look.Leaves t can rests = absurd t
+by_turn lists count c n to false (look.Awaits f) t can rests = absurd t
+by_turn lists count c n to false look.Serves t can rests = absurd t
+by_turn lists count c n to false look.Steps t can rests = absurd t
+
+pub returns-in-Sends : goal.returns-in-Sends
+returns-in-Sends c =
     let p : Population = c.args.population.now in
     let b = c.args.bounds.now in
     let n = c.args.name.now in
@@ -83,14 +100,16 @@ returns-then-may_come c =
           let count = c.count.ensures.count s.0 (requests_of k n) s.2 in
           let below : s.0.reductions < count_within b n = omega (arith, c.if-count.false, count, c.count-2.ensures.count) in
           let to = c.in-Sends.to in
-          let o = subst (IsOutlook (intent_in k n)) c.in-Sends.is (intended p k n x c.in_ok-seen.seen.outlook h.population is c.in_ok-seen.ensures.outlook) in
-          let round = sym (c.may_come.ensures k h.population (target_there program k n to h.reached o)) ∙ c.if-may_come.true in
-          sends_now (lists_within b) (count_within b) program k n s.0 to h.reached s.1 below o round;
-      passed = λ k h. seen_passed p k n x c.in_ok-seen.seen.passed h is c.in_ok-seen.ensures.passed;
+          let o = subst (IsOutlook n (intent_in k n)) c.in-Sends.is (intended p k n x c.in_ok-seen.seen.outlook h.population is c.in_ok-seen.ensures.outlook) in
+          let turn = c.may_come-may.ensures k h.population (target_there program k n to h.reached o) in
+          by_turn (lists_within b) (count_within b) k n to.now c.may_come-may.result c.in_turn.result.look c.in_turn.ensures.look
+          (λ e. sends_now (lists_within b) (count_within b) program k n s.0 to h.reached s.1 below o (sym turn ∙ e))
+          (λ e. held_rests (lists_within b) (count_within b) program k n to h.reached o (sym turn ∙ e));
+      passed = λ k h. subst (HasPassedIn k n) (sym c.in_turn.ensures.passed) (seen_passed p k n x c.in_ok-seen.seen.passed h is c.in_ok-seen.ensures.passed);
     }
 
-pub returns-else-may_come : goal.returns-else-may_come
-returns-else-may_come c =
+pub returns-in-Polls : goal.returns-in-Polls
+returns-in-Polls c =
     let p : Population = c.args.population.now in
     let b = c.args.bounds.now in
     let n = c.args.name.now in
@@ -98,11 +117,15 @@ returns-else-may_come c =
     let is : found_in p n ≡ Some x = sym c.in-Some.ensures.value in
     record {
       look = λ program k h.
-          let to = c.in-Sends.to in
-          let o = subst (IsOutlook (intent_in k n)) c.in-Sends.is (intended p k n x c.in_ok-seen.seen.outlook h.population is c.in_ok-seen.ensures.outlook) in
-          let round = sym (c.may_come.ensures k h.population (target_there program k n to h.reached o)) ∙ c.if-may_come.false in
-          held_rests (lists_within b) (count_within b) program k n to h.reached o round;
-      passed = λ k h. seen_passed p k n x c.in_ok-seen.seen.passed h is c.in_ok-seen.ensures.passed;
+          let s = found_stands p k n x h.population is in
+          let count = c.count.ensures.count s.0 (requests_of k n) s.2 in
+          let below : s.0.reductions < count_within b n = omega (arith, c.if-count.false, count, c.count-2.ensures.count) in
+          let o = subst (IsOutlook n (intent_in k n)) c.in-Polls.is (intended p k n x c.in_ok-seen.seen.outlook h.population is c.in_ok-seen.ensures.outlook) in
+          let turn = c.may_poll-may.ensures k h.population (ap is_some s.1) in
+          by_turn (lists_within b) (count_within b) k n n c.may_poll-may.result c.in_turn-in-Polls.result.look c.in_turn-in-Polls.ensures.look
+          (λ e. polls_now (lists_within b) (count_within b) k n s.0 s.1 below o (sym turn ∙ e))
+          (λ e. poll_rests (lists_within b) (count_within b) k n s.0 s.1 o (sym turn ∙ e));
+      passed = λ k h. subst (HasPassedIn k n) (sym c.in_turn-in-Polls.ensures.passed) (seen_passed p k n x c.in_ok-seen.seen.passed h is c.in_ok-seen.ensures.passed);
     }
 
 pub returns-in-Awaits : goal.returns-in-Awaits
@@ -115,7 +138,7 @@ returns-in-Awaits c =
     record {
       look = λ program k h.
           let f = c.in-Awaits.future in
-          awaits_rests (lists_within b) (count_within b) k n (future_shape f.now) (awaits_intent _ f (subst (IsOutlook (intent_in k n)) c.in-Awaits.is (intended p k n x c.in_ok-seen.seen.outlook h.population is c.in_ok-seen.ensures.outlook)));
+          awaits_rests (lists_within b) (count_within b) k n (future_shape f.now) (awaits_intent n _ f (subst (IsOutlook n (intent_in k n)) c.in-Awaits.is (intended p k n x c.in_ok-seen.seen.outlook h.population is c.in_ok-seen.ensures.outlook)));
       passed = λ k h. seen_passed p k n x c.in_ok-seen.seen.passed h is c.in_ok-seen.ensures.passed;
     }
 
@@ -129,7 +152,7 @@ returns-in-Faulted c =
     record {
       look = λ program k h.
           let y = c.in-Faulted.field-0 in
-          done_leaves (lists_within b) (count_within b) k n (Faulted (fault_shape y)) (faulted_intent _ y (subst (IsOutlook (intent_in k n)) c.in-Faulted.is (intended p k n x c.in_ok-seen.seen.outlook h.population is c.in_ok-seen.ensures.outlook))) (λ f e. cc) (λ e. cc);
+          done_leaves (lists_within b) (count_within b) k n (Faulted (fault_shape y)) (faulted_intent n _ y (subst (IsOutlook n (intent_in k n)) c.in-Faulted.is (intended p k n x c.in_ok-seen.seen.outlook h.population is c.in_ok-seen.ensures.outlook))) (λ f e. cc) (λ e. cc);
       passed = λ k h. seen_passed p k n x c.in_ok-seen.seen.passed h is c.in_ok-seen.ensures.passed;
     }
 
@@ -142,7 +165,7 @@ returns-in-Serving c =
     let is : found_in p n ≡ Some x = sym c.in-Some.ensures.value in
     record {
       look = λ program k h.
-          serves_rests (lists_within b) (count_within b) k n (serving_intent _ (subst (IsOutlook (intent_in k n)) c.in-Serving.is (intended p k n x c.in_ok-seen.seen.outlook h.population is c.in_ok-seen.ensures.outlook)));
+          serves_rests (lists_within b) (count_within b) k n (serving_intent n _ (subst (IsOutlook n (intent_in k n)) c.in-Serving.is (intended p k n x c.in_ok-seen.seen.outlook h.population is c.in_ok-seen.ensures.outlook)));
       passed = λ k h. seen_passed p k n x c.in_ok-seen.seen.passed h is c.in_ok-seen.ensures.passed;
     }
 
@@ -155,6 +178,6 @@ returns-in-Done c =
     let is : found_in p n ≡ Some x = sym c.in-Some.ensures.value in
     record {
       look = λ program k h.
-          done_leaves (lists_within b) (count_within b) k n Done (done_intent _ (subst (IsOutlook (intent_in k n)) c.in-Done.is (intended p k n x c.in_ok-seen.seen.outlook h.population is c.in_ok-seen.ensures.outlook))) (λ f e. cc) (λ e. cc);
+          done_leaves (lists_within b) (count_within b) k n Done (done_intent n _ (subst (IsOutlook n (intent_in k n)) c.in-Done.is (intended p k n x c.in_ok-seen.seen.outlook h.population is c.in_ok-seen.ensures.outlook))) (λ f e. cc) (λ e. cc);
       passed = λ k h. seen_passed p k n x c.in_ok-seen.seen.passed h is c.in_ok-seen.ensures.passed;
     }

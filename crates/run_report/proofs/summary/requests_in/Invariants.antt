@@ -6,5 +6,5 @@ use Rattle.run_report.proofs.summary.requests_in.Given as goal
 abbrev pub invariant-loop-activity : goal.invariant-loop-activity
 invariant-loop-activity l = record {
   sum : l.sum ≡ requests_in (map activity_shape (take l.activity-index l.activities));
-  within : l.sum ≤ l.activity-index * 2 ^ 63;
+  within : l.sum ≤ l.activity-index * 2 ^ 64;
 }

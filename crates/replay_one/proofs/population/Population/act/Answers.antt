@@ -3,11 +3,11 @@ use Rattle.std.specs.Global.{Box}
 use Rattle.asp_model.specs.Configuration.{requests_of}
 use Rattle.future_table.specs.Values.{AreOfCode}
 use Rattle.step_activity.specs.declared.actor.Actor.{Actor}
-use Rattle.step_activity.specs.Actors.{IsClosedFor, Stands, code_of}
+use Rattle.step_activity.specs.Actors.{IsClosedFor, Stands, code_of, log_in}
 use Rattle.step_activity.specs.Effects.{IsDoneBy, IsGivenOf}
 use Rattle.replay_one.specs.declared.population.Population.{Population}
 use Rattle.replay_one.specs.Population.{found_in}
-use Rattle.replay_one.proofs.PopulationLemmas.{acts_as, actor_closed, changed, if_ok_both, in_box, no_box, nobody_acts, values_closed, values_coded}
+use Rattle.replay_one.proofs.PopulationLemmas.{acts_as, actor_closed, given_there, if_ok_all, in_box, no_box, nobody_acts, values_closed, values_coded}
 use Rattle.replay_one.proofs.population.Population.act.Goals as goal
 
 pub act-requires-clause-closed : goal.act-requires-clause-closed
@@ -38,10 +38,11 @@ returns-in-Some c =
       acts = λ k e h intends.
           let t = acts_as p k n e x.value h is intends in
           let code : code_of c.as_mut.result.now ≡ h.code = ap code_of was ∙ h.actors n x.value is in
-          if_ok_both c.act.result _ _ _ (λ g done given.
-          let d = subst (λ q. IsDoneBy q (requests_of k n) new.value g) t.2 done in
-          let q = changed p (record p { activities = c.get_mut.follows.lender new }) k n new e.own h updates refl d.0 (c.act.ensures.code ∙ code) in
-          (d.1, record { population = q.0; coded = subst (λ j. IsGivenOf j g) (code ∙ sym q.1) given })) (c.act.ensures.acts t.0 (requests_of k n) (subst (λ y. Stands y t.0 (requests_of k n)) (sym was) t.1)) c.act.ensures.given;
+          if_ok_all c.act.result _ _ _ _ (λ g done given noted.
+          let d = subst (λ q. IsDoneBy n q (requests_of k n) new.value g) t.2 done in
+          let log = ap log_in was ∙ h.logs n x.value is in
+          let q = given_there p (record p { activities = c.get_mut.follows.lender new }) k n new e.own g (log_in c.as_mut.result.now) h updates refl d.0 log noted (c.act.ensures.code ∙ code) in
+          (d.1, record { population = q.0; coded = subst (λ j. IsGivenOf j g) (code ∙ sym q.1) given })) (c.act.ensures.acts t.0 (requests_of k n) (subst (λ y. Stands y t.0 (requests_of k n)) (sym was) t.1)) c.act.ensures.given c.act.ensures.log;
       passed = refl;
     }
 

@@ -2,7 +2,7 @@ use Rattle.std.proofs.Common.{◌≡◌, ◌∙◌, ◌≤◌, ◌-◌, Some, is
 use Rattle.std.specs.Global.{Box}
 use Rattle.asp_model.specs.Configuration.{requests_of}
 use Rattle.step_activity.specs.declared.actor.Actor.{Actor}
-use Rattle.step_activity.specs.Actors.{Stands, code_of}
+use Rattle.step_activity.specs.Actors.{Stands, code_of, log_in}
 use Rattle.step_activity.specs.Running.{IsRunBy}
 use Rattle.replay_one.specs.declared.population.Population.{Population}
 use Rattle.replay_one.specs.Population.{IsRunIn, found_in}
@@ -33,7 +33,7 @@ returns-in-Some c =
             run = r.run;
             within = omega (arith, fits);
             below = omega (arith, fits);
-            population = (changed p q k n new r.end h updates refl r.stands (c.run.ensures.code ∙ ap code_of was ∙ h.actors n x.value is)).0;
+            population = (changed p q k n new r.end h updates refl r.stands (c.run.ensures.log ∙ ap log_in was ∙ h.logs n x.value is) (c.run.ensures.code ∙ ap code_of was ∙ h.actors n x.value is)).0;
           })) (c.run.ensures.runs s.0 (requests_of k n) stands);
       passed = refl;
     }

@@ -8,9 +8,9 @@ use Rattle.law_schedules.specs.Schedules.{IsNextIn}
 use Rattle.replay_one.specs.declared.population.Population.{Population}
 use Rattle.replay_one.specs.declared.schedule.Schedule.{Schedule}
 use Rattle.replay_one.specs.Bounds.{lists_within}
-use Rattle.replay_one.specs.Population.{AreActorsOf, IsGiving, IsPopulation, with_activity, with_request}
+use Rattle.replay_one.specs.Population.{AreActorsOf, IsGiving, IsPopulation, with_activity, with_poll, with_request}
 use Rattle.replay_one.specs.Schedule.{IsMoreReady, ready_in, sends_in}
-use Rattle.replay_one.proofs.GiveLemmas.{filled_handed, filled_is, filled_new, filled_root, made_alone, made_given, made_handed, made_population, nothing_handed, nothing_population, sent_handed, sent_is, sent_there}
+use Rattle.replay_one.proofs.GiveLemmas.{filled_handed, filled_is, filled_new, filled_root, made_alone, made_given, made_handed, made_population, made_unlogged, nothing_handed, nothing_population, polled_handed, polled_is, polled_there, sent_handed, sent_is, sent_there}
 use Rattle.replay_one.proofs.PopulationLemmas.{any_way, on_ok}
 use Rattle.replay_one.proofs.round.Machine.give.Goals as goal
 
@@ -40,7 +40,7 @@ returns-in_ok-wake-in-Made c =
       population = λ program k e h.
           let g : IsGiving p n (given.Made m x) program k e = subst (λ g. IsGiving p n g program k e) c.in-Made.is h in
           let b = made_given p n program k e m x g in
-          on_ok c.insert.result _ _ (made_population p n program k e q m x g) (c.insert.ensures.made (with_activity n e.own k) b.0 g.here.population (made_alone p n program k e m x g) b.2 g.here.coded);
+          on_ok c.insert.result _ _ (made_population p n program k e q m x g) (c.insert.ensures.made (with_activity n e.own k) b.0 g.here.population (made_alone p n program k e m x g) (made_unlogged p n program k e m x g) b.2 b.3 g.here.coded);
       handed_on = λ program k e h. any_way c.insert.result _ (made_handed p n program k e (lists_within c.args.bounds.now) c.args.self.now.schedule c.wake.new.self m x (subst (λ g. IsGiving p n g program k e) c.in-Made.is h) c.in_ok-wake-in-Made.ensures.more woken);
       passed = c.insert.ensures.passed;
     }
@@ -104,4 +104,27 @@ returns-in_ok-wake_noted-in-Filled c =
           on_ok c.fill.result _ _ (subst (IsPopulation q) (filled_is p n program k e f v g)) (c.fill.ensures.filled (with_activity n e.own k) g.here.population g.here.coded);
       handed_on = λ program k e h. any_way c.fill.result _ (filled_handed p n program k e (lists_within c.args.bounds.now) c.args.self.now.schedule c.wake_noted.new.self f v (subst (λ g. IsGiving p n g program k e) c.in-Filled.is h) c.in_ok-wake_noted-in-Filled.ensures.more c.in_ok-wake_noted-in-Filled.ensures.ready);
       passed = c.fill.ensures.passed;
+    }
+
+pub returns-in-Polled : goal.returns-in-Polled
+returns-in-Polled c =
+    let p : Population = c.args.self.now.population in
+    let n = c.args.name.now in
+    let lists = lists_within c.args.bounds.now in
+    let s : Schedule = c.args.self.now.schedule in
+    let t : Schedule = c.wake_next-in-Polled.new.schedule in
+    record {
+      population = λ program k e h.
+          let g : IsGiving p n given.Polled program k e = subst (λ g. IsGiving p n g program k e) c.in-Polled.is h in
+          any_way c.wake_next-in-Polled.result _ (subst (IsPopulation p) (polled_is p n program k e g) g.here.population);
+      handed_on = λ program k e h.
+          let g : IsGiving p n given.Polled program k e = subst (λ g. IsGiving p n g program k e) c.in-Polled.is h in
+          let d : Configuration = with_poll n given.Polled (with_activity n e.own k) in
+          let there = polled_there p n program k e g in
+          let next : (m : Name) → IsNextIn lists (with_effect n e k) n m → sends_in s m n ≡ true → OnOk c.wake_next-in-Polled.result (ready_in t m ≡ true) =
+          λ m i. c.wake_next-in-Polled.ensures.next d m g.here.population there (subst (λ c'. IsNextIn lists c' n m) (sym (polled_is p n program k e g)) i) in
+          handed_by c.wake_next-in-Polled.result (IsMoreReady s None t) (λ m. IsNextIn lists (with_effect n e k) n m × (sends_in s m n ≡ true)) (λ m. ready_in t m ≡ true) _
+          (λ more woken. polled_handed p n program k e lists s t g more (λ m i a. woken m (i, a)))
+          c.wake_next-in-Polled.ensures.more (λ m x. next m x.0 x.1);
+      passed = refl;
     }

@@ -1,0 +1,8 @@
+use Rattle.std.proofs.Common.{◌≡◌, map}
+use Rattle.asp_model.specs.ReportLines.{reception_in, all_found}
+use Rattle.asp_model.specs.Shapes.{reception_shape}
+use Rattle.sender_log.proofs.FoundLemmas.{found_from}
+use Rattle.sender_log.proofs.lines.receptions_in.Given as goal
+
+abbrev pub invariant-loop-word : goal.invariant-loop-word
+invariant-loop-word l = all_found (reception_in l.polls) (map (λ w. w.now) l.words) ≡ found_from (reception_in l.polls) (map reception_shape l.log.items) l.words l.word-index
