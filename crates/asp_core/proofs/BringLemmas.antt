@@ -3,7 +3,7 @@ use Rattle.std.proofs.Common.{◌≡◌, ◌∙◌, ◌-◌, [], ℕ, zero, suc,
 use Rattle.std.proofs.lemmas.List.{append-nil}
 use Rattle.asp_model.specs.Chase.{chase}
 use Rattle.asp_model.specs.Configuration.{Activity, Configuration, requests_of}
-use Rattle.asp_model.specs.History.{Committed, HistoryShape}
+use Rattle.asp_model.specs.History.{Committed, HistoryShape, with_entry}
 use Rattle.asp_model.specs.Intent.{Effect, Intent, intent}
 use Rattle.asp_model.specs.Names.{FutureShape, Name, name_cmp}
 use Rattle.asp_model.specs.Step.{with_effect}
@@ -23,7 +23,6 @@ use Rattle.core_edges.specs.Strategies.{KeepsEdges}
 use Rattle.law_core.specs.Commits.{HasRun, made_by, returned, with_activity}
 use Rattle.law_core.proofs.EventLemmas.{acts_are_events, runs_are_silent}
 use Rattle.core_state.specs.declared.state.CoreState.{CoreState}
-use Rattle.core_state.specs.Cores.{with_entry}
 use Rattle.core_state.specs.Arrivals.{act_at}
 use Rattle.core_state.specs.Commits.{act_by, act_of, act_within}
 use Rattle.asp_core.specs.Bringing.{IsBroughtBack, IsCome, IsComeBy}

@@ -10,7 +10,7 @@ use Rattle.def_journals.specs.Edges.{Begins, Delivers, EdgeShape, Event, Fills, 
 use Rattle.law_journals.specs.EdgesKept.{IsKnownEdge}
 use Rattle.def_journals.specs.Journals.{RunShape, grant_of, is_in}
 use Rattle.def_journals.specs.Owed.{first_edge, first_need, goes_on, is_any, need_delivery, need_to, next_owed, or_else}
-use Rattle.def_journals.specs.Passing.{entry_events}
+use Rattle.def_journals.specs.Passing.{entry_events, holders_of}
 use Rattle.law_chases.proofs.FutureLemmas.{no_some, none_true, some_is}
 use Rattle.law_steps.specs.Linked.{Each}
 use Rattle.law_steps.proofs.EachLemmas.{each_both, each_weaker}
@@ -23,7 +23,6 @@ use Rattle.asp_core.specs.declared.cores.Core.{Core}
 use Rattle.asp_core.specs.Calls.{HasEntered, verdict_of}
 use Rattle.asp_core.specs.Chosen.{AlwaysLeaves, AreChosen, ChosenAreDelivered, DeliversChosen, IsAlongNoEdge, IsChosen, IsChosenDelivery, IsChosenEntry, LazyDeliversNothing, StaysChosen}
 use Rattle.asp_core.specs.Cores.{IsRun, code_of, entries_of, history_of}
-use Rattle.asp_core.specs.Runs.{holders_left}
 use Rattle.law_core.proofs.OwedLemmas.{in_named}
 use Rattle.asp_core.proofs.DueLemmas.{each_got}
 use Rattle.asp_core.proofs.EndLemmas.{home}
@@ -228,7 +227,7 @@ module _ {P : Type 0} where
       let cs = x.edges.holders.answers in
       let g = history_of x in
       let after : new.edges.holders.holders ≡ after_events (entry_events e s) h =
-      then.stand.edges.holders ∙ ap holders_left entered ∙ holders_go_on g.program g.budget g.entries e s run.stand.core.run
+      then.stand.edges.holders ∙ ap holders_of entered ∙ holders_go_on g e s run.stand.core.run
       ∙ ap (after_events (entry_events e s)) (sym run.stand.edges.holders) in
       let all = one_more h (after_events (entry_events e s) h) (all_grown (entry_events e s) h) cs more (entries_of x) e is are in
       subst (λ es. AreChosen es new.edges.holders.holders new.edges.holders.answers) (sym (ap (λ (q : _). q.entries) entered))

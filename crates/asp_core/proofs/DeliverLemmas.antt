@@ -64,7 +64,7 @@ module _ (h : HistoryShape) (code : List Node) (s : RunShape) (x : CoreState) (v
     edges = known h code s x v st;
     filled = λ f is.
         sym ((subst (λ q. (g : FutureShape) → has_filled g q.filled ≡ is_some (find future_cmp g s.configuration.futures)) (sym st.edges.holders)
-        (holders_are_of_runs h.program h.budget h.entries s st.core.run).filled) f) ∙ is;
+        (holders_are_of_runs h s st.core.first.sound st.core.run).filled) f) ∙ is;
   }
 
   abbrev pub owed : Option DeliveryShape

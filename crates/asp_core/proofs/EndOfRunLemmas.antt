@@ -9,22 +9,21 @@ use Rattle.std.specs.Option.{option_map}
 use Rattle.std.specs.Ordering.{is_eq}
 use Rattle.std.proofs.lemmas.Map.{update_all_push, update_other, update_same}
 use Rattle.asp_model.specs.Configuration as model
-use Rattle.asp_model.specs.Configuration.{Configuration, RequestShape, requests_of}
-use Rattle.asp_model.specs.History.{HistoryShape}
+use Rattle.asp_model.specs.Configuration.{Configuration, RequestShape, log_of, requests_of}
+use Rattle.asp_model.specs.History.{HistoryShape, program_history}
 use Rattle.asp_model.specs.Names.{Name, name_cmp, same_name}
 use Rattle.asp_model.specs.Step.{name_at}
-use Rattle.def_journals.specs.Journals.{RunShape, grant_of}
+use Rattle.def_journals.specs.Journals.{RunShape, grant_of, run_of}
 use Rattle.law_journals.proofs.JournalLemmas.{journals_reach}
 use Rattle.law_steps.proofs.NameLemmas.{name_total, names_apart}
 use Rattle.law_chases.proofs.FutureLemmas.{no_some, some_is, true_false}
 use Rattle.law_journals.specs.Numbered.{AreNumbered}
-use Rattle.law_journals.proofs.NumberLemmas.{journals_are_numbered}
 use Rattle.code_table.specs.declared.code.Node.{Node}
 use Rattle.request_queue.specs.declared.request.Request.{Request}
 use Rattle.core_seats.specs.declared.seats.Seats.{Seats}
 use Rattle.core_seats.specs.Seats.{AreSeats, In, IsTaken, Out, SeatShape, names_in, seat_at, seats_in}
 use Rattle.step_activity.specs.declared.actor.Actor.{Actor}
-use Rattle.step_activity.specs.Actors.{Stands, code_of}
+use Rattle.step_activity.specs.Actors.{Stands, code_of, log_in}
 use Rattle.core_state.specs.declared.state.CoreState.{CoreState}
 use Rattle.core_state.specs.Cores.{IsCore}
 use Rattle.core_state.proofs.LendLemmas.{is_here}
@@ -96,7 +95,7 @@ module _ (h : HistoryShape) (code : List Node) (x : CoreState) (s : RunShape) (h
   core = home.core
 
   numbered : AreNumbered s
-  numbered = journals_are_numbered h.program h.budget h.entries s core.run
+  numbered = core.numbered
 
   named_so : (k : ℕ) (n : Name) → slice_get (names_in x.seats) k ≡ Some n → name_at s.names k ≡ Some n
   named_so k n at = ap (λ ns. name_at ns k) (sym core.populated.names) ∙ name_got (names_in x.seats) k ∙ at
@@ -112,6 +111,7 @@ module _ (h : HistoryShape) (code : List Node) (x : CoreState) (s : RunShape) (h
       pub actor : Actor
       pub found : actor_at m.entries n ≡ Some actor
       pub stands : Stands actor a (requests_of c n)
+      pub logged : log_in actor ≡ log_of c n
       pub coded : code_of actor ≡ code
 
     somebody : (n : Name) (a : model.Activity) → find name_cmp n c.activities ≡ Some a → IsFoundAt n a
@@ -123,6 +123,7 @@ module _ (h : HistoryShape) (code : List Node) (x : CoreState) (s : RunShape) (h
           actor = here.0;
           found = all.here k.0 n here.0 (got_within (seats_in x.seats) k.0 (In here.0) here.1) named here.1;
           stands = subst (λ b. Stands here.0 b (requests_of c n)) (some_is (sym here.2.there ∙ at)) here.2.stands;
+          logged = here.2.logged;
           coded = here.2.coded;
         }
 
@@ -137,15 +138,24 @@ module _ (h : HistoryShape) (code : List Node) (x : CoreState) (s : RunShape) (h
     coded_by n y is None at = no_some (sym (nobody n at) ∙ is)
     coded_by n y is (Some a) at = let f = somebody n a at in ap code_of (some_is (sym is ∙ f.found)) ∙ f.coded
 
+    logged_by : (n : Name) (y : Actor) → actor_at m.entries n ≡ Some y → (o : Option model.Activity) → find name_cmp n c.activities ≡ o → log_in y ≡ log_of c n
+    logged_by n y is None at = no_some (sym (nobody n at) ∙ is)
+    logged_by n y is (Some a) at = let f = somebody n a at in ap log_in (some_is (sym is ∙ f.found)) ∙ f.logged
+
+    -- its run is that of a program
+    run_started : run_of (program_history h.program h.budget h.entries) ≡ Some s
+    run_started = subst (λ x. run_of (record h { first = x }) ≡ Some s) home.start core.run
+
     pub reached_home : StandForReached m.entries x.futures h.program c
     reached_home = record {
-      bare = core.bare;
-      reached = journals_reach h.program h.budget h.entries s core.run;
+      bare = home.bare;
+      reached = journals_reach h.program h.budget h.entries s run_started;
       population = record {
         activities = λ n. stands_by n (find name_cmp n c.activities) refl;
         futures = core.populated.futures;
         code = code;
         actors = λ n y is. coded_by n y is (find name_cmp n c.activities) refl;
+        logs = λ n y is. logged_by n y is (find name_cmp n c.activities) refl;
         values = core.populated.values;
       };
     }

@@ -72,7 +72,7 @@ module _ {P : Type 0} (x : Core P) (s : RunShape) (run : IsRun x s) where
   seated_out k n grant (Some (In a)) out is = no_some (sym is.free ∙ out)
   seated_out k n grant (Some (Out came)) out is =
       let h = history_of x in
-      (is.burst, (leases_are_one h.program h.budget h.entries k is.burst is.burst is.run is.run is.lent is.lent).0)
+      (is.burst, (leases_are_one h k is.burst is.burst is.run is.run is.lent is.lent).0)
   seated_out k n grant None out is = absurd is
 
   pub out_by : (k grant : ℕ) → grant_of k s.out ≡ Some grant → (burst : ℕ) × (burst_out k (entries_of x) ≡ Some burst)

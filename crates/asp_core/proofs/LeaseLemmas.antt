@@ -29,7 +29,7 @@ use Rattle.asp_core.proofs.LendLemmas.{met_within}
 
 module _ (h : HistoryShape) (code : List Node) (s : RunShape) (x : CoreState) (v : HoldersView) (st : Stand h code s x v) (l : Lease) (is : IsLease h code l) where
   lease_named : name_at s.names l.number ≡ Some is.name
-  lease_named = (leases_stay h.program h.budget h.entries l.number l.burst is.name is.run s is.lent is.named st.core.run).named
+  lease_named = (leases_stay h l.number l.burst is.name is.run s st.core.first is.lent is.named st.core.run).named
 
   -- one that does a communication yet intends it
   abbrev pub lease_acting : (z : CoreState) (a : Actor) (reductions : ℕ) → (suc l.taken < 2 ^ 64 → reductions ≡ suc l.taken) → (r : IsArrived h code z s l.number is.name l.grant l.taken (Some a))

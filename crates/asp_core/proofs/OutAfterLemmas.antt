@@ -5,11 +5,8 @@ use Rattle.asp_model.specs.History.{Committed, Delivered, DeliveryShape, Edge, E
 use Rattle.asp_model.specs.Names.{Name}
 use Rattle.def_journals.specs.Journals.{RunShape, back, committed, delivered, entered, grant_of, granted, out_but, over, reduced, run_of}
 use Rattle.law_chases.proofs.FutureLemmas.{no_some, some_is}
-use Rattle.law_steps.proofs.WholeLemmas.{reached_are_sound}
-use Rattle.law_journals.proofs.JournalLemmas.{journals_reach}
 use Rattle.law_journals.specs.Entered.{with_lease}
 use Rattle.law_journals.proofs.GrowingLemmas.{entries_go_on}
-use Rattle.law_journals.proofs.NumberLemmas.{journals_are_numbered}
 use Rattle.law_core.proofs.VerdictLemmas.{verdicts_are_told}
 use Rattle.core_state.specs.declared.lease.Lease.{Lease}
 use Rattle.core_state.specs.Leases.{IsLease}
@@ -28,7 +25,7 @@ within_out : (s t : RunShape) (k r : ℕ) (n : Name) (grant : ℕ) (b : Bool) �
 within_out s t k r n grant true e = back_out s t k (grant - r) (reduced r n s.configuration) e
 within_out s t k r n grant false e = no_some e
 
-committed_out : (s t : RunShape) (k r : ℕ) (n : Option Name) (grant : Option ℕ) → committed k r s n grant ≡ Some t → t.out ≡ out_but k s.out
+pub committed_out : (s t : RunShape) (k r : ℕ) (n : Option Name) (grant : Option ℕ) → committed k r s n grant ≡ Some t → t.out ≡ out_but k s.out
 committed_out s t k r None grant e = no_some e
 committed_out s t k r (Some n) None e = no_some e
 committed_out s t k r (Some n) (Some grant) e = within_out s t k r n grant (nat_le r grant) e
@@ -38,7 +35,7 @@ over_out s t true None e = no_some e
 over_out s t true (Some d) e = ap (λ (r : RunShape). r.out) (sym (some_is e))
 over_out s t false o e = no_some e
 
-delivered_out : (d : DeliveryShape) (s t : RunShape) → delivered d s ≡ Some t → t.out ≡ s.out
+pub delivered_out : (d : DeliveryShape) (s t : RunShape) → delivered d s ≡ Some t → t.out ≡ s.out
 delivered_out (Edge f from to) s t e = over_out s t _ _ e
 delivered_out (Need f to place) s t e = over_out s t _ _ e
 
@@ -60,11 +57,11 @@ module _ {P : Type 0} where
   runs_are_one x s t a b = some_is (sym a.stand.core.run ∙ b.stand.core.run)
 
   -- the run of a core whose journal has one entry more
-  entry_run : (x y : Core P) (e : EntryShape) (s t : RunShape) → IsRun x s → IsRun y t → HasEntered x e y → entered e s ≡ Some t
+  pub entry_run : (x y : Core P) (e : EntryShape) (s t : RunShape) → IsRun x s → IsRun y t → HasEntered x e y → entered e s ≡ Some t
   entry_run x y e s t is then more =
       let h : HistoryShape = history_of x in
-      sym (entries_go_on h.program h.budget h.entries e s is.stand.core.run)
-      ∙ ap (λ (k : HistoryShape). run_of k.program k.budget k.entries) (sym more) ∙ then.stand.core.run
+      sym (entries_go_on h e s is.stand.core.run)
+      ∙ ap run_of (sym more) ∙ then.stand.core.run
 
   -- Each run of a core comes from a run of an earlier one, and these are out then
   abbrev pub ComesFrom : (old new : Core P) → (RunShape → List (ℕ × ℕ)) → Type 0
@@ -116,8 +113,6 @@ module _ {P : Type 0} where
     where
       told : (s : RunShape) → IsRun x s → is_some (verdict_of x s) ≡ true
       told s is =
-          let h : HistoryShape = history_of x in
-          let run = is.stand.core.run in
-          let sound = reached_are_sound h.program s.configuration (journals_reach h.program h.budget h.entries s run) in
-          ap is_some (verdicts_are_told s x.edges.holders.holders x.edges.holders.answers sound (journals_are_numbered h.program h.budget h.entries s run)
+          let core = is.stand.core in
+          ap is_some (verdicts_are_told s x.edges.holders.holders x.edges.holders.answers core.whole.sound core.numbered
           (record { back = home s is; owed = still.owed s is; ready = still.ready s is }))

@@ -1,13 +1,14 @@
--- Histories that begin with others, and the end of a run.
-use Rattle.std.proofs.Common.{◌≡◌, ◌∙◌, ◌++◌, [], ℕ, Bool, true, false, List, Option, Some, Result, Ok, Err, OnOk, OnErr, IfOk, refl, sym, ap, subst}
+-- Leases that ran, what is owed, and the end of a run.
+use Rattle.std.proofs.Common.{arith, ◌+◌, ◌≡◌, ◌∙◌, [], ℕ, Bool, true, false, List, Option, Some, Result, Ok, Err, OnOk, OnErr, IfOk, refl, sym, ap, subst}
 use Rattle.std.proofs.lemmas.Bool.{true≢false}
-use Rattle.std.proofs.lemmas.List.{append-nil, append_assoc}
 use Rattle.std.specs.Option.{IfSome}
-use Rattle.asp_model.specs.History.{BeginsWith, HistoryShape}
+use Rattle.asp_model.specs.History.{BeginsWith, HistoryShape, program_history}
 use Rattle.asp_model.specs.Outcome.{outcome_of}
+use Rattle.asp_model.proofs.HistoryLemmas.{begins_with_earlier, begins_with_itself}
 use Rattle.asp_model.specs.declared.journal.Delivery.{Delivery}
 use Rattle.asp_model.specs.Shapes.{delivery_shape, outcome_shape}
 use Rattle.asp_model.specs.Term.{Tree}
+use Rattle.law_core.specs.Outcomes.{IsBudgeted}
 use Rattle.def_journals.specs.Edges.{HoldersShape}
 use Rattle.def_journals.specs.Journals.{RunShape}
 use Rattle.law_steps.proofs.NameLemmas.{is_there}
@@ -16,7 +17,6 @@ use Rattle.run_ends.specs.declared.ends.RunEnd.{RunEnd}
 use Rattle.run_ends.specs.Ends.{IsEndOf}
 use Rattle.law_core.proofs.OutcomeLemmas.{journals_end, verdicts_spend}
 use Rattle.core_state.specs.declared.lease.Lease.{Lease}
-use Rattle.core_state.specs.Cores.{history_begun}
 use Rattle.core_state.specs.Leases.{HasStopped}
 use Rattle.code_table.specs.declared.code.Node.{Node}
 use Rattle.update_policy.specs.declared.plan.Plan.{Plan}
@@ -34,21 +34,6 @@ use Rattle.asp_core.specs.Stopping.{HasStoppedOr, StaysStopped}
 use Rattle.asp_core.proofs.ChosenLemmas.{lazy_delivers_nothing, over_delivered}
 use Rattle.asp_core.specs.Over.{IsOver}
 use Rattle.asp_core.specs.PlannedEnds.{IsEndAsChosen, IsEndAsPlanned, IsEndByPlan}
-
--- Histories
-
-pub begins_itself : (h : HistoryShape) → BeginsWith h h
-begins_itself h = (refl, refl, ([], sym (append-nil h.entries)))
-
-pub begins_same : (h k : HistoryShape) → k ≡ h → BeginsWith k h
-begins_same h k same = subst (λ q. BeginsWith q h) (sym same) (begins_itself h)
-
-pub begins_then : (a b c : HistoryShape) → BeginsWith b a → BeginsWith c b → BeginsWith c a
-begins_then a b c first then = (
-  then.0 ∙ first.0,
-  then.1 ∙ first.1,
-  (first.2.0 ++ then.2.0, then.2.1 ∙ ap (λ xs. xs ++ then.2.0) first.2.1 ∙ append_assoc a.entries first.2.0 then.2.0),
-)
 
 -- Leases
 
@@ -74,14 +59,16 @@ module _ {P : Type 0} where
   run_ended x s over r is end outcome =
       let v = is_there (verdict_of x s) (over.told s is) in
       let h : HistoryShape = history_of x in
+      -- nothing is spent where a program begins
+      let no_more_spent : 0 + x.budget ≡ x.budget = omega arith in
       record {
         journal = h.entries;
         run = s;
         lawful = is.stand.core.run;
         end = end;
         outcome = outcome;
-        replayed = journals_end h.program h.budget h.entries s is.stand.core.bare is.stand.core.run;
-        budgeted = (verdicts_spend h.program h.budget h.entries s x.edges.holders.holders x.edges.holders.answers v.0 is.stand.core.run v.1).1;
+        replayed = journals_end h.program h.budget h.entries s is.bare is.stand.core.run;
+        budgeted = subst (λ b. IsBudgeted b (outcome_of s.configuration)) no_more_spent (verdicts_spend h s x.edges.holders.holders x.edges.holders.answers v.0 is.stand.core.first.sound is.stand.core.run v.1).1;
       }
 
   pub lent_as : (x y : Core P) (s : RunShape) (k : ℕ) (o : Option Lease) (l : Lease) → o ≡ Some l → IsLentBy x s k o y → IsLentBy x s k (Some l) y
@@ -107,14 +94,14 @@ module _ {P : Type 0} where
 
   module _ (answers : Answering P) (counts : Counting P) where
     pub going_first : (x : Core P) → IsKept x → IsHome x → IsGoing answers counts x x
-    going_first x kept home = record { kept = kept; home = home; begins = begins_itself (history_of x); code = refl; by_plan = λ plan policies is. is; chosen = λ is. is; stopped = λ is. is }
+    going_first x kept home = record { kept = kept; home = home; begins = begins_with_itself (history_of x); code = refl; by_plan = λ plan policies is. is; chosen = λ is. is; stopped = λ is. is }
 
     pub going_on : (x y z : Core P) → IsGoing answers counts x y → IsKept z → IsHome z → BeginsWith (history_of z) (history_of y) → code_of z ≡ code_of y → StayByPlan answers counts y.edges z.edges
         → StaysChosen y z → StaysStopped (history_of y) (history_of z) → IsGoing answers counts x z
     going_on x y z going kept home begins code stay chosen stopped = record {
       kept = kept;
       home = home;
-      begins = begins_then (history_of x) (history_of y) (history_of z) going.begins begins;
+      begins = begins_with_earlier (history_of z) (history_of y) (history_of x) begins going.begins;
       code = code ∙ going.code;
       by_plan = λ plan policies is. stay plan policies (going.by_plan plan policies is);
       chosen = λ is. chosen (going.chosen is);
@@ -171,8 +158,8 @@ on_ok (Ok a) x = x
 on_ok (Err e) x = tt
 
 -- with the program and the budget of another history
-pub ended_as : {E : Type 0} (Q : Tree → ℕ → RunEnd → Type 0) (r : Result RunEnd E) (h k : HistoryShape) (program : Tree) (budget : ℕ) → BeginsWith h k → k ≡ history_begun program budget → IfOk r (Q h.program h.budget) → IfOk r (Q program budget)
+pub ended_as : {E : Type 0} (Q : Tree → ℕ → RunEnd → Type 0) (r : Result RunEnd E) (h k : HistoryShape) (program : Tree) (budget : ℕ) → BeginsWith h k → k ≡ program_history program budget [] → IfOk r (Q h.program h.budget) → IfOk r (Q program budget)
 ended_as Q r h k program budget begins is end =
-    let term : h.program ≡ program = begins.0 ∙ ap (λ (q : HistoryShape). q.program) is in
-    let most : h.budget ≡ budget = begins.1 ∙ ap (λ (q : HistoryShape). q.budget) is in
+    let term : h.program ≡ program = begins.program ∙ ap (λ (q : HistoryShape). q.program) is in
+    let most : h.budget ≡ budget = begins.budget ∙ ap (λ (q : HistoryShape). q.budget) is in
     subst (λ b. IfOk r (Q program b)) most (subst (λ t. IfOk r (Q t h.budget)) term end)

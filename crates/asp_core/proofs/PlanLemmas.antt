@@ -1,21 +1,19 @@
 -- Strategies stay those of labels, and answers those of the plan.
-use Rattle.std.proofs.Common.{◌≡◌, ◌∙◌, ◌++◌, ◌∷◌, ℕ, Bool, true, false, List, [], Option, Some, None, is_some, refl, sym, ap, subst}
+use Rattle.std.proofs.Common.{◌≡◌, ◌∙◌, ◌++◌, ◌∷◌, Bool, true, false, List, [], Option, Some, None, is_some, refl, sym, ap, subst}
 use Rattle.asp_model.specs.Configuration.{Configuration, RequestShape}
-use Rattle.asp_model.specs.History.{ChoiceShape, DeliveryShape, Edge, EntryShape, Need}
+use Rattle.asp_model.specs.History.{ChoiceShape, DeliveryShape, Edge, HistoryShape, Need}
 use Rattle.asp_model.specs.Names.{FutureShape, Name}
-use Rattle.asp_model.specs.Term.{Tree}
+use Rattle.law_steps.specs.Sound.{IsSound}
 use Rattle.def_journals.specs.Deliveries.{edge_delivered, need_delivered}
 use Rattle.def_journals.specs.Edges.{EdgeShape, HoldersShape, home_of, no_holders}
-use Rattle.def_journals.specs.Journals.{RunShape, delivered, over, run_of}
+use Rattle.def_journals.specs.Journals.{RunShape, delivered, first_in, over, run_of}
 use Rattle.def_journals.specs.Passing.{holders_of}
 use Rattle.law_journals.specs.EdgesKept.{IsKnownEdge}
-use Rattle.law_journals.proofs.JournalLemmas.{journals_reach}
 use Rattle.law_steps.specs.Kept.{Stands}
 use Rattle.law_steps.specs.Linked.{Each}
 use Rattle.law_steps.proofs.DeliveryLemmas.{edge_done, need_done}
 use Rattle.law_steps.proofs.EachLemmas.{each_weaker}
 use Rattle.law_chases.proofs.FutureLemmas.{no_some, none_true, some_is}
-use Rattle.law_steps.proofs.WholeLemmas.{reached_are_sound}
 use Rattle.request_queue.specs.Requests.{request_shape}
 use Rattle.step_activity.specs.declared.act.Given.{Given}
 use Rattle.step_activity.specs.declared.act.Given.TheVariants as given
@@ -75,9 +73,10 @@ module _ {P : Type 0} where
   learned_stay old new (given.Made n a) fresh learned f home = learned f
   learned_stay old new (given.Sent n r) fresh learned f home =
       let homes = old.holders.holders.homes in
-      let none = fresh.2.sent (n, request_shape r) fresh.1.0 in
+      let none = fresh.3.sent (n, request_shape r) fresh.2.0 in
       learned.others f (λ same. none_true (sym (ap is_some (ap (λ q. home_of q homes) (sym same) ∙ none)) ∙ home))
   learned_stay old new (given.Filled g p) fresh learned f home = learned f
+  learned_stay old new given.Polled fresh learned f home = learned f
 
   pub learned_keeps : (old new : Edges P) (g : Given) → IsSomeFresh old.holders.holders g → AreLearned g old new → new.plan ≡ old.plan → KeepsStrategies old new
   learned_keeps old new g fresh learned plan = record { plan = plan; strategies = learned_stay old new g fresh learned }
@@ -131,13 +130,12 @@ module _ {P : Type 0} where
     }
 
     -- edges of a run are of futures that have a home
-    at_home : (program : Tree) (budget : ℕ) (entries : List EntryShape) (s : RunShape) → run_of program budget entries ≡ Some s → (x : Edges P) → x.holders.holders ≡ holders_of program budget entries
+    at_home : (h : HistoryShape) (s : RunShape) → IsSound (first_in h).configuration → IsSound s.configuration → run_of h ≡ Some s → (x : Edges P) → x.holders.holders ≡ holders_of h
         → Each (IsKnownEdge s.configuration) x.holders.holders.edges → Each (λ (e : EdgeShape). is_some (home_of e.future x.holders.holders.homes) ≡ true) x.holders.holders.edges
-    at_home program budget entries s run x same known =
-        let sound = reached_are_sound program s.configuration (journals_reach program budget entries s run) in
-        let are = holders_are_of_runs program budget entries s run in
+    at_home h s first sound run x same known =
+        let are = holders_are_of_runs h s first run in
         each_weaker (IsKnownEdge s.configuration) (λ (e : EdgeShape). is_some (home_of e.future x.holders.holders.homes) ≡ true)
-        (λ e is. subst (λ (q : HoldersShape). is_some (home_of e.future q.homes) ≡ true) (sym same) ((homes_are_of_begun s.configuration (holders_of program budget entries) e.future sound are).0 is.0))
+        (λ e is. subst (λ (q : HoldersShape). is_some (home_of e.future q.homes) ≡ true) (sym same) ((homes_are_of_begun s.configuration (holders_of h) e.future sound are).0 is.0))
         x.holders.holders.edges known
 
     -- where edges arise, those that were there keep their answers
@@ -159,4 +157,4 @@ module _ {P : Type 0} where
         → StayByPlan answers counts x.edges new
     by_plan_on x s new run =
         let h = history_of x in
-        by_plan_so x.edges new (at_home h.program h.budget h.entries s run.stand.core.run x.edges run.stand.edges.holders (known h (code_of x) s x.state x.edges.holders run.stand))
+        by_plan_so x.edges new (at_home h s run.stand.core.first.sound run.stand.core.whole.sound run.stand.core.run x.edges run.stand.edges.holders (known h (code_of x) s x.state x.edges.holders run.stand))

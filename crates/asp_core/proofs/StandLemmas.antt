@@ -1,7 +1,7 @@
 -- One entry more: activities and edges stand for the run of the longer history.
-use Rattle.std.proofs.Common.{◌≡◌, ◌∙◌, ◌≤◌, ◌*◌, ◌-◌, ◌++◌, ◌∷◌, [], ℕ, true, false, List, is_some, length, refl, sym, ap, subst}
+use Rattle.std.proofs.Common.{◌≡◌, ◌∙◌, ◌≤◌, ◌*◌, ◌-◌, ◌++◌, ℕ, true, false, List, is_some, length, refl, sym, ap, subst}
 use Rattle.asp_model.specs.Configuration.{Configuration}
-use Rattle.asp_model.specs.History.{Committed, Delivered, DeliveryShape, EntryShape, HistoryShape, Lent}
+use Rattle.asp_model.specs.History.{Committed, Delivered, DeliveryShape, EntryShape, HistoryShape, Lent, with_entry}
 use Rattle.asp_model.specs.Names.{Name}
 use Rattle.asp_model.specs.Step.{name_at}
 use Rattle.def_journals.specs.Edges.{HoldersShape, after_events}
@@ -14,28 +14,27 @@ use Rattle.law_steps.specs.Linked.{Each}
 use Rattle.law_journals.specs.Entered.{with_lease}
 use Rattle.law_journals.specs.Numbered.{AreNumbered}
 use Rattle.law_journals.proofs.GrowingLemmas.{holders_go_on}
-use Rattle.law_journals.proofs.NumberLemmas.{journals_are_numbered}
 use Rattle.code_table.specs.declared.code.Node.{Node}
 use Rattle.future_update.specs.Holders.{HoldersView, IsTurned, is_out}
 use Rattle.law_core.specs.Commits.{returned}
 use Rattle.core_state.specs.declared.state.CoreState.{CoreState}
-use Rattle.core_state.specs.Cores.{IsCore, with_entry}
+use Rattle.core_state.specs.Cores.{IsCore}
 use Rattle.asp_core.specs.Runs.{AreToldOut, Stand, as_met}
 use Rattle.asp_core.proofs.OutLemmas.{back_told, lent_told, met_told, names_met, names_more}
 
 module _ (h : HistoryShape) (code : List Node) (s : RunShape) where
   module _ (x : CoreState) (v : HoldersView) (st : Stand h code s x v) where
     pub numbered : AreNumbered s
-    numbered = journals_are_numbered h.program h.budget h.entries s st.core.run
+    numbered = st.core.numbered
 
     pub known : Each (IsKnownEdge s.configuration) v.holders.edges
-    known = subst (λ (q : HoldersShape). Each (IsKnownEdge s.configuration) q.edges) (sym st.edges.holders) (edges_are_known h.program h.budget h.entries s st.core.run)
+    known = subst (λ (q : HoldersShape). Each (IsKnownEdge s.configuration) q.edges) (sym st.edges.holders) (edges_are_known h s st.core.first.sound st.core.run)
 
     -- no more edges than futures times ordered pairs of activities
     pub bounded : length v.holders.edges ≤ sends_in s.configuration.activities * (length s.configuration.activities * (length s.configuration.activities - 1))
     bounded =
         subst (λ (q : HoldersShape). length q.edges ≤ sends_in s.configuration.activities * (length s.configuration.activities * (length s.configuration.activities - 1)))
-        (sym st.edges.holders) (edges_are_bounded h.program h.budget h.entries s st.core.run)
+        (sym st.edges.holders) (edges_are_bounded h s st.core.first.sound st.core.run)
 
     pub goes_on : (w : HoldersView) (e : EntryShape) (t : RunShape) (y : CoreState) → IsCore (with_entry h e) code y t
         → w.holders ≡ after_events (entry_events e s) v.holders → length w.answers ≡ length w.holders.edges
@@ -43,7 +42,7 @@ module _ (h : HistoryShape) (code : List Node) (s : RunShape) where
     goes_on w e t y core holders answers names told = record {
       core = core;
       edges = record {
-        holders = holders ∙ ap (after_events (entry_events e s)) st.edges.holders ∙ sym (holders_go_on h.program h.budget h.entries e s st.core.run);
+        holders = holders ∙ ap (after_events (entry_events e s)) st.edges.holders ∙ sym (holders_go_on h e s st.core.run);
         answers = answers;
         names = names;
         out = told;
@@ -69,7 +68,7 @@ module _ (h : HistoryShape) (code : List Node) (s : RunShape) where
         → Stand (with_entry h (Committed k r)) code (returned s k rest d ms) y w
     comes_back u w y k r rest d ms core told even met turned holders answers =
         let t = returned s k rest d ms in
-        let apart = (journals_are_numbered h.program h.budget (h.entries ++ Committed k r ∷ []) t core.run).apart in
+        let apart = core.numbered.apart in
         let names : names_met u.activities ≡ s.names ++ ms = ap names_met met ∙ names_more v.activities s.names ms st.edges.names in
         let more : RunShape = record s { names = s.names ++ ms } in
         goes_on w (Committed k r) t y core (holders ∙ told)

@@ -7,7 +7,8 @@ use Rattle.asp_model.specs.Names.{Name}
 use Rattle.asp_model.specs.Split.{Context, Redex, Split, Splits, Stands, plug}
 use Rattle.asp_model.specs.Store.{Store}
 use Rattle.asp_model.specs.Term.{Tree}
-use Rattle.def_journals.specs.Journals.{RunShape, all_entered, begun, entered, run_of}
+use Rattle.law_journals.specs.Numbered.{IsFirst}
+use Rattle.def_journals.specs.Journals.{RunShape, all_entered, entered, first_in, first_run, run_of}
 use Rattle.law_chases.proofs.FutureLemmas.{some_is}
 use Rattle.law_steps.specs.Reached.{IsAt}
 use Rattle.law_journals.proofs.LeaseLemmas.{leases_stay}
@@ -72,11 +73,11 @@ one_end (suc n) a b c x y =
     one_end n y.0 b c (subst (λ m. LocalRun n m b) (one_step a x.0 y.0 x.1 y.1) x.2) y.2
 
 -- where a lease has stopped, the activity stops that its contractions led to
-pub stops_there : (h : HistoryShape) (code : List Node) (s : RunShape) (l : Lease) (n : Name) (end : Activity) → run_of h.program h.budget h.entries ≡ Some s
+pub stops_there : (h : HistoryShape) (code : List Node) (s : RunShape) (l : Lease) (n : Name) (end : Activity) → IsFirst (first_in h) → run_of h ≡ Some s
     → HasStopped h code l → HasRun s l.number l.grant n l.taken end → StopsAt l.taken l.grant end
-stops_there h code s l n end run x ran =
+stops_there h code s l n end first run x ran =
     let z = x.lease in
-    let since = leases_stay h.program h.budget h.entries l.number l.burst z.name z.run s z.lent z.named run in
+    let since = leases_stay h l.number l.burst z.name z.run s first z.lent z.named run in
     let name : z.name ≡ n = some_is (sym since.named ∙ ran.named) in
     let there : IsAt s.configuration n z.activity = subst (λ m. IsAt s.configuration m z.activity) name (since.there ∙ z.there) in
     let activity : z.activity ≡ ran.activity = some_is (sym there ∙ ran.there) in
@@ -95,13 +96,13 @@ stopped_on (x ∷ xs) s t e is stopped are = (
 
 module _ {P : Type 0} where
   pub none_came : (x : Core P) → (history_of x).entries ≡ [] → AllStopped (history_of x)
-  none_came x none = subst (λ es. AreStoppedFrom es (begun (history_of x).program (history_of x).budget)) (sym none) tt
+  none_came x none = subst (λ es. AreStoppedFrom es (first_run (history_of x))) (sym none) tt
 
   pub stays_stopped : (x new : Core P) (s : RunShape) (e : EntryShape) → IsRun x s → HasEntered x e new → IsStoppedEntry s e
       → StaysStopped (history_of x) (history_of new)
   stays_stopped x new s e run entered stopped are =
       let h = history_of x in
-      subst AllStopped (sym entered) (stopped_on h.entries (begun h.program h.budget) s e run.stand.core.run stopped are)
+      subst AllStopped (sym entered) (stopped_on h.entries (first_run h) s e run.stand.core.run stopped are)
 
   -- by a lease that had stopped
   pub comes_stopped : (x new : Core P) (s : RunShape) (code : List Node) (l : Lease) (n : Name) (end : Activity) → IsRun x s → HasStopped (history_of x) code l
@@ -114,7 +115,7 @@ module _ {P : Type 0} where
         taken = l.taken;
         end = end;
         has_run = ran;
-        stops = stops_there (history_of x) code s l n end run.stand.core.run has ran;
+        stops = stops_there (history_of x) code s l n end run.stand.core.first run.stand.core.run has ran;
         count = refl;
       } in
       stays_stopped x new s (Committed l.number (counted l.taken (act_at s n l.grant l.taken end))) run entered out

@@ -12,17 +12,13 @@ use Rattle.asp_model.specs.Step.{name_at}
 use Rattle.def_journals.specs.Edges.{HoldersShape}
 use Rattle.def_journals.specs.Journals.{RunShape, grant_of}
 use Rattle.def_journals.specs.Owed.{first_edge, first_need, is_any, need_to, next_owed, or_else, verdict_told}
-use Rattle.law_journals.proofs.JournalLemmas.{journals_reach}
 use Rattle.law_steps.proofs.EntryLemmas.{In, entry_found, found_entry}
 use Rattle.law_steps.proofs.NameLemmas.{is_there}
 use Rattle.law_chases.proofs.FutureLemmas.{no_some, none_true, true_false}
-use Rattle.law_steps.proofs.WholeLemmas.{reached_are_sound}
-use Rattle.law_steps.proofs.NamesLaws.{entries_ascend}
-use Rattle.law_steps.specs.Reached.{IsReached, IsThere}
+use Rattle.law_steps.specs.Reached.{IsThere}
 use Rattle.law_steps.specs.Sound.{IsSound}
 use Rattle.law_journals.specs.Numbered.{AreNumbered}
 use Rattle.law_journals.proofs.LeaseLemmas.{leases_stay}
-use Rattle.law_journals.proofs.NumberLemmas.{journals_are_numbered}
 use Rattle.core_ranks.specs.Numbers.{has_number}
 use Rattle.core_ranks.specs.Ranks.{IsAwaitTold, RankShape, Rests, awaits, goes, has_need}
 use Rattle.core_seats.specs.Seats.{In as Here, Out, SeatShape, count_out, names_in, seat_at, seats_in}
@@ -67,10 +63,10 @@ first_out (Out came ∷ xs) h = (0, came, refl)
 
 module _ (h : HistoryShape) (code : List Node) (x : CoreState) (s : RunShape) (core : IsCore h code x s) where
   numbered : AreNumbered s
-  numbered = journals_are_numbered h.program h.budget h.entries s core.run
+  numbered = core.numbered
 
   sound : IsSound s.configuration
-  sound = reached_are_sound h.program s.configuration (journals_reach h.program h.budget h.entries s core.run)
+  sound = core.whole.sound
 
   free_by : count_out (seats_in x.seats) ≡ 0 → (k : ℕ) (o : Option Name) → name_at s.names k ≡ o → grant_of k s.out ≡ None
   free_by none k None named = core.populated.named_out k named
@@ -94,7 +90,7 @@ module _ (h : HistoryShape) (code : List Node) (x : CoreState) (s : RunShape) (c
       let n = name_within (names_in x.seats) k within in
       let named : name_at s.names k ≡ Some n.0 = ap (λ ns. name_at ns k) (sym core.populated.names) ∙ n.1 in
       let away : IsAway h code s k n.0 came = subst (λ o. IsSeated h code s k n.0 o) is (core.populated.seats k n.0 named) in
-      no_some (sym none ∙ (leases_stay h.program h.budget h.entries k away.burst n.0 away.run s away.lent away.named core.run).out)
+      no_some (sym none ∙ (leases_stay h k away.burst n.0 away.run s core.first away.lent away.named core.run).out)
 
   pub some_away : nat_lt 0 (count_out (seats_in x.seats)) ≡ true → is_any s.out ≡ true
   some_away some =
@@ -165,9 +161,6 @@ module _ (h : HistoryShape) (code : List Node) (x : CoreState) (s : RunShape) (c
   abbrev c : Configuration
   c = s.configuration
 
-  reached : IsReached h.program c
-  reached = journals_reach h.program h.budget h.entries s core.run
-
   -- Where a rank tells a status
 
   module _ (test : StatusShape → Bool) (told : RankShape → Bool) (quiet : told Rests ≡ false) (tells : (n : Name) → told (rank_in c n) ≡ (test (status_of c n) && is_none (need_to c n))) where
@@ -184,7 +177,7 @@ module _ (h : HistoryShape) (code : List Node) (x : CoreState) (s : RunShape) (c
       where
         each : (y : Name × Activity) → In y c.activities → test (status_of c y.0) ≡ false
         each y i =
-            let there : IsThere c y.0 = ap is_some (entry_found c.activities y (entries_ascend h.program c reached).activities i) in
+            let there : IsThere c y.0 = ap is_some (entry_found c.activities y core.whole.sound.ordered.activities i) in
             let k = (numbered h code x s core).numbered y.0 there in
             let rank : rank_of_number s k.0 ≡ rank_in c y.0 = ap (rank_named s k.0) k.1 ∙ ap (λ out. rank_unless_out s y.0 (grant_of k.0 out)) still.back in
             let lacks : is_none (need_to c y.0) ≡ true = is_none_of (need_to c y.0) (sym (ranks_tell c y.0).needy ∙ ap has_need (sym rank) ∙ still.needy k.0) in

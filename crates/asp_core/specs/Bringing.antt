@@ -1,7 +1,7 @@
 -- A lease that comes back, and what the edges are told of it.
 use Rattle.std.specs.Prelude.{◌≡◌, ◌++◌, ℕ, suc, Bool, false, List, [], Option, Some, None}
 use Rattle.asp_model.specs.Configuration.{Activity, Configuration}
-use Rattle.asp_model.specs.History.{Committed, HistoryShape}
+use Rattle.asp_model.specs.History.{Committed, HistoryShape, with_entry}
 use Rattle.asp_model.specs.Intent.{Acts, Effect}
 use Rattle.asp_model.specs.Names.{Name}
 use Rattle.asp_model.specs.Step.{intent_in, with_effect}
@@ -18,7 +18,6 @@ use Rattle.future_update.specs.Holders.{HoldersView, is_met}
 use Rattle.law_core.specs.Commits.{HasRun, made_by, with_activity}
 use Rattle.core_state.specs.declared.lease.Lease.{Lease}
 use Rattle.core_state.specs.declared.state.CoreState.{CoreState}
-use Rattle.core_state.specs.Cores.{with_entry}
 use Rattle.core_state.specs.Leases.{IsLease}
 use Rattle.core_state.specs.Returning.{IsRunCommitted}
 use Rattle.core_state.specs.Arrivals.{act_at}
@@ -39,7 +38,7 @@ IsUnmet g activities = Unit {0}
 
 -- strategies stay those of labels by what is given to a configuration, to which it is new
 abbrev pub KeepLabels : {P : Type 0} → Given → (old new : Edges P) → Type 0
-KeepLabels g old new = (c : Configuration) (n : Name) (e : Effect) → IsNewTo c e → IsGiven e g → AreByLabels c old
+KeepLabels g old new = (c : Configuration) (n : Name) (e : Effect) → IsNewTo c e → IsGiven n e g → AreByLabels c old
     → AreByLabels (with_effect n e c) new
 
 -- somebody's lease of both

@@ -1,7 +1,7 @@
 -- What the calls of a core give and leave.
 use Rattle.std.specs.Prelude.{◌≡◌, ◌≤◌, ◌*◌, ◌-◌, ℕ, true, false, Option, Some, None, length, is_some}
 use Rattle.asp_model.specs.Configuration.{Activity}
-use Rattle.asp_model.specs.History.{Committed, DeliveryShape, EntryShape, Lent}
+use Rattle.asp_model.specs.History.{Committed, DeliveryShape, EntryShape, Lent, with_entry}
 use Rattle.asp_model.specs.Names.{Name}
 use Rattle.asp_model.specs.Status.{VerdictShape}
 use Rattle.law_journals.specs.EdgesKept.{sends_in}
@@ -11,7 +11,6 @@ use Rattle.law_journals.specs.Entered.{with_lease}
 use Rattle.law_core.specs.Runs.{is_ready}
 use Rattle.law_core.specs.Commits.{HasRun}
 use Rattle.core_state.specs.declared.lease.Lease.{Lease}
-use Rattle.core_state.specs.Cores.{with_entry}
 use Rattle.core_state.specs.Lending.{IsNewLease}
 use Rattle.core_state.specs.Arrivals.{act_at}
 use Rattle.asp_core.specs.declared.cores.Core.{Core}

@@ -1,8 +1,9 @@
 -- A core is the run of its journal.
 use Rattle.std.specs.Prelude.{◌≡◌, ℕ, List, [], false, length}
 use Rattle.std.specs.Arc.{arc_value}
-use Rattle.asp_model.specs.History.{EntryShape, HistoryShape}
+use Rattle.asp_model.specs.History.{EntryShape, HistoryShape, program_history}
 use Rattle.asp_model.specs.Names.{Name}
+use Rattle.asp_model.specs.Term.{locations}
 use Rattle.def_journals.specs.Journals.{RunShape}
 use Rattle.code_table.specs.declared.code.Node.{Node}
 use Rattle.core_seats.specs.Seats.{names_in, seats_in}
@@ -21,7 +22,7 @@ module _ {P : Type 0} where
 
   -- its program, its budget, and its journal
   abbrev pub history_of : Core P → HistoryShape
-  history_of x = record { program = program_of (code_of x); budget = x.budget; entries = entries_of x }
+  history_of x = program_history (program_of (code_of x)) x.budget (entries_of x)
 
   abbrev pub names_of : Core P → List Name
   names_of x = names_in x.state.seats
@@ -33,6 +34,8 @@ module _ {P : Type 0} where
   -- label of its request
   pub record IsRun (x : Core P) (s : RunShape) : Type 0 where
     pub fresh : x.spent ≡ false
+    -- its program has no places, as all that was read
+    pub bare : locations (history_of x).program ≡ []
     pub stand : Stand (history_of x) (code_of x) s x.state x.edges.holders
     pub labels : AreByLabels s.configuration x.edges
 

@@ -1,6 +1,6 @@
 -- What a delivery is to a state and its edges.
 use Rattle.std.specs.Prelude.{◌≡◌, ℕ, false, List, Option, Some, None}
-use Rattle.asp_model.specs.History.{Delivered, DeliveryShape, HistoryShape}
+use Rattle.asp_model.specs.History.{Delivered, DeliveryShape, HistoryShape, with_entry}
 use Rattle.future_update.specs.Names.{delivery_along}
 use Rattle.def_journals.specs.Edges.{EdgeShape}
 use Rattle.def_journals.specs.Journals.{RunShape}
@@ -10,7 +10,6 @@ use Rattle.core_sets.specs.Firsts.{IsFirstFrom}
 use Rattle.core_edges.specs.declared.edges.Edges.{Edges}
 use Rattle.core_edges.specs.Labels.{AreByLabels}
 use Rattle.core_state.specs.declared.state.CoreState.{CoreState}
-use Rattle.core_state.specs.Cores.{with_entry}
 use Rattle.asp_core.specs.Calls.{MayDeliver}
 use Rattle.asp_core.specs.Runs.{Stand}
 

@@ -1,9 +1,9 @@
 -- The end of a run.
-use Rattle.std.specs.Prelude.{◌≡◌, ℕ, List, [], Some}
-use Rattle.asp_model.specs.History.{EntryShape, HistoryShape}
+use Rattle.std.specs.Prelude.{◌≡◌, None, ℕ, List, [], Some}
+use Rattle.asp_model.specs.History.{EntryShape, HistoryShape, program_history}
 use Rattle.asp_model.specs.Outcome.{outcome_of}
 use Rattle.asp_model.specs.Shapes.{outcome_shape}
-use Rattle.asp_model.specs.Term.{Tree}
+use Rattle.asp_model.specs.Term.{Tree, locations}
 use Rattle.def_journals.specs.Journals.{RunShape, run_of}
 use Rattle.def_paths.specs.Outcomes.{whole_outcome_of}
 use Rattle.code_table.specs.declared.code.Node.{Node}
@@ -13,9 +13,11 @@ use Rattle.law_core.specs.Outcomes.{IsBudgeted, IsReplayedEnd}
 use Rattle.core_state.specs.declared.state.CoreState.{CoreState}
 use Rattle.core_state.specs.Cores.{IsCore}
 
--- a core in which nobody is out
+-- a core in which nobody is out, from the start of a program without places
 pub record IsHome (h : HistoryShape) (code : List Node) (x : CoreState) (s : RunShape) : Type 0 where
   pub core : IsCore h code x s
+  pub start : h.first ≡ None
+  pub bare : locations h.program ≡ []
   pub back : s.out ≡ []
 
 abbrev pub IsSomeHome : CoreState → Type 0
@@ -26,7 +28,7 @@ IsSomeHome x = (h : HistoryShape) × (code : List Node) × (s : RunShape) × IsH
 pub record IsEndOfRun (program : Tree) (budget : ℕ) (r : RunEnd) : Type 0 where
   pub journal : List EntryShape
   pub run : RunShape
-  pub lawful : run_of program budget journal ≡ Some run
+  pub lawful : run_of (program_history program budget journal) ≡ Some run
   pub end : IsEndOf r (whole_outcome_of run.configuration)
   pub outcome : outcome_shape r.outcome ≡ outcome_of run.configuration
   pub replayed : IsReplayedEnd program run.configuration

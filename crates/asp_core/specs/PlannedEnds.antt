@@ -1,7 +1,7 @@
 -- The end of a run as a plan and policies had it.
 use Rattle.std.specs.Prelude.{◌≡◌, ℕ, IfOk, List, Result}
 use Rattle.asp_model.specs.Configuration.{RequestShape}
-use Rattle.asp_model.specs.History.{ChoiceShape}
+use Rattle.asp_model.specs.History.{ChoiceShape, program_history}
 use Rattle.asp_model.specs.Names.{FutureShape, Name}
 use Rattle.asp_model.specs.Term.{Tree}
 use Rattle.def_journals.specs.Passing.{holders_of}
@@ -29,7 +29,7 @@ pub record IsEndByPlan {P : Type 0} (answers : Answering P) (counts : Counting P
   -- each edge of the journal has the answer of the policy of its future's strategy, which was asked about it at most once
   pub choices : List ChoiceShape
   pub after : Policies P
-  pub asked : AreAsked answers counts strategies (holders_of program budget end.journal).edges choices policies after
+  pub asked : AreAsked answers counts strategies (holders_of (program_history program budget end.journal)).edges choices policies after
 
 -- the end that a core gives, by whatever plan and policies its edges were answered
 abbrev pub IsEndAsPlanned : {P E : Type 0} → Answering P → Counting P → Core P → Result RunEnd E → Type 0
@@ -40,10 +40,10 @@ IsEndAsPlanned answers counts x r = (plan : Plan) (policies : Policies _) → Ar
 -- where the policies always leave. And each activity that came back had stopped.
 pub record IsEndByChoice {P : Type 0} (answers : Answering P) (counts : Counting P) (plan : Plan) (policies : Policies P) (program : Tree) (budget : ℕ) (r : RunEnd) : Type 0 where
   pub planned : IsEndByPlan answers counts plan policies program budget r
-  pub chosen : AreChosen planned.end.journal (holders_of program budget planned.end.journal) planned.choices
-  pub delivered : ChosenAreDelivered (holders_of program budget planned.end.journal) planned.choices
+  pub chosen : AreChosen planned.end.journal (holders_of (program_history program budget planned.end.journal)) planned.choices
+  pub delivered : ChosenAreDelivered (holders_of (program_history program budget planned.end.journal)) planned.choices
   pub lazy : AlwaysLeaves answers → Each IsAlongNoEdge planned.end.journal
-  pub stopped : AllStopped (record { program = program; budget = budget; entries = planned.end.journal })
+  pub stopped : AllStopped (program_history program budget planned.end.journal)
 
 -- so a core gives it, of which that is true
 abbrev pub IsEndAsChosen : {P E : Type 0} → Answering P → Counting P → Core P → Result RunEnd E → Type 0

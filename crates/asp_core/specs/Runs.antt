@@ -4,7 +4,6 @@ use Rattle.asp_model.specs.History.{HistoryShape}
 use Rattle.asp_model.specs.Intent.{Effect}
 use Rattle.asp_model.specs.Names.{Name}
 use Rattle.asp_model.specs.Step.{name_at}
-use Rattle.def_journals.specs.Edges.{HoldersShape}
 use Rattle.def_journals.specs.Journals.{RunShape, grant_of}
 use Rattle.def_journals.specs.Passing.{holders_of}
 use Rattle.code_table.specs.declared.code.Node.{Node}
@@ -20,13 +19,9 @@ as_met = map (λ n. (n, false))
 abbrev pub AreToldOut : RunShape → List (Name × Bool) → Type 0
 AreToldOut s activities = (k : ℕ) (n : Name) → name_at s.names k ≡ Some n → is_out n activities ≡ is_some (grant_of k s.out)
 
--- the edges that a history leaves
-abbrev pub holders_left : HistoryShape → HoldersShape
-holders_left h = holders_of h.program h.budget h.entries
-
 -- the edges are those of a history, each with an answer, and tell who is out in its run
 pub record AreEdgesOf (h : HistoryShape) (s : RunShape) (v : HoldersView) : Type 0 where
-  pub holders : v.holders ≡ holders_left h
+  pub holders : v.holders ≡ holders_of h
   pub answers : length v.answers ≡ length v.holders.edges
   pub names : map (λ x. x.0) v.activities ≡ s.names
   pub out : AreToldOut s v.activities

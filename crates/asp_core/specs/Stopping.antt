@@ -3,7 +3,7 @@ use Rattle.std.specs.Prelude.{◌≡◌, ℕ, false, List, [], ◌∷◌, Some}
 use Rattle.asp_model.specs.Configuration.{Activity}
 use Rattle.asp_model.specs.History.{Committed, Delivered, EntryShape, HistoryShape, Lent}
 use Rattle.asp_model.specs.Names.{Name}
-use Rattle.def_journals.specs.Journals.{RunShape, begun, entered}
+use Rattle.def_journals.specs.Journals.{RunShape, entered, first_run}
 use Rattle.code_table.specs.declared.code.Node.{Node}
 use Rattle.activity_step.specs.declared.advance.Advance.{Advance}
 use Rattle.activity_step.specs.Activities.{IsStopAt, IsUsed}
@@ -46,7 +46,7 @@ AreStoppedFrom (x ∷ xs) s = IsStoppedEntry s x × ((t : RunShape) → entered 
 
 -- each lease that came back in this journal had stopped
 abbrev pub AllStopped : HistoryShape → Type 0
-AllStopped h = AreStoppedFrom h.entries (begun h.program h.budget)
+AllStopped h = AreStoppedFrom h.entries (first_run h)
 
 abbrev pub StaysStopped : (old new : HistoryShape) → Type 0
 StaysStopped old new = AllStopped old → AllStopped new

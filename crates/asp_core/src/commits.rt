@@ -48,7 +48,7 @@ fn tell<P: UpdatePolicy>(
 ) -> Result<(), AllocError>
     requires fresh { IsSomeFresh edges.old.holders.holders given.now }
     requires unmet { IsUnmet given.now edges.old.holders.activities }
-    ensures told { (e : Effect) → IsGiven e given.now →
+    ensures told { (e : Effect) → IsGiven by.now e given.now →
         OnOk result (AreTold by.now e edges.old.holders edges.new.holders) }
     ensures answers { let strategies = strategy_in edges.new in
         OnOk result (AreAnswered P.answer P.asked strategies edges.old edges.new) }
@@ -61,7 +61,7 @@ fn tell<P: UpdatePolicy>(
             edges.met(name)?;
             Ok(())
         }
-        Given::Nothing | Given::Sent(_, _) | Given::Filled(_, _) => Ok(()),
+        Given::Nothing | Given::Sent(_, _) | Given::Filled(_, _) | Given::Polled => Ok(()),
     }
 }
 

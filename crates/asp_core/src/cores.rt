@@ -4,9 +4,11 @@ ghost use Rattle.std.specs.Prelude.{◌≡◌, ◌∷◌, [], IfOk, OnOk, false}
 ghost use Rattle.std.specs.Arc.{arc_value};
 ghost use Rattle.asp_model.specs.Names.{main_name};
 ghost use Rattle.asp_model.specs.Shapes.{tree_of};
+ghost use Rattle.asp_model.specs.History.{program_history};
+ghost use Rattle.asp_model.specs.Term.{locations};
 ghost use Rattle.def_journals.specs.Journals.{begun as start_of};
 ghost use Rattle.core_edges.specs.Strategies.{KeepsEdges};
-ghost use Rattle.core_state.specs.Cores.{IsCore, history_begun, program_of};
+ghost use Rattle.core_state.specs.Cores.{IsCore, program_of};
 
 use asp_check::Checked;
 use asp_model::{ActivityName, Entry};
@@ -40,8 +42,9 @@ struct Beginning {
 fn begun(alloc: Global, program: &Checked, budget: u64) -> Result<Beginning, AllocError>
     ensures program { let term = tree_of program.now.program.root in
         IfOk result (λ b. program_of (arc_value b.code) ≡ term) }
+    ensures bare { IfOk result (λ b. locations (program_of (arc_value b.code)) ≡ []) }
     ensures state { IfOk result (λ b. let k = arc_value b.code in
-        IsCore (history_begun (program_of k) budget) k b.state (start_of (program_of k) budget)) }
+        IsCore (program_history (program_of k) budget []) k b.state (start_of (program_of k) budget)) }
 {
     let code = Arc::new(alloc, compile(alloc, program)?)?;
     let state = CoreState::begin(alloc, code.clone()?, budget)?;
@@ -69,8 +72,9 @@ fn begin<P: UpdatePolicy>(
     requires none { edges.old.holders.activities ≡ [] }
     ensures program { let term = tree_of program.now.program.root in
         IfOk result (λ b. program_of (arc_value b.code) ≡ term) }
+    ensures bare { IfOk result (λ b. locations (program_of (arc_value b.code)) ≡ []) }
     ensures state { IfOk result (λ b. let k = arc_value b.code in
-        IsCore (history_begun (program_of k) budget) k b.state (start_of (program_of k) budget)) }
+        IsCore (program_history (program_of k) budget []) k b.state (start_of (program_of k) budget)) }
     ensures met { OnOk result (edges.new.holders.activities ≡ (main_name, false) ∷ []) }
     ensures edges { OnOk result (KeepsEdges edges.old edges.new) }
 {
@@ -82,7 +86,7 @@ impl<P: UpdatePolicy + Drop> Core<P> {
     ghost use Rattle.std.specs.Prelude.{◌≡◌, IfOk};
     ghost use Rattle.asp_model.specs.Shapes.{tree_of};
     ghost use Rattle.def_journals.specs.Journals.{begun};
-    ghost use Rattle.core_state.specs.Cores.{history_begun};
+    ghost use Rattle.asp_model.specs.History.{program_history};
     ghost use Rattle.asp_core.specs.Chosen.{DeliversChosen};
     ghost use Rattle.asp_core.specs.Cores.{IsHome, IsRun, history_of};
     ghost use Rattle.asp_core.specs.Plans.{AreByPlan};
@@ -99,7 +103,7 @@ impl<P: UpdatePolicy + Drop> Core<P> {
         ensures begun { let term = tree_of program.now.program.root in
             IfOk result (λ x. IsRun x (begun term budget)) }
         ensures history { let term = tree_of program.now.program.root in
-            IfOk result (λ x. history_of x ≡ history_begun term budget) }
+            IfOk result (λ x. history_of x ≡ program_history term budget []) }
         ensures plan { IfOk result (λ x. x.edges.plan ≡ plan) }
         ensures policies { IfOk result (λ x. x.edges.policies ≡ policies) }
         ensures by_plan { IfOk result

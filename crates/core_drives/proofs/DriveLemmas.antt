@@ -1,31 +1,29 @@
 -- What steps make of who is out, and of the leases.
-use Rattle.std.proofs.Common.{◌≡◌, ◌≢◌, ◌<◌, ◌-◌, ◌==◌, ◌&&◌, ◌∙◌, ◌∷◌, [], ℕ, Bool, true, false, not, nat_le, List, Option, Some, None, is_some, cond, inl, inr, ◌⊎◌, refl, sym, ap, subst, arith}
+use Rattle.std.proofs.Common.{◌≡◌, ◌≢◌, ◌<◌, ◌==◌, ◌&&◌, ◌∙◌, ◌∷◌, [], ℕ, Bool, true, false, not, List, Option, Some, None, is_some, cond, inl, inr, ◌⊎◌, refl, sym, ap, subst, arith}
 use Rattle.std.proofs.lemmas.Bool.{eqb-true, false_from_ne_true}
 use Rattle.std.specs.BTreeMap.{BTreeMap, get, is_at}
 use Rattle.std.specs.Map.{lookup}
 use Rattle.std.specs.Ordering.{nat_cmp}
-use Rattle.asp_model.specs.Configuration.{Configuration}
-use Rattle.asp_model.specs.History.{Committed, Delivered, DeliveryShape, Edge, EntryShape, HistoryShape, Lent, Need}
+use Rattle.asp_model.specs.History.{Committed, Delivered, DeliveryShape, EntryShape, HistoryShape, Lent, with_entry}
 use Rattle.asp_model.specs.Names.{Name}
-use Rattle.def_journals.specs.Journals.{RunShape, back, committed, delivered, entered, grant_of, granted, out_but, over, reduced, run_of}
-use Rattle.law_chases.proofs.FutureLemmas.{no_some, some_is, true_false}
+use Rattle.def_journals.specs.Journals.{RunShape, delivered, entered, grant_of, granted, out_but}
+use Rattle.law_chases.proofs.FutureLemmas.{true_false}
 use Rattle.law_journals.specs.Entered.{with_lease}
 use Rattle.law_journals.specs.Leases.{stays_out}
 use Rattle.law_journals.proofs.BurstLemmas.{leases_last}
-use Rattle.law_journals.proofs.GrowingLemmas.{entries_go_on}
 use Rattle.law_journals.proofs.LeaseLemmas.{grant_but}
 use Rattle.code_table.specs.declared.code.Node.{Node}
 use Rattle.core_ranks.proofs.NumberLemmas.{number_case, number_itself}
 use Rattle.law_core.specs.Runs.{is_ready}
 use Rattle.core_state.specs.Arrivals.{act_at}
 use Rattle.core_state.specs.declared.lease.Lease.{Lease}
-use Rattle.core_state.specs.Cores.{with_entry}
 use Rattle.core_state.specs.Leases.{HasStopped, IsLease}
 use Rattle.asp_core.specs.declared.cores.Core.{Core}
 use Rattle.asp_core.specs.Cores.{IsRun, activities_of, code_of, history_of}
 use Rattle.asp_core.specs.Calls.{HasEntered, HasGoneOn, IsCommittedBy, IsLentBy}
 use Rattle.asp_core.specs.Runs.{counted}
 use Rattle.asp_core.proofs.LendLemmas.{ready_seat}
+use Rattle.asp_core.proofs.OutAfterLemmas.{committed_out, delivered_out, entry_run}
 use Rattle.asp_core.proofs.StopLemmas.{stops_there}
 use Rattle.core_drives.specs.declared.drivers.Driver.{Driver}
 use Rattle.core_drives.specs.Driving.{IsDriving, IsHeldAt}
@@ -57,28 +55,6 @@ in_itself k (x ∷ xs) = by (k == x.0) refl (in_itself k xs)
     by true is rest = rest
     by false is rest = ap (λ b. elim b [ true ↦ Some x.1 | false ↦ grant_of k (out_but k xs) ]) is ∙ rest
 
-back_out : (s t : RunShape) (k rest : ℕ) (o : Option Configuration) → back s k rest o ≡ Some t → t.out ≡ out_but k s.out
-back_out s t k rest None e = no_some e
-back_out s t k rest (Some d) e = ap (λ (r : RunShape). r.out) (sym (some_is e))
-
-committed_by : (s t : RunShape) (k r : ℕ) (n : Name) (grant : ℕ) (b : Bool) → elim b as (λ q. Option RunShape) [ true ↦ back s k (grant - r) (reduced r n s.configuration) | false ↦ None ] ≡ Some t → t.out ≡ out_but k s.out
-committed_by s t k r n grant true e = back_out s t k (grant - r) (reduced r n s.configuration) e
-committed_by s t k r n grant false e = no_some e
-
-committed_out : (s t : RunShape) (k r : ℕ) (n : Option Name) (grant : Option ℕ) → committed k r s n grant ≡ Some t → t.out ≡ out_but k s.out
-committed_out s t k r None grant e = no_some e
-committed_out s t k r (Some n) None e = no_some e
-committed_out s t k r (Some n) (Some grant) e = committed_by s t k r n grant (nat_le r grant) e
-
-over_out : (s t : RunShape) (b : Bool) (o : Option Configuration) → elim b as (λ q. Option RunShape) [ true ↦ over s o | false ↦ None ] ≡ Some t → t.out ≡ s.out
-over_out s t true None e = no_some e
-over_out s t true (Some d) e = ap (λ (r : RunShape). r.out) (sym (some_is e))
-over_out s t false o e = no_some e
-
-pub delivered_out : (d : DeliveryShape) (s t : RunShape) → delivered d s ≡ Some t → t.out ≡ s.out
-delivered_out (Edge f from to) s t e = over_out s t _ _ e
-delivered_out (Need f to place) s t e = over_out s t _ _ e
-
 pub back_itself : (s t : RunShape) (k r : ℕ) → entered (Committed k r) s ≡ Some t → grant_of k t.out ≡ None
 back_itself s t k r e = ap (grant_of k) (committed_out s t k r _ _ e) ∙ in_itself k s.out
 
@@ -90,7 +66,7 @@ back_other s t k r j apart e = ap (grant_of j) (committed_out s t k r _ _ e) ∙
 abbrev pub lease_on : (h : HistoryShape) (code : List Node) (x : EntryShape) (l : Lease) → stays_out l.number (x ∷ []) ≡ true → IsLease h code l → IsLease (with_entry h x) code l
 lease_on h code x l stays is = record {
   run = is.run;
-  lent = leases_last h.program h.budget h.entries x l.number l.burst is.run stays is.lent;
+  lent = leases_last h x l.number l.burst is.run stays is.lent;
   name = is.name;
   named = is.named;
   activity = is.activity;
@@ -110,13 +86,6 @@ held_on h code e k None (Some l) stays is = absurd is
 held_on h code e k (Some g) None stays is = absurd is
 
 module _ {P : Type 0} where
-  -- the run of a core whose journal has one entry more
-  pub entry_run : (x y : Core P) (e : EntryShape) (s t : RunShape) → IsRun x s → IsRun y t → HasEntered x e y → entered e s ≡ Some t
-  entry_run x y e s t is then more =
-      let h : HistoryShape = history_of x in
-      sym (entries_go_on h.program h.budget h.entries e s is.stand.core.run)
-      ∙ ap (λ (k : HistoryShape). run_of k.program k.budget k.entries) (sym more) ∙ then.stand.core.run
-
   -- who is not told of by the entry stays as it was
   pub held_then : (x y : Core P) (e : EntryShape) (k : ℕ) (g h : Option ℕ) (o p : Option Lease) → HasEntered x e y → code_of y ≡ code_of x → stays_out k (e ∷ []) ≡ true → h ≡ g → p ≡ o
       → IsHeldAt (history_of x) (code_of x) k g o → IsHeldAt (history_of y) (code_of y) k h p
@@ -200,7 +169,7 @@ module _ {P : Type 0} where
     enters =
         subst (λ q. ComesIn s q (ran k) (grant_of q s.out) (history_of x) (history_of y)) number
         (subst (λ g. ComesIn s l.number (ran k) g (history_of x) (history_of y)) (sym by.has_run.out)
-        (n, l.taken, by.end, by.has_run, λ so. stops_there (history_of x) (code_of x) s l n by.end is.stand.core.run (has so) by.has_run, by.on.entered));
+        (n, l.taken, by.end, by.has_run, λ so. stops_there (history_of x) (code_of x) s l n by.end is.stand.core.first is.stand.core.run (has so) by.has_run, by.on.entered));
   }
 
   pub commit_left : (x : Core P) (s : RunShape) (k : ℕ) → IsRun x s → grant_of k s.out ≡ None → (ran : ℕ → Bool) → IsStepped (Commits k) ran (history_of x) (history_of x)

@@ -1,15 +1,14 @@
 -- What a list of steps leads to.
 use Rattle.std.proofs.Common.{◌≡◌, ◌∙◌, ◌+◌, ◌<◌, ℕ, Bool, true, false, List, [], ◌∷◌, Option, Some, None, drop, get_or, length, map, refl, sym, ap, subst}
 use Rattle.std.proofs.lemmas.List.{drop_more}
-use Rattle.asp_model.specs.History.{EntryShape, HistoryShape}
+use Rattle.asp_model.specs.History.{EntryShape, HistoryShape, program_history}
 use Rattle.asp_model.specs.Term.{Tree}
+use Rattle.law_paths.specs.Correct.{IsAlone}
 use Rattle.def_journals.specs.Journals.{RunShape}
 use Rattle.law_journals.proofs.JournalLemmas.{journals_reach}
-use Rattle.law_paths.proofs.ReplayLemmas.{one_sender_is_enough}
-use Rattle.law_steps.specs.Reached.{IsReached}
+use Rattle.law_paths.proofs.ReplayLemmas.{narrow_runs_are_alone}
 use Rattle.law_core.specs.Outcomes.{IsReplayedEnd}
 use Rattle.law_core.proofs.OutcomeLemmas.{journals_end}
-use Rattle.core_state.specs.Cores.{history_begun}
 use Rattle.asp_core.specs.declared.cores.Core.{Core}
 use Rattle.asp_core.specs.Cores.{IsRun, history_of}
 use Rattle.core_drives.specs.Driven.{IsDriven}
@@ -43,15 +42,14 @@ lead_more xs i x ran old mid new within is stepped rest =
     subst (λ q. Lead (map step_shape q) ran old new) (sym (drop_more xs i x within ∙ ap (λ y. y ∷ drop (i + 1) xs) (sym is))) (mid, stepped, rest)
 
 module _ {P : Type 0} where
-  pub driven_so : (program : Tree) (budget : ℕ) (steps : List StepShape) (x : Core P) (s : RunShape) → Lead steps nobody (history_begun program budget) (history_of x) → IsRun x s → (history_of x).program ≡ program → IsDriven program budget steps x
+  pub driven_so : (program : Tree) (budget : ℕ) (steps : List StepShape) (x : Core P) (s : RunShape) → Lead steps nobody (program_history program budget []) (history_of x) → IsRun x s → (history_of x).program ≡ program → IsDriven program budget steps x
   driven_so program budget steps x s leads is same =
       let h : HistoryShape = history_of x in
       record {
         leads = leads;
         run = s;
         is = is;
-        replayed = subst (λ p. IsReplayedEnd p s.configuration) same (journals_end h.program h.budget h.entries s is.stand.core.bare is.stand.core.run);
-        alone = λ stuck one b journal t run.
-            one_sender_is_enough h.program s.configuration t.configuration is.stand.core.bare (journals_reach h.program h.budget h.entries s is.stand.core.run)
-            (subst (λ p. IsReached p t.configuration) (sym same) (journals_reach program b journal t run)) stuck one;
+        replayed = subst (λ p. IsReplayedEnd p s.configuration) same (journals_end h.program h.budget h.entries s is.bare is.stand.core.run);
+        alone = λ stuck narrow. subst (λ p. IsAlone p s.configuration) same
+            (narrow_runs_are_alone h.program s.configuration is.bare (journals_reach h.program h.budget h.entries s is.stand.core.run) stuck narrow);
       }

@@ -3,14 +3,13 @@ use Rattle.std.proofs.Common.{◌≡◌, ◌==◌, ◌&&◌, ◌||◌, ◌∙◌
 use Rattle.std.specs.BTreeMap.{BTreeMap, get, is_at}
 use Rattle.std.specs.Map.{lookup}
 use Rattle.std.specs.Ordering.{nat_cmp}
-use Rattle.asp_model.specs.History.{Committed, Delivered, DeliveryShape, EntryShape, HistoryShape, Lent}
+use Rattle.asp_model.specs.History.{Committed, Delivered, DeliveryShape, EntryShape, HistoryShape, Lent, with_entry}
 use Rattle.def_journals.specs.Journals.{grant_of}
 use Rattle.law_chases.proofs.FutureLemmas.{no_some, none_true, some_is}
 use Rattle.law_journals.specs.Leases.{stays_out}
 use Rattle.code_table.specs.declared.code.Node.{Node}
 use Rattle.core_ranks.proofs.NumberLemmas.{number_case, number_itself}
 use Rattle.core_state.specs.declared.lease.Lease.{Lease}
-use Rattle.core_state.specs.Cores.{with_entry}
 use Rattle.core_state.specs.Leases.{HasStopped}
 use Rattle.asp_core.specs.declared.cores.Core.{Core}
 use Rattle.asp_core.specs.Cores.{code_of, history_of}

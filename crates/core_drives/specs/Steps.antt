@@ -2,14 +2,13 @@
 use Rattle.std.specs.Prelude.{◌≡◌, ◌==◌, ◌&&◌, ◌||◌, ℕ, Bool, true, false, not}
 use Rattle.std.specs.Prelude.{List, [], ◌∷◌, Option, Some, None, is_some}
 use Rattle.asp_model.specs.Configuration.{Activity}
-use Rattle.asp_model.specs.History.{Committed, Delivered, DeliveryShape, EntryShape, HistoryShape, Lent}
+use Rattle.asp_model.specs.History.{Committed, Delivered, DeliveryShape, EntryShape, HistoryShape, Lent, with_entry}
 use Rattle.asp_model.specs.Names.{Name}
 use Rattle.asp_model.specs.Shapes.{delivery_shape}
 use Rattle.def_journals.specs.Journals.{RunShape, delivered, grant_of, run_of}
 use Rattle.law_core.specs.Runs.{is_ready}
 use Rattle.law_core.specs.Commits.{HasRun}
 use Rattle.core_state.specs.Arrivals.{act_at}
-use Rattle.core_state.specs.Cores.{with_entry}
 use Rattle.asp_core.specs.Runs.{counted}
 use Rattle.asp_core.specs.Stopping.{StopsAt}
 use Rattle.core_drives.specs.declared.steps.Step.{Step}
@@ -65,7 +64,7 @@ Enters s (Delivers d) ran old new = new ≡ entered_if (is_some (delivered d s))
 -- a step in the run of a history, once these leases ran
 pub record IsStepped (x : StepShape) (ran : ℕ → Bool) (old new : HistoryShape) : Type 0 where
   pub run : RunShape
-  pub lawful : run_of old.program old.budget old.entries ≡ Some run
+  pub lawful : run_of old ≡ Some run
   pub enters : Enters run x ran old new
 
 -- steps, in their order

@@ -28,11 +28,15 @@ module _ (by : Name) (e : Effect) where
   parts : (s : Option (Name × RequestShape)) (m : Option (Name × model.Activity)) (f : Option (FutureShape × ParcelShape)) → e.sent ≡ s → e.made ≡ m → e.filled ≡ f → effect_events by [] e ≡ sent_events by s ++ (made_events by m ++ filled_events f)
   parts s m f p q r = λ i. sent_events by (p i) ++ (made_events by (q i) ++ filled_events (r i))
 
-  pub nothing_given : IsGiven e given.Nothing → (h : HoldersShape) → after_events (effect_events by [] e) h ≡ h
+  pub nothing_given : IsGiven by e given.Nothing → (h : HoldersShape) → after_events (effect_events by [] e) h ≡ h
   nothing_given g h = ap (λ es. after_events es h) (parts None None None g.0 g.1 g.2)
 
+  -- a poll is no event
+  pub polled_given : IsGiven by e given.Polled → (h : HoldersShape) → after_events (effect_events by [] e) h ≡ h
+  polled_given g h = ap (λ es. after_events es h) (parts None None None g.0 g.1 g.2)
+
   pub made_given : (n : Name) (x : Box Actor) (cells : CodedStore) → ((a : model.Activity) (rs : List RequestShape) → Stands x.value a rs → store_of (code_of x.value) cells ≡ a.store)
-      → IsGiven e (given.Made n x) → (h : HoldersShape) → after_events (effect_events by [] e) h ≡ with_passed (futures_held cells) by n h
+      → IsGiven by e (given.Made n x) → (h : HoldersShape) → after_events (effect_events by [] e) h ≡ with_passed (futures_held cells) by n h
   made_given n x cells told g h = made e.made refl g.1
     where
       made : (o : Option (Name × model.Activity)) → e.made ≡ o → IsMade o n x.value → after_events (effect_events by [] e) h ≡ with_passed (futures_held cells) by n h
@@ -42,10 +46,10 @@ module _ (by : Name) (e : Effect) where
           ∙ (λ i. after_events (passes_all by (m.0 i) (sym (told z.1 [] m.1) i)) h)
           ∙ passes_are (code_of x.value) cells by n h
 
-  pub sent_given : (n : Name) (r : Request) → IsGiven e (given.Sent n r) → (h : HoldersShape) → after_events (effect_events by [] e) h ≡ after_events (sent_events by (Some (n, request_shape r))) h
+  pub sent_given : (n : Name) (r : Request) → IsGiven by e (given.Sent n r) → (h : HoldersShape) → after_events (effect_events by [] e) h ≡ after_events (sent_events by (Some (n, request_shape r))) h
   sent_given n r g h = ap (λ es. after_events es h) (parts (Some (n, request_shape r)) None None g.0 g.1 g.2 ∙ append-nil (sent_events by (Some (n, request_shape r))))
 
-  pub filled_given : (f : FutureName) (p : Parcel) → IsGiven e (given.Filled f p) → (h : HoldersShape) → after_events (effect_events by [] e) h ≡ after_event (Fills (future_shape f)) h
+  pub filled_given : (f : FutureName) (p : Parcel) → IsGiven by e (given.Filled f p) → (h : HoldersShape) → after_events (effect_events by [] e) h ≡ after_event (Fills (future_shape f)) h
   filled_given f p g h = ap (λ es. after_events es h) (parts None None (Some (future_shape f, parcel_shape p)) g.0 g.1 g.2)
 
 pub filled_once : (f : FutureShape) (h : HoldersShape) → has_filled f h.filled ≡ false → once_filled f h ≡ after_event (Fills f) h

@@ -1,6 +1,6 @@
 -- What a reduction gives, as events tell it.
 use Rattle.std.specs.Prelude.{◌≡◌}
-use Rattle.asp_model.specs.Names.{FutureShape}
+use Rattle.asp_model.specs.Names.{FutureShape, Name}
 use Rattle.asp_model.specs.Intent.{Effect}
 use Rattle.asp_model.specs.Shapes.{future_shape}
 use Rattle.def_journals.specs.Edges.{HoldersShape}
@@ -13,7 +13,7 @@ use Rattle.core_edges.specs.Strategies.{IsLearned, strategy_in}
 
 -- it is of an effect that sends and fills nothing that these holders know
 abbrev pub IsSomeFresh : HoldersShape → Given → Type 0
-IsSomeFresh h g = (e : Effect) × IsGiven e g × IsFresh h e
+IsSomeFresh h g = (n : Name) × (e : Effect) × IsGiven n e g × IsFresh h e
 
 -- the strategy of a new request's future is learned
 abbrev pub AreLearned : {P : Type 0} → Given → (old new : Edges P) → Type 0

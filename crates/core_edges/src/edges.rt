@@ -115,7 +115,7 @@ impl<P: UpdatePolicy> Edges<P> {
         given: &Given,
     ) -> Result<(), AllocError>
         requires fresh { IsSomeFresh self.old.holders.holders given.now }
-        ensures holders { (e : Effect) → IsGiven e given.now →
+        ensures holders { (e : Effect) → IsGiven by.now e given.now →
             let old = self.old.holders.holders in
             let events = effect_events by.now [] e in
             OnOk result (self.new.holders.holders ≡ after_events events old) }
@@ -123,7 +123,7 @@ impl<P: UpdatePolicy> Edges<P> {
             OnOk result (AreAnswered P.answer P.asked strategies self.old self.new) }
         ensures strategies { OnOk result (AreLearned given.now self.old self.new) }
         ensures labels { (c : Configuration) (n : Name) (e : Effect) → IsNewTo c e →
-            IsGiven e given.now → AreByLabels c self.old →
+            IsGiven n e given.now → AreByLabels c self.old →
             OnOk result (AreByLabels (with_effect n e c) self.new) }
         ensures activities { let old = self.old.holders.activities in
             OnOk result (self.new.holders.activities ≡ old) }
@@ -131,6 +131,7 @@ impl<P: UpdatePolicy> Edges<P> {
     {
         match given {
             Given::Nothing => Ok(()),
+            Given::Polled => Ok(()),
             Given::Made(name, actor) => self.pass_store(actor.as_ref().store(), by, name),
             Given::Sent(home, request) => self.sent(alloc, by, home, request),
             Given::Filled(future, _) => {

@@ -1,28 +1,28 @@
 -- An activity comes in with what it intended done; what that gives may be handed on.
-use Rattle.std.proofs.Common.{◌≡◌, ◌-◌, ◌++◌, ◌∷◌, [], ℕ, List, Option, Some, None, is_some, length, sym, ap, ◌∙◌, ⊎_elim}
+use Rattle.std.proofs.Common.{◌≡◌, ◌-◌, [], ℕ, List, Option, Some, None, is_some, length, sym, ap, ◌∙◌, ⊎_elim, ◌≢◌}
 use Rattle.std.specs.FinMap.{find, put}
 use Rattle.asp_model.specs.Chase.{chase}
-use Rattle.asp_model.specs.Configuration.{Activity, Configuration, RequestShape, requests_of}
+use Rattle.asp_model.specs.Configuration.{Activity, Configuration, RequestShape, log_of, requests_of}
 use Rattle.asp_model.specs.History.{HistoryShape, Committed}
 use Rattle.asp_model.specs.Intent.{Acts, Done, Effect, Rests, intent}
 use Rattle.asp_model.specs.Names.{Name, FutureShape, name_cmp, future_cmp}
 use Rattle.asp_model.specs.Parcel.{ParcelShape}
 use Rattle.asp_model.specs.Step.{intent_in, put_some, with_effect}
+use Rattle.core_state.proofs.LogLemmas.{asked_elsewhere}
+use Rattle.core_state.proofs.KeptLemmas.{whole_then}
+use Rattle.core_state.specs.Handing.{with_own}
+use Rattle.law_paths.specs.Whole.{IsWhole}
+use Rattle.law_steps.proofs.FactLemmas.{acts_facts}
+use Rattle.law_steps.proofs.TidyLemmas.{empty_where_absent}
+use Rattle.law_steps.specs.Sound.{HasRightIntents}
+use Rattle.law_steps.proofs.WholeLemmas.{moves_keep_closed, right_of, sound_intents}
 use Rattle.def_journals.specs.Journals.{RunShape, out_but}
-use Rattle.law_journals.proofs.JournalLemmas.{journals_reach}
-use Rattle.law_steps.specs.Reached.{IsReached, IsThere, Steps}
+use Rattle.law_steps.specs.Reached.{IsThere, Steps}
 use Rattle.law_steps.specs.Steps.{IsNewTo}
-use Rattle.law_steps.proofs.ClosedLaws.{reached_are_closed}
-use Rattle.law_steps.proofs.FrameLemmas.{effects_are_new}
-use Rattle.law_steps.proofs.LinkedLemmas.{intends_step, targets_are_there}
 use Rattle.law_chases.proofs.MapLemmas as Maps
 use Rattle.law_steps.proofs.NameLemmas.{name_case, name_total, name_same}
 use Rattle.law_chases.proofs.FutureLemmas.{future_total, future_same, no_some}
-use Rattle.law_steps.proofs.ReachedLemmas.{moves_go_on}
-use Rattle.law_schedules.proofs.EffectLemmas.{absent_received_none}
 use Rattle.law_journals.specs.Numbered.{AreNumbered}
-use Rattle.law_journals.proofs.GrowingLemmas.{entries_go_on}
-use Rattle.law_journals.proofs.NumberLemmas.{journals_are_numbered}
 use Rattle.law_core.specs.Commits.{returned, with_activity}
 use Rattle.law_core.proofs.CommitLemmas.{runs_are_commits}
 use Rattle.code_table.specs.declared.code.Node.{Node}
@@ -34,12 +34,11 @@ module _ (h : HistoryShape) (code : List Node) (x : CoreState) (s : RunShape) (k
   abbrev pub ended : Configuration
   ended = with_activity n r.end s.configuration
 
-  pub reached : IsReached h.program ended
-  reached = journals_reach h.program h.budget (h.entries ++ Committed k taken ∷ []) (returned s k (grant - taken) ended [])
-      (entries_go_on h.program h.budget h.entries (Committed k taken) s r.run ∙ runs_are_commits s k grant n taken r.end r.has_run r.within)
+  pub whole_ended : IsWhole ended
+  whole_ended = whole_then (Committed k taken) s (returned s k (grant - taken) ended []) (runs_are_commits s k grant n taken r.end r.has_run r.within) r.whole
 
-  pub numbered : AreNumbered s
-  numbered = journals_are_numbered h.program h.budget h.entries s r.run
+  right : HasRightIntents ended
+  right = sound_intents ended whole_ended.sound
 
   -- who is there whatever one has become
   there_too : (b c : Activity) (m : Name) → IsThere (with_activity n b s.configuration) m → IsThere (with_activity n c s.configuration) m
@@ -56,32 +55,36 @@ module _ (h : HistoryShape) (code : List Node) (x : CoreState) (s : RunShape) (k
 
   module _ (e : Effect) (intends : intent_in ended n ≡ Acts e) (left : ℕ) where
     abbrev pub own_in : RunShape
-    own_in = record { configuration = with_activity n e.own s.configuration; names = s.names; left = left; out = out_but k s.out }
+    own_in = record { configuration = with_own n e s.configuration; names = s.names; left = left; out = out_but k s.out }
 
     pub own_numbered : AreNumbered own_in
     own_numbered = record {
-      apart = numbered.apart;
-      there = λ j m named. Maps.stays_there name_cmp name_total name_same n e.own s.configuration.activities m (numbered.there j m named);
+      apart = r.numbered.apart;
+      there = λ j m named. Maps.stays_there name_cmp name_total name_same n e.own s.configuration.activities m (r.numbered.there j m named);
       numbered = λ m is. ⊎_elim
           (λ same. (k, r.has_run.named ∙ ap Some (sym same)))
-          (λ apart. numbered.numbered m (ap is_some (sym (Maps.find_other name_cmp name_total name_same m n e.own s.configuration.activities apart)) ∙ is))
+          (λ apart. r.numbered.numbered m (ap is_some (sym (Maps.find_other name_cmp name_total name_same m n e.own s.configuration.activities apart)) ∙ is))
           (name_case m n);
     }
 
     new : IsNewTo ended e
-    new = effects_are_new h.program ended n e reached intends
+    new = right.effects n e intends
 
-    pub made_new : (z : Name × Activity) → e.made ≡ Some z → (find name_cmp z.0 own_in.configuration.activities ≡ None) × (requests_of own_in.configuration z.0 ≡ [])
-    made_new z is = (absent_too r.end e.own z.0 (new.made z is), absent_received_none h.program ended z.0 reached (new.made z is))
+    pub made_new : (z : Name × Activity) → e.made ≡ Some z → (find name_cmp z.0 own_in.configuration.activities ≡ None) × (requests_of own_in.configuration z.0 ≡ []) × (log_of own_in.configuration z.0 ≡ [])
+    made_new z is =
+        let other : z.0 ≢ n = λ same. no_some (sym (new.made z is) ∙ ap (λ q. find name_cmp q ended.activities) same ∙ Maps.find_same name_cmp name_total name_same n r.end s.configuration.activities) in (
+          absent_too r.end e.own z.0 (new.made z is),
+          empty_where_absent ended (right_of ended whole_ended.sound).tidy z.0 (new.made z is),
+          asked_elsewhere n z.0 e.sent e.logged s.configuration.logs (acts_facts ended n e intends).1.logged other ∙ whole_ended.sound.quiet z.0 (new.made z is),
+        )
 
     pub sent_there : (z : Name × RequestShape) → e.sent ≡ Some z → IsThere own_in.configuration z.0
-    sent_there z is = there_too r.end e.own z.0 (targets_are_there h.program ended n e z reached intends is)
+    sent_there z is = there_too r.end e.own z.0 (right.targets n e z intends is)
 
     pub filled_new : (z : FutureShape × ParcelShape) → e.filled ≡ Some z → (find future_cmp z.0 own_in.configuration.futures ≡ None) × (length z.1.roots ≡ 1)
     filled_new z is =
         let d : Configuration = with_effect n e ended in
-        let then = moves_go_on h.program ended d (Steps None n) reached (intends_step h.program ended n e reached intends) in
-        let value = (reached_are_closed h.program d r.bare then).values z.0 z.1 (ap (λ o. find future_cmp z.0 (put_some future_cmp o ended.futures)) is ∙ Maps.find_same future_cmp future_total future_same z.0 z.1 ended.futures) in
+        let value = (moves_keep_closed (Steps None n) ended d whole_ended.closed (right.step n e intends)).values z.0 z.1 (ap (λ o. find future_cmp z.0 (put_some future_cmp o ended.futures)) is ∙ Maps.find_same future_cmp future_total future_same z.0 z.1 ended.futures) in
         (new.filled z is, ap (λ (ns : List ℕ). length ns) value.root)
 
   -- what it intends

@@ -1,26 +1,25 @@
 -- A core whose lease has come back.
-use Rattle.std.proofs.Common.{◌≡◌, ◌≢◌, ◌-◌, ◌+◌, ◌<◌, ◌≤◌, ◌^◌, ◌++◌, ◌∷◌, [], ℕ, zero, suc, Bool, false, List, Option, Some, None, length, map, slice_get, slice_set, refl, sym, ap, subst, ◌∙◌, arith}
+use Rattle.std.proofs.Common.{◌≡◌, ◌≢◌, ◌-◌, ◌+◌, ◌<◌, ◌≤◌, ◌^◌, ◌++◌, ◌∷◌, [], ℕ, Bool, false, List, Option, Some, None, length, map, slice_get, refl, sym, ap, subst, ◌∙◌, arith}
 use Rattle.std.proofs.lemmas.List.{append-nil, append_assoc, map-append}
 use Rattle.std.specs.List.{AllByRecursion}
 use Rattle.asp_model.specs.Chase.{Values, chase}
-use Rattle.asp_model.specs.Configuration.{Activity, Configuration, RequestShape, requests_of}
-use Rattle.asp_model.specs.History.{HistoryShape, Committed}
+use Rattle.asp_model.specs.Configuration.{Activity, Configuration, RequestShape, log_of, requests_of}
+use Rattle.asp_model.specs.History.{HistoryShape, Committed, with_entry}
 use Rattle.asp_model.specs.Intent as intents
 use Rattle.asp_model.specs.Intent.{Acts, Intent, intent}
 use Rattle.asp_model.specs.Names.{Name, FutureShape, name_cmp}
+use Rattle.law_journals.specs.Budgets.{granted_in, most_in, spent_in}
+use Rattle.core_state.proofs.KeptLemmas.{numbered_then, whole_then}
+use Rattle.law_journals.specs.Leases.{receptions_of}
 use Rattle.def_journals.specs.Communications.{is_communication}
-use Rattle.def_journals.specs.Journals.{RunShape, run_of}
+use Rattle.def_journals.specs.Journals.{RunShape, entered, run_of}
 use Rattle.def_journals.specs.Owed.{need_of}
 use Rattle.law_journals.proofs.BudgetLemmas.{budgets_are_kept}
-use Rattle.law_journals.proofs.JournalLemmas.{journals_reach}
 use Rattle.law_steps.specs.Closed.{IsClosed}
-use Rattle.law_steps.proofs.ClosedLaws.{reached_are_closed}
 use Rattle.law_chases.proofs.MapLemmas as Maps
 use Rattle.law_steps.proofs.NameLemmas.{name_total, name_same}
-use Rattle.law_journals.specs.Numbered.{AreNumbered}
 use Rattle.law_journals.proofs.BurstLemmas.{bursts_are_counted}
 use Rattle.law_journals.proofs.GrowingLemmas.{entries_go_on}
-use Rattle.law_journals.proofs.NumberLemmas.{journals_are_numbered}
 use Rattle.law_core.specs.Commits.{returned, with_activity}
 use Rattle.law_core.proofs.CommitLemmas.{runs_are_commits}
 use Rattle.code_table.specs.declared.code.Node.{Node}
@@ -32,7 +31,7 @@ use Rattle.core_ranks.specs.Ranks.{Rests, IsRanked, OthersStay, RankShape}
 use Rattle.core_seats.specs.Seats.{AreSeats, In, Out, SeatShape, names_in, seat_at, seats_in, with_seat}
 use Rattle.core_state.specs.Journal.{entries_in, room}
 use Rattle.step_activity.specs.declared.actor.Actor.{Actor}
-use Rattle.step_activity.specs.Actors.{IsClosedFor, Stands, code_of}
+use Rattle.step_activity.specs.Actors.{IsClosedFor, Stands, code_of, log_in}
 use Rattle.step_activity.specs.Stances as stances
 use Rattle.law_core.specs.Ranked.{rank_by, rank_in, rank_of, rank_unless}
 use Rattle.law_core.specs.Runs.{rank_of_number}
@@ -40,10 +39,11 @@ use Rattle.core_state.specs.declared.lease.Lease.{Lease}
 use Rattle.core_state.specs.declared.state.CoreState.{CoreState}
 use Rattle.core_state.specs.Leases.{IsLease}
 use Rattle.core_state.specs.Returning.{IsReturning, IsRunCommitted, rank_stance}
-use Rattle.core_state.specs.Cores.{IsCore, IsPopulated, IsSeated, count_in, with_entry}
+use Rattle.core_state.specs.Cores.{IsCore, IsPopulated, IsSeated, count_in}
+use Rattle.core_seats.proofs.SeatLemmas.{length_set}
 use Rattle.core_state.proofs.ListLemmas.{got_other, got_set, got_within, number_case}
 use Rattle.core_state.proofs.PopulateLemmas.{comes_back}
-use Rattle.core_state.proofs.ReturnLemmas.{box, has_run, requests}
+use Rattle.core_state.proofs.ReturnLemmas.{box, has_run, logged, requests}
 use Rattle.core_state.proofs.ReturnRankLemmas.{own_rank, run_ranks}
 
 -- no more are in than there are
@@ -51,11 +51,6 @@ pub count_few : {X R : Type 0} (seats : List (SeatShape X R)) → count_in seats
 count_few [] = omega arith
 count_few (In x ∷ seats) = omega (arith, count_few seats)
 count_few (Out came ∷ seats) = omega (arith, count_few seats)
-
-length_set : {A : Type 0} (xs : List A) (k : ℕ) (x : A) → length (slice_set xs k x) ≡ length xs
-length_set [] k x = refl
-length_set (y ∷ ys) zero x = refl
-length_set (y ∷ ys) (suc k) x = ap suc (length_set ys k x)
 
 -- so much was changed
 pub record Returns (x y : CoreState) (k r rest : ℕ) (a : Actor) (rank : RankShape) : Type 0 where
@@ -80,26 +75,30 @@ module _ (h : HistoryShape) (code : List Node) (x y : CoreState) (s : RunShape) 
   abbrev t : RunShape
   t = returned s k (grant - taken) d []
 
-  numbered : AreNumbered s
-  numbered = journals_are_numbered h.program h.budget h.entries s r.run
+  goes : entered (Committed k taken) s ≡ Some t
+  goes = runs_are_commits s k grant n taken r.end r.has_run r.within
 
-  runs : run_of h.program h.budget now.entries ≡ Some t
-  runs = entries_go_on h.program h.budget h.entries (Committed k taken) s r.run ∙ runs_are_commits s k grant n taken r.end r.has_run r.within
+  runs : run_of now ≡ Some t
+  runs = entries_go_on h (Committed k taken) s r.run ∙ goes
 
   still_small : s.left + (grant - taken) < 2 ^ 64
-  still_small = omega (arith, budgets_are_kept h.program h.budget now.entries t runs, r.small)
+  still_small =
+      let kept : spent_in d + (t.left + granted_in t.out) ≡ most_in h = budgets_are_kept now t r.first.sound runs in
+      omega (arith, kept, r.small)
 
   pub run_back : (rank : RankShape) → rank ≡ rank_in d n → Returns x y k taken (grant - taken) a rank → IsRunCommitted h code s k n grant taken r.end y
   run_back rank is c = record {
-    bare = r.bare;
+    first = r.first;
+    whole = whole_then (Committed k taken) s t goes r.whole;
+    numbered = numbered_then (Committed k taken) s t goes r.whole.sound r.numbered;
     small = r.small;
     run = runs;
     entries = c.entries ∙ ap (λ es. es ++ Committed k taken ∷ []) r.entries;
-    populated = subst (IsPopulated now code y) same_run (comes_back h code x y s k r.populated numbered n r.has_run.named a r.end taken (s.left + (grant - taken))
-        (got_within (seats_in x.seats) k (Out []) r.away) c.seats c.names c.kept c.futures r.stands r.coded);
+    populated = subst (IsPopulated now code y) same_run (comes_back h code x y s k r.populated r.numbered n r.has_run.named a r.end s.configuration.logs (λ m apart. refl) taken (s.left + (grant - taken))
+        (got_within (seats_in x.seats) k (Out []) r.away) c.seats c.names c.kept c.futures r.stands r.coded r.logged);
     ranks = λ j. number_case j k
-        (λ same. subst (λ i. IsRanked y.ranks i (rank_of_number t i)) (sym same) (subst (IsRanked y.ranks k) (is ∙ sym (own_rank s numbered k n r.has_run.named d [] (s.left + (grant - taken)))) c.here))
-        (λ apart. subst (IsRanked y.ranks j) (sym (run_ranks s numbered k n r.has_run.named r.end (s.left + (grant - taken)) j apart)) (c.others j (rank_of_number s j) apart (r.ranks j)));
+        (λ same. subst (λ i. IsRanked y.ranks i (rank_of_number t i)) (sym same) (subst (IsRanked y.ranks k) (is ∙ sym (own_rank s r.numbered k n r.has_run.named d [] (s.left + (grant - taken)))) c.here))
+        (λ apart. subst (IsRanked y.ranks j) (sym (run_ranks s r.numbered k n r.has_run.named r.end (s.left + (grant - taken)) j apart)) (c.others j (rank_of_number s j) apart (r.ranks j)));
     left = c.left (subst (λ l. l + (grant - taken) < 2 ^ 64) (sym r.left) still_small) ∙ ap (λ l. l + (grant - taken)) r.left;
     bursts = omega (arith, c.bursts, r.bursts, (bursts_are_counted h.entries).0 (Committed k taken));
     room = omega (arith, count_few (seats_in y.seats), ap length c.seats, length_set (seats_in x.seats) k (In a), r.room, c.room);
@@ -125,9 +124,7 @@ stance_rank values rs n a = stance_rank_by values (need_of (chase values) a) (is
 
 module _ (h : HistoryShape) (code : List Node) (x : CoreState) (s : RunShape) (k : ℕ) (n : Name) (grant taken : ℕ) (a : Actor) (r : IsReturning h code x s k n grant taken a) where
   closed_then : IsClosed (with_activity n r.end s.configuration)
-  closed_then =
-      let t = returned s k (grant - taken) (with_activity n r.end s.configuration) [] in
-      reached_are_closed h.program t.configuration r.bare (journals_reach h.program h.budget (h.entries ++ Committed k taken ∷ []) t (runs h code x x s k n grant taken a r))
+  closed_then = (whole_then (Committed k taken) s (returned s k (grant - taken) (with_activity n r.end s.configuration) []) (goes h code x x s k n grant taken a r) r.whole).closed
 
   pub back_closed : IsClosedFor a
   back_closed = record {
@@ -173,9 +170,12 @@ module _ (h : HistoryShape) (code : List Node) (x : CoreState) (s : RunShape) (c
     seat_j j apart = ap (λ seats. slice_get seats j) c.seats ∙ got_other (seats_in x.seats) l.number j (Out []) apart
 
     pub taken_back : Stands a (lease.done fresh).end (requests_of lease.run.configuration lease.name ++ map request_shape (box h code x s core l lease).0) → code_of a ≡ code
+        → log_in a ≡ log_of lease.run.configuration lease.name ++ receptions_of (map request_shape (box h code x s core l lease).0)
         → IsReturning h code y s l.number lease.name l.grant l.taken a
-    taken_back stands coded = record {
-      bare = core.bare;
+    taken_back stands coded logs = record {
+      first = core.first;
+      whole = core.whole;
+      numbered = core.numbered;
       small = core.small;
       run = core.run;
       entries = c.entries ∙ core.entries;
@@ -197,4 +197,5 @@ module _ (h : HistoryShape) (code : List Node) (x : CoreState) (s : RunShape) (c
       within = lease.within;
       stands = subst (Stands a (lease.done fresh).end) (sym (requests h code x s core l lease)) stands;
       coded = coded;
+      logged = logs ∙ sym (logged h code x s core l lease);
     }

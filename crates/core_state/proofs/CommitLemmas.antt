@@ -1,12 +1,18 @@
 -- A core in which an activity has come in with a communication.
 use Rattle.std.proofs.Common.{◌≡◌, ◌-◌, ◌+◌, ◌<◌, ◌≤◌, ◌^◌, ◌++◌, ◌∷◌, [], ℕ, zero, suc, Bool, true, false, List, Option, Some, None, is_some, length, refl, sym, ap, subst, ◌∙◌, arith}
 use Rattle.asp_model.specs.Chase.{Chase, Values, chase}
-use Rattle.asp_model.specs.Configuration.{Activity, Configuration, RequestShape, requests_of}
-use Rattle.asp_model.specs.History.{Committed, HistoryShape}
+use Rattle.asp_model.specs.Configuration.{Activity, Configuration, ReceptionShape, RequestShape, requests_of}
+use Rattle.asp_model.specs.History.{Committed, HistoryShape, with_entry}
 use Rattle.asp_model.specs.Intent as intents
 use Rattle.asp_model.specs.Intent.{Acts, Done, Effect, Intent, intent}
 use Rattle.asp_model.specs.Names.{Name, FutureShape, name_cmp, future_cmp}
-use Rattle.asp_model.specs.Step.{intent_in, put_some, with_sent}
+use Rattle.asp_model.specs.Step.{intent_in, put_some, with_last}
+use Rattle.law_journals.specs.Budgets.{granted_in, most_in, spent_in}
+use Rattle.core_state.proofs.LogLemmas.{logs_join}
+use Rattle.core_state.proofs.KeptLemmas.{numbered_then, whole_then}
+use Rattle.law_steps.proofs.FrameLemmas.{sender_of}
+use Rattle.law_steps.proofs.SoundLemmas.{at_name}
+use Rattle.law_steps.proofs.FactLemmas.{acts_facts, face_of}
 use Rattle.def_journals.specs.Communications.{is_communication}
 use Rattle.def_journals.specs.Journals.{RunShape, entered, out_but, run_of}
 use Rattle.def_journals.specs.Owed.{need_of}
@@ -14,7 +20,6 @@ use Rattle.law_journals.proofs.BudgetLemmas.{budgets_are_kept}
 use Rattle.law_chases.proofs.MapLemmas as Maps
 use Rattle.law_steps.proofs.NameLemmas.{is_there, name_total, name_same}
 use Rattle.law_chases.proofs.FutureLemmas.{no_some, none_true}
-use Rattle.law_steps.proofs.WholeLemmas.{reached_are_sound}
 use Rattle.law_journals.proofs.BurstLemmas.{bursts_are_counted}
 use Rattle.law_journals.proofs.GrowingLemmas.{entries_go_on}
 use Rattle.law_journals.proofs.NameListLemmas.{number_stays}
@@ -32,13 +37,13 @@ use Rattle.step_activity.specs.Stances as stances
 use Rattle.law_core.specs.Runs.{rank_named, rank_of_number, rank_unless_out}
 use Rattle.core_state.specs.declared.state.CoreState.{CoreState}
 use Rattle.core_state.specs.Returning.{IsReturning, IsSomeReturning}
-use Rattle.core_state.specs.Cores.{IsPopulated, with_entry}
+use Rattle.core_state.specs.Cores.{IsPopulated}
 use Rattle.core_state.proofs.ComeBackLemmas.{count_few}
 use Rattle.core_state.specs.declared.change.Change.{Change}
 use Rattle.core_state.specs.Changes.{IsChange, IsChanged, IsStanding, acted}
 use Rattle.core_state.specs.Commits.{IsActCommitted, IsActing, act_by, act_of, act_within, communicates}
-use Rattle.core_state.specs.Handing.{IsToHand, came_in, handed}
-use Rattle.core_state.proofs.ActLemmas.{numbered, reached}
+use Rattle.core_state.specs.Handing.{IsToHand, asked_log, came_in, handed, received_log, with_own}
+use Rattle.core_state.proofs.ActLemmas.{whole_ended}
 
 -- Where one acts
 
@@ -121,26 +126,29 @@ module _ (x : CoreState) (k grant reductions : ℕ) (a : Actor) (z : IsSomeActin
 
   -- the run before others have what the reduction gives, and after that
   abbrev pub came : RunShape
-  came = came_in s k left (with_activity n e.own s.configuration)
+  came = came_in s k left (with_own n e s.configuration)
 
   abbrev pub t : RunShape
   t = acted s k n r.returning.end e left
 
-  pub runs : run_of h.program h.budget now.entries ≡ Some t
-  runs =
-      entries_go_on h.program h.budget h.entries (Committed k reductions) s r.returning.run
-      ∙ subst (λ q. entered (Committed k q) s ≡ Some (acted s k n r.returning.end e (s.left + (grant - q)))) (sym r.more)
+  goes : entered (Committed k reductions) s ≡ Some t
+  goes =
+      subst (λ q. entered (Committed k q) s ≡ Some (acted s k n r.returning.end e (s.left + (grant - q)))) (sym r.more)
       (acts_are_commits s k grant n r.taken r.returning.end e r.returning.has_run r.within r.intends)
 
-  pub to_hand : (y : CoreState) (g : Given) → IsToHand (with_entry h (Committed k (suc r.taken))) code y came e g → IsToHand now code y came e g
-  to_hand y g = subst (λ q. IsToHand (with_entry h (Committed k q)) code y came e g) (sym r.more)
+  pub runs : run_of now ≡ Some t
+  runs = entries_go_on h (Committed k reductions) s r.returning.run ∙ goes
+
+  pub to_hand : (y : CoreState) (g : Given) → IsToHand (with_entry h (Committed k (suc r.taken))) code y came n e g → IsToHand now code y came n e g
+  to_hand y g = subst (λ q. IsToHand (with_entry h (Committed k q)) code y came n e g) (sym r.more)
 
   -- the activity was written twice
-  abbrev over : Configuration → RunShape
-  over d = record {
+  abbrev over : List (Name × List ReceptionShape) → Configuration → RunShape
+  over logs d = record {
     configuration = record {
       activities = put_some name_cmp e.made d.activities;
-      received = with_sent e.sent d.received;
+      received = with_last e.sent d.received;
+      logs = logs;
       futures = put_some future_cmp e.filled d.futures;
     };
     names = s.names ++ made_by e.made;
@@ -148,19 +156,32 @@ module _ (x : CoreState) (k grant reductions : ℕ) (a : Actor) (z : IsSomeActin
     out = out_but k s.out;
   }
 
+  -- and its log, and that of who receives, were written one after the other
+  abbrev handed_logs : List (Name × List ReceptionShape)
+  handed_logs = with_last (received_log e.sent) (with_last (asked_log e.sent e.logged) s.configuration.logs)
+
+  abbrev c : Configuration
+  c = with_activity n r.returning.end s.configuration
+
+  same_logs : handed_logs ≡ with_last e.logged s.configuration.logs
+  same_logs =
+      let facts = (acts_facts c n e r.intends).1 in
+      logs_join n e.sent e.logged s.configuration.logs (sender_of n (at_name c n) (face_of e.own) e.sent facts.sent) facts.logged
+
   same_run : handed came e ≡ t
-  same_run = sym (ap over (written_over s.configuration n r.returning.has_run.sound.ordered.activities r.returning.end e.own))
+  same_run = sym (ap (over handed_logs) (written_over s.configuration n r.returning.has_run.sound.ordered.activities r.returning.end e.own)) ∙ ap (λ logs. over logs (with_activity n e.own c)) same_logs
 
   pub to_rank : (y : CoreState) (g : Change) → y.ranks ≡ x.ranks → IsPopulated now code y (handed came e) → IsChange s.names e g
       → IsChanged now code y s k n r.returning.end e left g
   to_rank y g ranks populated change = record {
-    bare = r.returning.bare;
-    numbered = numbered h code x s k n grant r.taken a r.returning;
+    first = r.returning.first;
+    numbered = r.returning.numbered;
     named = r.returning.has_run.named;
     out = ap (rank_named s k) r.returning.has_run.named ∙ ap (rank_unless_out s n) r.returning.has_run.out;
     ranks = λ j. subst (λ q. IsRanked q j (rank_of_number s j)) (sym ranks) (r.returning.ranks j);
-    sound = reached_are_sound h.program (with_activity n r.returning.end s.configuration) (reached h code x s k n grant r.taken a r.returning);
+    sound = (whole_ended h code x s k n grant r.taken a r.returning).sound;
     intends = r.intends;
+    whole = whole_then (Committed k reductions) s t goes r.returning.whole;
     run = runs;
     populated = subst (IsPopulated now code y) same_run populated;
     change = change;
@@ -168,7 +189,8 @@ module _ (x : CoreState) (k grant reductions : ℕ) (a : Actor) (z : IsSomeActin
 
   pub to_look : (y : CoreState) → IsPopulated now code y t → IsStanding now code y t k
   to_look y populated = record {
-    bare = r.returning.bare;
+    first = r.returning.first;
+    whole = whole_then (Committed k reductions) s t goes r.returning.whole;
     run = runs;
     populated = populated;
     name = n;
@@ -176,7 +198,9 @@ module _ (x : CoreState) (k grant reductions : ℕ) (a : Actor) (z : IsSomeActin
   }
 
   still_small : s.left + (grant - reductions) < 2 ^ 64
-  still_small = omega (arith, budgets_are_kept h.program h.budget now.entries t runs, r.returning.small)
+  still_small =
+      let kept : spent_in t.configuration + (t.left + granted_in t.out) ≡ most_in h = budgets_are_kept now t r.returning.first.sound runs in
+      omega (arith, kept, r.returning.small)
 
   pub has_room : 0 < room x.journal
   has_room = omega (arith, r.returning.room)
@@ -189,7 +213,9 @@ module _ (x : CoreState) (k grant reductions : ℕ) (a : Actor) (z : IsSomeActin
       let long : length (names_in y.seats) ≡ length (s.names ++ made_by e.made) = ap length populated.names in
       let was : length (names_in x.seats) ≡ length s.names = ap length r.returning.populated.names in
       record {
-        bare = r.returning.bare;
+        first = r.returning.first;
+        whole = whole_then (Committed k reductions) s t goes r.returning.whole;
+        numbered = numbered_then (Committed k reductions) s t goes r.returning.whole.sound r.returning.numbered;
         small = r.returning.small;
         run = runs;
         entries = entries ∙ ap (λ es. es ++ Committed k reductions ∷ []) r.returning.entries;

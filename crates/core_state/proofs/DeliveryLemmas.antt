@@ -1,20 +1,19 @@
 -- A core to one of whose activities a value was delivered.
-use Rattle.std.proofs.Common.{◌≡◌, ◌≢◌, ◌≤◌, ◌<◌, ◌++◌, ◌∷◌, [], ℕ, zero, suc, List, Option, Some, None, length, slice_get, slice_set, refl, sym, ap, subst, ◌∙◌, arith}
-use Rattle.asp_model.specs.Configuration.{Activity, requests_of}
-use Rattle.asp_model.specs.History.{Delivered, DeliveryShape, EntryShape, HistoryShape}
+use Rattle.std.proofs.Common.{◌≡◌, ◌≢◌, ◌≤◌, ◌<◌, ◌++◌, ◌∷◌, [], ℕ, List, Option, Some, None, length, slice_get, refl, sym, ap, subst, ◌∙◌, arith}
+use Rattle.asp_model.specs.Configuration.{Activity, log_of, requests_of}
+use Rattle.asp_model.specs.History.{Delivered, DeliveryShape, EntryShape, HistoryShape, with_entry}
 use Rattle.asp_model.specs.Names.{Name, name_cmp}
 use Rattle.asp_model.specs.Step.{name_at}
 use Rattle.asp_model.specs.Store.{Store}
+use Rattle.core_state.proofs.KeptLemmas.{numbered_then, whole_then}
 use Rattle.def_journals.specs.Journals.{RunShape, entered, grant_of}
 use Rattle.law_chases.proofs.MapLemmas as Maps
 use Rattle.law_steps.proofs.NameLemmas.{name_same, name_total}
 use Rattle.law_chases.proofs.FutureLemmas.{some_is}
 use Rattle.law_journals.specs.Entered.{IsIn, with_store_of}
 use Rattle.law_journals.specs.Leases.{bursts_in}
-use Rattle.law_journals.specs.Numbered.{AreNumbered}
 use Rattle.law_journals.proofs.BurstLemmas.{bursts_are_counted, leases_last}
 use Rattle.law_journals.proofs.GrowingLemmas.{entries_go_on}
-use Rattle.law_journals.proofs.NumberLemmas.{journals_are_numbered}
 use Rattle.code_table.specs.declared.code.Node.{Node}
 use Rattle.future_table.specs.Values.{AreOfCode, values_of}
 use Rattle.request_queue.specs.declared.request.Request.{Request}
@@ -22,24 +21,15 @@ use Rattle.core_ranks.specs.Ranks.{IsRanked, OthersStay, RankShape}
 use Rattle.core_seats.specs.Seats.{AreSeats, In, Out, SeatShape, names_in, seat_at, seats_in, with_seat}
 use Rattle.core_state.specs.Journal.{entries_in, room}
 use Rattle.step_activity.specs.declared.actor.Actor.{Actor}
-use Rattle.step_activity.specs.Actors.{Stands, code_of}
+use Rattle.step_activity.specs.Actors.{Stands, code_of, log_in}
 use Rattle.law_core.specs.Ranked.{rank_in}
 use Rattle.law_core.specs.Runs.{rank_named, rank_of_number, rank_unless_out}
 use Rattle.law_core.proofs.RankLemmas.{writes_keep_ranks}
 use Rattle.core_state.specs.declared.state.CoreState.{CoreState}
-use Rattle.core_state.specs.Cores.{IsCore, IsHere, IsSeated, count_in, with_entry}
+use Rattle.core_state.specs.Cores.{IsCore, IsHere, IsSeated}
+use Rattle.core_seats.proofs.SeatLemmas.{length_set}
+use Rattle.core_state.proofs.ComeBackLemmas.{count_few}
 use Rattle.core_state.proofs.ListLemmas.{got_other, got_set, number_case}
-
--- no more are in than there are
-count_few : {X R : Type 0} (seats : List (SeatShape X R)) → count_in seats ≤ length seats
-count_few [] = omega arith
-count_few (In x ∷ seats) = omega (arith, count_few seats)
-count_few (Out came ∷ seats) = omega (arith, count_few seats)
-
-pub length_set : {A : Type 0} (xs : List A) (k : ℕ) (x : A) → length (slice_set xs k x) ≡ length xs
-length_set [] k x = refl
-length_set (y ∷ ys) zero x = refl
-length_set (y ∷ ys) (suc k) x = ap suc (length_set ys k x)
 
 none_more : (entries : List EntryShape) (d : DeliveryShape) → bursts_in (entries ++ Delivered d ∷ []) ≡ bursts_in entries
 none_more entries d = omega (arith, (bursts_are_counted entries).0 (Delivered d))
@@ -67,11 +57,8 @@ module _ (h : HistoryShape) (code : List Node) (x y : CoreState) (s : RunShape) 
   abbrev now : HistoryShape
   now = with_entry h (Delivered d)
 
-  numbered : AreNumbered s
-  numbered = journals_are_numbered h.program h.budget h.entries s core.run
-
   other_name : (j : ℕ) (m : Name) → j ≢ k → name_at s.names j ≡ Some m → m ≢ n
-  other_name j m apart is same = apart (numbered.apart j k n (is ∙ ap Some same) here.named)
+  other_name j m apart is same = apart (core.numbered.apart j k n (is ∙ ap Some same) here.named)
 
   -- Ranks
 
@@ -97,25 +84,28 @@ module _ (h : HistoryShape) (code : List Node) (x y : CoreState) (s : RunShape) 
     activity = seated.activity;
     there = Maps.find_other name_cmp name_total name_same m n filled s.configuration.activities other ∙ seated.there;
     stands = seated.stands;
+    logged = seated.logged;
     coded = seated.coded;
   }
   others_seated j m other (Some (Out came)) seated = record {
     burst = seated.burst;
     run = seated.run;
-    lent = leases_last h.program h.budget h.entries (Delivered d) j seated.burst seated.run refl seated.lent;
+    lent = leases_last h (Delivered d) j seated.burst seated.run refl seated.lent;
     named = seated.named;
     requests = seated.requests;
+    logged = seated.logged;
     coded = seated.coded;
   }
   others_seated j m other None seated = seated
 
-  module _ (stands : Stands a filled (requests_of s.configuration n)) (coded : code_of a ≡ code) (rank : RankShape) (is : rank ≡ rank_in t.configuration n) (within : k < length (seats_in x.seats)) (c : Delivers x y k d a rank) where
+  module _ (stands : Stands a filled (requests_of s.configuration n)) (coded : code_of a ≡ code) (logged : log_in a ≡ log_of s.configuration n) (rank : RankShape) (is : rank ≡ rank_in t.configuration n) (within : k < length (seats_in x.seats)) (c : Delivers x y k d a rank) where
     here_now : (m : Name) → name_at s.names k ≡ Some m → IsHere code t k m a
     here_now m named = subst (λ m. IsHere code t k m a) (some_is (sym here.named ∙ named)) (record {
       free = here.free;
       activity = filled;
       there = Maps.find_same name_cmp name_total name_same n filled s.configuration.activities;
       stands = stands;
+      logged = logged;
       coded = coded;
     })
 
@@ -132,9 +122,11 @@ module _ (h : HistoryShape) (code : List Node) (x y : CoreState) (s : RunShape) 
 
     pub delivered_core : IsCore now code y t
     delivered_core = record {
-      bare = core.bare;
+      first = core.first;
+      whole = whole_then (Delivered d) s t goes core.whole;
+      numbered = numbered_then (Delivered d) s t goes core.whole.sound core.numbered;
       small = core.small;
-      run = entries_go_on h.program h.budget h.entries (Delivered d) s core.run ∙ goes;
+      run = entries_go_on h (Delivered d) s core.run ∙ goes;
       entries = c.entries ∙ ap (λ es. es ++ Delivered d ∷ []) core.entries;
       populated = record {
         kept = c.kept;

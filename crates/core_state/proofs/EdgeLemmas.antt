@@ -12,7 +12,6 @@ use Rattle.law_steps.specs.Reached.{Edges, Makes}
 use Rattle.law_journals.specs.Entered.{with_store_of}
 use Rattle.law_journals.specs.Numbered.{AreNumbered}
 use Rattle.law_journals.proofs.EntryLemmas.{edges_are_entered}
-use Rattle.law_journals.proofs.NumberLemmas.{journals_are_numbered}
 use Rattle.law_core.proofs.ReceiverLemmas.{deliveries_keep_rank}
 use Rattle.core_state.specs.declared.state.CoreState.{CoreState}
 use Rattle.core_state.specs.Deliveries.{IsPassed, IsSomePassed}
@@ -59,5 +58,5 @@ module _ (x : CoreState) (k : ℕ) (f : FutureShape) (from : Name) (passed : IsS
     s = passed.2;
     core = passed.3;
     d = Edge f from passed.4.name;
-    r = edge_receives passed.2 (journals_are_numbered passed.0.program passed.0.budget passed.0.entries passed.2 passed.3.run) k f from passed.4;
+    r = edge_receives passed.2 passed.3.numbered k f from passed.4;
   }

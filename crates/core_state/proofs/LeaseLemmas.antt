@@ -9,7 +9,7 @@ use Rattle.activity_step.specs.declared.advance.Advance.{Advance}
 use Rattle.activity_step.specs.declared.advance.Advance.TheVariants as advance
 use Rattle.activity_step.specs.Activities.{IsUsed}
 use Rattle.activity_step.specs.Local.{LocalRun}
-use Rattle.step_activity.specs.Actors.{Stands, code_of}
+use Rattle.step_activity.specs.Actors.{Stands, code_of, log_in}
 use Rattle.step_activity.specs.Running.{IsRunBy}
 use Rattle.core_state.specs.declared.lease.Lease.{Lease}
 use Rattle.core_state.specs.Leases.{HasStopped, IsLease}
@@ -32,12 +32,13 @@ used_on n t m g (advance.Needs p) used within sum = tt
 used_on n t m g (advance.Creates p) used within sum = tt
 used_on n t m g advance.Sends used within sum = tt
 used_on n t m g advance.Serves used within sum = tt
+used_on n t m g advance.Polls used within sum = tt
 
 module _ (h : HistoryShape) (code : List Node) (x y : Lease) (l : IsLease h code x) (fresh : x.spent ≡ false) (m : ℕ) where
   pub runs_on : y.number ≡ x.number → y.burst ≡ x.burst → y.grant ≡ x.grant → y.taken ≡ min (x.taken + m) (2 ^ 64 - 1)
-      → ((a : Activity) (rs : List RequestShape) → Stands x.actor.value a rs → IsRunBy y.actor.value a rs (x.grant - x.taken) m) → code_of y.actor.value ≡ code_of x.actor.value
+      → ((a : Activity) (rs : List RequestShape) → Stands x.actor.value a rs → IsRunBy y.actor.value a rs (x.grant - x.taken) m) → code_of y.actor.value ≡ code_of x.actor.value → log_in y.actor.value ≡ log_in x.actor.value
       → y.spent ≡ false → HasStopped h code y
-  runs_on number burst grant taken runs coded still =
+  runs_on number burst grant taken runs coded logs still =
       let done = l.done fresh in
       let r = runs done.end (requests_of l.run.configuration l.name) done.stands in
       let few : x.grant ≤ 64 = omega (arith, l.grant) in
@@ -45,7 +46,7 @@ module _ (h : HistoryShape) (code : List Node) (x y : Lease) (l : IsLease h code
       record {
         lease = record {
           run = l.run;
-          lent = subst (λ k. IsLentAt h.program h.budget h.entries k y.burst l.run) (sym number) (subst (λ b. IsLentAt h.program h.budget h.entries x.number b l.run) (sym burst) l.lent);
+          lent = subst (λ k. IsLentAt h k y.burst l.run) (sym number) (subst (λ b. IsLentAt h x.number b l.run) (sym burst) l.lent);
           name = l.name;
           named = ap (name_at l.run.names) number ∙ l.named;
           activity = l.activity;
@@ -57,6 +58,7 @@ module _ (h : HistoryShape) (code : List Node) (x y : Lease) (l : IsLease h code
             run = subst (λ k. LocalRun k l.activity r.end) (sym sum) (run_then x.taken m l.activity done.end r.end done.run r.run);
             stands = r.stands;
             coded = coded ∙ done.coded;
+            logged = logs ∙ done.logged;
           };
         };
         fresh = still;

@@ -2,8 +2,8 @@
 use Rattle.std.proofs.Common.{◌≡◌, ◌≢◌, ◌-◌, ◌+◌, ◌<◌, ◌≤◌, ◌&&◌, ◌++◌, ◌∷◌, [], ℕ, suc, Bool, true, false, min, not, List, Option, Some, None, is_none, length, length-append, ◌^◌, nat_lt, slice_get, refl, sym, ap, subst, ◌∙◌, arith}
 use Rattle.std.proofs.lemmas.Bool.{and_parts, lt-ltb, ltb-true}
 use Rattle.std.proofs.lemmas.List.{append-nil}
-use Rattle.asp_model.specs.Configuration.{requests_of}
-use Rattle.asp_model.specs.History.{EntryShape, HistoryShape, Lent}
+use Rattle.asp_model.specs.Configuration.{log_of, requests_of}
+use Rattle.asp_model.specs.History.{EntryShape, HistoryShape, Lent, with_entry}
 use Rattle.asp_model.specs.Names.{Name}
 use Rattle.asp_model.specs.Status.{is_running, status_of}
 use Rattle.asp_model.specs.Step.{name_at}
@@ -26,12 +26,12 @@ use Rattle.core_seats.specs.Seats.{AreSeats, In, IsTaken, Out, SeatShape, names_
 use Rattle.core_state.specs.Journal.{entries_in, room}
 use Rattle.activity_step.specs.Local.{LocalRun}
 use Rattle.step_activity.specs.declared.actor.Actor.{Actor}
-use Rattle.step_activity.specs.Actors.{Stands, code_of}
+use Rattle.step_activity.specs.Actors.{Stands, code_of, log_in}
 use Rattle.law_core.specs.Runs.{is_ready, may_go, rank_of_number}
 use Rattle.law_core.proofs.RunLemmas.{lends_keep_ranks, ranks_tell_ready}
 use Rattle.core_state.specs.declared.lease.Lease.{Lease}
 use Rattle.core_state.specs.declared.state.CoreState.{CoreState}
-use Rattle.core_state.specs.Cores.{IsAway, IsCore, IsHere, IsSeated, count_in, with_entry}
+use Rattle.core_state.specs.Cores.{IsAway, IsCore, IsHere, IsSeated, count_in}
 use Rattle.core_state.specs.Lending.{IsNewLease, IsNextReady}
 use Rattle.core_state.proofs.ListLemmas.{got_other, got_set, got_within, number_case, numbers_apart, one_less}
 
@@ -64,7 +64,7 @@ readies s k h = readies_by s k (name_at s.names k) refl h
 module _ (h : HistoryShape) (code : List Node) (x : CoreState) (s : RunShape) (core : IsCore h code x s) where
   -- who is out has a grant
   away_out : (k : ℕ) (n : Name) (came : List Request) → IsAway h code s k n came → grant_of k s.out ≢ None
-  away_out k n came away e = no_some (sym e ∙ (leases_stay h.program h.budget h.entries k away.burst n away.run s away.lent away.named core.run).out)
+  away_out k n came away e = no_some (sym e ∙ (leases_stay h k away.burst n away.run s core.first away.lent away.named core.run).out)
 
   here_by : (k : ℕ) (n : Name) (o : Option (SeatShape Actor Request)) → seat_at x.seats k ≡ o → grant_of k s.out ≡ None → IsSeated h code s k n o
       → (a : Actor) × (seat_at x.seats k ≡ Some (In a)) × IsHere code s k n a
@@ -113,9 +113,9 @@ module _ (h : HistoryShape) (code : List Node) (x y : CoreState) (s : RunShape) 
   abbrev now : HistoryShape
   now = with_entry h (Lent k)
 
-  runs : run_of h.program h.budget (h.entries ++ Lent k ∷ []) ≡ Some t
+  runs : run_of (with_entry h (Lent k)) ≡ Some t
   runs =
-      entries_go_on h.program h.budget h.entries (Lent k) s core.run
+      entries_go_on h (Lent k) s core.run
       ∙ lends_are_entered s k n here.2.activity (record { named = able.named; free = able.free; there = here.2.there }) able.running able.left
 
   module _ (c : Lends x y k) where
@@ -129,9 +129,10 @@ module _ (h : HistoryShape) (code : List Node) (x y : CoreState) (s : RunShape) 
     away_now m named = record {
       burst = suc (bursts_in h.entries);
       run = s;
-      lent = leases_begin h.program h.budget h.entries k s core.run;
+      lent = leases_begin h k s core.run;
       named = named;
       requests = sym (append-nil (requests_of s.configuration m));
+      logged = sym (append-nil (log_of s.configuration m));
       coded = tt;
     }
 
@@ -141,14 +142,16 @@ module _ (h : HistoryShape) (code : List Node) (x y : CoreState) (s : RunShape) 
       activity = seated.activity;
       there = seated.there;
       stands = seated.stands;
+      logged = seated.logged;
       coded = seated.coded;
     }
     others_seated j m apart (Some (Out came)) seated = record {
       burst = seated.burst;
       run = seated.run;
-      lent = leases_last h.program h.budget h.entries (Lent k) j seated.burst seated.run (ap (λ b. not b && true) (numbers_apart j k apart)) seated.lent;
+      lent = leases_last h (Lent k) j seated.burst seated.run (ap (λ b. not b && true) (numbers_apart j k apart)) seated.lent;
       named = seated.named;
       requests = seated.requests;
+      logged = seated.logged;
       coded = seated.coded;
     }
     others_seated j m apart None seated = seated
@@ -170,7 +173,9 @@ module _ (h : HistoryShape) (code : List Node) (x y : CoreState) (s : RunShape) 
     -- the core stands for the run with the lend
     pub lends : IsCore now code y t
     lends = record {
-      bare = core.bare;
+      first = core.first;
+      whole = core.whole;
+      numbered = record { apart = core.numbered.apart; there = core.numbered.there; numbered = core.numbered.numbered };
       small = core.small;
       run = runs;
       entries = c.entries ∙ ap (λ es. es ++ Lent k ∷ []) core.entries;
@@ -198,7 +203,7 @@ module _ (h : HistoryShape) (code : List Node) (x y : CoreState) (s : RunShape) 
       record {
         lease = record {
           run = s;
-          lent = subst (λ i. IsLentAt h.program h.budget now.entries i l.burst s) (sym number) (subst (λ b. IsLentAt h.program h.budget now.entries k b s) first (leases_begin h.program h.budget h.entries k s core.run));
+          lent = subst (λ i. IsLentAt now i l.burst s) (sym number) (subst (λ b. IsLentAt now k b s) first (leases_begin h k s core.run));
           name = n;
           named = ap (name_at s.names) number ∙ able.named;
           activity = here.2.activity;
@@ -210,6 +215,7 @@ module _ (h : HistoryShape) (code : List Node) (x y : CoreState) (s : RunShape) 
             run = subst (λ r. LocalRun r here.2.activity here.2.activity) (sym taken) refl;
             stands = subst (λ a. Stands a here.2.activity (requests_of s.configuration n)) (sym actor) here.2.stands;
             coded = ap code_of actor ∙ here.2.coded;
+            logged = ap log_in actor ∙ here.2.logged;
           };
         };
         number = number;

@@ -1,5 +1,7 @@
 -- in reading order
 pub mod ListLemmas
+pub mod KeptLemmas
+pub mod LogLemmas
 pub mod LeaseLemmas
 pub mod LendLemmas
 pub mod PopulateLemmas

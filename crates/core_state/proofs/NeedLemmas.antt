@@ -16,7 +16,6 @@ use Rattle.law_chases.proofs.FutureLemmas.{future_itself, some_is}
 use Rattle.law_journals.specs.Entered.{with_store_of}
 use Rattle.law_journals.specs.Numbered.{AreNumbered}
 use Rattle.law_journals.proofs.EntryLemmas.{needs_are_entered}
-use Rattle.law_journals.proofs.NumberLemmas.{journals_are_numbered}
 use Rattle.law_core.proofs.ReceiverLemmas.{needs_keep_rank}
 use Rattle.core_state.specs.declared.state.CoreState.{CoreState}
 use Rattle.core_state.specs.Deliveries.{IsNeeded, IsSomeNeed}
@@ -78,9 +77,6 @@ module _ (s : RunShape) (numbered : AreNumbered s) (k place : ℕ) (f : FutureSh
 
 -- what a call sees: some history of its core has the need
 module _ (x : CoreState) (k place : ℕ) (f : FutureShape) (need : IsSomeNeed x k place f) where
-  pub numbered_so : AreNumbered need.2
-  numbered_so = journals_are_numbered need.0.program need.0.budget need.0.entries need.2 need.3.run
-
   abbrev pub owed_need : Owes x k f
   owed_need = record {
     history = need.0;
@@ -88,8 +84,8 @@ module _ (x : CoreState) (k place : ℕ) (f : FutureShape) (need : IsSomeNeed x 
     s = need.2;
     core = need.3;
     d = Need f need.4.name place;
-    r = need_receives need.2 numbered_so k place f need.4;
+    r = need_receives need.2 need.3.numbered k place f need.4;
   }
 
   pub place_within : place < length need.4.activity.store
-  place_within = within need.2 numbered_so k place f need.4
+  place_within = within need.2 need.3.numbered k place f need.4

@@ -20,9 +20,7 @@ use Rattle.def_journals.specs.Communications.{is_communication}
 use Rattle.def_journals.specs.Deliveries.{value_needed, value_of}
 use Rattle.def_journals.specs.Journals.{RunShape, grant_of}
 use Rattle.def_journals.specs.Owed.{need_at, need_in, need_of, need_to, needed_at}
-use Rattle.law_journals.proofs.JournalLemmas.{journals_reach}
 use Rattle.law_steps.specs.Closed.{IsClosed}
-use Rattle.law_steps.proofs.ClosedLaws.{reached_are_closed}
 use Rattle.law_steps.proofs.NameLemmas.{is_there}
 use Rattle.law_chases.proofs.FutureLemmas.{future_itself, no_some, none_true, some_is}
 use Rattle.law_journals.specs.Entered.{IsIn}
@@ -154,7 +152,7 @@ module _ (h : HistoryShape) (code : List Node) (x : CoreState) (s : RunShape) (c
     known = got_within (seats_in x.seats) k (In here.0) here.1
 
     closed : IsClosed s.configuration
-    closed = reached_are_closed h.program s.configuration core.bare (journals_reach h.program h.budget h.entries s core.run)
+    closed = core.whole.closed
 
     pub values_closed : AreClosedValues (values_of x.futures)
     values_closed = subst AreClosedValues (sym core.populated.futures) closed.values

@@ -9,7 +9,7 @@ use Rattle.asp_model.specs.History.{HistoryShape}
 use Rattle.asp_model.specs.Intent.{Effect}
 use Rattle.asp_model.specs.Names.{Name, name_cmp}
 use Rattle.asp_model.specs.Shapes.{future_shape}
-use Rattle.asp_model.specs.Step.{name_at, with_effect, with_sent}
+use Rattle.asp_model.specs.Step.{name_at, with_effect, with_last}
 use Rattle.def_journals.specs.Journals.{RunShape}
 use Rattle.law_chases.proofs.MapLemmas as Maps
 use Rattle.law_steps.proofs.NameLemmas.{name_total, name_same}
@@ -84,7 +84,7 @@ module _ (h : HistoryShape) (code : List Node) (x : CoreState) (s : RunShape) (k
   own_rests = subst (IsRanked x.ranks k) p.out (p.ranks k)
 
   pub stands_at : (q : ℕ) (m : Name) → name_at t.names q ≡ Some m → IsStanding h code x t q
-  stands_at q m is = record { bare = p.bare; run = p.run; populated = p.populated; name = m; named = is }
+  stands_at q m is = record { first = p.first; whole = p.whole; run = p.run; populated = p.populated; name = m; named = is }
 
   -- one that received nothing, where all were shifted
   shifted_other : (y : Ranks) (j : ℕ) → j ≢ k
@@ -103,7 +103,7 @@ module _ (h : HistoryShape) (code : List Node) (x : CoreState) (s : RunShape) (k
           (moved (rank_of_number s j) (p.ranks j))
 
   same_requests : e.sent ≡ None → (m : Name) → requests_of d m ≡ requests_of c m
-  same_requests sent m = ap (λ o. or_none (find name_cmp m (with_sent o c.received))) sent
+  same_requests sent m = ap (λ o. or_none (find name_cmp m (with_last o c.received))) sent
 
   still_none : e.made ≡ None → (j : ℕ) → name_at s.names j ≡ None → name_at t.names j ≡ None
   still_none made j none = ap (λ (o : Option (Name × Activity)). name_at (s.names ++ made_by o) j) made ∙ ap (λ ns. name_at ns j) (append-nil s.names) ∙ none
@@ -143,7 +143,7 @@ module _ (h : HistoryShape) (code : List Node) (x : CoreState) (s : RunShape) (k
 
     other_requests : (m : Name) → m ≢ is.0 → requests_of d m ≡ requests_of c m
     other_requests m apart =
-        ap (λ o. or_none (find name_cmp m (with_sent o c.received))) is.2
+        ap (λ o. or_none (find name_cmp m (with_last o c.received))) is.2
         ∙ ap or_none (Maps.find_other name_cmp name_total name_same m is.0 (or_none (find name_cmp is.0 c.received) ++ is.1 ∷ []) c.received apart)
 
     received_by_others : (y : Ranks) → IsRanked y k Rests → OthersStay q x.ranks y → (q ≢ k → IsRanked y q (rank_of_number t q)) → AreOthersRanked y k t

@@ -3,12 +3,15 @@ use Rattle.std.proofs.Common.{◌≡◌, ◌≢◌, ◌==◌, ◌<◌, ◌&&◌,
 use Rattle.std.proofs.lemmas.List.{append_assoc, map-append}
 use Rattle.std.specs.List.{AllByRecursion}
 use Rattle.std.specs.Arc.{arc_value}
-use Rattle.std.specs.FinMap.{put}
-use Rattle.asp_model.specs.Configuration.{Activity, RequestShape, or_none, requests_of}
-use Rattle.asp_model.specs.History.{HistoryShape, Committed}
+use Rattle.std.specs.FinMap.{find, put}
+use Rattle.asp_model.specs.Configuration.{Activity, From, ReceptionShape, RequestShape, log_of, or_none, requests_of}
+use Rattle.asp_model.specs.History.{HistoryShape, Committed, with_entry}
 use Rattle.asp_model.specs.Names.{Name, FutureShape, name_cmp, future_cmp}
 use Rattle.asp_model.specs.Parcel.{ParcelShape}
-use Rattle.asp_model.specs.Step.{name_at, with_sent}
+use Rattle.asp_model.specs.Step.{name_at}
+use Rattle.core_state.proofs.LogLemmas.{logged_other, logged_same, one_reception}
+use Rattle.core_state.specs.Handing.{with_received}
+use Rattle.law_journals.specs.Leases.{receptions_of}
 use Rattle.def_journals.specs.Journals.{RunShape, grant_of, out_but}
 use Rattle.law_chases.proofs.MapLemmas as Maps
 use Rattle.law_steps.proofs.NameLemmas.{name_total, name_same}
@@ -22,10 +25,10 @@ use Rattle.request_queue.specs.declared.request.Request.{Request}
 use Rattle.request_queue.specs.Requests.{request_shape}
 use Rattle.core_seats.specs.Seats.{AreSeats, In, Out, SeatShape, names_in, seat_at, seats_in, with_seat}
 use Rattle.step_activity.specs.declared.actor.Actor.{Actor}
-use Rattle.step_activity.specs.Actors.{Stands, code_of}
+use Rattle.step_activity.specs.Actors.{Stands, code_of, log_in}
 use Rattle.core_state.specs.declared.state.CoreState.{CoreState}
 use Rattle.core_state.specs.Returning.{IsPopulatedBut}
-use Rattle.core_state.specs.Cores.{IsHere, IsPopulated, IsSeated, with_entry}
+use Rattle.core_state.specs.Cores.{IsHere, IsPopulated, IsSeated}
 use Rattle.core_state.proofs.ListLemmas.{got_other, got_set, name_got, number_case, numbers_apart}
 
 -- Who is out
@@ -49,15 +52,15 @@ no_grant_but j k xs none = number_case j k
 
 -- An activity comes back, with whatever it has become
 
-module _ (h : HistoryShape) (code : List Node) (x y : CoreState) (s : RunShape) (k : ℕ) (p : IsPopulatedBut h code x s k) (numbered : AreNumbered s) (n : Name) (named : name_at s.names k ≡ Some n) (a : Actor) (b : Activity) where
+module _ (h : HistoryShape) (code : List Node) (x y : CoreState) (s : RunShape) (k : ℕ) (p : IsPopulatedBut h code x s k) (numbered : AreNumbered s) (n : Name) (named : name_at s.names k ≡ Some n) (a : Actor) (b : Activity) (logs : List (Name × List ReceptionShape)) (apart_logs : (m : Name) → m ≢ n → or_none (find name_cmp m logs) ≡ log_of s.configuration m) where
   abbrev returning : ℕ → RunShape
-  returning left = record { configuration = record s.configuration { activities = put name_cmp n b s.configuration.activities }; names = s.names; left = left; out = out_but k s.out }
+  returning left = record { configuration = record s.configuration { activities = put name_cmp n b s.configuration.activities; logs = logs }; names = s.names; left = left; out = out_but k s.out }
 
   pub comes_back : (r left : ℕ) → k < length (seats_in x.seats)
       → seats_in y.seats ≡ with_seat (seats_in x.seats) k (In a) → names_in y.seats ≡ names_in x.seats → AreSeats y.seats → y.futures ≡ x.futures
-      → Stands a b (requests_of s.configuration n) → code_of a ≡ code
+      → Stands a b (requests_of s.configuration n) → code_of a ≡ code → log_in a ≡ or_none (find name_cmp n logs)
       → IsPopulated (with_entry h (Committed k r)) code y (returning left)
-  comes_back r left within seats names kept futures stand coded = record {
+  comes_back r left within seats names kept futures stand coded logged = record {
     kept = kept;
     names = names ∙ p.names;
     seats = all_seated;
@@ -84,6 +87,7 @@ module _ (h : HistoryShape) (code : List Node) (x y : CoreState) (s : RunShape) 
         activity = b;
         there = Maps.find_same name_cmp name_total name_same n b s.configuration.activities;
         stands = stand;
+        logged = logged;
         coded = coded;
       })
 
@@ -93,14 +97,16 @@ module _ (h : HistoryShape) (code : List Node) (x y : CoreState) (s : RunShape) 
         activity = seated.activity;
         there = Maps.find_other name_cmp name_total name_same m n b s.configuration.activities other ∙ seated.there;
         stands = seated.stands;
+        logged = seated.logged ∙ sym (apart_logs m other);
         coded = seated.coded;
       }
       others_seated j m apart other (Some (Out came)) seated = record {
         burst = seated.burst;
         run = seated.run;
-        lent = leases_last h.program h.budget h.entries (Committed k r) j seated.burst seated.run (ap (λ b. not b && true) (numbers_apart j k apart)) seated.lent;
+        lent = leases_last h (Committed k r) j seated.burst seated.run (ap (λ b. not b && true) (numbers_apart j k apart)) seated.lent;
         named = seated.named;
         requests = seated.requests;
+        logged = apart_logs m other ∙ seated.logged;
         coded = seated.coded;
       }
       others_seated j m apart other None seated = seated
@@ -130,8 +136,8 @@ value_comes h code x y s f v p seats values coded = record {
 }
   where
     moved : (k : ℕ) (n : Name) (o : Option (SeatShape Actor Request)) → IsSeated h code s k n o → IsSeated h code (with_value_in s f v) k n o
-    moved k n (Some (In a)) seated = record { free = seated.free; activity = seated.activity; there = seated.there; stands = seated.stands; coded = seated.coded }
-    moved k n (Some (Out came)) seated = record { burst = seated.burst; run = seated.run; lent = seated.lent; named = seated.named; requests = seated.requests; coded = seated.coded }
+    moved k n (Some (In a)) seated = record { free = seated.free; activity = seated.activity; there = seated.there; stands = seated.stands; logged = seated.logged; coded = seated.coded }
+    moved k n (Some (Out came)) seated = record { burst = seated.burst; run = seated.run; lent = seated.lent; named = seated.named; requests = seated.requests; logged = seated.logged; coded = seated.coded }
     moved k n None seated = seated
 
 -- An activity is made
@@ -164,11 +170,11 @@ none_before (n ∷ ns) m zero h = h
 none_before (n ∷ ns) m (suc k) h = none_before ns m k h
 
 pub member_comes : (h : HistoryShape) (code : List Node) (x y : CoreState) (s : RunShape) (m : Name) (a : Actor) (b : Activity) → IsPopulated h code x s
-    → ((k : ℕ) (n : Name) → name_at s.names k ≡ Some n → n ≢ m) → requests_of s.configuration m ≡ []
+    → ((k : ℕ) (n : Name) → name_at s.names k ≡ Some n → n ≢ m) → requests_of s.configuration m ≡ [] → log_of s.configuration m ≡ []
     → seats_in y.seats ≡ seats_in x.seats ++ In a ∷ [] → names_in y.seats ≡ names_in x.seats ++ m ∷ [] → AreSeats y.seats → y.futures ≡ x.futures
-    → Stands a b [] → code_of a ≡ code
+    → Stands a b [] → code_of a ≡ code → log_in a ≡ []
     → IsPopulated h code y (with_member s m b)
-member_comes h code x y s m a b p others alone seats names kept futures stand coded = record {
+member_comes h code x y s m a b p others alone quiet seats names kept futures stand coded logged = record {
   kept = kept;
   names = names ∙ ap (λ ns. ns ++ m ∷ []) p.names;
   seats = all_seated;
@@ -184,8 +190,8 @@ member_comes h code x y s m a b p others alone seats names kept futures stand co
     long = ap length (sym p.names) ∙ p.kept.same
 
     moved : (k : ℕ) (n : Name) → n ≢ m → (o : Option (SeatShape Actor Request)) → IsSeated h code s k n o → IsSeated h code t k n o
-    moved k n apart (Some (In a)) seated = record { free = seated.free; activity = seated.activity; there = Maps.find_other name_cmp name_total name_same n m b s.configuration.activities apart ∙ seated.there; stands = seated.stands; coded = seated.coded }
-    moved k n apart (Some (Out came)) seated = record { burst = seated.burst; run = seated.run; lent = seated.lent; named = seated.named; requests = seated.requests; coded = seated.coded }
+    moved k n apart (Some (In a)) seated = record { free = seated.free; activity = seated.activity; there = Maps.find_other name_cmp name_total name_same n m b s.configuration.activities apart ∙ seated.there; stands = seated.stands; logged = seated.logged; coded = seated.coded }
+    moved k n apart (Some (Out came)) seated = record { burst = seated.burst; run = seated.run; lent = seated.lent; named = seated.named; requests = seated.requests; logged = seated.logged; coded = seated.coded }
     moved k n apart None seated = seated
 
     here_now : IsHere code t (length s.names) m a
@@ -194,6 +200,7 @@ member_comes h code x y s m a b p others alone seats names kept futures stand co
       activity = b;
       there = Maps.find_same name_cmp name_total name_same m b s.configuration.activities;
       stands = subst (Stands a b) (sym alone) stand;
+      logged = logged ∙ sym quiet;
       coded = coded;
     }
 
@@ -213,9 +220,6 @@ member_comes h code x y s m a b p others alone seats names kept futures stand co
 
 -- A request comes
 
-abbrev pub with_received : RunShape → Name → RequestShape → RunShape
-with_received s m r = record s { configuration = record s.configuration { received = with_sent (Some (m, r)) s.configuration.received } }
-
 received_same : (s : RunShape) (m : Name) (r : RequestShape) → requests_of (with_received s m r).configuration m ≡ requests_of s.configuration m ++ r ∷ []
 received_same s m r = ap or_none (Maps.find_same name_cmp name_total name_same m (requests_of s.configuration m ++ r ∷ []) s.configuration.received)
 
@@ -228,7 +232,7 @@ all_more code (c ∷ came) r all one = (all.0, all_more code came r all.1 one)
 
 -- its receiver's seat then
 abbrev pub Receives : HistoryShape → List Node → RunShape → ℕ → Name → Request → (old new : Option (SeatShape Actor Request)) → Type 0
-Receives h code s k m r (Some (In x)) (Some (In y)) = ((b : Activity) (rs : List RequestShape) → Stands x b rs → Stands y b (rs ++ request_shape r ∷ [])) × (code_of y ≡ code_of x)
+Receives h code s k m r (Some (In x)) (Some (In y)) = ((b : Activity) (rs : List RequestShape) → Stands x b rs → Stands y b (rs ++ request_shape r ∷ [])) × (code_of y ≡ code_of x) × (log_in y ≡ log_in x ++ From (request_shape r).sender ∷ [])
 Receives h code s k m r (Some (Out came)) (Some (Out more)) = more ≡ came ++ r ∷ []
 Receives h code s k m r o q = ⊥
 
@@ -242,6 +246,7 @@ module _ (h : HistoryShape) (code : List Node) (x y : CoreState) (s : RunShape) 
     activity = seated.activity;
     there = seated.there;
     stands = subst (Stands z seated.activity) (sym (received_same s m (request_shape r))) (got.0 seated.activity (requests_of s.configuration m) seated.stands);
+    logged = got.2 ∙ ap (λ xs. xs ++ From (request_shape r).sender ∷ []) seated.logged ∙ sym (logged_same s m (request_shape r));
     coded = got.1 ∙ seated.coded;
   }
   received_by (Some (Out came)) (Some (Out more)) got coded seated = record {
@@ -254,6 +259,11 @@ module _ (h : HistoryShape) (code : List Node) (x y : CoreState) (s : RunShape) 
         ∙ append_assoc (requests_of seated.run.configuration m) (map request_shape came) (request_shape r ∷ [])
         ∙ ap (λ rs. requests_of seated.run.configuration m ++ rs) (sym (map-append request_shape came (r ∷ [])))
         ∙ ap (λ rs. requests_of seated.run.configuration m ++ map request_shape rs) (sym got);
+    logged =
+        logged_same s m (request_shape r) ∙ ap (λ xs. xs ++ From (request_shape r).sender ∷ []) seated.logged
+        ∙ append_assoc (log_of seated.run.configuration m) (receptions_of (map request_shape came)) (From (request_shape r).sender ∷ [])
+        ∙ ap (λ xs. log_of seated.run.configuration m ++ xs) (one_reception came r)
+        ∙ ap (λ rs. log_of seated.run.configuration m ++ receptions_of (map request_shape rs)) (sym got);
     coded = subst (AllByRecursion (λ r. arc_value r.arguments.code ≡ code)) (sym got) (all_more code came r seated.coded coded);
   }
   received_by (Some (In x)) (Some (Out more)) got coded seated = absurd got
@@ -263,8 +273,8 @@ module _ (h : HistoryShape) (code : List Node) (x y : CoreState) (s : RunShape) 
   received_by None q got coded seated = absurd seated
 
   others_unread : (j : ℕ) (n : Name) → n ≢ m → (o : Option (SeatShape Actor Request)) → IsSeated h code s j n o → IsSeated h code t_received j n o
-  others_unread j n apart (Some (In a)) seated = record { free = seated.free; activity = seated.activity; there = seated.there; stands = subst (Stands a seated.activity) (sym (received_other s m n (request_shape r) apart)) seated.stands; coded = seated.coded }
-  others_unread j n apart (Some (Out came)) seated = record { burst = seated.burst; run = seated.run; lent = seated.lent; named = seated.named; requests = received_other s m n (request_shape r) apart ∙ seated.requests; coded = seated.coded }
+  others_unread j n apart (Some (In a)) seated = record { free = seated.free; activity = seated.activity; there = seated.there; stands = subst (Stands a seated.activity) (sym (received_other s m n (request_shape r) apart)) seated.stands; logged = seated.logged ∙ sym (logged_other s m n (request_shape r) apart); coded = seated.coded }
+  others_unread j n apart (Some (Out came)) seated = record { burst = seated.burst; run = seated.run; lent = seated.lent; named = seated.named; requests = received_other s m n (request_shape r) apart ∙ seated.requests; logged = logged_other s m n (request_shape r) apart ∙ seated.logged; coded = seated.coded }
   others_unread j n apart None seated = seated
 
   pub request_comes : (seat : SeatShape Actor Request) → seats_in y.seats ≡ with_seat (seats_in x.seats) k seat → names_in y.seats ≡ names_in x.seats → AreSeats y.seats → y.futures ≡ x.futures

@@ -4,22 +4,19 @@ use Rattle.std.specs.Arc.{arc_value}
 use Rattle.std.specs.FinMap.{find}
 use Rattle.std.specs.List.{Contains}
 use Rattle.std.specs.Map.{values_of as parcels}
-use Rattle.asp_model.specs.Configuration.{Activity, RequestShape, requests_of}
-use Rattle.asp_model.specs.History.{Delivered, DeliveryShape, HistoryShape}
+use Rattle.asp_model.specs.Configuration.{Activity, RequestShape, log_of, requests_of}
+use Rattle.asp_model.specs.History.{Delivered, DeliveryShape, HistoryShape, with_entry}
 use Rattle.asp_model.specs.Names.{FutureShape, Name, future_cmp, name_cmp}
 use Rattle.asp_model.specs.Parcel.{ParcelShape}
 use Rattle.asp_model.specs.Store.{Store}
+use Rattle.law_steps.proofs.WholeLemmas.{moves_keep_closed}
 use Rattle.def_journals.specs.Journals.{RunShape, entered}
-use Rattle.law_journals.proofs.JournalLemmas.{journals_reach}
 use Rattle.law_steps.specs.Closed.{IsClosed, IsClosedValue}
-use Rattle.law_steps.specs.Reached.{HasValue, IsReached, Makes, Move}
-use Rattle.law_steps.proofs.ClosedLaws.{reached_are_closed}
+use Rattle.law_steps.specs.Reached.{HasValue, Makes, Move}
 use Rattle.law_chases.proofs.MapLemmas as Maps
 use Rattle.law_steps.proofs.NameLemmas.{name_same, name_total}
 use Rattle.law_chases.proofs.FutureLemmas.{no_some, none_true, some_is, true_false}
-use Rattle.law_steps.proofs.ReachedLemmas.{moves_go_on}
 use Rattle.law_paths.specs.Whole.{IsWhole}
-use Rattle.law_paths.proofs.WholeLemmas.{reached_are_whole}
 use Rattle.law_journals.specs.Entered.{IsIn, with_store_of}
 use Rattle.code_table.specs.declared.code.Node.{Node}
 use Rattle.code_table.specs.declared.cells.Parcel.{Parcel}
@@ -31,11 +28,11 @@ use Rattle.step_reads.proofs.FetchLemmas.{of_code}
 use Rattle.core_ranks.specs.Ranks.{HasNeed, IsRanked, RankShape, has_need}
 use Rattle.core_seats.specs.Seats.{In, IsTaken, names_in, seat_at, seats_in}
 use Rattle.step_activity.specs.declared.actor.Actor.{Actor}
-use Rattle.step_activity.specs.Actors.{IsClosedFor, Stands, code_of}
+use Rattle.step_activity.specs.Actors.{IsClosedFor, Stands, code_of, log_in}
 use Rattle.law_core.specs.Ranked.{rank_in, rank_of}
 use Rattle.law_core.specs.Runs.{rank_named, rank_unless_out}
 use Rattle.core_state.specs.declared.state.CoreState.{CoreState}
-use Rattle.core_state.specs.Cores.{IsCore, IsHere, with_entry}
+use Rattle.core_state.specs.Cores.{IsCore, IsHere}
 use Rattle.core_state.proofs.ComeBackLemmas.{rank_written}
 use Rattle.core_state.proofs.LendLemmas.{is_here}
 use Rattle.core_state.proofs.ListLemmas.{got_within, name_got}
@@ -102,11 +99,8 @@ module _ {x : CoreState} {k : ℕ} {f : FutureShape} (q : Owes x k f) where
   abbrev pub received : List RequestShape
   received = requests_of s.configuration n
 
-  reached : IsReached q.history.program s.configuration
-  reached = journals_reach q.history.program q.history.budget q.history.entries s q.core.run
-
   closed : IsClosed s.configuration
-  closed = reached_are_closed q.history.program s.configuration q.core.bare reached
+  closed = q.core.whole.closed
 
   -- What is found
 
@@ -153,6 +147,9 @@ module _ {x : CoreState} {k : ℕ} {f : FutureShape} (q : Owes x k f) where
     pub its_code : code_of a ≡ q.code
     its_code = ap code_of same ∙ here.2.coded
 
+    pub its_log : log_in a ≡ log_of s.configuration n
+    its_log = ap log_in same ∙ here.2.logged
+
     pub in_its_store : (place : ℕ) → place < length receiver.store → place < length a.activity.state.store.cells
     in_its_store place within = subst (λ (l : ℕ). place < l) (ap length (sym stood.activity.state.store) ∙ length-store_of (arc_value a.activity.code) a.activity.state.store.cells) within
 
@@ -169,7 +166,7 @@ module _ {x : CoreState} {k : ℕ} {f : FutureShape} (q : Owes x k f) where
   -- The core after
 
   closed_then : IsClosed t.configuration
-  closed_then = reached_are_closed q.history.program t.configuration q.core.bare (moves_go_on q.history.program s.configuration t.configuration q.r.move reached q.r.made)
+  closed_then = moves_keep_closed q.r.move s.configuration t.configuration closed q.r.made
 
   pub filled_closed : (a : Actor) → Stands a filled received → IsClosedFor a
   filled_closed a stands = record {
@@ -188,7 +185,7 @@ module _ {x : CoreState} {k : ℕ} {f : FutureShape} (q : Owes x k f) where
   looked =
       ap (λ values. looked_at (rank_in s.configuration n) (rank_of values received n filled)) q.core.populated.futures
       ∙ ap (looked_at (rank_in s.configuration n)) (sym (rank_written s.configuration n filled))
-      ∙ looked_is (rank_in s.configuration n) (rank_in t.configuration n) (q.r.keeps (reached_are_whole q.history.program s.configuration q.core.bare reached))
+      ∙ looked_is (rank_in s.configuration n) (rank_in t.configuration n) (q.r.keeps q.core.whole)
 
-  pub core_then : (y : CoreState) (a : Actor) → Stands a filled received → code_of a ≡ q.code → Delivers x y k q.d a rank_then → IsCore (with_entry q.history (Delivered q.d)) q.code y t
-  core_then y a stands coded c = delivered_core q.history q.code x y s q.core k n receiver q.r.here q.r.store q.d q.r.goes a stands coded rank_then looked known c
+  pub core_then : (y : CoreState) (a : Actor) → Stands a filled received → code_of a ≡ q.code → log_in a ≡ log_of s.configuration n → Delivers x y k q.d a rank_then → IsCore (with_entry q.history (Delivered q.d)) q.code y t
+  core_then y a stands coded logged c = delivered_core q.history q.code x y s q.core k n receiver q.r.here q.r.store q.d q.r.goes a stands coded logged rank_then looked known c

@@ -1,21 +1,16 @@
 -- A lease that comes back: which commit it is.
-use Rattle.std.proofs.Common.{◌≡◌, ◌-◌, ◌≤◌, ◌++◌, ◌∷◌, [], suc, false, List, Option, Some, None, map, refl, sym, ap, ◌∙◌}
-use Rattle.asp_model.specs.Configuration.{Configuration, requests_of}
-use Rattle.asp_model.specs.History.{HistoryShape, Committed}
+use Rattle.std.proofs.Common.{◌≡◌, ◌-◌, ◌≤◌, ◌++◌, [], suc, false, List, Option, Some, None, map, refl, sym, ap, ◌∙◌}
+use Rattle.asp_model.specs.Configuration.{Configuration, log_of, requests_of}
+use Rattle.asp_model.specs.History.{HistoryShape, Committed, with_entry}
 use Rattle.asp_model.specs.Intent.{Acts, Effect}
 use Rattle.asp_model.specs.Step.{intent_in, with_effect}
 use Rattle.def_journals.specs.Journals.{RunShape, grant_of, run_of}
-use Rattle.law_journals.proofs.JournalLemmas.{journals_reach}
-use Rattle.law_steps.specs.Reached.{IsAt, IsReached}
-use Rattle.law_steps.specs.Sound.{IsSound}
+use Rattle.law_steps.specs.Reached.{IsAt}
 use Rattle.law_chases.proofs.FutureLemmas.{no_some}
-use Rattle.law_steps.proofs.WholeLemmas.{reached_are_sound}
-use Rattle.law_journals.specs.Leases.{IsOutSince}
-use Rattle.law_journals.specs.Numbered.{AreNumbered}
+use Rattle.law_journals.specs.Leases.{IsOutSince, receptions_of}
 use Rattle.law_journals.proofs.BurstLemmas.{leases_are_one}
 use Rattle.law_journals.proofs.GrowingLemmas.{entries_go_on}
 use Rattle.law_journals.proofs.LeaseLemmas.{leases_stay}
-use Rattle.law_journals.proofs.NumberLemmas.{journals_are_numbered}
 use Rattle.law_core.specs.Commits.{HasRun, made_by, returned, with_activity}
 use Rattle.law_core.proofs.CommitLemmas.{acts_are_commits, runs_are_commits}
 use Rattle.code_table.specs.declared.code.Node.{Node}
@@ -29,18 +24,9 @@ use Rattle.core_state.specs.Leases.{IsLease}
 use Rattle.core_state.specs.Cores.{IsAway, IsCore, IsSeated}
 
 module _ (h : HistoryShape) (code : List Node) (x : CoreState) (s : RunShape) (core : IsCore h code x s) where
-  pub reached : IsReached h.program s.configuration
-  reached = journals_reach h.program h.budget h.entries s core.run
-
-  pub sound : IsSound s.configuration
-  sound = reached_are_sound h.program s.configuration reached
-
-  pub numbered : AreNumbered s
-  numbered = journals_are_numbered h.program h.budget h.entries s core.run
-
   module _ (l : Lease) (lease : IsLease h code l) where
     pub out : IsOutSince lease.run s l.number lease.name
-    out = leases_stay h.program h.budget h.entries l.number l.burst lease.name lease.run s lease.lent lease.named core.run
+    out = leases_stay h l.number l.burst lease.name lease.run s core.first lease.lent lease.named core.run
 
     -- the activity is as it was lent
     pub there : IsAt s.configuration lease.name lease.activity
@@ -61,13 +47,19 @@ module _ (h : HistoryShape) (code : List Node) (x : CoreState) (s : RunShape) (c
 
     pub requests : requests_of s.configuration lease.name ≡ requests_of lease.run.configuration lease.name ++ map request_shape box.0
     requests =
-        let same = leases_are_one h.program h.budget h.entries l.number box.2.burst l.burst box.2.run lease.run box.2.lent lease.lent in
+        let same = leases_are_one h l.number box.2.burst l.burst box.2.run lease.run box.2.lent lease.lent in
         box.2.requests ∙ ap (λ (t : RunShape). requests_of t.configuration lease.name ++ map request_shape box.0) same.2
+
+    -- and was logged
+    pub logged : log_of s.configuration lease.name ≡ log_of lease.run.configuration lease.name ++ receptions_of (map request_shape box.0)
+    logged =
+        let same = leases_are_one h l.number box.2.burst l.burst box.2.run lease.run box.2.lent lease.lent in
+        box.2.logged ∙ ap (λ (t : RunShape). log_of t.configuration lease.name ++ receptions_of (map request_shape box.0)) same.2
 
     module _ (fresh : l.spent ≡ false) where
       pub has_run : HasRun s l.number l.grant lease.name l.taken (lease.done fresh).end
       has_run = record {
-        sound = sound;
+        sound = core.whole.sound;
         named = out.named;
         out = grants;
         activity = lease.activity;
@@ -79,14 +71,14 @@ module _ (h : HistoryShape) (code : List Node) (x : CoreState) (s : RunShape) (c
       ended = with_activity lease.name (lease.done fresh).end s.configuration
 
       -- its contractions alone
-      pub run_returns : run_of h.program h.budget (h.entries ++ Committed l.number l.taken ∷ []) ≡ Some (returned s l.number (l.grant - l.taken) ended [])
+      pub run_returns : run_of (with_entry h (Committed l.number l.taken)) ≡ Some (returned s l.number (l.grant - l.taken) ended [])
       run_returns =
-          entries_go_on h.program h.budget h.entries (Committed l.number l.taken) s core.run
+          entries_go_on h (Committed l.number l.taken) s core.run
           ∙ runs_are_commits s l.number l.grant lease.name l.taken (lease.done fresh).end has_run lease.within
 
       -- and one reduction more
       pub act_returns : (e : Effect) → suc l.taken ≤ l.grant → intent_in ended lease.name ≡ Acts e
-          → run_of h.program h.budget (h.entries ++ Committed l.number (suc l.taken) ∷ []) ≡ Some (returned s l.number (l.grant - suc l.taken) (with_effect lease.name e ended) (made_by e.made))
+          → run_of (with_entry h (Committed l.number (suc l.taken))) ≡ Some (returned s l.number (l.grant - suc l.taken) (with_effect lease.name e ended) (made_by e.made))
       act_returns e within intends =
-          entries_go_on h.program h.budget h.entries (Committed l.number (suc l.taken)) s core.run
+          entries_go_on h (Committed l.number (suc l.taken)) s core.run
           ∙ acts_are_commits s l.number l.grant lease.name l.taken (lease.done fresh).end e has_run within intends

@@ -4,9 +4,7 @@ use Rattle.asp_model.specs.Configuration.{Activity, RequestShape, requests_of}
 use Rattle.asp_model.specs.History.{HistoryShape}
 use Rattle.asp_model.specs.Names.{Name}
 use Rattle.def_journals.specs.Journals.{RunShape}
-use Rattle.law_journals.proofs.JournalLemmas.{journals_reach}
 use Rattle.law_steps.specs.Closed.{IsClosed}
-use Rattle.law_steps.proofs.ClosedLaws.{reached_are_closed}
 use Rattle.law_journals.specs.Leases.{IsOutSince}
 use Rattle.law_journals.proofs.LeaseLemmas.{leases_stay}
 use Rattle.code_table.specs.declared.code.Node.{Node}
@@ -26,7 +24,7 @@ use Rattle.core_state.proofs.HandLemmas.{box_there}
 
 module _ (h : HistoryShape) (code : List Node) (x : CoreState) (t : RunShape) (k : ℕ) (s : IsStanding h code x t k) where
   closed : IsClosed t.configuration
-  closed = reached_are_closed h.program t.configuration s.bare (journals_reach h.program h.budget h.entries t s.run)
+  closed = s.whole.closed
 
   pub values_closed : AreClosedValues (values_of x.futures)
   values_closed = subst AreClosedValues (sym s.populated.futures) closed.values
@@ -65,7 +63,7 @@ module _ (h : HistoryShape) (code : List Node) (x : CoreState) (t : RunShape) (k
       let found : slice_get (names_in x.seats) k ≡ Some s.name = ap (λ ns. slice_get ns k) s.populated.names ∙ sym (name_got t.names k) ∙ s.named in
       let b = box_there h code x t s.populated k s.name found out in
       let away : IsAway h code t k s.name b.0 = subst (IsSeated h code t k s.name) b.1 (s.populated.seats k s.name s.named) in
-      let since : IsOutSince away.run t k s.name = leases_stay h.program h.budget h.entries k away.burst s.name away.run t away.lent away.named s.run in
+      let since : IsOutSince away.run t k s.name = leases_stay h k away.burst s.name away.run t s.first away.lent away.named s.run in
       sym (ap (rank_named t k) s.named ∙ ap (rank_unless_out t s.name) since.out)
 
 -- ranks, journal and budget are no matter of who is there

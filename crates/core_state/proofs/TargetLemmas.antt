@@ -21,7 +21,6 @@ use Rattle.law_chases.proofs.FutureLemmas.{future_itself, no_some, none_true, so
 use Rattle.law_journals.specs.Entered.{IsIn}
 use Rattle.law_journals.specs.Numbered.{AreNumbered}
 use Rattle.law_journals.proofs.EntryLemmas.{edges_are_entered, needs_are_entered}
-use Rattle.law_journals.proofs.NumberLemmas.{journals_are_numbered}
 use Rattle.law_core.proofs.OwedLemmas.{in_named}
 use Rattle.code_table.specs.declared.code.Node.{Node}
 use Rattle.code_table.specs.Cells.{CodedStore}
@@ -129,15 +128,12 @@ nobody n (m ∷ ns) none = by (same_name n m) refl (number_of n ns) (nobody n ns
     by false is o rest = ap (one_later false) rest
 
 module _ (h : HistoryShape) (code : List Node) (x : CoreState) (s : RunShape) (core : IsCore h code x s) where
-  pub numbered_core : AreNumbered s
-  numbered_core = journals_are_numbered h.program h.budget h.entries s core.run
-
   named : (k : ℕ) (n : Name) → slice_get (names_in x.seats) k ≡ Some n → name_at s.names k ≡ Some n
   named k n is = name_got s.names k ∙ ap (λ ns. slice_get ns k) (sym core.populated.names) ∙ is
 
   absent : (n : Name) → IsFound (names_in x.seats) n None → IsThere s.configuration n → ⊥
   absent n none there =
-      let k = numbered_core.numbered n there in
+      let k = core.numbered.numbered n there in
       none k.0 (ap (λ ns. slice_get ns k.0) core.populated.names ∙ sym (name_got s.names k.0) ∙ k.1)
 
   pub nobody_in : (n : Name) → IsFound (names_in x.seats) n None → is_in s n ≡ false
@@ -157,7 +153,7 @@ module _ (h : HistoryShape) (code : List Node) (x : CoreState) (s : RunShape) (c
         by None seated is = absurd seated
 
     pub seated_away : IsTaken (seat_at x.seats k) None → is_in s n ≡ false
-    seated_away taken = in_named s numbered_core k n (named k n found) ∙ by (grant_of k s.out) refl
+    seated_away taken = in_named s core.numbered k n (named k n found) ∙ by (grant_of k s.out) refl
       where
         by : (o : Option ℕ) → grant_of k s.out ≡ o → is_none o ≡ false
         by None free = let a = is_here h code x s core k n (named k n found) free in no_some (subst (λ seat. IsTaken seat None) a.1 taken)
@@ -184,7 +180,7 @@ module _ (h : HistoryShape) (code : List Node) (x : CoreState) (s : RunShape) (c
         name = to;
         activity = b;
         here = here;
-        sender = numbered_core.there j from (named j from found);
+        sender = core.numbered.there j from (named j from found);
         value = p;
         filled = ap (find future_cmp f) (sym core.populated.futures) ∙ sym got;
       },

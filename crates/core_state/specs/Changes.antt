@@ -1,5 +1,5 @@
 -- What an effect changes for others, by their numbers, and what is so before their ranks are told of it.
-use Rattle.std.specs.Prelude.{◌≡◌, ◌≢◌, ◌⊎◌, ◌++◌, ℕ, List, [], Some, None, length}
+use Rattle.std.specs.Prelude.{◌≡◌, ◌≢◌, ◌⊎◌, ◌++◌, ℕ, List, Some, None, length}
 use Rattle.asp_model.specs.Configuration.{Activity, RequestShape}
 use Rattle.asp_model.specs.History.{HistoryShape}
 use Rattle.asp_model.specs.Intent.{Acts, Effect}
@@ -7,10 +7,10 @@ use Rattle.asp_model.specs.Names.{Name}
 use Rattle.asp_model.specs.Parcel.{ParcelShape}
 use Rattle.asp_model.specs.Shapes.{future_shape}
 use Rattle.asp_model.specs.Step.{intent_in, name_at, with_effect}
-use Rattle.asp_model.specs.Term.{locations}
-use Rattle.def_journals.specs.Journals.{RunShape, out_but, run_of}
+use Rattle.def_journals.specs.Journals.{RunShape, first_in, out_but, run_of}
 use Rattle.law_steps.specs.Sound.{IsSound}
-use Rattle.law_journals.specs.Numbered.{AreNumbered}
+use Rattle.law_journals.specs.Numbered.{AreNumbered, IsFirst}
+use Rattle.law_paths.specs.Whole.{IsWhole}
 use Rattle.law_core.specs.Commits.{made_by, with_activity}
 use Rattle.code_table.specs.declared.code.Node.{Node}
 use Rattle.core_ranks.specs.declared.ranks.Ranks.{Ranks}
@@ -39,8 +39,9 @@ acted s k n b e left = record {
 
 -- the state stands for the run of a history, but for its ranks, and an activity has the number
 pub record IsStanding (h : HistoryShape) (code : List Node) (x : CoreState) (t : RunShape) (k : ℕ) : Type 0 where
-  pub bare : locations h.program ≡ []
-  pub run : run_of h.program h.budget h.entries ≡ Some t
+  pub first : IsFirst (first_in h)
+  pub whole : IsWhole t.configuration
+  pub run : run_of h ≡ Some t
   pub populated : IsPopulated h code x t
   pub name : Name
   pub named : name_at t.names k ≡ Some name
@@ -50,7 +51,7 @@ IsSomeStanding x k = (h : HistoryShape) × (code : List Node) × (t : RunShape) 
 
 -- others have what a reduction gave, and no rank is told of it
 pub record IsChanged (h : HistoryShape) (code : List Node) (x : CoreState) (s : RunShape) (k : ℕ) (n : Name) (b : Activity) (e : Effect) (left : ℕ) (g : Change) : Type 0 where
-  pub bare : locations h.program ≡ []
+  pub first : IsFirst (first_in h)
   -- before
   pub numbered : AreNumbered s
   pub named : name_at s.names k ≡ Some n
@@ -59,7 +60,8 @@ pub record IsChanged (h : HistoryShape) (code : List Node) (x : CoreState) (s : 
   pub sound : IsSound (with_activity n b s.configuration)
   pub intends : intent_in (with_activity n b s.configuration) n ≡ Acts e
   -- after
-  pub run : run_of h.program h.budget h.entries ≡ Some (acted s k n b e left)
+  pub whole : IsWhole (acted s k n b e left).configuration
+  pub run : run_of h ≡ Some (acted s k n b e left)
   pub populated : IsPopulated h code x (acted s k n b e left)
   pub change : IsChange s.names e g
 

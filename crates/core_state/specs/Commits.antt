@@ -2,7 +2,7 @@
 use Rattle.std.specs.Prelude.{◌≡◌, ◌≤◌, ◌+◌, ◌-◌, ℕ, zero, suc, Bool, true, false, List, Option, Some, None}
 use Rattle.asp_model.specs.Chase.{Chase}
 use Rattle.asp_model.specs.Configuration.{Activity, RequestShape}
-use Rattle.asp_model.specs.History.{Committed, HistoryShape}
+use Rattle.asp_model.specs.History.{Committed, HistoryShape, with_entry}
 use Rattle.asp_model.specs.Intent.{Acts, Effect, Intent, Rests, intent}
 use Rattle.asp_model.specs.Names.{FutureShape, Name}
 use Rattle.asp_model.specs.Step.{intent_in, with_effect}
@@ -17,8 +17,8 @@ use Rattle.step_activity.specs.Stances as stances
 use Rattle.step_activity.specs.Stances.{StanceShape}
 use Rattle.core_state.specs.declared.state.CoreState.{CoreState}
 use Rattle.core_state.specs.Returning.{IsReturning}
-use Rattle.core_state.specs.Cores.{IsCore, with_entry}
-use Rattle.core_state.specs.Handing.{IsToHand, came_in}
+use Rattle.core_state.specs.Cores.{IsCore}
+use Rattle.core_state.specs.Handing.{IsToHand, came_in, with_own}
 
 abbrev pub communicates : StanceShape → Bool
 communicates (stances.Goes b) = b
@@ -57,7 +57,7 @@ pub record IsGiving (h : HistoryShape) (code : List Node) (x : CoreState) (s : R
   pub before : CoreState
   pub actor : Actor
   pub acting : IsActing h code before s k n grant reductions actor e
-  pub hand : IsToHand (with_entry h (Committed k reductions)) code x (came_in s k (s.left + (grant - reductions)) (with_activity n e.own s.configuration)) e g
+  pub hand : IsToHand (with_entry h (Committed k reductions)) code x (came_in s k (s.left + (grant - reductions)) (with_own n e s.configuration)) n e g
   pub journal : x.journal ≡ before.journal
   pub ranks : x.ranks ≡ before.ranks
   pub left : x.left ≡ before.left

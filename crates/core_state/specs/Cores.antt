@@ -3,14 +3,17 @@ use Rattle.std.specs.Prelude.{◌≡◌, ◌≤◌, ◌<◌, ◌^◌, ℕ, suc, 
 use Rattle.std.specs.List.{AllByRecursion}
 use Rattle.std.specs.Arc.{arc_value}
 use Rattle.asp_model.specs.Configuration as model
-use Rattle.asp_model.specs.Configuration.{requests_of}
-use Rattle.asp_model.specs.History.{EntryShape, HistoryShape}
+use Rattle.asp_model.specs.Configuration.{log_of, requests_of}
+use Rattle.asp_model.specs.History.{HistoryShape}
 use Rattle.asp_model.specs.Names.{Name}
 use Rattle.asp_model.specs.Step.{name_at}
-use Rattle.asp_model.specs.Term.{Tree, locations}
-use Rattle.def_journals.specs.Journals.{RunShape, grant_of, run_of}
+use Rattle.asp_model.specs.Term.{Tree}
+use Rattle.def_journals.specs.Journals.{RunShape, first_in, grant_of, run_of}
 use Rattle.law_steps.specs.Reached.{IsAt}
-use Rattle.law_journals.specs.Leases.{IsLentAt, bursts_in}
+use Rattle.law_journals.specs.Budgets.{most_in}
+use Rattle.law_journals.specs.Leases.{IsLentAt, bursts_in, receptions_of}
+use Rattle.law_journals.specs.Numbered.{AreNumbered, IsFirst}
+use Rattle.law_paths.specs.Whole.{IsWhole}
 use Rattle.code_table.specs.declared.code.Node.{Node}
 use Rattle.code_table.specs.Pieces.{tree}
 use Rattle.code_table.specs.Sound.{root_of}
@@ -22,7 +25,7 @@ use Rattle.core_ranks.specs.Ranks.{IsRanked}
 use Rattle.core_seats.specs.Seats.{AreSeats, In, Out, SeatShape, names_in, seat_at, seats_in}
 use Rattle.core_state.specs.Journal.{entries_in, room}
 use Rattle.step_activity.specs.declared.actor.Actor.{Actor}
-use Rattle.step_activity.specs.Actors.{Stands, code_of}
+use Rattle.step_activity.specs.Actors.{Stands, code_of, log_in}
 use Rattle.law_core.specs.Runs.{rank_of_number}
 use Rattle.core_state.specs.declared.state.CoreState.{CoreState}
 
@@ -30,28 +33,24 @@ use Rattle.core_state.specs.declared.state.CoreState.{CoreState}
 abbrev pub program_of : List Node → Tree
 program_of k = tree [] (piece_at (pieces k) (root_of k))
 
--- a program and a budget, and nothing since
-abbrev pub history_begun : Tree → ℕ → HistoryShape
-history_begun program budget = record { program = program; budget = budget; entries = [] }
-
-abbrev pub with_entry : HistoryShape → EntryShape → HistoryShape
-with_entry h x = record h { entries = h.entries ++ x ∷ [] }
-
--- an activity that is in: the actor stands for it
+-- an activity that is in: the actor stands for it, and has its log
 pub record IsHere (code : List Node) (s : RunShape) (k : ℕ) (n : Name) (x : Actor) : Type 0 where
   pub free : grant_of k s.out ≡ None
   pub activity : model.Activity
   pub there : IsAt s.configuration n activity
   pub stands : Stands x activity (requests_of s.configuration n)
+  pub logged : log_in x ≡ log_of s.configuration n
   pub coded : code_of x ≡ code
 
 -- one that is out: it was lent in some run of the journal, and what it received since lies in its box
 pub record IsAway (h : HistoryShape) (code : List Node) (s : RunShape) (k : ℕ) (n : Name) (came : List Request) : Type 0 where
   pub burst : ℕ
   pub run : RunShape
-  pub lent : IsLentAt h.program h.budget h.entries k burst run
+  pub lent : IsLentAt h k burst run
   pub named : name_at run.names k ≡ Some n
   pub requests : requests_of s.configuration n ≡ requests_of run.configuration n ++ map request_shape came
+  -- who is out asks nothing, so its log notes just that
+  pub logged : log_of s.configuration n ≡ log_of run.configuration n ++ receptions_of (map request_shape came)
   pub coded : AllByRecursion (λ r. arc_value r.arguments.code ≡ code) came
 
 abbrev pub IsSeated : HistoryShape → List Node → RunShape → ℕ → Name → Option (SeatShape Actor Request) → Type 0
@@ -81,9 +80,12 @@ AreRanked x s = (k : ℕ) → IsRanked x.ranks k (rank_of_number s k)
 
 -- the state stands for the run of this history
 pub record IsCore (h : HistoryShape) (code : List Node) (x : CoreState) (s : RunShape) : Type 0 where
-  pub bare : locations h.program ≡ []
-  pub small : h.budget < 2 ^ 64
-  pub run : run_of h.program h.budget h.entries ≡ Some s
+  -- the run begins where all is sound, and stays whole and numbered entry by entry
+  pub first : IsFirst (first_in h)
+  pub whole : IsWhole s.configuration
+  pub numbered : AreNumbered s
+  pub small : most_in h < 2 ^ 64
+  pub run : run_of h ≡ Some s
   pub entries : entries_in x.journal ≡ h.entries
   pub populated : IsPopulated h code x s
   pub ranks : AreRanked x s

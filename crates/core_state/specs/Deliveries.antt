@@ -2,7 +2,7 @@
 use Rattle.std.specs.Prelude.{◌≡◌, ℕ, true, List, Some, is_some}
 use Rattle.asp_model.specs.Chase.{chase}
 use Rattle.asp_model.specs.Configuration.{Activity}
-use Rattle.asp_model.specs.History.{Delivered, DeliveryShape, Edge, HistoryShape, Need}
+use Rattle.asp_model.specs.History.{Delivered, DeliveryShape, Edge, HistoryShape, Need, with_entry}
 use Rattle.asp_model.specs.Names.{Name, FutureShape}
 use Rattle.asp_model.specs.Parcel.{ParcelShape, unpack_at}
 use Rattle.asp_model.specs.Store.{cell}
@@ -13,7 +13,7 @@ use Rattle.law_journals.specs.Entered.{IsIn, with_store_of}
 use Rattle.core_ranks.specs.Ranks.{HasNeed, RankShape}
 use Rattle.code_table.specs.declared.code.Node.{Node}
 use Rattle.core_state.specs.declared.state.CoreState.{CoreState}
-use Rattle.core_state.specs.Cores.{IsCore, with_entry}
+use Rattle.core_state.specs.Cores.{IsCore}
 
 -- the activity of a number is in, and its place holds a future that leads to the value of this one
 pub record IsNeeded (s : RunShape) (k : ℕ) (place : ℕ) (f : FutureShape) : Type 0 where

@@ -1,6 +1,6 @@
 -- The entries of a journal, and its room.
-use Rattle.std.specs.Prelude.{ℕ, ◌-◌, List, map, vec_capacity, vec_len}
-use Rattle.asp_model.specs.History.{EntryShape, HistoryShape}
+use Rattle.std.specs.Prelude.{ℕ, ◌-◌, List, Option, map, vec_capacity, vec_len}
+use Rattle.asp_model.specs.History.{EntryShape, FirstShape, HistoryShape}
 use Rattle.asp_model.specs.Shapes.{entry_shape, history_of}
 use Rattle.asp_model.specs.declared.journal.Start.{Start}
 use Rattle.core_state.specs.declared.journal.Journal.{Journal}
@@ -13,6 +13,6 @@ entries_in j = map entry_shape j.entries.items
 abbrev pub room : Journal → ℕ
 room j = vec_capacity j.entries - vec_len j.entries
 
--- what has happened since this start
-abbrev pub history_in : Start → Journal → HistoryShape
-history_in start j = history_of start j.entries.items
+-- what has happened since this start, or since the configuration where its run goes on
+abbrev pub history_in : Start → Option FirstShape → Journal → HistoryShape
+history_in start first j = history_of start first j.entries.items

@@ -1,6 +1,6 @@
 -- What a lend gives and leaves, and who is next.
 use Rattle.std.specs.Prelude.{◌≡◌, ◌≤◌, ℕ, true, false, List, Option, Some, None}
-use Rattle.asp_model.specs.History.{HistoryShape, Lent}
+use Rattle.asp_model.specs.History.{HistoryShape, Lent, with_entry}
 use Rattle.def_journals.specs.Journals.{RunShape}
 use Rattle.law_journals.specs.Entered.{with_lease}
 use Rattle.law_journals.specs.Leases.{bursts_in}
@@ -9,7 +9,7 @@ use Rattle.law_core.specs.Runs.{is_ready}
 use Rattle.core_state.specs.declared.lease.Lease.{Lease}
 use Rattle.core_state.specs.declared.state.CoreState.{CoreState}
 use Rattle.core_state.specs.Leases.{IsLease}
-use Rattle.core_state.specs.Cores.{IsCore, with_entry}
+use Rattle.core_state.specs.Cores.{IsCore}
 
 -- a lease of the newest entry, which has taken nothing
 pub record IsNewLease (h : HistoryShape) (code : List Node) (k : ℕ) (x : Lease) : Type 0 where

@@ -1,19 +1,21 @@
 -- What a commit makes of a core.
 use Rattle.std.specs.Prelude.{◌≡◌, ◌≢◌, ◌≤◌, ◌<◌, ◌+◌, ◌-◌, ◌^◌, ℕ, List, [], Some, None, length}
-use Rattle.asp_model.specs.Configuration.{Activity, requests_of}
-use Rattle.asp_model.specs.History.{Committed, HistoryShape}
+use Rattle.asp_model.specs.Configuration.{Activity, log_of, requests_of}
+use Rattle.asp_model.specs.History.{Committed, HistoryShape, with_entry}
 use Rattle.asp_model.specs.Names.{Name}
 use Rattle.asp_model.specs.Step.{name_at}
-use Rattle.asp_model.specs.Term.{locations}
-use Rattle.def_journals.specs.Journals.{RunShape, grant_of, run_of}
+use Rattle.def_journals.specs.Journals.{RunShape, first_in, grant_of, run_of}
+use Rattle.law_journals.specs.Budgets.{most_in}
 use Rattle.law_journals.specs.Leases.{bursts_in}
+use Rattle.law_journals.specs.Numbered.{AreNumbered, IsFirst}
+use Rattle.law_paths.specs.Whole.{IsWhole}
 use Rattle.law_core.specs.Commits.{HasRun, returned, with_activity}
 use Rattle.code_table.specs.declared.code.Node.{Node}
 use Rattle.future_table.specs.Values.{AreOfCode, values_of}
 use Rattle.core_seats.specs.Seats.{AreSeats, Out, names_in, seat_at, seats_in}
 use Rattle.core_state.specs.Journal.{entries_in, room}
 use Rattle.step_activity.specs.declared.actor.Actor.{Actor}
-use Rattle.step_activity.specs.Actors.{Stands, code_of}
+use Rattle.step_activity.specs.Actors.{Stands, code_of, log_in}
 use Rattle.asp_model.specs.Chase.{Values}
 use Rattle.core_ranks.specs.Ranks.{RankShape, Goes, HasNeed}
 use Rattle.law_core.specs.Ranked.{rank_resting}
@@ -22,7 +24,7 @@ use Rattle.step_activity.specs.Stances.{StanceShape}
 use Rattle.core_state.specs.declared.lease.Lease.{Lease}
 use Rattle.core_state.specs.Leases.{IsLease}
 use Rattle.core_state.specs.declared.state.CoreState.{CoreState}
-use Rattle.core_state.specs.Cores.{AreRanked, IsCore, IsSeated, with_entry}
+use Rattle.core_state.specs.Cores.{AreRanked, IsCore, IsSeated}
 
 -- all but one are where the run has them
 pub record IsPopulatedBut (h : HistoryShape) (code : List Node) (x : CoreState) (s : RunShape) (k : ℕ) : Type 0 where
@@ -35,9 +37,11 @@ pub record IsPopulatedBut (h : HistoryShape) (code : List Node) (x : CoreState) 
 
 -- a lease comes back: its box is empty, and the actor has received all and stands where its contractions led
 pub record IsReturning (h : HistoryShape) (code : List Node) (x : CoreState) (s : RunShape) (k : ℕ) (n : Name) (grant taken : ℕ) (a : Actor) : Type 0 where
-  pub bare : locations h.program ≡ []
-  pub small : h.budget < 2 ^ 64
-  pub run : run_of h.program h.budget h.entries ≡ Some s
+  pub first : IsFirst (first_in h)
+  pub whole : IsWhole s.configuration
+  pub numbered : AreNumbered s
+  pub small : most_in h < 2 ^ 64
+  pub run : run_of h ≡ Some s
   pub entries : entries_in x.journal ≡ h.entries
   pub populated : IsPopulatedBut h code x s k
   pub away : seat_at x.seats k ≡ Some (Out [])
@@ -50,6 +54,8 @@ pub record IsReturning (h : HistoryShape) (code : List Node) (x : CoreState) (s 
   pub within : taken ≤ grant
   pub stands : Stands a end (requests_of s.configuration n)
   pub coded : code_of a ≡ code
+  -- its log notes what came meanwhile, before whatever it asks now
+  pub logged : log_in a ≡ log_of s.configuration n
 
 abbrev pub IsSomeReturning : CoreState → ℕ → ℕ → ℕ → Actor → Type 0
 IsSomeReturning x k grant taken a = (h : HistoryShape) × (code : List Node) × (s : RunShape) × (n : Name) × IsReturning h code x s k n grant taken a

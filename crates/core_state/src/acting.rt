@@ -14,8 +14,9 @@ use asp_model::ActivityName;
 use std::alloc::AllocError;
 use step_activity::{Actor, Given};
 
-/// An activity whose lease comes back does the communication at which it stands, and comes in. What
-/// that gives goes where the caller says: nobody has it yet, and it is moved once.
+/// An activity whose lease comes back does the communication at which it stands, and comes in. It has
+/// received what came meanwhile: a poll sees that, and stands behind it in the log. What the
+/// communication gives goes where the caller says: nobody has it yet, and it is moved once.
 pub fn bring_in(
     state: &mut CoreState,
     number: u32,

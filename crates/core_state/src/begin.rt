@@ -5,11 +5,12 @@ ghost use Rattle.std.specs.Arc.{arc_value};
 ghost use Rattle.asp_model.specs.Configuration.{begun as activity_begun};
 ghost use Rattle.asp_model.specs.Store.{Object as ObjectCell};
 ghost use Rattle.asp_model.specs.Term.{locations};
+ghost use Rattle.asp_model.specs.History.{program_history};
 ghost use Rattle.def_journals.specs.Journals.{begun};
 ghost use Rattle.code_table.specs.declared.code.Node.{Node as NodeShape};
-ghost use Rattle.step_activity.specs.Actors.{Stands, code_of};
+ghost use Rattle.step_activity.specs.Actors.{Stands, code_of, log_in};
 ghost use Rattle.core_state.specs.Begin.{IsEmpty, IsMain, IsSomeMain};
-ghost use Rattle.core_state.specs.Cores.{IsCore, history_begun, program_of};
+ghost use Rattle.core_state.specs.Cores.{IsCore, program_of};
 
 use crate::come_back::rank_of;
 use crate::journal::Journal;
@@ -29,6 +30,7 @@ fn main_actor(alloc: Global, code: Arc<Code>) -> Result<Box<Actor>, AllocError>
         let first = activity_begun (program_of k) (ObjectCell [] [] ∷ []) in
         IfOk result (λ b. Stands b.value first []) }
     ensures code { IfOk result (λ b. code_of b.value ≡ arc_value code) }
+    ensures log { IfOk result (λ b. log_in b.value ≡ []) }
 {
     let mut actor = Actor::main(alloc, code)?;
     match actor.settle() {
@@ -64,7 +66,7 @@ impl CoreState {
         requires empty { IsEmpty self.old self.old.left }
         requires main { IsSomeMain actor.value }
         ensures begun { (code : List NodeShape) → IsMain code actor.value →
-            let history = history_begun (program_of code) self.old.left in
+            let history = program_history (program_of code) self.old.left [] in
             self.old.left < 2 ^ 64 →
             OnOk result (IsCore history code self.new (begun (program_of code) self.old.left)) }
     {
@@ -80,7 +82,7 @@ impl CoreState {
     pub fn begin(alloc: Global, code: Arc<Code>, budget: u64) -> Result<CoreState, AllocError>
         requires bare { locations (program_of (arc_value code)) ≡ [] }
         ensures begun { let program = program_of (arc_value code) in
-            let history = history_begun program budget in
+            let history = program_history program budget [] in
             IfOk result (λ x. IsCore history (arc_value code) x (begun program budget)) }
     {
         let actor = main_actor(alloc, code)?;

@@ -8,13 +8,14 @@ ghost use Rattle.asp_model.specs.Configuration.{RequestShape, requests_of};
 ghost use Rattle.asp_model.specs.History.{HistoryShape};
 ghost use Rattle.asp_model.specs.Names.{Name};
 ghost use Rattle.asp_model.specs.Shapes.{future_shape};
+ghost use Rattle.law_journals.specs.Leases.{receptions_of};
 ghost use Rattle.future_table.specs.Values.{values_of};
 ghost use Rattle.def_journals.specs.Journals.{RunShape};
 ghost use Rattle.step_reads.specs.Values.{AreClosedValues};
 ghost use Rattle.code_table.specs.declared.code.Node.{Node as NodeShape};
 ghost use Rattle.core_ranks.specs.Ranks.{rank_shape};
 ghost use Rattle.law_core.specs.Ranked.{rank_awaiting as awaiting_rank, rank_of as rank_told};
-ghost use Rattle.step_activity.specs.Actors.{IsClosedFor, Stands, code_of};
+ghost use Rattle.step_activity.specs.Actors.{IsClosedFor, Stands, code_of, log_in};
 ghost use Rattle.step_activity.specs.Stances.{stance_shape};
 ghost use Rattle.request_queue.specs.Requests.{request_shape};
 ghost use Rattle.core_state.specs.Journal.{entries_in};
@@ -84,6 +85,8 @@ fn receive_all(alloc: Global, actor: &mut Actor, came: Vec<Request>) -> Result<(
     ensures stands { (a : model.Activity) (rs : List RequestShape) → Stands actor.old a rs →
         OnOk result (Stands actor.new a (rs ++ map request_shape came.items)) }
     ensures code { code_of actor.new ≡ code_of actor.old }
+    ensures log { let more = receptions_of (map request_shape came.items) in
+        OnOk result (log_in actor.new ≡ log_in actor.old ++ more) }
 {
     for request in came {
         actor.receive(alloc, request)?;
@@ -92,8 +95,9 @@ fn receive_all(alloc: Global, actor: &mut Actor, came: Vec<Request>) -> Result<(
 }
 
 impl CoreState {
-    /// Takes the activity out of a lease that comes back. It has received what came meanwhile; it
-    /// settled when it ran. There is room in the journal for what follows.
+    /// Takes the activity out of a lease that comes back. It has received what came meanwhile, which
+    /// its log notes before whatever it does next; it settled when it ran. There is room in the
+    /// journal for what follows.
     pub fn take_back(&mut self, lease: Lease) -> Result<Box<Actor>, AllocError>
         requires lease { IsSomeLease self.old lease }
         ensures returning { (h : HistoryShape) (code : List NodeShape) (s : RunShape) →

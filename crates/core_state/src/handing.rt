@@ -5,6 +5,7 @@ ghost use Rattle.std.specs.Arc.{arc_value};
 ghost use Rattle.asp_model.specs.History.{HistoryShape};
 ghost use Rattle.asp_model.specs.Intent.{Effect};
 ghost use Rattle.asp_model.specs.Step.{name_at};
+ghost use Rattle.asp_model.specs.Names.{Name};
 ghost use Rattle.def_journals.specs.Journals.{RunShape};
 ghost use Rattle.code_table.specs.declared.code.Node.{Node as NodeShape};
 ghost use Rattle.law_journals.specs.Numbered.{AreNumbered};
@@ -61,10 +62,12 @@ fn hand_over(state: &mut CoreState, to: &ActivityName, request: Request) -> Resu
 /// Hands on what a reduction gives, and answers what that changed for others.
 pub fn hand_on(state: &mut CoreState, given: Given) -> Result<Change, AllocError>
     requires given { IsSomeToHand state.old given }
-    ensures populated { (h : HistoryShape) (code : List NodeShape) (u : RunShape) (e : Effect) →
-        IsToHand h code state.old u e given → OnOk result (IsPopulated h code state.new (handed u e)) }
-    ensures change { (h : HistoryShape) (code : List NodeShape) (u : RunShape) (e : Effect) →
-        IsToHand h code state.old u e given → IfOk result (IsChange u.names e) }
+    ensures populated { (h : HistoryShape) (code : List NodeShape) (u : RunShape) (n : Name)
+        (e : Effect) → IsToHand h code state.old u n e given →
+        OnOk result (IsPopulated h code state.new (handed u e)) }
+    ensures change { (h : HistoryShape) (code : List NodeShape) (u : RunShape) (n : Name)
+        (e : Effect) → IsToHand h code state.old u n e given →
+        IfOk result (IsChange u.names e) }
     ensures journal { state.new.journal ≡ state.old.journal }
     ensures ranks { state.new.ranks ≡ state.old.ranks }
     ensures left { state.new.left ≡ state.old.left }
@@ -72,6 +75,7 @@ pub fn hand_on(state: &mut CoreState, given: Given) -> Result<Change, AllocError
 {
     match given {
         Given::Nothing => Ok(Change::Nothing),
+        Given::Polled => Ok(Change::Nothing),
         Given::Made(name, actor) => {
             let number = state.seats.add(name, actor)?;
             Ok(Change::Made(number))

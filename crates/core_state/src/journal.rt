@@ -1,7 +1,7 @@
 //! The journal: a list of entries that only grows.
 
-ghost use Rattle.std.specs.Prelude.{◌≡◌, ◌+◌, ◌∷◌, ◌++◌, ◌<◌, ◌≤◌, [], OnOk, length, map};
-ghost use Rattle.asp_model.specs.History.{BeginsWith};
+ghost use Rattle.std.specs.Prelude.{◌≡◌, ◌+◌, ◌∷◌, ◌++◌, ◌<◌, ◌≤◌, [], OnOk, Option, length, map};
+ghost use Rattle.asp_model.specs.History.{BeginsWith, FirstShape};
 ghost use Rattle.asp_model.specs.Shapes.{entry_shape};
 ghost use Rattle.core_state.specs.Journal.{entries_in, history_in, room};
 
@@ -43,8 +43,8 @@ impl Journal {
         requires room { 0 < room self.old }
         ensures entries { entries_in self.new ≡ entries_in self.old ++ entry_shape entry ∷ [] }
         ensures room { room self.old ≤ room self.new + 1 }
-        ensures begins { (start : Start) →
-            BeginsWith (history_in start self.new) (history_in start self.old) }
+        ensures begins { (start : Start) (first : Option FirstShape) →
+            BeginsWith (history_in start first self.new) (history_in start first self.old) }
     {
         let _ = self.entries.push(entry);
     }

@@ -1,5 +1,6 @@
-use Rattle.std.proofs.Common.{◌∙◌, [], ap, subst}
+use Rattle.std.proofs.Common.{sym, ◌∙◌, [], ap, subst}
 use Rattle.std.proofs.lemmas.Result.{on_err_weaker, on_ok_weaker}
+use Rattle.step_activity.specs.Effects.{IsGiven}
 use Rattle.core_seats.specs.Seats.{Out, seats_in}
 use Rattle.core_state.specs.Journal.{entries_in}
 use Rattle.law_core.specs.Commits.{with_activity}
@@ -46,7 +47,7 @@ returns-clause-acted g c = λ h code s n e r.
     let end = r.returning.end in
     let same = c.in_ok-name.ensures.name ∙ acting_name h code s z k n m q a e r c.name.result.now c.name.ensures.name in
     let given = c.in_ok-bring_in.ensures.giving h code s n m q e same r in
-    let told = c.in_ok-tell.ensures.told e given.0.hand.given in
+    let told = c.in_ok-tell.ensures.told e (subst (λ b. IsGiven b e c.bring_in.new.given) (sym same) given.0.hand.given) in
     on_ok_weaker c.come_in.result
     (λ core. record {
       core = subst (λ b. IsActCommitted h code s k n m q b e c.come_in.new.state) given.1 core;

@@ -1,11 +1,12 @@
 use Rattle.std.proofs.Common.{sym, subst, ◌∙◌}
 use Rattle.law_chases.proofs.FutureLemmas.{true_false}
 use Rattle.law_core.specs.Runs.{is_ready}
+use Rattle.asp_model.proofs.HistoryLemmas.{begins_with_earlier}
 use Rattle.asp_core.specs.Cores.{code_of, history_of}
 use Rattle.core_edges.proofs.AnswerLemmas.{on_ok}
 use Rattle.asp_core.specs.Over.{IsHomeBut}
 use Rattle.asp_core.proofs.OutAfterLemmas.{comes_lent, home_but_lent}
-use Rattle.asp_core.proofs.OverLemmas.{lent_as, ran_stopped}
+use Rattle.asp_core.proofs.OverLemmas.{lent_as, on_ok as on_ok_all, ran_stopped}
 use Rattle.asp_core.proofs.finishing.work.Goals as goal
 
 pub unreachable-requires : goal.unreachable-requires
@@ -34,6 +35,10 @@ bring_back-requires-clause-alone g c =
     let new = c.lend.new.self in
     let lent = lent_as old new r.0 c.args.number c.lend.result c.in-Some.lease c.in-Some.is (c.lend.ensures.lent r.0 r.1) in
     subst (IsHomeBut new) (sym (c.run-ran.ensures.number ∙ lent.3.number)) (home_but_lent old new c.args.number (comes_lent old new r.0 c.args.number r.1 lent.2) c.requires.home)
+
+pub returns-clause-begins : goal.returns-clause-begins
+returns-clause-begins g c =
+    on_ok_all c.bring_back.result (begins_with_earlier (history_of c.bring_back.new.core) (history_of c.lend.new.self) (history_of c.args.core.now) c.bring_back.ensures.begins c.lend.ensures.begins)
 
 pub returns-clause-by_plan : goal.returns-clause-by_plan
 returns-clause-by_plan g c = on_ok c.bring_back.result (λ then plan policies is. then plan policies (c.lend.ensures.by_plan plan policies is)) c.bring_back.ensures.by_plan

@@ -1,4 +1,4 @@
-use Rattle.std.proofs.Common.{◌∙◌, Some, sym, ap}
+use Rattle.std.proofs.Common.{◌∙◌, Some, ap}
 use Rattle.asp_model.specs.Shapes.{verdict_shape}
 use Rattle.asp_core.specs.Verdicts.{IsStill}
 use Rattle.asp_core.proofs.VerdictLemmas.{goes_told, rest_told, still_told}

@@ -1,6 +1,6 @@
 use Rattle.std.proofs.Common.{◌∙◌, [], ap, subst, sym}
 use Rattle.std.specs.Arc.{arc_value}
-use Rattle.step_activity.specs.Actors.{Stands, code_of}
+use Rattle.step_activity.specs.Actors.{Stands, code_of, log_in}
 use Rattle.core_state.specs.Cores.{program_of}
 use Rattle.core_state.proofs.BeginLemmas.{first_of}
 use Rattle.core_state.proofs.begin.main_actor.Goals as goal
@@ -12,3 +12,6 @@ returns-in_ok-boxed-in-Ok-clause-stands c =
 
 pub returns-in_ok-boxed-in-Ok-clause-code : goal.returns-in_ok-boxed-in-Ok-clause-code
 returns-in_ok-boxed-in-Ok-clause-code c = ap code_of c.in_ok-boxed-in-Ok.ensures.ok ∙ c.settle.ensures.code ∙ c.in_ok-actor.ensures.code
+
+pub returns-in_ok-boxed-in-Ok-clause-log : goal.returns-in_ok-boxed-in-Ok-clause-log
+returns-in_ok-boxed-in-Ok-clause-log c = ap log_in c.in_ok-boxed-in-Ok.ensures.ok ∙ c.settle.ensures.log ∙ c.in_ok-actor.ensures.log

@@ -16,7 +16,7 @@ hand_on-requires c =
     let k = c.args.number in
     let x = r.5.before in
     let z : IsSomeActing x k c.args.grant c.args.reductions r.5.actor = (r.0, r.1, r.2, r.3, r.4, r.5.acting) in
-    record { given = (now x k c.args.grant c.args.reductions r.5.actor z, r.1, came x k c.args.grant c.args.reductions r.5.actor z, r.4, r.5.hand) }
+    record { given = (now x k c.args.grant c.args.reductions r.5.actor z, r.1, came x k c.args.grant c.args.reductions r.5.actor z, r.3, r.4, r.5.hand) }
 
 pub rank_others-requires : goal.rank_others-requires
 rank_others-requires c =
@@ -30,7 +30,7 @@ rank_others-requires c =
     let h = now x k m q a z in
     let changed =
     to_rank x k m q a z c.hand_on.new.state c.in_ok-change.change (c.hand_on.ensures.ranks ∙ r.5.ranks)
-    (c.in_ok-change.ensures.populated h z.1 (came x k m q a z) z.4 r.5.hand) (c.in_ok-change.ensures.change h z.1 (came x k m q a z) z.4 r.5.hand) in
+    (c.in_ok-change.ensures.populated h z.1 (came x k m q a z) z.3 z.4 r.5.hand) (c.in_ok-change.ensures.change h z.1 (came x k m q a z) z.3 z.4 r.5.hand) in
     record { changed = (h, z.1, z.2, z.3, z.5.returning.end, z.4, left x k m q a z, changed) }
 
 pub look-requires : goal.look-requires
@@ -46,7 +46,7 @@ look-requires c =
     let y = c.hand_on.new.state in
     let changed =
     to_rank x k m q a z y c.in_ok-change.change (c.hand_on.ensures.ranks ∙ r.5.ranks)
-    (c.in_ok-change.ensures.populated h z.1 (came x k m q a z) z.4 r.5.hand) (c.in_ok-change.ensures.change h z.1 (came x k m q a z) z.4 r.5.hand) in
+    (c.in_ok-change.ensures.populated h z.1 (came x k m q a z) z.3 z.4 r.5.hand) (c.in_ok-change.ensures.change h z.1 (came x k m q a z) z.3 z.4 r.5.hand) in
     let w = c.rank_others.new.state in
     record { standing = (h, z.1, t x k m q a z, to_look x k m q a z w (populated_too h z.1 y w (t x k m q a z) c.rank_others.ensures.seats c.rank_others.ensures.futures changed.populated)) }
 
@@ -63,7 +63,7 @@ rank-requires c =
     let y = c.hand_on.new.state in
     let changed =
     to_rank x k m q a z y c.in_ok-change.change (c.hand_on.ensures.ranks ∙ r.5.ranks)
-    (c.in_ok-change.ensures.populated h z.1 (came x k m q a z) z.4 r.5.hand) (c.in_ok-change.ensures.change h z.1 (came x k m q a z) z.4 r.5.hand) in
+    (c.in_ok-change.ensures.populated h z.1 (came x k m q a z) z.3 z.4 r.5.hand) (c.in_ok-change.ensures.change h z.1 (came x k m q a z) z.3 z.4 r.5.hand) in
     record { rests = (c.in_ok-rank_others.ensures.ranks h z.1 z.2 z.3 z.5.returning.end z.4 (left x k m q a z) changed).0 }
 
 pub note-requires : goal.note-requires
@@ -85,7 +85,7 @@ returns-clause-committed c = λ h code s n e r.
     let u = t x k m q a z in
     let changed =
     to_rank x k m q a z c.hand_on.new.state c.in_ok-change.change (c.hand_on.ensures.ranks ∙ r.ranks)
-    (c.in_ok-change.ensures.populated g code (came x k m q a z) e r.hand) (c.in_ok-change.ensures.change g code (came x k m q a z) e r.hand) in
+    (c.in_ok-change.ensures.populated g code (came x k m q a z) n e r.hand) (c.in_ok-change.ensures.change g code (came x k m q a z) n e r.hand) in
     let others = c.in_ok-rank_others.ensures.ranks g code s n r.acting.returning.end e (left x k m q a z) changed in
     let w = c.rank_others.new.state in
     let there : IsPopulated g code w u = populated_too g code c.hand_on.new.state w u c.rank_others.ensures.seats c.rank_others.ensures.futures changed.populated in

@@ -3,15 +3,20 @@ use Rattle.asp_model.specs.History.{Delivered, Edge}
 use Rattle.asp_model.specs.Shapes.{entry_shape, future_shape}
 use Rattle.def_journals.specs.Deliveries.{holders_from, unpack_each}
 use Rattle.core_seats.specs.Seats.{In, Out, is_in, seats_in, with_seat}
-use Rattle.core_seats.proofs.SeatLemmas.{set_twice}
-use Rattle.step_activity.specs.Actors.{IsSomebody, Stands, code_of}
+use Rattle.core_seats.proofs.SeatLemmas.{length_set, set_twice}
+use Rattle.step_activity.specs.Actors.{IsSomebody, Stands, code_of, log_in}
 use Rattle.law_core.specs.Ranked.{rank_in}
 use Rattle.core_state.specs.declared.state.CoreState.{CoreState}
 use Rattle.core_state.proofs.ListLemmas.{got_set}
-use Rattle.core_state.proofs.DeliveryLemmas.{length_set}
-use Rattle.core_state.proofs.ReceivingLemmas.{Sees, core_then, filled, filled_closed, its_code, known, named_so, ranked, received, receiver, somebody_there, stands_then, stood, value_closed, value_code, value_there, values_closed}
+use Rattle.core_state.proofs.ReceivingLemmas.{Sees, core_then, filled, filled_closed, its_code, its_log, known, named_so, ranked, received, receiver, somebody_there, stands_then, stood, value_closed, value_code, value_there, values_closed}
 use Rattle.core_state.proofs.EdgeLemmas.{owed_edge}
 use Rattle.core_state.proofs.edge.deliver_edge.Goals as goal
+
+pub name-requires-clause-known : goal.name-requires-clause-known
+name-requires-clause-known c = known (owed_edge c.args.state.now c.args.number (future_shape c.args.future.now) c.args.from.now c.requires.passed)
+
+pub take-requires-clause-known : goal.take-requires-clause-known
+take-requires-clause-known c = known (owed_edge c.args.state.now c.args.number (future_shape c.args.future.now) c.args.from.now c.requires.passed)
 
 pub unreachable-requires : goal.unreachable-requires
 unreachable-requires c = somebody_there (owed_edge c.args.state.now c.args.number (future_shape c.args.future.now) c.args.from.now c.requires.passed) c.in_default.ensures.taken
@@ -72,6 +77,7 @@ returns-clause-delivered c = λ h code s core owed.
     let entry : entry_shape c.in_ok-entry.entry ≡ Delivered (Edge f c.args.from.now owed.name) =
     c.in_ok-entry.ensures.entry ∙ ap (λ m. Delivered (Edge f c.args.from.now m)) (c.in_ok-to.ensures.name ∙ named_so q _ c.name.ensures.name) in
     core_then q y c.fill_each.new.self stands (c.fill_each.ensures.code ∙ ap code_of c.as_mut-here.ensures.value ∙ its_code q z)
+    (c.fill_each.ensures.log ∙ ap log_in c.as_mut-here.ensures.value ∙ its_log q z)
     (record {
       seats = c.put-came.ensures.seats ∙ ap (λ seats. with_seat seats k (In c.fill_each.new.self)) c.in-Some.ensures.left ∙ set_twice (seats_in x.seats) k (Out []) (In c.fill_each.new.self);
       names = c.put-came.ensures.names ∙ c.take.ensures.names;

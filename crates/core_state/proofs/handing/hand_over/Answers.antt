@@ -1,7 +1,9 @@
 use Rattle.std.proofs.Common.{◌≡◌, ◌∙◌, ◌∷◌, ◌++◌, [], Some, ap, refl, slice_get, subst, sym}
+use Rattle.asp_model.specs.Configuration.{From}
+use Rattle.request_queue.specs.Requests.{request_shape}
 use Rattle.core_seats.specs.Seats.{In, Out, seat_at, seats_in, with_seat}
 use Rattle.core_seats.proofs.SeatLemmas.{set_twice}
-use Rattle.step_activity.specs.Actors.{Stands, code_of}
+use Rattle.step_activity.specs.Actors.{Stands, code_of, log_in}
 use Rattle.core_state.specs.declared.state.CoreState.{CoreState}
 use Rattle.core_state.proofs.ListLemmas.{name_got}
 use Rattle.core_state.proofs.PopulateLemmas.{Receives, request_comes}
@@ -33,7 +35,7 @@ returns-in_ok-receive-in-Some-take-clause-populated c = λ h code u r.
     request_comes h code x y u r.populated r.numbered k m (named h code x u r.populated k m c.in-Some.ensures.found) c.args.request (In a)
     (c.put-came.ensures.seats ∙ ap (λ seats. with_seat seats k (In a)) c.in-Some-take.ensures.left ∙ set_twice (seats_in x.seats) k (Out []) (In a))
     (c.put-came.ensures.names ∙ c.take.ensures.names) c.put-came.ensures.kept refl c.in-Some.ensures.known
-    (subst (λ o. Receives h code u k m c.args.request o (Some (In a))) (sym here) ((λ b rs stands. c.in_ok-receive-in-Some-take.ensures.stands b rs (subst (λ y. Stands y b rs) (sym was) stands)), c.receive.ensures.code ∙ ap code_of was))
+    (subst (λ o. Receives h code u k m c.args.request o (Some (In a))) (sym here) ((λ b rs stands. c.in_ok-receive-in-Some-take.ensures.stands b rs (subst (λ y. Stands y b rs) (sym was) stands)), c.receive.ensures.code ∙ ap code_of was, c.in_ok-receive-in-Some-take.ensures.log ∙ ap (λ xs. xs ++ From (request_shape c.args.request).sender ∷ []) (ap log_in was)))
     r.coded
 
 pub returns-in_ok-post-in-None-clause-populated : goal.returns-in_ok-post-in-None-clause-populated

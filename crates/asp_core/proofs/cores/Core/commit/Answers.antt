@@ -22,7 +22,7 @@ returns-clause-committed g c = λ s run l.
     let new = record x { state = c.bring_back.new.state; edges = c.bring_back.new.edges; spent = false } in
     let back = c.in_ok-bring_back.ensures.back (history_of x) (code_of x) s run.stand run.labels l in
     let e = Committed lease.number (counted lease.taken (act_at s l.name lease.grant lease.taken back.end)) in
-    record { end = back.end; has_run = back.has_run; on = has_gone_on x new e back.after refl refl refl back.stand back.labels }
+    record { end = back.end; has_run = back.has_run; on = has_gone_on x new e back.after refl refl refl back.stand back.labels run.bare }
 
 pub returns-clause-kept : goal.returns-clause-kept
 returns-clause-kept g c =
@@ -32,7 +32,7 @@ returns-clause-kept g c =
     let r = c.requires.kept c.if-self.false in
     let back = c.in_ok-bring_back.ensures.back (history_of x) (code_of x) r.0 r.1.stand r.1.labels c.requires.lease in
     let e = Committed lease.number (counted lease.taken (act_at r.0 c.requires.lease.name lease.grant lease.taken back.end)) in
-    run_kept new back.after (runs x new e back.after refl refl refl back.stand back.labels)
+    run_kept new back.after (runs x new e back.after refl refl refl back.stand back.labels r.1.bare)
 
 pub returns-clause-begins : goal.returns-clause-begins
 returns-clause-begins g c =
@@ -42,7 +42,7 @@ returns-clause-begins g c =
     let r = c.requires.kept c.if-self.false in
     let back = c.in_ok-bring_back.ensures.back (history_of x) (code_of x) r.0 r.1.stand r.1.labels c.requires.lease in
     let e = Committed lease.number (counted lease.taken (act_at r.0 c.requires.lease.name lease.grant lease.taken back.end)) in
-    begins_before (history_of new) (history_of x) e (entered x new e back.after refl refl refl back.stand back.labels)
+    begins_before (history_of new) (history_of x) e (entered x new e back.after refl refl refl back.stand back.labels r.1.bare)
 
 pub returns-clause-by_plan : goal.returns-clause-by_plan
 returns-clause-by_plan g c =
@@ -58,7 +58,7 @@ returns-clause-chosen g c =
     let back = c.in_ok-bring_back.ensures.back (history_of x) (code_of x) r.0 r.1.stand r.1.labels c.requires.lease in
     let e = Committed lease.number (counted lease.taken (act_at r.0 c.requires.lease.name lease.grant lease.taken back.end)) in
     let answers = c.in_ok-bring_back.ensures.answers in
-    stays_chosen x new r.0 back.after e answers.given r.1 (runs x new e back.after refl refl refl back.stand back.labels) (entered x new e back.after refl refl refl back.stand back.labels) answers.kept tt
+    stays_chosen x new r.0 back.after e answers.given r.1 (runs x new e back.after refl refl refl back.stand back.labels r.1.bare) (entered x new e back.after refl refl refl back.stand back.labels r.1.bare) answers.kept tt
 
 pub returns-clause-stopped : goal.returns-clause-stopped
 returns-clause-stopped g c = λ has.
@@ -69,4 +69,4 @@ returns-clause-stopped g c = λ has.
     let name = c.requires.lease.name in
     let back = c.in_ok-bring_back.ensures.back (history_of x) (code_of x) r.0 r.1.stand r.1.labels c.requires.lease in
     let e = Committed lease.number (counted lease.taken (act_at r.0 name lease.grant lease.taken back.end)) in
-    comes_stopped x new r.0 (code_of x) lease name back.end r.1 (has c.in_ok-bring_back.ensures.fresh) back.has_run (entered x new e back.after refl refl refl back.stand back.labels)
+    comes_stopped x new r.0 (code_of x) lease name back.end r.1 (has c.in_ok-bring_back.ensures.fresh) back.has_run (entered x new e back.after refl refl refl back.stand back.labels r.1.bare)

@@ -13,7 +13,7 @@ returns-clause-delivered g c = λ s run.
     let x = c.args.self.now in
     let new = record x { state = c.hand.new.state; edges = c.hand.new.edges; spent = false } in
     let handed = c.in_ok-hand.ensures.handed (history_of x) (code_of x) s run.stand run.labels (c.requires.may s run) in
-    has_gone_on x new (Delivered (delivery_shape c.args.delivery.now)) handed.0 refl refl refl handed.1 handed.2
+    has_gone_on x new (Delivered (delivery_shape c.args.delivery.now)) handed.0 refl refl refl handed.1 handed.2 run.bare
 
 pub returns-clause-kept : goal.returns-clause-kept
 returns-clause-kept g c =
@@ -21,7 +21,7 @@ returns-clause-kept g c =
     let new = record x { state = c.hand.new.state; edges = c.hand.new.edges; spent = false } in
     let r = c.requires.kept c.if-self.false in
     let handed = c.in_ok-hand.ensures.handed (history_of x) (code_of x) r.0 r.1.stand r.1.labels (c.requires.may r.0 r.1) in
-    run_kept new handed.0 (runs x new (Delivered (delivery_shape c.args.delivery.now)) handed.0 refl refl refl handed.1 handed.2)
+    run_kept new handed.0 (runs x new (Delivered (delivery_shape c.args.delivery.now)) handed.0 refl refl refl handed.1 handed.2 r.1.bare)
 
 pub returns-clause-begins : goal.returns-clause-begins
 returns-clause-begins g c =
@@ -30,7 +30,7 @@ returns-clause-begins g c =
     let r = c.requires.kept c.if-self.false in
     let e = Delivered (delivery_shape c.args.delivery.now) in
     let handed = c.in_ok-hand.ensures.handed (history_of x) (code_of x) r.0 r.1.stand r.1.labels (c.requires.may r.0 r.1) in
-    begins_before (history_of new) (history_of x) e (entered x new e handed.0 refl refl refl handed.1 handed.2)
+    begins_before (history_of new) (history_of x) e (entered x new e handed.0 refl refl refl handed.1 handed.2 r.1.bare)
 
 pub returns-clause-by_plan : goal.returns-clause-by_plan
 returns-clause-by_plan g c =
@@ -45,7 +45,7 @@ returns-clause-chosen g c = λ s run owed.
     let e = Delivered d in
     let handed = c.in_ok-hand.ensures.handed (history_of x) (code_of x) s run.stand run.labels (c.requires.may s run) in
     let answers = c.in_ok-hand.ensures.answers in
-    stays_chosen x new s handed.0 e answers.given run (runs x new e handed.0 refl refl refl handed.1 handed.2) (entered x new e handed.0 refl refl refl handed.1 handed.2) answers.kept
+    stays_chosen x new s handed.0 e answers.given run (runs x new e handed.0 refl refl refl handed.1 handed.2 run.bare) (entered x new e handed.0 refl refl refl handed.1 handed.2 run.bare) answers.kept
     (owed_chosen s x.edges.holders.holders x.edges.holders.answers d owed)
 
 pub returns-clause-stopped : goal.returns-clause-stopped
@@ -55,4 +55,4 @@ returns-clause-stopped g c =
     let r = c.requires.kept c.if-self.false in
     let e = Delivered (delivery_shape c.args.delivery.now) in
     let handed = c.in_ok-hand.ensures.handed (history_of x) (code_of x) r.0 r.1.stand r.1.labels (c.requires.may r.0 r.1) in
-    stays_stopped x new r.0 e r.1 (entered x new e handed.0 refl refl refl handed.1 handed.2) tt
+    stays_stopped x new r.0 e r.1 (entered x new e handed.0 refl refl refl handed.1 handed.2 r.1.bare) tt

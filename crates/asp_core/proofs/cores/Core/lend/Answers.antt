@@ -43,8 +43,8 @@ returns-clause-lent g c = λ s run.
     let st = lends (history_of x) (code_of x) s x.state x.edges.holders run.stand w.holders y k lent.1 c.lent.ensures.turned c.lent.ensures.edges.holders c.lent.ensures.edges.answers in
     let new = record x { state = y; edges = w } in
     let labels = labels_kept s.configuration s.configuration x.edges w refl c.lent.ensures.edges run.labels in
-    let on = entered x new (Lent k) (with_lease s k) refl refl run.fresh st labels in
-    (lent.0, on, runs x new (Lent k) (with_lease s k) refl refl run.fresh st labels, subst (λ h. IsNewLease h (code_of x) k c.in-Some.lease) (sym on) lent.2)
+    let on = entered x new (Lent k) (with_lease s k) refl refl run.fresh st labels run.bare in
+    (lent.0, on, runs x new (Lent k) (with_lease s k) refl refl run.fresh st labels run.bare, subst (λ h. IsNewLease h (code_of x) k c.in-Some.lease) (sym on) lent.2)
 
 pub returns-clause-kept : goal.returns-clause-kept
 returns-clause-kept g c =
@@ -57,7 +57,7 @@ returns-clause-kept g c =
     let st = lends (history_of x) (code_of x) r.0 x.state x.edges.holders r.1.stand w.holders y k lent.1 c.lent.ensures.turned c.lent.ensures.edges.holders c.lent.ensures.edges.answers in
     let labels = labels_kept r.0.configuration r.0.configuration x.edges w refl c.lent.ensures.edges r.1.labels in
     let new = record x { state = y; edges = w } in
-    run_kept new (with_lease r.0 k) (runs x new (Lent k) (with_lease r.0 k) refl refl r.1.fresh st labels)
+    run_kept new (with_lease r.0 k) (runs x new (Lent k) (with_lease r.0 k) refl refl r.1.fresh st labels r.1.bare)
 
 pub returns-clause-begins : goal.returns-clause-begins
 returns-clause-begins g c =
@@ -70,7 +70,7 @@ returns-clause-begins g c =
     let st = lends (history_of x) (code_of x) r.0 x.state x.edges.holders r.1.stand w.holders y k lent.1 c.lent.ensures.turned c.lent.ensures.edges.holders c.lent.ensures.edges.answers in
     let labels = labels_kept r.0.configuration r.0.configuration x.edges w refl c.lent.ensures.edges r.1.labels in
     let new = record x { state = y; edges = w } in
-    begins_before (history_of new) (history_of x) (Lent k) (entered x new (Lent k) (with_lease r.0 k) refl refl r.1.fresh st labels)
+    begins_before (history_of new) (history_of x) (Lent k) (entered x new (Lent k) (with_lease r.0 k) refl refl r.1.fresh st labels r.1.bare)
 
 pub returns-in_default-clause-by_plan : goal.returns-in_default-clause-by_plan
 returns-in_default-clause-by_plan g c = λ plan policies is. is
@@ -105,7 +105,7 @@ returns-clause-chosen g c =
     let labels = labels_kept r.0.configuration r.0.configuration x.edges w refl edges r.1.labels in
     let new = record x { state = y; edges = w } in
     let t = with_lease r.0 k in
-    stays_chosen x new r.0 t (Lent k) [] r.1 (runs x new (Lent k) t refl refl r.1.fresh st labels) (entered x new (Lent k) t refl refl r.1.fresh st labels) (edges.answers ∙ sym (append-nil x.edges.holders.answers)) tt
+    stays_chosen x new r.0 t (Lent k) [] r.1 (runs x new (Lent k) t refl refl r.1.fresh st labels r.1.bare) (entered x new (Lent k) t refl refl r.1.fresh st labels r.1.bare) (edges.answers ∙ sym (append-nil x.edges.holders.answers)) tt
 
 pub returns-clause-stopped : goal.returns-clause-stopped
 returns-clause-stopped g c =
@@ -119,4 +119,4 @@ returns-clause-stopped g c =
     let st = lends (history_of x) (code_of x) r.0 x.state x.edges.holders r.1.stand w.holders y k lent.1 c.lent.ensures.turned edges.holders edges.answers in
     let labels = labels_kept r.0.configuration r.0.configuration x.edges w refl edges r.1.labels in
     let new = record x { state = y; edges = w } in
-    stays_stopped x new r.0 (Lent k) r.1 (entered x new (Lent k) (with_lease r.0 k) refl refl r.1.fresh st labels) tt
+    stays_stopped x new r.0 (Lent k) r.1 (entered x new (Lent k) (with_lease r.0 k) refl refl r.1.fresh st labels r.1.bare) tt

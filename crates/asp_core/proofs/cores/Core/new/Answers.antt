@@ -22,7 +22,7 @@ returns-in-Ok-clause-begun g c =
     let new : Core _ = record { alloc = c.args.alloc; code = begun.code; budget = budget; state = begun.state; edges = c.begin.new.edges; spent = false } in
     let edges = c.in-Ok.ensures.edges in
     run_begins new (tree_of c.args.program.now.program.root) c.in-Ok.ensures.program refl
-    (stand_begun (program_of code) budget code begun.state c.begin.new.edges.holders c.in-Ok.ensures.state (edges.holders ∙ c.new-edges.ensures.holders) (edges.answers ∙ c.new-edges.ensures.answers) c.in-Ok.ensures.met)
+    (stand_begun (program_of code) budget code begun.state c.begin.new.edges.holders c.in-Ok.ensures.state (edges.holders ∙ c.new-edges.ensures.holders) (edges.answers ∙ c.new-edges.ensures.answers) c.in-Ok.ensures.met) c.in-Ok.ensures.bare
 
 pub returns-in-Ok-clause-plan : goal.returns-in-Ok-clause-plan
 returns-in-Ok-clause-plan g c = c.in-Ok.ensures.edges.plan ∙ c.new-edges.ensures.plan
@@ -45,7 +45,7 @@ returns-in-Ok-clause-home g c =
     let new : Core _ = record { alloc = c.args.alloc; code = begun.code; budget = budget; state = begun.state; edges = c.begin.new.edges; spent = false } in
     let edges = c.in-Ok.ensures.edges in
     let st = stand_begun (program_of code) budget code begun.state c.begin.new.edges.holders c.in-Ok.ensures.state (edges.holders ∙ c.new-edges.ensures.holders) (edges.answers ∙ c.new-edges.ensures.answers) c.in-Ok.ensures.met in
-    home_at new (start_of term budget) (run_begins new term c.in-Ok.ensures.program refl st) refl
+    home_at new (start_of term budget) (run_begins new term c.in-Ok.ensures.program refl st c.in-Ok.ensures.bare) refl
 
 pub returns-in-Ok-clause-chosen : goal.returns-in-Ok-clause-chosen
 returns-in-Ok-clause-chosen g c =

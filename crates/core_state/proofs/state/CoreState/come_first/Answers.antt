@@ -39,7 +39,7 @@ returns c = record {
       c.in_ok-add.ensures.kept
       (c.in_ok-add.ensures.names ∙ (λ i. e.names i ++ c.in_ok-name.ensures.name i ∷ []))
       (c.in_ok-add.ensures.seats ∙ ap (λ seats. seats ++ In c.args.actor.value ∷ []) e.seats)
-      e.futures refl e.bursts c.in_ok-reserve.ensures.room main.stands main.coded
+      e.futures refl e.bursts c.in_ok-reserve.ensures.room main.stands main.coded main.logged
       (subst (IsRanked c.rank.new.self 0) told c.in_ok-rank-2.ensures.here)
       (λ j apart. c.in_ok-rank-2.ensures.others j Rests apart (e.rests j));
 }

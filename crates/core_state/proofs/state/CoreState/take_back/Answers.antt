@@ -2,8 +2,9 @@ use Rattle.std.proofs.Common.{◌≡◌, ◌∙◌, ◌++◌, ap, arith, map, re
 use Rattle.std.specs.Arc.{arc_value}
 use Rattle.std.specs.List.{AllByRecursion}
 use Rattle.core_seats.specs.Seats.{IsOut, is_in}
-use Rattle.step_activity.specs.Actors.{Stands, code_of}
+use Rattle.step_activity.specs.Actors.{Stands, code_of, log_in}
 use Rattle.asp_model.specs.Configuration.{requests_of}
+use Rattle.law_journals.specs.Leases.{receptions_of}
 use Rattle.request_queue.specs.declared.request.Request.{Request}
 use Rattle.request_queue.specs.Requests.{request_shape}
 use Rattle.core_state.specs.declared.state.CoreState.{CoreState}
@@ -50,3 +51,4 @@ returns-clause-returning c = λ h code s core l.
     }) c.receive_all.new.actor
     (subst (λ qs. Stands c.receive_all.new.actor done.end (rs ++ map request_shape qs)) came (c.in_ok-receive_all.ensures.stands done.end rs here))
     (c.receive_all.ensures.code ∙ ap code_of c.as_mut-here.ensures.value ∙ done.coded)
+    (c.in_ok-receive_all.ensures.log ∙ (λ i. (ap log_in c.as_mut-here.ensures.value ∙ done.logged) i ++ receptions_of (map request_shape (came i))))
