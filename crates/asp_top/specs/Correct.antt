@@ -15,7 +15,7 @@ use Rattle.command_line.specs.Task.{TaskShape, Runs, Checks, Replays, Makes, tas
 use Rattle.asp_top.specs.Seen.{Call, Outside, IsUntouched, Takes}
 use Rattle.asp_top.specs.Programs.{HasProgram, HasReport}
 
--- sender lists and counts that fit the program of a task
+-- logs and counts that fit the program of a task
 pub record ReplayOf (o : Outside) (task : TaskShape) : Type 0 where
   pub program : Marked
   pub given : HasProgram o task program
@@ -40,7 +40,7 @@ abbrev pub IsWithin : ℕ → CountsShape → Configuration → Type 0
 IsWithin budget counts c = (total counts ≤ budget) × (verdict_of c ≡ Budget → total counts ≡ budget)
 
 abbrev pub Answers : Outside → TaskShape → List ℕ → ℕ → Type 0
--- `asp FILE`: the report, at the depth asked for, of the replay under the lists and counts that it reads as
+-- `asp FILE`: the report, at the depth asked for, of the replay under the logs and counts that it reads as
 Answers o (Runs file settings depth) report status = (r : ReplayOf o (Runs file settings depth))
     × Tells (report_at depth) (end_of r) report status × (read_report report ≡ Reads r.lists r.counts)
     × IsWithin settings.budget r.counts (end_of r)

@@ -31,7 +31,7 @@ HasText o (Checks file) bytes = HasShort o 0 file MOST_PROGRAM_BYTES bytes
 HasText o (Replays file name depth) bytes = HasShort o 0 file MOST_PROGRAM_BYTES bytes
 HasText o (Makes pairs settings) bytes = bytes ≡ generated pairs
 
--- a report in these bytes reads as lists and counts that fit the program
+-- a report in these bytes reads as logs and counts that fit the program
 pub record IsReportOf (program : Marked) (bytes : List ℕ) : Type 0 where
   pub lists : ListsShape
   pub counts : CountsShape
@@ -69,7 +69,7 @@ pub record AsksUnfit (c : Call) : Type 0 where
   pub unfit : (MOST_PROGRAM_BYTES < length bytes)
       ⊎ ((program : Marked) → IsProgramText bytes program → IsChecked program → ⊥)
 
--- the words ask for a replay, and the source has the report, and it is too long, or shows no lists and counts
+-- the words ask for a replay, and the source has the report, and it is too long, or shows no logs and counts
 -- that fit the program in the file
 pub record AsksNoReplay (c : Call) : Type 0 where
   pub file : List ℕ

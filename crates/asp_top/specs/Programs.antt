@@ -47,8 +47,8 @@ IsInFile o name program = IsProgramAmong (IsFile o 0 name MOST_PROGRAM_BYTES) pr
 abbrev pub HasProgram : Outside → TaskShape → Marked → Type 0
 HasProgram o task program = IsProgramAmong (IsText o task) program
 
--- the file of this name, which was asked for at this place, is short enough, and a report with these sender
--- lists and counts
+-- the file of this name, which was asked for at this place, is short enough, and a report with these
+-- logs and counts
 pub record HasReport (o : Outside) (place : ℕ) (name : List ℕ)
     (lists : ListsShape) (counts : CountsShape) : Type 0 where
   pub bytes : List ℕ

@@ -99,7 +99,7 @@ pub record AsksOnce (o : Outside) (name : List ℕ) : Type 0 where
   pub answer : Result (List ℕ) ReadError
   pub asked : Asked o ((name, answer) ∷ [])
 
--- the file is a report with these lists and counts, and they can be replayed
+-- the file is a report with these logs and counts, and they can be replayed
 pub record IsReplayable (o : Outside) (name : List ℕ) (log : Lists × Counts) : Type 0 where
   pub old : HasReport o 0 name (lists_shape log.0) (counts_shape log.1)
   pub replayable : AreReplayable (lists_shape log.0) (counts_shape log.1)

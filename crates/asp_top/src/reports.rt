@@ -10,7 +10,7 @@ use asp_model::{Counts, Lists, MOST_REPORT_BYTES};
 use sender_log::read_report;
 use std::alloc::Global;
 
-/// The sender lists and counts that the report in the file of this name shows.
+/// The logs and counts that the report in the file of this name shows.
 pub fn lists_of<'a, S: Source>(
     alloc: Global,
     name: &'a str,

@@ -44,11 +44,11 @@ fn run_words<R: Threads + Wait + Sync, S: Source, O: Sink, E: Sink, G: Gate>(
 /// pairs and writes a summary. With `--state D` a report shows the states of its activities. A run
 /// asks the policy of each future's strategy, which `--strategy` and `--update` name, how the
 /// future's value is to come to the activities that it was passed to; the policies are dropped when
-/// the call ends, if not before. Workers race for the run, 4 or as many as `--workers` says, and each
-/// passes the gate between its work and the turn in which that is committed. The words come first,
-/// then the program's file, the reading, the check, the report's file, the run or the replay, and the
-/// writing; the first refusal in this order ends the call. All lines are made before the first is
-/// written.
+/// the call ends, if not before. Workers race for the run, 4 or as many as `--workers` says, and
+/// each passes the gate between its work and the turn in which that is committed. The words come
+/// first, then the program's file, the reading, the check, the report's file, the run or the
+/// replay, and the writing; the first refusal in this order ends the call. All lines are made
+/// before the first is written.
 pub fn run_asp<R: AllocGlobal + Threads + Wait + Sync, S: Source, O: Sink, E: Sink, G: Gate>(
     rt: &R,
     words: &[String],

@@ -115,7 +115,7 @@ module _ {P : Type 0} (old new : Core P) (kept : IsKept old) (k : ℕ) (r : Opti
   pub lends : (l : Lease) → r ≡ Some l → Lends old new k l
   lends l is = run_or_spent old kept old.spent refl (λ e. absurd (none-some l (sym (spent e).0 ∙ is))) (λ s run.
       let x : IsLentBy old s k (Some l) new = subst (λ (q : Option Lease). IsLentBy old s k q new) is (lent s run) in
-      let free = λ (burst : ℕ) (out : IsOut (history_of old) k burst). ready_is_in (history_of old) s k burst run.stand.core.run x.0 out in record {
+      let free = λ (burst : ℕ) (out : IsOut (history_of old) k burst). ready_is_in (history_of old) s k burst run.stand.core.first run.stand.core.run x.0 out in record {
         lease = x.3.lease;
         number = x.3.number;
         free = free;

@@ -1,5 +1,5 @@
 -- What is done in a turn, and one thing after another.
-use Rattle.std.proofs.Common.{◌≡◌, ◌≢◌, ◌⊎◌, ◌<◌, ◌∷◌, ℕ, List, Option, Some, None, set, vec_len, sym, ap, refl, ◌∙◌, subst, ⊎_elim}
+use Rattle.std.proofs.Common.{◌≡◌, ◌≢◌, ◌⊎◌, ◌<◌, ℕ, List, Option, Some, None, set, vec_len, sym, ap, refl, ◌∙◌, subst, ⊎_elim}
 use Rattle.std.proofs.lemmas.Option.{none-some, same_Some}
 use Rattle.asp_model.specs.History.{BeginsWith, HistoryShape}
 use Rattle.asp_model.proofs.HistoryLemmas.{begins_with_earlier, begins_with_itself}

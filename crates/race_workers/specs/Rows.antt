@@ -10,7 +10,7 @@ pub use Rattle.race_workers.specs.LeaseRows.{Row, row}
 -- the activity of a number is out with this burst, and has a name
 pub record IsOut (h : HistoryShape) (k burst : ℕ) : Type 0 where
   pub run : RunShape
-  pub lent : IsLentAt h.program h.budget h.entries k burst run
+  pub lent : IsLentAt h k burst run
   pub name : Name
   pub named : name_at run.names k ≡ Some name
 

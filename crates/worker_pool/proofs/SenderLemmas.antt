@@ -1,19 +1,16 @@
--- One sender to each receiver is enough.
-use Rattle.std.proofs.Common.{◌≡◌, ◌≢◌, ◌∙◌, ℕ, Bool, true, false, List, [], Result, Ok, Err, IfOk, sym, ap, refl, subst}
+-- One sender to each receiver is enough, where nobody polls.
+use Rattle.std.proofs.Common.{◌≡◌, ◌≢◌, ◌∙◌, ℕ, Bool, true, false, List, [], Result, Ok, Err, IfOk, ap, refl, subst}
 use Rattle.std.specs.Prelude.{cond}
-use Rattle.std.specs.List.{list_any, starts_with}
-use Rattle.asp_model.specs.Names.{same_name}
-use Rattle.asp_model.specs.Outcome.{OutcomeShape, counts_in, lists_in}
-use Rattle.asp_model.specs.Replay.{counts_of, lists_of, senders_in}
+use Rattle.std.specs.List.{list_any}
+use Rattle.asp_model.specs.Outcome.{OutcomeShape, lists_in}
+use Rattle.asp_model.specs.Replay.{lists_of}
 use Rattle.asp_model.specs.Shapes.{outcome_shape}
 use Rattle.asp_model.specs.Intent.{StatusShape}
 use Rattle.asp_model.specs.Status.{Blocked, Budget, End, IsStuck, is_awaiting, is_running, statuses_of, verdict_among}
-use Rattle.asp_model.specs.Step.{ListsShape}
 use Rattle.asp_model.specs.Term.{Tree, locations}
 use Rattle.law_journals.proofs.JournalLemmas.{journals_reach}
-use Rattle.law_steps.specs.Joins.{HasOneSender}
-use Rattle.law_paths.proofs.OutcomeLemmas.{counts_same, lists_same}
-use Rattle.law_paths.proofs.ReplayLemmas.{mirrored, one_sender_is_enough}
+use Rattle.law_steps.specs.Joins.{AreNarrow}
+use Rattle.law_paths.proofs.ReplayLemmas.{narrow_runs_are_alone}
 use Rattle.run_ends.specs.declared.ends.RunEnd.{RunEnd}
 use Rattle.asp_core.specs.EndOfRun.{IsEndOfRun}
 use Rattle.worker_pool.specs.Senders.{OneSenderIsEnough}
@@ -27,26 +24,11 @@ stuck_by statuses other = by (list_any is_running statuses) refl
     by false is = refl
 
 pub one_sender : (program : Tree) (budget : ℕ) (r : RunEnd) → locations program ≡ [] → (e : IsEndOfRun program budget r) → OneSenderIsEnough program (outcome_shape r.outcome) e.run.configuration
-one_sender program budget r bare e over one b journal s run =
+one_sender program budget r bare e over narrow =
     let c = e.run.configuration in
-    let d = s.configuration in
-    let reached = journals_reach program budget e.journal e.run e.lawful in
-    let other = journals_reach program b journal s run in
     let lists : lists_in (outcome_shape r.outcome) ≡ lists_of c = ap lists_in e.outcome ∙ e.replayed.lists in
-    let counts : counts_in (outcome_shape r.outcome) ≡ counts_of c = ap counts_in e.outcome ∙ e.replayed.counts in
     let stuck : IsStuck c = stuck_by (statuses_of c) (λ is. over (ap (λ (o : OutcomeShape). o.verdict) e.outcome ∙ is)) in
-    let both = one_sender_is_enough program c d bare reached other stuck (λ m. subst (λ (l : ListsShape). HasOneSender (senders_in l m)) lists (one m)) in
-    let x = mirrored program c bare reached in
-    let y = mirrored program d bare other in
-    let known = x.whole.sound.ordered.activities in
-    let others = y.whole.sound.ordered.activities in record {
-      lists = λ m. subst (λ (l : ListsShape). starts_with same_name (senders_in l m) (senders_in (lists_of d) m) ≡ true) (sym lists) (both.0 m);
-      end = λ stopped. (
-        lists_same d c others known (both.1 stopped) ∙ sym lists,
-        counts_same d c others known (both.1 stopped) ∙ sym counts,
-        both.1 stopped,
-      );
-    }
+    narrow_runs_are_alone program c bare (journals_reach program budget e.journal e.run e.lawful) stuck (subst AreNarrow lists narrow)
 
 pub alone : {E : Type 0} (r : Result RunEnd E) (program : Tree) (budget : ℕ) → locations program ≡ [] → IfOk r (λ x. (e : IsEndOfRun program budget x) → OneSenderIsEnough program (outcome_shape x.outcome) e.run.configuration)
 alone (Ok x) program budget bare = λ e. one_sender program budget x bare e

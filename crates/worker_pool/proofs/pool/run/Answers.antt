@@ -35,5 +35,5 @@ returns-clause-chosen g c =
 pub returns-clause-alone : goal.returns-clause-alone
 returns-clause-alone g c =
     let later = c.in_ok-core-2.ensures.begins in
-    let same = later.0 ∙ ap (λ (h : HistoryShape). h.program) c.in_ok-core.ensures.history in
-    alone _ _ _ (subst (λ (t : Tree). locations t ≡ []) same c.in_ok-core-2.ensures.over.is.stand.core.bare)
+    let same = later.program ∙ ap (λ (h : HistoryShape). h.program) c.in_ok-core.ensures.history in
+    alone _ _ _ (subst (λ (t : Tree). locations t ≡ []) same c.in_ok-core-2.ensures.over.is.bare)
