@@ -1,0 +1,10 @@
+-- in reading order
+pub mod RowLemmas
+pub mod ReadAlikeLemmas
+pub mod NeedLemmas
+pub mod IntentLemmas
+pub mod StepLemmas
+pub mod MoveLemmas
+pub mod LongerLemmas
+pub mod EntryLemmas
+pub mod ToldLemmas
