@@ -4,6 +4,7 @@ mod groups;
 mod hub;
 mod outside;
 mod policies;
+mod polls;
 mod printing;
 mod shown;
 mod stores;

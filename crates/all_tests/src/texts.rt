@@ -55,3 +55,20 @@ pub const GROUP: &str =
     "let w = [; sq(s, v) = v * v] in let g = group(active(w), active(w), active(w)) in \
      let r = waitall(g.sq(5)) in print(member(r, 0) + member(r, 1) + member(r, 2)); \
      print(size(scatter(g, sq, group(1, 2, 3)))); scatter(g, sq, group(1, 2))";
+
+/// Two ask for what an activity asks about, and then serves.
+pub const ASKED: &str = "let a = active([; go(s) = print(pending(hi)); serve(hi), hi(s) = 1]) in \
+     let b = active([; ask(s) = a.hi()]) in a.go(); b.ask(); a.hi()";
+
+/// Whoever asks all the time what is pending never rests.
+pub const ASKING: &str =
+    "let a = active([n = 0; run(s) = repeat(if (pending()) { serve() } else { s.n := \
+     s.n + 1 }), hi(s) = 0], run) in a.hi(); a.hi()";
+
+/// Its 64th reduction is a poll.
+pub const ASKED_64TH: &str = "print(1); 0; 0; 0; 0; 0; 0; 0; 0; 0; 0; 0; 0; 0; 0; 0; \
+     0; 0; 0; 0; 0; 0; 0; 0; 0; 0; 0; 0; 0; 0; 0; pending(); 2";
+
+/// Its 65th reduction is a poll.
+pub const ASKED_65TH: &str = "0; 0; 0; 0; 0; 0; 0; 0; 0; 0; 0; 0; 0; 0; 0; 0; \
+     0; 0; 0; 0; 0; 0; 0; 0; 0; 0; 0; 0; 0; 0; 0; 0; pending(); 2";

@@ -81,6 +81,15 @@ pub fn works(alloc: Global, numbers: &[u32]) -> Result<Vec<Act>, AllocError> {
     Ok(acts)
 }
 
+/// Each of these activities works in turn, and then these steps are taken.
+pub fn works_then(alloc: Global, numbers: &[u32], then: &[Act]) -> Result<Vec<Act>, AllocError> {
+    let mut acts = works(alloc, numbers)?;
+    for act in then {
+        acts.push(*act)?;
+    }
+    Ok(acts)
+}
+
 /// So many rounds, in which each of so many activities is lent, runs and comes back. Who cannot
 /// step is left out by the core.
 pub fn rounds(alloc: Global, number: u32, activities: u32) -> Result<Vec<Act>, AllocError> {

@@ -16,8 +16,8 @@ fn start(text: &'static str) -> Start {
     Start { text, budget: 1000 }
 }
 
-// These steps lead to an end with that report, in that core where it is told.
-fn end(
+/// These steps lead to an end with that report, in that core where it is told.
+pub fn end(
     rt: &impl Abort,
     alloc: Global,
     start: &Start,
@@ -52,7 +52,7 @@ fn at_rest(
     end(rt, alloc, start, plan, &acts, report, None)
 }
 
-const PASSED: &str = "asp report 1\nverdict end\nactivity 0 15 done\nsenders\n\
+const PASSED: &str = "asp report 2\nverdict end\nactivity 0 15 done\nsenders\n\
      activity 0.1 9 serving\nsenders 0\nactivity 0.2 10 serving\nsenders 0.3\n> 41\n\
      activity 0.3 8 serving\nsenders 0.4\nactivity 0.4 8 serving\nsenders 0\n";
 
@@ -140,13 +140,13 @@ fn labels_choose_whose_values_go(rt: HostRuntime) -> Result<(), Fail> {
 static RACES: [([u32; 13], &str); 2] = [
     (
         [0, 0, 0, 0, 0, 0, 0, 2, 2, 2, 3, 3, 3],
-        "asp report 1\nverdict end\nactivity 0 13 done\nsenders\nactivity 0.1 29 serving\n\
+        "asp report 2\nverdict end\nactivity 0 13 done\nsenders\nactivity 0.1 29 serving\n\
          senders 0.2 0.3\n> 2\n> 5\nactivity 0.2 9 serving\nsenders 0\n\
          activity 0.3 9 serving\nsenders 0\n",
     ),
     (
         [0, 0, 0, 0, 0, 0, 0, 3, 3, 3, 2, 2, 2],
-        "asp report 1\nverdict end\nactivity 0 13 done\nsenders\nactivity 0.1 29 serving\n\
+        "asp report 2\nverdict end\nactivity 0 13 done\nsenders\nactivity 0.1 29 serving\n\
          senders 0.3 0.2\n> 3\n> 6\nactivity 0.2 9 serving\nsenders 0\n\
          activity 0.3 9 serving\nsenders 0\n",
     ),
@@ -175,7 +175,7 @@ fn each_place_has_a_copy_of_its_own(rt: HostRuntime) -> Result<(), Fail> {
         &start(COPIES),
         Strategy::Lazy,
         &[Edge(0, 1, 1, 0), Edge(0, 1, 0, 2), Edge(0, 1, 1, 2)],
-        "asp report 1\nverdict end\nactivity 0 12 done\nsenders\nactivity 0.1 9 serving\n\
+        "asp report 2\nverdict end\nactivity 0 12 done\nsenders\nactivity 0.1 9 serving\n\
          senders 0\nactivity 0.2 25 serving\nsenders 0 0\n> 1\n> 2\n",
     )
 }
@@ -188,7 +188,7 @@ fn a_value_comes_where_its_future_stood_before(rt: HostRuntime) -> Result<(), Fa
         &start(OVERWRITTEN),
         Strategy::Lazy,
         &[Edge(0, 1, 0, 2), Edge(0, 1, 1, 0)],
-        "asp report 1\nverdict end\nactivity 0 12 done\nsenders\n> 7\nactivity 0.1 8 serving\n\
+        "asp report 2\nverdict end\nactivity 0 12 done\nsenders\n> 7\nactivity 0.1 8 serving\n\
          senders 0\nactivity 0.2 20 serving\nsenders 0 0\n",
     )
 }
@@ -201,12 +201,12 @@ fn faults_are_kept(rt: HostRuntime) -> Result<(), Fail> {
         &start(FAULTS),
         Strategy::Message,
         &[],
-        "asp report 1\nverdict end\nactivity 0 11 fault ActiveField\nsenders\n\
+        "asp report 2\nverdict end\nactivity 0 11 fault ActiveField\nsenders\n\
          activity 0.1 3 fault NoField\nsenders 0\nactivity 0.2 4 fault ZeroDivisor\nsenders 0\n",
     )
 }
 
-const ANSWERED: &str = "asp report 1\nverdict end\nactivity 0 6 done\nsenders\n> 42\n\
+const ANSWERED: &str = "asp report 2\nverdict end\nactivity 0 6 done\nsenders\n> 42\n\
      activity 0.1 9 serving\nsenders 0\n";
 
 #[test]
@@ -238,14 +238,14 @@ static SPENT: [(Start, &str); 2] = [
             text: ENDLESS,
             budget: 100,
         },
-        "asp report 1\nverdict budget\nactivity 0 100 running\nsenders\n",
+        "asp report 2\nverdict budget\nactivity 0 100 running\nsenders\n",
     ),
     (
         Start {
             text: ONE,
             budget: 1,
         },
-        "asp report 1\nverdict end\nactivity 0 1 done\nsenders\n",
+        "asp report 2\nverdict end\nactivity 0 1 done\nsenders\n",
     ),
 ];
 

@@ -6,7 +6,7 @@ use crate::boxes::usual_policies;
 use crate::cores::acts::Act;
 use crate::cores::driven::{Start, at_the_end};
 use crate::texts::{
-    CIRCLE, COPIES, COUNTER, ENDLESS, FAULTS, GROUP, ITSELF, OVERWRITTEN, PASSING, RACE,
+    ASKED, CIRCLE, COPIES, COUNTER, ENDLESS, FAULTS, GROUP, ITSELF, OVERWRITTEN, PASSING, RACE,
 };
 use std::alloc::{AllocError, Global};
 use std::process::Abort;
@@ -14,7 +14,7 @@ use std::test::Fail;
 use update_policy::{Plan, Strategy};
 
 /// The programs that are driven.
-static TEXTS: [&str; 10] = [
+static TEXTS: [&str; 11] = [
     COUNTER,
     RACE,
     PASSING,
@@ -25,6 +25,7 @@ static TEXTS: [&str; 10] = [
     ITSELF,
     OVERWRITTEN,
     GROUP,
+    ASKED,
 ];
 
 /// As many steps in a list.

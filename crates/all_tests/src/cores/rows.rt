@@ -1,7 +1,7 @@
 //! Lists of steps, and what stands in the core then.
 
 use crate::cores::acts::Act::{self, Commit, Edge, Lend, Local, Need};
-use crate::cores::acts::works;
+use crate::cores::acts::works_then;
 use crate::cores::driven::{Start, after};
 use crate::texts::{CIRCLE, COUNTER, ENDLESS, FAULTS, HELD, LATER, ONE};
 use std::alloc::Global;
@@ -19,10 +19,7 @@ struct Row {
 }
 
 fn lead(rt: &impl Abort, alloc: Global, row: &Row) -> Result<(), Fail> {
-    let mut all = works(alloc, row.numbers)?;
-    for act in row.acts {
-        all.push(*act)?;
-    }
+    let all = works_then(alloc, row.numbers, row.acts)?;
     assert_eq!(rt; after(alloc, &row.start, &all)?.as_str(), row.want);
     Ok(())
 }

@@ -9,7 +9,7 @@ use std::test::Fail;
 use std::thread::Threads;
 use worker_pool::OpenGate;
 
-const REPORT: &str = "asp report 1\nverdict end\nactivity 0 4 done\nsenders\n> 3\n";
+const REPORT: &str = "asp report 2\nverdict end\nactivity 0 4 done\nsenders\n> 3\n";
 
 /// `a.asp` is a program, and `r` its report. Nothing fails.
 const PRINTS: Command<'static> = Command {
@@ -86,7 +86,7 @@ static CASES: [Case; 12] = [
             outs: &[2],
             ..PRINTS
         },
-        out: "asp report 1\n",
+        out: "asp report 2\n",
         ..UNWRITTEN
     },
     Case {
@@ -94,7 +94,7 @@ static CASES: [Case; 12] = [
             outs: &[3],
             ..PRINTS
         },
-        out: "asp report 1\nverdict end\n",
+        out: "asp report 2\nverdict end\n",
         ..UNWRITTEN
     },
     Case {
@@ -103,7 +103,7 @@ static CASES: [Case; 12] = [
             keep: 3,
             ..PRINTS
         },
-        out: "asp report 1\nverdict end\nact",
+        out: "asp report 2\nverdict end\nact",
         ..UNWRITTEN
     },
     Case {
@@ -111,7 +111,7 @@ static CASES: [Case; 12] = [
             outs: &[4],
             ..PRINTS
         },
-        out: "asp report 1\nverdict end\nactivity 0 4 done\n",
+        out: "asp report 2\nverdict end\nactivity 0 4 done\n",
         ..UNWRITTEN
     },
     Case {
@@ -120,7 +120,7 @@ static CASES: [Case; 12] = [
             keep: 2,
             ..PRINTS
         },
-        out: "asp report 1\nverdict end\nactivity 0 4 done\nsenders\n> ",
+        out: "asp report 2\nverdict end\nactivity 0 4 done\nsenders\n> ",
         ..UNWRITTEN
     },
     // a message that cannot be written is not tried again

@@ -92,7 +92,7 @@ fn a_later_lease_is_run_while_one_is_held(rt: HostRuntime) -> Result<(), Fail> {
     assert_eq!(rt; answer.status, 5);
     let (main, other) = counts_of(alloc, answer.out.bytes())?;
     let report = format!(in alloc;
-        "asp report 1\nverdict budget\nactivity 0 {main} running\n\
+        "asp report 2\nverdict budget\nactivity 0 {main} running\n\
          senders\nactivity 0.1 {other} running\nsenders 0\n"
     )?;
     assert_eq!(rt; answer.out.bytes(), report.as_bytes());

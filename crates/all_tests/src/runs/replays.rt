@@ -3,7 +3,7 @@
 use crate::drops::{drop_checked, drop_end};
 use crate::programs::{checked, ran};
 use crate::repeats::{is_repeated, replayed};
-use crate::texts::{CIRCLE, ENDLESS, FAULTS, ITSELF, PASSING, RACE};
+use crate::texts::{ASKED, ASKING, CIRCLE, ENDLESS, FAULTS, ITSELF, PASSING, RACE};
 use asp_check::Checked;
 use asp_model::{Counts, Lists};
 use replay_one::ReplayStop;
@@ -13,7 +13,9 @@ use std::process::Abort;
 use std::test::Fail;
 
 /// The programs that are replayed.
-static TEXTS: [&str; 6] = [RACE, PASSING, CIRCLE, ITSELF, FAULTS, ENDLESS];
+static TEXTS: [&str; 8] = [
+    RACE, PASSING, CIRCLE, ITSELF, FAULTS, ENDLESS, ASKED, ASKING,
+];
 
 fn repeats(rt: &impl Abort, alloc: Global, program: &Checked, budget: u64) -> Result<(), Fail> {
     let end = ran(alloc, program, budget)?;
