@@ -54,6 +54,15 @@ def newest(n):
     )
 
 
+def asked(n):
+    """n polls of a queue of 1,000 pending requests, of which none has the label."""
+    return (
+        f"let c = active([; run(s) = serve(go), go(s) = s.many({n}), "
+        f"many(s, k) = {COUNTS} {{ pending(b); s.many(k - 1) }}, a(s) = 0, b(s) = 0], run) in "
+        f"let m = [; old(s, k) = {COUNTS} {{ c.a(); s.old(k - 1) }}] in m.old(1000); c.go()"
+    )
+
+
 def in_turn(n):
     """n requests of each of two labels, that come one behind the other and are served in turn."""
     return (
@@ -213,6 +222,7 @@ def members(n, member):
 
 PROGRAMS = [
     Program("newest", 20_000, newest, "pending requests, and the newest label is served"),
+    Program("polls", 100_000, asked, "polls of a queue of 1,000 requests"),
     Program("in_turn", 20_000, in_turn, "pending requests of two labels, served in turn"),
     Program("one_serve", 20_000, lambda n: labels(n, 1), "labels pending under one serve of them all"),
     Program("all_serves", 2_000, lambda n: labels(n, n), "labels pending, and all are served by a serve of them all"),

@@ -137,14 +137,14 @@ def broadcast(rounds):
 
 def outputs():
     """Output lines of main, without end."""
-    yield "asp report 1\nverdict end\nactivity 0 1 done\nsenders\n"
+    yield "asp report 2\nverdict end\nactivity 0 1 done\nsenders\n"
     while True:
         yield "> 1\n"
 
 
 def activities():
     """Activities that are done, without end."""
-    yield "asp report 1\nverdict end\nactivity 0 1 done\nsenders\n"
+    yield "asp report 2\nverdict end\nactivity 0 1 done\nsenders\n"
     number = 1
     while True:
         yield f"activity 0.{number} 1 done\nsenders\n"
@@ -153,7 +153,7 @@ def activities():
 
 def senders():
     """One senders line, without end."""
-    yield "asp report 1\nverdict end\nactivity 0 1 done\nsenders"
+    yield "asp report 2\nverdict end\nactivity 0 1 done\nsenders"
     while True:
         yield " 0.1"
 

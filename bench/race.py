@@ -43,11 +43,12 @@ class Part(NamedTuple):
     size: int
     most: dict  # for each number of workers the most times one worker's seconds that is wanted
     is_clock: bool = True
+    crowd: float = None  # the most times 4 workers' seconds that 64 may take
 
 
 PARTS = {
-    "cpu": Part("cpu work in 16 activities", cpu, 40_000, {1: None, 2: 0.65, 4: 0.45}),
-    "pairs": Part("pairs", measure.make, 20_000, {1: None, 4: 1.3}),
+    "cpu": Part("cpu work in 16 activities", cpu, 40_000, {1: None, 2: 0.65, 4: 0.45, 64: None}, crowd=1.1),
+    "pairs": Part("pairs", measure.make, 20_000, {1: None, 4: 1.3, 64: None}, crowd=1.1),
     "broadcast": Part("rounds of a broadcast to 100", measure.broadcast, 100, {1: None, 4: 1.3}),
     "alone": Part("turns of a loop of one activity", measure.loop, 100_000, {1: None, 4: 1.2}),
     "idle": Part("turns of a loop that 100 activities await", idle, 1_600_000, {1: None, 4: 1.3}, False),
@@ -75,10 +76,13 @@ def show(folder, part, options):
     print(f"{size:,} {part.name}: {run.reductions:,} reductions, {one:.3f} s {clock} with 1 worker, "
           f"{one / size * 1e6:,.1f} us each", flush=True)
     for (workers, most), (other, run) in zip(part.most.items(), found):
-        if not most:
-            continue
-        print(f"    {workers} workers: {other:.3f} s, {other / one:.2f} times (at most {most} is wanted); "
-              f"peak {run.peak / 1024:,.0f} MiB", flush=True)
+        if most:
+            print(f"    {workers} workers: {other:.3f} s, {other / one:.2f} times (at most {most} is wanted); "
+                  f"peak {run.peak / 1024:,.0f} MiB", flush=True)
+    if part.crowd:
+        seconds = {workers: other for workers, (other, _) in zip(part.most, found)}
+        print(f"    64 workers: {seconds[64]:.3f} s, {seconds[64] / seconds[4]:.2f} times 4 workers' "
+              f"(at most {part.crowd} is wanted)", flush=True)
     if options.parent:
         parent = found[-1][0]
         print(f"    the parent: {parent:.3f} s, so 1 worker takes {one / parent:.2f} times (at most 1.1 is wanted)", flush=True)

@@ -1,4 +1,4 @@
-// two customers of one account: who asks first is served first, and the sender list tells who did
+// two customers of one account: who asks first is served first, and the log tells who did
 let account = active([
   balance = 50;
   pay_out(self, amount) =
