@@ -1,0 +1,4 @@
+-- in reading order
+pub mod Services
+pub mod Correct
+pub mod Told

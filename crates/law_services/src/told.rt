@@ -1,0 +1,8 @@
+//! What services could take, as data.
+
+ghost use Rattle.law_services.specs.Told.{ServicesTell};
+
+/// No service can tell between two replays exactly where none can between the data of both.
+pub fn services_tell()
+    ensures { ServicesTell }
+{}
