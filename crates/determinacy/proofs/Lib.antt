@@ -1,0 +1,5 @@
+-- in reading order
+pub mod OrderLemmas
+pub mod RulingLemmas
+pub mod WalkLemmas
+pub mod DifferenceLemmas
