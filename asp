@@ -1,17 +1,22 @@
 #!/bin/bash
-# Runs the program on the words given: as `rt ci` proved and built it, or without proof where it has not
+# Runs the program on the words given: `asp`, or `asp-explain` under that name, a link to this file. It runs
+# as `rt ci` proved and built it, or without proof where it has not
 # since the sources changed. What was built without proof is kept in out/, and runs at once until a source
 # changes. Ends with the program's status, and with 126 where there is no answer.
 set -o pipefail
 root=$(dirname "$(readlink -f "$0")")
-program=$root/crates/asp/out/asp
+case ${0##*/} in
+    asp-explain) name=asp-explain crate=asp_explain known=': no fault' ;;
+    *) name=asp crate=asp known='> 1' ;;
+esac
+program=$root/crates/$crate/out/$crate
 if [[ -x $program && -z $(find "$root/crates" "$root/crates.txt" -name out -prune -o -newer "$program" \
     \( -name '*.rt' -o -name '*.antt' -o -name crates.txt \) -print -quit) ]]; then
     exec "$program" "$@"
 fi
 
 give_up() {
-    echo "asp: no answer without proof: $1" >&2
+    echo "$name: no answer without proof: $1" >&2
     exit 126
 }
 # The sum of all files of the crates and of their list.
@@ -20,16 +25,16 @@ sum_of_sources() {
         | xargs -0 sha256sum | sha256sum | cut -d ' ' -f 1)
 }
 sum=$(sum_of_sources) || give_up "the sources cannot be read"
-kept=$root/out/unproved/asp-$sum
+kept=$root/out/unproved/$crate-$sum
 if [[ -x $kept ]]; then
-    echo "asp: this answer comes from a build without proof, kept in out/; rt ci proves and builds the program for good" >&2
+    echo "$name: this answer comes from a build without proof, kept in out/; rt ci proves and builds the program for good" >&2
     "$kept" "$@"
     status=$?
     ((status < 126)) || give_up "the program that was kept ended with status $status"
     exit $status
 fi
 
-echo "asp: this answer comes from a build without proof, in a minute or two; rt ci proves and builds the program for good" >&2
+echo "$name: this answer comes from a build without proof, in a minute or two; rt ci proves and builds the program for good" >&2
 room=$(mktemp -d) || exit 126
 trap 'rm -rf "$room"' EXIT
 # A copy of the sources alone: a word may name a file of the crate's folder, and not be the caller's.
@@ -43,25 +48,36 @@ is_taken() {
     case /$1/ in
         //*) false ;;
         */program/* | */stdin/* | */stdout/* | */stderr/*) true ;;
-        *) [[ -f $room/crates/asp/$1 ]] ;;
+        *) [[ -f $room/crates/$crate/$1 ]] ;;
     esac
 }
 # A word that names a readable file, itself or behind its =, is given with a copy of that file under the same name.
-# Where the try cannot have the name, the word names the copy: no answer shows the name of a file that can be read.
-words=() data=()
+# Where the try cannot have the name, the word names the copy, and what the program writes of it is put back.
+words=() data=() copies=()
 for word; do
-    name=$word copy=$room/copy${#words[@]}
-    [[ -e $word ]] || name=${word#*=}
-    if ! { head -c 20000000 <"$name" >"$copy"; } 2>/dev/null; then
-        is_taken "$name" && give_up "the file $name cannot be read"
+    file=$word copy=$room/copy${#words[@]}
+    [[ -e $word ]] || file=${word#*=}
+    if ! { head -c 20000000 <"$file" >"$copy"; } 2>/dev/null; then
+        is_taken "$file" && give_up "the file $file cannot be read"
         words+=("$word")
-    elif [[ /$name/ == //* || /$name/ == */../* || $name == *=* ]] || is_taken "$name"; then
-        words+=("${word%"$name"}$copy")
+    elif [[ /$file/ == //* || /$file/ == */../* || $file == *=* ]] || is_taken "$file"; then
+        words+=("${word%"$file"}$copy")
+        copies+=("$copy" "$file")
     else
         words+=("$word")
-        data+=(--data "$name=$copy")
+        data+=(--data "$file=$copy")
     fi
 done
+# What is written, with the names of files in place of those of their copies.
+named() {
+    local text i
+    [[ $crate == asp_explain ]] || { cat "$1"; return; }
+    text=$(cat "$1" && echo .) || return
+    for ((i = 0; i < ${#copies[@]}; i += 2)); do
+        text=${text//"${copies[i]}"/"${copies[i + 1]}"}
+    done
+    printf '%s' "${text%.}"
+}
 
 # While the program runs, it stands in the try's folder under this name. A link to it outlives the try.
 catch() {
@@ -74,20 +90,20 @@ catch() {
 }
 catch 2>/dev/null &
 catcher=$!
-cd "$room/crates/asp" || exit 126
+cd "$room/crates/$crate" || exit 126
 TMPDIR=$above rt try --seconds 600 "${data[@]}" -- "${words[@]}" >"$room/out" 2>"$room/said" </dev/null
 kill $catcher 2>/dev/null
 if [[ ! $(tail -n 1 "$room/said") =~ ^run=ended\ status=([0-9]+)\ .*proved=no$ ]]; then
     give_up "$(sed -n 's/^checked: no-answer: //p' "$room/said" | grep . || tail -n 3 "$room/said")"
 fi
 status=${BASH_REMATCH[1]}
-cat "$room/out" || exit 126
+named "$room/out" || exit 126
 sed -E '/^(rt|interpreter|checked|races): |^run=/d' "$room/said" >&2
 
 # It is kept if it runs by itself, and if no source has changed since.
 printf 'print(1)' >"$room/one.asp"
-if [[ $("$room/built" "$room/one.asp" 2>/dev/null) == *'> 1' && $(sum_of_sources) == "$sum" ]]; then
-    rm -rf "$root/out/unproved"
+if [[ $("$room/built" "$room/one.asp" 2>/dev/null) == *"$known" && $(sum_of_sources) == "$sum" ]]; then
+    rm -f "$root/out/unproved/$crate-"*
     mkdir -p "$root/out/unproved" && cp "$room/built" "$kept.new" && mv "$kept.new" "$kept"
 fi
 exit "$status"

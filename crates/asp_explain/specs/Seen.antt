@@ -1,0 +1,79 @@
+-- What a call saw of the outside: what its source and its sinks tell, before it and behind it.
+use Rattle.std.specs.Prelude.{◌≡◌, ℕ, List, [], ◌∷◌, ◌++◌, map, Result, string_bytes}
+use Rattle.std.specs.Borrow.{MutBor}
+use Rattle.std.specs.declared.alloc.Global.{Global}
+use Rattle.std.specs.declared.string.String.{String}
+use denote.Triple.Both.{Both}
+use Rattle.asp_edge.specs.Told.{SourceTells, SinkTells}
+use Rattle.asp_edge.specs.Causes.{Rose, Took, TookFront}
+use Rattle.asp_edge.specs.declared.edge.ReadError.{ReadError}
+
+-- what a source tells, before the call and behind it
+pub record Outside : Type 0 where
+  pub before : SourceTells
+  pub now : SourceTells
+
+-- what a sink tells, before the call and behind it
+pub record Sight : Type 0 where
+  pub before : SinkTells
+  pub now : SinkTells
+
+-- the words of a call, and what it saw of its source and its two sinks
+pub record Call : Type 0 where
+  pub words : List (List ℕ)
+  pub outside : Outside
+  pub out : Sight
+  pub err : Sight
+
+abbrev pub outside_between : {S : Type 0} → (S → SourceTells) → S → S → Outside
+outside_between told old new = record { before = told old; now = told new }
+
+abbrev pub sight_between : {S : Type 0} → (S → SinkTells) → S → S → Sight
+sight_between told old new = record { before = told old; now = told new }
+
+-- a parameter by `&mut`, as a call began and as it ended
+abbrev pub Lent : Type 0 → Type 0
+Lent S = Both (MutBor S) (MutBor S)
+
+abbrev pub outside : {S : Type 0} → (S → SourceTells) → Lent S → Outside
+outside told source = outside_between told source.entry.now source.exit.now
+
+abbrev pub sight : {S : Type 0} → (S → SinkTells) → Lent S → Sight
+sight told sink = sight_between told sink.entry.now sink.exit.now
+
+-- the bytes of each word
+abbrev pub bytes_of : List (String Global) → List (List ℕ)
+bytes_of = map string_bytes
+
+-- what a call saw, from what its source, its `out` and its `err` tell
+abbrev pub saw : {S O E : Type 0} → (S → SourceTells) → (O → SinkTells) → (E → SinkTells)
+    → List (String Global) → Lent S → Lent O → Lent E → Call
+saw source_told out_told err_told words source out err = record {
+  words = bytes_of words;
+  outside = outside source_told source;
+  out = sight out_told out;
+  err = sight err_told err;
+}
+
+-- in the call the source was asked for this name alone, once, with this answer
+abbrev pub AskedOnce : Outside → List ℕ → Result (List ℕ) ReadError → Type 0
+AskedOnce o name answer = o.now.asked ≡ o.before.asked ++ (name, answer) ∷ []
+
+-- it was asked for nothing
+abbrev pub IsUnasked : Outside → Type 0
+IsUnasked o = o.now ≡ o.before
+
+-- a read failed
+abbrev pub Fails : Outside → Type 0
+Fails o = Rose o.before.faults o.now.faults
+
+abbrev pub IsUntouched : Sight → Type 0
+IsUntouched s = s.now ≡ s.before
+
+-- the sink took a text, and no more
+abbrev pub Takes : Sight → List ℕ → Type 0
+Takes s text = Took s.before s.now text
+
+-- the sink failed, after a front part of a text
+abbrev pub TakesFront : Sight → List ℕ → Type 0
+TakesFront s text = Rose s.before.faults s.now.faults × TookFront s.before s.now text

@@ -1,0 +1,6 @@
+-- in reading order
+pub mod Positions
+pub mod Remarks
+pub mod Texts
+pub mod Found
+pub mod Told

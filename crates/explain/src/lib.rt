@@ -1,0 +1,22 @@
+//! What is wrong with a program, for people: its first fault, or what it calls and nobody has, each
+//! with its line.
+#![tactic(auto)]
+
+mod around;
+mod cures;
+mod findings;
+mod nearest;
+mod other;
+mod position;
+mod remark;
+mod sentences;
+mod shown;
+mod telling;
+mod uses;
+mod warnings;
+
+pub use findings::{Fault, Findings, explain};
+pub use position::{Position, position_of};
+pub use remark::{Remark, Severity};
+pub use shown::text_of;
+pub use telling::{Told, tell};
