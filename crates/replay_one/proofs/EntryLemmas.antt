@@ -1,14 +1,13 @@
--- Entries in ascending order of names, and the search for one.
-use Rattle.std.proofs.Common.{◌≡◌, ◌≢◌, ◌<◌, ◌≤◌, ◌+◌, ◌∷◌, [], ℕ, zero, suc, true, false, cond, T, List, Option, Some, None, get_or, length, map, refl, sym, ap, ◌∙◌, ⊎_elim, arith}
-use Rattle.std.proofs.lemmas.Bool.{cases_lt}
+-- Entries in ascending order of names, and the one of a number.
+use Rattle.std.proofs.Common.{◌≡◌, ◌≢◌, ◌<◌, ◌≤◌, ◌∷◌, [], ℕ, zero, suc, Bool, true, false, cond, T, List, Option, Some, None, get_or, length, map, refl, slice_get, sym, take, ap, ◌∙◌, ⊎_elim, arith}
 use Rattle.std.specs.List.{slice_index_or}
 use Rattle.std.specs.Global.{Vec}
 use Rattle.std.specs.FinMap.{find, is_sorted}
 use Rattle.std.specs.FinMap.Entries.{below_all}
 use Rattle.std.specs.Cmp.{tied_itself}
-use Rattle.std.specs.Ordering.{is_eq, ordering_reverse}
-use Rattle.std.specs.declared.cmp.Ordering.TheVariants.{Less, Equal, Greater}
-use Rattle.asp_model.specs.Names.{Name, name_cmp}
+use Rattle.std.specs.Ordering.{is_eq}
+use Rattle.std.specs.declared.cmp.Ordering.TheVariants.{Less, Equal}
+use Rattle.asp_model.specs.Names.{Name, name_cmp, same_name}
 use Rattle.asp_model.specs.Order.{name_cmp_same}
 use Rattle.asp_model.specs.declared.outcome.Reception.{Reception}
 use Rattle.asp_model.specs.Configuration.{ReceptionShape, or_none}
@@ -16,9 +15,12 @@ use Rattle.asp_model.specs.Step.{reception_at}
 use Rattle.asp_model.specs.Replay.{log_in}
 use Rattle.asp_model.specs.Shapes.{reception_shape}
 use Rattle.law_steps.proofs.EntryLemmas.{first_of_both, second_of_both}
-use Rattle.law_steps.proofs.NameLemmas.{name_total, name_case}
+use Rattle.def_journals.specs.Journals.{number_of}
+use Rattle.law_steps.proofs.NameLemmas.{name_total, name_case, names_tied}
+use Rattle.replay_one.specs.Roster.{IsRoster, Leads}
+use Rattle.replay_one.proofs.RosterLemmas.{number_named}
 use Rattle.step_ends.proofs.EntryLemmas.{absent_below, find_head, find_skip, less_of}
-use Rattle.law_chases.proofs.FutureLemmas.{no_some}
+use Rattle.law_chases.proofs.FutureLemmas.{no_some, some_is}
 
 -- Searches
 
@@ -28,10 +30,6 @@ before_itself m e = not_less (sym (tied_itself name_total m) ∙ e)
   where
     not_less : {C : Type 0} → Equal ≡ Less → C
     not_less q = cc
-
--- the name is none of those from the one place up to the other
-abbrev pub IsNotAmong : {X : Type 0} → Name → List (Name × X) → ℕ → ℕ → Type 0
-IsNotAmong {X} n es low high = (j : ℕ) (d : Name × X) → low ≤ j → j < high → name_cmp (slice_index_or es j d).0 n ≢ Equal
 
 module _ {X : Type 0} (n : Name) where
   -- the entry at a place is found at its name
@@ -59,47 +57,40 @@ module _ {X : Type 0} (n : Name) where
   below_at k (x ∷ es) zero d h lt = less_of (name_cmp k x.0) (first_of_both _ _ h)
   below_at k (x ∷ es) (suc j) d h lt = below_at k es j d (second_of_both _ _ h) (omega (arith, lt))
 
-  rises_at : (es : List (Name × X)) (i j : ℕ) (d : Name × X) → T (is_sorted name_cmp es) → i < j → j < length es → name_cmp (slice_index_or es i d).0 (slice_index_or es j d).0 ≡ Less
-  rises_at [] i j d s lt le = absurd (omega (arith, le))
-  rises_at (x ∷ es) i zero d s lt le = absurd (omega (arith, lt))
-  rises_at (x ∷ es) zero (suc j) d s lt le = below_at x.0 es j d (first_of_both _ _ s) (omega (arith, le))
-  rises_at (x ∷ es) (suc i) (suc j) d s lt le = rises_at es i j d (second_of_both _ _ s) (omega (arith, lt)) (omega (arith, le))
+module _ {X : Type 0} where
+  -- the name of an entry
+  name_read : (es : List (Name × X)) (k : ℕ) (d : Name × X) → k < length es → slice_get (map (λ x. x.0) es) k ≡ Some (slice_index_or es k d).0
+  name_read [] k d lt = absurd (omega (arith, lt))
+  name_read (x ∷ es) zero d lt = refl
+  name_read (x ∷ es) (suc k) d lt = name_read es k d (omega (arith, lt))
 
-  same_at : (es : List (Name × X)) (i : ℕ) (c d : Name × X) → i < length es → slice_index_or es i c ≡ slice_index_or es i d
-  same_at [] i c d lt = absurd (omega (arith, lt))
-  same_at (x ∷ es) zero c d lt = refl
-  same_at (x ∷ es) (suc i) c d lt = same_at es i c d (omega (arith, lt))
+  -- the entry of a number is found at its name
+  pub entry_numbered : (es : List (Name × X)) (ns : List Name) (n : Name) (k : ℕ) (x : Name × X) → T (is_sorted name_cmp es) → Leads (map (λ x. x.0) es) ns → number_of n ns ≡ Some k → k < length es → x ≡ slice_index_or es k x → Some x.1 ≡ find name_cmp n es
+  entry_numbered es ns n k x s leads has lt is =
+      let named : slice_get (map (λ (y : Name × X). y.0) es) k ≡ Some x.0 = name_read es k x lt ∙ ap (λ (y : Name × X). Some y.0) (sym is) in
+      let same : n ≡ x.0 = some_is (sym (number_named ns n k has) ∙ leads k x.0 named) in
+      entry_read n es k x s lt is (ap (name_cmp n) (sym same) ∙ tied_itself name_total n)
 
-  -- where the name is before the entry at a place, it is none of those from there on
-  pub none_from : (es : List (Name × X)) (i : ℕ) (d : Name × X) → T (is_sorted name_cmp es) → i < length es → name_cmp n (slice_index_or es i d).0 ≡ Less → IsNotAmong n es i (length es)
-  none_from es i d s lt less j c le below e =
-      let is : (slice_index_or es j c).0 ≡ n = name_cmp_same (slice_index_or es j c).0 n e in
-      ⊎_elim
-      (λ before.
-      let rises = rises_at es i j c s before below in
-      let here = ap (λ (x : Name × X). name_cmp n x.0) (same_at es i c d lt) ∙ less in
-      before_itself n (name_total.trans n (slice_index_or es i c).0 n here (ap (name_cmp (slice_index_or es i c).0) (sym is) ∙ rises)))
-      (λ more.
-      let same : i ≡ j = omega (arith, le, more) in
-      let here : name_cmp n (slice_index_or es j c).0 ≡ Less = ap (λ (x : Name × X). name_cmp n x.0) (ap (λ k. slice_index_or es k c) (sym same) ∙ same_at es i c d lt) ∙ less in
-      before_itself n (ap (name_cmp n) (sym is) ∙ here))
-      (cases_lt i j)
+  -- and no entry stands at the name of a later number
+  pub none_numbered : (es : List (Name × X)) (ns : List Name) (n : Name) (k : ℕ) → IsRoster ns → Leads (map (λ x. x.0) es) ns → number_of n ns ≡ Some k → length es ≤ k → None ≡ find name_cmp n es
+  none_numbered es ns n k r leads has past = sym (absent_all n es (λ j d lt e.
+      let is : (slice_index_or es j d).0 ≡ n = name_cmp_same (slice_index_or es j d).0 n e in
+      let at : slice_get ns j ≡ Some n = leads j n (name_read es j d lt ∙ ap Some is) in
+      let same : j ≡ k = some_is (sym (r.numbers j n at) ∙ has) in
+      omega (arith, lt, past, same)))
 
-  -- and where it is after that, none of those up to there
-  pub none_upto : (es : List (Name × X)) (i : ℕ) (d : Name × X) → T (is_sorted name_cmp es) → i < length es → name_cmp n (slice_index_or es i d).0 ≡ Greater → IsNotAmong n es 0 (i + 1)
-  none_upto es i d s lt more j c none below e =
-      let le : j ≤ i = omega (arith, below) in
-      let is : (slice_index_or es j c).0 ≡ n = name_cmp_same (slice_index_or es j c).0 n e in
-      let here : name_cmp (slice_index_or es i c).0 n ≡ Less = name_total.antisymm (slice_index_or es i c).0 n ∙ ap ordering_reverse (ap (λ (x : Name × X). name_cmp n x.0) (same_at es i c d lt) ∙ more) in
-      ⊎_elim
-      (λ before. before_itself n (name_total.trans n (slice_index_or es i c).0 n (ap (λ m. name_cmp m (slice_index_or es i c).0) (sym is) ∙ rises_at es j i c s before lt) here))
-      (λ after.
-      let same : i ≡ j = omega (arith, le, after) in
-      before_itself n (ap (λ m. name_cmp m n) (sym (ap (λ k. (slice_index_or es k c).0) same ∙ is)) ∙ here))
-      (cases_lt j i)
+  -- no entry before this one has its name
+  pub none_before : (es : List (Name × X)) (i : ℕ) (d : Name × X) → T (is_sorted name_cmp es) → i < length es → number_of (slice_index_or es i d).0 (map (λ x. x.0) (take i es)) ≡ None
+  none_before [] i d s lt = absurd (omega (arith, lt))
+  none_before (x ∷ es) zero d s lt = refl
+  none_before (x ∷ es) (suc i) d s lt = by (same_name (slice_index_or es i d).0 x.0) refl (none_before es i d (second_of_both _ _ s) (omega (arith, lt)))
+    where
+      later : name_cmp x.0 (slice_index_or es i d).0 ≡ Less
+      later = below_at (slice_index_or es i d).0 x.0 es i d (first_of_both _ _ s) (omega (arith, lt))
 
-  pub nowhere : (es : List (Name × X)) (low high : ℕ) → high ≤ low → IsNotAmong n es 0 low → IsNotAmong n es high (length es) → None ≡ find name_cmp n es
-  nowhere es low high le lower upper = sym (absent_all es (λ j d lt. ⊎_elim (λ less. lower j d (omega arith) less) (λ more. upper j d (omega (arith, le, more)) lt) (cases_lt j low)))
+      by : (b : Bool) → same_name (slice_index_or es i d).0 x.0 ≡ b → number_of (slice_index_or es i d).0 (map (λ x. x.0) (take i es)) ≡ None → number_of (slice_index_or es i d).0 (x.0 ∷ map (λ x. x.0) (take i es)) ≡ None
+      by true e rest = before_itself x.0 (ap (name_cmp x.0) (sym (names_tied (slice_index_or es i d).0 x.0 e)) ∙ later)
+      by false e rest = ap (λ b. elim b [ true ↦ Some 0 | false ↦ elim (number_of (slice_index_or es i d).0 (map (λ x. x.0) (take i es))) [ None ↦ None | Some k ↦ Some (suc k) ] ]) e ∙ ap (λ (o : Option ℕ). elim o [ None ↦ None | Some k ↦ Some (suc k) ]) rest
 
 -- Logs
 

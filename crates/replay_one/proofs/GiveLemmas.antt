@@ -1,7 +1,6 @@
 -- What an effect gives to others is handed on.
 use Rattle.std.proofs.Common.{◌≡◌, [], ℕ, true, false, List, Option, Some, None, is_some, length, refl, sym, ap, subst, ◌∙◌}
 use Rattle.std.specs.Global.{Box}
-use Rattle.std.proofs.lemmas.Bool.{false_from_ne_true}
 use Rattle.std.specs.FinMap.{find, put}
 use Rattle.asp_model.specs.declared.name.FutureName.{FutureName}
 use Rattle.asp_model.specs.Names.{Name, FutureShape, name_cmp, future_cmp}
@@ -24,7 +23,7 @@ use Rattle.law_steps.proofs.FrameLemmas.{effects_are_new}
 use Rattle.law_steps.proofs.LinkedLemmas.{intends_step, targets_are_there}
 use Rattle.law_chases.proofs.MapLemmas.{find_same, stays_there}
 use Rattle.law_steps.proofs.NameLemmas.{name_total, name_same}
-use Rattle.law_chases.proofs.FutureLemmas.{future_total, future_same, no_some, some_is, true_false}
+use Rattle.law_chases.proofs.FutureLemmas.{future_total, future_same, no_some, some_is}
 use Rattle.law_steps.proofs.ReachedLemmas.{moves_go_on}
 use Rattle.law_steps.proofs.WholeLemmas.{reached_are_sound}
 use Rattle.step_activity.specs.declared.actor.Actor.{Actor}
@@ -34,25 +33,16 @@ use Rattle.step_activity.specs.Effects.{IsMade}
 use Rattle.law_schedules.specs.Schedules.{IsNextIn}
 use Rattle.law_schedules.proofs.EffectLemmas.{absent_received_none}
 use Rattle.replay_one.specs.declared.population.Population.{Population}
-use Rattle.replay_one.specs.declared.schedule.Schedule.{Schedule}
 use Rattle.replay_one.specs.Population.{IsGiving, IsPopulation, with_activity, with_poll, with_request, with_value}
-use Rattle.replay_one.specs.Schedule.{IsMoreReady, asks_in, noted_in, ready_in, sends_in}
+use Rattle.replay_one.specs.Schedule.{IsMoreReady, Seen, asks_in, noted_in, ready_in, sends_in}
+use Rattle.replay_one.proofs.ScheduleLemmas.{more_twice}
+use Rattle.def_journals.specs.Journals.{number_of}
 use Rattle.replay_one.specs.Round.{IsHandedOn}
+use Rattle.replay_one.proofs.PopulationLemmas.{absent_nowhere}
 
 -- who was ready before is ready, and else this says so
-by_ready : (u t : Schedule) (q : Name) → (ready_in u q ≡ true → ready_in t q ≡ true) → (ready_in u q ≡ false → ready_in t q ≡ true) → ready_in t q ≡ true
+by_ready : (u t : Seen) (q : Name) → (ready_in u q ≡ true → ready_in t q ≡ true) → (ready_in u q ≡ false → ready_in t q ≡ true) → ready_in t q ≡ true
 by_ready u t q was not = elim (ready_in u q) as (λ b. ready_in u q ≡ b → ready_in t q ≡ true) [ true ↦ was | false ↦ not ] refl
-
--- one after the other
-more_twice : (s u t : Schedule) → IsMoreReady s None u → IsMoreReady u None t → IsMoreReady s None t
-more_twice s u t x y =
-    let was : (m : Name) → ready_in t m ≡ false → ready_in u m ≡ false = λ m not. false_from_ne_true (ready_in u m) (λ h. true_false (ready_in t m) (y.ready m h) not) in
-    record {
-      ready = λ m h. y.ready m (x.ready m h);
-      noted = λ g m d. y.noted g m d ∙ x.noted g m d;
-      asks = λ m l not h. y.asks m l not (x.asks m l (was m not) h);
-      sends = λ m k not h. y.sends m k not (x.sends m k (was m not) h);
-    }
 
 -- the effect's configuration, by what it gives
 effect_of : (n : Name) (e : Effect) (c : Configuration) (s : Option (Name × RequestShape)) (m : Option (Name × model.Activity)) (f : Option (FutureShape × ParcelShape)) (l : Option (Name × ReceptionShape)) → e.sent ≡ s → e.made ≡ m → e.filled ≡ f → e.logged ≡ l
@@ -91,6 +81,10 @@ module _ (p : Population) (n : Name) (program : Tree) (c : Configuration) (e : E
   pub sent_there : (to : Name) (r : Request) → IsGiving p n (given.Sent to r) program c e → IsThere (with_activity n e.own c) to
   sent_there to r h = stays_there name_cmp name_total name_same n e.own c.activities to (targets_are_there program c n e (to, request_shape r) h.reached h.intends h.given.0)
 
+  -- who is sent to has a number
+  pub sent_found : (to : Name) (r : Request) → IsGiving p n (given.Sent to r) program c e → number_of to p.roster ≡ None → ⊥
+  sent_found to r h none = absent_nowhere p (with_activity n e.own c) to h.here.population none (sent_there to r h)
+
   pub sent_is : (to : Name) (r : Request) → IsGiving p n (given.Sent to r) program c e → with_request to (request_shape r) (with_activity n e.own c) ≡ with_effect n e c
   sent_is to r h = effect_of n e c (Some (to, request_shape r)) None None (Some (to, From r.sender)) h.given.0 h.given.1 h.given.2 h.given.3
 
@@ -118,19 +112,19 @@ module _ (p : Population) (n : Name) (program : Tree) (c : Configuration) (e : E
 
   -- Who is ready then
 
-  pub nothing_handed : (lists : Option ListsShape) (s : Schedule) → IsGiving p n given.Nothing program c e → IsHandedOn lists c n e s s
+  pub nothing_handed : (lists : Option ListsShape) (s : Seen) → IsGiving p n given.Nothing program c e → IsHandedOn lists c n e s s
   nothing_handed lists s h = record {
     made = λ m b is. no_some (sym h.given.1 ∙ is);
     target = λ m r is. no_some (sym h.given.0 ∙ is);
     next = λ m q is. no_some (sym h.given.3 ∙ is.1);
     filled = λ f q is. no_some (sym h.given.2 ∙ is.1);
     ready = λ m r. r;
-    noted = λ f m d. refl;
+    noted = λ f m d r. r;
     asks = λ m l not a. a;
     sends = λ m k not a. a;
   }
 
-  pub made_handed : (lists : Option ListsShape) (s t : Schedule) (m : Name) (x : Box Actor) → IsGiving p n (given.Made m x) program c e → IsMoreReady s None t → ready_in t m ≡ true → IsHandedOn lists c n e s t
+  pub made_handed : (lists : Option ListsShape) (s t : Seen) (m : Name) (x : Box Actor) → IsGiving p n (given.Made m x) program c e → IsMoreReady s None t → ready_in t m ≡ true → IsHandedOn lists c n e s t
   made_handed lists s t m x h more woken =
       let b = made_given m x h in
       record {
@@ -144,7 +138,7 @@ module _ (p : Population) (n : Name) (program : Tree) (c : Configuration) (e : E
         sends = more.sends;
       }
 
-  pub sent_handed : (lists : Option ListsShape) (s u t : Schedule) (to : Name) (r : Request) → IsGiving p n (given.Sent to r) program c e → IsMoreReady s None u → (asks_in s to r.label.text ≡ true → ready_in u to ≡ true) → IsMoreReady u None t → ((q : Name) → IsNextIn lists (with_effect n e c) to q → sends_in u q to ≡ true → ready_in t q ≡ true) → IsHandedOn lists c n e s t
+  pub sent_handed : (lists : Option ListsShape) (s u t : Seen) (to : Name) (r : Request) → IsGiving p n (given.Sent to r) program c e → IsMoreReady s None u → (asks_in s to r.label.text ≡ true → ready_in u to ≡ true) → IsMoreReady u None t → ((q : Name) → IsNextIn lists (with_effect n e c) to q → sends_in u q to ≡ true → ready_in t q ≡ true) → IsHandedOn lists c n e s t
   sent_handed lists s u t to r h first woken then next =
       let both : IsMoreReady s None t = more_twice s u t first then in
       let same : (z : Name × RequestShape) → e.sent ≡ Some z → (to, request_shape r) ≡ z = λ z is. some_is (sym h.given.0 ∙ is) in
@@ -160,7 +154,7 @@ module _ (p : Population) (n : Name) (program : Tree) (c : Configuration) (e : E
         sends = both.sends;
       }
 
-  pub filled_handed : (lists : Option ListsShape) (s t : Schedule) (f : FutureName) (v : Parcel) → IsGiving p n (given.Filled f v) program c e → IsMoreReady s (Some (future_shape f)) t → ((m : Name) → noted_in s (future_shape f) m ≡ true → ready_in t m ≡ true) → IsHandedOn lists c n e s t
+  pub filled_handed : (lists : Option ListsShape) (s t : Seen) (f : FutureName) (v : Parcel) → IsGiving p n (given.Filled f v) program c e → IsMoreReady s (Some (future_shape f)) t → ((m : Name) → noted_in s (future_shape f) m ≡ true → ready_in t m ≡ true) → IsHandedOn lists c n e s t
   filled_handed lists s t f v h more woken = record {
     made = λ k a is. no_some (sym h.given.1 ∙ is);
     target = λ k r is. no_some (sym h.given.0 ∙ is);
@@ -173,7 +167,7 @@ module _ (p : Population) (n : Name) (program : Tree) (c : Configuration) (e : E
   }
 
   -- whoever is next in its own log
-  pub polled_handed : (lists : Option ListsShape) (s t : Schedule) → IsGiving p n given.Polled program c e → IsMoreReady s None t → ((q : Name) → IsNextIn lists (with_effect n e c) n q → sends_in s q n ≡ true → ready_in t q ≡ true) → IsHandedOn lists c n e s t
+  pub polled_handed : (lists : Option ListsShape) (s t : Seen) → IsGiving p n given.Polled program c e → IsMoreReady s None t → ((q : Name) → IsNextIn lists (with_effect n e c) n q → sends_in s q n ≡ true → ready_in t q ≡ true) → IsHandedOn lists c n e s t
   polled_handed lists s t h more next = record {
     made = λ k a is. no_some (sym h.given.1 ∙ is);
     target = λ k r is. no_some (sym h.given.0 ∙ is);

@@ -1,3 +1,5 @@
+pub mod ColumnLemmas
+pub mod RosterLemmas
 pub mod EntryLemmas
 pub mod ScheduleLemmas
 pub mod PopulationLemmas

@@ -235,23 +235,15 @@ nothing_next None c to x k e h = absurd h
 nothing_next (Some lists) c to x k e h = ap (is_reception x) (ap (reception_at (log_in lists to)) (sym e) ∙ h)
 
 -- a reception is one activity's
-of_one : (q m to : Name) (x : ReceptionShape) → IsOf q to x → IsOf m to x → q ≡ m
+pub of_one : (q m to : Name) (x : ReceptionShape) → IsOf q to x → IsOf m to x → q ≡ m
 of_one q m to (From n) h g = sym h ∙ g
 of_one q m to Poll h g = sym h ∙ g
 
-pub next_only : (lists : Option ListsShape) (c : Configuration) (to m q : Name) (k : ℕ) (y : Bor Reception) → k ≡ length (log_of c to) → IsNextAt lists to k (next.Only y) → IsOf q to (reception_shape y.now) → IsNextIn lists c to m → q ≡ m
-next_only None c to m q k y e h own i = absurd h
-next_only (Some lists) c to m q k y e h own i =
+pub next_of : (lists : Option ListsShape) (c : Configuration) (to q : Name) (k : ℕ) (y : Bor Reception) → k ≡ length (log_of c to) → IsNextAt lists to k (next.Only y) → IsNextIn lists c to q → IsOf q to (reception_shape y.now)
+next_of None c to q k y e h i = absurd h
+next_of (Some lists) c to q k y e h i =
     let same : reception_shape y.now ≡ i.0 = some_is (sym h ∙ ap (reception_at (log_in lists to)) e ∙ i.1) in
-    of_one q m to (reception_shape y.now) own (subst (IsOf m to) (sym same) i.2)
-
-pub next_nothing : (lists : Option ListsShape) (c : Configuration) (to m : Name) (k : ℕ) → k ≡ length (log_of c to) → IsNextAt lists to k next.Nothing → IsNextIn lists c to m → ⊥
-next_nothing None c to m k e h i = absurd h
-next_nothing (Some lists) c to m k e h i = no_some (sym h ∙ ap (reception_at (log_in lists to)) e ∙ i.1)
-
-pub next_anything : (lists : Option ListsShape) (c : Configuration) (to m : Name) (k : ℕ) → IsNextAt lists to k next.Anything → IsNextIn lists c to m → ⊥
-next_anything None c to m k h i = i
-next_anything (Some lists) c to m k h i = h
+    subst (IsOf q to) (sym same) i.2
 
 -- Members that are passed
 

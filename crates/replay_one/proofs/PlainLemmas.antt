@@ -15,11 +15,11 @@ use Rattle.law_steps.proofs.SpendLemmas.{plain_runs_spend}
 use Rattle.law_schedules.proofs.LeastLemmas.{main_is_ready, main_is_watched}
 use Rattle.replay_one.specs.declared.bounds.Bounds.{Bounds}
 use Rattle.replay_one.specs.declared.round.Machine.{Machine}
-use Rattle.replay_one.specs.Bounds.{count_within, lists_within}
+use Rattle.replay_one.specs.Bounds.{IsNumbered, count_within, lists_within}
 use Rattle.replay_one.specs.Correct.{IsReplayed, IsSpent}
 use Rattle.replay_one.specs.Population.{IsPopulation, passed_in}
 use Rattle.replay_one.specs.Schedule.{noted_in, ready_in, watches_in}
-use Rattle.replay_one.specs.Round.{IsRunAt}
+use Rattle.replay_one.specs.Round.{IsRunAt, seen_in}
 use Rattle.step_ends.proofs.ReportLemmas.{map_map}
 
 -- What an outcome shows
@@ -31,13 +31,14 @@ counts_shown : (c : Configuration) → counts_in (outcome_of c) ≡ counts_of c
 counts_shown c = map_map (λ (r : ActivityReportShape). (r.name, r.count)) (activity_report c) c.activities
 
 -- the machine at the start
-pub begins_run : (b : Bounds) (m : Machine) (program copied : Tree) → copied ≡ program → locations program ≡ [] → IsPopulation m.population (start copied) → ready_in m.schedule main_name ≡ true → ((n : Name) → passed_in m.population n ≡ None) → IsRunAt b m program (start program)
-begins_run b m program copied same bare population ready none = record {
+pub begins_run : (b : Bounds) (m : Machine) (program copied : Tree) → copied ≡ program → locations program ≡ [] → IsPopulation m.population (start copied) → IsNumbered b m.population.roster → ready_in (seen_in m) main_name ≡ true → ((n : Name) → passed_in m.population n ≡ None) → IsRunAt b m program (start program)
+begins_run b m program copied same bare population numbered ready none = record {
   bare = bare;
   reached = start_is_reached program;
   population = subst (λ t. IsPopulation m.population (start t)) same population;
-  scheduled = main_is_ready program (lists_within b) (count_within b) (ready_in m.schedule) (noted_in m.schedule) ready;
-  watched = main_is_watched program (count_within b) (watches_in m.schedule) (ready_in m.schedule) ready;
+  numbered = numbered;
+  scheduled = main_is_ready program (lists_within b) (count_within b) (ready_in (seen_in m)) (noted_in (seen_in m)) ready;
+  watched = main_is_watched program (count_within b) (watches_in (seen_in m)) (ready_in (seen_in m)) ready;
   passed = λ n k is. no_some (sym (none n) ∙ is);
 }
 

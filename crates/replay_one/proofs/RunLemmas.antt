@@ -1,9 +1,7 @@
 -- Rounds and runs of the machine.
-use Rattle.std.proofs.Common.{◌≡◌, ◌≢◌, ◌≤◌, ◌<◌, ◌+◌, ℕ, zero, suc, true, false, List, Option, Some, None, is_some, refl, sym, ap, subst, ◌∙◌, inl, inr, ⊎_elim, arith}
+use Rattle.std.proofs.Common.{◌≡◌, ◌≢◌, ◌≤◌, ◌<◌, ◌+◌, ℕ, zero, suc, true, false, List, Option, Some, None, is_some, map, refl, sym, ap, subst, ◌∙◌, inl, inr, ⊎_elim, arith}
 use Rattle.std.proofs.lemmas.Bool.{false_from_ne_true}
 use Rattle.std.specs.FinMap.{find}
-use Rattle.std.specs.BTreeMap.{BTreeMap, is_at}
-use Rattle.std.specs.Map.{lookup}
 use Rattle.asp_model.specs.Names.{Name, FutureShape, Text, future_cmp, name_cmp}
 use Rattle.asp_model.specs.Term.{Tree, has_text}
 use Rattle.asp_model.specs.Configuration.{Activity, Configuration, ReceptionShape}
@@ -12,6 +10,7 @@ use Rattle.asp_model.specs.Chase.{chase}
 use Rattle.asp_model.specs.Step.{ListsShape, intent_in, put_some, with_effect}
 use Rattle.asp_model.specs.Status.{is_awaiting, is_running, status_of, status_of_intent}
 use Rattle.asp_model.specs.Replay.{least_step, steps_from}
+use Rattle.def_journals.specs.Journals.{number_of}
 use Rattle.law_steps.specs.Reached.{IsAt, IsReached, Steps}
 use Rattle.law_steps.specs.Waking.{labels_wanted}
 use Rattle.law_steps.proofs.CommuteLemmas.{values_kept}
@@ -30,20 +29,28 @@ use Rattle.law_schedules.proofs.WokenLemmas.{called_are_scheduled}
 use Rattle.serve_rules.specs.Labels.{HaveSame}
 use Rattle.replay_one.specs.declared.bounds.Bounds.{Bounds}
 use Rattle.replay_one.specs.declared.population.Population.{Population}
-use Rattle.replay_one.specs.declared.schedule.Schedule.{Schedule}
 use Rattle.replay_one.specs.declared.round.Machine.{Machine}
-use Rattle.replay_one.specs.Bounds.{count_within, lists_within}
+use Rattle.replay_one.specs.Roster.{IsRoster, Leads}
+use Rattle.replay_one.specs.declared.bounds.Bounds.TheVariants as bounds
+use Rattle.replay_one.specs.Bounds.{IsNumbered, count_within, lists_within}
+use Rattle.replay_one.proofs.RosterLemmas.{leads_both}
 use Rattle.step_reads.proofs.PassedLemmas.{passed_still}
 use Rattle.step_reads.specs.declared.strict.Strict.TheVariants as strict
 use Rattle.step_activity.specs.Passing.{HasPassed}
 use Rattle.step_activity.proofs.PassingLemmas.{first_passed}
-use Rattle.replay_one.specs.Population.{ArePassed, HasPassedIn, IsForgotten, IsPassing, IsPopulation, IsReachedPopulation, IsRunIn, or_zero, passed_in, with_activity}
-use Rattle.replay_one.specs.Schedule.{IsMoreReady, IsNoted, IsTaken, IsWatching, asks_in, noted_in, ready_in, sends_in, watches_in}
-use Rattle.replay_one.specs.Round.{CanStep, IsHandedOn, IsRunAt, IsRunBut, LeadsTo, Leaves, LogsTo, next_by}
+use Rattle.replay_one.specs.Population.{ArePassed, HasPassedIn, IsForgotten, IsPassing, IsPopulation, IsReachedPopulation, IsRunIn, KeepsPassed, or_zero, passed_in, with_activity}
+use Rattle.replay_one.specs.declared.schedule.Schedule.{Schedule}
+use Rattle.replay_one.specs.Schedule.{IsMoreReady, IsNoted, IsTaken, IsWatching, Seen, seen, asks_in, noted_in, ready_in, sends_in, watches_in}
+use Rattle.replay_one.specs.Round.{CanStep, IsHandedOn, IsRunAt, IsRunBut, IsRunWith, LeadsTo, Leaves, LogsTo, next_by, seen_in}
 use Rattle.replay_one.proofs.LocalLemmas.{local_runs_go_on}
 
-pub reached_population : (b : Bounds) (m : Machine) (program : Tree) (c : Configuration) → IsRunAt b m program c → IsReachedPopulation m.population program c
-reached_population b m program c h = record { bare = h.bare; reached = h.reached; population = h.population }
+pub reached_population : (b : Bounds) (p : Population) (s : Seen) (program : Tree) (c : Configuration) → IsRunWith b p s program c → IsReachedPopulation p program c
+reached_population b p s program c h = record { bare = h.bare; reached = h.reached; population = h.population }
+
+-- the names that had numbers have them still
+pub numbered_on : (b : Bounds) (ns ms : List Name) → IsNumbered b ns → Leads ns ms → IsNumbered b ms
+numbered_on (bounds.Budget n) ns ms h l = tt
+numbered_on (bounds.Listed lists counts) ns ms h l = leads_both (map (λ x. x.0) lists.now.entries.items) ns ms h l
 
 awaits_is : (f g : FutureShape) → Awaits f ≡ Awaits g → f ≡ g
 awaits_is f g e = ap (awaited f) e
@@ -53,28 +60,28 @@ awaits_is f g e = ap (awaited f) e
     awaited f s = f
 
 pub but_reached : (b : Bounds) (m : Machine) (n : Name) (program : Tree) (c : Configuration) → IsRunBut b m n program c → IsReachedPopulation m.population program c
-but_reached b m n program c h = reached_population b (record { population = m.population; schedule = h.before }) program c h.run
+but_reached b m n program c h = reached_population b m.population h.before program c h.run
 
 acts_is : (e g : Effect) → Acts e ≡ Acts g → e ≡ g
 acts_is e g h = ap (λ (p : Intent). elim p [ Acts f ↦ f | Rests s ↦ e ]) h
 
 -- Members that are passed
 
-pub kept_passed : (p q : Population) (c : Configuration) → q.passed ≡ p.passed → ArePassed p c → ArePassed q c
-kept_passed p q c same h = λ n k is. h n k (ap (λ (es : BTreeMap Name ℕ). lookup (is_at (name_cmp n)) es.entries) (sym same) ∙ is)
+pub kept_passed : (p q : Population) (c : Configuration) → KeepsPassed p q → ArePassed p c → ArePassed q c
+kept_passed p q c keeps h = λ n k is. h n k (keeps n k is)
 
 -- it is not the one of whom nothing is noted
 other_than : (p : Population) (n m : Name) (k : ℕ) → passed_in p n ≡ None → passed_in p m ≡ Some k → m ≢ n
 other_than p n m k alone is same = no_some (sym alone ∙ ap (passed_in p) (sym same) ∙ is)
 
 -- an activity that is not noted goes on alone
-ran_passed : (c : Configuration) (n : Name) (p q : Population) (b : Activity) → q.passed ≡ p.passed → passed_in p n ≡ None → ArePassed p c → ArePassed q (with_activity n b c)
+ran_passed : (c : Configuration) (n : Name) (p q : Population) (b : Activity) → KeepsPassed p q → passed_in p n ≡ None → ArePassed p c → ArePassed q (with_activity n b c)
 ran_passed c n p q b same alone h = kept_passed p q (with_activity n b c) same (λ m k is.
     let x = h m k is in
     (x.0, find_other name_cmp name_total name_same m n b c.activities (other_than p n m k alone is) ∙ x.1, x.2))
 
 -- or takes a step
-stepped_passed : (program : Tree) (c : Configuration) (n : Name) (p q : Population) (e : Effect) → IsReached program c → intent_in c n ≡ Acts e → q.passed ≡ p.passed → passed_in p n ≡ None → ArePassed p c → ArePassed q (with_effect n e c)
+stepped_passed : (program : Tree) (c : Configuration) (n : Name) (p q : Population) (e : Effect) → IsReached program c → intent_in c n ≡ Acts e → KeepsPassed p q → passed_in p n ≡ None → ArePassed p c → ArePassed q (with_effect n e c)
 stepped_passed program c n p q e reached intends same alone h =
     let facts = acts_facts c n e intends in
     let t : Took c n e = record { sound = reached_sound program c reached; there = facts.0; facts = facts.1 } in
@@ -85,23 +92,32 @@ stepped_passed program c n p q e reached intends same alone h =
       (λ cs i at. passed_still (chase c.futures) (chase (with_effect n e c).futures) (values_kept c n e t) x.0.store (strict.Members i) k (x.2 cs i at)),
     ))
 
+-- where what is noted of members that are passed changes alone
+still_there : (p q : Population) (c : Configuration) → q ≡ record p { passed = q.passed } → IsPopulation p c → IsPopulation q c
+still_there p q c same h = subst (λ (r : Population). IsPopulation r c) (sym same) (record { roster = h.roster; activities = h.activities; logs = h.logs; futures = h.futures; code = h.code; actors = h.actors; values = h.values })
+
+still_numbered : (b : Bounds) (p q : Population) → q ≡ record p { passed = q.passed } → IsNumbered b p.roster → IsNumbered b q.roster
+still_numbered b p q same h = subst (λ (r : Population). IsNumbered b r.roster) (sym same) h
+
 -- what is noted of one is forgotten
-pub forgotten_run : (b : Bounds) (program : Tree) (c : Configuration) (m : Machine) (n : Name) (q : Population) → IsRunAt b m program c → IsForgotten m.population n q → IsRunAt b (record { population = q; schedule = m.schedule }) program c
-forgotten_run b program c m n q h f = record {
+pub forgotten_run : (b : Bounds) (program : Tree) (c : Configuration) (p : Population) (s : Seen) (n : Name) (q : Population) → IsRunWith b p s program c → IsForgotten p n q → IsRunWith b q s program c
+forgotten_run b program c p s n q h f = record {
   bare = h.bare;
   reached = h.reached;
-  population = subst (λ (p : Population). IsPopulation p c) (sym f.same) (record { activities = h.population.activities; logs = h.population.logs; futures = h.population.futures; code = h.population.code; actors = h.population.actors; values = h.population.values });
+  population = still_there p q c f.same h.population;
+  numbered = still_numbered b p q f.same h.numbered;
   scheduled = h.scheduled;
   watched = h.watched;
   passed = λ m' k is. h.passed m' k (f.noted m' k is).1;
 }
 
 -- what one has passed is noted
-pub passing_run : (b : Bounds) (program : Tree) (c : Configuration) (m : Machine) (n : Name) (a : Activity) (k : ℕ) (q : Population) → IsRunAt b m program c → IsPassing m.population n k q → IsAt c n a → HasPassed (chase c.futures) a k → IsRunAt b (record { population = q; schedule = m.schedule }) program c
-passing_run b program c m n a k q h f at has = record {
+pub passing_run : (b : Bounds) (program : Tree) (c : Configuration) (p : Population) (s : Seen) (n : Name) (a : Activity) (k : ℕ) (q : Population) → IsRunWith b p s program c → IsPassing p n k q → IsAt c n a → HasPassed (chase c.futures) a k → IsRunWith b q s program c
+passing_run b program c p s n a k q h f at has = record {
   bare = h.bare;
   reached = h.reached;
-  population = subst (λ (p : Population). IsPopulation p c) (sym f.same) (record { activities = h.population.activities; logs = h.population.logs; futures = h.population.futures; code = h.population.code; actors = h.population.actors; values = h.population.values });
+  population = still_there p q c f.same h.population;
+  numbered = still_numbered b p q f.same h.numbered;
   scheduled = h.scheduled;
   watched = h.watched;
   passed = λ m' j is. ⊎_elim
@@ -111,12 +127,12 @@ passing_run b program c m n a k q h f at has = record {
 }
 
 -- the population is another that stands for the same
-pub settled_run : (b : Bounds) (program : Tree) (c : Configuration) (m : Machine) (q : Population) → IsRunAt b m program c → IsPopulation q c → q.passed ≡ m.population.passed → IsRunAt b (record { population = q; schedule = m.schedule }) program c
-settled_run b program c m q h population same = record { bare = h.bare; reached = h.reached; population = population; scheduled = h.scheduled; watched = h.watched; passed = kept_passed m.population q c same h.passed }
+pub settled_run : (b : Bounds) (program : Tree) (c : Configuration) (p : Population) (s : Seen) (q : Population) → IsRunWith b p s program c → IsPopulation q c → q.roster ≡ p.roster → KeepsPassed p q → IsRunWith b q s program c
+settled_run b program c p s q h population roster keeps = record { bare = h.bare; reached = h.reached; population = population; numbered = subst (IsNumbered b) (sym roster) h.numbered; scheduled = h.scheduled; watched = h.watched; passed = kept_passed p q c keeps h.passed }
 
-module _ (b : Bounds) (program : Tree) (c : Configuration) (n : Name) (p : Population) (old : Schedule) where
+module _ (b : Bounds) (program : Tree) (c : Configuration) (n : Name) (p : Population) (old : Seen) where
   -- who leaves is noted by what it waits for, and the others stay noted
-  watched_but : (new : Schedule) (w : Watches) → IsWatched w (count_within b) c (ready_in old) → ((m : Name) → m ≢ n → ready_in new m ≡ ready_in old m)
+  watched_but : (new : Seen) (w : Watches) → IsWatched w (count_within b) c (ready_in old) → ((m : Name) → m ≢ n → ready_in new m ≡ ready_in old m)
       → ((m : Name) (l : Text) → m ≢ n → w.asks m l ≡ true → asks_in new m l ≡ true) → ((m k : Name) → m ≢ n → w.sends m k ≡ true → sends_in new m k ≡ true)
       → IsWatchedAt (watches_in new) (count_within b) c n → IsWatched (watches_in new) (count_within b) c (ready_in new)
   watched_but new w h others asks sends own m not = ⊎_elim
@@ -130,11 +146,12 @@ module _ (b : Bounds) (program : Tree) (c : Configuration) (n : Name) (p : Popul
       (name_case m n)
 
   -- who rests leaves
-  pub leaves_round : (new : Schedule) → IsRunAt b (record { population = p; schedule = old }) program c → IsTaken old n new → Leaves (lists_within b) (count_within b) c n → IsRunAt b (record { population = p; schedule = new }) program c
+  pub leaves_round : (new : Seen) → IsRunWith b p old program c → IsTaken old n new → Leaves (lists_within b) (count_within b) c n → IsRunWith b p new program c
   leaves_round new h t l' = record {
     bare = h.bare;
     reached = h.reached;
     population = h.population;
+    numbered = h.numbered;
     scheduled = resters_leave (lists_within b) (count_within b) c n (noted_in old) (noted_in new) (ready_in old) (ready_in new) h.scheduled l'.rests t.others (λ f m k. ap (λ g. g f m) t.noted ∙ k) (λ f a at below w. absurd (l'.waits f a at below w));
     watched = watched_but new (watches_in old) h.watched t.others (λ m l d a. ap (λ (w : Watches). w.asks m l) t.watches ∙ a) (λ m k d a. ap (λ (w : Watches). w.sends m k) t.watches ∙ a) (record {
       serving = λ a l is below st has. absurd (l'.serves a is below st);
@@ -143,11 +160,12 @@ module _ (b : Bounds) (program : Tree) (c : Configuration) (n : Name) (p : Popul
     passed = h.passed;
   }
 
-  pub awaits_round : (f : FutureShape) (mid new : Schedule) → IsRunAt b (record { population = p; schedule = old }) program c → IsTaken old n mid → IsNoted mid f n new → RestsIn (lists_within b) (count_within b) c n → status_of c n ≡ Awaits f → IsRunAt b (record { population = p; schedule = new }) program c
+  pub awaits_round : (f : FutureShape) (mid new : Seen) → IsRunWith b p old program c → IsTaken old n mid → IsNoted mid f n new → RestsIn (lists_within b) (count_within b) c n → status_of c n ≡ Awaits f → IsRunWith b p new program c
   awaits_round f mid new h t k rests s = record {
     bare = h.bare;
     reached = h.reached;
     population = h.population;
+    numbered = h.numbered;
     scheduled = resters_leave (lists_within b) (count_within b) c n (noted_in old) (noted_in new) (ready_in old) (ready_in new) h.scheduled rests
         (λ m d. ready_by m ∙ t.others m d)
         (λ g m is. k.noted g m (ap (λ r. r g m) t.noted ∙ is))
@@ -161,15 +179,16 @@ module _ (b : Bounds) (program : Tree) (c : Configuration) (n : Name) (p : Popul
   }
     where
       ready_by : (m : Name) → ready_in new m ≡ ready_in mid m
-      ready_by m = ap (λ r. ready_in (record new { ready = r }) m) k.ready
+      ready_by m = ap (λ r. r m) k.ready
 
   -- it rests, and waits for no future
-  quiet_round : (mid new : Schedule) → IsRunAt b (record { population = p; schedule = old }) program c → IsTaken old n mid → IsWatching mid n new → RestsIn (lists_within b) (count_within b) c n → is_awaiting (status_of c n) ≡ false → IsWatchedAt (watches_in new) (count_within b) c n
-      → IsRunAt b (record { population = p; schedule = new }) program c
+  quiet_round : (mid new : Seen) → IsRunWith b p old program c → IsTaken old n mid → IsWatching mid n new → RestsIn (lists_within b) (count_within b) c n → is_awaiting (status_of c n) ≡ false → IsWatchedAt (watches_in new) (count_within b) c n
+      → IsRunWith b p new program c
   quiet_round mid new h t k rests not own = record {
     bare = h.bare;
     reached = h.reached;
     population = h.population;
+    numbered = h.numbered;
     scheduled = resters_leave (lists_within b) (count_within b) c n (noted_in old) (noted_in new) (ready_in old) (ready_in new) h.scheduled rests
         (λ m d. ready_by m ∙ t.others m d)
         (λ g m is. ap (λ r. r g m) (k.noted ∙ t.noted) ∙ is)
@@ -180,18 +199,18 @@ module _ (b : Bounds) (program : Tree) (c : Configuration) (n : Name) (p : Popul
   }
     where
       ready_by : (m : Name) → ready_in new m ≡ ready_in mid m
-      ready_by m = ap (λ r. ready_in (record new { ready = r }) m) k.ready
+      ready_by m = ap (λ r. r m) k.ready
 
   -- a server rests
-  pub serves_round : (mid new : Schedule) (labels : List Text) → IsRunAt b (record { population = p; schedule = old }) program c → IsTaken old n mid → IsWatching mid n new → ((l : Text) → asks_in new n l ≡ has_text l labels) → ((a : Activity) → IsAt c n a → HaveSame labels (labels_wanted a))
-      → RestsIn (lists_within b) (count_within b) c n → status_of c n ≡ Serving → IsRunAt b (record { population = p; schedule = new }) program c
+  pub serves_round : (mid new : Seen) (labels : List Text) → IsRunWith b p old program c → IsTaken old n mid → IsWatching mid n new → ((l : Text) → asks_in new n l ≡ has_text l labels) → ((a : Activity) → IsAt c n a → HaveSame labels (labels_wanted a))
+      → RestsIn (lists_within b) (count_within b) c n → status_of c n ≡ Serving → IsRunWith b p new program c
   serves_round mid new labels h t k asks wanted rests st = quiet_round mid new h t k rests (ap is_awaiting st) (record {
     serving = λ a l is below s has. asks l ∙ wanted a is l ∙ has;
     sending = λ a e x is below intends sent. none_true (ap is_running (sym st ∙ ap status_of_intent intends));
   })
 
   -- a sender or a poller is held
-  pub holds_round : (mid new : Schedule) (to : Name) → IsRunAt b (record { population = p; schedule = old }) program c → IsTaken old n mid → IsWatching mid n new → sends_in new n to ≡ true → RestsIn (lists_within b) (count_within b) c n → LogsTo c n to → IsRunAt b (record { population = p; schedule = new }) program c
+  pub holds_round : (mid new : Seen) (to : Name) → IsRunWith b p old program c → IsTaken old n mid → IsWatching mid n new → sends_in new n to ≡ true → RestsIn (lists_within b) (count_within b) c n → LogsTo c n to → IsRunWith b p new program c
   holds_round mid new to h t k sends rests s = quiet_round mid new h t k rests (ap is_awaiting (ap status_of_intent s.1)) (record {
     serving = λ a l is below st has. none_true (ap is_running (sym st ∙ ap status_of_intent s.1));
     sending = λ a e x is below intends sent.
@@ -201,9 +220,9 @@ module _ (b : Bounds) (program : Tree) (c : Configuration) (n : Name) (p : Popul
   })
 
   -- a step is taken
-  pub steps_round : (q : Population) (mid given new : Schedule) (x : CanStep (lists_within b) (count_within b) c n) → IsRunAt b (record { population = p; schedule = old }) program c → IsTaken old n mid → IsPopulation q (with_effect n x.effect c) → IsHandedOn (lists_within b) c n x.effect mid given → IsMoreReady given None new → ready_in new n ≡ true → q.passed ≡ p.passed → passed_in p n ≡ None
-      → (d : Configuration) × (next_by b c ≡ Some d) × IsRunAt b (record { population = q; schedule = new }) program d
-  steps_round q mid given new x h t population handed more woken same alone =
+  pub steps_round : (q : Population) (mid given new : Seen) (x : CanStep (lists_within b) (count_within b) c n) → IsRunWith b p old program c → IsTaken old n mid → IsPopulation q (with_effect n x.effect c) → IsHandedOn (lists_within b) c n x.effect mid given → IsMoreReady given None new → ready_in new n ≡ true → IsNumbered b q.roster → KeepsPassed p q → passed_in p n ≡ None
+      → (d : Configuration) × (next_by b c ≡ Some d) × IsRunWith b q new program d
+  steps_round q mid given new x h t population handed more woken numbered same alone =
       let lists = lists_within b in
       let count = count_within b in
       let e = x.effect in
@@ -230,7 +249,8 @@ module _ (b : Bounds) (program : Tree) (c : Configuration) (n : Name) (p : Popul
           bare = h.bare;
           reached = reached;
           population = population;
-          scheduled = notes_leave lists count d (ready_in new) (noted_in mid) (noted_in new) after.0 (λ f m none is. more.noted f m no_some ∙ handed.noted f m (unfilled f none) ∙ is);
+          numbered = numbered;
+          scheduled = notes_leave lists count d (ready_in new) (noted_in mid) (noted_in new) after.0 (λ f m none is. more.noted f m no_some (handed.noted f m (unfilled f none) is));
           watched = λ m not.
               let was : IsWatchedAt (watches_in mid) count d m = after.1 m not in
               record {
@@ -253,7 +273,7 @@ has_ended (suc k) lists count c h = ap (λ (o : Option Configuration). elim o [ 
 -- Reductions that need no other
 
 -- who is in the schedule is ready again
-pub woken_run : (b : Bounds) (program : Tree) (c : Configuration) (n : Name) (q : Population) (old mid new : Schedule) → IsRunAt b (record { population = q; schedule = old }) program c → IsTaken old n mid → IsMoreReady mid None new → ready_in new n ≡ true → IsRunAt b (record { population = q; schedule = new }) program c
+pub woken_run : (b : Bounds) (program : Tree) (c : Configuration) (n : Name) (q : Population) (old mid new : Seen) → IsRunWith b q old program c → IsTaken old n mid → IsMoreReady mid None new → ready_in new n ≡ true → IsRunWith b q new program c
 woken_run b program c n q old mid new h t more woken =
     let now : (m : Name) → ready_in old m ≡ true → ready_in new m ≡ true = λ m r. ⊎_elim
     (λ e. ap (ready_in new) e ∙ woken)
@@ -264,9 +284,10 @@ woken_run b program c n q old mid new h t more woken =
       bare = h.bare;
       reached = h.reached;
       population = h.population;
+      numbered = h.numbered;
       scheduled = record {
         rest = λ m there not. h.scheduled.rest m there (was m not);
-        waiting = λ m f a is below not w. more.noted f m no_some ∙ ap (λ g. g f m) t.noted ∙ h.scheduled.waiting m f a is below (was m not) w;
+        waiting = λ m f a is below not w. more.noted f m no_some (ap (λ g. g f m) t.noted ∙ h.scheduled.waiting m f a is below (was m not) w);
       };
       watched = λ m not.
           let before : IsWatchedAt (watches_in old) (count_within b) c m = h.watched m (was m not) in
@@ -278,14 +299,50 @@ woken_run b program c n q old mid new h t more woken =
     }
 
 -- reductions that need no other are steps of the run
-pub ran : (b : Bounds) (program : Tree) (c : Configuration) (n : Name) (m : Machine) (q : Population) (mid : Schedule) (most k : ℕ) → IsRunAt b m program c → IsTaken m.schedule n mid → IsRunIn q c n most (count_within b n) k → q.passed ≡ m.population.passed → passed_in m.population n ≡ None
-    → (d : Configuration) × LeadsTo b k c d × IsRunAt b (record { population = q; schedule = m.schedule }) program d × (k ≤ most)
-ran b program c n m q mid most k h t (inl r) same alone =
-    let g = local_runs_go_on program (lists_within b) (count_within b) (ready_in m.schedule) (noted_in m.schedule) (watches_in m.schedule) c n k r.activity r.end h.reached h.scheduled h.watched t.ready t.least r.there r.run r.below in
-    (with_activity n r.end c, g.steps, record { bare = h.bare; reached = g.reached; population = r.population; scheduled = g.scheduled; watched = g.watched; passed = ran_passed c n m.population q r.end same alone h.passed }, r.within)
-ran b program c n m q mid most k h t (inr e) same alone =
+pub ran : (b : Bounds) (program : Tree) (c : Configuration) (n : Name) (p : Population) (s : Seen) (q : Population) (mid : Seen) (most k : ℕ) → IsRunWith b p s program c → IsTaken s n mid → IsRunIn q c n most (count_within b n) k → q.roster ≡ p.roster → KeepsPassed p q → passed_in p n ≡ None
+    → (d : Configuration) × LeadsTo b k c d × IsRunWith b q s program d × (k ≤ most)
+ran b program c n p s q mid most k h t (inl r) roster same alone =
+    let g = local_runs_go_on program (lists_within b) (count_within b) (ready_in s) (noted_in s) (watches_in s) c n k r.activity r.end h.reached h.scheduled h.watched t.ready t.least r.there r.run r.below in
+    (with_activity n r.end c, g.steps, record { bare = h.bare; reached = g.reached; population = r.population; numbered = subst (IsNumbered b) (sym roster) h.numbered; scheduled = g.scheduled; watched = g.watched; passed = ran_passed c n p q r.end same alone h.passed }, r.within)
+ran b program c n p s q mid most k h t (inr e) roster same alone =
     let none : k ≡ 0 = e.0 in
-    (c, (λ j. let all : k + j ≡ j = omega (arith, none) in ap (λ i. steps_from i (lists_within b) (count_within b) c) all), settled_run b program c m q h e.1 same, omega (arith, none))
+    (c, (λ j. let all : k + j ≡ j = omega (arith, none) in ap (λ i. steps_from i (lists_within b) (count_within b) c) all), settled_run b program c p s q h e.1 roster same, omega (arith, none))
+
+pub still_none : (p q : Population) (n : Name) → KeepsPassed p q → passed_in p n ≡ None → passed_in q n ≡ None
+still_none p q n keeps none = by (passed_in q n) refl
+  where
+    by : (o : Option ℕ) → passed_in q n ≡ o → o ≡ None
+    by None e = refl
+    by (Some j) e = no_some (sym none ∙ keeps n j e)
+
+-- where the least of those ready has taken its reductions that need no other
+pub record Ran (b : Bounds) (program : Tree) (c : Configuration) (n : Name) (number : ℕ) (s : Seen) (mid : Schedule) (q : Population) (most k : ℕ) : Type 0 where
+  pub then : Configuration
+  pub leads : LeadsTo b k c then
+  pub within : k ≤ most
+  pub has : number_of n q.roster ≡ Some number
+  pub but : IsRunBut b (record { population = q; schedule = mid }) n program then
+  pub before : IsRunWith b q s program then
+  pub taken : IsTaken s n (seen q.roster mid)
+
+pub ran_on : (b : Bounds) (program : Tree) (c : Configuration) (n : Name) (number : ℕ) (m : Machine) (mid : Schedule) (p q : Population) (most count k : ℕ) → IsRunAt b m program c → number_of n m.population.roster ≡ Some number → IsForgotten m.population n p → IsTaken (seen_in m) n (seen m.population.roster mid) → (IsPopulation p c → number_of n p.roster ≡ Some number → IsRunIn q c n most count k)
+    → (IsRoster m.population.roster → IsNumbered b m.population.roster → number_of n m.population.roster ≡ Some number → count ≡ count_within b n) → q.roster ≡ p.roster → KeepsPassed p q → passed_in p n ≡ None → Ran b program c n number (seen_in m) mid q most k
+ran_on b program c n number m mid p q most count k h has f t runs bound roster same alone =
+    let s : Seen = seen_in m in
+    let h2 = forgotten_run b program c m.population s n p h f in
+    let names : p.roster ≡ m.population.roster = ap (λ (r : Population). r.roster) f.same in
+    let run = subst (λ j. IsRunIn q c n most j k) (bound h.population.roster h.numbered has) (runs h2.population (ap (number_of n) names ∙ has)) in
+    let r = ran b program c n p s q (seen m.population.roster mid) most k h2 t run roster same alone in
+    let taken : IsTaken s n (seen q.roster mid) = subst (λ (ns : List Name). IsTaken s n (seen ns mid)) (sym (roster ∙ names)) t in
+    record {
+      then = r.0;
+      leads = r.1;
+      within = r.3;
+      has = ap (number_of n) (roster ∙ names) ∙ has;
+      but = record { before = s; run = r.2; taken = taken; forgotten = still_none p q n same alone };
+      before = r.2;
+      taken = taken;
+    }
 
 pub leads_nowhere : (b : Bounds) (c d : Configuration) (k : ℕ) → LeadsTo b k c d → k ≡ 0 → d ≡ c
 leads_nowhere b c d k h none =
@@ -299,9 +356,6 @@ leads_on b c d e k h next j =
     ap (λ i. steps_from i (lists_within b) (count_within b) c) same ∙ h (suc j) ∙ goes_on j (lists_within b) (count_within b) d e next
 
 -- Members that one has passed
-
-pub still_none : (p q : Population) (n : Name) → q.passed ≡ p.passed → passed_in p n ≡ None → passed_in q n ≡ None
-still_none p q n same none = ap (λ (es : BTreeMap Name ℕ). lookup (is_at (name_cmp n)) es.entries) same ∙ none
 
 known_by : (p : Population) (c : Configuration) (n : Name) (o : Option ℕ) → ArePassed p c → passed_in p n ≡ o → HasPassedIn c n (or_zero o)
 known_by p c n None h is = λ a at. first_passed (chase c.futures) a

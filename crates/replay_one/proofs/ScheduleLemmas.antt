@@ -1,6 +1,7 @@
 -- What the changes of a schedule leave of it.
-use Rattle.std.proofs.Common.{◌≡◌, ◌≢◌, ◌<◌, ◌+◌, ◌↔◌, ◌||◌, ◌++◌, ◌∷◌, [], Bool, true, false, cond, List, Option, Some, None, length, is_some, IsSome, IfSome, MatchOption, refl, sym, ap, ◌∙◌, ◌⊎◌, inl, inr, ⊎_elim, arith}
-use Rattle.std.proofs.lemmas.Bool.{false≢true}
+use Rattle.std.proofs.Common.{◌≡◌, ◌≢◌, ◌<◌, ◌+◌, ◌↔◌, ◌||◌, ◌++◌, ◌∷◌, [], ℕ, Bool, true, false, cond, List, Option, Some, None, Ok, Err, Result, OnOk, length, slice_get, slice_set, is_some, IsSome, IfSome, MatchOption, refl, sym, ap, ◌∙◌, ◌⊎◌, inl, inr, ⊎_elim, arith}
+use Rattle.std.specs.Prelude.{◌==◌}
+use Rattle.std.proofs.lemmas.Bool.{false≢true, false_from_ne_true}
 use Rattle.std.proofs.lemmas.List.Folds.{list_any-append}
 use Rattle.std.specs.List.{list_any}
 use Rattle.std.specs.Global.{Vec}
@@ -14,19 +15,53 @@ use Rattle.std.specs.Cmp.{tied_itself}
 use Rattle.std.specs.Cmp.Lexicographic.{nat_list_cmp_total}
 use Rattle.asp_model.specs.declared.name.FutureName.{FutureName}
 use Rattle.asp_model.specs.contracts.name.FutureNameOrd.TheImpl as ordering
-use Rattle.asp_model.specs.Names.{Name, FutureShape, Text, name_cmp, same_name}
+use Rattle.asp_model.specs.Names.{Name, FutureShape, Text, name_cmp}
+use Rattle.asp_model.specs.Term.{has_text}
 use Rattle.asp_model.specs.Order.{same_future_same, same_name_same}
 use Rattle.asp_model.specs.Shapes.{future_shape}
-use Rattle.law_steps.proofs.NameLemmas.{name_case}
+use Rattle.def_journals.specs.Journals.{number_of}
 use Rattle.law_chases.proofs.FutureLemmas.{true_false}
 use Rattle.replay_one.specs.declared.schedule.Schedule.{Schedule}
-use Rattle.replay_one.specs.Schedule.{IsMoreReady, IsNoted, IsTaken, IsWatching, asks_in, is_asked, is_named_in, is_target, names_at, noted_in, ready_in, sends_in, watches_in}
+use Rattle.replay_one.specs.declared.schedule.Watch.{Watch}
+use Rattle.replay_one.specs.declared.schedule.Watch.TheVariants as watch
+use Rattle.replay_one.specs.Schedule.{HasPlace, IsFewerIn, IsMoreReady, IsNoted, IsTaken, IsWatch, IsWatching, Seen, asks_at, asks_in, has_number, if_number, is_asked, is_held, is_numbered_in, noted_at, noted_in, ready_in, seen, sends_at, sends_in, watches_in}
+use Rattle.replay_one.proofs.ColumnLemmas.{is_same, number_case, same_number, set_here, set_other}
+use Rattle.replay_one.proofs.RosterLemmas.{other_number}
 
 abbrev pub future_order : FutureName → FutureName → Ordering
 future_order = ordering.ghosts.cmp
 
 abbrev pub named : FutureShape → FutureName
 named f = record { by = f.by; index = f.index }
+
+pub handed_by : {A T E : Type 0} (r : Result T E) (P : Type 0) (Q R : A → Type 0) (X : Type 0) → (P → ((m : A) → Q m → R m) → X) → OnOk r P → ((m : A) → Q m → OnOk r (R m)) → OnOk r X
+handed_by (Ok t) P Q R X f h k = f h k
+handed_by (Err e) P Q R X f h k = tt
+
+-- By names and by numbers
+
+-- what is true by numbers stays so by names
+pub lifted : (o : Option ℕ) (f g : ℕ → Bool) → ((k : ℕ) → f k ≡ true → g k ≡ true) → if_number o f ≡ true → if_number o g ≡ true
+lifted None f g h e = e
+lifted (Some k) f g h e = h k e
+
+-- what is the same of other numbers is the same of other names
+pub elsewhere : (ns : List Name) (n m : Name) (k : ℕ) (f g : ℕ → Bool) → number_of n ns ≡ Some k → m ≢ n → ((j : ℕ) → j ≢ k → f j ≡ g j) → if_number (number_of m ns) f ≡ if_number (number_of m ns) g
+elsewhere ns n m k f g here d h = by (number_of m ns) refl
+  where
+    by : (o : Option ℕ) → number_of m ns ≡ o → if_number o f ≡ if_number o g
+    by None e = refl
+    by (Some j) e = h j (other_number ns n m j k d e here)
+
+pub told_at : (o : Option ℕ) (k : ℕ) (f : ℕ → Bool) → o ≡ Some k → if_number o f ≡ f k
+told_at o k f e = ap (λ p. if_number p f) e
+
+-- what is true by names is true of a number
+pub has_told : (o : Option ℕ) (f : ℕ → Bool) → if_number o f ≡ true → (k : ℕ) × (o ≡ Some k) × (f k ≡ true)
+has_told None f e = absurd (false≢true e)
+has_told (Some k) f e = (k, refl, e)
+
+-- The least
 
 rounded : (r : Ordering) → is_gt r ≡ false → is_lt (ordering_reverse r) ≡ false
 rounded Less e = refl
@@ -44,24 +79,70 @@ none_among m (k ∷ ks) h = absurd (h (omega arith))
 tied : (n m : Name) → m ≢ n → is_at (name_cmp n) m ≡ false
 tied n m h = elim (is_eq (name_cmp n m)) as (λ b. is_eq (name_cmp n m) ≡ b → b ≡ false) [ true ↦ λ e. absurd (h (sym (same_name_same n m e))) | false ↦ λ e. refl ] refl
 
-pub least_taken : (old new : Schedule) (o : Option Name) → (IsSome o ↔ (0 < length old.ready.keys)) → IfSome o (λ k. ready_in old k ≡ true) → IfSome o (sets.IsLowerBound name_cmp old.ready) → IfSome o (λ k. sets.Updates name_cmp old.ready new.ready k false) → length new.ready.keys + cond (is_some o) 1 0 ≡ length old.ready.keys → new ≡ record old { ready = new.ready } → MatchOption o ((m : Name) → ready_in old m ≡ false) (λ n. IsTaken old n new)
-least_taken old new None v r l u s e = λ m. none_among m old.ready.keys (λ h. false≢true (v.1 h))
-least_taken old new (Some n) v r l u s e = record {
+pub least_taken : (ns : List Name) (old new : Schedule) (o : Option Name) → (IsSome o ↔ (0 < length old.ready.keys)) → IfSome o (λ k. ready_in (seen ns old) k ≡ true) → IfSome o (sets.IsLowerBound name_cmp old.ready) → IfSome o (λ k. sets.Updates name_cmp old.ready new.ready k false) → new ≡ record old { ready = new.ready }
+    → MatchOption o ((m : Name) → ready_in (seen ns old) m ≡ false) (λ n. IsTaken (seen ns old) n (seen ns new))
+least_taken ns old new None v r l u e = λ m. none_among m old.ready.keys (λ h. false≢true (v.1 h))
+least_taken ns old new (Some n) v r l u e = record {
   ready = r;
   least = λ m h. above m n (l m h);
-  others = λ m d. u.0 m ∙ ap (λ b. cond b false (ready_in old m)) (tied n m d);
-  noted = ap noted_in e;
-  watches = ap watches_in e;
-  fewer = omega (arith, s);
+  others = λ m d. u.0 m ∙ ap (λ b. cond b false (ready_in (seen ns old) m)) (tied n m d);
+  noted = ap (λ s. noted_in (seen ns s)) e;
+  watches = ap (λ s. watches_in (seen ns s)) e;
 }
+
+pub fewer_left : (old new : Schedule) (o : Option Name) → length new.ready.keys + cond (is_some o) 1 0 ≡ length old.ready.keys → IfSome o (λ n. IsFewerIn old new)
+fewer_left old new None s = tt
+fewer_left old new (Some n) s = omega (arith, s)
+
+-- Who is woken
+
+is_at_itself : (n : Name) → is_at (name_cmp n) n ≡ true
+is_at_itself n = ap is_eq (tied_itself nat_list_cmp_total n)
+
+pub woken_here : (ns : List Name) (old new : Schedule) (n : Name) → sets.Updates name_cmp old.ready new.ready n true → ready_in (seen ns new) n ≡ true
+woken_here ns old new n u = u.0 n ∙ ap (λ b. cond b true (ready_in (seen ns old) n)) (is_at_itself n)
+
+-- one after the other
+pub more_twice : (s u t : Seen) → IsMoreReady s None u → IsMoreReady u None t → IsMoreReady s None t
+more_twice s u t x y =
+    let was : (m : Name) → ready_in t m ≡ false → ready_in u m ≡ false = λ m not. false_from_ne_true (ready_in u m) (λ h. true_false (ready_in t m) (y.ready m h) not) in
+    record {
+      ready = λ m h. y.ready m (x.ready m h);
+      noted = λ g m d h. y.noted g m d (x.noted g m d h);
+      asks = λ m l not h. y.asks m l not (x.asks m l (was m not) h);
+      sends = λ m k not h. y.sends m k not (x.sends m k (was m not) h);
+    }
+
+pub more_still : (s : Seen) → IsMoreReady s None s
+more_still s = record { ready = λ m h. h; noted = λ g m d h. h; asks = λ m l not h. h; sends = λ m k not h. h }
+
+-- more names have numbers
+pub more_names : (ns ms : List Name) (s : Schedule) → ((m : Name) (k : ℕ) → number_of m ns ≡ Some k → number_of m ms ≡ Some k) → IsMoreReady (seen ns s) None (seen ms s)
+more_names ns ms s stays = record {
+  ready = λ m h. h;
+  noted = λ g m d h. still m (noted_at s.awaiting.entries g) h;
+  asks = λ m l not h. still m (λ k. asks_at s.watches.items k l) h;
+  sends = λ m q not h.
+      let x = has_told (number_of m ns) (λ k. sends_at s.watches.items k (number_of q ns)) h in
+      told_at (number_of m ms) x.0 (λ k. sends_at s.watches.items k (number_of q ms)) (stays m x.0 x.1) ∙ held (slice_get s.watches.items x.0) (number_of q ns) (number_of q ms) (λ k e. stays q k e) x.2;
+}
+  where
+    still : (m : Name) (f : ℕ → Bool) → if_number (number_of m ns) f ≡ true → if_number (number_of m ms) f ≡ true
+    still m f h =
+        let x = has_told (number_of m ns) f h in
+        told_at (number_of m ms) x.0 f (stays m x.0 x.1) ∙ x.2
+
+    held : (w : Option Watch) (o p : Option ℕ) → ((k : ℕ) → o ≡ Some k → p ≡ Some k) → is_held o w ≡ true → is_held p w ≡ true
+    held None o p g h = h
+    held (Some watch.Nothing) o p g h = h
+    held (Some (watch.Asks labels)) o p g h = h
+    held (Some (watch.Holds to)) None p g h = absurd (false≢true h)
+    held (Some (watch.Holds to)) (Some k) p g h = ap (λ q. is_held q (Some (watch.Holds to))) (g k refl) ∙ h
 
 -- Notes at futures
 
 abbrev Notes : Type 0
-Notes = BTreeMap FutureName (Vec Name)
-
-abbrev pub noted_at : Notes → FutureShape → Name → Bool
-noted_at t f n = is_named_in n (names_at t.entries f)
+Notes = BTreeMap FutureName (Vec ℕ)
 
 key_case : (f g : FutureName) → (f ≡ g) ⊎ (is_at (future_order f) g ≡ false)
 key_case f g = elim (is_eq (future_order f g)) as (λ b. is_eq (future_order f g) ≡ b → (f ≡ g) ⊎ (b ≡ false)) [
@@ -70,135 +151,98 @@ key_case f g = elim (is_eq (future_order f g)) as (λ b. is_eq (future_order f g
 ] refl
 
 -- the entry at a future is taken out
-pub taken_out : (old new : Notes) (f : FutureName) (g : FutureShape) (m : Name) → trees.UpdatesBy future_order (future_order f) old new None → Some (future_shape f) ≢ Some g → noted_at new g m ≡ noted_at old g m
-taken_out old new f g m u d = ⊎_elim
+pub taken_out : (old new : Notes) (f : FutureName) (g : FutureShape) (k : ℕ) → trees.UpdatesBy future_order (future_order f) old new None → Some (future_shape f) ≢ Some g → noted_at new.entries g k ≡ noted_at old.entries g k
+taken_out old new f g k u d = ⊎_elim
     (λ e. absurd (d (ap (λ h. Some (future_shape h)) e)))
-    (λ e. ap (is_named_in m) (u.2 (named g) e))
+    (λ e. ap (is_numbered_in k) (u.2 (named g) e))
     (key_case f (named g))
 
-abbrev pub names_or_none : Option (Vec Name) → List Name
-names_or_none None = []
-names_or_none (Some names) = names.items
+abbrev pub numbers_or_none : Option (Vec ℕ) → List ℕ
+numbers_or_none None = []
+numbers_or_none (Some numbers) = numbers.items
 
-in_both : (m : Name) (xs ys : List Name) → list_any (same_name m) xs ≡ true → list_any (same_name m) (xs ++ ys) ≡ true
-in_both m xs ys h = list_any-append (same_name m) xs ys ∙ ap (λ b. b || list_any (same_name m) ys) h
+in_both : (k : ℕ) (xs ys : List ℕ) → has_number k xs ≡ true → has_number k (xs ++ ys) ≡ true
+in_both k xs ys h = list_any-append (λ j. k == j) xs ys ∙ ap (λ b. b || has_number k ys) h
 
-in_end : (m : Name) (xs : List Name) → list_any (same_name m) (xs ++ m ∷ []) ≡ true
-in_end m xs = list_any-append (same_name m) xs (m ∷ []) ∙ or_true (list_any (same_name m) xs) (same_name m m || false) (ap (λ b. b || false) (same_itself m))
-  where
-    or_true : (a b : Bool) → b ≡ true → (a || b) ≡ true
-    or_true true b e = refl
-    or_true false b e = e
+or_true : (a b : Bool) → b ≡ true → (a || b) ≡ true
+or_true true b e = refl
+or_true false b e = e
 
-    same_itself : (n : Name) → same_name n n ≡ true
-    same_itself n = ap is_eq (tied_itself nat_list_cmp_total n)
+in_end : (k : ℕ) (xs : List ℕ) → has_number k (xs ++ k ∷ []) ≡ true
+in_end k xs = list_any-append (λ j. k == j) xs (k ∷ []) ∙ or_true (has_number k xs) ((k == k) || false) (ap (λ b. b || false) (same_number k))
 
-named_more : (m n : Name) (o : Option (Vec Name)) (names : Vec Name) → names.items ≡ names_or_none o ++ n ∷ [] → is_named_in m o ≡ true → is_named_in m (Some names) ≡ true
-named_more m n None names e h = absurd (false≢true h)
-named_more m n (Some old) names e h = ap (list_any (same_name m)) e ∙ in_both m old.items (n ∷ []) h
+numbered_more : (k j : ℕ) (o : Option (Vec ℕ)) (numbers : Vec ℕ) → numbers.items ≡ numbers_or_none o ++ j ∷ [] → is_numbered_in k o ≡ true → is_numbered_in k (Some numbers) ≡ true
+numbered_more k j None numbers e h = absurd (false≢true h)
+numbered_more k j (Some old) numbers e h = ap (has_number k) e ∙ in_both k old.items (j ∷ []) h
 
-pub noted_more : (old mid new : Schedule) (f : FutureName) (n : Name) (o : Option (Vec Name)) (names : Vec Name) → o ≡ trees.get_by (future_order f) old.awaiting → trees.UpdatesBy future_order (future_order f) old.awaiting mid.awaiting None → trees.Updates future_order mid.awaiting new.awaiting f (Some names) → names.items ≡ names_or_none o ++ n ∷ [] → new ≡ record old { awaiting = new.awaiting } → IsNoted old (future_shape f) n new
-noted_more old mid new f n o names was out put is same = record {
-  here = ap (is_named_in n) put.1 ∙ ap (list_any (same_name n)) is ∙ in_end n (names_or_none o);
-  noted = λ g m h. ⊎_elim
-      (λ e. let here : trees.get_by (future_order (named g)) new.awaiting ≡ Some names = ap (λ k. trees.get_by (future_order k) new.awaiting) (sym e) ∙ put.1 in
-      ap (is_named_in m) here ∙ named_more m n o names is (ap (is_named_in m) (was ∙ ap (λ k. trees.get_by (future_order k) old.awaiting) e) ∙ h))
-      (λ e. ap (is_named_in m) (put.2 (named g) e ∙ out.2 (named g) e) ∙ h)
-      (key_case f (named g));
-  ready = ap (λ (s : Schedule). s.ready) same;
-  watches = ap watches_in same;
-}
-
--- Who is woken
-
-pub apart_at : (n m : Name) → m ≢ n → is_at (name_cmp n) m ≡ false
-apart_at n m d = tied n m d
-
-same_at : (n m : Name) → name_cmp n m ≡ Equal → n ≡ m
-same_at n m e = same_name_same n m (ap is_eq e)
-
--- a server is taken out, and is ready
-pub woken_server : (old new : Schedule) (t : BTreeMap Name (List Text)) (n server : Name) → trees.UpdatesBy name_cmp (name_cmp n) old.serving t None → name_cmp n server ≡ Equal → IsMoreReady (record old { serving = t }) None new → ready_in new server ≡ true → IsMoreReady old None new × (ready_in new n ≡ true)
-woken_server old new t n server u e more woken =
-    let here : ready_in new n ≡ true = ap (ready_in new) (same_at n server e) ∙ woken in (
-      record {
-        ready = more.ready;
-        noted = more.noted;
-        asks = λ m l not h. ⊎_elim
-            (λ q. absurd (true_false (ready_in new m) (ap (ready_in new) q ∙ here) not))
-            (λ d. more.asks m l not (ap (is_asked l) (u.2 m (apart_at n m d)) ∙ h))
-            (name_case m n);
-        sends = more.sends;
-      },
-      here,
-    )
-
--- nobody was noted there
-pub kept_server : (old : Schedule) (t : BTreeMap Name (List Text)) (n : Name) → trees.UpdatesBy name_cmp (name_cmp n) old.serving t None → trees.get_by (name_cmp n) old.serving ≡ None → IsMoreReady old None (record old { serving = t })
-kept_server old t n u none = record {
-  ready = λ m h. h;
-  noted = λ g m d. refl;
-  asks = λ m l not h. ⊎_elim
-      (λ q. absurd (false≢true (sym (ap (λ (k : Name). asks_in old k l) q ∙ ap (is_asked l) none) ∙ h)))
-      (λ d. ap (is_asked l) (u.2 m (apart_at n m d)) ∙ h)
-      (name_case m n);
-  sends = λ m k not h. h;
-}
-
--- a sender is taken out, and is ready
-pub woken_sender : (old new : Schedule) (t : BTreeMap Name Name) (n sender : Name) → trees.UpdatesBy name_cmp (name_cmp n) old.held t None → name_cmp n sender ≡ Equal → IsMoreReady (record old { held = t }) None new → ready_in new sender ≡ true → IsMoreReady old None new × (ready_in new n ≡ true)
-woken_sender old new t n sender u e more woken =
-    let here : ready_in new n ≡ true = ap (ready_in new) (same_at n sender e) ∙ woken in (
-      record {
-        ready = more.ready;
-        noted = more.noted;
-        asks = more.asks;
-        sends = λ m k not h. ⊎_elim
-            (λ q. absurd (true_false (ready_in new m) (ap (ready_in new) q ∙ here) not))
-            (λ d. more.sends m k not (ap (is_target k) (u.2 m (apart_at n m d)) ∙ h))
-            (name_case m n);
-      },
-      here,
-    )
-
-pub kept_sender : (old : Schedule) (t : BTreeMap Name Name) (n : Name) → trees.UpdatesBy name_cmp (name_cmp n) old.held t None → trees.get_by (name_cmp n) old.held ≡ None → IsMoreReady old None (record old { held = t })
-kept_sender old t n u none = record {
-  ready = λ m h. h;
-  noted = λ g m d. refl;
-  asks = λ m l not h. h;
-  sends = λ m k not h. ⊎_elim
-      (λ q. absurd (false≢true (sym (ap (λ (j : Name). sends_in old j k) q ∙ ap (is_target k) none) ∙ h)))
-      (λ d. ap (is_target k) (u.2 m (apart_at n m d)) ∙ h)
-      (name_case m n);
+pub noted_more : (ns : List Name) (old mid new : Schedule) (f : FutureName) (n : Name) (k : ℕ) (o : Option (Vec ℕ)) (numbers : Vec ℕ) → number_of n ns ≡ Some k → o ≡ trees.get_by (future_order f) old.awaiting → trees.UpdatesBy future_order (future_order f) old.awaiting mid.awaiting None → trees.Updates future_order mid.awaiting new.awaiting f (Some numbers) → numbers.items ≡ numbers_or_none o ++ k ∷ [] → new ≡ record old { awaiting = new.awaiting }
+    → IsNoted (seen ns old) (future_shape f) n (seen ns new)
+noted_more ns old mid new f n k o numbers has was out put is same = record {
+  here = told_at (number_of n ns) k (noted_at new.awaiting.entries (future_shape f)) has ∙ ap (is_numbered_in k) put.1 ∙ ap (has_number k) is ∙ in_end k (numbers_or_none o);
+  noted = λ g m. lifted (number_of m ns) (noted_at old.awaiting.entries g) (noted_at new.awaiting.entries g) (λ j h. ⊎_elim
+      (λ e. let here : trees.get_by (future_order (named g)) new.awaiting ≡ Some numbers = ap (λ q. trees.get_by (future_order q) new.awaiting) (sym e) ∙ put.1 in
+      ap (is_numbered_in j) here ∙ numbered_more j k o numbers is (ap (is_numbered_in j) (was ∙ ap (λ q. trees.get_by (future_order q) old.awaiting) e) ∙ h))
+      (λ e. ap (is_numbered_in j) (put.2 (named g) e ∙ out.2 (named g) e) ∙ h)
+      (key_case f (named g)));
+  ready = ap (λ s. ready_in (seen ns s)) same;
+  watches = ap (λ s. watches_in (seen ns s)) same;
 }
 
 -- What one waits for is noted
 
-pub serves_now : (old : Schedule) (t : BTreeMap Name (List Text)) (n : Name) (labels : List Text) → trees.Updates name_cmp old.serving t n (Some labels) → IsWatching old n (record old { serving = t })
-serves_now old t n labels u = record {
-  ready = refl;
-  noted = refl;
-  asks = λ m l d. ap (is_asked l) (u.2 m (apart_at n m d));
-  sends = λ m k d. refl;
+-- what one waits for is written, where places for that were added before
+pub watch_to : (s mid t : Schedule) (k : ℕ) (w : Watch) → HasPlace s k mid → t ≡ record mid { watches = t.watches } → t.watches.items ≡ slice_set mid.watches.items k w → IsWatch s k w t
+watch_to s mid t k w h now e = record {
+  same = now ∙ ap (λ (r : Schedule). record r { watches = t.watches }) h.same;
+  here = ap (λ ws. slice_get ws k) e ∙ set_here mid.watches.items k w h.place;
+  asks = λ j l d. ap (λ ws. asks_at ws j l) e ∙ ap (is_asked l) (set_other mid.watches.items j k w d) ∙ h.asks j l;
+  sends = λ j o d. ap (λ ws. sends_at ws j o) e ∙ ap (is_held o) (set_other mid.watches.items j k w d) ∙ h.sends j o;
 }
 
-pub holds_now : (old : Schedule) (t : BTreeMap Name Name) (n to : Name) → trees.Updates name_cmp old.held t n (Some to) → IsWatching old n (record old { held = t })
-holds_now old t n to u = record {
-  ready = refl;
-  noted = refl;
-  asks = λ m l d. refl;
-  sends = λ m k d. ap (is_target k) (u.2 m (apart_at n m d));
+pub watching : (ns : List Name) (old new : Schedule) (n : Name) (k : ℕ) (w : Watch) → number_of n ns ≡ Some k → IsWatch old k w new → IsWatching (seen ns old) n (seen ns new)
+watching ns old new n k w has h = record {
+  ready = ap (λ s. ready_in (seen ns s)) h.same;
+  noted = ap (λ s. noted_in (seen ns s)) h.same;
+  asks = λ m l d. elsewhere ns n m k (λ j. asks_at new.watches.items j l) (λ j. asks_at old.watches.items j l) has d (λ j e. h.asks j l e);
+  sends = λ m q d. elsewhere ns n m k (λ j. sends_at new.watches.items j (number_of q ns)) (λ j. sends_at old.watches.items j (number_of q ns)) has d (λ j e. h.sends j (number_of q ns) e);
 }
 
-pub to_itself : (to : Name) → is_target to (Some to) ≡ true
-to_itself to = ap is_eq (tied_itself nat_list_cmp_total to)
+pub watch_ready : (old new : Schedule) (k : ℕ) (w : Watch) → IsWatch old k w new → new.ready ≡ old.ready
+watch_ready old new k w h = ap (λ (s : Schedule). s.ready) h.same
+
+pub serves_now : (ns : List Name) (old new : Schedule) (n : Name) (k : ℕ) (labels : List Text) (l : Text) → number_of n ns ≡ Some k → IsWatch old k (watch.Asks labels) new → asks_in (seen ns new) n l ≡ has_text l labels
+serves_now ns old new n k labels l has h = told_at (number_of n ns) k (λ j. asks_at new.watches.items j l) has ∙ ap (is_asked l) h.here
+
+pub holds_now : (ns : List Name) (old new : Schedule) (n m : Name) (k to : ℕ) → number_of n ns ≡ Some k → number_of m ns ≡ Some to → IsWatch old k (watch.Holds to) new → sends_in (seen ns new) n m ≡ true
+holds_now ns old new n m k to has target h =
+    told_at (number_of n ns) k (λ j. sends_at new.watches.items j (number_of m ns)) has
+    ∙ ap (is_held (number_of m ns)) h.here
+    ∙ ap (λ o. is_held o (Some (watch.Holds to))) target
+    ∙ same_number to
+
+-- who is noted no more is ready
+pub woken_watch : (ns : List Name) (old mid new : Schedule) (k : ℕ) (w : Watch) → IsWatch old k w mid → IsMoreReady (seen ns mid) None (seen ns new) → ((n : Name) → number_of n ns ≡ Some k → ready_in (seen ns new) n ≡ true) → IsMoreReady (seen ns old) None (seen ns new)
+woken_watch ns old mid new k w h more woken = record {
+  ready = λ m r. more.ready m (ap (λ s. ready_in (seen ns s) m) h.same ∙ r);
+  noted = λ g m d r. more.noted g m d (ap (λ s. noted_in (seen ns s) g m) h.same ∙ r);
+  asks = λ m l not r. more.asks m l not (at_others m not (λ j. asks_at old.watches.items j l) (λ j. asks_at mid.watches.items j l) (λ j d. h.asks j l d) r);
+  sends = λ m q not r. more.sends m q not (at_others m not (λ j. sends_at old.watches.items j (number_of q ns)) (λ j. sends_at mid.watches.items j (number_of q ns)) (λ j d. h.sends j (number_of q ns) d) r);
+}
+  where
+    at_others : (m : Name) → ready_in (seen ns new) m ≡ false → (f g : ℕ → Bool) → ((j : ℕ) → j ≢ k → g j ≡ f j) → if_number (number_of m ns) f ≡ true → if_number (number_of m ns) g ≡ true
+    at_others m not f g same r =
+        let x = has_told (number_of m ns) f r in
+        ⊎_elim
+        (λ e. absurd (true_false (ready_in (seen ns new) m) (woken m (x.1 ∙ ap Some e)) not))
+        (λ d. told_at (number_of m ns) x.0 g x.1 ∙ same x.0 d ∙ x.2)
+        (number_case x.0 k)
 
 -- All who are named
 
-pub still_named : (m n : Name) (all left : List Name) → all ≡ left ++ n ∷ [] → list_any (same_name m) all ≡ true → (list_any (same_name m) left ≡ true) ⊎ (m ≡ n)
-still_named m n all left e h = by (list_any (same_name m) left) (same_name m n) refl refl (sym (list_any-append (same_name m) left (n ∷ [])) ∙ ap (list_any (same_name m)) (sym e) ∙ h)
+pub still_numbered : (k j : ℕ) (all left : List ℕ) → all ≡ left ++ j ∷ [] → has_number k all ≡ true → (has_number k left ≡ true) ⊎ (k ≡ j)
+still_numbered k j all left e h = by (has_number k left) (k == j) refl refl (sym (list_any-append (λ i. k == i) left (j ∷ [])) ∙ ap (has_number k) (sym e) ∙ h)
   where
-    by : (a b : Bool) → list_any (same_name m) left ≡ a → same_name m n ≡ b → (list_any (same_name m) left || (same_name m n || false)) ≡ true → (list_any (same_name m) left ≡ true) ⊎ (m ≡ n)
+    by : (a b : Bool) → has_number k left ≡ a → (k == j) ≡ b → (has_number k left || ((k == j) || false)) ≡ true → (has_number k left ≡ true) ⊎ (k ≡ j)
     by true b p q r = inl p
-    by false true p q r = inr (same_name_same m n q)
+    by false true p q r = inr (is_same k j q)
     by false false p q r = absurd (false≢true (sym (λ i. p i || (q i || false)) ∙ r))

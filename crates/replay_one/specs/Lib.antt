@@ -1,4 +1,5 @@
 -- in reading order
+pub mod Roster
 pub mod Bounds
 pub mod Population
 pub mod Schedule

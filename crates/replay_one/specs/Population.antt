@@ -1,57 +1,108 @@
 -- The configuration that a population of activities stands for.
-use Rattle.std.specs.Prelude.{◌≡◌, ◌≢◌, ◌⊎◌, ◌≤◌, ◌-◌, ℕ, List, [], Option, Some, None}
-use Rattle.std.specs.FinMap.{put}
+use Rattle.std.specs.Prelude.{◌≡◌, ◌≢◌, ◌⊎◌, ◌<◌, ◌≤◌, ◌-◌, ℕ, List, [], Option, Some, None, length, slice_get}
+use Rattle.std.specs.FinMap.{find, put}
+use Rattle.std.specs.Global.{Box}
 use Rattle.std.specs.Map.{lookup}
+use Rattle.std.specs.Option.{option_map}
+use Rattle.std.specs.Ordering.{nat_cmp}
 use Rattle.std.specs.BTreeMap.{is_at}
 use Rattle.asp_model.specs.Names.{Name, FutureShape, name_cmp, future_cmp}
 use Rattle.asp_model.specs.Term.{Tree, locations}
 use Rattle.asp_model.specs.Parcel.{ParcelShape}
 use Rattle.asp_model.specs.Chase.{chase}
 use Rattle.asp_model.specs.Configuration as model
-use Rattle.asp_model.specs.Configuration.{Configuration, From, Poll, RequestShape}
+use Rattle.asp_model.specs.Configuration.{Configuration, From, Poll, RequestShape, log_of, requests_of}
 use Rattle.asp_model.specs.Intent.{Effect, Acts}
 use Rattle.asp_model.specs.Step.{intent_in, with_last}
 use Rattle.code_table.specs.declared.code.Node.{Node}
 use Rattle.code_table.specs.Pieces.{tree}
 use Rattle.code_table.specs.Sound.{root_of}
 use Rattle.code_table.specs.Tables.{piece_at, pieces}
+use Rattle.def_journals.specs.Journals.{number_of}
+use Rattle.future_table.specs.Values.{AreOfCode, values_of}
 use Rattle.law_steps.specs.Reached.{IsReached, IsAt}
 use Rattle.activity_step.specs.Local.{LocalRun}
 use Rattle.step_activity.specs.declared.actor.Actor.{Actor}
 use Rattle.step_activity.specs.declared.act.Given.{Given}
 use Rattle.step_activity.specs.declared.act.Given.TheVariants as given
+use Rattle.step_activity.specs.Actors.{code_of, log_in}
 use Rattle.step_activity.specs.Effects.{IsGiven, IsGivenOf}
 use Rattle.step_activity.specs.Passing.{HasPassed}
-use Rattle.step_ends.specs.Activities.{RunCode, StandFor, StandForReached, StandForSome, actor_at}
+use Rattle.step_ends.specs.Activities.{StandsAt, actor_at}
 use Rattle.replay_one.specs.declared.population.Population.{Population}
+use Rattle.replay_one.specs.Roster.{IsRoster}
 
 -- the term that the last node of a table stands for
 abbrev pub term_of : List Node → Tree
 term_of k = tree [] (piece_at (pieces k) (root_of k))
 
+abbrev pub unboxed : Option (Box Actor) → Option Actor
+unboxed = option_map (λ b. b.value)
+
+abbrev pub seated : Option (Option (Box Actor)) → Option Actor
+seated None = None
+seated (Some o) = unboxed o
+
+-- who has a number
+abbrev pub seat_at : List (Option (Box Actor)) → ℕ → Option Actor
+seat_at xs k = seated (slice_get xs k)
+
+-- what a number has, where the name has one
+abbrev pub at_number : {X : Type 0} → Option ℕ → (ℕ → Option X) → Option X
+at_number None f = None
+at_number (Some k) f = f k
+
 abbrev pub found_in : Population → Name → Option Actor
-found_in p = actor_at p.activities.entries
+found_in p n = at_number (number_of n p.roster) (seat_at p.activities.items)
+
+-- a name has this number
+abbrev pub IsKnown : Population → ℕ → Type 0
+IsKnown p k = (n : Name) × (number_of n p.roster ≡ Some k)
+
+-- there is a seat for the one with this number, and nothing else changes
+pub record HasSeat (old : Population) (k : ℕ) (new : Population) : Type 0 where
+  pub same : new ≡ record old { activities = new.activities }
+  pub seat : k < length new.activities.items
+  pub seats : (j : ℕ) → seat_at new.activities.items j ≡ seat_at old.activities.items j
+
+-- who stands under a number changes, and nothing else
+pub record IsSet (old : Population) (k : ℕ) (o : Option Actor) (new : Population) : Type 0 where
+  pub same : new ≡ record old { activities = new.activities }
+  pub here : seat_at new.activities.items k ≡ o
+  pub others : (j : ℕ) → j ≢ k → seat_at new.activities.items j ≡ seat_at old.activities.items j
 
 -- all activities run this code
 abbrev pub AreActorsOf : List Node → Population → Type 0
-AreActorsOf k p = RunCode k p.activities.entries
+AreActorsOf k p = (n : Name) (x : Actor) → found_in p n ≡ Some x → code_of x ≡ k
 
 -- the population stands for the configuration, and its activities and values are of one code
-abbrev pub IsPopulation : Population → Configuration → Type 0
-IsPopulation p c = StandFor p.activities.entries p.futures c
+pub record IsPopulation (p : Population) (c : Configuration) : Type 0 where
+  pub roster : IsRoster p.roster
+  pub activities : (n : Name) → StandsAt (found_in p n) (find name_cmp n c.activities) (requests_of c n)
+  pub logs : (n : Name) (x : Actor) → found_in p n ≡ Some x → log_in x ≡ log_of c n
+  pub futures : values_of p.futures ≡ c.futures
+  pub code : List Node
+  pub actors : AreActorsOf code p
+  pub values : AreOfCode code p.futures
 
 -- and that is reached by a program without places
-abbrev pub IsReachedPopulation : Population → Tree → Configuration → Type 0
-IsReachedPopulation p program c = StandForReached p.activities.entries p.futures program c
+pub record IsReachedPopulation (p : Population) (program : Tree) (c : Configuration) : Type 0 where
+  pub bare : locations program ≡ []
+  pub reached : IsReached program c
+  pub population : IsPopulation p c
 
 abbrev pub IsReachedBySome : Population → Type 0
-IsReachedBySome p = StandForSome p.activities.entries p.futures
+IsReachedBySome p = (program : Tree) × (c : Configuration) × IsReachedPopulation p program c
+
+-- the activities by their names
+abbrev pub AreNamed : Population → List (Name × Box Actor) → Type 0
+AreNamed p xs = (n : Name) → actor_at xs n ≡ found_in p n
 
 -- Members that are passed
 
 -- how many members of a group one who waits for them has passed, where that is noted
 abbrev pub passed_in : Population → Name → Option ℕ
-passed_in p n = lookup (is_at (name_cmp n)) p.passed.entries
+passed_in p n = at_number (number_of n p.roster) (λ k. lookup (is_at (nat_cmp k)) p.passed.entries)
 
 -- who is noted is there, and has passed so many
 abbrev pub ArePassed : Population → Configuration → Type 0
@@ -61,8 +112,13 @@ ArePassed p c = (n : Name) (k : ℕ) → passed_in p n ≡ Some k → (a : model
 abbrev pub HasPassedIn : Configuration → Name → ℕ → Type 0
 HasPassedIn c n k = (a : model.Activity) → IsAt c n a → HasPassed (chase c.futures) a k
 
-abbrev pub HasPassedBySome : Population → Name → ℕ → Type 0
-HasPassedBySome p n k = (c : Configuration) × IsPopulation p c × HasPassedIn c n k
+-- the one with this number has
+abbrev pub HasPassedBySome : Population → ℕ → ℕ → Type 0
+HasPassedBySome p number k = (n : Name) × (number_of n p.roster ≡ Some number) × (c : Configuration) × IsPopulation p c × HasPassedIn c n k
+
+-- what is noted was noted before
+abbrev pub KeepsPassed : Population → Population → Type 0
+KeepsPassed old new = (m : Name) (j : ℕ) → passed_in new m ≡ Some j → passed_in old m ≡ Some j
 
 -- what is noted was noted before, or is this; and nothing else changes
 pub record IsPassing (old : Population) (n : Name) (k : ℕ) (new : Population) : Type 0 where
@@ -125,5 +181,6 @@ pub record IsGiving (p : Population) (n : Name) (g : Given) (program : Tree) (c 
   pub given : IsGiven n e g
   pub here : IsGivenIn p (with_poll n g (with_activity n e.own c)) g
 
-abbrev pub IsGivingSome : Population → Name → Given → Type 0
-IsGivingSome p n g = (program : Tree) × (c : Configuration) × (e : Effect) × IsGiving p n g program c e
+-- so has the one with this number
+abbrev pub IsGivingSome : Population → ℕ → Given → Type 0
+IsGivingSome p number g = (n : Name) × (number_of n p.roster ≡ Some number) × (program : Tree) × (c : Configuration) × (e : Effect) × IsGiving p n g program c e

@@ -1,5 +1,5 @@
 -- What a round of the machine leads to.
-use Rattle.std.specs.Prelude.{◌≡◌, ◌<◌, ◌≤◌, ◌+◌, ℕ, Bool, true, false, Option, Some, None, [], length}
+use Rattle.std.specs.Prelude.{◌≡◌, ◌<◌, ◌≤◌, ◌+◌, ℕ, Bool, true, false, List, Option, Some, None, [], length}
 use Rattle.asp_model.specs.Names.{Name, FutureShape, Text}
 use Rattle.asp_model.specs.Term.{Tree, locations}
 use Rattle.asp_model.specs.Configuration as model
@@ -9,19 +9,20 @@ use Rattle.asp_model.specs.Step.{ListsShape, intent_in, step, with_effect}
 use Rattle.asp_model.specs.Status.{status_of}
 use Rattle.asp_model.specs.Replay.{least_step, steps_from}
 use Rattle.asp_model.specs.Shapes.{future_shape}
+use Rattle.def_journals.specs.Journals.{number_of}
 use Rattle.law_steps.specs.Reached.{IsReached, IsAt}
 use Rattle.law_schedules.specs.Schedules.{IsFilledBy, IsLoggedTo, IsNextIn, IsScheduled, RestsIn, WaitsFor}
 use Rattle.law_schedules.specs.Watches.{IsWatched}
 use Rattle.replay_one.specs.declared.bounds.Bounds.{Bounds}
-use Rattle.replay_one.specs.declared.schedule.Schedule.{Schedule}
-use Rattle.replay_one.specs.declared.round.Look.{Look}
-use Rattle.replay_one.specs.declared.round.Look.TheVariants as look
+use Rattle.replay_one.specs.declared.population.Population.{Population}
+use Rattle.replay_one.specs.declared.looks.Look.{Look}
+use Rattle.replay_one.specs.declared.looks.Look.TheVariants as look
 use Rattle.replay_one.specs.declared.round.Round.{Round}
 use Rattle.replay_one.specs.declared.round.Round.TheVariants as round
 use Rattle.replay_one.specs.declared.round.Machine.{Machine}
-use Rattle.replay_one.specs.Bounds.{count_within, lists_within}
+use Rattle.replay_one.specs.Bounds.{IsNumbered, count_within, lists_within}
 use Rattle.replay_one.specs.Population.{ArePassed, IsPopulation, passed_in}
-use Rattle.replay_one.specs.Schedule.{IsTaken, asks_in, noted_in, ready_in, sends_in, watches_in}
+use Rattle.replay_one.specs.Schedule.{IsTaken, Seen, asks_in, noted_in, ready_in, seen, sends_in, watches_in}
 
 -- an activity is below its count, and this is its step
 pub record CanStep (lists : Option ListsShape) (count : Name → ℕ) (c : Configuration) (n : Name) : Type 0 where
@@ -44,53 +45,66 @@ pub record Leaves (lists : Option ListsShape) (count : Name → ℕ) (c : Config
   pub serves : (a : model.Activity) → IsAt c n a → a.reductions < count n → status_of c n ≡ Serving → ⊥
   pub sends : (a : model.Activity) (to : Name) → IsAt c n a → a.reductions < count n → LogsTo c n to → ⊥
 
-abbrev pub IsLook : Option ListsShape → (Name → ℕ) → Configuration → Name → Look → Type 0
-IsLook lists count c n look.Leaves = Leaves lists count c n
-IsLook lists count c n (look.Awaits f) = RestsIn lists count c n × (status_of c n ≡ Awaits (future_shape f.now))
-IsLook lists count c n look.Serves = RestsIn lists count c n × (status_of c n ≡ Serving)
-IsLook lists count c n (look.Holds to) = RestsIn lists count c n × LogsTo c n to.now
-IsLook lists count c n look.Steps = CanStep lists count c n
+-- at the log of the one with this number
+abbrev pub LogsAt : Configuration → List Name → Name → ℕ → Type 0
+LogsAt c ns n k = (to : Name) × (number_of to ns ≡ Some k) × LogsTo c n to
 
--- in its turn it steps, and else it is held at the log of this activity
-abbrev pub IsTurn : Bool → Name → Look → Type 0
+abbrev pub IsLook : Option ListsShape → (Name → ℕ) → Configuration → List Name → Name → Look → Type 0
+IsLook lists count c ns n look.Leaves = Leaves lists count c n
+IsLook lists count c ns n (look.Awaits f) = RestsIn lists count c n × (status_of c n ≡ Awaits (future_shape f.now))
+IsLook lists count c ns n look.Serves = RestsIn lists count c n × (status_of c n ≡ Serving)
+IsLook lists count c ns n (look.Holds k) = RestsIn lists count c n × LogsAt c ns n k
+IsLook lists count c ns n look.Steps = CanStep lists count c n
+
+-- in its turn it steps, and else it is held at the log of the one with this number
+abbrev pub IsTurn : Bool → ℕ → Look → Type 0
 IsTurn true to look.Steps = Unit {0}
-IsTurn false to (look.Holds x) = x.now ≡ to
+IsTurn false to (look.Holds k) = k ≡ to
 IsTurn b to l = ⊥
 
 -- whom the effect is for, apart from its stepper, is ready, and who is not ready waits for what it did
-pub record IsHandedOn (lists : Option ListsShape) (c : Configuration) (n : Name) (e : Effect) (old new : Schedule) : Type 0 where
+pub record IsHandedOn (lists : Option ListsShape) (c : Configuration) (n : Name) (e : Effect) (old new : Seen) : Type 0 where
   pub made : (m : Name) (b : model.Activity) → e.made ≡ Some (m, b) → ready_in new m ≡ true
   pub target : (m : Name) (r : RequestShape) → e.sent ≡ Some (m, r) → asks_in old m r.label ≡ true → ready_in new m ≡ true
   pub next : (m q : Name) → IsLoggedTo e m → IsNextIn lists (with_effect n e c) m q → sends_in old q m ≡ true → ready_in new q ≡ true
   pub filled : (f : FutureShape) (q : Name) → IsFilledBy e f → noted_in old f q ≡ true → ready_in new q ≡ true
   pub ready : (m : Name) → ready_in old m ≡ true → ready_in new m ≡ true
-  pub noted : (f : FutureShape) (m : Name) → (IsFilledBy e f → ⊥) → noted_in new f m ≡ noted_in old f m
+  pub noted : (f : FutureShape) (m : Name) → (IsFilledBy e f → ⊥) → noted_in old f m ≡ true → noted_in new f m ≡ true
   pub asks : (m : Name) (l : Text) → ready_in new m ≡ false → asks_in old m l ≡ true → asks_in new m l ≡ true
   pub sends : (m k : Name) → ready_in new m ≡ false → sends_in old m k ≡ true → sends_in new m k ≡ true
 
--- the machine stands for a configuration that the program reaches, and who is not ready rests, noted by
--- what it waits for
-pub record IsRunAt (b : Bounds) (m : Machine) (program : Tree) (c : Configuration) : Type 0 where
+abbrev pub seen_in : Machine → Seen
+seen_in m = seen m.population.roster m.schedule
+
+-- the population stands for a configuration that the program reaches, and who is not ready rests, noted
+-- by what it waits for
+pub record IsRunWith (b : Bounds) (p : Population) (s : Seen) (program : Tree) (c : Configuration) : Type 0 where
   pub bare : locations program ≡ []
   pub reached : IsReached program c
-  pub population : IsPopulation m.population c
-  pub scheduled : IsScheduled (lists_within b) (count_within b) c (ready_in m.schedule) (noted_in m.schedule)
-  pub watched : IsWatched (watches_in m.schedule) (count_within b) c (ready_in m.schedule)
-  pub passed : ArePassed m.population c
+  pub population : IsPopulation p c
+  pub numbered : IsNumbered b p.roster
+  pub scheduled : IsScheduled (lists_within b) (count_within b) c (ready_in s) (noted_in s)
+  pub watched : IsWatched (watches_in s) (count_within b) c (ready_in s)
+  pub passed : ArePassed p c
+
+abbrev pub IsRunAt : Bounds → Machine → Tree → Configuration → Type 0
+IsRunAt b m program c = IsRunWith b m.population (seen_in m) program c
 
 abbrev pub IsRunSomewhere : Bounds → Machine → Type 0
 IsRunSomewhere b m = (program : Tree) × (c : Configuration) × IsRunAt b m program c
 
 -- the machine runs, but for the least of those ready, who was taken out of them
 pub record IsRunBut (b : Bounds) (m : Machine) (n : Name) (program : Tree) (c : Configuration) : Type 0 where
-  pub before : Schedule
-  pub run : IsRunAt b (record { population = m.population; schedule = before }) program c
-  pub taken : IsTaken before n m.schedule
+  pub before : Seen
+  pub run : IsRunWith b m.population before program c
+  pub taken : IsTaken before n (seen_in m)
   -- of the members that it passed nothing is noted
   pub forgotten : passed_in m.population n ≡ None
 
-abbrev pub IsRunButSomewhere : Bounds → Machine → Name → Type 0
-IsRunButSomewhere b m n = (program : Tree) × (c : Configuration) × IsRunBut b m n program c
+-- this number is that one's
+abbrev pub IsRunButSomewhere : Bounds → Machine → ℕ → Type 0
+IsRunButSomewhere b m k = (n : Name) × (number_of n m.population.roster ≡ Some k)
+    × (program : Tree) × (c : Configuration) × IsRunBut b m n program c
 
 -- the least-named step
 abbrev pub next_by : Bounds → Configuration → Option Configuration

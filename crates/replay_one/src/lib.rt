@@ -6,9 +6,11 @@
 mod bounds;
 mod difference;
 mod listed;
+mod looks;
 mod population;
 mod receptions;
 mod replays;
+mod roster;
 mod round;
 mod run;
 mod schedule;

@@ -1,71 +1,33 @@
 //! A round: the least of those who are ready takes reductions, or leaves them.
 
-ghost use Rattle.std.specs.Prelude.{◌≡◌, ◌<◌, true, IfOk, None, OnOk, length};
+ghost use Rattle.std.specs.Prelude.{◌≡◌, ◌<◌, true, IfOk, None, OnOk, Some, length};
 ghost use Rattle.std.specs.Arc.{arc_value};
 ghost use Rattle.asp_model.specs.Names.{Name, main_name};
 ghost use Rattle.asp_model.specs.Term.{Tree};
-ghost use Rattle.asp_model.specs.Configuration.{Configuration, From, Poll, log_of, start as start_of};
+ghost use Rattle.asp_model.specs.Configuration.{Configuration, start as start_of};
 ghost use Rattle.asp_model.specs.Intent.{Effect};
-ghost use Rattle.asp_model.specs.Step.{is_next, with_effect};
+ghost use Rattle.asp_model.specs.Step.{with_effect};
+ghost use Rattle.def_journals.specs.Journals.{number_of};
 ghost use Rattle.law_steps.specs.Reached.{IsThere};
-ghost use Rattle.law_schedules.specs.Schedules.{IsNextIn};
-ghost use Rattle.replay_one.specs.Bounds.{IsAscending, IsNextAt, count_within, lists_within};
-ghost use Rattle.replay_one.specs.Population.{
-  HasPassedBySome,
-  HasPassedIn,
-  IsGiving,
-  IsGivingSome,
-  IsPopulation,
-  IsReachedBySome,
-  IsReachedPopulation,
-  passed_in,
-  term_of,
-};
-ghost use Rattle.replay_one.specs.Schedule.{IsMoreReady, ready_in, sends_in};
-ghost use Rattle.replay_one.specs.Round.{
-  IsFewer,
-  IsHandedOn,
-  IsKept,
-  IsLook,
-  IsRound,
-  IsRunAt,
-  IsRunBut,
-  IsRunButSomewhere,
-  IsRunSomewhere,
-  IsStepped,
-  IsTried,
-  IsTurn,
-};
+ghost use Rattle.law_schedules.specs.Schedules.{IsNextIn, IsOf};
+ghost use Rattle.asp_model.specs.Shapes.{reception_shape};
+ghost use Rattle.replay_one.specs.Roster.{Leads};
+ghost use Rattle.replay_one.specs.Bounds.{IsAscending, IsNumbered, lists_within};
+ghost use Rattle.replay_one.specs.Population.{HasPassedBySome, IsGiving, IsGivingSome, IsPopulation, KeepsPassed, passed_in, term_of};
+ghost use Rattle.replay_one.specs.Schedule.{IsMoreReady, ready_in, seen, sends_in};
+ghost use Rattle.replay_one.specs.Round.{IsFewer, IsHandedOn, IsKept, IsRound, IsRunAt, IsRunBut, IsRunButSomewhere, IsRunSomewhere, IsStepped, IsTried, seen_in};
 
 use crate::bounds::{Bounds, Next};
+use crate::looks::{Look, look_at, next_in};
 use crate::population::Population;
-use crate::receptions::{is_from, is_poll, owner_of};
+use crate::receptions::owner_of;
+use crate::roster::Roster;
 use crate::schedule::Schedule;
-use asp_model::{ActivityName, FutureName};
+use asp_model::Reception;
 use code_table::Code;
 use std::alloc::{AllocError, Global};
 use std::sync::Arc;
-use step_activity::{Given, Outlook};
-
-/// What an activity that is ready does.
-#[derive(Clone, Copy)]
-pub enum Look<'a> {
-    /// It is not there, is at its count, or rests for good.
-    Leaves,
-    Awaits(&'a FutureName),
-    /// No pending request matches its `serve`.
-    Serves,
-    /// It is not next in the log of this activity: whom it sends to, or itself where it polls.
-    Holds(&'a ActivityName),
-    Steps,
-}
-
-/// What an activity does, and how many members of a group that it waits for have values.
-#[derive(Clone, Copy)]
-pub struct View<'a> {
-    pub look: Look<'a>,
-    pub passed: usize,
-}
+use step_activity::Given;
 
 /// What came of a round.
 #[derive(Clone, Copy)]
@@ -85,123 +47,6 @@ pub struct Machine {
     pub schedule: Schedule,
 }
 
-/// What the log of an activity may note next.
-fn next_in<'a>(population: &Population, bounds: &'a Bounds, to: &ActivityName) -> Next<'a>
-    requires ascending { IsAscending bounds.now }
-    ensures next { (c : Configuration) → IsPopulation population.now c → IsThere c to.now →
-        IsNextAt (lists_within bounds.now) to.now (length (log_of c to.now)) result }
-{
-    match bounds {
-        Bounds::Budget(_) => Next::Anything,
-        Bounds::Listed(_, _) => bounds.next(to, population.logged(to)),
-    }
-}
-
-/// Whether a request to an activity may come from this one now.
-fn may_come(
-    population: &Population,
-    bounds: &Bounds,
-    to: &ActivityName,
-    name: &ActivityName,
-) -> bool
-    requires ascending { IsAscending bounds.now }
-    ensures { (c : Configuration) → IsPopulation population.now c → IsThere c to.now →
-        result ≡ is_next (lists_within bounds.now) c to.now (From name.now) }
-{
-    match next_in(population, bounds, to) {
-        Next::Anything => true,
-        Next::Only(next) => is_from(next, name),
-        Next::Nothing => false,
-    }
-}
-
-/// Whether an activity may poll now.
-fn may_poll(population: &Population, bounds: &Bounds, name: &ActivityName) -> bool
-    requires ascending { IsAscending bounds.now }
-    ensures { (c : Configuration) → IsPopulation population.now c → IsThere c name.now →
-        result ≡ is_next (lists_within bounds.now) c name.now Poll }
-{
-    match next_in(population, bounds, name) {
-        Next::Anything => true,
-        Next::Only(next) => is_poll(next),
-        Next::Nothing => false,
-    }
-}
-
-/// Where it sends to this activity, or polls as this one, in its turn or out of turn.
-fn in_turn<'a>(may: bool, to: &'a ActivityName, passed: usize) -> View<'a>
-    ensures passed { result.passed ≡ passed }
-    ensures look { IsTurn may to.now result.look }
-{
-    let look = if may { Look::Steps } else { Look::Holds(to) };
-    View { look, passed }
-}
-
-/// What an activity does that stands before a redex that needs others, or is at its count.
-fn look_at<'a>(
-    alloc: Global,
-    population: &'a Population,
-    bounds: &Bounds,
-    name: &'a ActivityName,
-    passed: usize,
-) -> Result<View<'a>, AllocError>
-    requires ascending { IsAscending bounds.now }
-    requires reached { IsReachedBySome population.now }
-    requires passed { HasPassedBySome population.now name.now passed }
-    ensures look { (program : Tree) (c : Configuration) →
-        IsReachedPopulation population.now program c → IfOk result
-        (λ v. IsLook (lists_within bounds.now) (count_within bounds.now) c name.now v.look) }
-    ensures passed { (c : Configuration) → IsPopulation population.now c →
-        IfOk result (λ v. HasPassedIn c name.now v.passed) }
-{
-    let Some(actor) = population.get(name) else {
-        return Ok(unseen(Look::Leaves));
-    };
-    if actor.count() >= bounds.count(name) {
-        return Ok(unseen(Look::Leaves));
-    }
-    let seen = actor.outlook_from(alloc, &population.futures, passed)?;
-    let passed = seen.passed;
-    match seen.outlook {
-        Outlook::Steps => Ok(View {
-            look: Look::Steps,
-            passed,
-        }),
-        Outlook::Sends(to) => {
-            let may = may_come(population, bounds, to, name);
-            Ok(in_turn(may, to, passed))
-        }
-        Outlook::Polls => {
-            let may = may_poll(population, bounds, name);
-            Ok(in_turn(may, name, passed))
-        }
-        Outlook::Awaits(future) => Ok(View {
-            look: Look::Awaits(future),
-            passed,
-        }),
-        Outlook::Faulted(_) => Ok(View {
-            look: Look::Leaves,
-            passed,
-        }),
-        Outlook::Serving => Ok(View {
-            look: Look::Serves,
-            passed,
-        }),
-        Outlook::Done => Ok(View {
-            look: Look::Leaves,
-            passed,
-        }),
-    }
-}
-
-/// No member is known to have a value.
-fn unseen(look: Look) -> View
-    ensures look { result.look ≡ look.entry }
-    ensures passed { result.passed ≡ 0 }
-{
-    View { look, passed: 0 }
-}
-
 /// How many members one has passed after so many reductions, that had passed so many.
 fn passed_after(taken: u64, known: usize) -> usize
     ensures first { taken ≡ 0 → result ≡ known }
@@ -212,35 +57,66 @@ fn passed_after(taken: u64, known: usize) -> usize
 
 /// Who is next in the log of an activity is ready, if it is held there.
 fn wake_next(
+    alloc: Global,
     schedule: &mut Schedule,
     population: &Population,
     bounds: &Bounds,
-    to: &ActivityName,
+    to: u32,
 ) -> Result<(), AllocError>
     requires ascending { IsAscending bounds.now }
-    ensures more { OnOk result (IsMoreReady schedule.old None schedule.new) }
-    ensures next { (c : Configuration) (q : Name) →
-        IsPopulation population.now c → IsThere c to.now →
-        IsNextIn (lists_within bounds.now) c to.now q → sends_in schedule.old q to.now ≡ true →
-        OnOk result (ready_in schedule.new q ≡ true) }
+    requires numbered { IsNumbered bounds.now population.now.roster }
+    requires known { to < length population.now.roster }
+    ensures more { let ns = population.now.roster in
+        OnOk result (IsMoreReady (seen ns schedule.old) None (seen ns schedule.new)) }
+    ensures next { (c : Configuration) (n q : Name) → let ns = population.now.roster in
+        IsPopulation population.now c → number_of n ns ≡ Some to → IsThere c n →
+        IsNextIn (lists_within bounds.now) c n q → sends_in (seen ns schedule.old) q n ≡ true →
+        OnOk result (ready_in (seen ns schedule.new) q ≡ true) }
 {
     match next_in(population, bounds, to) {
-        Next::Only(next) => schedule.wake_sender(owner_of(next, to), to),
+        Next::Only(next) => wake_owner(alloc, schedule, &population.roster, next, to),
         Next::Anything | Next::Nothing => Ok(()),
+    }
+}
+
+/// Whose this reception is in the log of an activity is ready, if it is held there.
+fn wake_owner(
+    alloc: Global,
+    schedule: &mut Schedule,
+    roster: &Roster,
+    reception: &Reception,
+    to: u32,
+) -> Result<(), AllocError>
+    requires known { to < length roster.now }
+    ensures more { let ns = roster.now in
+        OnOk result (IsMoreReady (seen ns schedule.old) None (seen ns schedule.new)) }
+    ensures owner { (n q : Name) → let ns = roster.now in number_of n ns ≡ Some to →
+        IsOf q n (reception_shape reception.now) → sends_in (seen ns schedule.old) q n ≡ true →
+        OnOk result (ready_in (seen ns schedule.new) q ≡ true) }
+{
+    match roster.number(owner_of(reception, roster.name(to))) {
+        Some(number) => schedule.wake_sender(alloc, roster, number, to),
+        None => Ok(()),
     }
 }
 
 impl Machine {
     /// The main activity alone, with the program of this code as its term.
-    pub fn start(alloc: Global, code: Arc<Code>) -> Result<Machine, AllocError>
+    pub fn start(alloc: Global, bounds: &Bounds, code: Arc<Code>) -> Result<Machine, AllocError>
+        requires ascending { IsAscending bounds.now }
         ensures population { let first = start_of (term_of (arc_value code)) in
             IfOk result (λ m. IsPopulation m.population first) }
-        ensures ready { IfOk result (λ m. ready_in m.schedule main_name ≡ true) }
+        ensures numbered { IfOk result (λ m. IsNumbered bounds.now m.population.roster) }
+        ensures ready { IfOk result (λ m. ready_in (seen_in m) main_name ≡ true) }
         ensures passed { (n : Name) → IfOk result (λ m. passed_in m.population n ≡ None) }
     {
+        let roster = bounds.roster(alloc)?;
+        let (population, number) = Population::start(alloc, code, roster)?;
+        let mut schedule = Schedule::new(alloc);
+        schedule.wake(alloc, &population.roster, number)?;
         Ok(Machine {
-            population: Population::start(alloc, code)?,
-            schedule: Schedule::start(alloc)?,
+            population,
+            schedule,
         })
     }
 
@@ -249,36 +125,48 @@ impl Machine {
         &mut self,
         alloc: Global,
         bounds: &Bounds,
-        name: &ActivityName,
+        number: u32,
         given: Given,
     ) -> Result<(), AllocError>
         requires ascending { IsAscending bounds.now }
-        requires giving { IsGivingSome self.old.population name.now given }
-        ensures population { (program : Tree) (c : Configuration) (e : Effect) →
-            IsGiving self.old.population name.now given program c e →
-            OnOk result (IsPopulation self.new.population (with_effect name.now e c)) }
-        ensures handed_on { (program : Tree) (c : Configuration) (e : Effect) →
-            IsGiving self.old.population name.now given program c e →
+        requires numbered { IsNumbered bounds.now self.old.population.roster }
+        requires giving { IsGivingSome self.old.population number given }
+        ensures population { (program : Tree) (c : Configuration) (e : Effect) (n : Name) →
+            number_of n self.old.population.roster ≡ Some number →
+            IsGiving self.old.population n given program c e →
+            OnOk result (IsPopulation self.new.population (with_effect n e c)) }
+        ensures handed_on { (program : Tree) (c : Configuration) (e : Effect) (n : Name) →
+            number_of n self.old.population.roster ≡ Some number →
+            IsGiving self.old.population n given program c e →
             let lists = lists_within bounds.now in
-            OnOk result (IsHandedOn lists c name.now e self.old.schedule self.new.schedule) }
-        ensures passed { self.new.population.passed ≡ self.old.population.passed }
+            OnOk result (IsHandedOn lists c n e (seen_in self.old) (seen_in self.new)) }
+        ensures leads { OnOk result (Leads self.old.population.roster self.new.population.roster) }
+        ensures passed { OnOk result (KeepsPassed self.old.population self.new.population) }
     {
         match given {
             Given::Nothing => Ok(()),
             Given::Made(made, actor) => {
-                self.schedule.wake(made.copy(alloc)?)?;
-                self.population.insert(made, actor)
+                let made = self.population.insert(made, actor)?;
+                self.schedule.wake(alloc, &self.population.roster, made)
             }
-            Given::Sent(to, request) => {
-                self.schedule.wake_server(&to, &request.label)?;
-                self.population.send(alloc, &to, request)?;
-                wake_next(&mut self.schedule, &self.population, bounds, &to)
+            Given::Sent(name, request) => {
+                let Some(to) = self.population.roster.number(&name) else {
+                    unreachable!()
+                };
+                let roster = &self.population.roster;
+                self.schedule
+                    .wake_server(alloc, roster, to, &request.label)?;
+                self.population.send(alloc, to, request)?;
+                wake_next(alloc, &mut self.schedule, &self.population, bounds, to)
             }
             Given::Filled(future, value) => {
-                self.schedule.wake_noted(&future)?;
+                self.schedule
+                    .wake_noted(alloc, &self.population.roster, &future)?;
                 self.population.fill(future, value)
             }
-            Given::Polled => wake_next(&mut self.schedule, &self.population, bounds, name),
+            Given::Polled => {
+                wake_next(alloc, &mut self.schedule, &self.population, bounds, number)
+            }
         }
     }
 
@@ -288,42 +176,41 @@ impl Machine {
         &mut self,
         alloc: Global,
         bounds: &Bounds,
-        name: ActivityName,
+        number: u32,
         passed: usize,
     ) -> Result<bool, AllocError>
         requires ascending { IsAscending bounds.now }
-        requires running { IsRunButSomewhere bounds.now self.old name }
-        requires passed { HasPassedBySome self.old.population name passed }
-        ensures tried { (program : Tree) (c : Configuration) →
-            IsRunBut bounds.now self.old name program c →
+        requires running { IsRunButSomewhere bounds.now self.old number }
+        requires passed { HasPassedBySome self.old.population number passed }
+        ensures tried { (program : Tree) (c : Configuration) (n : Name) →
+            number_of n self.old.population.roster ≡ Some number →
+            IsRunBut bounds.now self.old n program c →
             IfOk result (λ b. IsTried bounds.now program c b self.new) }
         ensures kept { IfOk result (λ b. IsKept self.old b self.new) }
     {
-        let view = look_at(alloc, &self.population, bounds, &name, passed)?;
+        let view = look_at(alloc, &self.population, bounds, number, passed)?;
         let passed = view.passed;
         match view.look {
             Look::Leaves => Ok(false),
             Look::Awaits(future) => {
                 let future = future.copy(alloc)?;
-                let waiter = name.copy(alloc)?;
-                self.population.pass(waiter, passed)?;
-                self.schedule.note(alloc, future, name)?;
+                self.population.pass(number, passed)?;
+                self.schedule.note(alloc, future, number)?;
                 Ok(false)
             }
             Look::Serves => {
-                let wanted = self.population.wanted(alloc, &name)?;
-                self.schedule.serve(name, wanted)?;
+                let wanted = self.population.wanted(alloc, number)?;
+                self.schedule.serve(number, wanted)?;
                 Ok(false)
             }
             Look::Holds(to) => {
-                let to = to.copy(alloc)?;
-                self.schedule.hold(name, to)?;
+                self.schedule.hold(number, to)?;
                 Ok(false)
             }
             Look::Steps => {
-                let given = self.population.act(alloc, &name)?;
-                self.give(alloc, bounds, &name, given)?;
-                self.schedule.wake(name)?;
+                let given = self.population.act(alloc, number)?;
+                self.give(alloc, bounds, number, given)?;
+                self.schedule.wake(alloc, &self.population.roster, number)?;
                 Ok(true)
             }
         }
@@ -343,15 +230,18 @@ impl Machine {
         let Some(name) = self.schedule.take_least() else {
             return Ok(Round::Ends);
         };
-        let known = self.population.take_passed(&name);
-        let count = bounds.count(&name);
-        let taken = self.population.run(alloc, &name, most, count)?;
+        let Some(number) = self.population.roster.number(&name) else {
+            return Ok(Round::Leaves);
+        };
+        let known = self.population.take_passed(number);
+        let count = bounds.count(number);
+        let taken = self.population.run(alloc, number, most, count)?;
         if taken == most {
-            self.schedule.wake(name)?;
+            self.schedule.wake(alloc, &self.population.roster, number)?;
             return Ok(Round::Steps(taken));
         }
         let passed = passed_after(taken, known);
-        if self.try_step(alloc, bounds, name, passed)? {
+        if self.try_step(alloc, bounds, number, passed)? {
             return Ok(Round::Steps(taken + 1));
         }
         if taken > 0 {

@@ -14,7 +14,6 @@ ghost use Rattle.replay_one.specs.Population.{IsReachedPopulation};
 ghost use Rattle.replay_one.specs.Round.{IsRunAt, IsRunSomewhere};
 
 use crate::bounds::Bounds;
-use crate::population::Population;
 use crate::round::Machine;
 use asp_check::Checked;
 use code_compiler::compile;
@@ -60,14 +59,10 @@ pub fn run_within(
         IfOk result (λ r. outcome_shape r.outcome ≡ outcome_shown last) }
 {
     let code = Arc::new(alloc, compile(alloc, program)?)?;
-    let mut machine = Machine::start(alloc, code)?;
+    let mut machine = Machine::start(alloc, bounds, code)?;
     machine.run(alloc, bounds, total)?;
-    let Population {
-        activities,
-        futures,
-        passed: _,
-    } = machine.population;
-    run_end_of(alloc, activities, futures)
+    let activities = machine.population.take_all(alloc)?;
+    run_end_of(alloc, activities, machine.population.futures)
 }
 
 /// Runs a program with at most as many reductions as the budget says.

@@ -1,173 +1,261 @@
 //! Who may be able to step, and what the others wait for.
 
-ghost use Rattle.std.specs.Prelude.{◌≡◌, false, true, IfOk, MatchOption, None, OnOk, Some};
-ghost use Rattle.std.specs.List.{list_any};
-ghost use Rattle.asp_model.specs.Names.{Name, Text, main_name, same_name};
+ghost use Rattle.std.specs.Prelude.{
+  ◌≡◌,
+  ◌<◌,
+  ℕ,
+  false,
+  true,
+  IfSome,
+  List,
+  MatchOption,
+  None,
+  OnOk,
+  Some,
+  length,
+};
+ghost use Rattle.asp_model.specs.Names.{Name, Text};
 ghost use Rattle.asp_model.specs.Shapes.{future_shape};
 ghost use Rattle.asp_model.specs.Term.{has_text};
+ghost use Rattle.def_journals.specs.Journals.{number_of};
 ghost use Rattle.replay_one.specs.Schedule.{
+  HasPlace,
+  IsFewerIn,
   IsMoreReady,
   IsNoted,
   IsTaken,
+  IsWatch,
   IsWatching,
+  asks_at,
   asks_in,
+  has_number,
   noted_in,
   ready_in,
+  seen,
+  sends_at,
   sends_in,
 };
 
+use crate::roster::Roster;
 use asp_model::{ActivityName, FutureName, Label};
 use serve_rules::LabelSet;
 use std::alloc::{AllocError, Global};
 use std::collections::{BTreeMap, BTreeSet};
 
-/// The names of those who may be able to step. Of the others: for each awaited future the names of
-/// those who wait for it, the labels that each server asks for, and in whose log each is not next
+/// What one who rests is noted to wait for, beside a future.
+#[derive(Drop)]
+pub enum Watch {
+    Nothing,
+    /// A request with one of these labels.
+    Asks(LabelSet),
+    /// Its turn in the log of the activity with this number.
+    Holds(u32),
+}
+
+/// The names of those who may be able to step. Of the others, by their numbers: those who wait for
+/// each awaited future, the labels that each server asks for, and in whose log each is not next
 /// that is held at a send or at a poll.
 #[derive(Drop)]
 pub struct Schedule {
-    ready: BTreeSet<ActivityName>,
-    awaiting: BTreeMap<FutureName, Vec<ActivityName>>,
-    serving: BTreeMap<ActivityName, LabelSet>,
-    held: BTreeMap<ActivityName, ActivityName>,
+    pub ready: BTreeSet<ActivityName>,
+    awaiting: BTreeMap<FutureName, Vec<u32>>,
+    watches: Vec<Watch>,
 }
 
 impl Schedule {
-    /// The main activity alone is ready.
-    pub fn start(alloc: Global) -> Result<Schedule, AllocError>
-        ensures main { IfOk result (λ s. ready_in s main_name ≡ true) }
-    {
-        let mut ready = BTreeSet::new(alloc);
-        ready.insert(ActivityName::main(alloc)?)?;
-        Ok(Schedule {
-            ready,
+    /// Nobody is ready.
+    pub fn new(alloc: Global) -> Schedule {
+        Schedule {
+            ready: BTreeSet::new(alloc),
             awaiting: BTreeMap::new(alloc),
-            serving: BTreeMap::new(alloc),
-            held: BTreeMap::new(alloc),
-        })
+            watches: Vec::new(alloc),
+        }
     }
 
     /// The least of those who are ready, who is so no more.
     pub fn take_least(&mut self) -> Option<ActivityName>
-        ensures taken { MatchOption result ((m : Name) → ready_in self.old m ≡ false)
-            (λ n. IsTaken self.old n self.new) }
+        ensures taken { (ns : List Name) → MatchOption result
+            ((m : Name) → ready_in (seen ns self.old) m ≡ false)
+            (λ n. IsTaken (seen ns self.old) n (seen ns self.new)) }
+        ensures fewer { IfSome result (λ n. IsFewerIn self.old self.new) }
     {
         self.ready.pop_first()
     }
 
-    pub fn wake(&mut self, name: ActivityName) -> Result<(), AllocError>
-        ensures more { OnOk result (IsMoreReady self.old None self.new) }
-        ensures ready { OnOk result (ready_in self.new name ≡ true) }
+    /// One is ready.
+    pub fn wake(&mut self, alloc: Global, roster: &Roster, number: u32) -> Result<(), AllocError>
+        requires known { number < length roster.now }
+        ensures more { let ns = roster.now in
+            OnOk result (IsMoreReady (seen ns self.old) None (seen ns self.new)) }
+        ensures ready { (n : Name) → number_of n roster.now ≡ Some number →
+            OnOk result (ready_in (seen roster.now self.new) n ≡ true) }
     {
-        self.ready.insert(name)?;
+        self.ready.insert(roster.name(number).copy(alloc)?)?;
         Ok(())
     }
 
     /// Who waits for a future is noted there.
-    pub fn note(
-        &mut self,
-        alloc: Global,
-        future: FutureName,
-        name: ActivityName,
-    ) -> Result<(), AllocError>
-        ensures noted { OnOk result (IsNoted self.old (future_shape future) name self.new) }
+    pub fn note(&mut self, alloc: Global, future: FutureName, number: u32) -> Result<(), AllocError>
+        ensures noted { (ns : List Name) (n : Name) → number_of n ns ≡ Some number → OnOk result
+            (IsNoted (seen ns self.old) (future_shape future) n (seen ns self.new)) }
+        ensures ready { OnOk result (self.new.ready ≡ self.old.ready) }
     {
-        let mut names = match self.awaiting.remove(&future) {
-            Some(names) => names,
+        let mut numbers = match self.awaiting.remove(&future) {
+            Some(numbers) => numbers,
             None => Vec::new(alloc),
         };
-        names.push(name)?;
-        self.awaiting.insert(future, names)?;
+        numbers.push(number)?;
+        self.awaiting.insert(future, numbers)?;
+        Ok(())
+    }
+
+    /// Makes room for what the one with this number waits for.
+    fn reach(&mut self, number: u32) -> Result<(), AllocError>
+        ensures reached { OnOk result (HasPlace self.old number self.new) }
+    {
+        let place = number as usize;
+        while self.watches.len() <= place {
+            self.watches.push(Watch::Nothing)?;
+        }
+        Ok(())
+    }
+
+    /// What one waits for is noted.
+    fn watch(&mut self, number: u32, watch: Watch) -> Result<(), AllocError>
+        ensures watch { OnOk result (IsWatch self.old number watch self.new) }
+    {
+        self.reach(number)?;
+        self.watches[number as usize] = watch;
         Ok(())
     }
 
     /// A server is noted by the labels that it asks for.
-    pub fn serve(&mut self, name: ActivityName, labels: LabelSet) -> Result<(), AllocError>
-        ensures watching { OnOk result (IsWatching self.old name self.new) }
-        ensures asks { (l : Text) → OnOk result (asks_in self.new name l ≡ has_text l labels) }
+    pub fn serve(&mut self, number: u32, labels: LabelSet) -> Result<(), AllocError>
+        ensures watching { (ns : List Name) (n : Name) → number_of n ns ≡ Some number →
+            OnOk result (IsWatching (seen ns self.old) n (seen ns self.new)) }
+        ensures asks { (ns : List Name) (n : Name) (l : Text) → number_of n ns ≡ Some number →
+            OnOk result (asks_in (seen ns self.new) n l ≡ has_text l labels) }
+        ensures ready { OnOk result (self.new.ready ≡ self.old.ready) }
     {
-        self.serving.insert(name, labels)?;
-        Ok(())
+        self.watch(number, Watch::Asks(labels))
     }
 
     /// Who is not next in a log is noted by whose log it is: that of whom it sends to, or its own
     /// where it polls.
-    pub fn hold(&mut self, name: ActivityName, to: ActivityName) -> Result<(), AllocError>
-        ensures watching { OnOk result (IsWatching self.old name self.new) }
-        ensures sends { OnOk result (sends_in self.new name to ≡ true) }
+    pub fn hold(&mut self, number: u32, to: u32) -> Result<(), AllocError>
+        ensures watching { (ns : List Name) (n : Name) → number_of n ns ≡ Some number →
+            OnOk result (IsWatching (seen ns self.old) n (seen ns self.new)) }
+        ensures sends { (ns : List Name) (n m : Name) → number_of n ns ≡ Some number →
+            number_of m ns ≡ Some to → OnOk result (sends_in (seen ns self.new) n m ≡ true) }
+        ensures ready { OnOk result (self.new.ready ≡ self.old.ready) }
     {
-        self.held.insert(name, to)?;
-        Ok(())
+        self.watch(number, Watch::Holds(to))
     }
 
     /// A server is ready, if it asks for a request with this label.
-    pub fn wake_server(&mut self, name: &ActivityName, label: &Label) -> Result<(), AllocError>
-        ensures more { OnOk result (IsMoreReady self.old None self.new) }
-        ensures ready { asks_in self.old name.now label.now.text ≡ true →
-            OnOk result (ready_in self.new name.now ≡ true) }
+    pub fn wake_server(
+        &mut self,
+        alloc: Global,
+        roster: &Roster,
+        number: u32,
+        label: &Label,
+    ) -> Result<(), AllocError>
+        requires known { number < length roster.now }
+        ensures more { let ns = roster.now in
+            OnOk result (IsMoreReady (seen ns self.old) None (seen ns self.new)) }
+        ensures ready { (n : Name) → number_of n roster.now ≡ Some number →
+            asks_in (seen roster.now self.old) n label.now.text ≡ true →
+            OnOk result (ready_in (seen roster.now self.new) n ≡ true) }
     {
-        if !self.asks(name, label) {
+        if !self.asks(number, label) {
             return Ok(());
         }
-        match self.serving.remove_entry(name) {
-            Some((server, _labels)) => self.wake(server),
-            None => Ok(()),
-        }
+        self.watch(number, Watch::Nothing)?;
+        self.wake(alloc, roster, number)
     }
 
-    fn asks(&self, name: &ActivityName, label: &Label) -> bool
-        ensures asks { result ≡ asks_in self.now name.now label.now.text }
+    fn asks(&self, number: u32, label: &Label) -> bool
+        ensures asks { result ≡ asks_at self.now.watches.items number label.now.text }
     {
-        match self.serving.get(name) {
-            Some(labels) => labels.has(label),
-            None => false,
+        let Some(watch) = self.watches.get(number as usize) else {
+            return false;
+        };
+        match watch {
+            Watch::Asks(labels) => labels.has(label),
+            Watch::Nothing | Watch::Holds(_) => false,
         }
     }
 
     /// One is ready, if it is held at the log of this activity.
-    pub fn wake_sender(&mut self, name: &ActivityName, to: &ActivityName) -> Result<(), AllocError>
-        ensures more { OnOk result (IsMoreReady self.old None self.new) }
-        ensures ready { sends_in self.old name.now to.now ≡ true →
-            OnOk result (ready_in self.new name.now ≡ true) }
+    pub fn wake_sender(
+        &mut self,
+        alloc: Global,
+        roster: &Roster,
+        number: u32,
+        to: u32,
+    ) -> Result<(), AllocError>
+        requires known { number < length roster.now }
+        ensures more { let ns = roster.now in
+            OnOk result (IsMoreReady (seen ns self.old) None (seen ns self.new)) }
+        ensures ready { (n m : Name) → number_of n roster.now ≡ Some number →
+            number_of m roster.now ≡ Some to →
+            sends_in (seen roster.now self.old) n m ≡ true →
+            OnOk result (ready_in (seen roster.now self.new) n ≡ true) }
     {
-        if !self.sends(name, to) {
+        if !self.sends(number, to) {
             return Ok(());
         }
-        match self.held.remove_entry(name) {
-            Some((sender, _to)) => self.wake(sender),
-            None => Ok(()),
-        }
+        self.watch(number, Watch::Nothing)?;
+        self.wake(alloc, roster, number)
     }
 
-    fn sends(&self, name: &ActivityName, to: &ActivityName) -> bool
-        ensures sends { result ≡ sends_in self.now name.now to.now }
+    fn sends(&self, number: u32, to: u32) -> bool
+        ensures sends { result ≡ sends_at self.now.watches.items number (Some to) }
     {
-        match self.held.get(name) {
-            Some(target) => target == to,
-            None => false,
+        let Some(watch) = self.watches.get(number as usize) else {
+            return false;
+        };
+        match watch {
+            Watch::Holds(target) => *target == to,
+            Watch::Nothing | Watch::Asks(_) => false,
         }
     }
 
     /// All who wait for a future are ready.
-    pub fn wake_noted(&mut self, future: &FutureName) -> Result<(), AllocError>
-        ensures more { let f = future_shape future.now in
-            OnOk result (IsMoreReady self.old (Some f) self.new) }
-        ensures ready { (m : Name) → noted_in self.old (future_shape future.now) m ≡ true →
-            OnOk result (ready_in self.new m ≡ true) }
+    pub fn wake_noted(
+        &mut self,
+        alloc: Global,
+        roster: &Roster,
+        future: &FutureName,
+    ) -> Result<(), AllocError>
+        ensures more { let f = future_shape future.now in let ns = roster.now in
+            OnOk result (IsMoreReady (seen ns self.old) (Some f) (seen ns self.new)) }
+        ensures ready { (m : Name) → let ns = roster.now in
+            noted_in (seen ns self.old) (future_shape future.now) m ≡ true →
+            OnOk result (ready_in (seen ns self.new) m ≡ true) }
     {
         match self.awaiting.remove(future) {
             None => Ok(()),
-            Some(names) => self.wake_all(names),
+            Some(numbers) => self.wake_all(alloc, roster, numbers),
         }
     }
 
-    fn wake_all(&mut self, mut names: Vec<ActivityName>) -> Result<(), AllocError>
-        ensures more { OnOk result (IsMoreReady self.old None self.new) }
-        ensures ready { (m : Name) → list_any (same_name m) names.items ≡ true →
-            OnOk result (ready_in self.new m ≡ true) }
+    fn wake_all(
+        &mut self,
+        alloc: Global,
+        roster: &Roster,
+        mut numbers: Vec<u32>,
+    ) -> Result<(), AllocError>
+        ensures more { let ns = roster.now in
+            OnOk result (IsMoreReady (seen ns self.old) None (seen ns self.new)) }
+        ensures ready { (m : Name) (k : ℕ) → number_of m roster.now ≡ Some k →
+            has_number k numbers.items ≡ true →
+            OnOk result (ready_in (seen roster.now self.new) m ≡ true) }
     {
-        while let Some(name) = names.pop() {
-            self.wake(name)?;
+        while let Some(number) = numbers.pop() {
+            if (number as usize) < roster.len() {
+                self.wake(alloc, roster, number)?;
+            }
         }
         Ok(())
     }

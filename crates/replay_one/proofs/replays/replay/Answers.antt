@@ -22,7 +22,7 @@ run_within-requires c =
     let ls : List (Name × Vec Reception) = c.args.lists.now.entries.items in
     let cs : CountsShape = c.args.counts.now.entries.items in
     let r = c.requires.replayable.ordered in
-    record { ascending = (in_order ls (map list_shape ls) (sym (names_of_lists ls)) r.ascending, in_order cs (map list_shape ls) (sym r.names) r.ascending) }
+    record { ascending = (in_order ls (map list_shape ls) (sym (names_of_lists ls)) r.ascending, in_order cs (map list_shape ls) (sym r.names) r.ascending, sym (names_of_lists ls) ∙ r.names) }
 
 pub returns-in-None-clause-fits : goal.returns-in-None-clause-fits
 returns-in-None-clause-fits c =

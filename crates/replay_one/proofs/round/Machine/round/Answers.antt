@@ -1,122 +1,154 @@
-use Rattle.std.proofs.Common.{◌≡◌, ◌≤◌, subst, arith}
+use Rattle.std.proofs.Common.{◌≡◌, Some, List, ap, sym, subst, arith}
 use Rattle.law_schedules.proofs.LeastLemmas.{none_is_ready}
-use Rattle.replay_one.specs.declared.bounds.Bounds.{Bounds}
 use Rattle.asp_model.specs.Names.{Name}
+use Rattle.asp_model.specs.Configuration.{Configuration}
+use Rattle.asp_model.specs.Term.{Tree}
+use Rattle.def_journals.specs.Journals.{number_of}
+use Rattle.replay_one.specs.declared.bounds.Bounds.{Bounds}
 use Rattle.replay_one.specs.declared.population.Population.{Population}
 use Rattle.replay_one.specs.declared.round.Machine.{Machine}
 use Rattle.replay_one.specs.declared.schedule.Schedule.{Schedule}
 use Rattle.replay_one.specs.Bounds.{count_within, lists_within}
-use Rattle.replay_one.specs.Population.{IsRunIn}
-use Rattle.replay_one.specs.Round.{IsRunAt, IsRunBut, IsTried}
-use Rattle.replay_one.specs.Schedule.{noted_in, ready_in}
-use Rattle.replay_one.proofs.RunLemmas.{forgotten_run, known_after, leads_nowhere, leads_on, ran, still_none, woken_run}
+use Rattle.replay_one.specs.Population.{at_number, seat_at}
+use Rattle.replay_one.specs.Round.{IsRunAt, IsTried, seen_in}
+use Rattle.replay_one.specs.Schedule.{Seen, noted_in, ready_in, seen}
+use Rattle.replay_one.proofs.LookLemmas.{absent_leaves}
+use Rattle.replay_one.proofs.RosterLemmas.{number_within}
+use Rattle.replay_one.proofs.RunLemmas.{Ran, known_after, leads_nowhere, leads_on, leaves_round, ran_on, woken_run}
 use Rattle.replay_one.proofs.round.Machine.round.Goals as goal
 
 pub returns-in_default-clause-round : goal.returns-in_default-clause-round
 returns-in_default-clause-round c = λ program k h.
     let b : Bounds = c.args.bounds.now in
-    let s : Schedule = c.args.self.now.schedule in
-    (none_is_ready program (lists_within b) (count_within b) k (ready_in s) (noted_in s) h.reached h.scheduled (λ m there. c.in_default.ensures.taken m), h.population)
+    let s : Seen = seen_in c.args.self.now in
+    (none_is_ready program (lists_within b) (count_within b) k (ready_in s) (noted_in s) h.reached h.scheduled (λ m there. c.in_default.ensures.taken c.args.self.now.population.roster m), h.population)
+
+-- nobody of this name is there
+pub returns-in_default-number-clause-round : goal.returns-in_default-number-clause-round
+returns-in_default-number-clause-round c = λ program k h.
+    let b : Bounds = c.args.bounds.now in
+    let m : Machine = c.args.self.now in
+    let n : Name = c.in-Some.name in
+    let ns : List Name = m.population.roster in
+    let nowhere = absent_leaves (lists_within b) (count_within b) m.population k n h.population (ap (λ o. at_number o (seat_at m.population.activities.items)) (sym c.in_default-number.ensures.number)) in
+    leaves_round b program k n m.population (seen_in m) (seen ns c.take_least.new.self) h (c.in-Some.ensures.taken ns) nowhere
+
+pub wake-requires : goal.wake-requires
+wake-requires c =
+    let x = c.requires.running in
+    let program : Tree = x.0 in
+    let k : Configuration = x.1 in
+    let h = x.2 in
+    let b : Bounds = c.args.bounds.now in
+    let n : Name = c.in-Some.name in
+    let number = c.in-Some-number.number in
+    let m : Machine = c.args.self.now in
+    let ns : List Name = m.population.roster in
+    let mid : Schedule = c.take_least.new.self in
+    let p : Population = c.take_passed-known.new.self in
+    let q : Population = c.run.new.self in
+    let taken = c.in_ok-taken.taken in
+    let has : number_of n ns ≡ Some number = sym c.in-Some-number.ensures.number in
+    let r : Ran b program k n number (seen_in m) mid q c.args.most taken = ran_on b program k n number m mid p q c.args.most c.count-count.result taken h has (c.take_passed-known.ensures.forgotten n has) (c.in-Some.ensures.taken ns) (c.in_ok-taken.ensures.runs k n) (c.count-count.ensures.count ns n) c.in_ok-taken.ensures.roster c.in_ok-taken.ensures.passed (c.take_passed-known.ensures.none n has) in
+    record { known = number_within q.roster n number r.has }
 
 pub returns-then-taken-most-clause-round : goal.returns-then-taken-most-clause-round
 returns-then-taken-most-clause-round c = λ program k h.
     let b : Bounds = c.args.bounds.now in
     let n : Name = c.in-Some.name in
+    let number = c.in-Some-number.number in
     let m : Machine = c.args.self.now in
-    let q : Population = c.run.new.self in
+    let ns : List Name = m.population.roster in
     let mid : Schedule = c.take_least.new.self in
-    let taken = c.in_ok-taken.taken in
     let p : Population = c.take_passed-known.new.self in
-    let m2 : Machine = record { population = p; schedule = m.schedule } in
-    let h2 = forgotten_run b program k m n p h c.take_passed-known.ensures.forgotten in
-    let runs = subst (λ j. IsRunIn q k n c.args.most j taken) c.count-count.ensures.count (c.in_ok-taken.ensures.runs k h2.population) in
-    let r = ran b program k n m2 q mid c.args.most taken h2 c.in-Some.ensures.taken runs c.in_ok-taken.ensures.passed c.take_passed-known.ensures.none in
+    let q : Population = c.run.new.self in
+    let taken = c.in_ok-taken.taken in
+    let has : number_of n ns ≡ Some number = sym c.in-Some-number.ensures.number in
+    let r : Ran b program k n number (seen_in m) mid q c.args.most taken = ran_on b program k n number m mid p q c.args.most c.count-count.result taken h has (c.take_passed-known.ensures.forgotten n has) (c.in-Some.ensures.taken ns) (c.in_ok-taken.ensures.runs k n) (c.count-count.ensures.count ns n) c.in_ok-taken.ensures.roster c.in_ok-taken.ensures.passed (c.take_passed-known.ensures.none n has) in
     record {
       some = omega (arith, c.requires.some, c.if-taken-most.true);
-      within = r.3;
-      then = r.0;
-      leads = r.1;
-      run = woken_run b program r.0 n q m.schedule mid c.wake.new.self r.2 c.in-Some.ensures.taken c.in_ok-wake.ensures.more c.in_ok-wake.ensures.ready;
+      within = r.within;
+      then = r.then;
+      leads = r.leads;
+      run = woken_run b program r.then n q (seen_in m) (seen q.roster mid) (seen q.roster c.wake.new.self) r.before r.taken c.in_ok-wake.ensures.more (c.in_ok-wake.ensures.ready n r.has);
     }
 
 pub try_step-requires-clause-running : goal.try_step-requires-clause-running
 try_step-requires-clause-running c =
     let x = c.requires.running in
-    let program = x.0 in
-    let k = x.1 in
+    let program : Tree = x.0 in
+    let k : Configuration = x.1 in
     let h = x.2 in
     let b : Bounds = c.args.bounds.now in
     let n : Name = c.in-Some.name in
+    let number = c.in-Some-number.number in
     let m : Machine = c.args.self.now in
-    let q : Population = c.run.new.self in
+    let ns : List Name = m.population.roster in
     let mid : Schedule = c.take_least.new.self in
-    let taken = c.in_ok-taken.taken in
     let p : Population = c.take_passed-known.new.self in
-    let m2 : Machine = record { population = p; schedule = m.schedule } in
-    let h2 = forgotten_run b program k m n p h c.take_passed-known.ensures.forgotten in
-    let runs = subst (λ j. IsRunIn q k n c.args.most j taken) c.count-count.ensures.count (c.in_ok-taken.ensures.runs k h2.population) in
-    let r = ran b program k n m2 q mid c.args.most taken h2 c.in-Some.ensures.taken runs c.in_ok-taken.ensures.passed c.take_passed-known.ensures.none in
-    (program, r.0, record { before = m.schedule; run = r.2; taken = c.in-Some.ensures.taken; forgotten = still_none p q n c.in_ok-taken.ensures.passed c.take_passed-known.ensures.none })
+    let q : Population = c.run.new.self in
+    let taken = c.in_ok-taken.taken in
+    let has : number_of n ns ≡ Some number = sym c.in-Some-number.ensures.number in
+    let r : Ran b program k n number (seen_in m) mid q c.args.most taken = ran_on b program k n number m mid p q c.args.most c.count-count.result taken h has (c.take_passed-known.ensures.forgotten n has) (c.in-Some.ensures.taken ns) (c.in_ok-taken.ensures.runs k n) (c.count-count.ensures.count ns n) c.in_ok-taken.ensures.roster c.in_ok-taken.ensures.passed (c.take_passed-known.ensures.none n has) in
+    (n, r.has, program, r.then, r.but)
 
 pub try_step-requires-clause-passed : goal.try_step-requires-clause-passed
 try_step-requires-clause-passed c =
     let x = c.requires.running in
-    let program = x.0 in
-    let k = x.1 in
+    let program : Tree = x.0 in
+    let k : Configuration = x.1 in
     let h = x.2 in
     let b : Bounds = c.args.bounds.now in
     let n : Name = c.in-Some.name in
+    let number = c.in-Some-number.number in
     let m : Machine = c.args.self.now in
-    let q : Population = c.run.new.self in
+    let ns : List Name = m.population.roster in
     let mid : Schedule = c.take_least.new.self in
-    let taken = c.in_ok-taken.taken in
     let p : Population = c.take_passed-known.new.self in
-    let m2 : Machine = record { population = p; schedule = m.schedule } in
-    let h2 = forgotten_run b program k m n p h c.take_passed-known.ensures.forgotten in
-    let runs = subst (λ j. IsRunIn q k n c.args.most j taken) c.count-count.ensures.count (c.in_ok-taken.ensures.runs k h2.population) in
-    let r = ran b program k n m2 q mid c.args.most taken h2 c.in-Some.ensures.taken runs c.in_ok-taken.ensures.passed c.take_passed-known.ensures.none in
-    (r.0, r.2.population, known_after b m.population k r.0 n c.take_passed-known.result taken c.passed_after-passed.result h.passed c.take_passed-known.ensures.told r.1 c.passed_after-passed.ensures.first c.passed_after-passed.ensures.later)
+    let q : Population = c.run.new.self in
+    let taken = c.in_ok-taken.taken in
+    let has : number_of n ns ≡ Some number = sym c.in-Some-number.ensures.number in
+    let r : Ran b program k n number (seen_in m) mid q c.args.most taken = ran_on b program k n number m mid p q c.args.most c.count-count.result taken h has (c.take_passed-known.ensures.forgotten n has) (c.in-Some.ensures.taken ns) (c.in_ok-taken.ensures.runs k n) (c.count-count.ensures.count ns n) c.in_ok-taken.ensures.roster c.in_ok-taken.ensures.passed (c.take_passed-known.ensures.none n has) in
+    (n, r.has, r.then, r.before.population, known_after b m.population k r.then n c.take_passed-known.result taken c.passed_after-passed.result h.passed (c.take_passed-known.ensures.told n has) r.leads c.passed_after-passed.ensures.first c.passed_after-passed.ensures.later)
 
 pub overflow_add-result : goal.overflow_add-result
 overflow_add-result c =
     let x = c.requires.running in
-    let program = x.0 in
-    let k = x.1 in
+    let program : Tree = x.0 in
+    let k : Configuration = x.1 in
     let h = x.2 in
     let b : Bounds = c.args.bounds.now in
     let n : Name = c.in-Some.name in
+    let number = c.in-Some-number.number in
     let m : Machine = c.args.self.now in
-    let q : Population = c.run.new.self in
+    let ns : List Name = m.population.roster in
     let mid : Schedule = c.take_least.new.self in
-    let taken = c.in_ok-taken.taken in
     let p : Population = c.take_passed-known.new.self in
-    let m2 : Machine = record { population = p; schedule = m.schedule } in
-    let h2 = forgotten_run b program k m n p h c.take_passed-known.ensures.forgotten in
-    let runs = subst (λ j. IsRunIn q k n c.args.most j taken) c.count-count.ensures.count (c.in_ok-taken.ensures.runs k h2.population) in
-    let r = ran b program k n m2 q mid c.args.most taken h2 c.in-Some.ensures.taken runs c.in_ok-taken.ensures.passed c.take_passed-known.ensures.none in
-    let within : taken ≤ c.args.most = r.3 in
-    omega (arith, within, c.if-taken-most.false, c.ranges.most.fits)
+    let q : Population = c.run.new.self in
+    let taken = c.in_ok-taken.taken in
+    let has : number_of n ns ≡ Some number = sym c.in-Some-number.ensures.number in
+    let r : Ran b program k n number (seen_in m) mid q c.args.most taken = ran_on b program k n number m mid p q c.args.most c.count-count.result taken h has (c.take_passed-known.ensures.forgotten n has) (c.in-Some.ensures.taken ns) (c.in_ok-taken.ensures.runs k n) (c.count-count.ensures.count ns n) c.in_ok-taken.ensures.roster c.in_ok-taken.ensures.passed (c.take_passed-known.ensures.none n has) in
+    omega (arith, r.within, c.if-taken-most.false, c.ranges.most.fits)
 
 pub returns-then-branch-clause-round : goal.returns-then-branch-clause-round
 returns-then-branch-clause-round c = λ program k h.
     let b : Bounds = c.args.bounds.now in
     let n : Name = c.in-Some.name in
+    let number = c.in-Some-number.number in
     let m : Machine = c.args.self.now in
-    let q : Population = c.run.new.self in
+    let ns : List Name = m.population.roster in
     let mid : Schedule = c.take_least.new.self in
-    let taken = c.in_ok-taken.taken in
     let p : Population = c.take_passed-known.new.self in
-    let m2 : Machine = record { population = p; schedule = m.schedule } in
-    let h2 = forgotten_run b program k m n p h c.take_passed-known.ensures.forgotten in
-    let runs = subst (λ j. IsRunIn q k n c.args.most j taken) c.count-count.ensures.count (c.in_ok-taken.ensures.runs k h2.population) in
-    let r = ran b program k n m2 q mid c.args.most taken h2 c.in-Some.ensures.taken runs c.in_ok-taken.ensures.passed c.take_passed-known.ensures.none in
-    let but : IsRunBut b (record { population = q; schedule = mid }) n program r.0 = record { before = m.schedule; run = r.2; taken = c.in-Some.ensures.taken; forgotten = still_none p q n c.in_ok-taken.ensures.passed c.take_passed-known.ensures.none } in
-    let step = subst (λ t. IsTried b program r.0 t c.try_step.new.self) c.if-branch.true (c.in_ok-try_step.ensures.tried program r.0 but) in
+    let q : Population = c.run.new.self in
+    let taken = c.in_ok-taken.taken in
+    let has : number_of n ns ≡ Some number = sym c.in-Some-number.ensures.number in
+    let r : Ran b program k n number (seen_in m) mid q c.args.most taken = ran_on b program k n number m mid p q c.args.most c.count-count.result taken h has (c.take_passed-known.ensures.forgotten n has) (c.in-Some.ensures.taken ns) (c.in_ok-taken.ensures.runs k n) (c.count-count.ensures.count ns n) c.in_ok-taken.ensures.roster c.in_ok-taken.ensures.passed (c.take_passed-known.ensures.none n has) in
+    let step = subst (λ t. IsTried b program r.then t c.try_step.new.self) c.if-branch.true (c.in_ok-try_step.ensures.tried program r.then n r.has r.but) in
     record {
       some = omega arith;
-      within = omega (arith, r.3, c.if-taken-most.false);
+      within = omega (arith, r.within, c.if-taken-most.false);
       then = step.0;
-      leads = leads_on b k r.0 step.0 taken r.1 step.1;
+      leads = leads_on b k r.then step.0 taken r.leads step.1;
       run = step.2;
     }
 
@@ -124,33 +156,31 @@ pub returns-then-taken-gt0-clause-round : goal.returns-then-taken-gt0-clause-rou
 returns-then-taken-gt0-clause-round c = λ program k h.
     let b : Bounds = c.args.bounds.now in
     let n : Name = c.in-Some.name in
+    let number = c.in-Some-number.number in
     let m : Machine = c.args.self.now in
-    let q : Population = c.run.new.self in
+    let ns : List Name = m.population.roster in
     let mid : Schedule = c.take_least.new.self in
-    let taken = c.in_ok-taken.taken in
     let p : Population = c.take_passed-known.new.self in
-    let m2 : Machine = record { population = p; schedule = m.schedule } in
-    let h2 = forgotten_run b program k m n p h c.take_passed-known.ensures.forgotten in
-    let runs = subst (λ j. IsRunIn q k n c.args.most j taken) c.count-count.ensures.count (c.in_ok-taken.ensures.runs k h2.population) in
-    let r = ran b program k n m2 q mid c.args.most taken h2 c.in-Some.ensures.taken runs c.in_ok-taken.ensures.passed c.take_passed-known.ensures.none in
-    let but : IsRunBut b (record { population = q; schedule = mid }) n program r.0 = record { before = m.schedule; run = r.2; taken = c.in-Some.ensures.taken; forgotten = still_none p q n c.in_ok-taken.ensures.passed c.take_passed-known.ensures.none } in
-    let rests = subst (λ t. IsTried b program r.0 t c.try_step.new.self) c.if-branch.false (c.in_ok-try_step.ensures.tried program r.0 but) in
-    record { some = c.if-taken-gt0.true; within = r.3; then = r.0; leads = r.1; run = rests }
+    let q : Population = c.run.new.self in
+    let taken = c.in_ok-taken.taken in
+    let has : number_of n ns ≡ Some number = sym c.in-Some-number.ensures.number in
+    let r : Ran b program k n number (seen_in m) mid q c.args.most taken = ran_on b program k n number m mid p q c.args.most c.count-count.result taken h has (c.take_passed-known.ensures.forgotten n has) (c.in-Some.ensures.taken ns) (c.in_ok-taken.ensures.runs k n) (c.count-count.ensures.count ns n) c.in_ok-taken.ensures.roster c.in_ok-taken.ensures.passed (c.take_passed-known.ensures.none n has) in
+    let rests = subst (λ t. IsTried b program r.then t c.try_step.new.self) c.if-branch.false (c.in_ok-try_step.ensures.tried program r.then n r.has r.but) in
+    record { some = c.if-taken-gt0.true; within = r.within; then = r.then; leads = r.leads; run = rests }
 
 pub returns-clause-round : goal.returns-clause-round
 returns-clause-round c = λ program k h.
     let b : Bounds = c.args.bounds.now in
     let n : Name = c.in-Some.name in
+    let number = c.in-Some-number.number in
     let m : Machine = c.args.self.now in
-    let q : Population = c.run.new.self in
+    let ns : List Name = m.population.roster in
     let mid : Schedule = c.take_least.new.self in
-    let taken = c.in_ok-taken.taken in
     let p : Population = c.take_passed-known.new.self in
-    let m2 : Machine = record { population = p; schedule = m.schedule } in
-    let h2 = forgotten_run b program k m n p h c.take_passed-known.ensures.forgotten in
-    let runs = subst (λ j. IsRunIn q k n c.args.most j taken) c.count-count.ensures.count (c.in_ok-taken.ensures.runs k h2.population) in
-    let r = ran b program k n m2 q mid c.args.most taken h2 c.in-Some.ensures.taken runs c.in_ok-taken.ensures.passed c.take_passed-known.ensures.none in
-    let but : IsRunBut b (record { population = q; schedule = mid }) n program r.0 = record { before = m.schedule; run = r.2; taken = c.in-Some.ensures.taken; forgotten = still_none p q n c.in_ok-taken.ensures.passed c.take_passed-known.ensures.none } in
-    let rests = subst (λ t. IsTried b program r.0 t c.try_step.new.self) c.if-branch.false (c.in_ok-try_step.ensures.tried program r.0 but) in
+    let q : Population = c.run.new.self in
+    let taken = c.in_ok-taken.taken in
+    let has : number_of n ns ≡ Some number = sym c.in-Some-number.ensures.number in
+    let r : Ran b program k n number (seen_in m) mid q c.args.most taken = ran_on b program k n number m mid p q c.args.most c.count-count.result taken h has (c.take_passed-known.ensures.forgotten n has) (c.in-Some.ensures.taken ns) (c.in_ok-taken.ensures.runs k n) (c.count-count.ensures.count ns n) c.in_ok-taken.ensures.roster c.in_ok-taken.ensures.passed (c.take_passed-known.ensures.none n has) in
+    let rests = subst (λ t. IsTried b program r.then t c.try_step.new.self) c.if-branch.false (c.in_ok-try_step.ensures.tried program r.then n r.has r.but) in
     let none : taken ≡ 0 = omega (arith, c.if-taken-gt0.false) in
-    subst (IsRunAt b c.try_step.new.self program) (leads_nowhere b k r.0 taken r.1 none) rests
+    subst (IsRunAt b c.try_step.new.self program) (leads_nowhere b k r.then taken r.leads none) rests

@@ -2,7 +2,7 @@ use Rattle.std.proofs.Common.{◌≡◌, ◌+◌, ◌-◌, zero, sym, subst, ap,
 use Rattle.asp_model.specs.Replay.{steps_from}
 use Rattle.replay_one.specs.Bounds.{count_within, lists_within}
 use Rattle.replay_one.specs.Population.{IsReachedPopulation}
-use Rattle.replay_one.specs.Round.{IsStepped}
+use Rattle.replay_one.specs.Round.{IsStepped, seen_in}
 use Rattle.replay_one.proofs.RunLemmas.{has_ended, reached_population}
 use Rattle.replay_one.proofs.round.Machine.run.Goals as goal
 
@@ -52,5 +52,5 @@ returns c = record {
       let i = c.loop-left.invariant program k h in
       let none : c.loop-left.left ≡ zero = omega (arith, c.loop-left-test.false) in
       let end = ap (λ j. steps_from j (lists_within b) (count_within b) i.0) (sym none) ∙ i.2 in
-      subst (IsReachedPopulation c.loop-left.self.population program) end (reached_population b c.loop-left.self program i.0 i.1);
+      subst (IsReachedPopulation c.loop-left.self.population program) end (reached_population b c.loop-left.self.population (seen_in c.loop-left.self) program i.0 i.1);
 }

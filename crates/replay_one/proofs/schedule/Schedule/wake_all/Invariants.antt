@@ -1,16 +1,13 @@
-use Rattle.std.proofs.Common.{◌≡◌, ◌⊎◌, false, true, vec_len}
-use Rattle.std.specs.List.{list_any}
-use Rattle.asp_model.specs.Names.{FutureShape, Name, Text, same_name}
-use Rattle.replay_one.specs.Schedule.{asks_in, noted_in, ready_in, sends_in}
+use Rattle.std.proofs.Common.{◌≡◌, ◌⊎◌, ℕ, true, None, Some, vec_len}
+use Rattle.asp_model.specs.Names.{Name}
+use Rattle.def_journals.specs.Journals.{number_of}
+use Rattle.replay_one.specs.Schedule.{IsMoreReady, has_number, ready_in, seen}
 use Rattle.replay_one.proofs.schedule.Schedule.wake_all.Given as goal
 
-abbrev pub invariant-loop-name : goal.invariant-loop-name
-invariant-loop-name l =
-    ((f : FutureShape) (m : Name) → noted_in l.self f m ≡ noted_in l.initial.self f m)
-    × ((m : Name) → ready_in l.initial.self m ≡ true → ready_in l.self m ≡ true)
-    × ((m : Name) → list_any (same_name m) l.fn.names.items ≡ true → (list_any (same_name m) l.names.items ≡ true) ⊎ (ready_in l.self m ≡ true))
-    × ((m : Name) (t : Text) → ready_in l.self m ≡ false → asks_in l.initial.self m t ≡ true → asks_in l.self m t ≡ true)
-    × ((m k : Name) → ready_in l.self m ≡ false → sends_in l.initial.self m k ≡ true → sends_in l.self m k ≡ true)
+abbrev pub invariant-loop-number : goal.invariant-loop-number
+invariant-loop-number l =
+    IsMoreReady (seen l.roster l.initial.self) None (seen l.roster l.self)
+    × ((m : Name) (k : ℕ) → number_of m l.roster ≡ Some k → has_number k l.fn.numbers.items ≡ true → (has_number k l.numbers.items ≡ true) ⊎ (ready_in (seen l.roster l.self) m ≡ true))
 
-abbrev pub decreases-loop-name : goal.decreases-loop-name
-decreases-loop-name l = vec_len l.names
+abbrev pub decreases-loop-number : goal.decreases-loop-number
+decreases-loop-number l = vec_len l.numbers

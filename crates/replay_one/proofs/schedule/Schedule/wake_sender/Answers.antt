@@ -1,21 +1,17 @@
-use Rattle.std.proofs.Common.{◌≡◌, true, None, sym}
+use Rattle.std.proofs.Common.{◌≡◌, true, Some, None, List}
+use Rattle.asp_model.specs.Names.{Name}
+use Rattle.def_journals.specs.Journals.{number_of}
 use Rattle.replay_one.specs.declared.schedule.Schedule.{Schedule}
-use Rattle.replay_one.specs.Schedule.{IsMoreReady, ready_in}
-use Rattle.replay_one.proofs.PopulationLemmas.{if_ok_with}
-use Rattle.replay_one.proofs.ScheduleLemmas.{kept_sender, woken_sender}
+use Rattle.replay_one.specs.declared.schedule.Watch.TheVariants as watch
+use Rattle.replay_one.specs.Schedule.{IsMoreReady, ready_in, seen}
+use Rattle.replay_one.proofs.ScheduleLemmas.{handed_by, woken_watch}
 use Rattle.replay_one.proofs.schedule.Schedule.wake_sender.Goals as goal
 
-pub returns-in-Some-clause-more : goal.returns-in-Some-clause-more
-returns-in-Some-clause-more c =
+pub returns-clause-more : goal.returns-clause-more
+returns-clause-more c =
+    let ns : List Name = c.args.roster.now in
     let old : Schedule = c.args.self.now in
+    let mid : Schedule = c.watch.new.self in
     let new : Schedule = c.wake.new.self in
-    if_ok_with c.wake.result _ _ (IsMoreReady old None new) (λ more woken. (woken_sender old new c.remove_entry.new.self c.args.name.now c.in-Some.sender c.in-Some.ensures.updates c.in-Some.ensures.same_key more woken).0) c.wake.ensures.more c.wake.ensures.ready
-
-pub returns-in-Some-clause-ready : goal.returns-in-Some-clause-ready
-returns-in-Some-clause-ready c = λ h.
-    let old : Schedule = c.args.self.now in
-    let new : Schedule = c.wake.new.self in
-    if_ok_with c.wake.result _ _ (ready_in new c.args.name.now ≡ true) (λ more woken. (woken_sender old new c.remove_entry.new.self c.args.name.now c.in-Some.sender c.in-Some.ensures.updates c.in-Some.ensures.same_key more woken).1) c.wake.ensures.more c.wake.ensures.ready
-
-pub returns-in-None-clause-more : goal.returns-in-None-clause-more
-returns-in-None-clause-more c = kept_sender c.args.self.now c.remove_entry.new.self c.args.name.now c.in-None.ensures.updates (sym c.in-None.ensures.value)
+    handed_by c.wake.result (IsMoreReady (seen ns mid) None (seen ns new)) (λ (n : Name). number_of n ns ≡ Some c.args.number) (λ n. ready_in (seen ns new) n ≡ true) _
+    (λ more woken. woken_watch ns old mid new c.args.number watch.Nothing c.in_ok-watch.ensures.watch more woken) c.wake.ensures.more c.wake.ensures.ready

@@ -1,0 +1,164 @@
+//! What the activities do next: whether they step, or what they wait for.
+
+ghost use Rattle.std.specs.Prelude.{◌≡◌, ◌<◌, true, IfOk, Some, length};
+ghost use Rattle.asp_model.specs.Names.{Name};
+ghost use Rattle.asp_model.specs.Term.{Tree};
+ghost use Rattle.asp_model.specs.Configuration.{Configuration, From, Poll, log_of};
+ghost use Rattle.asp_model.specs.Step.{is_next};
+ghost use Rattle.def_journals.specs.Journals.{number_of};
+ghost use Rattle.law_steps.specs.Reached.{IsThere};
+ghost use Rattle.replay_one.specs.Bounds.{IsAscending, IsNextAt, IsNumbered, count_within, lists_within};
+ghost use Rattle.replay_one.specs.Population.{HasPassedBySome, HasPassedIn, IsPopulation, IsReachedBySome, IsReachedPopulation};
+ghost use Rattle.replay_one.specs.Round.{IsLook, IsTurn};
+
+use crate::bounds::{Bounds, Next};
+use crate::population::Population;
+use crate::receptions::{is_from, is_poll};
+use asp_model::{ActivityName, FutureName};
+use std::alloc::{AllocError, Global};
+use step_activity::Outlook;
+
+/// What an activity that is ready does.
+#[derive(Clone, Copy)]
+pub enum Look<'a> {
+    /// It is not there, is at its count, or rests for good.
+    Leaves,
+    Awaits(&'a FutureName),
+    /// No pending request matches its `serve`.
+    Serves,
+    /// It is not next in the log of the activity with this number: whom it sends to, or itself
+    /// where it polls.
+    Holds(u32),
+    Steps,
+}
+
+/// What an activity does, and how many members of a group that it waits for have values.
+#[derive(Clone, Copy)]
+pub struct View<'a> {
+    pub look: Look<'a>,
+    pub passed: usize,
+}
+
+/// What the log of an activity may note next.
+pub fn next_in<'a>(population: &Population, bounds: &'a Bounds, to: u32) -> Next<'a>
+    requires ascending { IsAscending bounds.now }
+    requires numbered { IsNumbered bounds.now population.now.roster }
+    ensures next { (c : Configuration) (n : Name) → IsPopulation population.now c →
+        number_of n population.now.roster ≡ Some to → IsThere c n →
+        IsNextAt (lists_within bounds.now) n (length (log_of c n)) result }
+{
+    match bounds {
+        Bounds::Budget(_) => Next::Anything,
+        Bounds::Listed(_, _) => bounds.next(to, population.logged(to)),
+    }
+}
+
+/// Whether a request to an activity may come from this one now.
+fn may_come(population: &Population, bounds: &Bounds, to: u32, name: &ActivityName) -> bool
+    requires ascending { IsAscending bounds.now }
+    requires numbered { IsNumbered bounds.now population.now.roster }
+    ensures may { (c : Configuration) (n : Name) → IsPopulation population.now c →
+        number_of n population.now.roster ≡ Some to → IsThere c n →
+        result ≡ is_next (lists_within bounds.now) c n (From name.now) }
+{
+    match next_in(population, bounds, to) {
+        Next::Anything => true,
+        Next::Only(next) => is_from(next, name),
+        Next::Nothing => false,
+    }
+}
+
+/// Whether an activity may poll now.
+fn may_poll(population: &Population, bounds: &Bounds, number: u32) -> bool
+    requires ascending { IsAscending bounds.now }
+    requires numbered { IsNumbered bounds.now population.now.roster }
+    ensures may { (c : Configuration) (n : Name) → IsPopulation population.now c →
+        number_of n population.now.roster ≡ Some number → IsThere c n →
+        result ≡ is_next (lists_within bounds.now) c n Poll }
+{
+    match next_in(population, bounds, number) {
+        Next::Anything => true,
+        Next::Only(next) => is_poll(next),
+        Next::Nothing => false,
+    }
+}
+
+/// Where it sends to this activity, or polls as this one, in its turn or out of turn.
+fn in_turn<'a>(may: bool, to: u32, passed: usize) -> View<'a>
+    ensures passed { result.passed ≡ passed }
+    ensures look { IsTurn may to result.look }
+{
+    let look = if may { Look::Steps } else { Look::Holds(to) };
+    View { look, passed }
+}
+
+/// What an activity does that stands before a redex that needs others, or is at its count.
+pub fn look_at<'a>(
+    alloc: Global,
+    population: &'a Population,
+    bounds: &Bounds,
+    number: u32,
+    passed: usize,
+) -> Result<View<'a>, AllocError>
+    requires ascending { IsAscending bounds.now }
+    requires numbered { IsNumbered bounds.now population.now.roster }
+    requires reached { IsReachedBySome population.now }
+    requires passed { HasPassedBySome population.now number passed }
+    ensures look { (program : Tree) (c : Configuration) (n : Name) →
+        IsReachedPopulation population.now program c →
+        number_of n population.now.roster ≡ Some number → IfOk result (λ v.
+        IsLook (lists_within bounds.now) (count_within bounds.now) c population.now.roster n v.look) }
+    ensures passed { (c : Configuration) (n : Name) → IsPopulation population.now c →
+        number_of n population.now.roster ≡ Some number →
+        IfOk result (λ v. HasPassedIn c n v.passed) }
+{
+    let Some(actor) = population.get(number) else {
+        return Ok(unseen(Look::Leaves));
+    };
+    if actor.count() >= bounds.count(number) {
+        return Ok(unseen(Look::Leaves));
+    }
+    let seen = actor.outlook_from(alloc, &population.futures, passed)?;
+    let passed = seen.passed;
+    match seen.outlook {
+        Outlook::Steps => Ok(View {
+            look: Look::Steps,
+            passed,
+        }),
+        Outlook::Sends(name) => {
+            let Some(to) = population.roster.number(name) else {
+                unreachable!()
+            };
+            let may = may_come(population, bounds, to, population.roster.name(number));
+            Ok(in_turn(may, to, passed))
+        }
+        Outlook::Polls => {
+            let may = may_poll(population, bounds, number);
+            Ok(in_turn(may, number, passed))
+        }
+        Outlook::Awaits(future) => Ok(View {
+            look: Look::Awaits(future),
+            passed,
+        }),
+        Outlook::Faulted(_) => Ok(View {
+            look: Look::Leaves,
+            passed,
+        }),
+        Outlook::Serving => Ok(View {
+            look: Look::Serves,
+            passed,
+        }),
+        Outlook::Done => Ok(View {
+            look: Look::Leaves,
+            passed,
+        }),
+    }
+}
+
+/// No member is known to have a value.
+fn unseen(look: Look) -> View
+    ensures look { result.look ≡ look.entry }
+    ensures passed { result.passed ≡ 0 }
+{
+    View { look, passed: 0 }
+}
