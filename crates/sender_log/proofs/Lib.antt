@@ -1,7 +1,5 @@
 -- in reading order
-pub mod PartsLemmas
-pub mod NumberLemmas
-pub mod FoundLemmas
+pub mod WordLemmas
 pub mod OrderLemmas
 pub mod ReadLemmas
 pub mod LinesLemmas

@@ -4,9 +4,6 @@
 
 mod error;
 mod lines;
-mod names;
-mod numbers;
-mod parts;
 mod progress;
 mod read;
 mod step;

@@ -7,11 +7,9 @@ ghost use Rattle.asp_model.specs.Shapes.{reception_shape};
 ghost use Rattle.asp_model.specs.Term.{has_text};
 ghost use Rattle.asp_model.specs.ReportLines.{parts, verdict_lines, fault_texts, are_status_words, counted as counted_of, activity_in as activity_in_words, senders_of as senders_in_words, all_found, reception_in as reception_in_word, is_output as is_output_line};
 
-use crate::names::{is_future, name_of};
-use crate::numbers::count_of;
-use crate::parts::cut;
 use asp_model::{ActivityName, Reception};
 use std::alloc::{AllocError, Global};
+use text_lines::{count_of, cut, is_future, name_of};
 
 /// Whether a line is the title of a report of the first version.
 pub fn is_title(line: &[u8]) -> bool

@@ -11,11 +11,11 @@ ghost use Rattle.sender_log.specs.Answers.{Gives, IsRefusedAt, TellsOf};
 ghost use Rattle.sender_log.specs.Progress.{before_lines, behind_line, end_of, progress_shape};
 
 use crate::error::LogError;
-use crate::parts::cut;
 use crate::progress::{Next, Progress};
 use crate::step::behind;
 use asp_model::{Counts, Lists};
 use std::alloc::Global;
+use text_lines::cut;
 
 /// The logs and the counts that a report shows, or its first line that cannot stand in its
 /// place.

@@ -1,7 +1,7 @@
 use Rattle.std.proofs.Common.{◌≡◌, map}
 use Rattle.asp_model.specs.ReportLines.{reception_in, all_found}
 use Rattle.asp_model.specs.Shapes.{reception_shape}
-use Rattle.sender_log.proofs.FoundLemmas.{found_from}
+use Rattle.text_lines.proofs.FoundLemmas.{found_from}
 use Rattle.sender_log.proofs.lines.receptions_in.Given as goal
 
 abbrev pub invariant-loop-word : goal.invariant-loop-word

@@ -1,5 +1,5 @@
 use Rattle.std.proofs.Common.{ap, length, arith}
-use Rattle.sender_log.proofs.LinesLemmas.{lines_some}
+use Rattle.text_lines.proofs.LineLemmas.{lines_some}
 use Rattle.sender_log.proofs.read.read_bytes.Goals as goal
 
 pub read_lines-requires : goal.read_lines-requires

@@ -1,6 +1,6 @@
 use Rattle.std.proofs.Common.{refl, get_or}
-use Rattle.sender_log.proofs.NumberLemmas.{digit_at_is, value_more}
-use Rattle.sender_log.proofs.numbers.value.Goals as goal
+use Rattle.text_lines.proofs.NumberLemmas.{digit_at_is, value_more}
+use Rattle.text_lines.proofs.numbers.value.Goals as goal
 
 pub overflow_sub-digit : goal.overflow_sub-digit
 overflow_sub-digit c = (digit_at_is c.args.digits.now c.loop-digit.digit-index c.requires c.loop-digit-test.true).0

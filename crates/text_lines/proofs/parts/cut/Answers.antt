@@ -2,8 +2,8 @@ use Rattle.std.proofs.Common.{◌≡◌, subst, map, rules, tests, List, ℕ, If
 use Rattle.std.specs.Prelude.{◌==◌}
 use Rattle.std.proofs.lemmas.Iterator.Consumers.{map_from_collect}
 use Rattle.std.proofs.lemmas.Iterator.Splits.{YieldsList-from_slice_split}
-use Rattle.sender_log.proofs.PartsLemmas.{split_is}
-use Rattle.sender_log.proofs.parts.cut.Goals as goal
+use Rattle.text_lines.proofs.PartsLemmas.{split_is}
+use Rattle.text_lines.proofs.parts.cut.Goals as goal
 
 pub returns : goal.returns
 returns c =

@@ -2,8 +2,8 @@ use Rattle.std.proofs.Common.{◌∙◌, rules, tests}
 use Rattle.std.specs.Char.{is_ascii_digit}
 use Rattle.std.proofs.lemmas.Iterator.{YieldsList-from_slice}
 use Rattle.std.proofs.lemmas.Iterator.Search.{all_from_yields_List}
-use Rattle.sender_log.proofs.NumberLemmas.{digits_are}
-use Rattle.sender_log.proofs.numbers.are_digits.Goals as goal
+use Rattle.text_lines.proofs.NumberLemmas.{digits_are}
+use Rattle.text_lines.proofs.numbers.are_digits.Goals as goal
 
 pub returns : goal.returns
 returns c =

@@ -1,11 +1,13 @@
-//! Names of activities and of futures, as a report shows them.
+//! Names of activities and of futures.
 
 ghost use Rattle.std.specs.Prelude.{◌≡◌, map, IfOk};
-ghost use Rattle.asp_model.specs.ReportLines.{name_of as name_in, name_of_parts, under_main, all_found, index_of as index_in, future_of, future_of_parts, is_found};
+ghost use Rattle.std.specs.Option.{option_map};
+ghost use Rattle.asp_model.specs.ReportLines.{name_of as name_in, name_of_parts, under_main, all_found, asked_under, index_of as index_in, future_of as future_in, future_of_parts, is_found};
+ghost use Rattle.asp_model.specs.Shapes.{future_shape};
 
 use crate::numbers::index_of;
 use crate::parts::cut;
-use asp_model::ActivityName;
+use asp_model::{ActivityName, FutureName};
 use std::alloc::{AllocError, Global};
 
 /// The name that a text is, where it is one.
@@ -42,18 +44,34 @@ fn name_under_main(alloc: Global, parts: &[&[u8]]) -> Result<Option<ActivityName
 
 /// Whether a text is the name of a future.
 pub fn is_future(alloc: Global, text: &[u8]) -> Result<bool, AllocError>
-    ensures future { IfOk result (λ b. b ≡ is_found (future_of text.now)) }
+    ensures future { IfOk result (λ b. b ≡ is_found (future_in text.now)) }
 {
-    let parts = cut(alloc, b'#', text)?;
-    are_future(alloc, &parts)
+    Ok(future_of(alloc, text)?.is_some())
 }
 
-fn are_future(alloc: Global, parts: &[&[u8]]) -> Result<bool, AllocError>
+/// The future whose name a text is, where it is one.
+pub fn future_of(alloc: Global, text: &[u8]) -> Result<Option<FutureName>, AllocError>
+    ensures future { IfOk result (λ o. option_map future_shape o ≡ future_in text.now) }
+{
+    let parts = cut(alloc, b'#', text)?;
+    future_in_parts(alloc, &parts)
+}
+
+fn future_in_parts(alloc: Global, parts: &[&[u8]]) -> Result<Option<FutureName>, AllocError>
     ensures { let found = future_of_parts (map (λ p. p.now) parts.now) in
-        IfOk result (λ b. b ≡ is_found found) }
+        IfOk result (λ o. option_map future_shape o ≡ found) }
 {
     match parts {
-        [name, index] => Ok(name_of(alloc, name)?.is_some() && index_of(index).is_some()),
-        _ => Ok(false),
+        [name, index] => Ok(future_under(name_of(alloc, name)?, index_of(index))),
+        _ => Ok(None),
+    }
+}
+
+fn future_under(by: Option<ActivityName>, index: Option<u32>) -> Option<FutureName>
+    ensures { option_map future_shape result ≡ asked_under by index }
+{
+    match (by, index) {
+        (Some(by), Some(index)) => Some(FutureName { by, index }),
+        _ => None,
     }
 }

@@ -1,0 +1,5 @@
+-- in reading order
+pub mod PartsLemmas
+pub mod NumberLemmas
+pub mod FoundLemmas
+pub mod LineLemmas
