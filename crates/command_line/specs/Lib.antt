@@ -2,6 +2,7 @@
 pub mod Command
 pub mod Numbers
 pub mod Settings
+pub mod Wanted
 pub mod Task
 pub mod Lines
 pub mod PlainWords

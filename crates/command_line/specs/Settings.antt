@@ -1,6 +1,6 @@
 -- How a program is run: by how many workers, within which budget, and with which strategies.
-use Rattle.std.specs.Prelude.{◌≤◌, ◌||◌, ℕ, nat_le, nat_lt, ◌==◌, if◌then◌else◌, Bool}
-use Rattle.std.specs.Prelude.{List, [], ◌∷◌, ◌++◌, length, Option, Some, None, option_map, option_and_then, is_some, codes}
+use Rattle.std.specs.Prelude.{◌≤◌, ℕ, nat_le, nat_lt, ◌==◌, if◌then◌else◌, Bool}
+use Rattle.std.specs.Prelude.{List, [], ◌∷◌, ◌++◌, length, Option, Some, None, option_map, option_and_then, codes}
 use Rattle.std.specs.List.{after_first, before_first, list_any, position_or_len, slice_split}
 use Rattle.std.specs.Str.{bytes_eq}
 use Rattle.clap.specs.Walk.{Text}
@@ -29,10 +29,6 @@ pub record IsSettings (s : SettingsShape) : Type 0 where
 -- where none is given
 abbrev pub usual : SettingsShape
 usual = record { workers = 4; budget = 1000000; plan = record { strategy = Lazy; by_label = [] } }
-
--- some text of them is given
-abbrev pub are_given : SettingTexts → Bool
-are_given t = is_some t.workers || (is_some t.budget || (is_some t.strategy || is_some t.update))
 
 abbrev pub workers_of : Option Text → Option ℕ
 workers_of None = Some usual.workers

@@ -5,12 +5,16 @@ use Rattle.clap.specs.Walk.{Text}
 use Rattle.update_policy.specs.Plans.{plan_shape}
 use Rattle.command_line.specs.Command.{SettingTexts, TextsShape}
 use Rattle.command_line.specs.Settings.{SettingsShape}
+use Rattle.command_line.specs.Wanted.{CompanionsShape, WantedShape, Run, Check, Replay, Make}
 use Rattle.command_line.specs.Task.{TaskShape, Runs, Checks, Replays, Makes}
 use Rattle.command_line.specs.declared.command.Given.{Given}
 use Rattle.command_line.specs.declared.command.Texts.{Texts}
 use Rattle.command_line.specs.declared.settings.Settings.{Settings}
 use Rattle.command_line.specs.declared.task.Task.{Task}
 use Rattle.command_line.specs.declared.task.Task.TheVariants as task
+use Rattle.command_line.specs.declared.wanted.Companions.{Companions}
+use Rattle.command_line.specs.declared.wanted.Wanted.{Wanted}
+use Rattle.command_line.specs.declared.wanted.Wanted.TheVariants as wanted
 
 abbrev pub text_behind : Option (Bor Text) → Option Text
 text_behind = option_map (λ s. s.now)
@@ -41,3 +45,12 @@ task_shape (task.Run file settings depth) = Runs file.now (settings_shape settin
 task_shape (task.Check file) = Checks file.now
 task_shape (task.Replay file report depth) = Replays file.now report.now depth
 task_shape (task.Make pairs settings) = Makes pairs (settings_shape settings)
+
+abbrev pub wanted_shape : Wanted → WantedShape
+wanted_shape wanted.Run = Run
+wanted_shape wanted.Check = Check
+wanted_shape (wanted.Replay report) = Replay report.now
+wanted_shape (wanted.Make pairs) = Make pairs.now
+
+abbrev pub companions_shape : Companions → CompanionsShape
+companions_shape c = record { racing = c.racing; budget = c.budget; state = c.state }

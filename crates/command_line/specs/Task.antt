@@ -1,11 +1,12 @@
 -- What words ask for.
-use Rattle.std.specs.Prelude.{◌≤◌, ℕ, if◌then◌else◌, ⊤, Bool, true, false}
+use Rattle.std.specs.Prelude.{◌≤◌, ℕ, if◌then◌else◌, ⊤}
 use Rattle.std.specs.Prelude.{List, Option, Some, None, option_map, option_and_then}
 use Rattle.clap.specs.Walk.{Text}
 use Rattle.asp_model.specs.declared.limits.TheConstants.{MOST_DEPTH, MOST_PAIRS}
 use Rattle.command_line.specs.Command.{SettingTexts, TextsShape, is_taken, texts_of}
 use Rattle.command_line.specs.Numbers.{number_in}
-use Rattle.command_line.specs.Settings.{IsSettings, SettingsShape, are_given, settings_of}
+use Rattle.command_line.specs.Settings.{IsSettings, SettingsShape, settings_of}
+use Rattle.command_line.specs.Wanted.{WantedShape, Run, Check, Replay, Make, companions_of, stand, wanted_in}
 
 -- a depth is that of the states that the report shows; with none it shows no state
 pub data TaskShape : Type 0 where
@@ -42,17 +43,20 @@ abbrev pub making : Text → SettingTexts → Option TaskShape
 making pairs given =
     option_and_then (λ n. option_map (Makes n) (settings_of given)) (number_in 1 MOST_PAIRS pairs)
 
--- which of FILE, --check, --replay, --make, --state and settings may stand together, and what they ask for
-abbrev pub asked_by : SettingTexts → (file : Option Text) (check : Bool) (replay make state : Option Text)
-    → (given : Bool) → Option TaskShape
-asked_by s (Some file) false None None state given = running file s state
-asked_by s (Some file) true None None None false = Some (Checks file)
-asked_by s (Some file) false (Some report) None state false = replaying file report state
-asked_by s None false None (Some pairs) None given = making pairs s
-asked_by s file check replay make state given = None
+-- the task, of a program in FILE or of a generated one
+abbrev pub task_by : WantedShape → (file : Option Text) → TextsShape → Option TaskShape
+task_by Run (Some file) t = running file t.settings t.state
+task_by Check (Some file) t = Some (Checks file)
+task_by (Replay report) (Some file) t = replaying file report t.state
+task_by (Make pairs) None t = making pairs t.settings
+task_by wanted file t = None
+
+-- where all that is given may stand beside what is asked for
+abbrev pub task_beside : TextsShape → WantedShape → Option TaskShape
+task_beside t wanted = if stand (companions_of wanted) t then task_by wanted t.file t else None
 
 abbrev pub task_in : TextsShape → Option TaskShape
-task_in t = asked_by t.settings t.file t.check t.replay t.make t.state (are_given t.settings)
+task_in t = option_and_then (task_beside t) (wanted_in t)
 
 -- what the words ask for, where the command takes them and their texts may stand together
 unfoldable pub task_of : List Text → Option TaskShape

@@ -8,6 +8,7 @@ mod number;
 mod settings;
 mod task;
 mod update;
+mod wanted;
 
 pub use error::WordsError;
 pub use lines::{accepted_lines, plain_word_runs, refused_lines};

@@ -8,7 +8,6 @@ ghost use Rattle.asp_model.specs.declared.limits.TheConstants.{
 ghost use Rattle.update_policy.specs.Plans.{plan_shape};
 ghost use Rattle.command_line.specs.Settings.{
   IsSettings,
-  are_given as are_given_texts,
   budget_of,
   plan_of,
   settings_of,
@@ -56,16 +55,6 @@ pub fn settings_in(alloc: Global, texts: &Given<'_>) -> Result<Settings, WordsEr
         budget,
         plan,
     })
-}
-
-/// Whether some text of them is given.
-pub fn are_given(texts: &Given<'_>) -> bool
-    ensures { result ≡ are_given_texts (given_shape texts.now) }
-{
-    texts.workers.is_some()
-        || texts.budget.is_some()
-        || texts.strategy.is_some()
-        || texts.update.is_some()
 }
 
 fn workers_in(text: Option<&str>) -> Result<u32, WordsError>

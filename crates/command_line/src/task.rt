@@ -8,16 +8,18 @@ ghost use Rattle.command_line.specs.Task.{
   making,
   replaying,
   running,
+  task_by as task_given,
   task_in,
   task_of,
 };
-ghost use Rattle.command_line.specs.Shapes.{given_shape, task_shape, text_behind, texts_shape};
+ghost use Rattle.command_line.specs.Shapes.{given_shape, task_shape, text_behind, texts_shape, wanted_shape};
 ghost use Rattle.command_line.specs.declared.error.WordsError.TheVariants as errors;
 
 use crate::command::{Given, Texts, read_texts};
 use crate::error::WordsError;
 use crate::number::number_in;
-use crate::settings::{Settings, are_given, settings_in};
+use crate::settings::{Settings, settings_in};
+use crate::wanted::{Wanted, companions_of, stand, wanted_in};
 use asp_model::{MOST_DEPTH, MOST_PAIRS};
 use std::alloc::Global;
 
@@ -74,19 +76,29 @@ fn task_from<'a>(alloc: Global, texts: &Texts<'a>) -> Result<Task<'a>, WordsErro
     ensures usage { IfErr result (λ e. e ≡ errors.Usage → task_in (texts_shape texts.now) ≡ None) }
     ensures within { IfOk result (λ t. IsWithin (task_shape t)) }
 {
-    let given = are_given(&texts.settings);
-    match (
-        texts.file,
-        texts.check,
-        texts.replay,
-        texts.make,
-        texts.state,
-        given,
-    ) {
-        (Some(file), false, None, None, state, _) => run(alloc, file, &texts.settings, state),
-        (Some(file), true, None, None, None, false) => Ok(Task::Check { file }),
-        (Some(file), false, Some(report), None, state, false) => replay(file, report, state),
-        (None, false, None, Some(pairs), None, _) => make(alloc, pairs, &texts.settings),
+    let Some(wanted) = wanted_in(texts) else {
+        return Err(WordsError::Usage);
+    };
+    if stand(&companions_of(wanted), texts) {
+        task_by(alloc, wanted, texts)
+    } else {
+        Err(WordsError::Usage)
+    }
+}
+
+// The task, of a program in FILE or of a generated one.
+fn task_by<'a>(alloc: Global, wanted: Wanted<'a>, texts: &Texts<'a>) -> Result<Task<'a>, WordsError>
+    ensures ok { let asked = task_given (wanted_shape wanted.entry) in IfOk result
+        (λ t. asked (text_behind texts.now.file) (texts_shape texts.now) ≡ Some (task_shape t)) }
+    ensures usage { let asked = task_given (wanted_shape wanted.entry) in IfErr result (λ e. e ≡ errors.Usage
+        → asked (text_behind texts.now.file) (texts_shape texts.now) ≡ None) }
+    ensures within { IfOk result (λ t. IsWithin (task_shape t)) }
+{
+    match (wanted, texts.file) {
+        (Wanted::Run, Some(file)) => run(alloc, file, &texts.settings, texts.state),
+        (Wanted::Check, Some(file)) => Ok(Task::Check { file }),
+        (Wanted::Replay(report), Some(file)) => replay(file, report, texts.state),
+        (Wanted::Make(pairs), None) => make(alloc, pairs, &texts.settings),
         _ => Err(WordsError::Usage),
     }
 }

@@ -1,0 +1,55 @@
+-- The table of the command: which task is asked for, and what may stand beside it.
+use Rattle.std.specs.Prelude.{◌&&◌, ◌||◌, not, if◌then◌else◌, Bool, true, false, Option, Some, None, option_map, is_some}
+use Rattle.clap.specs.Walk.{Text}
+use Rattle.command_line.specs.Command.{SettingTexts, TextsShape}
+
+-- what is asked of a program
+pub data WantedShape : Type 0 where
+  -- where no option asks for anything else
+  Run : WantedShape
+  Check : WantedShape
+  Replay : (report : Text) → WantedShape
+  Make : (pairs : Text) → WantedShape
+
+-- with one option more, where it is given: it asks for something in place of a run, and no two of them stand together
+abbrev pub and_asks : Option WantedShape → Option WantedShape → Option WantedShape
+and_asks asked None = asked
+and_asks (Some Run) (Some wanted) = Some wanted
+and_asks asked (Some wanted) = None
+
+-- a flag asks for this, where it is given
+abbrev pub flag_asks : Bool → WantedShape → Option WantedShape
+flag_asks given wanted = if given then Some wanted else None
+
+-- the one task asked for: a line for each option that asks for one
+abbrev pub wanted_in : TextsShape → Option WantedShape
+wanted_in t =
+    let asked = and_asks (Some Run) (flag_asks t.check Check) in
+    let asked = and_asks asked (option_map Replay t.replay) in
+    and_asks asked (option_map Make t.make)
+
+-- what may stand beside what is asked for
+pub record CompanionsShape : Type 0 where
+  -- workers and strategies
+  pub racing : Bool
+  pub budget : Bool
+  pub state : Bool
+
+abbrev pub companions_of : WantedShape → CompanionsShape
+companions_of Run = record { racing = true; budget = true; state = true }
+companions_of Check = record { racing = false; budget = false; state = false }
+companions_of (Replay report) = record { racing = false; budget = false; state = true }
+companions_of (Make pairs) = record { racing = true; budget = true; state = false }
+
+-- workers or a strategy are given
+abbrev pub is_racing : SettingTexts → Bool
+is_racing t = is_some t.workers || (is_some t.strategy || is_some t.update)
+
+-- it is not given, or may stand there
+abbrev pub is_allowed : (may given : Bool) → Bool
+is_allowed may given = may || not given
+
+-- all that is given may stand there
+abbrev pub stand : CompanionsShape → TextsShape → Bool
+stand c t = is_allowed c.racing (is_racing t.settings)
+    && (is_allowed c.budget (is_some t.settings.budget) && is_allowed c.state (is_some t.state))

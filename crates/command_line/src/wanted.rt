@@ -1,0 +1,135 @@
+//! The table of the command: which task is asked for, and what may stand beside it.
+
+ghost use Rattle.std.specs.Prelude.{◌≡◌, option_map};
+ghost use Rattle.command_line.specs.Shapes.{companions_shape, given_shape, text_behind, texts_shape, wanted_shape};
+ghost use Rattle.command_line.specs.Wanted.{
+  Make,
+  Replay,
+  and_asks as and_asks_shape,
+  companions_of as companions_wanted,
+  flag_asks as flag_asks_shape,
+  is_allowed as is_allowed_beside,
+  is_racing as is_racing_given,
+  stand as stand_beside,
+  wanted_in as wanted_among,
+};
+
+use crate::command::{Given, Texts};
+
+/// What is asked of a program.
+#[derive(Clone, Copy)]
+pub enum Wanted<'a> {
+    /// That it is run, where no option asks for anything else.
+    Run,
+    /// That it is checked.
+    Check,
+    /// That the report in a file is replayed.
+    Replay(&'a str),
+    /// That it is the generated program of so many pairs.
+    Make(&'a str),
+}
+
+/// What may stand beside what is asked for.
+#[derive(Clone, Copy)]
+pub struct Companions {
+    /// Workers and strategies.
+    pub racing: bool,
+    pub budget: bool,
+    pub state: bool,
+}
+
+// With one option more, where it is given.
+fn and_asks<'a>(asked: Option<Wanted<'a>>, more: Option<Wanted<'a>>) -> Option<Wanted<'a>>
+    ensures { let before = option_map wanted_shape asked.entry in
+        option_map wanted_shape result ≡ and_asks_shape before (option_map wanted_shape more.entry) }
+{
+    let Some(wanted) = more else {
+        return asked;
+    };
+    match asked {
+        Some(Wanted::Run) => Some(wanted),
+        _ => None,
+    }
+}
+
+fn flag_asks<'a>(given: bool, wanted: Wanted<'a>) -> Option<Wanted<'a>>
+    ensures { option_map wanted_shape result ≡ flag_asks_shape given (wanted_shape wanted.entry) }
+{
+    if given { Some(wanted) } else { None }
+}
+
+fn replay_asks<'a>(report: Option<&'a str>) -> Option<Wanted<'a>>
+    ensures { option_map wanted_shape result ≡ option_map Replay (text_behind report.entry) }
+{
+    match report {
+        Some(report) => Some(Wanted::Replay(report)),
+        None => None,
+    }
+}
+
+fn make_asks<'a>(pairs: Option<&'a str>) -> Option<Wanted<'a>>
+    ensures { option_map wanted_shape result ≡ option_map Make (text_behind pairs.entry) }
+{
+    match pairs {
+        Some(pairs) => Some(Wanted::Make(pairs)),
+        None => None,
+    }
+}
+
+/// The one task asked for: a line for each option that asks for one.
+pub fn wanted_in<'a>(texts: &Texts<'a>) -> Option<Wanted<'a>>
+    ensures { option_map wanted_shape result ≡ wanted_among (texts_shape texts.now) }
+{
+    let asked = and_asks(Some(Wanted::Run), flag_asks(texts.check, Wanted::Check));
+    let asked = and_asks(asked, replay_asks(texts.replay));
+    and_asks(asked, make_asks(texts.make))
+}
+
+/// What may stand beside what is asked for.
+pub fn companions_of(wanted: Wanted<'_>) -> Companions
+    ensures { companions_shape result ≡ companions_wanted (wanted_shape wanted.entry) }
+{
+    match wanted {
+        Wanted::Run => Companions {
+            racing: true,
+            budget: true,
+            state: true,
+        },
+        Wanted::Check => Companions {
+            racing: false,
+            budget: false,
+            state: false,
+        },
+        Wanted::Replay(_) => Companions {
+            racing: false,
+            budget: false,
+            state: true,
+        },
+        Wanted::Make(_) => Companions {
+            racing: true,
+            budget: true,
+            state: false,
+        },
+    }
+}
+
+fn is_racing(texts: &Given<'_>) -> bool
+    ensures { result ≡ is_racing_given (given_shape texts.now) }
+{
+    texts.workers.is_some() || texts.strategy.is_some() || texts.update.is_some()
+}
+
+fn is_allowed(may: bool, given: bool) -> bool
+    ensures { result ≡ is_allowed_beside may given }
+{
+    may || !given
+}
+
+/// Whether all that is given may stand there.
+pub fn stand(companions: &Companions, texts: &Texts<'_>) -> bool
+    ensures { result ≡ stand_beside (companions_shape companions.now) (texts_shape texts.now) }
+{
+    is_allowed(companions.racing, is_racing(&texts.settings))
+        && is_allowed(companions.budget, texts.settings.budget.is_some())
+        && is_allowed(companions.state, texts.state.is_some())
+}
