@@ -11,4 +11,8 @@ mod top;
 mod writing;
 
 pub use ended::{ended_runs_print_the_same, one_sender_prints_the_same};
+pub use prepare::{Prepared, report_for};
+pub use programs::program_of;
+pub use stop::Stop;
 pub use top::run_asp;
+pub use writing::{refuse, write_prepared};

@@ -66,7 +66,8 @@ fn text_for(alloc: Global, lines: Vec<Word>, outcome: &Outcome) -> Result<Prepar
     })
 }
 
-fn report_for(alloc: Global, end: &RunEnd, depth: Option<u32>) -> Result<Prepared, AllocError>
+/// The report of the end of a run, with its status.
+pub fn report_for(alloc: Global, end: &RunEnd, depth: Option<u32>) -> Result<Prepared, AllocError>
     ensures text { (o : WholeOutcome) → IsEndOf end.now o →
         IfOk result (λ p. text_in p ≡ report_to depth o) }
     ensures status { let shown = outcome_shape end.now.outcome in

@@ -12,5 +12,6 @@ mod wanted;
 
 pub use error::WordsError;
 pub use lines::{accepted_lines, plain_word_runs, refused_lines};
+pub use number::number_in;
 pub use settings::Settings;
 pub use task::{Task, read_words};
