@@ -1,0 +1,4 @@
+-- in reading order
+pub mod Outcomes
+pub mod Told
+pub mod Tallies
