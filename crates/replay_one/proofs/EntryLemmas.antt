@@ -17,8 +17,8 @@ use Rattle.asp_model.specs.Shapes.{reception_shape}
 use Rattle.law_steps.proofs.EntryLemmas.{first_of_both, second_of_both}
 use Rattle.def_journals.specs.Journals.{number_of}
 use Rattle.law_steps.proofs.NameLemmas.{name_total, name_case, names_tied}
-use Rattle.replay_one.specs.Roster.{IsRoster, Leads}
-use Rattle.replay_one.proofs.RosterLemmas.{number_named}
+use Rattle.replay_population.specs.Roster.{IsRoster, Leads}
+use Rattle.replay_population.proofs.RosterLemmas.{number_named}
 use Rattle.step_ends.proofs.EntryLemmas.{absent_below, find_head, find_skip, less_of}
 use Rattle.law_chases.proofs.FutureLemmas.{no_some, some_is}
 

@@ -1,8 +1,5 @@
-pub mod ColumnLemmas
-pub mod RosterLemmas
 pub mod EntryLemmas
 pub mod ScheduleLemmas
-pub mod PopulationLemmas
 pub mod LookLemmas
 pub mod GiveLemmas
 pub mod LocalLemmas

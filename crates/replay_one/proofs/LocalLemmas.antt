@@ -25,7 +25,7 @@ use Rattle.law_schedules.proofs.LeastLemmas.{least_steps}
 use Rattle.law_schedules.specs.Watches.{IsWatched, Watches}
 use Rattle.law_schedules.proofs.WokenLemmas.{called_are_scheduled}
 use Rattle.activity_step.specs.Local.{IsLocalStep, LocalRun}
-use Rattle.replay_one.specs.Population.{with_activity}
+use Rattle.replay_population.specs.Population.{with_activity}
 
 -- One contraction
 

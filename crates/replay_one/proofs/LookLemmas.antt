@@ -23,30 +23,21 @@ use Rattle.law_steps.proofs.LinkedLemmas.{targets_are_there}
 use Rattle.law_chases.proofs.FutureLemmas.{no_some, none_true, some_is}
 use Rattle.law_steps.proofs.StepLemmas.{holds_back, takes_step}
 use Rattle.step_activity.specs.declared.actor.Actor.{Actor}
-use Rattle.step_parts.specs.declared.outlook.Outlook.{Outlook}
 use Rattle.step_parts.specs.declared.outlook.Outlook.TheVariants as outlook
 use Rattle.step_activity.specs.Actors.{Stands}
 use Rattle.step_activity.specs.Outlook.{IsOutlook, IsTo}
 use Rattle.law_schedules.specs.Schedules.{IsNextIn, IsOf, RestsIn}
 use Rattle.replay_one.specs.declared.bounds.Next.TheVariants as next
-use Rattle.replay_one.specs.declared.population.Population.{Population}
+use Rattle.replay_population.specs.declared.population.Population.{Population}
 use Rattle.replay_one.specs.Bounds.{IsNextAt}
 use Rattle.step_activity.specs.Passing.{HasPassed, IsPassedFor}
-use Rattle.replay_one.specs.Population.{HasPassedIn, IsPopulation, found_in}
+use Rattle.replay_population.specs.Population.{HasPassedIn, IsPopulation, found_in}
 use Rattle.step_ends.specs.Activities.{StandsAt}
 use Rattle.replay_one.specs.Round.{CanStep, Leaves, LogsTo}
-use Rattle.replay_one.proofs.PopulationLemmas.{found_stands}
+use Rattle.replay_population.proofs.PopulationLemmas.{found_stands}
 use Rattle.step_ends.proofs.ReportLemmas.{stands_none}
 
 -- Intents by their outlook
-
--- the intent of an activity of the population
-pub intended : (p : Population) (c : Configuration) (n : Name) (x : Actor) (o : Outlook) → IsPopulation p c → found_in p n ≡ Some x → ((a : model.Activity) (rs : List RequestShape) (m : Name) → Stands x a rs → IsOutlook m (intent (chase (values_of p.futures)) rs m a) o) → IsOutlook n (intent_in c n) o
-intended p c n x o h is looks =
-    let s = found_stands p c n x h is in
-    let e : intent_in c n ≡ intent (chase c.futures) (requests_of c n) n s.0 = ap (λ (q : Option model.Activity). elim q [ None ↦ Rests Done | Some a ↦ intent (chase c.futures) (requests_of c n) n a ]) s.1 in
-    let v = looks s.0 (requests_of c n) n s.2 in
-    subst (λ q. IsOutlook n q o) (ap (λ (vs : Values). intent (chase vs) (requests_of c n) n s.0) h.futures ∙ sym e) v
 
 steps_intent : (n : Name) (p : Intent) → IsOutlook n p outlook.Steps → (e : Effect) × (p ≡ Acts e) × (e.logged ≡ None)
 steps_intent n (Acts e) h = (e, refl, h.1)

@@ -17,7 +17,7 @@ use Rattle.replay_one.specs.declared.bounds.Bounds.{Bounds}
 use Rattle.replay_one.specs.declared.round.Machine.{Machine}
 use Rattle.replay_one.specs.Bounds.{IsNumbered, count_within, lists_within}
 use Rattle.replay_one.specs.Correct.{IsReplayed, IsSpent}
-use Rattle.replay_one.specs.Population.{IsPopulation, passed_in}
+use Rattle.replay_population.specs.Population.{IsPopulation, passed_in}
 use Rattle.replay_one.specs.Schedule.{noted_in, ready_in, watches_in}
 use Rattle.replay_one.specs.Round.{IsRunAt, seen_in}
 use Rattle.step_ends.proofs.ReportLemmas.{map_map}

@@ -28,21 +28,23 @@ use Rattle.law_schedules.specs.Watches.{IsWatched, IsWatchedAt, Watches}
 use Rattle.law_schedules.proofs.WokenLemmas.{called_are_scheduled}
 use Rattle.serve_rules.specs.Labels.{HaveSame}
 use Rattle.replay_one.specs.declared.bounds.Bounds.{Bounds}
-use Rattle.replay_one.specs.declared.population.Population.{Population}
+use Rattle.replay_population.specs.declared.population.Population.{Population}
 use Rattle.replay_one.specs.declared.round.Machine.{Machine}
-use Rattle.replay_one.specs.Roster.{IsRoster, Leads}
+use Rattle.replay_population.specs.Roster.{IsRoster, Leads}
 use Rattle.replay_one.specs.declared.bounds.Bounds.TheVariants as bounds
 use Rattle.replay_one.specs.Bounds.{IsNumbered, count_within, lists_within}
-use Rattle.replay_one.proofs.RosterLemmas.{leads_both}
+use Rattle.replay_population.proofs.RosterLemmas.{leads_both}
 use Rattle.step_reads.proofs.PassedLemmas.{passed_still}
 use Rattle.step_reads.specs.declared.strict.Strict.TheVariants as strict
 use Rattle.step_activity.specs.Passing.{HasPassed}
 use Rattle.step_activity.proofs.PassingLemmas.{first_passed}
-use Rattle.replay_one.specs.Population.{ArePassed, HasPassedIn, IsForgotten, IsPassing, IsPopulation, IsReachedPopulation, IsRunIn, KeepsPassed, or_zero, passed_in, with_activity}
+use Rattle.replay_population.specs.Population.{ArePassed, HasPassedIn, IsForgotten, IsPassing, IsPopulation, IsRunIn, KeepsPassed, or_zero, passed_in, with_activity}
+use Rattle.replay_population.specs.Reached.{IsReachedPopulation}
 use Rattle.replay_one.specs.declared.schedule.Schedule.{Schedule}
 use Rattle.replay_one.specs.Schedule.{IsMoreReady, IsNoted, IsTaken, IsWatching, Seen, seen, asks_in, noted_in, ready_in, sends_in, watches_in}
 use Rattle.replay_one.specs.Round.{CanStep, IsHandedOn, IsRunAt, IsRunBut, IsRunWith, LeadsTo, Leaves, LogsTo, next_by, seen_in}
 use Rattle.replay_one.proofs.LocalLemmas.{local_runs_go_on}
+use Rattle.replay_population.proofs.PopulationLemmas.{still_none}
 
 pub reached_population : (b : Bounds) (p : Population) (s : Seen) (program : Tree) (c : Configuration) → IsRunWith b p s program c → IsReachedPopulation p program c
 reached_population b p s program c h = record { bare = h.bare; reached = h.reached; population = h.population }
@@ -307,13 +309,6 @@ ran b program c n p s q mid most k h t (inl r) roster same alone =
 ran b program c n p s q mid most k h t (inr e) roster same alone =
     let none : k ≡ 0 = e.0 in
     (c, (λ j. let all : k + j ≡ j = omega (arith, none) in ap (λ i. steps_from i (lists_within b) (count_within b) c) all), settled_run b program c p s q h e.1 roster same, omega (arith, none))
-
-pub still_none : (p q : Population) (n : Name) → KeepsPassed p q → passed_in p n ≡ None → passed_in q n ≡ None
-still_none p q n keeps none = by (passed_in q n) refl
-  where
-    by : (o : Option ℕ) → passed_in q n ≡ o → o ≡ None
-    by None e = refl
-    by (Some j) e = no_some (sym none ∙ keeps n j e)
 
 -- where the least of those ready has taken its reductions that need no other
 pub record Ran (b : Bounds) (program : Tree) (c : Configuration) (n : Name) (number : ℕ) (s : Seen) (mid : Schedule) (q : Population) (most k : ℕ) : Type 0 where

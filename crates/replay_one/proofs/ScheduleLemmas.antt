@@ -25,8 +25,8 @@ use Rattle.replay_one.specs.declared.schedule.Schedule.{Schedule}
 use Rattle.replay_one.specs.declared.schedule.Watch.{Watch}
 use Rattle.replay_one.specs.declared.schedule.Watch.TheVariants as watch
 use Rattle.replay_one.specs.Schedule.{HasPlace, IsFewerIn, IsMoreReady, IsNoted, IsTaken, IsWatch, IsWatching, Seen, asks_at, asks_in, has_number, if_number, is_asked, is_held, is_numbered_in, noted_at, noted_in, ready_in, seen, sends_at, sends_in, watches_in}
-use Rattle.replay_one.proofs.ColumnLemmas.{is_same, number_case, same_number, set_here, set_other}
-use Rattle.replay_one.proofs.RosterLemmas.{other_number}
+use Rattle.replay_population.proofs.ColumnLemmas.{is_same, number_case, same_number, set_here, set_other}
+use Rattle.replay_population.proofs.RosterLemmas.{other_number}
 
 abbrev pub future_order : FutureName → FutureName → Ordering
 future_order = ordering.ghosts.cmp

@@ -6,7 +6,7 @@ use Rattle.asp_model.specs.Configuration.{ReceptionShape}
 use Rattle.asp_model.specs.Step.{ListsShape, reception_at}
 use Rattle.asp_model.specs.Replay.{count_in, log_in}
 use Rattle.asp_model.specs.Shapes.{counts_shape, lists_shape, reception_shape}
-use Rattle.replay_one.specs.Roster.{Leads}
+use Rattle.replay_population.specs.Roster.{Leads}
 use Rattle.replay_one.specs.declared.bounds.Bounds.{Bounds}
 use Rattle.replay_one.specs.declared.bounds.Bounds.TheVariants as bounds
 use Rattle.replay_one.specs.declared.bounds.Next.{Next}

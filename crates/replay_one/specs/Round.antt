@@ -14,14 +14,14 @@ use Rattle.law_steps.specs.Reached.{IsReached, IsAt}
 use Rattle.law_schedules.specs.Schedules.{IsFilledBy, IsLoggedTo, IsNextIn, IsScheduled, RestsIn, WaitsFor}
 use Rattle.law_schedules.specs.Watches.{IsWatched}
 use Rattle.replay_one.specs.declared.bounds.Bounds.{Bounds}
-use Rattle.replay_one.specs.declared.population.Population.{Population}
+use Rattle.replay_population.specs.declared.population.Population.{Population}
 use Rattle.replay_one.specs.declared.looks.Look.{Look}
 use Rattle.replay_one.specs.declared.looks.Look.TheVariants as look
 use Rattle.replay_one.specs.declared.round.Round.{Round}
 use Rattle.replay_one.specs.declared.round.Round.TheVariants as round
 use Rattle.replay_one.specs.declared.round.Machine.{Machine}
 use Rattle.replay_one.specs.Bounds.{IsNumbered, count_within, lists_within}
-use Rattle.replay_one.specs.Population.{ArePassed, IsPopulation, passed_in}
+use Rattle.replay_population.specs.Population.{ArePassed, IsPopulation, passed_in}
 use Rattle.replay_one.specs.Schedule.{IsTaken, Seen, asks_in, noted_in, ready_in, seen, sends_in, watches_in}
 
 -- an activity is below its count, and this is its step

@@ -13,10 +13,10 @@ ghost use Rattle.replay_one.specs.Bounds.{
   lists_within,
 };
 ghost use Rattle.def_journals.specs.Journals.{number_of};
-ghost use Rattle.replay_one.specs.Roster.{IsRoster};
+ghost use Rattle.replay_population.specs.Roster.{IsRoster};
 
-use crate::roster::Roster;
 use asp_model::{ActivityName, Counts, Lists, Reception};
+use replay_population::Roster;
 use std::alloc::{AllocError, Global};
 
 /// What bounds a run.

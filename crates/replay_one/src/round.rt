@@ -11,20 +11,20 @@ ghost use Rattle.def_journals.specs.Journals.{number_of};
 ghost use Rattle.law_steps.specs.Reached.{IsThere};
 ghost use Rattle.law_schedules.specs.Schedules.{IsNextIn, IsOf};
 ghost use Rattle.asp_model.specs.Shapes.{reception_shape};
-ghost use Rattle.replay_one.specs.Roster.{Leads};
+ghost use Rattle.replay_population.specs.Roster.{Leads};
 ghost use Rattle.replay_one.specs.Bounds.{IsAscending, IsNumbered, lists_within};
-ghost use Rattle.replay_one.specs.Population.{HasPassedBySome, IsGiving, IsGivingSome, IsPopulation, KeepsPassed, passed_in, term_of};
+ghost use Rattle.replay_population.specs.Population.{HasPassedBySome, IsPopulation, KeepsPassed, passed_in, term_of};
+ghost use Rattle.replay_population.specs.Giving.{IsGiving, IsGivingAs};
 ghost use Rattle.replay_one.specs.Schedule.{IsMoreReady, ready_in, seen, sends_in};
 ghost use Rattle.replay_one.specs.Round.{IsFewer, IsHandedOn, IsKept, IsRound, IsRunAt, IsRunBut, IsRunButSomewhere, IsRunSomewhere, IsStepped, IsTried, seen_in};
 
 use crate::bounds::{Bounds, Next};
 use crate::looks::{Look, look_at, next_in};
-use crate::population::Population;
 use crate::receptions::owner_of;
-use crate::roster::Roster;
 use crate::schedule::Schedule;
 use asp_model::Reception;
 use code_table::Code;
+use replay_population::{Population, Roster};
 use std::alloc::{AllocError, Global};
 use std::sync::Arc;
 use step_activity::Given;
@@ -130,14 +130,14 @@ impl Machine {
     ) -> Result<(), AllocError>
         requires ascending { IsAscending bounds.now }
         requires numbered { IsNumbered bounds.now self.old.population.roster }
-        requires giving { IsGivingSome self.old.population number given }
-        ensures population { (program : Tree) (c : Configuration) (e : Effect) (n : Name) →
+        requires giving { IsGivingAs self.old.population number given }
+        ensures population { (c : Configuration) (e : Effect) (n : Name) →
             number_of n self.old.population.roster ≡ Some number →
-            IsGiving self.old.population n given program c e →
+            IsGiving self.old.population n given c e →
             OnOk result (IsPopulation self.new.population (with_effect n e c)) }
-        ensures handed_on { (program : Tree) (c : Configuration) (e : Effect) (n : Name) →
+        ensures handed_on { (c : Configuration) (e : Effect) (n : Name) →
             number_of n self.old.population.roster ≡ Some number →
-            IsGiving self.old.population n given program c e →
+            IsGiving self.old.population n given c e →
             let lists = lists_within bounds.now in
             OnOk result (IsHandedOn lists c n e (seen_in self.old) (seen_in self.new)) }
         ensures leads { OnOk result (Leads self.old.population.roster self.new.population.roster) }

@@ -10,7 +10,7 @@ ghost use Rattle.def_paths.specs.Outcomes.{whole_outcome_of};
 ghost use Rattle.run_ends.specs.Ends.{IsEndOf};
 ghost use Rattle.replay_one.specs.Bounds.{IsAscending, count_within, lists_within};
 ghost use Rattle.replay_one.specs.Correct.{IsReplayed, IsSpent};
-ghost use Rattle.replay_one.specs.Population.{IsReachedPopulation};
+ghost use Rattle.replay_population.specs.Reached.{IsReachedPopulation};
 ghost use Rattle.replay_one.specs.Round.{IsRunAt, IsRunSomewhere};
 
 use crate::bounds::Bounds;
@@ -20,7 +20,6 @@ use code_compiler::compile;
 use run_ends::RunEnd;
 use std::alloc::{AllocError, Global};
 use std::sync::Arc;
-use step_ends::run_end_of;
 
 impl Machine {
     /// Takes at most so many reductions, until nobody can take one.
@@ -61,8 +60,7 @@ pub fn run_within(
     let code = Arc::new(alloc, compile(alloc, program)?)?;
     let mut machine = Machine::start(alloc, bounds, code)?;
     machine.run(alloc, bounds, total)?;
-    let activities = machine.population.take_all(alloc)?;
-    run_end_of(alloc, activities, machine.population.futures)
+    machine.population.end(alloc)
 }
 
 /// Runs a program with at most as many reductions as the budget says.

@@ -36,8 +36,8 @@ ghost use Rattle.replay_one.specs.Schedule.{
   sends_in,
 };
 
-use crate::roster::Roster;
 use asp_model::{ActivityName, FutureName, Label};
+use replay_population::Roster;
 use serve_rules::LabelSet;
 use std::alloc::{AllocError, Global};
 use std::collections::{BTreeMap, BTreeSet};

@@ -1,5 +1,5 @@
 use Rattle.std.proofs.Common.{◌≡◌, map, take}
-use Rattle.replay_one.specs.Roster.{IsRoster}
+use Rattle.replay_population.specs.Roster.{IsRoster}
 use Rattle.replay_one.proofs.bounds.names_of.Given as goal
 
 abbrev pub invariant-loop-list : goal.invariant-loop-list

@@ -7,20 +7,22 @@ use Rattle.asp_model.specs.Shapes.{fault_shape, future_shape}
 use Rattle.step_activity.specs.declared.actor.Actor.{Actor}
 use Rattle.asp_model.specs.Step.{ListsShape, intent_in, is_next}
 use Rattle.law_chases.proofs.FutureLemmas.{some_is}
-use Rattle.replay_one.proofs.RosterLemmas.{number_named, number_within}
+use Rattle.replay_population.proofs.EndLemmas.{reached_closed}
+use Rattle.replay_population.proofs.OutlookLemmas.{intended}
+use Rattle.replay_population.proofs.RosterLemmas.{number_named, number_within}
 use Rattle.def_journals.specs.Journals.{number_of}
 use Rattle.law_schedules.specs.Schedules.{RestsIn}
 use Rattle.step_activity.specs.Outlook.{IsOutlook}
 use Rattle.step_activity.proofs.PassingLemmas.{first_passed}
 use Rattle.replay_one.specs.declared.bounds.Bounds.{Bounds}
-use Rattle.replay_one.specs.declared.population.Population.{Population}
+use Rattle.replay_population.specs.declared.population.Population.{Population}
 use Rattle.replay_one.specs.Bounds.{count_within, lists_within}
-use Rattle.replay_one.specs.Population.{HasPassedIn, found_in}
+use Rattle.replay_population.specs.Population.{HasPassedIn, found_in}
 use Rattle.replay_one.specs.declared.looks.Look.{Look}
 use Rattle.replay_one.specs.declared.looks.Look.TheVariants as look
 use Rattle.replay_one.specs.Round.{CanStep, IsLook, IsTurn, LogsTo}
-use Rattle.replay_one.proofs.LookLemmas.{absent_leaves, awaits_intent, awaits_rests, counted_leaves, done_leaves, done_intent, faulted_intent, held_rests, intended, passed_for, poll_rests, polls_now, seen_passed, sends_now, serves_rests, serving_intent, steps_now, target_there}
-use Rattle.replay_one.proofs.PopulationLemmas.{found_at, found_stands, actor_closed, absent_nowhere, values_closed}
+use Rattle.replay_one.proofs.LookLemmas.{absent_leaves, awaits_intent, awaits_rests, counted_leaves, done_leaves, done_intent, faulted_intent, held_rests, passed_for, poll_rests, polls_now, seen_passed, sends_now, serves_rests, serving_intent, steps_now, target_there}
+use Rattle.replay_population.proofs.PopulationLemmas.{found_at, found_stands, actor_closed, absent_nowhere, values_closed}
 use Rattle.replay_one.proofs.looks.look_at.Goals as goal
 
 pub returns-in_default : goal.returns-in_default
@@ -43,12 +45,12 @@ outlook_from-requires-clause-closed c =
     let p : Population = c.args.population.now in
     let r = c.requires.reached in
     let n = c.requires.passed in
-    actor_closed p r.0 r.1 n.0 c.in-Some.actor.now r.2 (found_at p n.0 c.args.number n.1 ∙ sym c.in-Some.ensures.value)
+    actor_closed p r.1 n.0 c.in-Some.actor.now (reached_closed p r.0 r.1 r.2) (found_at p n.0 c.args.number n.1 ∙ sym c.in-Some.ensures.value)
 
 pub outlook_from-requires-clause-values : goal.outlook_from-requires-clause-values
 outlook_from-requires-clause-values c =
     let r = c.requires.reached in
-    values_closed c.args.population.now r.0 r.1 r.2
+    values_closed c.args.population.now r.1 (reached_closed c.args.population.now r.0 r.1 r.2)
 
 pub returns-then-count : goal.returns-then-count
 returns-then-count c =

@@ -6,9 +6,8 @@ use Rattle.asp_model.specs.Replay.{steps_from}
 use Rattle.asp_model.specs.Shapes.{tree_of}
 use Rattle.replay_one.specs.declared.bounds.Bounds.{Bounds}
 use Rattle.replay_one.specs.Bounds.{count_within, lists_within}
-use Rattle.replay_one.specs.Population.{term_of}
+use Rattle.replay_population.specs.Population.{term_of}
 use Rattle.replay_one.proofs.PlainLemmas.{begins_run}
-use Rattle.replay_one.proofs.PopulationLemmas.{named_stand}
 use Rattle.replay_one.proofs.run.run_within.Goals as goal
 
 pub run-requires-clause-running : goal.run-requires-clause-running
@@ -17,14 +16,14 @@ run-requires-clause-running c =
     let same : term_of (arc_value c.in_ok-code.code) ≡ t = ap term_of c.in_ok-code.ensures.ok ∙ c.in_ok-compile.ensures.program in
     (t, start t, begins_run c.args.bounds.now c.in_ok-machine.machine t (term_of (arc_value c.in_ok-code.code)) same c.in_ok-compile.ensures.bare c.in_ok-machine.ensures.population c.in_ok-machine.ensures.numbered c.in_ok-machine.ensures.ready c.in_ok-machine.ensures.passed)
 
-pub run_end_of-requires : goal.run_end_of-requires
-run_end_of-requires c =
+pub end-requires : goal.end-requires
+end-requires c =
     let t : Tree = tree_of c.args.program.now.program.root in
     let b : Bounds = c.args.bounds.now in
     let same : term_of (arc_value c.in_ok-code.code) ≡ t = ap term_of c.in_ok-code.ensures.ok ∙ c.in_ok-compile.ensures.program in
     let begun = begins_run b c.in_ok-machine.machine t (term_of (arc_value c.in_ok-code.code)) same c.in_ok-compile.ensures.bare c.in_ok-machine.ensures.population c.in_ok-machine.ensures.numbered c.in_ok-machine.ensures.ready c.in_ok-machine.ensures.passed in
     let last = steps_from c.args.total (lists_within b) (count_within b) (start t) in
-    record { reached = (t, last, named_stand c.run.new.self.population c.take_all.new.self t last c.in_ok-activities.activities.entries (c.in_ok-run.ensures.runs t (start t) begun) c.in_ok-activities.ensures.all c.take_all.ensures.futures) }
+    record { reached = (t, last, c.in_ok-run.ensures.runs t (start t) begun) }
 
 pub returns : goal.returns
 returns c =
@@ -33,5 +32,5 @@ returns c =
     let same : term_of (arc_value c.in_ok-code.code) ≡ t = ap term_of c.in_ok-code.ensures.ok ∙ c.in_ok-compile.ensures.program in
     let begun = begins_run b c.in_ok-machine.machine t (term_of (arc_value c.in_ok-code.code)) same c.in_ok-compile.ensures.bare c.in_ok-machine.ensures.population c.in_ok-machine.ensures.numbered c.in_ok-machine.ensures.ready c.in_ok-machine.ensures.passed in
     let last = steps_from c.args.total (lists_within b) (count_within b) (start t) in
-    let ran = named_stand c.run.new.self.population c.take_all.new.self t last c.in_ok-activities.activities.entries (c.in_ok-run.ensures.runs t (start t) begun) c.in_ok-activities.ensures.all c.take_all.ensures.futures in
-    record { end = c.run_end_of.ensures.end t last ran; outcome = c.run_end_of.ensures.outcome t last ran }
+    let ran = c.in_ok-run.ensures.runs t (start t) begun in
+    record { end = c.end.ensures.end t last ran; outcome = c.end.ensures.outcome t last ran }

@@ -3,7 +3,7 @@ use Rattle.asp_model.specs.Names.{Name}
 use Rattle.asp_model.specs.Replay.{zero_or}
 use Rattle.replay_one.specs.declared.bounds.Bounds.{Bounds}
 use Rattle.replay_one.specs.Bounds.{IsAscending, IsNumbered, count_within}
-use Rattle.replay_one.specs.Roster.{Leads}
+use Rattle.replay_population.specs.Roster.{Leads}
 use Rattle.replay_one.proofs.EntryLemmas.{entry_numbered, none_numbered}
 use Rattle.replay_one.proofs.bounds.Bounds.count.Goals as goal
 

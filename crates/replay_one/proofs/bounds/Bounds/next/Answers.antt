@@ -9,7 +9,7 @@ use Rattle.asp_model.specs.Step.{reception_at}
 use Rattle.replay_one.specs.declared.bounds.Bounds.{Bounds}
 use Rattle.replay_one.specs.declared.bounds.Next.TheVariants as next
 use Rattle.replay_one.specs.Bounds.{IsAscending, IsNextAmong, IsNextAt, IsNumbered, lists_within}
-use Rattle.replay_one.specs.Roster.{Leads}
+use Rattle.replay_population.specs.Roster.{Leads}
 use Rattle.replay_one.proofs.EntryLemmas.{entry_numbered, log_found, no_log, none_numbered}
 use Rattle.replay_one.proofs.bounds.Bounds.next.Goals as goal
 

@@ -5,15 +5,15 @@ use Rattle.asp_model.specs.Configuration.{Configuration}
 use Rattle.asp_model.specs.Term.{Tree}
 use Rattle.def_journals.specs.Journals.{number_of}
 use Rattle.replay_one.specs.declared.bounds.Bounds.{Bounds}
-use Rattle.replay_one.specs.declared.population.Population.{Population}
+use Rattle.replay_population.specs.declared.population.Population.{Population}
 use Rattle.replay_one.specs.declared.round.Machine.{Machine}
 use Rattle.replay_one.specs.declared.schedule.Schedule.{Schedule}
 use Rattle.replay_one.specs.Bounds.{count_within, lists_within}
-use Rattle.replay_one.specs.Population.{at_number, seat_at}
+use Rattle.replay_population.specs.Population.{at_number, seat_at}
 use Rattle.replay_one.specs.Round.{IsRunAt, IsTried, seen_in}
 use Rattle.replay_one.specs.Schedule.{Seen, noted_in, ready_in, seen}
 use Rattle.replay_one.proofs.LookLemmas.{absent_leaves}
-use Rattle.replay_one.proofs.RosterLemmas.{number_within}
+use Rattle.replay_population.proofs.RosterLemmas.{number_within}
 use Rattle.replay_one.proofs.RunLemmas.{Ran, known_after, leads_nowhere, leads_on, leaves_round, ran_on, woken_run}
 use Rattle.replay_one.proofs.round.Machine.round.Goals as goal
 

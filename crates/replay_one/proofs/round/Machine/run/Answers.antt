@@ -1,7 +1,7 @@
 use Rattle.std.proofs.Common.{◌≡◌, ◌+◌, ◌-◌, zero, sym, subst, ap, ◌∙◌, arith}
 use Rattle.asp_model.specs.Replay.{steps_from}
 use Rattle.replay_one.specs.Bounds.{count_within, lists_within}
-use Rattle.replay_one.specs.Population.{IsReachedPopulation}
+use Rattle.replay_population.specs.Reached.{IsReachedPopulation}
 use Rattle.replay_one.specs.Round.{IsStepped, seen_in}
 use Rattle.replay_one.proofs.RunLemmas.{has_ended, reached_population}
 use Rattle.replay_one.proofs.round.Machine.run.Goals as goal

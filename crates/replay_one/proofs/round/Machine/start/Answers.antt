@@ -1,5 +1,5 @@
 use Rattle.asp_model.specs.Names.{main_name}
-use Rattle.replay_one.proofs.RosterLemmas.{number_within}
+use Rattle.replay_population.proofs.RosterLemmas.{number_within}
 use Rattle.replay_one.proofs.round.Machine.start.Goals as goal
 
 pub wake-requires : goal.wake-requires

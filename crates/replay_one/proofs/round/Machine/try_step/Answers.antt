@@ -8,12 +8,15 @@ use Rattle.replay_one.specs.declared.bounds.Bounds.{Bounds}
 use Rattle.replay_one.specs.declared.schedule.Schedule.{Schedule}
 use Rattle.replay_one.specs.declared.round.Machine.{Machine}
 use Rattle.replay_one.specs.Bounds.{count_within, lists_within}
-use Rattle.replay_one.specs.declared.population.Population.{Population}
-use Rattle.replay_one.specs.Population.{IsGiving, IsPassing}
+use Rattle.replay_population.specs.declared.population.Population.{Population}
+use Rattle.replay_population.specs.Population.{IsPassing}
+use Rattle.replay_population.specs.Giving.{IsGiving}
 use Rattle.replay_one.specs.Schedule.{IsNoted, IsTaken, seen}
 use Rattle.replay_one.specs.Round.{CanStep, IsLook, IsRunWith, seen_in}
-use Rattle.replay_one.proofs.RosterLemmas.{number_named}
+use Rattle.replay_population.proofs.RosterLemmas.{number_named}
 use Rattle.replay_one.proofs.LookLemmas.{awaits_there}
+use Rattle.replay_population.proofs.GivingLemmas.{reached_hand_on}
+use Rattle.replay_population.proofs.EndLemmas.{reached_closed}
 use Rattle.replay_one.proofs.RunLemmas.{awaits_round, but_reached, holds_round, leaves_round, numbered_on, passing_run, serves_round, steps_round}
 use Rattle.replay_one.proofs.round.Machine.try_step.Goals as goal
 
@@ -25,10 +28,10 @@ look_at-requires-clause-reached c =
     let r = c.requires.running in
     (r.2, r.3, but_reached c.args.bounds.now c.args.self.now r.0 r.2 r.3 r.4)
 
-pub act-requires-clause-reached : goal.act-requires-clause-reached
-act-requires-clause-reached c =
+pub act-requires-clause-closed : goal.act-requires-clause-closed
+act-requires-clause-closed c =
     let r = c.requires.running in
-    (r.2, r.3, but_reached c.args.bounds.now c.args.self.now r.0 r.2 r.3 r.4)
+    (r.3, reached_closed c.args.self.now.population r.2 r.3 (but_reached c.args.bounds.now c.args.self.now r.0 r.2 r.3 r.4))
 
 pub act-requires-clause-known : goal.act-requires-clause-known
 act-requires-clause-known c = let r = c.requires.running in (r.0, r.1)
@@ -71,7 +74,7 @@ give-requires-clause-giving c =
     let n : Name = r.0 in
     let x : CanStep (lists_within b) (count_within b) r.3 n = subst (IsLook (lists_within b) (count_within b) r.3 m.population.roster n) c.in-Steps.is (c.in_ok-view.ensures.look r.2 r.3 n (but_reached b m n r.2 r.3 r.4) r.1) in
     let acts = c.in_ok-given-in-Steps.ensures.acts r.3 x.effect n r.4.run.population r.1 x.intends in
-    (n, ap (number_of n) c.in_ok-given-in-Steps.ensures.roster ∙ r.1, r.2, r.3, x.effect, record { bare = r.4.run.bare; reached = r.4.run.reached; intends = x.intends; given = acts.0; here = acts.1 })
+    (n, ap (number_of n) c.in_ok-given-in-Steps.ensures.roster ∙ r.1, r.3, x.effect, record { free = reached_hand_on r.2 r.3 n x.effect r.4.run.bare r.4.run.reached x.intends; given = acts.0; here = acts.1 })
 
 pub returns-in_ok-wake-in-Steps-clause-tried : goal.returns-in_ok-wake-in-Steps-clause-tried
 returns-in_ok-wake-in-Steps-clause-tried c = λ program k n has h.
@@ -85,14 +88,14 @@ returns-in_ok-wake-in-Steps-clause-tried c = λ program k n has h.
     let leads = c.in_ok-give-in-Steps.ensures.leads in
     let x : CanStep (lists_within b) (count_within b) k n = subst (IsLook (lists_within b) (count_within b) k ns n) c.in-Steps.is (c.in_ok-view.ensures.look program k n (but_reached b m n program k h) has) in
     let acts = c.in_ok-given-in-Steps.ensures.acts k x.effect n h.run.population has x.intends in
-    let giving : IsGiving p n c.in_ok-given-in-Steps.given program k x.effect = record { bare = h.run.bare; reached = h.run.reached; intends = x.intends; given = acts.0; here = acts.1 } in
-    let population = c.in_ok-give-in-Steps.ensures.population program k x.effect n now giving in
+    let giving : IsGiving p n c.in_ok-given-in-Steps.given k x.effect = record { free = reached_hand_on program k n x.effect h.run.bare h.run.reached x.intends; given = acts.0; here = acts.1 } in
+    let population = c.in_ok-give-in-Steps.ensures.population k x.effect n now giving in
     let taken = subst (λ (ms : List Name). IsTaken h.before n (seen ms m.schedule)) (sym roster) h.taken in
     let numbered = numbered_on b ns q.roster h.run.numbered (λ j y e. leads j y (ap (λ (ms : List Name). slice_get ms j) roster ∙ e)) in
     let woken = c.in_ok-wake-in-Steps.ensures.ready n (population.roster.numbers c.args.number n (leads c.args.number n (number_named p.roster n c.args.number now))) in
     steps_round b program k n m.population h.before q (seen p.roster m.schedule) (seen q.roster c.give.new.self.schedule) (seen q.roster c.wake.new.self) x h.run taken
     population
-    (c.in_ok-give-in-Steps.ensures.handed_on program k x.effect n now giving)
+    (c.in_ok-give-in-Steps.ensures.handed_on k x.effect n now giving)
     c.in_ok-wake-in-Steps.ensures.more woken numbered
     (λ j i e. c.in_ok-given-in-Steps.ensures.passed j i (c.in_ok-give-in-Steps.ensures.passed j i e)) h.forgotten
 
@@ -106,7 +109,7 @@ wake-requires c =
 pub wanted-requires : goal.wanted-requires
 wanted-requires c =
     let r = c.requires.running in
-    record { reached = (r.2, r.3, but_reached c.args.bounds.now c.args.self.now r.0 r.2 r.3 r.4); known = (r.0, r.1) }
+    record { closed = (r.3, reached_closed c.args.self.now.population r.2 r.3 (but_reached c.args.bounds.now c.args.self.now r.0 r.2 r.3 r.4)); known = (r.0, r.1) }
 
 pub returns-in_ok-serve-in-Serves-clause-tried : goal.returns-in_ok-serve-in-Serves-clause-tried
 returns-in_ok-serve-in-Serves-clause-tried c = λ program k n has h.

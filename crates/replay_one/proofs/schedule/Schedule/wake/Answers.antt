@@ -3,7 +3,7 @@ use Rattle.asp_model.specs.Names.{Name}
 use Rattle.law_chases.proofs.FutureLemmas.{some_is}
 use Rattle.replay_one.specs.declared.schedule.Schedule.{Schedule}
 use Rattle.replay_one.specs.Schedule.{ready_in, seen}
-use Rattle.replay_one.proofs.RosterLemmas.{number_named}
+use Rattle.replay_population.proofs.RosterLemmas.{number_named}
 use Rattle.replay_one.proofs.ScheduleLemmas.{woken_here}
 use Rattle.replay_one.proofs.schedule.Schedule.wake.Goals as goal
 

@@ -1,5 +1,0 @@
-use Rattle.replay_one.proofs.PopulationLemmas.{AreTaken}
-use Rattle.replay_one.proofs.population.Population.take_all.Given as goal
-
-abbrev pub invariant-loop-number : goal.invariant-loop-number
-invariant-loop-number l = AreTaken l.initial.self l.self l.named l.number

@@ -1,0 +1,7 @@
+pub mod ColumnLemmas
+pub mod RosterLemmas
+pub mod PopulationLemmas
+pub mod OutlookLemmas
+pub mod GivingLemmas
+pub mod DeliveryLemmas
+pub mod EndLemmas

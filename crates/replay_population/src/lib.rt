@@ -1,0 +1,14 @@
+//! The activities of a run on one thread by their numbers, and the futures that are filled. A
+//! population stands for a configuration, however that came about: a replay steps it, and what
+//! redoes a journal or goes on from a configuration can.
+#![tactic(auto)]
+
+mod deliveries;
+mod ends;
+mod giving;
+mod outlooks;
+mod population;
+mod roster;
+
+pub use population::Population;
+pub use roster::Roster;
