@@ -1,0 +1,7 @@
+//! The words of `asp-outcomes`, and what they ask for.
+#![tactic(auto)]
+
+mod command;
+mod task;
+
+pub use task::{Task, Wanted, WordsRefused, read_words};

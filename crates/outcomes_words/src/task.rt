@@ -1,0 +1,116 @@
+//! What the words ask for.
+
+ghost use Rattle.std.specs.Prelude.{◌≡◌, ◌≤◌, IfOk, IfErr, IfSome, map, option_map, string_bytes};
+ghost use Rattle.asp_model.specs.declared.limits.TheConstants.{MOST_DEPTH as MOST_DEEP};
+ghost use Rattle.outcomes_words.specs.declared.task.TheConstants.{MOST_ENDS as MOST_FOUND};
+ghost use Rattle.outcomes_words.specs.Shapes.{IsUnwanted, IsWanted, IsWantedWithin, task_shape, text_behind, texts_shape};
+ghost use Rattle.outcomes_words.specs.Words.{IsWithin, number_if, number_or as number_or_usual, task_in as task_within};
+
+use crate::command::{Refused, Texts, matches, texts_found};
+use asp_model::{MOST_DEPTH, MOST_REDUCTIONS};
+use command_line::number_in;
+use std::alloc::Global;
+
+/// The ends that are looked for, at most.
+pub const MOST_ENDS: u64 = 100_000;
+
+const USUAL_ENDS: u64 = 10_000;
+
+const USUAL_BUDGET: u64 = 1_000_000;
+
+/// The outcomes of a program, or the report of one of them.
+#[derive(Drop)]
+pub struct Task<'a> {
+    /// The program's file.
+    pub file: &'a str,
+    /// The most reductions of a run.
+    pub budget: u64,
+    /// The most ends that are looked for.
+    pub most: u64,
+    /// How deep states are shown, if they are.
+    pub depth: Option<u32>,
+    /// The outcome whose report is asked for, by its number from 1.
+    pub report: Option<u64>,
+}
+
+/// What the words ask for.
+#[derive(Drop)]
+pub enum Wanted<'a> {
+    Outcomes(Task<'a>),
+    /// This text on the program's use.
+    Help(String),
+}
+
+/// Why they ask for nothing.
+#[derive(Debug, Drop)]
+pub enum WordsRefused {
+    Usage,
+    Memory,
+}
+
+/// What the words, without the program's name, ask for.
+#[tactic(auto, unfolding(crate::specs::Words::task_of))]
+pub fn read_words<'a>(alloc: Global, words: &'a [String]) -> Result<Wanted<'a>, WordsRefused>
+    ensures wanted { IfOk result (IsWanted (map string_bytes words.entry.now)) }
+    ensures refused { IfErr result (IsUnwanted (map string_bytes words.entry.now)) }
+    ensures within { IfOk result IsWantedWithin }
+{
+    match matches(alloc, words) {
+        Ok(matches) => match task_in(&texts_found(&matches)) {
+            Some(task) => Ok(Wanted::Outcomes(task)),
+            None => Err(WordsRefused::Usage),
+        },
+        Err(Refused::Help(text)) => Ok(Wanted::Help(text)),
+        Err(Refused::Usage) => Err(WordsRefused::Usage),
+        Err(Refused::Memory) => Err(WordsRefused::Memory),
+    }
+}
+
+// The task, where the numbers are within bounds.
+fn task_in<'a>(texts: &Texts<'a>) -> Option<Task<'a>>
+    ensures task { option_map task_shape result ≡ task_within (texts_shape texts.now) }
+    ensures within { IfSome result (λ t. IsWithin (task_shape t)) }
+{
+    let file = texts.file?;
+    let budget = number_or(texts.budget, 1, MOST_REDUCTIONS, USUAL_BUDGET)?;
+    let most = number_or(texts.ends, 1, MOST_ENDS, USUAL_ENDS)?;
+    let depth = depth_in(texts.state)?;
+    let report = report_in(texts.report)?;
+    Some(Task {
+        file,
+        budget,
+        most,
+        depth,
+        report,
+    })
+}
+
+fn number_or(text: Option<&str>, least: u64, most: u64, usual: u64) -> Option<u64>
+    requires usual { usual ≤ most }
+    ensures number { result ≡ number_or_usual least most usual (text_behind text.entry) }
+    ensures within { IfSome result (λ n. n ≤ most) }
+{
+    match text {
+        Some(text) => number_in(text, least, most),
+        None => Some(usual),
+    }
+}
+
+fn depth_in(text: Option<&str>) -> Option<Option<u32>>
+    ensures depth { result ≡ number_if 0 MOST_DEEP (text_behind text.entry) }
+{
+    let Some(text) = text else {
+        return Some(None);
+    };
+    let depth = number_in(text, 0, MOST_DEPTH as u64)?;
+    Some(Some(depth as u32))
+}
+
+fn report_in(text: Option<&str>) -> Option<Option<u64>>
+    ensures report { result ≡ number_if 1 MOST_FOUND (text_behind text.entry) }
+{
+    let Some(text) = text else {
+        return Some(None);
+    };
+    Some(Some(number_in(text, 1, MOST_ENDS)?))
+}
