@@ -2,6 +2,8 @@ pub mod EntryLemmas
 pub mod ScheduleLemmas
 pub mod LookLemmas
 pub mod GiveLemmas
+pub mod NoteLemmas
+pub mod TellLemmas
 pub mod LocalLemmas
 pub mod RunLemmas
 pub mod PlainLemmas

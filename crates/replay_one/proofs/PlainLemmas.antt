@@ -17,7 +17,9 @@ use Rattle.replay_one.specs.declared.bounds.Bounds.{Bounds}
 use Rattle.replay_one.specs.declared.round.Machine.{Machine}
 use Rattle.replay_one.specs.Bounds.{IsNumbered, count_within, lists_within}
 use Rattle.replay_one.specs.Correct.{IsReplayed, IsSpent}
+use Rattle.replay_population.specs.declared.population.Population.{Population}
 use Rattle.replay_population.specs.Population.{IsPopulation, passed_in}
+use Rattle.replay_population.specs.Reached.{IsReachedPopulation}
 use Rattle.replay_one.specs.Schedule.{noted_in, ready_in, watches_in}
 use Rattle.replay_one.specs.Round.{IsRunAt, seen_in}
 use Rattle.step_ends.proofs.ReportLemmas.{map_map}
@@ -69,3 +71,7 @@ module _ (n : ℕ) (program : Tree) (o : OutcomeShape) (e : o ≡ outcome_of (pl
       let c : Configuration = plain_run n program in
       let here : IsSpent n (outcome_of c) = λ q. ⊎_elim (λ stuck. absurd (stuck_ends c stuck q)) (λ all. ap total (counts_shown c) ∙ all) (plain_runs_spend n program).1 in
       subst (IsSpent n) (sym e) here
+
+-- the population of a run that was told where its activities stand
+pub placed : (p q : Population) (program : Tree) (c : Configuration) → IsReachedPopulation p program c → ((c : Configuration) → IsPopulation p c → IsPopulation q c) → IsReachedPopulation q program c
+placed p q program c h same = record { bare = h.bare; reached = h.reached; population = same c h.population }

@@ -1,5 +1,5 @@
 -- Rounds and runs of the machine.
-use Rattle.std.proofs.Common.{◌≡◌, ◌≢◌, ◌≤◌, ◌<◌, ◌+◌, ℕ, zero, suc, true, false, List, Option, Some, None, is_some, map, refl, sym, ap, subst, ◌∙◌, inl, inr, ⊎_elim, arith}
+use Rattle.std.proofs.Common.{◌≡◌, ◌≢◌, ◌≤◌, ◌<◌, ◌+◌, ◌++◌, [], ℕ, zero, suc, true, false, List, Option, Some, None, is_some, map, refl, sym, ap, subst, ◌∙◌, inl, inr, ⊎_elim, arith}
 use Rattle.std.proofs.lemmas.Bool.{false_from_ne_true}
 use Rattle.std.specs.FinMap.{find}
 use Rattle.asp_model.specs.Names.{Name, FutureShape, Text, future_cmp, name_cmp}
@@ -43,7 +43,10 @@ use Rattle.replay_population.specs.Reached.{IsReachedPopulation}
 use Rattle.replay_one.specs.declared.schedule.Schedule.{Schedule}
 use Rattle.replay_one.specs.Schedule.{IsMoreReady, IsNoted, IsTaken, IsWatching, Seen, seen, asks_in, noted_in, ready_in, sends_in, watches_in}
 use Rattle.replay_one.specs.Round.{CanStep, IsHandedOn, IsRunAt, IsRunBut, IsRunWith, LeadsTo, Leaves, LogsTo, next_by, seen_in}
+use Rattle.replay_one.specs.Notes.{notes_of}
+use Rattle.replay_one.specs.Told.{notes_by}
 use Rattle.replay_one.proofs.LocalLemmas.{local_runs_go_on}
+use Rattle.replay_one.proofs.NoteLemmas.{least_noted, notes_more, one_noted}
 use Rattle.replay_population.proofs.PopulationLemmas.{still_none}
 
 pub reached_population : (b : Bounds) (p : Population) (s : Seen) (program : Tree) (c : Configuration) → IsRunWith b p s program c → IsReachedPopulation p program c
@@ -302,13 +305,13 @@ woken_run b program c n q old mid new h t more woken =
 
 -- reductions that need no other are steps of the run
 pub ran : (b : Bounds) (program : Tree) (c : Configuration) (n : Name) (p : Population) (s : Seen) (q : Population) (mid : Seen) (most k : ℕ) → IsRunWith b p s program c → IsTaken s n mid → IsRunIn q c n most (count_within b n) k → q.roster ≡ p.roster → KeepsPassed p q → passed_in p n ≡ None
-    → (d : Configuration) × LeadsTo b k c d × IsRunWith b q s program d × (k ≤ most)
+    → (d : Configuration) × LeadsTo b k c d × IsRunWith b q s program d × (k ≤ most) × (notes_by b k c ≡ [])
 ran b program c n p s q mid most k h t (inl r) roster same alone =
     let g = local_runs_go_on program (lists_within b) (count_within b) (ready_in s) (noted_in s) (watches_in s) c n k r.activity r.end h.reached h.scheduled h.watched t.ready t.least r.there r.run r.below in
-    (with_activity n r.end c, g.steps, record { bare = h.bare; reached = g.reached; population = r.population; numbered = subst (IsNumbered b) (sym roster) h.numbered; scheduled = g.scheduled; watched = g.watched; passed = ran_passed c n p q r.end same alone h.passed }, r.within)
+    (with_activity n r.end c, g.steps, record { bare = h.bare; reached = g.reached; population = r.population; numbered = subst (IsNumbered b) (sym roster) h.numbered; scheduled = g.scheduled; watched = g.watched; passed = ran_passed c n p q r.end same alone h.passed }, r.within, g.quiet)
 ran b program c n p s q mid most k h t (inr e) roster same alone =
     let none : k ≡ 0 = e.0 in
-    (c, (λ j. let all : k + j ≡ j = omega (arith, none) in ap (λ i. steps_from i (lists_within b) (count_within b) c) all), settled_run b program c p s q h e.1 roster same, omega (arith, none))
+    (c, (λ j. let all : k + j ≡ j = omega (arith, none) in ap (λ i. steps_from i (lists_within b) (count_within b) c) all), settled_run b program c p s q h e.1 roster same, omega (arith, none), ap (λ i. notes_by b i c) none)
 
 -- where the least of those ready has taken its reductions that need no other
 pub record Ran (b : Bounds) (program : Tree) (c : Configuration) (n : Name) (number : ℕ) (s : Seen) (mid : Schedule) (q : Population) (most k : ℕ) : Type 0 where
@@ -319,6 +322,7 @@ pub record Ran (b : Bounds) (program : Tree) (c : Configuration) (n : Name) (num
   pub but : IsRunBut b (record { population = q; schedule = mid }) n program then
   pub before : IsRunWith b q s program then
   pub taken : IsTaken s n (seen q.roster mid)
+  pub quiet : notes_by b k c ≡ []
 
 pub ran_on : (b : Bounds) (program : Tree) (c : Configuration) (n : Name) (number : ℕ) (m : Machine) (mid : Schedule) (p q : Population) (most count k : ℕ) → IsRunAt b m program c → number_of n m.population.roster ≡ Some number → IsForgotten m.population n p → IsTaken (seen_in m) n (seen m.population.roster mid) → (IsPopulation p c → number_of n p.roster ≡ Some number → IsRunIn q c n most count k)
     → (IsRoster m.population.roster → IsNumbered b m.population.roster → number_of n m.population.roster ≡ Some number → count ≡ count_within b n) → q.roster ≡ p.roster → KeepsPassed p q → passed_in p n ≡ None → Ran b program c n number (seen_in m) mid q most k
@@ -337,6 +341,7 @@ ran_on b program c n number m mid p q most count k h has f t runs bound roster s
       but = record { before = s; run = r.2; taken = taken; forgotten = still_none p q n same alone };
       before = r.2;
       taken = taken;
+      quiet = r.4;
     }
 
 pub leads_nowhere : (b : Bounds) (c d : Configuration) (k : ℕ) → LeadsTo b k c d → k ≡ 0 → d ≡ c
@@ -349,6 +354,28 @@ pub leads_on : (b : Bounds) (c d e : Configuration) (k : ℕ) → LeadsTo b k c 
 leads_on b c d e k h next j =
     let same : k + 1 + j ≡ k + suc j = omega arith in
     ap (λ i. steps_from i (lists_within b) (count_within b) c) same ∙ h (suc j) ∙ goes_on j (lists_within b) (count_within b) d e next
+
+-- What is noted
+
+-- the step of the least of those ready notes what it does
+pub step_noted : (b : Bounds) (program : Tree) (c : Configuration) (n : Name) (m : Machine) (x : CanStep (lists_within b) (count_within b) c n) (d : Configuration) → IsRunBut b m n program c → next_by b c ≡ Some d → notes_by b 1 c ≡ notes_of n x.activity (Acts x.effect)
+step_noted b program c n m x d h next =
+    one_noted (lists_within b) (count_within b) c d next
+    ∙ least_noted program (lists_within b) (count_within b) c (with_effect n x.effect c) n x.activity (ready_in h.before) (noted_in h.before) h.run.reached h.run.scheduled h.taken.least x.there x.below x.steps
+    ∙ ap (notes_of n x.activity) x.intends
+
+-- after some steps
+pub noted_on : (b : Bounds) (c d : Configuration) (k j : ℕ) → LeadsTo b k c d → notes_by b (k + j) c ≡ notes_by b k c ++ notes_by b j d
+noted_on b c d k j leads =
+    let lists = lists_within b in
+    let count = count_within b in
+    let all : k + 0 ≡ k = omega arith in
+    let then : steps_from k lists count c ≡ d = ap (λ i. steps_from i lists count c) (sym all) ∙ leads 0 in
+    notes_more lists count k j c ∙ (λ i. notes_by b k c ++ notes_by b j (then i))
+
+-- after quiet steps
+pub noted_next : (b : Bounds) (c d : Configuration) (k : ℕ) → LeadsTo b k c d → notes_by b k c ≡ [] → notes_by b 1 d ≡ notes_by b (k + 1) c
+noted_next b c d k leads quiet = sym (noted_on b c d k 1 leads ∙ ap (λ ys. ys ++ notes_by b 1 d) quiet)
 
 -- Members that one has passed
 

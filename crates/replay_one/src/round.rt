@@ -1,6 +1,6 @@
 //! A round: the least of those who are ready takes reductions, or leaves them.
 
-ghost use Rattle.std.specs.Prelude.{◌≡◌, ◌<◌, true, IfOk, None, OnOk, Some, length};
+ghost use Rattle.std.specs.Prelude.{◌≡◌, ◌<◌, true, IfOk, List, None, OnOk, Some, length};
 ghost use Rattle.std.specs.Arc.{arc_value};
 ghost use Rattle.asp_model.specs.Names.{Name, main_name};
 ghost use Rattle.asp_model.specs.Term.{Tree};
@@ -17,11 +17,15 @@ ghost use Rattle.replay_population.specs.Population.{HasPassedBySome, IsPopulati
 ghost use Rattle.replay_population.specs.Giving.{IsGiving, IsGivingAs};
 ghost use Rattle.replay_one.specs.Schedule.{IsMoreReady, ready_in, seen, sends_in};
 ghost use Rattle.replay_one.specs.Round.{IsFewer, IsHandedOn, IsKept, IsRound, IsRunAt, IsRunBut, IsRunButSomewhere, IsRunSomewhere, IsStepped, IsTried, seen_in};
+ghost use Rattle.replay_one.specs.Notes.{NoteShape};
+ghost use Rattle.replay_one.specs.Told.{AreToldIf, AreToldInRound, AreToldInStep};
 
 use crate::bounds::{Bounds, Next};
 use crate::looks::{Look, look_at, next_in};
+use crate::notes::Notes;
 use crate::receptions::owner_of;
 use crate::schedule::Schedule;
+use crate::telling::{before, tell};
 use asp_model::Reception;
 use code_table::Code;
 use replay_population::{Population, Roster};
@@ -172,12 +176,13 @@ impl Machine {
 
     /// The least of those who are ready, who was taken out of them, takes a reduction or rests.
     /// Whether it does is answered. Who steps is ready again.
-    fn try_step(
+    fn try_step<N: Notes>(
         &mut self,
         alloc: Global,
         bounds: &Bounds,
         number: u32,
         passed: usize,
+        notes: &mut N,
     ) -> Result<bool, AllocError>
         requires ascending { IsAscending bounds.now }
         requires running { IsRunButSomewhere bounds.now self.old number }
@@ -187,6 +192,10 @@ impl Machine {
             IsRunBut bounds.now self.old n program c →
             IfOk result (λ b. IsTried bounds.now program c b self.new) }
         ensures kept { IfOk result (λ b. IsKept self.old b self.new) }
+        ensures told { (program : Tree) (c : Configuration) (n : Name) (xs : List NoteShape) →
+            number_of n self.old.population.roster ≡ Some number →
+            IsRunBut bounds.now self.old n program c → N.tells notes.old xs →
+            IfOk result (AreToldIf (N.tells notes.new) xs bounds.now c) }
     {
         let view = look_at(alloc, &self.population, bounds, number, passed)?;
         let passed = view.passed;
@@ -208,7 +217,9 @@ impl Machine {
                 Ok(false)
             }
             Look::Steps => {
+                let known = before(alloc, &self.population, number, notes)?;
                 let given = self.population.act(alloc, number)?;
+                tell(self.population.roster.name(number), known, &given, notes)?;
                 self.give(alloc, bounds, number, given)?;
                 self.schedule.wake(alloc, &self.population.roster, number)?;
                 Ok(true)
@@ -218,7 +229,13 @@ impl Machine {
 
     /// The least of those who are ready takes its reductions up to the next that needs others, and
     /// that one, at most so many in all; or it leaves them.
-    fn round(&mut self, alloc: Global, bounds: &Bounds, most: u64) -> Result<Round, AllocError>
+    fn round<N: Notes>(
+        &mut self,
+        alloc: Global,
+        bounds: &Bounds,
+        most: u64,
+        notes: &mut N,
+    ) -> Result<Round, AllocError>
         requires ascending { IsAscending bounds.now }
         requires running { IsRunSomewhere bounds.now self.old }
         requires some { 0 < most }
@@ -226,6 +243,9 @@ impl Machine {
             IsRunAt bounds.now self.old program c →
             IfOk result (λ t. IsRound bounds.now program c most t self.new) }
         ensures fewer { IfOk result (λ t. IsFewer self.old t self.new) }
+        ensures told { (program : Tree) (c : Configuration) (xs : List NoteShape) →
+            IsRunAt bounds.now self.old program c → N.tells notes.old xs →
+            IfOk result (AreToldInRound (N.tells notes.new) xs bounds.now c) }
     {
         let Some(name) = self.schedule.take_least() else {
             return Ok(Round::Ends);
@@ -241,7 +261,7 @@ impl Machine {
             return Ok(Round::Steps(taken));
         }
         let passed = passed_after(taken, known);
-        if self.try_step(alloc, bounds, number, passed)? {
+        if self.try_step(alloc, bounds, number, passed, notes)? {
             return Ok(Round::Steps(taken + 1));
         }
         if taken > 0 {
@@ -252,11 +272,12 @@ impl Machine {
 
     /// The least-named activity that can takes reductions, at most so many. How many is answered;
     /// none where nobody can.
-    pub fn step(
+    pub fn step<N: Notes>(
         &mut self,
         alloc: Global,
         bounds: &Bounds,
         most: u64,
+        notes: &mut N,
     ) -> Result<Option<u64>, AllocError>
         requires ascending { IsAscending bounds.now }
         requires running { IsRunSomewhere bounds.now self.old }
@@ -264,9 +285,12 @@ impl Machine {
         ensures steps { (program : Tree) (c : Configuration) →
             IsRunAt bounds.now self.old program c →
             IfOk result (λ o. IsStepped bounds.now program c most o self.new) }
+        ensures told { (program : Tree) (c : Configuration) (xs : List NoteShape) →
+            IsRunAt bounds.now self.old program c → N.tells notes.old xs →
+            IfOk result (AreToldInStep (N.tells notes.new) xs bounds.now c) }
     {
         loop {
-            match self.round(alloc, bounds, most)? {
+            match self.round(alloc, bounds, most, notes)? {
                 Round::Steps(taken) => return Ok(Some(taken)),
                 Round::Ends => return Ok(None),
                 Round::Leaves => {}

@@ -1,6 +1,6 @@
 //! The run of a program within a budget.
 
-ghost use Rattle.std.specs.Prelude.{◌≡◌, ◌≤◌, IfOk, OnOk};
+ghost use Rattle.std.specs.Prelude.{◌≡◌, ◌≤◌, ◌++◌, IfOk, List, OnOk};
 ghost use Rattle.asp_model.specs.Term.{Tree};
 ghost use Rattle.asp_model.specs.Configuration.{Configuration, start as start_of};
 ghost use Rattle.asp_model.specs.Outcome.{counts_in, outcome_of as outcome_shown};
@@ -11,10 +11,15 @@ ghost use Rattle.run_ends.specs.Ends.{IsEndOf};
 ghost use Rattle.replay_one.specs.Bounds.{IsAscending, count_within, lists_within};
 ghost use Rattle.replay_one.specs.Correct.{IsReplayed, IsSpent};
 ghost use Rattle.replay_population.specs.Reached.{IsReachedPopulation};
+ghost use Rattle.replay_one.specs.Listening.{AreToldPlaces};
+ghost use Rattle.replay_one.specs.Notes.{NoteShape};
 ghost use Rattle.replay_one.specs.Round.{IsRunAt, IsRunSomewhere};
+ghost use Rattle.replay_one.specs.Told.{notes_by};
 
 use crate::bounds::Bounds;
+use crate::notes::{NoNotes, Notes};
 use crate::round::Machine;
+use crate::telling::tell_places;
 use asp_check::Checked;
 use code_compiler::compile;
 use run_ends::RunEnd;
@@ -23,17 +28,26 @@ use std::sync::Arc;
 
 impl Machine {
     /// Takes at most so many reductions, until nobody can take one.
-    pub fn run(&mut self, alloc: Global, bounds: &Bounds, total: u64) -> Result<(), AllocError>
+    pub fn run<N: Notes>(
+        &mut self,
+        alloc: Global,
+        bounds: &Bounds,
+        total: u64,
+        notes: &mut N,
+    ) -> Result<(), AllocError>
         requires ascending { IsAscending bounds.now }
         requires running { IsRunSomewhere bounds.now self.old }
         ensures runs { (program : Tree) (c : Configuration) →
             IsRunAt bounds.now self.old program c →
             let d = steps_from total (lists_within bounds.now) (count_within bounds.now) c in
             OnOk result (IsReachedPopulation self.new.population program d) }
+        ensures told { (program : Tree) (c : Configuration) (xs : List NoteShape) →
+            IsRunAt bounds.now self.old program c → N.tells notes.old xs →
+            OnOk result (N.tells notes.new (xs ++ notes_by bounds.now total c)) }
     {
         let mut left = total;
         while left > 0 {
-            let Some(taken) = self.step(alloc, bounds, left)? else {
+            let Some(taken) = self.step(alloc, bounds, left, notes)? else {
                 return Ok(());
             };
             left -= taken;
@@ -43,11 +57,12 @@ impl Machine {
 }
 
 /// Runs a program within bounds, with at most so many reductions in all.
-pub fn run_within(
+pub fn run_within<N: Notes>(
     alloc: Global,
     program: &Checked,
     bounds: &Bounds,
     total: u64,
+    notes: &mut N,
 ) -> Result<RunEnd, AllocError>
     requires ascending { IsAscending bounds.now }
     ensures end { let first = start_of (tree_of program.now.program.root) in
@@ -56,10 +71,16 @@ pub fn run_within(
     ensures outcome { let first = start_of (tree_of program.now.program.root) in
         let last = steps_from total (lists_within bounds.now) (count_within bounds.now) first in
         IfOk result (λ r. outcome_shape r.outcome ≡ outcome_shown last) }
+    // The steps, and then where the activities stand.
+    ensures told { (xs : List NoteShape) → N.tells notes.old xs →
+        let first = start_of (tree_of program.now.program.root) in
+        let last = steps_from total (lists_within bounds.now) (count_within bounds.now) first in
+        OnOk result (AreToldPlaces (N.tells notes.new) (xs ++ notes_by bounds.now total first) last) }
 {
     let code = Arc::new(alloc, compile(alloc, program)?)?;
     let mut machine = Machine::start(alloc, bounds, code)?;
-    machine.run(alloc, bounds, total)?;
+    machine.run(alloc, bounds, total, notes)?;
+    tell_places(alloc, &mut machine.population, notes)?;
     machine.population.end(alloc)
 }
 
@@ -75,5 +96,11 @@ pub fn run_plain(alloc: Global, program: &Checked, budget: u64) -> Result<RunEnd
     ensures within { IfOk result (λ r. total_of (counts_in (outcome_shape r.outcome)) ≤ budget) }
     ensures spent { IfOk result (λ r. IsSpent budget (outcome_shape r.outcome)) }
 {
-    run_within(alloc, program, &Bounds::Budget(budget), budget)
+    run_within(
+        alloc,
+        program,
+        &Bounds::Budget(budget),
+        budget,
+        &mut NoNotes,
+    )
 }

@@ -1,4 +1,4 @@
-use Rattle.std.proofs.Common.{◌≡◌, Some, ◌∙◌, List, ap, slice_get, sym, subst}
+use Rattle.std.proofs.Common.{◌≡◌, ◌++◌, Some, ◌∙◌, List, ap, slice_get, sym, subst}
 use Rattle.std.proofs.lemmas.Option.{slice_get_within}
 use Rattle.asp_model.specs.declared.name.FutureName.{FutureName}
 use Rattle.asp_model.specs.Names.{Name}
@@ -13,38 +13,42 @@ use Rattle.replay_population.specs.Population.{IsPassing}
 use Rattle.replay_population.specs.Giving.{IsGiving}
 use Rattle.replay_one.specs.Schedule.{IsNoted, IsTaken, seen}
 use Rattle.replay_one.specs.Round.{CanStep, IsLook, IsRunWith, seen_in}
-use Rattle.replay_population.proofs.RosterLemmas.{number_named}
+use Rattle.replay_population.proofs.RosterLemmas.{number_named, number_within}
+use Rattle.law_chases.proofs.FutureLemmas.{some_is}
+use Rattle.asp_model.specs.Intent.{Acts}
+use Rattle.step_activity.specs.Effects.{IsGiven}
+use Rattle.replay_one.specs.Notes.{notes_of}
 use Rattle.replay_one.proofs.LookLemmas.{awaits_there}
 use Rattle.replay_population.proofs.GivingLemmas.{reached_hand_on}
 use Rattle.replay_population.proofs.EndLemmas.{reached_closed}
-use Rattle.replay_one.proofs.RunLemmas.{awaits_round, but_reached, holds_round, leaves_round, numbered_on, passing_run, serves_round, steps_round}
+use Rattle.replay_one.proofs.RunLemmas.{awaits_round, but_reached, holds_round, leaves_round, numbered_on, passing_run, serves_round, step_noted, steps_round}
 use Rattle.replay_one.proofs.round.Machine.try_step.Goals as goal
 
 pub look_at-requires-clause-numbered : goal.look_at-requires-clause-numbered
-look_at-requires-clause-numbered c = let r = c.requires.running in r.4.run.numbered
+look_at-requires-clause-numbered g c = let r = c.requires.running in r.4.run.numbered
 
 pub look_at-requires-clause-reached : goal.look_at-requires-clause-reached
-look_at-requires-clause-reached c =
+look_at-requires-clause-reached g c =
     let r = c.requires.running in
     (r.2, r.3, but_reached c.args.bounds.now c.args.self.now r.0 r.2 r.3 r.4)
 
 pub act-requires-clause-closed : goal.act-requires-clause-closed
-act-requires-clause-closed c =
+act-requires-clause-closed g c =
     let r = c.requires.running in
     (r.3, reached_closed c.args.self.now.population r.2 r.3 (but_reached c.args.bounds.now c.args.self.now r.0 r.2 r.3 r.4))
 
 pub act-requires-clause-known : goal.act-requires-clause-known
-act-requires-clause-known c = let r = c.requires.running in (r.0, r.1)
+act-requires-clause-known g c = let r = c.requires.running in (r.0, r.1)
 
 pub returns-in-Leaves-clause-tried : goal.returns-in-Leaves-clause-tried
-returns-in-Leaves-clause-tried c = λ program k n has h.
+returns-in-Leaves-clause-tried g c = λ program k n has h.
     let b : Bounds = c.args.bounds.now in
     let m : Machine = c.args.self.now in
     let look = subst (IsLook (lists_within b) (count_within b) k m.population.roster n) c.in-Leaves.is (c.in_ok-view.ensures.look program k n (but_reached b m n program k h) has) in
     leaves_round b program k n m.population h.before (seen_in m) h.run h.taken look
 
 pub returns-in_ok-note-in-Awaits-clause-tried : goal.returns-in_ok-note-in-Awaits-clause-tried
-returns-in_ok-note-in-Awaits-clause-tried c = λ program k n has h.
+returns-in_ok-note-in-Awaits-clause-tried g c = λ program k n has h.
     let b : Bounds = c.args.bounds.now in
     let m : Machine = c.args.self.now in
     let ns : List Name = m.population.roster in
@@ -62,12 +66,12 @@ returns-in_ok-note-in-Awaits-clause-tried c = λ program k n has h.
     subst (λ (ms : List Name). IsRunWith b q (seen ms new) program k) (sym roster) after
 
 pub give-requires-clause-numbered : goal.give-requires-clause-numbered
-give-requires-clause-numbered c =
+give-requires-clause-numbered g c =
     let r = c.requires.running in
     numbered_on c.args.bounds.now c.args.self.now.population.roster c.act.new.self.roster r.4.run.numbered (λ j x e. ap (λ (ns : List Name). slice_get ns j) c.in_ok-given-in-Steps.ensures.roster ∙ e)
 
 pub give-requires-clause-giving : goal.give-requires-clause-giving
-give-requires-clause-giving c =
+give-requires-clause-giving g c =
     let r = c.requires.running in
     let b : Bounds = c.args.bounds.now in
     let m : Machine = c.args.self.now in
@@ -77,7 +81,7 @@ give-requires-clause-giving c =
     (n, ap (number_of n) c.in_ok-given-in-Steps.ensures.roster ∙ r.1, r.3, x.effect, record { free = reached_hand_on r.2 r.3 n x.effect r.4.run.bare r.4.run.reached x.intends; given = acts.0; here = acts.1 })
 
 pub returns-in_ok-wake-in-Steps-clause-tried : goal.returns-in_ok-wake-in-Steps-clause-tried
-returns-in_ok-wake-in-Steps-clause-tried c = λ program k n has h.
+returns-in_ok-wake-in-Steps-clause-tried g c = λ program k n has h.
     let b : Bounds = c.args.bounds.now in
     let m : Machine = c.args.self.now in
     let ns : List Name = m.population.roster in
@@ -100,19 +104,19 @@ returns-in_ok-wake-in-Steps-clause-tried c = λ program k n has h.
     (λ j i e. c.in_ok-given-in-Steps.ensures.passed j i (c.in_ok-give-in-Steps.ensures.passed j i e)) h.forgotten
 
 pub wake-requires : goal.wake-requires
-wake-requires c =
+wake-requires g c =
     let r = c.requires.running in
     let p : Population = c.act.new.self in
     let now = ap (number_of r.0) c.in_ok-given-in-Steps.ensures.roster ∙ r.1 in
     record { known = slice_get_within c.give.new.self.population.roster c.args.number r.0 (c.in_ok-give-in-Steps.ensures.leads c.args.number r.0 (number_named p.roster r.0 c.args.number now)) }
 
 pub wanted-requires : goal.wanted-requires
-wanted-requires c =
+wanted-requires g c =
     let r = c.requires.running in
     record { closed = (r.3, reached_closed c.args.self.now.population r.2 r.3 (but_reached c.args.bounds.now c.args.self.now r.0 r.2 r.3 r.4)); known = (r.0, r.1) }
 
 pub returns-in_ok-serve-in-Serves-clause-tried : goal.returns-in_ok-serve-in-Serves-clause-tried
-returns-in_ok-serve-in-Serves-clause-tried c = λ program k n has h.
+returns-in_ok-serve-in-Serves-clause-tried g c = λ program k n has h.
     let b : Bounds = c.args.bounds.now in
     let m : Machine = c.args.self.now in
     let ns : List Name = m.population.roster in
@@ -121,7 +125,7 @@ returns-in_ok-serve-in-Serves-clause-tried c = λ program k n has h.
     (λ a is. c.in_ok-wanted-in-Serves.ensures.wanted k a n h.run.population has is) look.0 look.1
 
 pub returns-in_ok-hold-in-Holds-clause-tried : goal.returns-in_ok-hold-in-Holds-clause-tried
-returns-in_ok-hold-in-Holds-clause-tried c = λ program k n has h.
+returns-in_ok-hold-in-Holds-clause-tried g c = λ program k n has h.
     let b : Bounds = c.args.bounds.now in
     let m : Machine = c.args.self.now in
     let ns : List Name = m.population.roster in
@@ -130,3 +134,30 @@ returns-in_ok-hold-in-Holds-clause-tried c = λ program k n has h.
     let to : Name = at.0 in
     let sends = c.in_ok-hold-in-Holds.ensures.sends ns n to has at.1 in
     holds_round b program k n m.population h.before (seen_in m) (seen ns c.hold.new.self) to h.run h.taken (c.in_ok-hold-in-Holds.ensures.watching ns n has) sends look.0 at.2
+
+pub before-requires-clause-closed : goal.before-requires-clause-closed
+before-requires-clause-closed g c =
+    let r = c.requires.running in
+    (r.3, reached_closed c.args.self.now.population r.2 r.3 (but_reached c.args.bounds.now c.args.self.now r.0 r.2 r.3 r.4))
+
+pub before-requires-clause-known : goal.before-requires-clause-known
+before-requires-clause-known g c = let r = c.requires.running in (r.0, r.1)
+
+pub name-requires : goal.name-requires
+name-requires g c =
+    let r = c.requires.running in
+    record { within = number_within c.act.new.self.roster r.0 c.args.number (ap (number_of r.0) c.in_ok-given-in-Steps.ensures.roster ∙ r.1) }
+
+pub returns-in_ok-wake-in-Steps-clause-told : goal.returns-in_ok-wake-in-Steps-clause-told
+returns-in_ok-wake-in-Steps-clause-told g c = λ program k n xs has h t.
+    let b : Bounds = c.args.bounds.now in
+    let m : Machine = c.args.self.now in
+    let p : Population = c.act.new.self in
+    let x : CanStep (lists_within b) (count_within b) k n = subst (IsLook (lists_within b) (count_within b) k m.population.roster n) c.in-Steps.is (c.in_ok-view.ensures.look program k n (but_reached b m n program k h) has) in
+    let acts = c.in_ok-given-in-Steps.ensures.acts k x.effect n h.run.population has x.intends in
+    let now : number_of n p.roster ≡ Some c.args.number = ap (number_of n) c.in_ok-given-in-Steps.ensures.roster ∙ has in
+    let name : c.name.result.now ≡ n = some_is (sym c.name.ensures.name ∙ number_named p.roster n c.args.number now) in
+    let known = c.in_ok-known-in-Steps.ensures.known k x.activity n h.run.population has x.there in
+    let told = c.in_ok-tell-in-Steps.ensures.told xs x.activity x.effect t known (subst (λ (w : Name). IsGiven w x.effect c.in_ok-given-in-Steps.given) (sym name) acts.0) in
+    let next = returns-in_ok-wake-in-Steps-clause-tried g c program k n has h in
+    subst (λ ys. g.N.Notes.tells c.tell.new.notes (xs ++ ys)) (ap (λ (w : Name). notes_of w x.activity (Acts x.effect)) name ∙ sym (step_noted b program k n m x next.0 h next.1)) told

@@ -1,0 +1,86 @@
+-- What a listener is told of a step, and of where the activities stand.
+use Rattle.std.proofs.Common.{◌≡◌, ◌||◌, ◌+◌, ◌++◌, ◌∷◌, [], ℕ, true, false, List, Option, Some, None, get_or, map, slice_get, take, refl, sym, ap, subst, ◌∙◌}
+use Rattle.std.proofs.lemmas.List.{append_assoc, append-nil, map-append, take_more}
+use Rattle.std.proofs.lemmas.Option.{slice_get-get_or, slice_get_within}
+use Rattle.std.specs.FinMap.{find}
+use Rattle.std.proofs.lemmas.Slice.Eq.{bytes_eq-Decides}
+use Rattle.asp_model.specs.Names.{Name, Text, name_cmp, same_text}
+use Rattle.asp_model.specs.Term.{has_text}
+use Rattle.asp_model.specs.Configuration.{Activity, Configuration}
+use Rattle.asp_model.specs.Intent.{Acts, Effect}
+use Rattle.def_journals.specs.Journals.{number_of}
+use Rattle.law_chases.proofs.FutureLemmas.{some_is, true_false}
+use Rattle.replay_population.specs.declared.population.Population.{Population}
+use Rattle.replay_population.specs.Population.{IsPopulation}
+use Rattle.replay_population.proofs.PopulationLemmas.{absent_nowhere}
+use Rattle.replay_population.proofs.RosterLemmas.{number_named}
+use Rattle.law_steps.specs.Waking.{labels_wanted}
+use Rattle.serve_rules.specs.Labels.{HaveSame}
+use Rattle.replay_one.specs.Notes.{NoteShape, HasNames, Served, given_by, has_some, noted_as, notes_of, place_of, places_by, places_in, served_by, standing}
+
+text_tied : (l : Text) → same_text l l ≡ true
+text_tied l = (bytes_eq-Decides l l).1 refl
+
+-- sets with the same labels both have some, or none
+pub same_some : (xs ys : List Text) → HaveSame xs ys → has_some xs ≡ has_some ys
+same_some [] [] h = refl
+same_some [] (y ∷ ys) h = absurd (true_false (has_text y (y ∷ ys)) (ap (λ b. b || has_text y ys) (text_tied y)) (sym (h y)))
+same_some (x ∷ xs) [] h = absurd (true_false (has_text x (x ∷ xs)) (ap (λ b. b || has_text x xs) (text_tied x)) (h x))
+same_some (x ∷ xs) (y ∷ ys) h = refl
+
+-- no service
+pub none_served : (ls : List Text) → has_some ls ≡ false → served_by ls ≡ []
+none_served [] e = refl
+none_served (l ∷ ls) e = absurd cc
+
+-- a service
+pub some_served : (ls : List Text) → has_some ls ≡ true → served_by ls ≡ Served ls ∷ []
+some_served [] e = absurd cc
+some_served (l ∷ ls) e = refl
+
+pub none_placed : (n : Name) (a : Activity) (ls : List Text) → has_some ls ≡ false → places_by n a ls ≡ []
+none_placed n a [] e = refl
+none_placed n a (l ∷ ls) e = absurd cc
+
+pub some_placed : (n : Name) (a : Activity) (ls : List Text) → has_some ls ≡ true → places_by n a ls ≡ standing n a ∷ []
+some_placed n a [] e = absurd cc
+some_placed n a (l ∷ ls) e = refl
+
+-- the place of an activity that is there
+pub place_at : (c : Configuration) (n : Name) (a : Activity) → find name_cmp n c.activities ≡ Some a → place_of c n ≡ places_by n a (labels_wanted a)
+place_at c n a is = ap (λ (o : Option Activity). elim o [ None ↦ [] | Some a ↦ places_by n a (labels_wanted a) ]) is
+
+pub place_none : (c : Configuration) (n : Name) → find name_cmp n c.activities ≡ None → place_of c n ≡ []
+place_none c n is = ap (λ (o : Option Activity). elim o [ None ↦ [] | Some a ↦ places_by n a (labels_wanted a) ]) is
+
+-- a service, and then what is given
+pub told_step : (tells : List NoteShape → Type 0) (xs : List NoteShape) (n : Name) (a : Activity) (e : Effect)
+    → tells ((xs ++ map (noted_as n a.reductions) (served_by (labels_wanted a))) ++ map (noted_as n a.reductions) (given_by e)) → tells (xs ++ notes_of n a (Acts e))
+told_step tells xs n a e t =
+    let f = noted_as n a.reductions in
+    let s = served_by (labels_wanted a) in
+    subst tells (append_assoc xs (map f s) (map f (given_by e)) ∙ ap (λ ys. xs ++ ys) (sym (map-append f s (given_by e)))) t
+
+-- one place more
+pub places_more : (c : Configuration) (ns : List Name) (n : Name) → places_in c (ns ++ n ∷ []) ≡ places_in c ns ++ place_of c n
+places_more c [] n = append-nil (place_of c n)
+places_more c (m ∷ ns) n = ap (λ ys. place_of c m ++ ys) (places_more c ns n) ∙ sym (append_assoc (place_of c m) (places_in c ns) (place_of c n))
+
+-- the name of the next number is one more
+pub next_place : (ns : List Name) (i : ℕ) (n : Name) → slice_get ns i ≡ Some n → take (i + 1) ns ≡ take i ns ++ n ∷ []
+next_place ns i n is =
+    let lt = slice_get_within ns i n is in
+    let same : get_or ns i n ≡ n = some_is (sym (slice_get-get_or ns i n lt) ∙ is) in
+    take_more ns i n lt ∙ ap (λ m. take i ns ++ m ∷ []) same
+
+-- it is told where one more stands
+pub told_next : (tells : List NoteShape → Type 0) (xs : List NoteShape) (c : Configuration) (ns : List Name) (i : ℕ) (n : Name) → slice_get ns i ≡ Some n → tells ((xs ++ places_in c (take i ns)) ++ place_of c n) → tells (xs ++ places_in c (take (i + 1) ns))
+told_next tells xs c ns i n is t = subst tells (append_assoc xs (places_in c (take i ns)) (place_of c n) ∙ ap (λ ys. xs ++ ys) (sym (ap (places_in c) (next_place ns i n is) ∙ places_more c (take i ns) n))) t
+
+-- each activity has a number
+pub names_there : (p : Population) (c : Configuration) → IsPopulation p c → HasNames c p.roster
+names_there p c h n there = by (number_of n p.roster) refl
+  where
+    by : (o : Option ℕ) → number_of n p.roster ≡ o → (k : ℕ) × (slice_get p.roster k ≡ Some n)
+    by None e = absent_nowhere p c n h e there
+    by (Some k) e = (k, number_named p.roster n k e)

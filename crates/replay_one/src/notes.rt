@@ -1,0 +1,68 @@
+//! What is noted of a run, and who listens.
+
+ghost use Rattle.std.specs.Prelude.{◌≡◌, ◌∷◌, ◌++◌, [], List, OnOk, false};
+ghost use Rattle.replay_one.specs.Listening.{IsDeaf, IsNote};
+ghost use Rattle.replay_one.specs.Notes.{NoteShape};
+
+use asp_model::{ActivityName, FutureName, Label};
+use serve_rules::LabelSet;
+use std::alloc::AllocError;
+
+/// What an activity does that others see.
+#[derive(Clone, Copy)]
+pub enum Event<'a> {
+    /// It serves a request that has one of these labels.
+    Served(&'a LabelSet),
+    Made(&'a ActivityName),
+    /// A request with this label and this future comes to the activity of this name.
+    Sent(&'a ActivityName, &'a Label, &'a FutureName),
+    /// It answers.
+    Answered(&'a FutureName),
+    /// It asks what is pending.
+    Polled,
+    /// It stands at a `serve` with these labels when the run is over.
+    Standing(&'a LabelSet),
+}
+
+/// Who does what, after how many of its reductions.
+#[derive(Clone, Copy)]
+pub struct Note<'a> {
+    pub by: &'a ActivityName,
+    pub count: u64,
+    pub event: Event<'a>,
+}
+
+/// Listens to a run. It is told of each step that others see, in the order of the steps.
+pub trait Notes {
+    /// What it keeps tells of these notes, which it was told in this order.
+    ghost tells: { Self → List NoteShape → Type 0 };
+
+    /// Whether it wants to be told. Who does not is told nothing.
+    fn listens(&self) -> bool
+        ensures deaf { result ≡ false → IsDeaf (tells self.now) };
+
+    /// It is told one note more.
+    fn note(&mut self, note: Note) -> Result<(), AllocError>
+        ensures told { (xs : List NoteShape) (x : NoteShape) → tells self.old xs →
+            IsNote note.entry x → OnOk result (tells self.new (xs ++ x ∷ [])) };
+}
+
+/// Nobody listens.
+#[derive(Clone, Copy, Debug, Drop)]
+pub struct NoNotes;
+
+impl Notes for NoNotes {
+    ghost use Rattle.std.specs.Prelude.{⊤};
+
+    ghost tells = { λ _ _. ⊤ };
+
+    #[inline]
+    fn listens(&self) -> bool {
+        false
+    }
+
+    #[inline]
+    fn note(&mut self, _note: Note) -> Result<(), AllocError> {
+        Ok(())
+    }
+}
