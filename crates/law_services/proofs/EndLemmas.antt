@@ -28,10 +28,10 @@ use Rattle.law_services.proofs.SameLemmas.{Same, same_back, Run, right_at, linke
 use Rattle.law_services.proofs.CoverLemmas.{Covered, covers, none_left}
 
 -- one step more
-abbrev one_more : Option Configuration → Configuration → Configuration
+abbrev pub one_more : Option Configuration → Configuration → Configuration
 one_more o c = elim o [ None ↦ c | Some d ↦ d ]
 
-more_steps : (lists : Option ListsShape) (count : Name → ℕ) (k : ℕ) (c : Configuration) → steps_from (suc k) lists count c ≡ one_more (next_by lists count (steps_from k lists count c)) (steps_from k lists count c)
+pub more_steps : (lists : Option ListsShape) (count : Name → ℕ) (k : ℕ) (c : Configuration) → steps_from (suc k) lists count c ≡ one_more (next_by lists count (steps_from k lists count c)) (steps_from k lists count c)
 more_steps lists count zero c = refl
 more_steps lists count (suc k) c = elim (next_by lists count c) as (λ o. next_by lists count c ≡ o
     → let d : Configuration = elim o [ None ↦ c | Some d ↦ steps_from k lists count d ] in

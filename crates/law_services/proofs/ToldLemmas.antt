@@ -3,21 +3,21 @@ use Rattle.std.specs.Prelude.{◌≡◌, ◌&&◌, not, Bool, true, false, cond,
 use Rattle.std.specs.Bool.{Decides}
 use Rattle.std.specs.Cmp.Derive.{both_true}
 use Rattle.std.specs.List.{Contains, list_all}
-use Rattle.std.proofs.Common.{refl, sym, ap, subst, ◌∙◌, get_or}
+use Rattle.std.proofs.Common.{refl, sym, ap, subst, ◌∙◌, get_or, ◌⊎◌, inl, inr}
 use Rattle.std.proofs.lemmas.Bool.{and_parts, not_from_false}
 use Rattle.std.proofs.lemmas.List.Elements.{All-contains, All-contains_itself}
 use Rattle.std.proofs.lemmas.List.Sums.{AllPass-from_list_all, list_all-from_AllPass}
 use Rattle.std.proofs.lemmas.Slice.Eq.{bytes_eq-Decides, slice_eq-Decides}
 use Rattle.asp_model.specs.Names.{Name, Text, same_name, same_text}
-use Rattle.asp_model.specs.Term.{Tree}
+use Rattle.asp_model.specs.Term.{Tree, has_text}
 use Rattle.asp_model.specs.Configuration.{RequestShape, Configuration, requests_of}
 use Rattle.asp_model.specs.Services.{ArrivalShape, ServicesShape}
 use Rattle.asp_model.specs.Step.{ListsShape}
 use Rattle.asp_model.specs.Replay.{CountsShape, replay}
 use Rattle.law_chases.proofs.FutureLemmas.{none_true}
 use Rattle.law_steps.proofs.NameLemmas.{name_itself, names_tied}
-use Rattle.law_services.specs.Services.{arrival_of, has_one_of, arrivals_within, AreServedAlike}
-use Rattle.law_services.specs.Told.{entry_at, with_labels, same_arrival, finds_same, AreSameServices, AreServicesOf, ServicesTell}
+use Rattle.law_services.specs.Services.{arrival_of, has_one_of, arrivals_within, StoodAt, AreServedAlike}
+use Rattle.law_services.specs.Told.{HaveSameTexts, IsKept, entry_at, with_labels, same_arrival, finds_same, AreSameServices, AreServicesOf, ServicesTell}
 
 pub arrivals_decided : (x y : ArrivalShape) → Decides (same_arrival x y) (x ≡ y)
 arrivals_decided x y = (
@@ -39,6 +39,15 @@ within_told labels (r ∷ rs) = elim (has_one_of labels r) as (λ b. map arrival
   | true ↦ ap (λ l. arrival_of r ∷ l) (within_told labels rs)
   | false ↦ within_told labels rs
 ]
+
+-- only which labels there are is looked at
+with_same : (labels others : List Text) → HaveSameTexts labels others → (xs : List ArrivalShape) → with_labels labels xs ≡ with_labels others xs
+with_same labels others same [] = refl
+with_same labels others same (x ∷ xs) = λ i. cond (same x.label i) (x ∷ with_same labels others same xs i) (with_same labels others same xs i)
+
+with_none : (labels : List Text) → labels ≡ [] → (xs : List ArrivalShape) → with_labels labels xs ≡ []
+with_none labels e [] = refl
+with_none labels e (x ∷ xs) = ap (λ ls. cond (has_text x.label ls) (x ∷ with_labels labels xs) (with_labels labels xs)) e ∙ with_none labels e xs
 
 not_is : (b : Bool) → not b ≡ true → b ≡ false
 not_is true e = none_true e
@@ -65,17 +74,28 @@ module _ (program : Tree) (lists : ListsShape) (counts : CountsShape) (others : 
     unpolled_too = λ n. sym (y.polled n) ∙ not_is (entry_at b n).polled (and_parts (not (entry_at b n).polled) (list_all (finds n) (entry_at a n).sets) (and_parts (not (entry_at a n).polled) (rest n) (same n)).1).0;
     arrivals = λ n labels stood.
         let found = (and_parts (not (entry_at b n).polled) (list_all (finds n) (entry_at a n).sets) (and_parts (not (entry_at a n).polled) (rest n) (same n)).1).1 in
-        let one : finds n labels ≡ true = All-contains (λ l. finds n l ≡ true) (entry_at a n).sets labels (AllPass-from_list_all (finds n) (entry_at a n).sets found) ((x.sets n labels).1 stood) in
-        within_is program lists counts a x n labels ∙ (finds_decided (entry_at a n).arrivals (entry_at b n).arrivals labels).0 one ∙ sym (within_is program others other_counts b y n labels);
+        within_is program lists counts a x n labels ∙ both_find n labels found (x.sets n labels stood) ∙ sym (within_is program others other_counts b y n labels);
   }
+    where
+      both_find : (n : Name) (labels : List Text) → list_all (finds n) (entry_at a n).sets ≡ true → IsKept (entry_at a n).sets labels → with_labels labels (entry_at a n).arrivals ≡ with_labels labels (entry_at b n).arrivals
+      both_find n labels found (inl e) = with_none labels e (entry_at a n).arrivals ∙ sym (with_none labels e (entry_at b n).arrivals)
+      both_find n labels found (inr k) =
+          let one : finds n k.0 ≡ true = All-contains (λ l. finds n l ≡ true) (entry_at a n).sets k.0 (AllPass-from_list_all (finds n) (entry_at a n).sets found) k.1 in
+          sym (with_same k.0 labels k.2 (entry_at a n).arrivals) ∙ (finds_decided (entry_at a n).arrivals (entry_at b n).arrivals k.0).0 one ∙ with_same k.0 labels k.2 (entry_at b n).arrivals
 
   same_services : AreServedAlike program lists counts others other_counts → AreSameServices a b
   same_services alike n = both_true (not_from_false (entry_at a n).polled (x.polled n ∙ alike.unpolled n)) (both_true (not_from_false (entry_at b n).polled (y.polled n ∙ alike.unpolled_too n))
       (list_all-from_AllPass (finds n) (entry_at a n).sets (λ k d lt. each (get_or (entry_at a n).sets k d) (All-contains_itself (entry_at a n).sets k d lt))))
     where
+      other : (labels : List Text) → (labels ≡ []) ⊎ StoodAt program lists counts n labels → with_labels labels (entry_at a n).arrivals ≡ with_labels labels (entry_at b n).arrivals
+      other labels (inl e) = with_none labels e (entry_at a n).arrivals ∙ sym (with_none labels e (entry_at b n).arrivals)
+      other labels (inr st) = sym (within_is program lists counts a x n labels) ∙ alike.arrivals n labels st ∙ within_is program others other_counts b y n labels
+
       each : (labels : List Text) → Contains (entry_at a n).sets labels → finds n labels ≡ true
-      each labels h = (finds_decided (entry_at a n).arrivals (entry_at b n).arrivals labels).1
-          (sym (within_is program lists counts a x n labels) ∙ alike.arrivals n labels ((x.sets n labels).0 h) ∙ within_is program others other_counts b y n labels)
+      each labels h =
+          let k = x.stood n labels h in
+          (finds_decided (entry_at a n).arrivals (entry_at b n).arrivals labels).1
+          (with_same labels k.0 k.1 (entry_at a n).arrivals ∙ other k.0 k.2 ∙ sym (with_same labels k.0 k.1 (entry_at b n).arrivals))
 
 pub services_tell : ServicesTell
 services_tell program lists counts others other_counts a b x y = (served_alike program lists counts others other_counts a b x y, same_services program lists counts others other_counts a b x y)

@@ -1,5 +1,5 @@
 -- What services of a replay could take, as data, and where two such data are not the same to a service.
-use Rattle.std.specs.Prelude.{◌≡◌, ◌&&◌, ◌↔◌, not, Bool, true, false, T, List, []}
+use Rattle.std.specs.Prelude.{◌≡◌, ◌⊎◌, ◌&&◌, ◌↔◌, not, Bool, true, false, T, List, []}
 use Rattle.std.specs.Prelude.{Option, Some, None, map, filter}
 use Rattle.std.specs.Cmp.Lexicographic.{pointwise}
 use Rattle.std.specs.FinMap.{find, is_sorted}
@@ -63,16 +63,31 @@ pub record IsFirstDifference (a b : ServicesShape) (n : Name) : Type 0 where
   pub differs : is_same_at a b n ≡ false
   pub least : (m : Name) → is_lt (name_cmp m n) ≡ true → is_same_at a b m ≡ true
 
--- they are those of the replay: names, what came, who polled, and the labels of each `serve` at which one stood
+-- a text is in both or in neither
+abbrev pub HaveSameTexts : List Text → List Text → Type 0
+HaveSameTexts xs ys = (t : Text) → has_text t xs ≡ has_text t ys
+
+-- a `serve` with these labels is one at which the activity stood, unless they are none
+abbrev pub IsStood : Tree → ListsShape → CountsShape → Name → List Text → Type 0
+IsStood program lists counts n labels = (others : List Text)
+    × HaveSameTexts labels others × ((others ≡ []) ⊎ StoodAt program lists counts n others)
+
+-- one of the sets has these labels, unless they are none
+abbrev pub IsKept : List (List Text) → List Text → Type 0
+IsKept sets labels = (labels ≡ []) ⊎ ((others : List Text) × Contains sets others × HaveSameTexts others labels)
+
+-- they are those of the replay: what came, who polled, and the labels of each `serve` at which one stood, in whatever
+-- order
 pub record AreServicesOf (program : Tree) (lists : ListsShape) (counts : CountsShape) (s : ServicesShape) : Type 0 where
   pub ascending : NamesAscend s
-  pub names : map (λ e. e.name) s ≡ map (λ x. x.0) (replay program lists counts).activities
   pub arrivals : (n : Name)
       → (entry_at s n).arrivals ≡ map arrival_of (requests_of (replay program lists counts) n)
   pub polled : (n : Name)
       → (entry_at s n).polled ≡ has_poll (log_of (replay program lists counts) n)
+  pub stood : (n : Name) (labels : List Text)
+      → Contains (entry_at s n).sets labels → IsStood program lists counts n labels
   pub sets : (n : Name) (labels : List Text)
-      → Contains (entry_at s n).sets labels ↔ StoodAt program lists counts n labels
+      → StoodAt program lists counts n labels → IsKept (entry_at s n).sets labels
 
 -- no service can tell between two replays exactly where none can between the data of both
 abbrev pub ServicesTell : Type 0
