@@ -2,6 +2,7 @@ pub mod SinkLemmas
 pub mod StopLemmas
 pub mod AskLemmas
 pub mod PrepareLemmas
+pub mod RulingLemmas
 pub mod OutcomeLemmas
 pub mod EndsLemmas
 pub mod StatusLemmas

@@ -1,5 +1,5 @@
 -- What a run and a replay have written, from the end of the run and the outcome of the replay.
-use Rattle.std.proofs.Common.{◌≡◌, ℕ, List, Option, sym, ap, ◌∙◌, arith}
+use Rattle.std.proofs.Common.{◌≡◌, ℕ, List, Option, None, ◌++◌, sym, ap, ◌∙◌, arith}
 use Rattle.asp_model.specs.Configuration.{Configuration}
 use Rattle.asp_model.specs.Term.{Tree}
 use Rattle.asp_model.specs.Step.{ListsShape}
@@ -10,20 +10,25 @@ use Rattle.asp_model.specs.Report.{text_of}
 use Rattle.asp_model.specs.ReadReport.{read_report, Reads}
 use Rattle.asp_model.specs.Shapes.{outcome_shape, tree_of}
 use Rattle.asp_check.specs.declared.checked.Checked.{Checked}
-use Rattle.def_paths.specs.Outcomes.{whole_outcome_of}
+use Rattle.def_paths.specs.Outcomes.{whole_outcome_of, reported}
 use Rattle.law_reports.specs.Depths.{report_to}
 use Rattle.law_outcomes.proofs.ReportLaws.{replay_reports_are_read}
-use Rattle.law_outcomes.proofs.ProgramLaws.{program_texts_are_printable}
+use Rattle.law_outcomes.proofs.ProgramLaws.{program_texts_are_printable, programs_have_no_places}
+use Rattle.law_outcomes.proofs.OutcomeLemmas.{reported_is}
 use Rattle.run_ends.specs.declared.ends.RunEnd.{RunEnd}
+use Rattle.determinacy.specs.Rulings.{ruled}
+use Rattle.run_report.specs.Rulings.{ruled_report, ruling_lines}
 use Rattle.run_report.specs.Summary.{summary_of}
+use Rattle.run_report.proofs.PassedLemmas.{rulings_are_passed_over}
 use Rattle.asp_core.specs.EndOfRun.{IsEndOfRun}
 use Rattle.load_gen.specs.Generated.{generated}
 use Rattle.command_line.specs.Settings.{IsSettings, SettingsShape}
-use Rattle.command_line.specs.Task.{Runs, Replays, Makes}
+use Rattle.command_line.specs.Task.{Runs, Rules, Replays, Makes}
 use Rattle.asp_top.specs.Seen.{Outside}
 use Rattle.asp_top.specs.Programs.{IsProgramOf, IsInFile, HasReport}
 use Rattle.asp_top.specs.Correct.{Answers, IsWithin}
 use Rattle.asp_top.specs.Stops.{program_in}
+use Rattle.asp_top.proofs.RulingLemmas.{only_end}
 
 -- what a run says of the replay under the lists and counts that its end shows
 
@@ -66,6 +71,24 @@ module _ (c : Checked) (settings : SettingsShape) (end : RunEnd) (h : IsEndOfRun
         (told, is ∙ ap exit_status same_outcome),
         ap read_report told ∙ reads depth given.bytes given.is s,
         within,
+      )
+
+  -- and the ruling on it
+  same_reported : reported (whole_outcome_of ended) ≡ reported (whole_outcome_of replayed)
+  same_reported = reported_is ended ∙ sym h.replayed.outcome ∙ sym (reported_is replayed)
+
+  same_ruled : ruled_report (whole_outcome_of ended) ≡ ruled_report (whole_outcome_of replayed)
+  same_ruled = λ i. text_of (sym (h.replayed.reports None) i ++ ruling_lines (ruled (same_reported i)))
+
+  pub ruled_is : (o : Outside) (file : List ℕ) (text : List ℕ) (status : ℕ) → IsInFile o file (program_in c) → IsSettings settings
+      → text ≡ ruled_report (whole_outcome_of ended) → status ≡ exit_status (outcome_shape end.outcome) → Answers o (Rules file settings) text status
+  ruled_is o file text status given s e is =
+      let told : text ≡ ruled_report (whole_outcome_of replayed) = e ∙ same_ruled in (
+        record { program = program_in c; given = given; lists = lists; counts = counts; fits = h.replayed.fits },
+        (told, is ∙ ap exit_status same_outcome),
+        ap read_report told ∙ rulings_are_passed_over (whole_outcome_of replayed) lists counts (reads None given.bytes given.is s),
+        within,
+        only_end program lists counts (programs_have_no_places given.bytes (program_in c) given.is.is_read),
       )
 
   pub made_is : (o : Outside) (pairs : ℕ) (bytes : List ℕ) (text : List ℕ) (status : ℕ) → bytes ≡ generated pairs → IsProgramOf bytes (program_in c)

@@ -5,7 +5,7 @@ use Rattle.std.specs.List.{list_any}
 use Rattle.asp_model.specs.Configuration.{Configuration}
 use Rattle.asp_model.specs.Status.{VerdictShape, End, Blocked, Budget, IsStuck, is_awaiting, is_running, statuses_of, verdict_of}
 use Rattle.asp_model.specs.Outcome.{ActivityReportShape, outcome_of, exit_status, is_faulted}
-use Rattle.command_line.specs.Task.{TaskShape, Runs, Checks, Replays, Makes, task_of}
+use Rattle.command_line.specs.Task.{TaskShape, Runs, Checks, Rules, Replays, Makes, task_of}
 use Rattle.asp_top.specs.Seen.{Call, Outside, IsUntouched, Takes}
 use Rattle.asp_top.specs.Correct.{Answers, IsReported, Reports, end_of}
 use Rattle.asp_top.specs.Refusals.{Refusal, Usage, Unread, LongProgram, NoProgram, Unchecked, LongReport, NoReport, Diverges, NoMemory, status_of_refusal}
@@ -51,7 +51,7 @@ five_status : (c : Configuration) → verdict_of c ≡ Budget → exit_status (o
 five_status c e = five_at (verdict_of c) (outcome_of c).activities e
 
 -- how a replay stops
-data Stops (c : Configuration) : Type 0 where
+pub data Stops (c : Configuration) : Type 0 where
   Ended : IsEnd c → Stops c
   Waiting : IsBlocked c → Stops c
   Going : GoesOn c → Stops c
@@ -75,7 +75,7 @@ stops_if c false false h g =
       none_awaits = g;
     })
 
-stops : (c : Configuration) → Stops c
+pub stops : (c : Configuration) → Stops c
 stops c = stops_if c (list_any is_running (statuses_of c)) (list_any is_awaiting (statuses_of c)) refl refl
 
 -- a status that is not 0 or 1
@@ -131,24 +131,28 @@ stuck_at c status e h = stuck_by c status e h (stops c)
 pub answers_reported : (o : Outside) (task : TaskShape) (text : List ℕ) (status : ℕ) → Answers o task text status → IsReported status
 answers_reported o (Runs file settings depth) text status a = reported_at (end_of a.0) status a.1.1 (stops (end_of a.0))
 answers_reported o (Checks file) text status a = inl a.3
+answers_reported o (Rules file settings) text status a = reported_at (end_of a.0) status a.1.1 (stops (end_of a.0))
 answers_reported o (Replays file name depth) text status a = reported_at (end_of a.0) status a.1.1 (stops (end_of a.0))
 answers_reported o (Makes pairs settings) text status a = reported_at (end_of a.0) status a.1.1 (stops (end_of a.0))
 
 has_ended : (o : Outside) (task : TaskShape) (text : List ℕ) (status : ℕ) (a : Answers o task text status) → IsLow status → HasEnded o task text status a
 has_ended o (Runs file settings depth) text status a h = end_at (end_of a.0) status a.1.1 h (stops (end_of a.0))
 has_ended o (Checks file) text status a h = a.3
+has_ended o (Rules file settings) text status a h = end_at (end_of a.0) status a.1.1 h (stops (end_of a.0))
 has_ended o (Replays file name depth) text status a h = end_at (end_of a.0) status a.1.1 h (stops (end_of a.0))
 has_ended o (Makes pairs settings) text status a h = end_at (end_of a.0) status a.1.1 h (stops (end_of a.0))
 
 has_blocked : (o : Outside) (task : TaskShape) (text : List ℕ) (status : ℕ) (a : Answers o task text status) → status ≡ 4 → HasBlocked o task text status a
 has_blocked o (Runs file settings depth) text status a h = blocked_at (end_of a.0) status a.1.1 h (stops (end_of a.0))
 has_blocked o (Checks file) text status a h = clash status 0 4 a.3 h refl refl
+has_blocked o (Rules file settings) text status a h = blocked_at (end_of a.0) status a.1.1 h (stops (end_of a.0))
 has_blocked o (Replays file name depth) text status a h = blocked_at (end_of a.0) status a.1.1 h (stops (end_of a.0))
 has_blocked o (Makes pairs settings) text status a h = blocked_at (end_of a.0) status a.1.1 h (stops (end_of a.0))
 
 has_spent : (o : Outside) (task : TaskShape) (text : List ℕ) (status : ℕ) (a : Answers o task text status) → status ≡ 5 → HasSpent o task text status a
 has_spent o (Runs file settings depth) text status a h = let g = going_at (end_of a.0) status a.1.1 h (stops (end_of a.0)) in (g, a.3.1 g.verdict)
 has_spent o (Checks file) text status a h = clash status 0 5 a.3 h refl refl
+has_spent o (Rules file settings) text status a h = let g = going_at (end_of a.0) status a.1.1 h (stops (end_of a.0)) in (g, a.3.1 g.verdict)
 has_spent o (Replays file name depth) text status a h = going_at (end_of a.0) status a.1.1 h (stops (end_of a.0))
 has_spent o (Makes pairs settings) text status a h = let g = going_at (end_of a.0) status a.1.1 h (stops (end_of a.0)) in (g, a.2.1 g.verdict)
 

@@ -19,7 +19,9 @@ use Rattle.asp_check.specs.Faults.{IsChecked, IsFirstFault}
 use Rattle.asp_top.specs.declared.stop.Stop.{Stop}
 use Rattle.asp_top.specs.Seen.{Sight, Outside}
 use Rattle.asp_top.specs.Refusals.{Refusal, Usage, Unread, LongProgram, NoProgram, Unchecked, LongReport, NoReport, Diverges, NoMemory, status_of_refusal, message_of}
-use Rattle.asp_top.specs.Programs.{IsFile, IsProgramOf}
+use Rattle.command_line.specs.Task.{TaskShape}
+use Rattle.asp_top.specs.Programs.{IsFile, IsText, IsProgramOf}
+use Rattle.asp_top.specs.Endings.{HoldsFor, NamesProgram, OfProgram}
 use Rattle.asp_top.specs.Stops.{IsCheckedFile, RefusedAt, RefusedInFile, StopsAt, StopsInFile, syntax_stop, check_stop, program_in, refusal_of}
 use Rattle.asp_top.specs.Ready.{Told, ToldRefusal}
 
@@ -79,6 +81,18 @@ refused_in_file o name bytes NoMemory f h = tt
 pub stops_in_file : (o : Outside) (name bytes : List ℕ) (r : Result Checked Stop) → IsFile o 0 name MOST_PROGRAM_BYTES bytes → IfErr r (StopsAt bytes) → IfErr r (StopsInFile o name)
 stops_in_file o name bytes (Ok c) f h = tt
 stops_in_file o name bytes (Err s) f h = refused_in_file o name bytes (refusal_of s) f h
+
+-- why there is no program in the file of a task
+pub no_program : (o : Outside) (task : TaskShape) (file : List ℕ) → NamesProgram task file → ((bytes : List ℕ) → IsFile o 0 file MOST_PROGRAM_BYTES bytes → IsText o task bytes) → (r : Refusal) → RefusedInFile o file r → HoldsFor o task r
+no_program o task file named text Usage h = absurd h
+no_program o task file named text (Unread name) h = OfProgram (subst (NamesProgram task) h.0 named) h.1
+no_program o task file named text LongProgram h = record { name = file; named = named; long = h }
+no_program o task file named text (NoProgram fault) h = (h.0, text h.0 h.1, h.2)
+no_program o task file named text (Unchecked fault) h = (h.0, text h.0 h.1, h.2)
+no_program o task file named text LongReport h = absurd h
+no_program o task file named text (NoReport line) h = absurd h
+no_program o task file named text (Diverges activity) h = absurd h
+no_program o task file named text NoMemory h = tt
 
 pub if_named : {S E : Type 0} (f : S → List ℕ) (r : Result S E) (a b : List ℕ) → a ≡ b → IfOk r (λ s. f s ≡ a) → IfOk r (λ s. f s ≡ b)
 if_named f (Ok s) a b e h = h ∙ e

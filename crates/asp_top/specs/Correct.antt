@@ -10,10 +10,13 @@ use Rattle.asp_model.specs.Report.{with_feed}
 use Rattle.asp_model.specs.ReadReport.{read_report, Reads}
 use Rattle.def_paths.specs.Outcomes.{whole_outcome_of}
 use Rattle.law_reports.specs.Depths.{report_to}
+use Rattle.determinacy.specs.Rulings.{Determinate, ruled}
+use Rattle.run_report.specs.Rulings.{ruled_report}
 use Rattle.run_report.specs.Summary.{summary_of}
-use Rattle.command_line.specs.Task.{TaskShape, Runs, Checks, Replays, Makes, task_of}
+use Rattle.command_line.specs.Task.{TaskShape, Runs, Checks, Rules, Replays, Makes, task_of}
 use Rattle.asp_top.specs.Seen.{Call, Outside, IsUntouched, Takes}
 use Rattle.asp_top.specs.Programs.{HasProgram, HasReport}
+use Rattle.asp_top.specs.Rulings.{IsOnlyEnd}
 
 -- logs and counts that fit the program of a task
 pub record ReplayOf (o : Outside) (task : TaskShape) : Type 0 where
@@ -31,6 +34,10 @@ end_of r = replay (plain r.program) r.lists r.counts
 abbrev pub report_at : Option ℕ → Configuration → List ℕ
 report_at depth c = report_to depth (whole_outcome_of c)
 
+-- the report without states, and the line of the ruling on the logs in it
+abbrev pub ruled_at : Configuration → List ℕ
+ruled_at c = ruled_report (whole_outcome_of c)
+
 -- the text and the status are those of the replay
 abbrev pub Tells : (Configuration → List ℕ) → Configuration → List ℕ → ℕ → Type 0
 Tells told c text status = (text ≡ told c) × (status ≡ exit_status (outcome_of c))
@@ -44,6 +51,12 @@ abbrev pub Answers : Outside → TaskShape → List ℕ → ℕ → Type 0
 Answers o (Runs file settings depth) report status = (r : ReplayOf o (Runs file settings depth))
     × Tells (report_at depth) (end_of r) report status × (read_report report ≡ Reads r.lists r.counts)
     × IsWithin settings.budget r.counts (end_of r)
+-- `asp FILE --determinate`: that report without states, and the ruling on it; where this is that there is no other, each
+-- end of the program is this one
+Answers o (Rules file settings) text status = (r : ReplayOf o (Rules file settings))
+    × Tells ruled_at (end_of r) text status × (read_report text ≡ Reads r.lists r.counts)
+    × IsWithin settings.budget r.counts (end_of r)
+    × (ruled (outcome_of (end_of r)) ≡ Determinate → IsOnlyEnd (plain r.program) (end_of r))
 -- `asp FILE --replay REPORT`: the report of the replay under those that the file REPORT reads as
 Answers o (Replays file name depth) report status = (r : ReplayOf o (Replays file name depth))
     × Tells (report_at depth) (end_of r) report status × HasReport o 1 name r.lists r.counts

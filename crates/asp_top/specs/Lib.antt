@@ -1,6 +1,7 @@
 -- in reading order
 pub mod Seen
 pub mod Programs
+pub mod Rulings
 pub mod Correct
 pub mod Refusals
 pub mod Endings

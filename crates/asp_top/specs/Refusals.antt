@@ -53,11 +53,7 @@ abbrev pub fault_line : List ℕ → ℕ → List ℕ
 fault_line kind at = with_feed (codes "asp: program: " ++ kind ++ codes " at " ++ decimal at)
 
 abbrev pub usage_line : List ℕ
-usage_line = with_feed (
-    codes "asp: usage: asp FILE [--workers N] [--strategy S] [--update L=S,..] [--budget N] "
-    ++ codes "[--state D] [--check] [--replay REPORT], or asp --make N [--workers N] "
-    ++ codes "[--strategy S] [--update L=S,..] [--budget N]"
-    )
+usage_line = with_feed (codes "asp: usage: asp FILE [OPTION ..], or asp --make N [OPTION ..]")
 
 abbrev pub message_of : Refusal → List ℕ
 message_of Usage = usage_line

@@ -7,7 +7,7 @@ use Rattle.asp_model.specs.Status.{End, Blocked, Budget, IsStuck, is_awaiting, s
 use Rattle.asp_model.specs.Replay.{total}
 use Rattle.asp_syntax.specs.declared.error.SyntaxFault.{SyntaxFault}
 use Rattle.asp_check.specs.declared.fault.CheckFault.{CheckFault}
-use Rattle.command_line.specs.Task.{TaskShape, Runs, Checks, Replays, Makes, task_of}
+use Rattle.command_line.specs.Task.{TaskShape, Runs, Checks, Rules, Replays, Makes, task_of}
 use Rattle.asp_top.specs.Seen.{Call, Outside, SomeReadFails, Takes, Fails}
 use Rattle.asp_top.specs.Refusals.{LongProgram, NoProgram, Unchecked, LongReport, NoReport, Diverges}
 use Rattle.asp_top.specs.Correct.{Answers, end_of}
@@ -41,6 +41,7 @@ OfAnswers = (o : Outside) (task : TaskShape) (text : List ℕ) (status : ℕ)
 abbrev pub HasEnded : OfAnswers
 HasEnded o (Runs file settings depth) text status a = IsEnd (end_of a.0)
 HasEnded o (Checks file) text status a = status ≡ 0
+HasEnded o (Rules file settings) text status a = IsEnd (end_of a.0)
 HasEnded o (Replays file name depth) text status a = IsEnd (end_of a.0)
 HasEnded o (Makes pairs settings) text status a = IsEnd (end_of a.0)
 
@@ -48,6 +49,7 @@ HasEnded o (Makes pairs settings) text status a = IsEnd (end_of a.0)
 abbrev pub HasBlocked : OfAnswers
 HasBlocked o (Runs file settings depth) text status a = IsBlocked (end_of a.0)
 HasBlocked o (Checks file) text status a = ⊥
+HasBlocked o (Rules file settings) text status a = IsBlocked (end_of a.0)
 HasBlocked o (Replays file name depth) text status a = IsBlocked (end_of a.0)
 HasBlocked o (Makes pairs settings) text status a = IsBlocked (end_of a.0)
 
@@ -55,6 +57,7 @@ HasBlocked o (Makes pairs settings) text status a = IsBlocked (end_of a.0)
 abbrev pub HasSpent : OfAnswers
 HasSpent o (Runs file settings depth) text status a = GoesOn (end_of a.0) × (total a.0.counts ≡ settings.budget)
 HasSpent o (Checks file) text status a = ⊥
+HasSpent o (Rules file settings) text status a = GoesOn (end_of a.0) × (total a.0.counts ≡ settings.budget)
 HasSpent o (Replays file name depth) text status a = GoesOn (end_of a.0)
 HasSpent o (Makes pairs settings) text status a = GoesOn (end_of a.0) × (total a.0.counts ≡ settings.budget)
 

@@ -4,13 +4,15 @@ use Rattle.std.specs.declared.alloc.Global.{Global}
 use Rattle.std.specs.declared.string.String.{String}
 use Rattle.asp_model.specs.declared.limits.TheConstants.{MOST_PROGRAM_BYTES, MOST_REPORT_BYTES}
 use Rattle.asp_model.specs.Marked.{Marked}
-use Rattle.asp_model.specs.Shapes.{marked_of, lists_shape, counts_shape}
+use Rattle.asp_model.specs.Shapes.{marked_of, lists_shape, counts_shape, tree_of}
 use Rattle.asp_model.specs.declared.outcome.Lists.{Lists}
 use Rattle.asp_model.specs.declared.outcome.Counts.{Counts}
 use Rattle.asp_model.specs.ReadReport.{read_report, BadLine}
 use Rattle.asp_check.specs.declared.checked.Checked.{Checked}
+use Rattle.asp_core.specs.EndOfRun.{IsEndOfRun}
 use Rattle.asp_edge.specs.declared.edge.ReadError.{ReadError}
 use Rattle.replay_one.specs.Listed.{AreReplayable}
+use Rattle.run_ends.specs.declared.ends.RunEnd.{RunEnd}
 use Rattle.asp_syntax.specs.declared.error.SyntaxError.{SyntaxError}
 use Rattle.asp_syntax.specs.declared.error.SyntaxError.TheVariants as syntax
 use Rattle.asp_check.specs.declared.fault.CheckError.{CheckError}
@@ -69,6 +71,12 @@ program_in c = marked_of c.program.root
 -- the program in the file of this name
 abbrev pub IsCheckedFile : Outside → List ℕ → Checked → Type 0
 IsCheckedFile o file c = IsInFile o file (program_in c)
+
+-- the end of a run, within a budget, of the program in the file of this name
+pub record IsRunOf (o : Outside) (file : List ℕ) (budget : ℕ) (end : RunEnd) : Type 0 where
+  pub checked : Checked
+  pub given : IsCheckedFile o file checked
+  pub run : IsEndOfRun (tree_of checked.program.root) budget end
 
 -- the cause of a stop at a text
 abbrev pub RefusedAt : List ℕ → Refusal → Type 0

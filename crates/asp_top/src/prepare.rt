@@ -8,13 +8,14 @@ ghost use Rattle.asp_core.specs.EndOfRun.{IsEndOfRun};
 ghost use Rattle.def_paths.specs.Outcomes.{WholeOutcome};
 ghost use Rattle.law_reports.specs.Depths.{report_to};
 ghost use Rattle.run_ends.specs.Ends.{IsEndOf};
+ghost use Rattle.run_report.specs.Rulings.{ruled_report};
 ghost use Rattle.run_report.specs.Summary.{summary_of};
-ghost use Rattle.command_line.specs.Task.{Runs, Checks, Replays, Makes, IsWithin};
+ghost use Rattle.command_line.specs.Task.{Runs, Checks, Rules, Replays, Makes, IsWithin};
 ghost use Rattle.command_line.specs.Settings.{IsSettings};
 ghost use Rattle.command_line.specs.Shapes.{settings_shape, task_shape};
 ghost use Rattle.asp_top.specs.Seen.{Outside, bytes_of, outside};
 ghost use Rattle.asp_top.specs.Programs.{AsksInTurn, ReadsFiles, files_of};
-ghost use Rattle.asp_top.specs.Stops.{AsksOnce, StopsTask, StopsWords};
+ghost use Rattle.asp_top.specs.Stops.{AsksOnce, IsRunOf, StopsInFile, StopsTask, StopsWords};
 ghost use Rattle.asp_top.specs.Ready.{IsReady, IsReadyFor, text_in};
 
 use crate::letting_go::let_go;
@@ -28,7 +29,7 @@ use command_line::{Settings, Task, read_words};
 use load_gen::make;
 use replay_one::replay;
 use run_ends::RunEnd;
-use run_report::{render, summarize};
+use run_report::{render, render_ruled, summarize};
 use std::alloc::{AllocError, Global};
 use std::sync::Wait;
 use std::thread::Threads;
@@ -76,6 +77,15 @@ pub fn report_for(alloc: Global, end: &RunEnd, depth: Option<u32>) -> Result<Pre
     text_for(alloc, render(alloc, end, depth)?, &end.outcome)
 }
 
+fn ruled_for(alloc: Global, end: &RunEnd) -> Result<Prepared, AllocError>
+    ensures text { (o : WholeOutcome) → IsEndOf end.now o →
+        IfOk result (λ p. text_in p ≡ ruled_report o) }
+    ensures status { let shown = outcome_shape end.now.outcome in
+        IfOk result (λ p. p.status ≡ exit_status shown) }
+{
+    text_for(alloc, render_ruled(alloc, end)?, &end.outcome)
+}
+
 fn summary_for(alloc: Global, pairs: u64, outcome: &Outcome) -> Result<Prepared, AllocError>
     ensures text { IfOk result (λ p. text_in p ≡ summary_of pairs (outcome_shape outcome.now)) }
     ensures status { IfOk result (λ p. p.status ≡ exit_status (outcome_shape outcome.now)) }
@@ -112,6 +122,28 @@ fn raced<R: Threads + Wait + Sync, G: Gate>(
     run(rt, alloc, program, racing, policies, gate)
 }
 
+// Runs the program in the file of this name.
+fn run_file<'a, R: Threads + Wait + Sync, S: Source, G: Gate>(
+    rt: &R,
+    alloc: Global,
+    file: &'a str,
+    settings: Settings,
+    source: &mut S,
+    policies: Policies,
+    gate: &G,
+) -> Result<RunEnd, Stop<'a>>
+    requires within { IsSettings (settings_shape settings) }
+    ensures ran { let name = file.entry.now in
+        IfOk result (IsRunOf (outside S.told source) name settings.budget) }
+    ensures stop { IfErr result (StopsInFile (outside S.told source) file.entry.now) }
+    ensures asked { AsksOnce (outside S.told source) file.entry.now }
+{
+    let checked = program_of(alloc, file, source)?;
+    let end = raced(rt, alloc, &checked, settings, policies, gate);
+    drop(checked);
+    Ok(end?)
+}
+
 fn prepare_run<'a, R: Threads + Wait + Sync, S: Source, G: Gate>(
     rt: &R,
     alloc: Global,
@@ -129,12 +161,32 @@ fn prepare_run<'a, R: Threads + Wait + Sync, S: Source, G: Gate>(
         IfErr result (StopsTask (outside S.told source) task) }
     ensures asked { AsksOnce (outside S.told source) file.entry.now }
 {
-    let checked = program_of(alloc, file, source)?;
     let workers = settings.workers;
-    let end = raced(rt, alloc, &checked, settings, policies, gate);
-    drop(checked);
-    let end = end?;
+    let end = run_file(rt, alloc, file, settings, source, policies, gate)?;
     let report = report_for(alloc, &end, depth);
+    let_go(rt, alloc, end, workers);
+    Ok(report?)
+}
+
+fn prepare_ruled<'a, R: Threads + Wait + Sync, S: Source, G: Gate>(
+    rt: &R,
+    alloc: Global,
+    file: &'a str,
+    settings: Settings,
+    source: &mut S,
+    policies: Policies,
+    gate: &G,
+) -> Result<Prepared, Stop<'a>>
+    requires within { IsSettings (settings_shape settings) }
+    ensures answer { let task = Rules file.entry.now (settings_shape settings) in
+        IfOk result (IsReady (outside S.told source) task) }
+    ensures stop { let task = Rules file.entry.now (settings_shape settings) in
+        IfErr result (StopsTask (outside S.told source) task) }
+    ensures asked { AsksOnce (outside S.told source) file.entry.now }
+{
+    let workers = settings.workers;
+    let end = run_file(rt, alloc, file, settings, source, policies, gate)?;
+    let report = ruled_for(alloc, &end);
     let_go(rt, alloc, end, workers);
     Ok(report?)
 }
@@ -225,6 +277,9 @@ fn prepare_task<'a, R: Threads + Wait + Sync, S: Source, G: Gate>(
             depth,
         } => prepare_run(rt, alloc, file, settings, depth, source, policies, gate),
         Task::Check { file } => prepare_check(alloc, file, source),
+        Task::Rule { file, settings } => {
+            prepare_ruled(rt, alloc, file, settings, source, policies, gate)
+        }
         Task::Replay {
             file,
             report,

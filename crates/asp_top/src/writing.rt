@@ -15,8 +15,7 @@ use asp_syntax::SyntaxKind;
 use run_report::push_name;
 use std::alloc::{AllocError, Global};
 
-const USAGE: &[u8] =
-    b"asp: usage: asp FILE [--workers N] [--strategy S] [--update L=S,..] [--budget N] [--state D] [--check] [--replay REPORT], or asp --make N [--workers N] [--strategy S] [--update L=S,..] [--budget N]\n";
+const USAGE: &[u8] = b"asp: usage: asp FILE [OPTION ..], or asp --make N [OPTION ..]\n";
 
 const LONG_PROGRAM: &[u8] = b"asp: program: longer than 1048576 bytes\n";
 

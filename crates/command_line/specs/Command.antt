@@ -16,8 +16,8 @@ abbrev pub option_rule : Text → Rule
 option_rule name = record (new_rule name) { long = Some name }
 
 -- a flag
-abbrev pub check_rule : Rule
-check_rule = record (option_rule (codes "check")) { action = Some SetTrue }
+abbrev pub flag_rule : Text → Rule
+flag_rule name = record (option_rule name) { action = Some SetTrue }
 
 -- the words do not begin with the program's name, and none asks for help or for the version
 abbrev pub bare_command : App
@@ -33,11 +33,16 @@ with_more a =
     with_rule (with_rule (with_rule (with_rule (with_rule a (option_rule (codes "make"))) (option_rule (codes "state")))
     (option_rule (codes "workers"))) (option_rule (codes "strategy"))) (option_rule (codes "update"))
 
+-- and behind those the options of further tasks
+abbrev pub with_tasks : App → App
+with_tasks a = with_rule a (flag_rule (codes "determinate"))
+
 abbrev pub command : App
 command = on_top (λ s. record s {
-  rules = file_rule ∷ check_rule ∷ option_rule (codes "budget")
+  rules = file_rule ∷ flag_rule (codes "check") ∷ option_rule (codes "budget")
       ∷ option_rule (codes "replay") ∷ option_rule (codes "make") ∷ option_rule (codes "state")
-      ∷ option_rule (codes "workers") ∷ option_rule (codes "strategy") ∷ option_rule (codes "update") ∷ [];
+      ∷ option_rule (codes "workers") ∷ option_rule (codes "strategy") ∷ option_rule (codes "update")
+      ∷ flag_rule (codes "determinate") ∷ [];
 }) bare_command
 
 -- the command takes the words
@@ -58,6 +63,7 @@ pub record SettingTexts : Type 0 where
 pub record TextsShape : Type 0 where
   pub file : Option Text
   pub check : Bool
+  pub determinate : Bool
   pub replay : Option Text
   pub make : Option Text
   pub state : Option Text
@@ -81,6 +87,7 @@ abbrev pub texts_in : List Row → TextsShape
 texts_in rows = record {
   file = first_of (codes "file") rows;
   check = says_true (first_of (codes "check") rows);
+  determinate = says_true (first_of (codes "determinate") rows);
   replay = first_of (codes "replay") rows;
   make = first_of (codes "make") rows;
   state = first_of (codes "state") rows;

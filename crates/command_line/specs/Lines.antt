@@ -4,7 +4,7 @@ use Rattle.clap.specs.Walk.{Text}
 use Rattle.update_policy.specs.declared.strategy.Strategy.{Strategy}
 use Rattle.update_policy.specs.declared.strategy.Strategy.TheVariants.{Lazy, Forward, Message}
 use Rattle.command_line.specs.Settings.{SettingsShape, usual}
-use Rattle.command_line.specs.Task.{TaskShape, Runs, Checks, Replays, Makes, task_of}
+use Rattle.command_line.specs.Task.{TaskShape, Runs, Checks, Rules, Replays, Makes, task_of}
 
 abbrev pub Asks : List Text → TaskShape → Type 0
 Asks words task = task_of words ≡ Some task
@@ -35,6 +35,9 @@ pub record AcceptedLines : Type 0 where
   pub workers : Asks (one ∷ codes "--workers=64" ∷ []) (Runs one (with_workers 64) None)
   pub workers_before : Asks (codes "--workers" ∷ codes "01" ∷ one ∷ []) (Runs one (with_workers 1) None)
   pub check : Asks (codes "--check" ∷ one ∷ []) (Checks one)
+  pub determinate : Asks (one ∷ codes "--determinate" ∷ []) (Rules one usual)
+  pub determinate_settings : Asks (codes "--determinate" ∷ one ∷ codes "--workers=64" ∷ codes "--strategy=message" ∷ [])
+      (Rules one (record (with_plan Message []) { workers = 64 }))
   pub replay : Asks (one ∷ codes "--replay=one.report" ∷ []) (Replays one (codes "one.report") None)
   pub replay_hyphen : Asks (one ∷ codes "--replay" ∷ codes "-" ∷ []) (Replays one (codes "-") None)
   pub hyphen_behind : Asks (one ∷ codes "--replay=-r" ∷ []) (Replays one (codes "-r") None)
@@ -68,6 +71,11 @@ pub record RefusedCombinations : Type 0 where
   pub check_budget : IsRefused (codes "--check" ∷ one ∷ codes "--budget=5" ∷ [])
   pub check_replay : IsRefused (codes "--check" ∷ one ∷ codes "--replay=one.report" ∷ [])
   pub replay_budget : IsRefused (one ∷ codes "--replay=one.report" ∷ codes "--budget=5" ∷ [])
+  pub determinate_alone : IsRefused (codes "--determinate" ∷ [])
+  pub determinate_check : IsRefused (one ∷ codes "--determinate" ∷ codes "--check" ∷ [])
+  pub determinate_replay : IsRefused (one ∷ codes "--determinate" ∷ codes "--replay=one.report" ∷ [])
+  pub determinate_state : IsRefused (one ∷ codes "--determinate" ∷ codes "--state=1" ∷ [])
+  pub determinate_make : IsRefused (codes "--make=3" ∷ codes "--determinate" ∷ [])
   pub state_alone : IsRefused (codes "--state=1" ∷ [])
   pub check_state : IsRefused (codes "--check" ∷ one ∷ codes "--state=1" ∷ [])
   pub make_state : IsRefused (codes "--make=3" ∷ codes "--state=1" ∷ [])

@@ -3,7 +3,7 @@
 
 ghost use Rattle.std.specs.Prelude.{◌≡◌, IfOk, IfErr, map, option_map, string_bytes, false, true};
 ghost use Rattle.clap.specs.Words.{app_of, first_of, found_of, rows_of, rule_of, with_rule};
-ghost use Rattle.command_line.specs.Command.{bare_command, check_rule, command as the_command, file_rule, given_in, is_taken, option_rule, rows_given, says_true, texts_in, texts_of, with_more};
+ghost use Rattle.command_line.specs.Command.{bare_command, command as the_command, file_rule, flag_rule, given_in, is_taken, option_rule, rows_given, says_true, texts_in, texts_of, with_more, with_tasks as with_the_tasks};
 ghost use Rattle.command_line.specs.Shapes.{given_shape, texts_shape};
 ghost use Rattle.command_line.specs.declared.error.WordsError.TheVariants as errors;
 
@@ -26,6 +26,7 @@ pub struct Given<'a> {
 pub struct Texts<'a> {
     pub file: Option<&'a str>,
     pub check: bool,
+    pub determinate: bool,
     pub replay: Option<&'a str>,
     pub make: Option<&'a str>,
     pub state: Option<&'a str>,
@@ -67,10 +68,11 @@ fn command<'a>(alloc: Global) -> Result<Command<'a>, AllocError>
     ensures { IfOk result (λ c. app_of c ≡ the_command) }
 {
     let command = with_file(alloc, bare(alloc))?;
-    let command = with_check(alloc, command)?;
+    let command = with_flag(alloc, command, "check")?;
     let command = with_option(alloc, command, "budget")?;
     let command = with_option(alloc, command, "replay")?;
-    with_more_options(alloc, command)
+    let command = with_more_options(alloc, command)?;
+    with_tasks(alloc, command)
 }
 
 // The options behind `--replay`.
@@ -82,6 +84,13 @@ fn with_more_options<'a>(alloc: Global, command: Command<'a>) -> Result<Command<
     let command = with_option(alloc, command, "workers")?;
     let command = with_option(alloc, command, "strategy")?;
     with_option(alloc, command, "update")
+}
+
+// The options of further tasks.
+fn with_tasks<'a>(alloc: Global, command: Command<'a>) -> Result<Command<'a>, AllocError>
+    ensures { IfOk result (λ c. app_of c ≡ with_the_tasks (app_of command.entry)) }
+{
+    with_flag(alloc, command, "determinate")
 }
 
 // The program's name.
@@ -100,10 +109,15 @@ fn with_file<'a>(alloc: Global, command: Command<'a>) -> Result<Command<'a>, All
     command.arg(Arg::new(alloc, "file"))
 }
 
-fn with_check<'a>(alloc: Global, command: Command<'a>) -> Result<Command<'a>, AllocError>
-    ensures { IfOk result (λ c. app_of c ≡ with_rule (app_of command.entry) check_rule) }
+fn with_flag<'a>(
+    alloc: Global,
+    command: Command<'a>,
+    name: &'a str,
+) -> Result<Command<'a>, AllocError>
+    ensures { IfOk result
+        (λ c. app_of c ≡ with_rule (app_of command.entry) (flag_rule name.entry.now)) }
 {
-    command.arg(option(alloc, "check").action(ArgAction::SetTrue))
+    command.arg(option(alloc, name).action(ArgAction::SetTrue))
 }
 
 fn with_option<'a>(
@@ -132,6 +146,7 @@ fn texts_found<'a>(matches: &ArgMatches<'a>) -> Texts<'a>
     Texts {
         file: text_of(matches, "file"),
         check: is_true(text_of(matches, "check")),
+        determinate: is_true(text_of(matches, "determinate")),
         replay: text_of(matches, "replay"),
         make: text_of(matches, "make"),
         state: text_of(matches, "state"),

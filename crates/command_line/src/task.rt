@@ -7,6 +7,7 @@ ghost use Rattle.command_line.specs.Task.{
   depth_of,
   making,
   replaying,
+  ruling,
   running,
   task_by as task_given,
   task_in,
@@ -39,6 +40,13 @@ pub enum Task<'a> {
     Check {
         /// The file's name.
         file: &'a str,
+    },
+    /// Run it, and say whether that run is the only one.
+    Rule {
+        /// The file's name.
+        file: &'a str,
+        /// How it is run.
+        settings: Settings,
     },
     /// Replay a report of it.
     Replay {
@@ -97,6 +105,7 @@ fn task_by<'a>(alloc: Global, wanted: Wanted<'a>, texts: &Texts<'a>) -> Result<T
     match (wanted, texts.file) {
         (Wanted::Run, Some(file)) => run(alloc, file, &texts.settings, texts.state),
         (Wanted::Check, Some(file)) => Ok(Task::Check { file }),
+        (Wanted::Rule, Some(file)) => rule(alloc, file, &texts.settings),
         (Wanted::Replay(report), Some(file)) => replay(file, report, texts.state),
         (Wanted::Make(pairs), None) => make(alloc, pairs, &texts.settings),
         _ => Err(WordsError::Usage),
@@ -122,6 +131,17 @@ fn run<'a>(
         settings,
         depth,
     })
+}
+
+fn rule<'a>(alloc: Global, file: &'a str, given: &Given<'_>) -> Result<Task<'a>, WordsError>
+    ensures ok { IfOk result
+        (λ t. ruling file.entry.now (given_shape given.now) ≡ Some (task_shape t)) }
+    ensures usage { IfErr result
+        (λ e. e ≡ errors.Usage → ruling file.entry.now (given_shape given.now) ≡ None) }
+    ensures within { IfOk result (λ t. IsWithin (task_shape t)) }
+{
+    let settings = settings_in(alloc, given)?;
+    Ok(Task::Rule { file, settings })
 }
 
 fn replay<'a>(file: &'a str, report: &'a str, state: Option<&str>) -> Result<Task<'a>, WordsError>

@@ -23,6 +23,8 @@ pub enum Wanted<'a> {
     Run,
     /// That it is checked.
     Check,
+    /// Whether its run is the only one.
+    Rule,
     /// That the report in a file is replayed.
     Replay(&'a str),
     /// That it is the generated program of so many pairs.
@@ -81,6 +83,7 @@ pub fn wanted_in<'a>(texts: &Texts<'a>) -> Option<Wanted<'a>>
     ensures { option_map wanted_shape result ≡ wanted_among (texts_shape texts.now) }
 {
     let asked = and_asks(Some(Wanted::Run), flag_asks(texts.check, Wanted::Check));
+    let asked = and_asks(asked, flag_asks(texts.determinate, Wanted::Rule));
     let asked = and_asks(asked, replay_asks(texts.replay));
     and_asks(asked, make_asks(texts.make))
 }
@@ -98,6 +101,11 @@ pub fn companions_of(wanted: Wanted<'_>) -> Companions
         Wanted::Check => Companions {
             racing: false,
             budget: false,
+            state: false,
+        },
+        Wanted::Rule => Companions {
+            racing: true,
+            budget: true,
             state: false,
         },
         Wanted::Replay(_) => Companions {

@@ -28,6 +28,16 @@ returns-in-Run-clause-reads g c =
     let o = outside_between g.S.Source.told c.args.source.now c.prepare_run.new.source in
     subst (λ (t : Task). AsksInTurn o (files_of (task_shape t))) (sym c.in-Run.is) (in_turn_once o _ [] c.prepare_run.ensures.asked)
 
+pub returns-in-Rule-clause-answer : goal.returns-in-Rule-clause-answer
+returns-in-Rule-clause-answer g c =
+    let o = outside_between g.S.Source.told c.args.source.now c.prepare_ruled.new.source in
+    subst (λ (t : Task). IfOk c.prepare_ruled.result (IsReady o (task_shape t))) (sym c.in-Rule.is) c.prepare_ruled.ensures.answer
+
+pub returns-in-Rule-clause-reads : goal.returns-in-Rule-clause-reads
+returns-in-Rule-clause-reads g c =
+    let o = outside_between g.S.Source.told c.args.source.now c.prepare_ruled.new.source in
+    subst (λ (t : Task). AsksInTurn o (files_of (task_shape t))) (sym c.in-Rule.is) (in_turn_once o _ [] c.prepare_ruled.ensures.asked)
+
 pub returns-in-Check-clause-reads : goal.returns-in-Check-clause-reads
 returns-in-Check-clause-reads g c =
     let o = outside_between g.S.Source.told c.args.source.now c.prepare_check.new.source in
