@@ -32,7 +32,7 @@ take_front [] [] = refl
 take_front [] (z ∷ zs) = refl
 take_front (x ∷ xs) zs = ap (λ l. x ∷ l) (take_front xs zs)
 
-taken : (xs ys : List ReceptionShape) → IsPrefix xs ys → take (length xs) ys ≡ xs
+pub taken : (xs ys : List ReceptionShape) → IsPrefix xs ys → take (length xs) ys ≡ xs
 taken xs ys p = ap (take (length xs)) (sym p.1) ∙ take_front xs p.0
 
 pub past : (xs : List ReceptionShape) → reception_at xs (length xs) ≡ None

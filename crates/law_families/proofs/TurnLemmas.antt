@@ -116,7 +116,8 @@ less_of (suc a) (suc b) le apart = let r = less_of a b (omega (arith, le)) (λ p
 abbrev pub Turn : ListsShape → Configuration → Name × ReceptionShape → Type 0
 Turn lists c z = (reception_at (log_in lists z.0) (length (log_of c z.0)) ≡ Some z.1) ⊎ ComesBehind (log_in lists z.0) (length (log_of c z.0)) z.1
 
-behind : (xs : List ReceptionShape) (k j : ℕ) (y : ReceptionShape) → reception_at xs j ≡ Some y → k ≤ j → (reception_at xs k ≡ Some y) ⊎ ComesBehind xs k y
+-- an entry of a log is at an earlier place, or comes behind another one there
+pub behind : (xs : List ReceptionShape) (k j : ℕ) (y : ReceptionShape) → reception_at xs j ≡ Some y → k ≤ j → (reception_at xs k ≡ Some y) ⊎ ComesBehind xs k y
 behind xs k j y at le =
     let z = earlier xs k j y at le in
     ⊎_elim
