@@ -1,0 +1,10 @@
+-- in reading order
+pub mod BoxLemmas
+pub mod IntentLemmas
+pub mod AlikeLemmas
+pub mod OutcomeLemmas
+pub mod EntryLemmas
+pub mod ApartLemmas
+pub mod StateLemmas
+pub mod RunLemmas
+pub mod ClassLaws

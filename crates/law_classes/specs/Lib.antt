@@ -1,0 +1,5 @@
+-- in reading order
+pub mod Alike
+pub mod Runs
+pub mod Families
+pub mod Complete
