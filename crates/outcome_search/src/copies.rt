@@ -8,7 +8,8 @@ use crate::runs::EndedRun;
 use asp_model::{ActivityName, Counts, Lists, Reception};
 use std::alloc::{AllocError, Global};
 
-fn copy_reception(alloc: Global, reception: &Reception) -> Result<Reception, AllocError>
+/// The same entry of a log.
+pub fn copy_reception(alloc: Global, reception: &Reception) -> Result<Reception, AllocError>
     ensures same { IfOk result (λ x. reception_shape x ≡ reception_shape reception.now) }
 {
     match reception {
@@ -17,7 +18,8 @@ fn copy_reception(alloc: Global, reception: &Reception) -> Result<Reception, All
     }
 }
 
-fn copy_log(alloc: Global, log: &[Reception]) -> Result<Vec<Reception>, AllocError>
+/// The same log.
+pub fn copy_log(alloc: Global, log: &[Reception]) -> Result<Vec<Reception>, AllocError>
     ensures same { IfOk result (λ v. map reception_shape v.items ≡ map reception_shape log.now) }
 {
     let mut copies = Vec::new(alloc);

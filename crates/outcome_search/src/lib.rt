@@ -9,7 +9,7 @@ mod places;
 mod runs;
 mod search;
 
-pub use copies::copy_run;
+pub use copies::{copy_log, copy_reception, copy_run};
 pub use logs::begin_with;
 pub use runs::{EndedRun, Found, Runs, Stop};
 pub use search::{all_ends, check_ends};
