@@ -11,7 +11,7 @@ use Rattle.asp_model.specs.Step.{ListsShape, intent_in, put_some, with_effect}
 use Rattle.asp_model.specs.Status.{is_awaiting, is_running, status_of, status_of_intent}
 use Rattle.asp_model.specs.Replay.{least_step, steps_from}
 use Rattle.def_journals.specs.Journals.{number_of}
-use Rattle.law_steps.specs.Reached.{IsAt, IsReached, Steps}
+use Rattle.law_steps.specs.Reached.{IsAt, IsReached, IsThere, Steps}
 use Rattle.law_steps.specs.Waking.{labels_wanted}
 use Rattle.law_steps.proofs.CommuteLemmas.{values_kept}
 use Rattle.law_steps.proofs.FactLemmas.{acts_facts}
@@ -47,7 +47,7 @@ use Rattle.replay_one.specs.Notes.{notes_of}
 use Rattle.replay_one.specs.Told.{notes_by}
 use Rattle.replay_one.proofs.LocalLemmas.{local_runs_go_on}
 use Rattle.replay_one.proofs.NoteLemmas.{least_noted, notes_more, one_noted}
-use Rattle.replay_population.proofs.PopulationLemmas.{still_none}
+use Rattle.replay_population.proofs.PopulationLemmas.{absent_nowhere, still_none}
 
 pub reached_population : (b : Bounds) (p : Population) (s : Seen) (program : Tree) (c : Configuration) → IsRunWith b p s program c → IsReachedPopulation p program c
 reached_population b p s program c h = record { bare = h.bare; reached = h.reached; population = h.population }
@@ -376,6 +376,34 @@ noted_on b c d k j leads =
 -- after quiet steps
 pub noted_next : (b : Bounds) (c d : Configuration) (k : ℕ) → LeadsTo b k c d → notes_by b k c ≡ [] → notes_by b 1 d ≡ notes_by b (k + 1) c
 noted_next b c d k leads quiet = sym (noted_on b c d k 1 leads ∙ ap (λ ys. ys ++ notes_by b 1 d) quiet)
+
+-- Everybody is ready
+
+-- so nobody rests
+pub roused : (b : Bounds) (program : Tree) (c : Configuration) (p q : Population) (s : Seen) → IsReachedPopulation p program c → IsNumbered b p.roster → q ≡ record p { passed = q.passed } → ((n : Name) → passed_in q n ≡ None) → ((n : Name) (k : ℕ) → number_of n p.roster ≡ Some k → ready_in s n ≡ true)
+    → IsRunWith b q s program c
+roused b program c p q s h numbered same forgotten ready = record {
+  bare = h.bare;
+  reached = h.reached;
+  population = still_there p q c same h.population;
+  numbered = still_numbered b p q same numbered;
+  scheduled = record {
+    rest = λ n there not. absurd (no n there not);
+    waiting = λ n f a is below not w. absurd (no n (ap is_some is) not);
+  };
+  watched = λ n not. record {
+    serving = λ a l is below st has. absurd (no n (ap is_some is) not);
+    sending = λ a e x is below intends sent. absurd (no n (ap is_some is) not);
+  };
+  passed = λ n k is. no_some (sym (forgotten n) ∙ is);
+}
+  where
+    no : (n : Name) → IsThere c n → ready_in s n ≡ false → ⊥
+    no n there not = by (number_of n p.roster) refl
+      where
+        by : (o : Option ℕ) → number_of n p.roster ≡ o → ⊥
+        by None e = absent_nowhere p c n h.population e there
+        by (Some k) e = true_false (ready_in s n) (ready n k e) not
 
 -- Members that one has passed
 

@@ -11,6 +11,7 @@ mod notes;
 mod receptions;
 mod replays;
 mod round;
+mod rousing;
 mod run;
 mod schedule;
 mod splitting;
