@@ -24,8 +24,8 @@ use Rattle.law_journals.proofs.BudgetLemmas.{budgets_are_kept}
 use Rattle.law_journals.proofs.GrowingLemmas.{entries_go_on}
 use Rattle.law_journals.proofs.JournalLemmas.{entries_keep_sound, entry_done, first_entered, journals_reach}
 use Rattle.law_outcomes.proofs.NumberLemmas.{there_is_named, begun_is_named}
-use Rattle.trace_text.specs.Traces.{has_line}
-use Rattle.law_traces.specs.Lines.{has_numbers, JournalsHaveLines}
+use Rattle.trace_text.specs.Traces.{has_line, has_numbers}
+use Rattle.law_traces.specs.Lines.{JournalsHaveLines}
 
 -- A grant is a part of the budget
 grant_within : (k g : ℕ) (out : List (ℕ × ℕ)) → grant_of k out ≡ Some g → g ≤ granted_in out

@@ -1,15 +1,17 @@
 -- Pieces of a text, and the words of a line.
-use Rattle.std.proofs.Common.{◌≡◌, ℕ, ◌+◌, ◌<◌, List, [], ◌∷◌, ◌++◌, map, take, get_or, length, None, Bor, Global, refl, ap, sym, ◌∙◌, arith, append_assoc}
+use Rattle.std.proofs.Common.{◌≡◌, true, ℕ, ◌+◌, ◌<◌, List, [], ◌∷◌, ◌++◌, map, take, get_or, length, None, Bor, Global, refl, ap, sym, ◌∙◌, arith, append_assoc}
 use Rattle.std.specs.Prelude.{string_bytes}
 use Rattle.std.specs.declared.string.String.{String}
-use Rattle.std.specs.List.{concat}
+use Rattle.std.specs.List.{concat, list_all}
+use Rattle.std.proofs.lemmas.Bool.{and_from}
+use Rattle.std.proofs.lemmas.List.Folds.{list_all-append}
 use Rattle.std.proofs.lemmas.List.{append-nil, map-append, take_more}
 use Rattle.asp_model.specs.declared.journal.Entry.{Entry}
 use Rattle.asp_model.specs.History.{EntryShape}
 use Rattle.asp_model.specs.Names.{Text}
 use Rattle.asp_model.specs.Shapes.{entry_shape}
 use Rattle.asp_model.specs.Report.{text_of, with_feed}
-use Rattle.trace_text.specs.Traces.{entry_line, entry_of_words}
+use Rattle.trace_text.specs.Traces.{entry_line, entry_of_words, has_numbers}
 
 concat_last : (xs : List Text) (x : Text) → concat (xs ++ x ∷ []) ≡ concat xs ++ x
 concat_last [] x = append-nil x
@@ -41,6 +43,14 @@ lines_more xs i x h e =
     ∙ ap text_of (map-append entry_line (map entry_shape (take i xs)) (entry_shape (get_or xs i x) ∷ []))
     ∙ text_last (lines_to xs i) (entry_line (entry_shape (get_or xs i x)))
     ∙ ap (λ (y : Entry). text_of (lines_to xs i) ++ with_feed (entry_line (entry_shape y))) (sym e)
+
+-- and its numbers
+pub numbers_more : (xs : List Entry) (i : ℕ) (x : Entry) → i < length xs → x ≡ get_or xs i x → list_all has_numbers (map entry_shape (take i xs)) ≡ true → has_numbers (entry_shape x) ≡ true → list_all has_numbers (map entry_shape (take (i + 1) xs)) ≡ true
+numbers_more xs i x h e before one =
+    ap (λ (es : List Entry). list_all has_numbers (map entry_shape es)) (take_more xs i x h)
+    ∙ ap (list_all has_numbers) (map-append entry_shape (take i xs) (get_or xs i x ∷ []))
+    ∙ list_all-append has_numbers (map entry_shape (take i xs)) (entry_shape (get_or xs i x) ∷ [])
+    ∙ and_from _ _ before (and_from _ _ (ap (λ (y : Entry). has_numbers (entry_shape y)) (sym e) ∙ one) refl)
 
 pub text_end : (ls : List Text) (l : Text) → text_of (ls ++ l ∷ []) ≡ text_of ls ++ with_feed l
 text_end = text_last

@@ -34,6 +34,13 @@ has_line (Committed k r) = nat_lt k (2 ^ 32) && nat_lt r (2 ^ 32)
 has_line (Delivered (Edge f from to)) = is_future_name f && (is_name from && is_name to)
 has_line (Delivered (Need f to place)) = is_future_name f && (is_name to && nat_lt place (2 ^ 128))
 
+-- as its type has them: numbers of activities have 32 bits, and places 128
+abbrev pub has_numbers : EntryShape → Bool
+has_numbers (Lent k) = nat_lt k (2 ^ 32)
+has_numbers (Committed k r) = nat_lt k (2 ^ 32)
+has_numbers (Delivered (Edge f from to)) = true
+has_numbers (Delivered (Need f to place)) = nat_lt place (2 ^ 128)
+
 -- Reading a line
 
 abbrev pub lent_by : Option ℕ → Option EntryShape

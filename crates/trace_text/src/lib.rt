@@ -5,6 +5,7 @@
 mod entries;
 mod error;
 mod laws;
+mod numbers;
 mod progress;
 mod read;
 mod write;

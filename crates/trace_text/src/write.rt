@@ -1,14 +1,15 @@
 //! A journal as text.
 
-ghost use Rattle.std.specs.Prelude.{◌≡◌, [], map, string_bytes, IfOk, OnOk};
-ghost use Rattle.std.specs.List.{concat};
+ghost use Rattle.std.specs.Prelude.{◌≡◌, [], map, string_bytes, true, IfOk, OnOk};
+ghost use Rattle.std.specs.List.{concat, list_all};
 ghost use Rattle.asp_model.specs.Report.{text_of, with_feed};
 ghost use Rattle.asp_model.specs.Shapes.{delivery_shape, entry_shape};
 ghost use Rattle.asp_model.specs.History.{Delivered};
 ghost use Rattle.state_lines.specs.Texts.{AddsText};
 ghost use Rattle.trace_text.specs.Pieces.{text_in};
-ghost use Rattle.trace_text.specs.Traces.{entry_line, trace_of};
+ghost use Rattle.trace_text.specs.Traces.{entry_line, has_numbers, trace_of};
 
+use crate::numbers::fits;
 use asp_model::{Delivery, Entry};
 use state_lines::{push_future, push_name};
 use std::alloc::{AllocError, Global};
@@ -24,11 +25,15 @@ const PIECE_ROOM: usize = 65_792;
 pub fn write_trace(alloc: Global, journal: &[Entry]) -> Result<Vec<String>, AllocError>
     ensures text { let text = trace_of (map entry_shape journal.now) in
         IfOk result (λ v. concat (map string_bytes v.items) ≡ text) }
+    // as their types have them
+    ensures numbers { let fit = list_all has_numbers (map entry_shape journal.now) in
+        IfOk result (λ _. fit ≡ true) }
 {
     let mut pieces = Pieces::new(alloc)?;
     pieces.last.push_str("asp trace 1\n")?;
     for entry in journal {
         pieces.turn(alloc)?;
+        fits(entry);
         push_entry(&mut pieces.last, entry)?;
     }
     pieces.last.push_str("end\n")?;
