@@ -69,3 +69,9 @@ abbrev pub IfComplete : Type 0 → Stop → Type 0
 IfComplete P stop.Complete = P
 IfComplete P stop.Most = Unit {0}
 IfComplete P (stop.Unended lists) = Unit {0}
+
+-- this holds, if the search stopped for want of room
+abbrev pub IfMost : Type 0 → Stop → Type 0
+IfMost P stop.Complete = Unit {0}
+IfMost P stop.Most = P
+IfMost P (stop.Unended lists) = Unit {0}

@@ -4,7 +4,7 @@ ghost use Rattle.std.specs.Prelude.{◌≡◌, ◌≤◌, ◌↔◌, IfOk, IsTru
 ghost use Rattle.asp_model.specs.Shapes.{lists_shape};
 ghost use Rattle.law_families.specs.Families.{IsComplete, IsWithin};
 ghost use Rattle.outcome_search.specs.Ends.{AreReplayableEnds, IsReplayableEnd, run_logs};
-ghost use Rattle.outcome_search.specs.Found.{AreClosed, AreDistinct, AreFound, AreWithin, Grows, IfComplete, IsClosedAt, IsClosedIn};
+ghost use Rattle.outcome_search.specs.Found.{AreClosed, AreDistinct, AreFound, AreWithin, Grows, IfComplete, IfMost, IsClosedAt, IsClosedIn};
 
 use crate::copies::{copy_lists, copy_run};
 use crate::logs::{begin_with, log_of};
@@ -40,6 +40,7 @@ fn meet<R: Runs>(
         (Grows (map run_logs ends.old.items) (map run_logs ends.new.items)) }
     ensures within { IfOk result (IfComplete
         (IsWithin (map run_logs ends.new.items) (lists_shape lists.now))) }
+    ensures full { IfOk result (IfMost (most ≤ length ends.new.items)) }
 {
     if is_within(ends, lists) {
         return Ok(Stop::Complete);
@@ -71,6 +72,7 @@ fn meet_all<R: Runs>(
         (Grows (map run_logs ends.old.items) (map run_logs ends.new.items)) }
     ensures within { IfOk result (IfComplete
         (AreWithin (map run_logs ends.new.items) (map lists_shape offers.now))) }
+    ensures full { IfOk result (IfMost (most ≤ length ends.new.items)) }
 {
     for lists in offers {
         match meet(alloc, runs, ends, lists, most)? {
@@ -98,6 +100,7 @@ fn close_log<R: Runs>(
         (Grows (map run_logs ends.old.items) (map run_logs ends.new.items)) }
     ensures closed { IfOk result (IfComplete (IsClosedAt
         (R.program runs.now) (map run_logs ends.new.items) (run_logs run.now) to.now)) }
+    ensures full { IfOk result (IfMost (most ≤ length ends.new.items)) }
 {
     let places = open_places(log_of(&run.lists, to));
     let offers = runs.offers_at_all(alloc, run, to, places)?;
@@ -120,6 +123,7 @@ fn close_run<R: Runs>(
         (Grows (map run_logs ends.old.items) (map run_logs ends.new.items)) }
     ensures closed { IfOk result (IfComplete (let x = run_logs run.now in
         IsClosedIn (R.program runs.now) (map run_logs ends.new.items) x x.0)) }
+    ensures full { IfOk result (IfMost (most ≤ length ends.new.items)) }
 {
     for entry in &run.lists.entries {
         match close_log(alloc, runs, ends, run, &entry.0, most)? {
@@ -145,6 +149,7 @@ fn close_all<R: Runs>(
         (Grows (map run_logs ends.old.items) (map run_logs ends.new.items)) }
     ensures closed { IfOk result (IfComplete (let all = map run_logs ends.new.items in
         AreClosed (R.program runs.old) all all)) }
+    ensures full { IfOk result (IfMost (most ≤ length ends.new.items)) }
 {
     for done in 0..most {
         if done >= ends.len() {
@@ -168,6 +173,7 @@ pub fn all_ends<R: Runs>(alloc: Global, runs: &mut R, most: usize) -> Result<Fou
     ensures distinct { IfOk result (λ f. AreDistinct (map run_logs f.ends.items)) }
     ensures complete { IfOk result (λ f.
         IfComplete (IsComplete (R.program runs.old) (map run_logs f.ends.items)) f.stop) }
+    ensures full { IfOk result (λ f. IfMost (most ≤ length f.ends.items) f.stop) }
 {
     let mut ends: Vec<EndedRun> = Vec::new(alloc);
     if most == 0 {

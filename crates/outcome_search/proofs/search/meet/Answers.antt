@@ -15,4 +15,4 @@ returns-in_ok-push-in-Some g c =
     let m = met (g.R.Runs.program c.args.runs.now) c.args.most old c.push.new.self.items c.in-Some.end lists c.in_ok-end.field-0 c.requires.found room
     (λ w. true_false c.is_within.result (c.is_within.ensures.within.1 (subst (λ l. IsWithin (map run_logs l) lists) (sym c.deref.ensures.value) w)) c.if-is_within.false)
     c.in_ok-end.ensures.end c.in-Some.is c.in_ok-push-in-Some.ensures.items in
-    record { found = m.found; grows = m.grows; within = m.within }
+    record { found = m.found; grows = m.grows; within = m.within; full = tt }
