@@ -1,0 +1,10 @@
+use Rattle.std.proofs.Common.{◌≡◌, List, map, take}
+use Rattle.asp_model.specs.Configuration.{ReceptionShape}
+use Rattle.asp_model.specs.Names.{Name}
+use Rattle.asp_model.specs.Shapes.{reception_shape}
+use Rattle.replay_offers.specs.Logs.{each_cut}
+use Rattle.replay_offers.proofs.logs.cut_at.Given as goal
+
+abbrev pub invariant-loop-entry : goal.invariant-loop-entry
+invariant-loop-entry l = map {B = Name × List ReceptionShape} (λ x. (x.0, map reception_shape x.1.items)) l.entries.items
+    ≡ each_cut l.to l.place (map {B = Name × List ReceptionShape} (λ x. (x.0, map reception_shape x.1.items)) (take l.entry-index l.entry-items))
