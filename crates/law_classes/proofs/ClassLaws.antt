@@ -24,7 +24,8 @@ use Rattle.law_classes.specs.Complete.{RunsLeadOn, StuckRunsAreAlike, RunsEnd, F
 use Rattle.law_classes.proofs.AlikeLemmas.{alike_steps, alike_back}
 use Rattle.law_classes.proofs.OutcomeLemmas.{alike_outcomes}
 use Rattle.law_classes.proofs.StateLemmas.{view_alike, asks_alike, system}
-use Rattle.law_classes.proofs.RunLemmas.{real_run, still_state, still_at, good_start, within_end}
+use Rattle.law_classes.proofs.RunLemmas.{real_run, still_state, still_at, good_start}
+use Rattle.law_classes.proofs.WithinLemmas.{within_end}
 
 pub runs_lead_on : RunsLeadOn
 runs_lead_on K program all ns c whole run =

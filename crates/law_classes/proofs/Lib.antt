@@ -7,4 +7,5 @@ pub mod EntryLemmas
 pub mod ApartLemmas
 pub mod StateLemmas
 pub mod RunLemmas
+pub mod WithinLemmas
 pub mod ClassLaws
