@@ -16,8 +16,8 @@ use Rattle.asp_model.specs.Step.{ListsShape}
 use Rattle.asp_model.specs.Replay.{CountsShape, replay}
 use Rattle.law_chases.proofs.FutureLemmas.{none_true}
 use Rattle.law_steps.proofs.NameLemmas.{name_itself, names_tied}
-use Rattle.law_services.specs.Services.{arrival_of, has_one_of, arrivals_within, StoodAt, AreServedAlike}
-use Rattle.law_services.specs.Told.{HaveSameTexts, IsKept, entry_at, with_labels, same_arrival, finds_same, AreSameServices, AreServicesOf, ServicesTell}
+use Rattle.law_services.specs.Services.{arrival_of, has_one_of, arrivals_within, StoodAt, AreServedAlike, IsServedAlike}
+use Rattle.law_services.specs.Told.{HaveSameTexts, IsKept, entry_at, with_labels, same_arrival, finds_same, AreSameServices, AreServicesOf, ServicesTell, ServicesTellAt, is_same_at}
 
 pub arrivals_decided : (x y : ArrivalShape) → Decides (same_arrival x y) (x ≡ y)
 arrivals_decided x y = (
@@ -68,34 +68,48 @@ module _ (program : Tree) (lists : ListsShape) (counts : CountsShape) (others : 
   abbrev rest : Name → Bool
   rest n = not (entry_at b n).polled && list_all (finds n) (entry_at a n).sets
 
-  served_alike : AreSameServices a b → AreServedAlike program lists counts others other_counts
-  served_alike same = record {
-    unpolled = λ n. sym (x.polled n) ∙ not_is (entry_at a n).polled (and_parts (not (entry_at a n).polled) (rest n) (same n)).0;
-    unpolled_too = λ n. sym (y.polled n) ∙ not_is (entry_at b n).polled (and_parts (not (entry_at b n).polled) (list_all (finds n) (entry_at a n).sets) (and_parts (not (entry_at a n).polled) (rest n) (same n)).1).0;
-    arrivals = λ n labels stood.
-        let found = (and_parts (not (entry_at b n).polled) (list_all (finds n) (entry_at a n).sets) (and_parts (not (entry_at a n).polled) (rest n) (same n)).1).1 in
-        within_is program lists counts a x n labels ∙ both_find n labels found (x.sets n labels stood) ∙ sym (within_is program others other_counts b y n labels);
-  }
-    where
-      both_find : (n : Name) (labels : List Text) → list_all (finds n) (entry_at a n).sets ≡ true → IsKept (entry_at a n).sets labels → with_labels labels (entry_at a n).arrivals ≡ with_labels labels (entry_at b n).arrivals
-      both_find n labels found (inl e) = with_none labels e (entry_at a n).arrivals ∙ sym (with_none labels e (entry_at b n).arrivals)
-      both_find n labels found (inr k) =
-          let one : finds n k.0 ≡ true = All-contains (λ l. finds n l ≡ true) (entry_at a n).sets k.0 (AllPass-from_list_all (finds n) (entry_at a n).sets found) k.1 in
-          sym (with_same k.0 labels k.2 (entry_at a n).arrivals) ∙ (finds_decided (entry_at a n).arrivals (entry_at b n).arrivals k.0).0 one ∙ with_same k.0 labels k.2 (entry_at b n).arrivals
+  both_find : (n : Name) (labels : List Text) → list_all (finds n) (entry_at a n).sets ≡ true → IsKept (entry_at a n).sets labels → with_labels labels (entry_at a n).arrivals ≡ with_labels labels (entry_at b n).arrivals
+  both_find n labels found (inl e) = with_none labels e (entry_at a n).arrivals ∙ sym (with_none labels e (entry_at b n).arrivals)
+  both_find n labels found (inr k) =
+      let one : finds n k.0 ≡ true = All-contains (λ l. finds n l ≡ true) (entry_at a n).sets k.0 (AllPass-from_list_all (finds n) (entry_at a n).sets found) k.1 in
+      sym (with_same k.0 labels k.2 (entry_at a n).arrivals) ∙ (finds_decided (entry_at a n).arrivals (entry_at b n).arrivals k.0).0 one ∙ with_same k.0 labels k.2 (entry_at b n).arrivals
 
-  same_services : AreServedAlike program lists counts others other_counts → AreSameServices a b
-  same_services alike n = both_true (not_from_false (entry_at a n).polled (x.polled n ∙ alike.unpolled n)) (both_true (not_from_false (entry_at b n).polled (y.polled n ∙ alike.unpolled_too n))
+  served_at : (n : Name) → is_same_at a b n ≡ true → IsServedAlike program lists counts others other_counts n
+  served_at n same =
+      let first = and_parts (not (entry_at a n).polled) (rest n) same in
+      let second = and_parts (not (entry_at b n).polled) (list_all (finds n) (entry_at a n).sets) first.1 in
+      record {
+        unpolled = sym (x.polled n) ∙ not_is (entry_at a n).polled first.0;
+        unpolled_too = sym (y.polled n) ∙ not_is (entry_at b n).polled second.0;
+        arrivals = λ labels stood. within_is program lists counts a x n labels ∙ both_find n labels second.1 (x.sets n labels stood) ∙ sym (within_is program others other_counts b y n labels);
+      }
+
+  same_at : (n : Name) → IsServedAlike program lists counts others other_counts n → is_same_at a b n ≡ true
+  same_at n alike = both_true (not_from_false (entry_at a n).polled (x.polled n ∙ alike.unpolled)) (both_true (not_from_false (entry_at b n).polled (y.polled n ∙ alike.unpolled_too))
       (list_all-from_AllPass (finds n) (entry_at a n).sets (λ k d lt. each (get_or (entry_at a n).sets k d) (All-contains_itself (entry_at a n).sets k d lt))))
     where
       other : (labels : List Text) → (labels ≡ []) ⊎ StoodAt program lists counts n labels → with_labels labels (entry_at a n).arrivals ≡ with_labels labels (entry_at b n).arrivals
       other labels (inl e) = with_none labels e (entry_at a n).arrivals ∙ sym (with_none labels e (entry_at b n).arrivals)
-      other labels (inr st) = sym (within_is program lists counts a x n labels) ∙ alike.arrivals n labels st ∙ within_is program others other_counts b y n labels
+      other labels (inr st) = sym (within_is program lists counts a x n labels) ∙ alike.arrivals labels st ∙ within_is program others other_counts b y n labels
 
       each : (labels : List Text) → Contains (entry_at a n).sets labels → finds n labels ≡ true
       each labels h =
           let k = x.stood n labels h in
           (finds_decided (entry_at a n).arrivals (entry_at b n).arrivals labels).1
           (with_same labels k.0 k.1 (entry_at a n).arrivals ∙ other k.0 k.2 ∙ sym (with_same labels k.0 k.1 (entry_at b n).arrivals))
+
+  served_alike : AreSameServices a b → AreServedAlike program lists counts others other_counts
+  served_alike same = record {
+    unpolled = λ n. (served_at n (same n)).unpolled;
+    unpolled_too = λ n. (served_at n (same n)).unpolled_too;
+    arrivals = λ n labels stood. (served_at n (same n)).arrivals labels stood;
+  }
+
+  same_services : AreServedAlike program lists counts others other_counts → AreSameServices a b
+  same_services alike n = same_at n (record { unpolled = alike.unpolled n; unpolled_too = alike.unpolled_too n; arrivals = λ labels stood. alike.arrivals n labels stood })
+
+pub services_tell_at : ServicesTellAt
+services_tell_at program lists counts others other_counts a b n x y = (served_at program lists counts others other_counts a b x y n, same_at program lists counts others other_counts a b x y n)
 
 pub services_tell : ServicesTell
 services_tell program lists counts others other_counts a b x y = (served_alike program lists counts others other_counts a b x y, same_services program lists counts others other_counts a b x y)

@@ -53,6 +53,16 @@ has_poll [] = false
 has_poll (Poll ∷ xs) = true
 has_poll (From n ∷ xs) = has_poll xs
 
+-- this activity polled in neither of two replays, and what each `serve` at which it stood in the first finds came in one
+-- order in both
+pub record IsServedAlike (program : Tree) (lists : ListsShape) (counts : CountsShape)
+    (others : ListsShape) (other_counts : CountsShape) (n : Name) : Type 0 where
+  pub unpolled : has_poll (log_of (replay program lists counts) n) ≡ false
+  pub unpolled_too : has_poll (log_of (replay program others other_counts) n) ≡ false
+  pub arrivals : (labels : List Text) → StoodAt program lists counts n labels
+      → arrivals_within labels (replay program lists counts) n
+      ≡ arrivals_within labels (replay program others other_counts) n
+
 -- nobody polled, and what each `serve` at which the first replay stood finds came in one order in both
 pub record AreServedAlike (program : Tree) (lists : ListsShape) (counts : CountsShape)
     (others : ListsShape) (other_counts : CountsShape) : Type 0 where

@@ -11,7 +11,7 @@ use Rattle.asp_model.specs.Configuration.{requests_of, log_of}
 use Rattle.asp_model.specs.Services.{ArrivalShape, ServiceEntryShape, ServicesShape}
 use Rattle.asp_model.specs.Step.{ListsShape}
 use Rattle.asp_model.specs.Replay.{CountsShape, replay}
-use Rattle.law_services.specs.Services.{arrival_of, StoodAt, has_poll, AreServedAlike}
+use Rattle.law_services.specs.Services.{arrival_of, StoodAt, has_poll, AreServedAlike, IsServedAlike}
 
 -- the entries by their names
 abbrev pub by_name : ServicesShape → List (Name × ServiceEntryShape)
@@ -95,3 +95,10 @@ ServicesTell = (program : Tree) (lists : ListsShape) (counts : CountsShape)
     (others : ListsShape) (other_counts : CountsShape) (a b : ServicesShape)
     → AreServicesOf program lists counts a → AreServicesOf program others other_counts b
     → AreSameServices a b ↔ AreServedAlike program lists counts others other_counts
+
+-- so for each activity
+abbrev pub ServicesTellAt : Type 0
+ServicesTellAt = (program : Tree) (lists : ListsShape) (counts : CountsShape)
+    (others : ListsShape) (other_counts : CountsShape) (a b : ServicesShape) (n : Name)
+    → AreServicesOf program lists counts a → AreServicesOf program others other_counts b
+    → (is_same_at a b n ≡ true) ↔ IsServedAlike program lists counts others other_counts n

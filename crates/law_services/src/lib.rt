@@ -6,4 +6,4 @@ mod correct;
 mod told;
 
 pub use correct::{served_alike_end_alike, served_alike_show_alike};
-pub use told::services_tell;
+pub use told::{services_tell, services_tell_at};
