@@ -1,0 +1,5 @@
+pub mod HeardLemmas
+pub mod ListenerLemmas
+pub mod EntryLemmas
+pub mod ServicesLemmas
+pub mod CompareLemmas

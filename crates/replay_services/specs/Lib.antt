@@ -1,0 +1,4 @@
+-- in reading order
+pub mod Heard
+pub mod Listeners
+pub mod Compares
