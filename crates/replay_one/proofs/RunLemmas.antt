@@ -41,7 +41,7 @@ use Rattle.step_activity.proofs.PassingLemmas.{first_passed}
 use Rattle.replay_population.specs.Population.{ArePassed, HasPassedIn, IsForgotten, IsPassing, IsPopulation, IsRunIn, KeepsPassed, or_zero, passed_in, with_activity}
 use Rattle.replay_population.specs.Reached.{IsReachedPopulation}
 use Rattle.replay_one.specs.declared.schedule.Schedule.{Schedule}
-use Rattle.replay_one.specs.Schedule.{IsMoreReady, IsNoted, IsTaken, IsWatching, Seen, seen, asks_in, noted_in, ready_in, sends_in, watches_in}
+use Rattle.replay_one.specs.Schedule.{IsForNobody, IsMoreReady, IsNoted, IsTaken, IsWatching, Seen, seen, asks_in, noted_in, ready_in, sends_in, watches_in}
 use Rattle.replay_one.specs.Round.{CanStep, IsHandedOn, IsRunAt, IsRunBut, IsRunWith, LeadsTo, Leaves, LogsTo, next_by, seen_in}
 use Rattle.replay_one.specs.Notes.{notes_of}
 use Rattle.replay_one.specs.Told.{notes_by}
@@ -376,6 +376,32 @@ noted_on b c d k j leads =
 -- after quiet steps
 pub noted_next : (b : Bounds) (c d : Configuration) (k : ℕ) → LeadsTo b k c d → notes_by b k c ≡ [] → notes_by b 1 d ≡ notes_by b (k + 1) c
 noted_next b c d k leads quiet = sym (noted_on b c d k 1 leads ∙ ap (λ ys. ys ++ notes_by b 1 d) quiet)
+
+-- Nobody leaves who has a number
+
+pub unknown_round : (b : Bounds) (program : Tree) (c : Configuration) (p : Population) (old new : Seen) → IsRunWith b p old program c → IsForNobody p.roster old new → IsRunWith b p new program c
+unknown_round b program c p old new h k = record {
+  bare = h.bare;
+  reached = h.reached;
+  population = h.population;
+  numbered = h.numbered;
+  scheduled = record {
+    rest = λ n there not. h.scheduled.rest n there (was n there not);
+    waiting = λ n f a is below not w. ap (λ r. r f n) k.noted ∙ h.scheduled.waiting n f a is below (was n (ap is_some is) not) w;
+  };
+  watched = λ n not. record {
+    serving = λ a l is below st has. ap (λ (w : Watches). w.asks n l) k.watches ∙ (h.watched n (was n (ap is_some is) not)).serving a l is below st has;
+    sending = λ a e x is below intends sent. ap (λ (w : Watches). w.sends n x.0) k.watches ∙ (h.watched n (was n (ap is_some is) not)).sending a e x is below intends sent;
+  };
+  passed = h.passed;
+}
+  where
+    was : (n : Name) → IsThere c n → ready_in new n ≡ false → ready_in old n ≡ false
+    was n there not = by (number_of n p.roster) refl
+      where
+        by : (o : Option ℕ) → number_of n p.roster ≡ o → ready_in old n ≡ false
+        by None e = absent_nowhere p c n h.population e there
+        by (Some j) e = sym (k.ready n j e) ∙ not
 
 -- Everybody is ready
 

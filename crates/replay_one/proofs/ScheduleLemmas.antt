@@ -1,30 +1,29 @@
 -- What the changes of a schedule leave of it.
-use Rattle.std.proofs.Common.{◌≡◌, ◌≢◌, ◌<◌, ◌+◌, ◌↔◌, ◌||◌, ◌++◌, ◌∷◌, [], ℕ, Bool, true, false, cond, List, Option, Some, None, Ok, Err, Result, OnOk, length, slice_get, slice_set, is_some, IsSome, IfSome, MatchOption, refl, sym, ap, ◌∙◌, ◌⊎◌, inl, inr, ⊎_elim, arith}
+use Rattle.std.proofs.Common.{◌≡◌, ◌≢◌, ◌||◌, ◌++◌, ◌∷◌, [], ℕ, Bool, true, false, List, Option, Some, None, Ok, Err, Result, OnOk, slice_get, slice_set, refl, sym, ap, ◌∙◌, ◌⊎◌, inl, inr, ⊎_elim}
 use Rattle.std.specs.Prelude.{◌==◌}
 use Rattle.std.proofs.lemmas.Bool.{false≢true, false_from_ne_true}
 use Rattle.std.proofs.lemmas.List.Folds.{list_any-append}
-use Rattle.std.specs.List.{list_any}
 use Rattle.std.specs.Global.{Vec}
 use Rattle.std.specs.BTreeMap as trees
 use Rattle.std.specs.BTreeMap.{BTreeMap, is_at}
-use Rattle.std.specs.BTreeSet as sets
-use Rattle.std.specs.Ordering.{is_eq, is_lt, is_gt, ordering_reverse}
+use Rattle.std.specs.Ordering.{is_eq}
 use Rattle.std.specs.declared.cmp.Ordering.{Ordering}
-use Rattle.std.specs.declared.cmp.Ordering.TheVariants.{Less, Equal, Greater}
-use Rattle.std.specs.Cmp.{tied_itself}
-use Rattle.std.specs.Cmp.Lexicographic.{nat_list_cmp_total}
 use Rattle.asp_model.specs.declared.name.FutureName.{FutureName}
 use Rattle.asp_model.specs.contracts.name.FutureNameOrd.TheImpl as ordering
-use Rattle.asp_model.specs.Names.{Name, FutureShape, Text, name_cmp}
+use Rattle.asp_model.specs.Names.{Name, FutureShape, Text}
 use Rattle.asp_model.specs.Term.{has_text}
-use Rattle.asp_model.specs.Order.{same_future_same, same_name_same}
+use Rattle.asp_model.specs.Order.{same_future_same}
 use Rattle.asp_model.specs.Shapes.{future_shape}
 use Rattle.def_journals.specs.Journals.{number_of}
 use Rattle.law_chases.proofs.FutureLemmas.{true_false}
 use Rattle.replay_one.specs.declared.schedule.Schedule.{Schedule}
 use Rattle.replay_one.specs.declared.schedule.Watch.{Watch}
 use Rattle.replay_one.specs.declared.schedule.Watch.TheVariants as watch
-use Rattle.replay_one.specs.Schedule.{HasPlace, IsFewerIn, IsMoreReady, IsNoted, IsTaken, IsWatch, IsWatching, Seen, asks_at, asks_in, has_number, if_number, is_asked, is_held, is_numbered_in, noted_at, noted_in, ready_in, seen, sends_at, sends_in, watches_in}
+use Rattle.replay_one.specs.declared.ready.Least.{Least}
+use Rattle.replay_one.specs.declared.ready.Least.TheVariants as least
+use Rattle.replay_one.specs.Ready.{IsAdded, IsLeast}
+use Rattle.replay_one.proofs.ReadyLemmas.{ready_names}
+use Rattle.replay_one.specs.Schedule.{HasPlace, IsFewerAfter, IsLeastIn, IsMoreReady, IsNoted, IsWatch, IsWatching, Seen, asks_at, asks_in, has_number, if_number, is_asked, is_held, is_numbered_in, noted_at, noted_in, ready_in, seen, sends_at, sends_in, watches_in}
 use Rattle.replay_population.proofs.ColumnLemmas.{is_same, number_case, same_number, set_here, set_other}
 use Rattle.replay_population.proofs.RosterLemmas.{other_number}
 
@@ -63,44 +62,35 @@ has_told (Some k) f e = (k, refl, e)
 
 -- The least
 
-rounded : (r : Ordering) → is_gt r ≡ false → is_lt (ordering_reverse r) ≡ false
-rounded Less e = refl
-rounded Equal e = refl
-rounded Greater e = e
+pub least_taken : (ns : List Name) (old new : Schedule) (l : Least) → IsLeast ns old.ready l new.ready → new ≡ record old { ready = new.ready } → IsLeastIn ns old l new
+least_taken ns old new least.Nobody h e = h
+least_taken ns old new (least.One k) h e = (
+  h.0,
+  h.1,
+  record {
+    ready = h.2.ready;
+    least = h.2.least;
+    others = h.2.others;
+    noted = ap (λ s. noted_in (seen ns s)) e;
+    watches = ap (λ s. watches_in (seen ns s)) e;
+  },
+)
+least_taken ns old new least.Unknown h e = record { ready = h.0; noted = ap (λ s. noted_in (seen ns s)) e; watches = ap (λ s. watches_in (seen ns s)) e }
 
--- from a lower bound
-above : (m n : Name) → is_gt (name_cmp n m) ≡ false → is_lt (name_cmp m n) ≡ false
-above m n e = ap is_lt (nat_list_cmp_total.antisymm m n) ∙ rounded (name_cmp n m) e
-
-none_among : (m : Name) (ks : List Name) → (0 < length ks → ⊥) → list_any (is_at (name_cmp m)) ks ≡ false
-none_among m [] h = refl
-none_among m (k ∷ ks) h = absurd (h (omega arith))
-
-tied : (n m : Name) → m ≢ n → is_at (name_cmp n) m ≡ false
-tied n m h = elim (is_eq (name_cmp n m)) as (λ b. is_eq (name_cmp n m) ≡ b → b ≡ false) [ true ↦ λ e. absurd (h (sym (same_name_same n m e))) | false ↦ λ e. refl ] refl
-
-pub least_taken : (ns : List Name) (old new : Schedule) (o : Option Name) → (IsSome o ↔ (0 < length old.ready.keys)) → IfSome o (λ k. ready_in (seen ns old) k ≡ true) → IfSome o (sets.IsLowerBound name_cmp old.ready) → IfSome o (λ k. sets.Updates name_cmp old.ready new.ready k false) → new ≡ record old { ready = new.ready }
-    → MatchOption o ((m : Name) → ready_in (seen ns old) m ≡ false) (λ n. IsTaken (seen ns old) n (seen ns new))
-least_taken ns old new None v r l u e = λ m. none_among m old.ready.keys (λ h. false≢true (v.1 h))
-least_taken ns old new (Some n) v r l u e = record {
-  ready = r;
-  least = λ m h. above m n (l m h);
-  others = λ m d. u.0 m ∙ ap (λ b. cond b false (ready_in (seen ns old) m)) (tied n m d);
-  noted = ap (λ s. noted_in (seen ns s)) e;
-  watches = ap (λ s. watches_in (seen ns s)) e;
-}
-
-pub fewer_left : (old new : Schedule) (o : Option Name) → length new.ready.keys + cond (is_some o) 1 0 ≡ length old.ready.keys → IfSome o (λ n. IsFewerIn old new)
-fewer_left old new None s = tt
-fewer_left old new (Some n) s = omega (arith, s)
+pub fewer_left : (ns : List Name) (old new : Schedule) (l : Least) → IsLeast ns old.ready l new.ready → IsFewerAfter old l new
+fewer_left ns old new least.Nobody h = tt
+fewer_left ns old new (least.One k) h = h.3
+fewer_left ns old new least.Unknown h = h.1
 
 -- Who is woken
 
-is_at_itself : (n : Name) → is_at (name_cmp n) n ≡ true
-is_at_itself n = ap is_eq (tied_itself nat_list_cmp_total n)
-
-pub woken_here : (ns : List Name) (old new : Schedule) (n : Name) → sets.Updates name_cmp old.ready new.ready n true → ready_in (seen ns new) n ≡ true
-woken_here ns old new n u = u.0 n ∙ ap (λ b. cond b true (ready_in (seen ns old) n)) (is_at_itself n)
+pub woken_more : (ns : List Name) (old new : Schedule) (k : ℕ) → IsAdded ns k old.ready new.ready → new ≡ record old { ready = new.ready } → IsMoreReady (seen ns old) None (seen ns new)
+woken_more ns old new k added e = record {
+  ready = added.more;
+  noted = λ g m d h. ap (λ s. noted_in (seen ns s) g m) e ∙ h;
+  asks = λ m l not h. ap (λ s. asks_in (seen ns s) m l) e ∙ h;
+  sends = λ m q not h. ap (λ s. sends_in (seen ns s) m q) e ∙ h;
+}
 
 -- one after the other
 pub more_twice : (s u t : Seen) → IsMoreReady s None u → IsMoreReady u None t → IsMoreReady s None t
@@ -119,7 +109,7 @@ more_still s = record { ready = λ m h. h; noted = λ g m d h. h; asks = λ m l 
 -- more names have numbers
 pub more_names : (ns ms : List Name) (s : Schedule) → ((m : Name) (k : ℕ) → number_of m ns ≡ Some k → number_of m ms ≡ Some k) → IsMoreReady (seen ns s) None (seen ms s)
 more_names ns ms s stays = record {
-  ready = λ m h. h;
+  ready = λ m h. ready_names ns ms s.ready m (λ k e. stays m k e) h;
   noted = λ g m d h. still m (noted_at s.awaiting.entries g) h;
   asks = λ m l not h. still m (λ k. asks_at s.watches.items k l) h;
   sends = λ m q not h.

@@ -1,5 +1,5 @@
 -- What a round of the machine leads to.
-use Rattle.std.specs.Prelude.{◌≡◌, ◌<◌, ◌≤◌, ◌+◌, ℕ, Bool, true, false, List, Option, Some, None, [], length}
+use Rattle.std.specs.Prelude.{◌≡◌, ◌<◌, ◌≤◌, ◌+◌, ℕ, Bool, true, false, List, Option, Some, None, []}
 use Rattle.asp_model.specs.Names.{Name, FutureShape, Text}
 use Rattle.asp_model.specs.Term.{Tree, locations}
 use Rattle.asp_model.specs.Configuration as model
@@ -22,6 +22,7 @@ use Rattle.replay_one.specs.declared.round.Round.TheVariants as round
 use Rattle.replay_one.specs.declared.round.Machine.{Machine}
 use Rattle.replay_one.specs.Bounds.{IsNumbered, count_within, lists_within}
 use Rattle.replay_population.specs.Population.{ArePassed, IsPopulation, passed_in}
+use Rattle.replay_one.specs.Ready.{Ascend, size}
 use Rattle.replay_one.specs.Schedule.{IsTaken, Seen, asks_in, noted_in, ready_in, seen, sends_in, watches_in}
 
 -- an activity is below its count, and this is its step
@@ -139,9 +140,13 @@ IsRound b program c most (round.Steps k) new = IsAhead b program c most k new
 IsRound b program c most round.Leaves new = IsRunAt b new program c
 IsRound b program c most round.Ends new = (next_by b c ≡ None) × IsPopulation new.population c
 
+-- the names ascend of those who stand by their numbers
+abbrev pub IsInOrder : Machine → Type 0
+IsInOrder m = Ascend m.schedule.ready.ordered m.population.roster
+
 -- one who leaves is ready no more
 abbrev pub IsFewer : Machine → Round → Machine → Type 0
-IsFewer old round.Leaves new = length new.schedule.ready.keys < length old.schedule.ready.keys
+IsFewer old round.Leaves new = size new.schedule.ready < size old.schedule.ready
 IsFewer old t new = Unit {0}
 
 -- steps are taken, or nobody steps

@@ -3,7 +3,6 @@ use Rattle.std.specs.Prelude.{◌≡◌, ◌≢◌, ◌<◌, ◌==◌, ℕ, Bool
 use Rattle.std.specs.Global.{Vec}
 use Rattle.std.specs.List.{list_any}
 use Rattle.std.specs.Map.{lookup}
-use Rattle.std.specs.BTreeMap.{is_at}
 use Rattle.std.specs.Ordering.{is_lt}
 use Rattle.asp_model.specs.declared.name.FutureName.{FutureName}
 use Rattle.asp_model.specs.Names.{Name, FutureShape, Text, name_cmp, same_future}
@@ -13,7 +12,10 @@ use Rattle.def_journals.specs.Journals.{number_of}
 use Rattle.law_schedules.specs.Watches.{Watches}
 use Rattle.replay_one.specs.declared.schedule.Watch.{Watch}
 use Rattle.replay_one.specs.declared.schedule.Watch.TheVariants as watch
+use Rattle.replay_one.specs.declared.ready.Least.{Least}
+use Rattle.replay_one.specs.declared.ready.Least.TheVariants as least
 use Rattle.replay_one.specs.declared.schedule.Schedule.{Schedule}
+use Rattle.replay_one.specs.Ready.{is_ready, size}
 
 -- By numbers
 
@@ -70,7 +72,7 @@ pub record IsWatch (old : Schedule) (k : ℕ) (w : Watch) (new : Schedule) : Typ
 
 -- fewer are ready
 abbrev pub IsFewerIn : Schedule → Schedule → Type 0
-IsFewerIn old new = length new.ready.keys < length old.ready.keys
+IsFewerIn old new = size new.ready < size old.ready
 
 -- By names
 
@@ -88,7 +90,7 @@ if_number (Some k) test = test k
 -- where these names have numbers
 abbrev pub seen : List Name → Schedule → Seen
 seen ns s = record {
-  ready = λ n. list_any (is_at (name_cmp n)) s.ready.keys;
+  ready = is_ready ns s.ready;
   noted = λ f n. if_number (number_of n ns) (noted_at s.awaiting.entries f);
   asks = λ n l. if_number (number_of n ns) (λ k. asks_at s.watches.items k l);
   sends = λ n m. if_number (number_of n ns) (λ k. sends_at s.watches.items k (number_of m ns));
@@ -138,3 +140,20 @@ pub record IsWatching (old : Seen) (n : Name) (new : Seen) : Type 0 where
   pub noted : noted_in new ≡ noted_in old
   pub asks : (m : Name) (l : Text) → m ≢ n → asks_in new m l ≡ asks_in old m l
   pub sends : (m k : Name) → m ≢ n → sends_in new m k ≡ sends_in old m k
+
+-- nobody leaves who has a number
+pub record IsForNobody (ns : List Name) (old new : Seen) : Type 0 where
+  pub ready : (m : Name) (k : ℕ) → number_of m ns ≡ Some k → ready_in new m ≡ ready_in old m
+  pub noted : noted_in new ≡ noted_in old
+  pub watches : watches_in new ≡ watches_in old
+
+-- the least of those ready leaves, who has this number; or nobody who has one; or nobody is ready
+abbrev pub IsLeastIn : List Name → Schedule → Least → Schedule → Type 0
+IsLeastIn ns old least.Nobody new = (m : Name) → ready_in (seen ns old) m ≡ false
+IsLeastIn ns old (least.One k) new = (n : Name) × (number_of n ns ≡ Some k) × IsTaken (seen ns old) n (seen ns new)
+IsLeastIn ns old least.Unknown new = IsForNobody ns (seen ns old) (seen ns new)
+
+-- fewer are ready, unless nobody was
+abbrev pub IsFewerAfter : Schedule → Least → Schedule → Type 0
+IsFewerAfter old least.Nobody new = Unit {0}
+IsFewerAfter old l new = IsFewerIn old new

@@ -1,9 +1,10 @@
 //! How far a run may go, and in which order requests and polls may come.
 
-ghost use Rattle.std.specs.Prelude.{◌≡◌, IfOk, List, Some, T, map};
+ghost use Rattle.std.specs.Prelude.{◌≡◌, IfOk, List, Some, T, length, map};
 ghost use Rattle.std.specs.FinMap.{is_sorted};
 ghost use Rattle.asp_model.specs.Names.{Name, name_cmp};
 ghost use Rattle.asp_model.specs.Shapes.{reception_shape};
+ghost use Rattle.replay_one.specs.Ready.{Ascend};
 ghost use Rattle.replay_one.specs.Bounds.{
   IsAscending,
   IsNextAmong,
@@ -64,6 +65,7 @@ impl Bounds<'_> {
         requires ascending { IsAscending self.now }
         ensures numbered { IfOk result (IsNumbered self.now) }
         ensures sound { IfOk result IsRoster }
+        ensures ascending { IfOk result (λ r. Ascend (length r) r) }
     {
         match self {
             Bounds::Budget(_) => Ok(Roster::new(alloc)),

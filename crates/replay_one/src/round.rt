@@ -16,13 +16,14 @@ ghost use Rattle.replay_one.specs.Bounds.{IsAscending, IsNumbered, lists_within}
 ghost use Rattle.replay_population.specs.Population.{HasPassedBySome, IsPopulation, KeepsPassed, passed_in, term_of};
 ghost use Rattle.replay_population.specs.Giving.{IsGiving, IsGivingAs};
 ghost use Rattle.replay_one.specs.Schedule.{IsMoreReady, ready_in, seen, sends_in};
-ghost use Rattle.replay_one.specs.Round.{IsFewer, IsHandedOn, IsKept, IsRound, IsRunAt, IsRunBut, IsRunButSomewhere, IsRunSomewhere, IsStepped, IsTried, seen_in};
+ghost use Rattle.replay_one.specs.Round.{IsFewer, IsHandedOn, IsInOrder, IsKept, IsRound, IsRunAt, IsRunBut, IsRunButSomewhere, IsRunSomewhere, IsStepped, IsTried, seen_in};
 ghost use Rattle.replay_one.specs.Notes.{NoteShape};
 ghost use Rattle.replay_one.specs.Told.{AreToldIf, AreToldInRound, AreToldInStep};
 
 use crate::bounds::{Bounds, Next};
 use crate::looks::{Look, look_at, next_in};
 use crate::notes::Notes;
+use crate::ready::Least;
 use crate::receptions::owner_of;
 use crate::schedule::Schedule;
 use crate::telling::{before, tell};
@@ -76,6 +77,7 @@ fn wake_next(
         IsPopulation population.now c → number_of n ns ≡ Some to → IsThere c n →
         IsNextIn (lists_within bounds.now) c n q → sends_in (seen ns schedule.old) q n ≡ true →
         OnOk result (ready_in (seen ns schedule.new) q ≡ true) }
+    ensures ordered { OnOk result (schedule.new.ready.ordered ≡ schedule.old.ready.ordered) }
 {
     match next_in(population, bounds, to) {
         Next::Only(next) => wake_owner(alloc, schedule, &population.roster, next, to),
@@ -97,6 +99,7 @@ fn wake_owner(
     ensures owner { (n q : Name) → let ns = roster.now in number_of n ns ≡ Some to →
         IsOf q n (reception_shape reception.now) → sends_in (seen ns schedule.old) q n ≡ true →
         OnOk result (ready_in (seen ns schedule.new) q ≡ true) }
+    ensures ordered { OnOk result (schedule.new.ready.ordered ≡ schedule.old.ready.ordered) }
 {
     match roster.number(owner_of(reception, roster.name(to))) {
         Some(number) => schedule.wake_sender(alloc, roster, number, to),
@@ -113,10 +116,12 @@ impl Machine {
         ensures numbered { IfOk result (λ m. IsNumbered bounds.now m.population.roster) }
         ensures ready { IfOk result (λ m. ready_in (seen_in m) main_name ≡ true) }
         ensures passed { (n : Name) → IfOk result (λ m. passed_in m.population n ≡ None) }
+        ensures order { IfOk result IsInOrder }
     {
         let roster = bounds.roster(alloc)?;
+        let ordered = roster.len() as u32;
         let (population, number) = Population::start(alloc, code, roster)?;
-        let mut schedule = Schedule::new(alloc);
+        let mut schedule = Schedule::new(alloc, ordered);
         schedule.wake(alloc, &population.roster, number)?;
         Ok(Machine {
             population,
@@ -146,6 +151,8 @@ impl Machine {
             OnOk result (IsHandedOn lists c n e (seen_in self.old) (seen_in self.new)) }
         ensures leads { OnOk result (Leads self.old.population.roster self.new.population.roster) }
         ensures passed { OnOk result (KeepsPassed self.old.population self.new.population) }
+        ensures ordered { let old = self.old.schedule.ready.ordered in
+            OnOk result (self.new.schedule.ready.ordered ≡ old) }
     {
         match given {
             Given::Nothing => Ok(()),
@@ -192,6 +199,7 @@ impl Machine {
             IsRunBut bounds.now self.old n program c →
             IfOk result (λ b. IsTried bounds.now program c b self.new) }
         ensures kept { IfOk result (λ b. IsKept self.old b self.new) }
+        ensures order { IsInOrder self.old → OnOk result (IsInOrder self.new) }
         ensures told { (program : Tree) (c : Configuration) (n : Name) (xs : List NoteShape) →
             number_of n self.old.population.roster ≡ Some number →
             IsRunBut bounds.now self.old n program c → N.tells notes.old xs →
@@ -238,20 +246,21 @@ impl Machine {
     ) -> Result<Round, AllocError>
         requires ascending { IsAscending bounds.now }
         requires running { IsRunSomewhere bounds.now self.old }
+        requires order { IsInOrder self.old }
         requires some { 0 < most }
         ensures round { (program : Tree) (c : Configuration) →
             IsRunAt bounds.now self.old program c →
             IfOk result (λ t. IsRound bounds.now program c most t self.new) }
         ensures fewer { IfOk result (λ t. IsFewer self.old t self.new) }
+        ensures order { OnOk result (IsInOrder self.new) }
         ensures told { (program : Tree) (c : Configuration) (xs : List NoteShape) →
             IsRunAt bounds.now self.old program c → N.tells notes.old xs →
             IfOk result (AreToldInRound (N.tells notes.new) xs bounds.now c) }
     {
-        let Some(name) = self.schedule.take_least() else {
-            return Ok(Round::Ends);
-        };
-        let Some(number) = self.population.roster.number(&name) else {
-            return Ok(Round::Leaves);
+        let number = match self.schedule.take_least(&self.population.roster) {
+            Least::One(number) => number,
+            Least::Unknown => return Ok(Round::Leaves),
+            Least::Nobody => return Ok(Round::Ends),
         };
         let known = self.population.take_passed(number);
         let count = bounds.count(number);
@@ -281,6 +290,7 @@ impl Machine {
     ) -> Result<Option<u64>, AllocError>
         requires ascending { IsAscending bounds.now }
         requires running { IsRunSomewhere bounds.now self.old }
+        requires order { IsInOrder self.old }
         requires some { 0 < most }
         ensures steps { (program : Tree) (c : Configuration) →
             IsRunAt bounds.now self.old program c →
@@ -288,6 +298,7 @@ impl Machine {
         ensures told { (program : Tree) (c : Configuration) (xs : List NoteShape) →
             IsRunAt bounds.now self.old program c → N.tells notes.old xs →
             IfOk result (AreToldInStep (N.tells notes.new) xs bounds.now c) }
+        ensures order { OnOk result (IsInOrder self.new) }
     {
         loop {
             match self.round(alloc, bounds, most, notes)? {

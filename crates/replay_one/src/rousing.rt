@@ -6,7 +6,7 @@ ghost use Rattle.asp_model.specs.Term.{Tree};
 ghost use Rattle.replay_population.specs.Reached.{IsReachedPopulation};
 ghost use Rattle.replay_one.specs.declared.bounds.Bounds.{Bounds};
 ghost use Rattle.replay_one.specs.Bounds.{IsNumbered};
-ghost use Rattle.replay_one.specs.Round.{IsRunAt};
+ghost use Rattle.replay_one.specs.Round.{IsInOrder, IsRunAt};
 
 use crate::round::Machine;
 use std::alloc::{AllocError, Global};
@@ -18,6 +18,7 @@ impl Machine {
         ensures runs { (b : Bounds) (program : Tree) (c : Configuration) →
             IsReachedPopulation self.old.population program c →
             IsNumbered b self.old.population.roster → OnOk result (IsRunAt b self.new program c) }
+        ensures order { IsInOrder self.old → OnOk result (IsInOrder self.new) }
     {
         self.population.passed = BTreeMap::new(alloc);
         for number in 0..self.population.roster.len() as u32 {

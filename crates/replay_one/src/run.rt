@@ -13,7 +13,7 @@ ghost use Rattle.replay_one.specs.Correct.{IsReplayed, IsSpent};
 ghost use Rattle.replay_population.specs.Reached.{IsReachedPopulation};
 ghost use Rattle.replay_one.specs.Listening.{AreToldPlaces};
 ghost use Rattle.replay_one.specs.Notes.{NoteShape};
-ghost use Rattle.replay_one.specs.Round.{IsRunAt, IsRunSomewhere};
+ghost use Rattle.replay_one.specs.Round.{IsInOrder, IsRunAt, IsRunSomewhere};
 ghost use Rattle.replay_one.specs.Told.{notes_by};
 
 use crate::bounds::Bounds;
@@ -37,6 +37,7 @@ impl Machine {
     ) -> Result<(), AllocError>
         requires ascending { IsAscending bounds.now }
         requires running { IsRunSomewhere bounds.now self.old }
+        requires order { IsInOrder self.old }
         ensures runs { (program : Tree) (c : Configuration) →
             IsRunAt bounds.now self.old program c →
             let d = steps_from total (lists_within bounds.now) (count_within bounds.now) c in
@@ -44,6 +45,7 @@ impl Machine {
         ensures told { (program : Tree) (c : Configuration) (xs : List NoteShape) →
             IsRunAt bounds.now self.old program c → N.tells notes.old xs →
             OnOk result (N.tells notes.new (xs ++ notes_by bounds.now total c)) }
+        ensures order { OnOk result (IsInOrder self.new) }
     {
         let mut left = total;
         while left > 0 {

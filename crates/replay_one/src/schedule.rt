@@ -6,9 +6,7 @@ ghost use Rattle.std.specs.Prelude.{
   ℕ,
   false,
   true,
-  IfSome,
   List,
-  MatchOption,
   None,
   OnOk,
   Some,
@@ -18,12 +16,14 @@ ghost use Rattle.asp_model.specs.Names.{Name, Text};
 ghost use Rattle.asp_model.specs.Shapes.{future_shape};
 ghost use Rattle.asp_model.specs.Term.{has_text};
 ghost use Rattle.def_journals.specs.Journals.{number_of};
+ghost use Rattle.replay_population.specs.Roster.{IsRoster};
+ghost use Rattle.replay_one.specs.Ready.{Ascend};
 ghost use Rattle.replay_one.specs.Schedule.{
   HasPlace,
-  IsFewerIn,
+  IsFewerAfter,
+  IsLeastIn,
   IsMoreReady,
   IsNoted,
-  IsTaken,
   IsWatch,
   IsWatching,
   asks_at,
@@ -36,11 +36,12 @@ ghost use Rattle.replay_one.specs.Schedule.{
   sends_in,
 };
 
-use asp_model::{ActivityName, FutureName, Label};
+use crate::ready::{Least, Ready};
+use asp_model::{FutureName, Label};
 use replay_population::Roster;
 use serve_rules::LabelSet;
 use std::alloc::{AllocError, Global};
-use std::collections::{BTreeMap, BTreeSet};
+use std::collections::BTreeMap;
 
 /// What one who rests is noted to wait for, beside a future.
 #[derive(Drop)]
@@ -52,34 +53,37 @@ pub enum Watch {
     Holds(u32),
 }
 
-/// The names of those who may be able to step. Of the others, by their numbers: those who wait for
+/// Who may be able to step. Of the others, by their numbers: those who wait for
 /// each awaited future, the labels that each server asks for, and in whose log each is not next
 /// that is held at a send or at a poll.
 #[derive(Drop)]
 pub struct Schedule {
-    pub ready: BTreeSet<ActivityName>,
+    pub ready: Ready,
     awaiting: BTreeMap<FutureName, Vec<u32>>,
     watches: Vec<Watch>,
 }
 
 impl Schedule {
-    /// Nobody is ready.
-    pub fn new(alloc: Global) -> Schedule {
+    /// Nobody is ready. The names of so many numbers ascend.
+    pub fn new(alloc: Global, ordered: u32) -> Schedule
+        ensures ordered { result.ready.ordered ≡ ordered }
+    {
         Schedule {
-            ready: BTreeSet::new(alloc),
+            ready: Ready::new(alloc, ordered),
             awaiting: BTreeMap::new(alloc),
             watches: Vec::new(alloc),
         }
     }
 
     /// The least of those who are ready, who is so no more.
-    pub fn take_least(&mut self) -> Option<ActivityName>
-        ensures taken { (ns : List Name) → MatchOption result
-            ((m : Name) → ready_in (seen ns self.old) m ≡ false)
-            (λ n. IsTaken (seen ns self.old) n (seen ns self.new)) }
-        ensures fewer { IfSome result (λ n. IsFewerIn self.old self.new) }
+    pub fn take_least(&mut self, roster: &Roster) -> Least
+        requires sound { IsRoster roster.now }
+        requires ascending { Ascend self.old.ready.ordered roster.now }
+        ensures taken { IsLeastIn roster.now self.old result self.new }
+        ensures fewer { IsFewerAfter self.old result self.new }
+        ensures ordered { self.new.ready.ordered ≡ self.old.ready.ordered }
     {
-        self.ready.pop_first()
+        self.ready.take_least(roster)
     }
 
     /// One is ready.
@@ -89,9 +93,9 @@ impl Schedule {
             OnOk result (IsMoreReady (seen ns self.old) None (seen ns self.new)) }
         ensures ready { (n : Name) → number_of n roster.now ≡ Some number →
             OnOk result (ready_in (seen roster.now self.new) n ≡ true) }
+        ensures ordered { OnOk result (self.new.ready.ordered ≡ self.old.ready.ordered) }
     {
-        self.ready.insert(roster.name(number).copy(alloc)?)?;
-        Ok(())
+        self.ready.add(alloc, roster, number)
     }
 
     /// Who waits for a future is noted there.
@@ -166,6 +170,7 @@ impl Schedule {
         ensures ready { (n : Name) → number_of n roster.now ≡ Some number →
             asks_in (seen roster.now self.old) n label.now.text ≡ true →
             OnOk result (ready_in (seen roster.now self.new) n ≡ true) }
+        ensures ordered { OnOk result (self.new.ready.ordered ≡ self.old.ready.ordered) }
     {
         if !self.asks(number, label) {
             return Ok(());
@@ -201,6 +206,7 @@ impl Schedule {
             number_of m roster.now ≡ Some to →
             sends_in (seen roster.now self.old) n m ≡ true →
             OnOk result (ready_in (seen roster.now self.new) n ≡ true) }
+        ensures ordered { OnOk result (self.new.ready.ordered ≡ self.old.ready.ordered) }
     {
         if !self.sends(number, to) {
             return Ok(());
@@ -233,6 +239,7 @@ impl Schedule {
         ensures ready { (m : Name) → let ns = roster.now in
             noted_in (seen ns self.old) (future_shape future.now) m ≡ true →
             OnOk result (ready_in (seen ns self.new) m ≡ true) }
+        ensures ordered { OnOk result (self.new.ready.ordered ≡ self.old.ready.ordered) }
     {
         match self.awaiting.remove(future) {
             None => Ok(()),
@@ -251,6 +258,7 @@ impl Schedule {
         ensures ready { (m : Name) (k : ℕ) → number_of m roster.now ≡ Some k →
             has_number k numbers.items ≡ true →
             OnOk result (ready_in (seen roster.now self.new) m ≡ true) }
+        ensures ordered { OnOk result (self.new.ready.ordered ≡ self.old.ready.ordered) }
     {
         while let Some(number) = numbers.pop() {
             if (number as usize) < roster.len() {

@@ -1,4 +1,4 @@
-use Rattle.std.proofs.Common.{◌≡◌, ◌∙◌, true, Some, None, OnOk, List, ap, slice_get, sym, subst}
+use Rattle.std.proofs.Common.{◌≡◌, ◌∙◌, true, Some, None, OnOk, List, refl, ap, slice_get, sym, subst}
 use Rattle.asp_model.specs.Names.{Name}
 use Rattle.request_queue.specs.Requests.{request_shape}
 use Rattle.asp_model.specs.Configuration.{Configuration}
@@ -29,6 +29,7 @@ returns-in-Nothing c =
       handed_on = λ k e n has h. nothing_handed p n k e (lists_within c.args.bounds.now) s (subst (λ g. IsGiving p n g k e) c.in-Nothing.is h);
       leads = λ j m h. h;
       passed = λ m j h. h;
+      ordered = refl;
     }
 
 pub wake-requires : goal.wake-requires
@@ -58,6 +59,7 @@ returns-in_ok-made-in-Made c =
           c.wake.ensures.more c.wake.ensures.ready;
       leads = any_way c.wake.result _ entered.leads;
       passed = any_way c.wake.result _ c.in_ok-made-in-Made.ensures.passed;
+      ordered = c.wake.ensures.ordered;
     }
 
 pub unreachable-requires : goal.unreachable-requires
@@ -108,6 +110,7 @@ returns-in_ok-send-in-Sent c =
           c.wake_next.ensures.more (λ m x. next m x.0 x.1);
       leads = any_way c.wake_next.result _ (λ j m h. ap (λ (ns : List Name). slice_get ns j) roster ∙ h);
       passed = any_way c.wake_next.result _ c.in_ok-send-in-Sent.ensures.passed;
+      ordered = on_ok c.wake_next.result _ _ (λ e. e ∙ c.in_ok-wake_server-in-Sent.ensures.ordered) c.wake_next.ensures.ordered;
     }
 
 pub send-requires : goal.send-requires
@@ -144,6 +147,7 @@ returns-in_ok-wake_noted-in-Filled c =
           filled_handed p n k e (lists_within c.args.bounds.now) s now f v (subst (λ g. IsGiving p n g k e) c.in-Filled.is h) (subst (IsMoreReady s _) (sym same) c.in_ok-wake_noted-in-Filled.ensures.more) (λ m a. subst (λ (w : Seen). ready_in w m ≡ true) (sym same) (c.in_ok-wake_noted-in-Filled.ensures.ready m a))) c.fill.ensures.roster;
       leads = on_ok c.fill.result _ _ (λ (roster : q.roster ≡ p.roster) j m h. ap (λ (ns : List Name). slice_get ns j) roster ∙ h) c.fill.ensures.roster;
       passed = c.fill.ensures.passed;
+      ordered = any_way c.fill.result _ c.in_ok-wake_noted-in-Filled.ensures.ordered;
     }
 
 pub returns-in-Polled : goal.returns-in-Polled
@@ -167,4 +171,5 @@ returns-in-Polled c =
           c.wake_next-in-Polled.ensures.more (λ m x. next m x.0 x.1);
       leads = any_way c.wake_next-in-Polled.result _ (λ j m h. h);
       passed = any_way c.wake_next-in-Polled.result _ (λ m j h. h);
+      ordered = c.wake_next-in-Polled.ensures.ordered;
     }

@@ -1,4 +1,4 @@
-use Rattle.std.proofs.Common.{◌≡◌, ◌<◌, ◌∙◌, true, None, Some, List, length, sym, ap, subst, ⊎_elim, arith}
+use Rattle.std.proofs.Common.{ℕ, ◌≡◌, ◌<◌, ◌∙◌, true, None, Some, List, length, sym, ap, subst, ⊎_elim, arith}
 use Rattle.std.proofs.lemmas.Bool.{cases_lt}
 use Rattle.asp_model.specs.Names.{Name}
 use Rattle.def_journals.specs.Journals.{number_of}
@@ -6,6 +6,7 @@ use Rattle.replay_population.specs.declared.population.Population.{Population}
 use Rattle.replay_population.proofs.RosterLemmas.{number_within}
 use Rattle.replay_one.specs.declared.schedule.Schedule.{Schedule}
 use Rattle.replay_one.specs.Schedule.{IsMoreReady, ready_in, seen}
+use Rattle.replay_one.specs.Ready.{Ascend}
 use Rattle.replay_one.proofs.RunLemmas.{roused}
 use Rattle.replay_one.proofs.round.Machine.rouse.Goals as goal
 
@@ -27,6 +28,7 @@ loop-number-preserved c =
           let same : k ≡ i = omega (arith, lt, here) in
           subst (λ (ns : List Name). ready_in (seen ns new) n ≡ true) names (c.in_ok-wake.ensures.ready n (ap (number_of n) names ∙ has ∙ ap Some same)))
           (cases_lt k i)),
+      c.in_ok-wake.ensures.ordered ∙ was.3,
     )
 
 pub returns : goal.returns
@@ -41,4 +43,10 @@ returns c = record {
       (λ n j has.
       let lt : j < length p.roster = number_within p.roster n j has in
       subst (λ (ns : List Name). ready_in (seen ns s) n ≡ true) (sym names) (was.2 n j has (omega (arith, lt, c.loop-number-test.false, c.len-number-end.ensures.len))));
+  order = λ h.
+      let p : Population = c.args.self.now.population in
+      let q : Population = c.loop-number.self.population in
+      let was = c.loop-number.invariant in
+      let names : q.roster ≡ p.roster = ap (λ (r : Population). r.roster) was.0 in
+      subst (λ (o : ℕ). Ascend o q.roster) (sym was.3) (subst (λ (ns : List Name). Ascend c.args.self.now.schedule.ready.ordered ns) (sym names) h);
 }

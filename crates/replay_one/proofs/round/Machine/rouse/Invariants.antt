@@ -13,3 +13,4 @@ invariant-loop-number l =
     (l.self.population ≡ record p { passed = l.self.population.passed })
     × ((n : Name) → passed_in l.self.population n ≡ None)
     × ((n : Name) (k : ℕ) → number_of n p.roster ≡ Some k → k < l.number → ready_in (seen p.roster l.self.schedule) n ≡ true)
+    × (l.self.schedule.ready.ordered ≡ l.initial.self.schedule.ready.ordered)

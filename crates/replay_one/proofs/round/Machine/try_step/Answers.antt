@@ -19,6 +19,7 @@ use Rattle.asp_model.specs.Intent.{Acts}
 use Rattle.step_activity.specs.Effects.{IsGiven}
 use Rattle.replay_one.specs.Notes.{notes_of}
 use Rattle.replay_one.proofs.LookLemmas.{awaits_there}
+use Rattle.replay_one.proofs.ReadyLemmas.{ascend_on}
 use Rattle.replay_population.proofs.GivingLemmas.{reached_hand_on}
 use Rattle.replay_population.proofs.EndLemmas.{reached_closed}
 use Rattle.replay_one.proofs.RunLemmas.{awaits_round, but_reached, holds_round, leaves_round, numbered_on, passing_run, serves_round, step_noted, steps_round}
@@ -161,3 +162,13 @@ returns-in_ok-wake-in-Steps-clause-told g c = λ program k n xs has h t.
     let told = c.in_ok-tell-in-Steps.ensures.told xs x.activity x.effect t known (subst (λ (w : Name). IsGiven w x.effect c.in_ok-given-in-Steps.given) (sym name) acts.0) in
     let next = returns-in_ok-wake-in-Steps-clause-tried g c program k n has h in
     subst (λ ys. g.N.Notes.tells c.tell.new.notes (xs ++ ys)) (ap (λ (w : Name). notes_of w x.activity (Acts x.effect)) name ∙ sym (step_noted b program k n m x next.0 h next.1)) told
+
+pub returns-in_ok-wake-in-Steps-clause-order : goal.returns-in_ok-wake-in-Steps-clause-order
+returns-in_ok-wake-in-Steps-clause-order g c = λ h.
+    let r = c.requires.running in
+    let m : Machine = c.args.self.now in
+    let ns : List Name = m.population.roster in
+    let q : Population = c.give.new.self.population in
+    ascend_on m.schedule.ready.ordered c.wake.new.self.ready.ordered ns q.roster r.4.run.population.roster
+    (λ j x e. c.in_ok-give-in-Steps.ensures.leads j x (ap (λ (ms : List Name). slice_get ms j) c.in_ok-given-in-Steps.ensures.roster ∙ e))
+    (c.in_ok-wake-in-Steps.ensures.ordered ∙ c.in_ok-give-in-Steps.ensures.ordered) h

@@ -8,6 +8,7 @@ abbrev pub invariant-loop-number : goal.invariant-loop-number
 invariant-loop-number l =
     IsMoreReady (seen l.roster l.initial.self) None (seen l.roster l.self)
     × ((m : Name) (k : ℕ) → number_of m l.roster ≡ Some k → has_number k l.fn.numbers.items ≡ true → (has_number k l.numbers.items ≡ true) ⊎ (ready_in (seen l.roster l.self) m ≡ true))
+    × (l.self.ready.ordered ≡ l.initial.self.ready.ordered)
 
 abbrev pub decreases-loop-number : goal.decreases-loop-number
 decreases-loop-number l = vec_len l.numbers
