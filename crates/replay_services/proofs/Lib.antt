@@ -3,3 +3,4 @@ pub mod ListenerLemmas
 pub mod EntryLemmas
 pub mod ServicesLemmas
 pub mod CompareLemmas
+pub mod ReportLemmas

@@ -2,3 +2,4 @@
 pub mod Heard
 pub mod Listeners
 pub mod Compares
+pub mod Reports

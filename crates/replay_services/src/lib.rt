@@ -10,5 +10,5 @@ mod listener;
 mod replays;
 
 pub use compares::{Comparison, compare};
-pub use laws::notes_tell;
+pub use laws::{notes_tell, same_runs_show_alike};
 pub use replays::{ServicesRun, replay_services};
