@@ -1,0 +1,142 @@
+-- How a call ends, from what was found and what was told.
+use Rattle.std.proofs.Common.{◌≡◌, ℕ, Bool, true, false, List, Option, Some, None, Result, Ok, Err, IfOk, IfErr, refl, sym, ap, subst, ◌∙◌, inl, inr, arith}
+use Rattle.asp_model.specs.Marked.{Marked, plain}
+use Rattle.asp_model.specs.Term.{Tree}
+use Rattle.law_chases.proofs.FutureLemmas.{some_is, true_false}
+use Rattle.law_families.specs.Families.{IsComplete}
+use Rattle.asp_top.specs.declared.prepare.Prepared.{Prepared}
+use Rattle.asp_top.specs.Ready.{WrittenOf, text_in}
+use Rattle.asp_top.specs.Ended.{IsEnded}
+use Rattle.asp_top.specs.Programs.{IsInFile}
+use Rattle.asp_top.specs.Refusals.{Diverges, LongProgram, LongReport, NoMemory, NoProgram, NoReport, Refusal, Unchecked, Unread, Usage, message_of, status_of_refusal}
+use Rattle.asp_top.specs.Seen.{Call, IsUntouched, Outside, Takes}
+use Rattle.asp_top.specs.Stops.{refusal_of}
+use Rattle.outcomes_top.specs.declared.halt.Halt.{Halt}
+use Rattle.outcomes_top.specs.declared.halt.Halt.TheVariants as halts
+use Rattle.outcomes_top.specs.Endings.{Ends, IsAnswer, IsCause, OfFile, OfHelp, OfMemory, OfReport, OfTask, OfWords, Refused, Unheard, Unwritten, Written}
+use Rattle.outcomes_top.specs.Correct.{Answers, Completes, Found, IsWhole, Tells, TellsAll, TellsOne}
+use Rattle.outcomes_top.specs.Families.{status_of_family, text_of_family}
+use Rattle.outcomes_words.specs.Words.{TaskShape, is_taken, task_of}
+use Rattle.outcomes_top.specs.Surveys.{Halts, HaltsAt, HaltsFor, IsToldBy, IsToldOf, message_for, status_for}
+
+ends_told : (c : Call) (result : ℕ) (message : List ℕ) (status : ℕ) → IsCause c.words c.outside message status → IsUntouched c.out → IsToldBy c.err message status result → Ends c result
+ends_told c result message status h u (inl t) = Refused message (subst (IsCause c.words c.outside message) (sym t.0) h) u t.1
+ends_told c result message status h u (inr t) = Unheard message status h u t.1 t.0
+
+pub ends_halted : (c : Call) (result : ℕ) (h : Halt) → Halts c.words c.outside h → IsUntouched c.out → IsToldOf h c.err result → Ends c result
+ends_halted c result h cause u (inl t) = ends_told c result (message_for h) (status_for h) cause u t
+ends_halted c result h cause u (inr t) = ends_told c result (message_of NoMemory) (status_of_refusal NoMemory) (OfMemory refl refl) u t
+
+pub ends_written : (c : Call) (result : ℕ) (p : Prepared) → IsAnswer c.words c.outside (text_in p) p.status → WrittenOf c.out c.err p result → Ends c result
+ends_written c result p a (inl t) = Written (text_in p) (subst (IsAnswer c.words c.outside (text_in p)) (sym t.0) a) t.1 t.2
+ends_written c result p a (inr t) = Unwritten (text_in p) p.status a t.1 t.2 t.0
+
+-- A call that ends with 0, 1 or 4
+
+not_at : {A : Type 0} (status n : ℕ) → IsEnded status → status ≡ n → (n ≡ 0 → ⊥) → (n ≡ 1 → ⊥) → (n ≡ 4 → ⊥) → A
+not_at status n (inl h) e a b c = absurd (a (sym e ∙ h))
+not_at status n (inr (inl h)) e a b c = absurd (b (sym e ∙ h))
+not_at status n (inr (inr h)) e a b c = absurd (c (sym e ∙ h))
+
+not_two : {A : Type 0} (status : ℕ) → IsEnded status → status ≡ 2 → A
+not_two status h e = not_at status 2 h e (λ p. omega (arith, p)) (λ p. omega (arith, p)) (λ p. omega (arith, p))
+
+not_three : {A : Type 0} (status : ℕ) → IsEnded status → status ≡ 3 → A
+not_three status h e = not_at status 3 h e (λ p. omega (arith, p)) (λ p. omega (arith, p)) (λ p. omega (arith, p))
+
+not_five : {A : Type 0} (status : ℕ) → IsEnded status → status ≡ 5 → A
+not_five status h e = not_at status 5 h e (λ p. omega (arith, p)) (λ p. omega (arith, p)) (λ p. omega (arith, p))
+
+not_six : {A : Type 0} (status : ℕ) → IsEnded status → status ≡ 6 → A
+not_six status h e = not_at status 6 h e (λ p. omega (arith, p)) (λ p. omega (arith, p)) (λ p. omega (arith, p))
+
+not_seven : {A : Type 0} (status : ℕ) → IsEnded status → status ≡ 7 → A
+not_seven status h e = not_at status 7 h e (λ p. omega (arith, p)) (λ p. omega (arith, p)) (λ p. omega (arith, p))
+
+not_eight : {A : Type 0} (status : ℕ) → IsEnded status → status ≡ 8 → A
+not_eight status h e = not_at status 8 h e (λ p. omega (arith, p)) (λ p. omega (arith, p)) (λ p. omega (arith, p))
+
+not_nine : {A : Type 0} (status : ℕ) → IsEnded status → status ≡ 9 → A
+not_nine status h e = not_at status 9 h e (λ p. omega (arith, p)) (λ p. omega (arith, p)) (λ p. omega (arith, p))
+
+not_refused : {A : Type 0} (status : ℕ) (r : Refusal) → IsEnded status → status ≡ status_of_refusal r → A
+not_refused status Usage h e = not_two status h e
+not_refused status (Unread name) h e = not_six status h e
+not_refused status LongProgram h e = not_three status h e
+not_refused status (NoProgram fault) h e = not_three status h e
+not_refused status (Unchecked fault) h e = not_three status h e
+not_refused status LongReport h e = not_nine status h e
+not_refused status (NoReport line) h e = not_nine status h e
+not_refused status (Diverges activity) h e = not_nine status h e
+not_refused status NoMemory h e = not_eight status h e
+
+not_caused : {A : Type 0} (words : List (List ℕ)) (o : Outside) (message : List ℕ) (status : ℕ) → IsEnded status → IsCause words o message status → A
+not_caused words o message status h (OfWords a m e) = not_two status h e
+not_caused words o message status h (OfMemory m e) = not_eight status h e
+not_caused words o message status h (OfFile task a r c m e) = not_refused status r h e
+not_caused words o message status h (OfReport task a program g number r f m e) = not_two status h e
+
+whole_told : (c : Call) (task : TaskShape) (text : List ℕ) (status : ℕ) (program : Marked) → IsInFile c.outside task.file program → (f : Found (plain program))
+    → text ≡ text_of_family task.depth (plain program) f.whole f.ends → status ≡ status_of_family (plain program) f.whole f.ends
+    → IsEnded status → Takes c.out text → IsUntouched c.err → IsWhole c task status
+whole_told c task text status program given f told is ended takes untouched = by f.whole f.family.complete told is
+  where
+    by : (b : Bool) → (b ≡ true → IsComplete (plain program) f.ends) → text ≡ text_of_family task.depth (plain program) b f.ends → status ≡ status_of_family (plain program) b f.ends → IsWhole c task status
+    by true complete told is = record {
+      program = program;
+      given = given;
+      ends = f.ends;
+      complete = complete refl;
+      status_is = is;
+      written = subst (Takes c.out) told takes;
+      silent = untouched;
+    }
+    by false complete told is = not_five status ended is
+
+told_all : (depth : Option ℕ) (program : Tree) (report : Option ℕ) (text : List ℕ) (status : ℕ) → report ≡ None → Tells depth program report text status → TellsAll depth program text status
+told_all depth program None text status e h = h
+told_all depth program (Some number) text status e h = absurd cc
+
+pub ends_complete : (c : Call) (status : ℕ) → Ends c status → Completes c status
+ends_complete c status (Written text (OfTask task asked a) takes untouched) other taken asks none ended =
+    let same : task ≡ other = some_is (sym asked ∙ asks) in
+    let tells = told_all task.depth (plain a.0) task.report text status (ap (λ (t : TaskShape). t.report) same ∙ none) a.2 in
+    subst (λ (t : TaskShape). IsWhole c t status) same
+    (whole_told c task text status a.0 a.1 tells.0 tells.1 tells.2 ended takes untouched)
+ends_complete c status (Written text (OfHelp not_taken e) takes untouched) other taken asks none ended = absurd (true_false (is_taken c.words) taken not_taken)
+ends_complete c status (Refused message cause u t) other taken asks none ended = not_caused c.words c.outside message status ended cause
+ends_complete c status (Unheard message code cause u t e) other taken asks none ended = not_seven status ended e
+ends_complete c status (Unwritten text code a t u e) other taken asks none ended = not_seven status ended e
+
+-- What there is to tell of a task
+
+pub answers_of : (o : Outside) (task : TaskShape) (r : Result Prepared Halt) (program : Marked) → IsInFile o task.file program
+    → IfOk r (λ p. Tells task.depth (plain program) task.report (text_in p) p.status) → IfOk r (λ p. Answers o task (text_in p) p.status)
+answers_of o task (Ok p) program given h = (program, given, h)
+answers_of o task (Err s) program given h = tt
+
+pub halts_of : (o : Outside) (task : TaskShape) (r : Result Prepared Halt) (program : Marked) → IsInFile o task.file program
+    → IfErr r (HaltsAt task.depth (plain program) task.report) → IfErr r (HaltsFor o task)
+halts_of o task (Ok p) program given h = tt
+halts_of o task (Err s) program given h = inr (program, given, h)
+
+pub answers_task : (words : List (List ℕ)) (o : Outside) (task : TaskShape) (r : Result Prepared Halt) → task_of words ≡ Some task
+    → IfOk r (λ p. Answers o task (text_in p) p.status) → IfOk r (λ p. IsAnswer words o (text_in p) p.status)
+answers_task words o task (Ok p) asked h = OfTask task asked h
+answers_task words o task (Err s) asked h = tt
+
+halts_at : (words : List (List ℕ)) (o : Outside) (task : TaskShape) (h : Halt) (program : Marked) → task_of words ≡ Some task → IsInFile o task.file program → HaltsAt task.depth (plain program) task.report h → Halts words o h
+halts_at words o task halts.Usage program asked given at = absurd at
+halts_at words o task (halts.Stop s) program asked given at = OfMemory (ap message_of at) (ap status_of_refusal at)
+halts_at words o task (halts.NoOutcome n) program asked given at = OfReport task asked program given n at.0 at.1 refl refl
+
+pub halts_task : (words : List (List ℕ)) (o : Outside) (task : TaskShape) (r : Result Prepared Halt) → task_of words ≡ Some task → IfErr r (HaltsFor o task) → IfErr r (Halts words o)
+halts_task words o task (Ok p) asked h = tt
+halts_task words o task (Err s) asked (inl f) = subst (Halts words o) (sym f.1) (OfFile task asked (refusal_of f.0) f.2 refl refl)
+halts_task words o task (Err s) asked (inr f) = halts_at words o task s f.0 asked f.1 f.2
+
+pub tells_all : (depth report : Option ℕ) (program : Tree) {E : Type 0} (r : Result Prepared E) → report ≡ None → IfOk r (λ p. TellsAll depth program (text_in p) p.status) → IfOk r (λ p. Tells depth program report (text_in p) p.status)
+tells_all depth report program r e h = subst (λ (o : Option ℕ). IfOk r (λ p. Tells depth program o (text_in p) p.status)) (sym e) h
+
+pub tells_one : (depth report : Option ℕ) (program : Tree) {E : Type 0} (r : Result Prepared E) (n : ℕ) → report ≡ Some n → IfOk r (λ p. TellsOne depth program n (text_in p) p.status) → IfOk r (λ p. Tells depth program report (text_in p) p.status)
+tells_one depth report program r n e h = subst (λ (o : Option ℕ). IfOk r (λ p. Tells depth program o (text_in p) p.status)) (sym e) h

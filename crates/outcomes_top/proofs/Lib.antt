@@ -1,0 +1,3 @@
+pub mod FamilyLemmas
+pub mod JoinedLemmas
+pub mod EndsLemmas

@@ -1,0 +1,6 @@
+-- in reading order
+pub mod Families
+pub mod Correct
+pub mod Endings
+pub mod Joined
+pub mod Surveys

@@ -1,0 +1,210 @@
+//! What a call tells, up to the writing.
+
+ghost use Rattle.std.specs.Prelude.{◌≡◌, ◌≤◌, ℕ, Option, IfOk, IfErr, Some, length, map, string_bytes, true, ◌-◌};
+ghost use Rattle.asp_model.specs.declared.limits.TheConstants.{MOST_REDUCTIONS};
+ghost use Rattle.asp_model.specs.Shapes.{tree_of};
+ghost use Rattle.asp_top.specs.Ready.{text_in};
+ghost use Rattle.asp_top.specs.Seen.{bytes_of, outside};
+ghost use Rattle.outcome_search.specs.Ends.{AreReplayableEnds, IsReplayableEnd, run_logs};
+ghost use Rattle.outcome_search.specs.declared.runs.Stop.TheVariants as endings;
+ghost use Rattle.replay_offers.specs.Programs.{tree_in};
+ghost use Rattle.outcomes_words.specs.Shapes.{task_shape};
+ghost use Rattle.outcomes_words.specs.Words.{IsWithin};
+ghost use Rattle.outcomes_top.specs.Correct.{Answers, Tells, TellsAll, TellsOne};
+ghost use Rattle.outcomes_top.specs.Endings.{IsAnswer};
+ghost use Rattle.asp_top.specs.declared.stop.Stop.TheVariants as stops;
+ghost use Rattle.outcomes_top.specs.declared.halt.Halt.TheVariants as halts;
+ghost use Rattle.outcomes_top.specs.Families.{IsFamily, end_of, status_with};
+ghost use Rattle.outcomes_top.specs.Surveys.{Halts, HaltsAt, HaltsFor, IsReportOf, IsSurvey};
+
+use crate::halt::Halt;
+use crate::survey::{Survey, end_at, survey_of};
+use asp_check::Checked;
+use asp_edge::Source;
+use asp_top::{Prepared, Stop, program_of, report_for};
+use outcome_search::{EndedRun, Stop as Ending, all_ends};
+use outcomes_text::tell;
+use outcomes_words::{Task, Wanted, WordsRefused, read_words};
+use replay_offers::Replays;
+use std::alloc::{AllocError, Global};
+
+/// The ends of a program.
+#[derive(Drop)]
+pub struct Family {
+    pub runs: Replays,
+    pub whole: bool,
+    pub ends: Vec<EndedRun>,
+}
+
+/// What the words ask to be told.
+pub fn answer_of<'a, S: Source>(
+    alloc: Global,
+    words: &'a [String],
+    source: &mut S,
+) -> Result<Prepared, Halt<'a>>
+    ensures answer { IfOk result (λ p. IsAnswer (bytes_of words.entry.now)
+        (outside S.told source) (text_in p) p.status) }
+    ensures halt { IfErr result (Halts (bytes_of words.entry.now) (outside S.told source)) }
+{
+    match read_words(alloc, words) {
+        Ok(Wanted::Outcomes(task)) => of_task(alloc, &task, source),
+        Ok(Wanted::Help(text)) => Ok(of_help(alloc, text)?),
+        Err(WordsRefused::Usage) => Err(Halt::Usage),
+        Err(WordsRefused::Memory) => Err(Halt::Stop(Stop::Memory)),
+    }
+}
+
+// A text of one piece.
+fn of_text(alloc: Global, text: String, status: u8) -> Result<Prepared, AllocError>
+    ensures text { IfOk result (λ p. text_in p ≡ string_bytes text) }
+    ensures status { IfOk result (λ p. p.status ≡ status) }
+{
+    let mut pieces = Vec::new(alloc);
+    pieces.push(text)?;
+    Ok(Prepared { status, pieces })
+}
+
+fn of_help(alloc: Global, text: String) -> Result<Prepared, AllocError>
+    ensures { IfOk result (λ p. p.status ≡ 0) }
+{
+    of_text(alloc, text, 0)
+}
+
+fn of_task<'a, S: Source>(
+    alloc: Global,
+    task: &Task<'a>,
+    source: &mut S,
+) -> Result<Prepared, Halt<'a>>
+    requires within { IsWithin (task_shape task.now) }
+    ensures answer { IfOk result (λ p. Answers (outside S.told source)
+        (task_shape task.now) (text_in p) p.status) }
+    ensures halt { IfErr result (HaltsFor (outside S.told source) (task_shape task.now)) }
+{
+    let checked = program_of(alloc, task.file, source)?;
+    of_program(alloc, &checked, task)
+}
+
+// What there is to tell of a program.
+fn of_program<'a>(alloc: Global, program: &Checked, task: &Task<'_>) -> Result<Prepared, Halt<'a>>
+    requires within { IsWithin (task_shape task.now) }
+    ensures answer { let tree = tree_of program.now.program.root in
+        IfOk result (λ p. Tells task.now.depth tree task.now.report (text_in p) p.status) }
+    ensures halt { let tree = tree_of program.now.program.root in
+        IfErr result (HaltsAt task.now.depth tree task.now.report) }
+{
+    let family = family_of(alloc, program, task.budget, task.most as usize)?;
+    let survey = survey_of(alloc, &family.runs, &family.ends, task.depth)?;
+    match task.report {
+        None => Ok(all(alloc, &family, &survey)?),
+        Some(number) => one(alloc, &family, &survey, number, task.depth),
+    }
+}
+
+// Whether a search found all.
+fn is_whole(stop: &Ending) -> bool
+    ensures whole { result ≡ true → stop.now ≡ endings.Complete }
+{
+    match stop {
+        Ending::Complete => true,
+        Ending::Most | Ending::Unended(_) => false,
+    }
+}
+
+// The ends of a program, found within a budget for each.
+fn family_of(
+    alloc: Global,
+    program: &Checked,
+    budget: u64,
+    most: usize,
+) -> Result<Family, AllocError>
+    requires within { budget ≤ MOST_REDUCTIONS }
+    ensures tree { IfOk result (λ f. tree_in f.runs ≡ tree_of program.now.program.root) }
+    ensures ends { IfOk result
+        (λ f. AreReplayableEnds (tree_in f.runs) (map run_logs f.ends.items)) }
+    ensures family { IfOk result
+        (λ f. IsFamily (tree_in f.runs) f.whole (map run_logs f.ends.items)) }
+{
+    let mut runs = Replays::new(alloc, program, budget)?;
+    let found = all_ends(alloc, &mut runs, most)?;
+    Ok(Family {
+        runs,
+        whole: is_whole(&found.stop),
+        ends: found.ends,
+    })
+}
+
+fn count(ends: &[EndedRun]) -> usize
+    ensures { result ≡ length ends.now }
+{
+    ends.len()
+}
+
+fn status_for(whole: bool, worst: u8) -> u8
+    ensures { result ≡ status_with whole worst }
+{
+    if whole { worst } else { 5 }
+}
+
+// All outcomes.
+fn all(alloc: Global, family: &Family, survey: &Survey) -> Result<Prepared, AllocError>
+    requires family { let ends = map run_logs family.now.ends.items in
+        IsFamily (tree_in family.now.runs) family.now.whole ends }
+    ensures all { (depth : Option ℕ) →
+        IsSurvey depth (tree_in family.now.runs) (map run_logs family.now.ends.items) survey.now →
+        IfOk result (λ p. TellsAll depth (tree_in family.now.runs) (text_in p) p.status) }
+{
+    let ends = count(&family.ends);
+    let text = tell(alloc, family.whole, ends, survey.longest, &survey.tally)?;
+    let status = status_for(family.whole, survey.worst);
+    of_text(alloc, text, status)
+}
+
+// The place of an outcome by its number.
+fn place_of(number: u64) -> usize
+    ensures { result ≡ number - 1 }
+{
+    if number == 0 {
+        return 0;
+    }
+    (number - 1) as usize
+}
+
+// The report of an ended run.
+fn report_of<'a>(
+    alloc: Global,
+    runs: &Replays,
+    end: &EndedRun,
+    depth: Option<u32>,
+) -> Result<Prepared, Halt<'a>>
+    requires end { IsReplayableEnd (tree_in runs.now) (run_logs end.now) }
+    ensures report { let c = end_of (tree_in runs.now) (run_logs end.now) in
+        IfOk result (λ p. IsReportOf depth c (text_in p) p.status) }
+    ensures halt { IfErr result (λ h. h ≡ halts.Stop stops.Memory) }
+{
+    let run = runs.replay(alloc, end)?;
+    Ok(report_for(alloc, &run, depth)?)
+}
+
+// The report of the first end of an outcome.
+fn one<'a>(
+    alloc: Global,
+    family: &Family,
+    survey: &Survey,
+    number: u64,
+    depth: Option<u32>,
+) -> Result<Prepared, Halt<'a>>
+    requires family { let ends = map run_logs family.now.ends.items in
+        IsFamily (tree_in family.now.runs) family.now.whole ends }
+    requires ends { AreReplayableEnds (tree_in family.now.runs) (map run_logs family.now.ends.items) }
+    requires survey { let ends = map run_logs family.now.ends.items in
+        IsSurvey depth (tree_in family.now.runs) ends survey.now }
+    ensures answer { IfOk result
+        (λ p. TellsOne depth (tree_in family.now.runs) number (text_in p) p.status) }
+    ensures halt { IfErr result (HaltsAt depth (tree_in family.now.runs) (Some number)) }
+{
+    let Some((_, share)) = survey.tally.get(place_of(number)) else {
+        return Err(Halt::NoOutcome(number));
+    };
+    let end = end_at(&family.ends, share.first);
+    report_of(alloc, &family.runs, end, depth)
+}

@@ -1,0 +1,33 @@
+//! The call.
+
+ghost use Rattle.asp_top.specs.Seen.{saw};
+ghost use Rattle.outcomes_top.specs.Correct.{Completes};
+ghost use Rattle.outcomes_top.specs.Endings.{Ends};
+
+use crate::answer::answer_of;
+use crate::writing::halt;
+use asp_edge::{Sink, Source};
+use asp_top::write_prepared;
+use std::alloc::Global;
+
+/// Tells the outcomes of the program in the file that the words name: of its ends, found one by
+/// one until they are all or the search is cut off, what a user sees, and how many look so. With
+/// `--report K` it writes the report of the first end of that outcome.
+pub fn run_outcomes<S: Source, O: Sink, E: Sink>(
+    alloc: Global,
+    words: &[String],
+    source: &mut S,
+    out: &mut O,
+    err: &mut E,
+) -> u8
+    // How the call ends: the status, what the source handed out, and what `out` and `err` took.
+    ensures ends { Ends (saw S.told O.told E.told words.now source out err) result }
+
+    // The main theorem: with 0, 1 or 4 the ends that are told are all that the program has.
+    ensures complete { Completes (saw S.told O.told E.told words.now source out err) result }
+{
+    match answer_of(alloc, words, source) {
+        Ok(prepared) => write_prepared(&prepared, out, err),
+        Err(stop) => halt(alloc, &stop, err),
+    }
+}
