@@ -1,12 +1,13 @@
 #!/bin/bash
-# Runs the program on the words given: `asp`, or `asp-explain` under that name, a link to this file. It runs
-# as `rt ci` proved and built it, or without proof where it has not
+# Runs the program on the words given: `asp`, or `asp-explain` or `asp-outcomes` under that name, a link to this
+# file. It runs as `rt ci` proved and built it, or without proof where it has not
 # since the sources changed. What was built without proof is kept in out/, and runs at once until a source
 # changes. Ends with the program's status, and with 126 where there is no answer.
 set -o pipefail
 root=$(dirname "$(readlink -f "$0")")
 case ${0##*/} in
     asp-explain) name=asp-explain crate=asp_explain known=': no fault' ;;
+    asp-outcomes) name=asp-outcomes crate=asp_outcomes known='> 1' ;;
     *) name=asp crate=asp known='> 1' ;;
 esac
 program=$root/crates/$crate/out/$crate
