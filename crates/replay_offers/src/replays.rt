@@ -13,7 +13,7 @@ ghost use Rattle.outcome_search.specs.Ends.{IsEnd, IsReplayableEnd, run_logs};
 ghost use Rattle.run_ends.specs.Ends.{IsEndOf};
 ghost use Rattle.replay_population.specs.Reached.{IsReachedPopulation};
 ghost use Rattle.replay_one.specs.Bounds.{IsAscending};
-ghost use Rattle.replay_one.specs.Round.{IsRunAt};
+ghost use Rattle.replay_one.specs.Round.{IsInOrder, IsRunAt};
 ghost use Rattle.replay_offers.specs.Programs.{tree_in};
 ghost use Rattle.replay_offers.specs.Replays.{IsFreeRun, IsHeld};
 
@@ -81,6 +81,7 @@ impl Replays {
         requires ascending { IsAscending bounds.now }
         ensures start { IfOk result
             (λ m. IsRunAt bounds.now m (tree_in self.now) (start_of (tree_in self.now))) }
+        ensures order { IfOk result IsInOrder }
     {
         let code = self.code.clone()?;
         let machine = Machine::start(alloc, bounds, code)?;

@@ -34,6 +34,9 @@ run-requires-2-clause-running c =
     let d : Configuration = steps_from c.self.inside.budget (Some (lists_shape c.args.lists.now)) (count_in (counts_shape c.args.counts.now)) (start t) in
     (t, d, c.in_ok-rouse.ensures.runs (bounds.Budget c.self.inside.budget) t d (c.in_ok-run.ensures.runs t (start t) c.in_ok-machine.ensures.start) tt)
 
+pub run-requires-2-clause-order : goal.run-requires-2-clause-order
+run-requires-2-clause-order c = c.in_ok-rouse.ensures.order c.in_ok-run.ensures.order
+
 pub end-requires : goal.end-requires
 end-requires c =
     let t : Tree = tree_in c.args.self.now in

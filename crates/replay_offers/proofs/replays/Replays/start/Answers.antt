@@ -15,4 +15,5 @@ returns c = record {
       let same : term_of (arc_value c.in_ok-code.code) ≡ own = ap term_of c.in_ok-code.ensures.cases in
       let begun = begins_run c.args.bounds.now c.in_ok-machine.machine own (term_of (arc_value c.in_ok-code.code)) same c.self.invariant.bare c.in_ok-machine.ensures.population c.in_ok-machine.ensures.numbered c.in_ok-machine.ensures.ready c.in_ok-machine.ensures.passed in
       subst (λ (p : Program). IsRunAt c.args.bounds.now c.in_ok-machine.machine (tree_in p) (start (tree_in p))) c.self.view_is begun;
+  order = c.in_ok-machine.ensures.order;
 }
