@@ -1,6 +1,6 @@
 -- The trace of a core whose verdict is there.
 use Rattle.std.specs.Prelude.{◌||◌, string_bytes}
-use Rattle.std.proofs.Common.{◌≡◌, ◌≤◌, ℕ, Bool, true, false, List, [], Option, Some, None, is_some, map, refl, sym, ap, subst, ◌∙◌}
+use Rattle.std.proofs.Common.{◌+◌, arith, ◌≡◌, ◌≤◌, ℕ, Bool, true, false, List, [], Option, Some, None, is_some, map, refl, sym, ap, subst, ◌∙◌}
 use Rattle.std.specs.List.{concat, list_all}
 use Rattle.asp_model.specs.declared.limits.TheConstants.{MOST_REDUCTIONS}
 use Rattle.asp_model.specs.declared.journal.Entry.{Entry}
@@ -9,10 +9,14 @@ use Rattle.asp_model.specs.Shapes.{entry_shape, outcome_shape}
 use Rattle.asp_model.specs.Outcome.{outcome_of}
 use Rattle.asp_model.specs.Status.{VerdictShape}
 use Rattle.asp_model.specs.Status as status
-use Rattle.asp_model.specs.Term.{Tree}
+use Rattle.asp_model.specs.Term.{Tree, locations}
 use Rattle.def_journals.specs.Edges.{HoldersShape}
-use Rattle.def_journals.specs.Journals.{RunShape, run_of}
+use Rattle.def_journals.specs.Journals.{RunShape, run_of, start_of}
 use Rattle.def_journals.specs.Owed.{goes_on, is_any, next_owed, verdict_told}
+use Rattle.law_core.specs.Outcomes.{IsBudgeted}
+use Rattle.law_core.proofs.OutcomeLemmas.{journals_end, verdicts_spend}
+use Rattle.law_journals.specs.Budgets.{spent_in}
+use Rattle.law_steps.proofs.WholeLemmas.{start_is_sound}
 use Rattle.law_chases.proofs.FutureLemmas.{no_some, none_true}
 use Rattle.asp_core.specs.declared.cores.Core.{Core}
 use Rattle.asp_core.specs.Cores.{entries_of}
@@ -50,6 +54,15 @@ module _ {P : Type 0} (x : Core P) (over : IsOver x) (program : Tree) (budget : 
       let own = told_own (is_any over.run.out || (is_some (next_owed over.run x.edges.holders.holders x.edges.holders.answers) || goes_on over.run)) (status.verdict_of over.run.configuration) v told in
       verdicts_are_ends over.run x.edges.holders.holders x.edges.holders.answers (status.verdict_of over.run.configuration) own
 
+  bare : locations program ≡ []
+  bare = sym (ap (λ (h : HistoryShape). locations h.program) of) ∙ over.is.bare
+
+  spends : (v : VerdictShape) → verdict_told over.run x.edges.holders.holders x.edges.holders.answers ≡ Some v → IsBudgeted budget (outcome_of over.run.configuration)
+  spends v told =
+      let none : spent_in (start_of program).configuration + budget ≡ budget = omega arith in
+      subst (λ b. IsBudgeted b (outcome_of over.run.configuration)) none
+      (verdicts_spend (program_history program budget (entries_of x)) over.run x.edges.holders.holders x.edges.holders.answers v (start_is_sound program) lawful told).1
+
   reads : (journal : List Entry) → map entry_shape journal ≡ entries_of x → budget ≤ MOST_REDUCTIONS → list_all has_numbers (map entry_shape journal) ≡ true → read_trace (trace_of (entries_of x)) ≡ Reads (entries_of x)
   reads journal same small fit = trace_is_read (entries_of x) (journals_have_lines program budget (entries_of x) over.run lawful small (subst (λ (es : List EntryShape). list_all has_numbers es ≡ true) same fit))
 
@@ -63,4 +76,6 @@ module _ {P : Type 0} (x : Core P) (over : IsOver x) (program : Tree) (budget : 
         text = text ∙ ap trace_of same;
         read = reads journal same small fit;
         outcome = outcome;
+        replayed = journals_end program budget (entries_of x) over.run bare lawful;
+        budgeted = spends told.0 told.1;
       }
