@@ -44,6 +44,7 @@ entries_give xs (y ∷ ys) h =
     ∙ ap Reads (append_assoc xs (y ∷ []) ys)
 
 pub trace_is_read : TracesAreRead
+unfolding trace_lines
 trace_is_read entries h =
     ap (read_on before_lines 1) (parts_lines (trace_lines entries) (and_from _ _ refl (entries_lack entries)))
     ∙ one_more before_lines (among []) (codes "asp trace 1") (map entry_line entries ++ codes "end" ∷ []) (Reads entries) refl (entries_give [] entries h) 1

@@ -20,7 +20,7 @@ entry_line (Delivered (Need f to place)) =
     codes "need " ++ future_text f ++ codes " " ++ name_text to ++ codes " " ++ decimal place
 
 -- the lines of a trace, without their line feeds: a title, one for each entry, and `end`
-abbrev pub trace_lines : List EntryShape → List Text
+unfoldable pub trace_lines : List EntryShape → List Text
 trace_lines entries = codes "asp trace 1" ∷ map entry_line entries ++ codes "end" ∷ []
 
 -- the text of a trace

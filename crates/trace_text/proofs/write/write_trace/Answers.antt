@@ -7,7 +7,7 @@ use Rattle.asp_model.specs.declared.journal.Entry.{Entry}
 use Rattle.asp_model.specs.Report.{text_of, with_feed}
 use Rattle.asp_model.specs.Shapes.{entry_shape}
 use Rattle.trace_text.specs.Pieces.{text_in}
-use Rattle.trace_text.specs.Traces.{entry_line, has_numbers, trace_of}
+use Rattle.trace_text.specs.Traces.{entry_line, has_numbers, trace_lines, trace_of}
 use Rattle.trace_text.proofs.PieceLemmas.{adds, lines_more, numbers_more, text_end}
 use Rattle.trace_text.proofs.write.write_trace.Goals as goal
 
@@ -41,6 +41,7 @@ loop-entry-preserved c =
     }
 
 pub returns : goal.returns
+unfolding trace_lines
 returns c =
     let xs = c.args.journal.now in
     let i = c.loop-entry.entry-index in
