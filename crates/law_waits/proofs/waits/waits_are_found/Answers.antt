@@ -1,0 +1,5 @@
+use Rattle.law_waits.proofs.CauseLemmas.{waits_are_found}
+use Rattle.law_waits.proofs.waits.waits_are_found.Goals as goal
+
+pub returns : goal.returns
+returns c = waits_are_found

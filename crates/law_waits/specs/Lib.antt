@@ -1,0 +1,4 @@
+-- in reading order
+pub mod Courses
+pub mod Waits
+pub mod Laws
