@@ -30,11 +30,11 @@ is_serving Serving = true
 is_serving s = false
 
 -- an intent with a status other than Running rests
-abbrev is_resting : StatusShape → Bool
+abbrev pub is_resting : StatusShape → Bool
 is_resting Running = false
 is_resting s = true
 
-rests : (p : Intent) (status : StatusShape) → is_resting status ≡ true → status_of_intent p ≡ status → p ≡ Rests status
+pub rests : (p : Intent) (status : StatusShape) → is_resting status ≡ true → status_of_intent p ≡ status → p ≡ Rests status
 rests (Acts e) status is h = none_true (ap is_resting h ∙ is)
 rests (Rests s) status is h = ap Rests h
 

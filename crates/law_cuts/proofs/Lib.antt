@@ -1,0 +1,4 @@
+-- in reading order
+pub mod DemandLemmas
+pub mod WantLemmas
+pub mod CutLaws

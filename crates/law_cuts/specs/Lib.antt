@@ -1,0 +1,4 @@
+-- in reading order
+pub mod Wants
+pub mod Cuts
+pub mod Searches
