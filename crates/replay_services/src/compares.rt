@@ -35,7 +35,8 @@ fn is_unended(outcome: &Outcome) -> bool
 pub fn compare<'a>(run: &'a ServicesRun, other: &'a ServicesRun) -> Comparison<'a>
     requires ascending { NamesAscend (services_shape run.now.services) }
     requires ascending_too { NamesAscend (services_shape other.now.services) }
-    ensures tells { (program : Tree) (lists others : ListsShape) (counts other_counts : CountsShape) →
+    ensures tells { (program : Tree) (lists others : ListsShape)
+        (counts other_counts : CountsShape) →
         IsServicesRun run.now program lists counts →
         IsServicesRun other.now program others other_counts →
         Tells result program lists counts others other_counts }

@@ -138,7 +138,8 @@ fn need(
 }
 
 fn delivery(alloc: Global, delivery: Delivery) -> Result<Option<Entry>, AllocError>
-    ensures { IfOk result (λ o. option_map entry_shape o ≡ Some (Delivered (delivery_shape delivery))) }
+    ensures { IfOk result (λ o.
+        option_map entry_shape o ≡ Some (Delivered (delivery_shape delivery))) }
 {
     Ok(Some(Entry::Delivered(Box::new(alloc, delivery)?)))
 }
