@@ -1,5 +1,5 @@
 -- Least cuts: they are there, there is one, and a search on demand finds it.
-use Rattle.std.specs.Prelude.{◌≡◌, ◌≤◌, true, false, cond, List, [], ◌∷◌, ◌++◌, Option, Some, None}
+use Rattle.std.specs.Prelude.{◌≡◌, ◌≤◌, suc, true, false, cond, List, [], ◌∷◌, ◌++◌, Option, Some, None}
 use Rattle.std.proofs.Common.{refl, sym, ap, subst, ◌∙◌, arith, inl, inr, ⊎_elim, ◌⊎◌}
 use Rattle.std.proofs.lemmas.List.{append-nil}
 use Rattle.asp_model.specs.Names.{Name, main_name, same_name}
@@ -24,12 +24,14 @@ use Rattle.law_steps.proofs.MergeLemmas.{prefix_of_test, test_of_prefix}
 use Rattle.law_steps.proofs.JoinLemmas.{grown_run}
 use Rattle.law_steps.proofs.JoinLaws.{listed_runs_stay_within}
 use Rattle.law_steps.proofs.ReplayLemmas.{replays_are_runs, runs_replay}
+use Rattle.law_steps.specs.Linked.{Each}
+use Rattle.law_waits.specs.Courses.{GoesThrough}
 use Rattle.law_families.specs.Families.{RunLogs, AreBeginnings}
 use Rattle.law_families.proofs.CutLemmas.{free_run}
 use Rattle.law_cuts.specs.Wants.{wanted}
 use Rattle.law_cuts.specs.Cuts.{IsCut, CutsAreFound, CutsAreOne}
-use Rattle.law_cuts.specs.Searches.{made, Goal, ComesThere, IsOnWay, StartIsOnWay, GoalIsNeeded, NeededSteps, WantedAreNeeded, WayEnds}
-use Rattle.law_cuts.proofs.DemandLemmas.{Able, Demand, rest_after, until, finds, wants_first, least_many}
+use Rattle.law_cuts.specs.Searches.{made, Goal, ComesThere, IsOnWay, StartIsOnWay, GoalIsNeeded, NeededSteps, WantedAreNeeded, WantsEnd, WayEnds}
+use Rattle.law_cuts.proofs.DemandLemmas.{Able, Demand, rest_after, until, finds, wants_first, wanted_before, place_of, least_many}
 use Rattle.law_cuts.proofs.WantLemmas.{wants_stay}
 
 -- Runs under logs, from configurations that are reached
@@ -161,6 +163,25 @@ wanted_are_needed g c end n names way needed there rests =
           let first = wants_first m w x.names c d n z.who r not x.run more z.wants in
           omega (arith, first, x.counts z.who, was z.who, made_run g.program g.lists ms d is.0 z.who),
     )
+
+-- along wants, each of whom steps before the one that wants it in a run
+chain_falls : (program : Tree) (lists : ListsShape) (c d : Configuration) (ms : List Name) (n m : Name) (ns : List Name) → IsReached program c → RunsTo (Some lists) c ms d → 1 ≤ count (reached_machine program lists) n ms
+    → Each (λ q. step (Some lists) c q ≡ None) (n ∷ ns) → GoesThrough (wanted lists c) n ns m → suc (place_of (reached_machine program lists) (demand program lists) m ms) ≤ place_of (reached_machine program lists) (demand program lists) n ms
+unfolding demand
+chain_falls program lists c d ms n m [] r run one rest goes = wanted_before (reached_machine program lists) (demand program lists) ms c d n m r (λ able. no_some (sym rest.0 ∙ able.1)) run one goes
+chain_falls program lists c d ms n m (k ∷ ns) r run one rest goes =
+    let not : Able (reached_machine program lists) c n → ⊥ = λ able. no_some (sym rest.0 ∙ able.1) in
+    let first = wants_first (reached_machine program lists) (demand program lists) ms c d n k r not run one goes.0 in
+    omega (arith, wanted_before (reached_machine program lists) (demand program lists) ms c d n k r not run one goes.0, chain_falls program lists c d ms k m ns r run first rest.1 goes.1)
+
+pub wants_end : WantsEnd
+wants_end g c end names first others way there needed rest goes =
+    let m = reached_machine g.program g.lists in
+    let was = made_run g.program g.lists way.names c way.run in
+    let now = made_run g.program g.lists names end there.0 in
+    let v = rest_after m way.names names (start g.program) c end (start_is_reached g.program) way.run there.0 (λ q. omega (arith, was q, now q, way.below names end there q)) in
+    let one : 1 ≤ count m first v.names = omega (arith, v.counts first, was first, now first, needed names end there) in
+    absurd (omega (arith, chain_falls g.program g.lists c end v.names first first others (reached_by g.program g.lists way.names c way.run) v.run one rest goes))
 
 pub way_ends : WayEnds
 way_ends g c way has = record {

@@ -167,6 +167,32 @@ module _ (y : System) where
           omega (arith, first q, b.counts q, d.least b.names f b.run (omega (arith, b.counts n, none, h)) q, count_both y q a.names d.names);
     }
 
+    -- how many labels of a run stand before a label
+    abbrev pub place_of : y.Label → List y.Label → ℕ
+    place_of n [] = 0
+    place_of n (p ∷ ps) = either (y.alike n p) 0 (suc (place_of n ps))
+
+    place_same : (n p : y.Label) (ps : List y.Label) → n ≡ p → (s : (n ≡ p) ⊎ (n ≢ p)) → either s 0 (suc (place_of n ps)) ≡ 0
+    place_same n p ps e (inl q) = refl
+    place_same n p ps e (inr a) = absurd (a e)
+
+    place_other : (n p : y.Label) (ps : List y.Label) → n ≢ p → (s : (n ≡ p) ⊎ (n ≢ p)) → either s 0 (suc (place_of n ps)) ≡ suc (place_of n ps)
+    place_other n p ps a (inl q) = absurd (a q)
+    place_other n p ps a (inr b) = refl
+
+    -- the label that is waited for steps before the one that waits
+    pub wanted_before : (ms : List y.Label) (c f : y.State) (n m : y.Label) → y.Good c → (Able y c n → ⊥) → Run y c ms f → 1 ≤ count y n ms → w.wanted c n ≡ Some m → suc (place_of m ms) ≤ place_of n ms
+    wanted_before [] c f n m g not r h is = absurd (omega (arith, h))
+    wanted_before (p ∷ ms) c f n m g not r h is =
+        let apart : n ≢ p = λ e. not (r.0, subst (λ k. y.Step k c r.0) (sym e) r.1) in
+        let late = place_other n p ms apart (y.alike n p) in
+        ⊎_elim {C = suc (place_of m (p ∷ ms)) ≤ place_of n (p ∷ ms)}
+        (λ e. omega (arith, late, place_same m p ms e (y.alike m p)))
+        (λ a.
+        let x = w.waits c r.0 n p g not r.1 (λ e. apart (sym e)) (λ e. a (some_is (sym is ∙ e))) in
+        omega (arith, late, place_other m p ms a (y.alike m p), wanted_before ms r.0 f n m (y.keeps p c r.0 g r.1) x.0 r.2 (omega (arith, h, hit_other y n p apart)) (x.1 ∙ is)))
+        (y.alike m p)
+
     pub least_one : (k : ℕ) (ps : List y.Label) (c f : y.State) (n : y.Label) → length ps ≤ k → y.Good c → Run y c ps f → count y n ps ≡ 0 → Able y f n → LeastRun c n 1
     least_one zero ps c f n le g r none able = ⊎_elim {C = LeastRun c n 1}
         (λ x. at_once c x.0 n x.1)

@@ -15,7 +15,7 @@ use Rattle.asp_model.specs.Step.{ListsShape, reception_at, is_next, may_log, put
 use Rattle.asp_model.specs.Status.{status_of_intent, status_of}
 use Rattle.asp_model.specs.Replay.{log_in}
 use Rattle.law_steps.specs.Reached.{IsReached, IsStep, IsAt, IsThere, Steps}
-use Rattle.law_steps.specs.Kept.{Stands, mark, tally, answers_at}
+use Rattle.law_steps.specs.Kept.{Stands, IsBegun, mark, tally, answers_at}
 use Rattle.law_steps.specs.Steps.{IsPoll, Grown}
 use Rattle.law_steps.specs.Sound.{IsSound}
 use Rattle.law_chases.proofs.FutureLemmas.{no_some, some_is, none_true, future_case, future_total, future_same}
@@ -214,21 +214,33 @@ module _ (program : Tree) (lists : ListsShape) (c d : Configuration) (n m : Name
         (λ differ. Maps.find_other future_cmp future_total future_same f z.0 z.1 c.futures differ ∙ none)
         (future_case f z.0)
 
-    stays_unfilled : (f : FutureShape) → intent_in c n ≡ Rests (Awaits f) → find future_cmp f c.futures ≡ None → Stays
-    stays_unfilled f e none =
-        let st : status_of c n ≡ Awaits f = ap status_of_intent e in
-        let x = receives c f s st none in
-        let once = stands_once c s f ((sound_intents c s).awaited n f st) in
+    -- while it is another that steps than who has to answer it, the future stays unfilled
+    unfilled_after : (f : FutureShape) → IsBegun c f → find future_cmp f c.futures ≡ None → (x : Receives c f) → m ≢ x.0 → find future_cmp f d.futures ≡ None
+    unfilled_after f begun none x differs =
+        let once = stands_once c s f begun in
         let target = (once.alone x.0 x.2.0 x.2.1 x.2.2 x.2.3).0 in
-        let differs : m ≢ once.target = λ q. other (wants_as c a (Rests (Awaits f)) is e ∙ x.1 ∙ ap Some (target ∙ sym q)) in
         let y = step_taken (Some lists) c m d h in
-        let unfilled : find future_cmp f d.futures ≡ None = ap (λ z. find future_cmp f z.futures) (sym y.2) ∙ unfilled_by f y.0 (took (Some lists) c m y.0 (reached_sound program c reached) y.1) (once.nowhere m differs) none y.0.filled refl in
+        ap (λ z. find future_cmp f z.futures) (sym y.2) ∙ unfilled_by f y.0 (took (Some lists) c m y.0 (reached_sound program c reached) y.1) (once.nowhere m (λ q. differs (q ∙ sym target))) none y.0.filled refl
+
+    -- and the same one has to answer it
+    receiver_after : (f : FutureShape) → IsBegun d f → (x : Receives c f) (z : Receives d f) → z.0 ≡ x.0
+    receiver_after f begun x z =
+        let once = stands_once d t f begun in
+        let y = step_taken (Some lists) c m d h in
+        let there : Stands d x.0 x.2.0 x.2.1 = subst (λ u. Stands u x.0 x.2.0 x.2.1) y.2 (stays c m y.0 x.0 x.2.0 x.2.1 x.2.2) in
+        (once.alone z.0 z.2.0 z.2.1 z.2.2 z.2.3).0 ∙ sym (once.alone x.0 x.2.0 x.2.1 there x.2.3).0
+
+    stays_for : (f : FutureShape) → intent_in c n ≡ Rests (Awaits f) → find future_cmp f c.futures ≡ None → (x : Receives c f) → Stays
+    stays_for f e none x =
+        let st : status_of c n ≡ Awaits f = ap status_of_intent e in
+        let differs : m ≢ x.0 = λ q. other (wants_as c a (Rests (Awaits f)) is e ∙ x.1 ∙ ap Some (sym q)) in
+        let unfilled = unfilled_after f ((sound_intents c s).awaited n f st) none x differs in
         let later = awaiting_stays program c d m n a f it back is unfilled st in
         let z = receives d f t later unfilled in
-        let again = stands_once d t f ((sound_intents d t).awaited n f later) in
-        let there : Stands d x.0 x.2.0 x.2.1 = subst (λ u. Stands u x.0 x.2.0 x.2.1) y.2 (stays c m y.0 x.0 x.2.0 x.2.1 x.2.2) in
-        let same : z.0 ≡ x.0 = (again.alone z.0 z.2.0 z.2.1 z.2.2 z.2.3).0 ∙ sym (again.alone x.0 x.2.0 x.2.1 there x.2.3).0 in
-        rest_stays a (Awaits f) (Awaits f) is e (rests (intent_in d n) (Awaits f) refl later) (z.1 ∙ ap Some same ∙ sym x.1)
+        rest_stays a (Awaits f) (Awaits f) is e (rests (intent_in d n) (Awaits f) refl later) (z.1 ∙ ap Some (receiver_after f ((sound_intents d t).awaited n f later) x z) ∙ sym x.1)
+
+    stays_unfilled : (f : FutureShape) → intent_in c n ≡ Rests (Awaits f) → find future_cmp f c.futures ≡ None → Stays
+    stays_unfilled f e none = stays_for f e none (receives c f s (ap status_of_intent e) none)
 
     stays_filled : (f : FutureShape) (p : ParcelShape) → intent_in c n ≡ Rests (Awaits f) → find future_cmp f c.futures ≡ Some p → Stays
     stays_filled f p e filled =

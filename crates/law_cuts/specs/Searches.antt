@@ -1,11 +1,13 @@
 -- How a search on demand finds the least cut: it takes no step but those that every cut needs.
-use Rattle.std.specs.Prelude.{◌≡◌, ◌≤◌, ℕ, suc, List, Some, None}
+use Rattle.std.specs.Prelude.{◌≡◌, ◌≤◌, ℕ, suc, List, ◌∷◌, Some, None}
 use Rattle.asp_model.specs.Names.{Name}
 use Rattle.asp_model.specs.Term.{Tree}
 use Rattle.asp_model.specs.Configuration.{Configuration, start}
 use Rattle.asp_model.specs.Step.{ListsShape, step}
 use Rattle.asp_model.specs.Replay.{lists_of, counts_of, count_in}
 use Rattle.law_steps.specs.Reached.{RunsTo}
+use Rattle.law_steps.specs.Linked.{Each}
+use Rattle.law_waits.specs.Courses.{GoesThrough}
 use Rattle.law_cuts.specs.Wants.{wanted}
 use Rattle.law_cuts.specs.Cuts.{IsLeastCut}
 
@@ -56,6 +58,12 @@ abbrev pub WantedAreNeeded : Type 0
 WantedAreNeeded = (g : Goal) (c end : Configuration) (n : Name) (names : List Name) → IsOnWay g c → IsNeeded g c n
     → ComesThere g names end → step (Some g.lists) c n ≡ None
     → (m : Name) × (wanted g.lists c n ≡ Some m) × IsNeeded g c m
+
+-- wants do not go round a circle: those who cannot step, and each of whom wants the next, and the last the first
+abbrev pub WantsEnd : Type 0
+WantsEnd = (g : Goal) (c end : Configuration) (names : List Name) (first : Name) (others : List Name) → IsOnWay g c
+    → ComesThere g names end → IsNeeded g c first → Each (λ q. step (Some g.lists) c q ≡ None) (first ∷ others)
+    → GoesThrough (wanted g.lists c) first others first → ⊥
 
 -- a point on the way that is there is the least cut
 abbrev pub WayEnds : Type 0

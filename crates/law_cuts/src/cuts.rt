@@ -1,7 +1,7 @@
 //! Least cuts, and how a search on demand finds them.
 
 ghost use Rattle.law_cuts.specs.Cuts.{CutsAreFound, CutsAreOne};
-ghost use Rattle.law_cuts.specs.Searches.{GoalIsNeeded, NeededSteps, StartIsOnWay, WantedAreNeeded, WayEnds};
+ghost use Rattle.law_cuts.specs.Searches.{GoalIsNeeded, NeededSteps, StartIsOnWay, WantedAreNeeded, WantsEnd, WayEnds};
 
 /// Where logs and counts fit, and the count is reached, there is a least cut.
 pub fn cuts_are_found()
@@ -31,6 +31,11 @@ pub fn needed_steps()
 /// Where one is needed that cannot step, whom it wants is needed.
 pub fn wanted_are_needed()
     ensures { WantedAreNeeded }
+{}
+
+/// Wants do not go round a circle, so no activity is wanted for its own sake.
+pub fn wants_end()
+    ensures { WantsEnd }
 {}
 
 /// A point on the way that has the count is the least cut.

@@ -8,6 +8,6 @@ mod wants;
 
 pub use cuts::{
     cuts_are_found, cuts_are_one, goal_is_needed, needed_steps, start_is_on_way, wanted_are_needed,
-    way_ends,
+    wants_end, way_ends,
 };
 pub use wants::wants_stay;
