@@ -30,7 +30,8 @@ LastsAreReduced = (c : Configuration) (n : Name) (e : Effect) → IsSound c → 
 
 -- no other step may
 abbrev pub CommunicationsAreLast : Type 0
-CommunicationsAreLast = (r : ℕ) (c : Configuration) (n : Name) → communicates_next c n ≡ true → reduced (suc (suc r)) n c ≡ None
+CommunicationsAreLast = (r : ℕ) (c : Configuration) (n : Name) → communicates_next c n ≡ true
+    → reduced (suc (suc r)) n c ≡ None
 
 -- whoever rests takes no step
 abbrev pub RestsAreReduced : Type 0
@@ -40,6 +41,6 @@ RestsAreReduced = (r : ℕ) (c : Configuration) (n : Name) (status : StatusShape
 -- one who needs a value, and acts, asks others exactly if it sends or makes something: a service, a poll and the end
 -- of a service read no operand
 abbrev pub NeedersAsk : Type 0
-NeedersAsk = (chases : FutureShape → Chase) (requests : List RequestShape) (n : Name) (a : Activity) (e : Effect) (x : FutureShape × ℕ)
-    → need_of chases a ≡ Some x → intent chases requests n a ≡ Acts e
+NeedersAsk = (chases : FutureShape → Chase) (requests : List RequestShape) (n : Name) (a : Activity) (e : Effect)
+    (x : FutureShape × ℕ) → need_of chases a ≡ Some x → intent chases requests n a ≡ Acts e
     → is_communication chases a ≡ is_some e.sent || is_some e.made
