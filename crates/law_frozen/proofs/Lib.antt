@@ -1,0 +1,6 @@
+-- in reading order
+pub mod PendingLemmas
+pub mod IntentLemmas
+pub mod SameLemmas
+pub mod ShowLemmas
+pub mod FrozenLemmas

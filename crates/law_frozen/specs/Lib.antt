@@ -1,0 +1,4 @@
+-- in reading order
+pub mod Pending
+pub mod Same
+pub mod Frozen
