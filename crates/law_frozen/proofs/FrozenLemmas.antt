@@ -335,15 +335,15 @@ module _ (x : FirstShape) (first : IsFirst x) where
       by None is = no_some (sym (ap (λ l. slice_get l h.0) (received_none m is)) ∙ h.2)
       by (Some a) is = ⊎_elim
           (λ i.
-              let y = mapped_in spent h.1 (answered shape (freeze was m a)) i in
-              let z = mapped_in (λ g. g.0) y.0 _ y.1 in
-              let w = filtered_in (λ g. same_name g.1 m && not (has_future g.0 (queue_of was m))) z.0 shape.homes z.1 in
-              let same : z.0.0 ≡ f = sym z.2 ∙ ap (λ r. r.future) (sym y.2) ∙ h.3 in
-              let at : z.0.1 ≡ m = names_tied z.0.1 m (both_true (same_name z.0.1 m) _ w.1) in
-              frozen_home f m (subst (λ g. In g shape.homes) (λ j. (same j, at j)) w.0))
+          let y = mapped_in spent h.1 (answered shape (freeze was m a)) i in
+          let z = mapped_in (λ g. g.0) y.0 _ y.1 in
+          let w = filtered_in (λ g. same_name g.1 m && not (has_future g.0 (queue_of was m))) z.0 shape.homes z.1 in
+          let same : z.0.0 ≡ f = sym z.2 ∙ ap (λ r. r.future) (sym y.2) ∙ h.3 in
+          let at : z.0.1 ≡ m = names_tied z.0.1 m (both_true (same_name z.0.1 m) _ w.1) in
+          frozen_home f m (subst (λ g. In g shape.homes) (λ j. (same j, at j)) w.0))
           (λ i. let k = number_of_item (requests_of was m) h.1 (waiting_in _ 0 (requests_of was m) h.1 i) in (k.0, h.1, k.1, h.3))
           (in_either h.1 (map spent (answered shape (freeze was m a))) (queue_of was m)
-              (numbered_in _ h.0 h.1 (ap (λ l. slice_get l h.0) (sym (received_at m a is)) ∙ h.2)))
+          (numbered_in _ h.0 h.1 (ap (λ l. slice_get l h.0) (sym (received_at m a is)) ∙ h.2)))
 
   home_on : (f : FutureShape) (m : Name) → IsHome was f m → IsHome now f m
   home_on f m h = by_there (find name_cmp m was.activities) refl

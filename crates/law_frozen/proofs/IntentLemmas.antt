@@ -112,7 +112,7 @@ pub intents_same : (chases : FutureShape → Chase) (n : Name) (rs qs : List Req
     → SameIntents a.served b.served rs qs (intent chases rs n a) (intent chases qs n b)
 intents_same chases n rs qs a b alike same =
     subst (λ z. SameIntents a.served b.served rs qs (intent chases rs n a) (intent chases qs n (with_served b.served z))) alike
-        (intent_same n (bare a) a.served b.served rs qs same chases)
+    (intent_same n (bare a) a.served b.served rs qs same chases)
 
 abbrev intended : Name → Configuration → Option Activity → Intent
 intended n x o = elim o [ None ↦ Rests Done | Some a ↦ intent (chase x.futures) (requests_of x n) n a ]

@@ -77,12 +77,12 @@ boxes_same : {X : Type 0} (o : Option (Name × X)) (bs cs : List (Name × List X
 boxes_same None bs cs h m = h m
 boxes_same (Some z) bs cs h m = ⊎_elim
     (λ p. subst (λ k. or_none (find name_cmp k (with_last (Some z) bs)) ≡ or_none (find name_cmp k (with_last (Some z) cs))) (sym p)
-        (ap or_none (Maps.find_same name_cmp name_total name_same z.0 (or_none (find name_cmp z.0 bs) ++ z.1 ∷ []) bs)
-        ∙ ap (λ l. l ++ z.1 ∷ []) (h z.0)
-        ∙ sym (ap or_none (Maps.find_same name_cmp name_total name_same z.0 (or_none (find name_cmp z.0 cs) ++ z.1 ∷ []) cs))))
+    (ap or_none (Maps.find_same name_cmp name_total name_same z.0 (or_none (find name_cmp z.0 bs) ++ z.1 ∷ []) bs)
+    ∙ ap (λ l. l ++ z.1 ∷ []) (h z.0)
+    ∙ sym (ap or_none (Maps.find_same name_cmp name_total name_same z.0 (or_none (find name_cmp z.0 cs) ++ z.1 ∷ []) cs))))
     (λ a. ap or_none (Maps.find_other name_cmp name_total name_same m z.0 (or_none (find name_cmp z.0 bs) ++ z.1 ∷ []) bs a)
-        ∙ h m
-        ∙ sym (ap or_none (Maps.find_other name_cmp name_total name_same m z.0 (or_none (find name_cmp z.0 cs) ++ z.1 ∷ []) cs a)))
+    ∙ h m
+    ∙ sym (ap or_none (Maps.find_other name_cmp name_total name_same m z.0 (or_none (find name_cmp z.0 cs) ++ z.1 ∷ []) cs a)))
     (name_case m z.0)
 
 -- Homes
@@ -169,7 +169,7 @@ module _ (c : Configuration) (n : Name) (e : Effect) (t : Took c n e) where
   home_sent : (z : Name × RequestShape) → e.sent ≡ Some z → IsHome (with_effect n e c) z.1.future z.0
   home_sent z is =
       let grown : requests_of (with_effect n e c) z.0 ≡ requests_of c z.0 ++ z.1 ∷ [] =
-          ap (λ o. or_none (find name_cmp z.0 (with_last o c.received))) is ∙ ap or_none (Maps.find_same name_cmp name_total name_same z.0 (requests_of c z.0 ++ z.1 ∷ []) c.received) in
+      ap (λ o. or_none (find name_cmp z.0 (with_last o c.received))) is ∙ ap or_none (Maps.find_same name_cmp name_total name_same z.0 (requests_of c z.0 ++ z.1 ∷ []) c.received) in
       (length (requests_of c z.0), z.1, ap (λ rs. slice_get rs (length (requests_of c z.0))) grown ∙ last_one (requests_of c z.0) z.1, refl)
 
 module _ (c d : Configuration) (n : Name) (e x : Effect) (t : Took c n e) (u : Took d n x) (s : SamePending c d)
@@ -185,9 +185,9 @@ module _ (c d : Configuration) (n : Name) (e x : Effect) (t : Took c n e) (u : T
       let had : requests_of after m ≡ requests_of c m = ap (λ o. or_none (find name_cmp m (with_last o c.received))) none in
       let had_too : requests_of after_too m ≡ requests_of d m = ap (λ o. or_none (find name_cmp m (with_last o d.received))) (sym same.sent ∙ none) in
       ⊎_elim
-          (λ p. (λ i. waiting (served_at c e t m p i) (had i)) ∙ subst (λ k. waiting e.own.served (requests_of c k) ≡ waiting x.own.served (requests_of d k)) (sym p) same.waits ∙ sym (λ i. waiting (served_at d x u m p i) (had_too i)))
-          (λ a. (λ i. waiting (other_served c n e t m a i) (had i)) ∙ s.pending m ∙ sym (λ i. waiting (other_served d n x u m a i) (had_too i)))
-          (name_case m n)
+      (λ p. (λ i. waiting (served_at c e t m p i) (had i)) ∙ subst (λ k. waiting e.own.served (requests_of c k) ≡ waiting x.own.served (requests_of d k)) (sym p) same.waits ∙ sym (λ i. waiting (served_at d x u m p i) (had_too i)))
+      (λ a. (λ i. waiting (other_served c n e t m a i) (had i)) ∙ s.pending m ∙ sym (λ i. waiting (other_served d n x u m a i) (had_too i)))
+      (name_case m n)
     where
       served_at : (c : Configuration) (e : Effect) (t : Took c n e) (m : Name) → m ≡ n → served_by (find name_cmp m (with_effect n e c).activities) ≡ e.own.served
       served_at c e t m p = subst (λ k. served_by (find name_cmp k (with_effect n e c).activities) ≡ e.own.served) (sym p) (own_served c n e t)
@@ -196,8 +196,8 @@ module _ (c d : Configuration) (n : Name) (e x : Effect) (t : Took c n e) (u : T
       → (m : Name) → queue_of after m ≡ queue_of after_too m
   sent_pending z is h k m = ⊎_elim
       (λ p. (λ i. waiting (all_served c n e t h m i) (more c e is m p i)) ∙ waits_last _ (requests_of c m) z.1 (none_served c n e t m)
-          ∙ ap (λ l. l ++ z.1 ∷ []) (s.pending m)
-          ∙ sym ((λ i. waiting (all_served d n x u k m i) (more d x is_too m p i)) ∙ waits_last _ (requests_of d m) z.1 (none_served d n x u m)))
+      ∙ ap (λ l. l ++ z.1 ∷ []) (s.pending m)
+      ∙ sym ((λ i. waiting (all_served d n x u k m i) (more d x is_too m p i)) ∙ waits_last _ (requests_of d m) z.1 (none_served d n x u m)))
       (λ a. (λ i. waiting (all_served c n e t h m i) (others c e is m a i)) ∙ s.pending m ∙ sym (λ i. waiting (all_served d n x u k m i) (others d x is_too m a i)))
       (name_case m z.0)
     where
@@ -278,7 +278,7 @@ steps_same lists n c d e sc sd s h =
       goes,
       subst (λ k. SamePending k (with_effect n z.0 d)) y.2
           (same_after c d n y.0 z.0 sc sd (moves_keep_sound (Steps lists n) c _ sc went) (moves_keep_sound (Steps lists n) d _ sd goes)
-              (took lists c n y.0 (right_of c sc).sound y.1) (took lists d n z.0 (right_of d sd).sound takes) s z.2),
+          (took lists c n y.0 (right_of c sc).sound y.1) (took lists d n z.0 (right_of d sd).sound takes) s z.2),
     )
 
 -- Deliveries
@@ -286,7 +286,7 @@ steps_same lists n c d e sc sd s h =
 served_stored : (c : Configuration) (to : Name) (a : Activity) (v : Store) (m : Name) → find name_cmp to c.activities ≡ Some a → served_by (find name_cmp m (with_store c to a v).activities) ≡ served_by (find name_cmp m c.activities)
 served_stored c to a v m at = ⊎_elim
     (λ p. subst (λ k. served_by (find name_cmp k (with_store c to a v).activities) ≡ served_by (find name_cmp k c.activities)) (sym p)
-        (ap served_by (Maps.find_same name_cmp name_total name_same to (record a { store = v }) c.activities) ∙ sym (ap served_by at)))
+    (ap served_by (Maps.find_same name_cmp name_total name_same to (record a { store = v }) c.activities) ∙ sym (ap served_by at)))
     (λ apart. ap served_by (Maps.find_other name_cmp name_total name_same m to (record a { store = v }) c.activities apart))
     (name_case m to)
 
