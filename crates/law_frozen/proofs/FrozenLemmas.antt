@@ -38,7 +38,7 @@ use Rattle.law_frozen.proofs.SameLemmas.{found_bare, bare_found, holders, some_s
 -- Entries in order
 
 module _ {K X : Type 0} (R : K → K → Ordering) (o : IsTotalOrder R) (same : IsAntisymmetric R) where
-  ordered_is : (es : List (K × X)) → T (is_sorted R (in_order R es))
+  pub ordered_is : (es : List (K × X)) → T (is_sorted R (in_order R es))
   ordered_is [] = tt
   ordered_is (e ∷ es) = is_sorted-put R o e.0 e.1 (in_order R es) (ordered_is es)
 
@@ -96,7 +96,7 @@ module _ {X : Type 0} (c : Configuration) (g : FrozenActivity → X) where
       by None = refl
       by (Some a) = refl
 
-  named_none : (names : List Name) (q : Name) → find name_cmp q c.activities ≡ None → find name_cmp q (named_of names) ≡ None
+  pub named_none : (names : List Name) (q : Name) → find name_cmp q c.activities ≡ None → find name_cmp q (named_of names) ≡ None
   named_none [] q h = refl
   named_none (n ∷ names) q h = ap (find name_cmp q) (named_more n names q (find name_cmp n c.activities) refl) ∙ by (find name_cmp n c.activities) refl (named_none names q h)
     where
@@ -105,7 +105,7 @@ module _ {X : Type 0} (c : Configuration) (g : FrozenActivity → X) where
       by None is rest = rest
       by (Some a) is rest = Maps.find_other name_cmp name_total name_same q n (g (freeze c n a)) (named_of names) (λ p. no_some (sym h ∙ ap (λ k. find name_cmp k c.activities) p ∙ is)) ∙ rest
 
-  named_some : (names : List Name) (q : Name) (a : Activity) → find name_cmp q c.activities ≡ Some a → In q names → find name_cmp q (named_of names) ≡ Some (g (freeze c q a))
+  pub named_some : (names : List Name) (q : Name) (a : Activity) → find name_cmp q c.activities ≡ Some a → In q names → find name_cmp q (named_of names) ≡ Some (g (freeze c q a))
   named_some [] q a h i = absurd i
   named_some (n ∷ names) q a h i = ⊎_elim first (later (named_some names q a h)) (name_case q n)
     where
@@ -123,7 +123,7 @@ module _ {X : Type 0} (c : Configuration) (g : FrozenActivity → X) where
 
 -- Numbers of what was served
 
-in_numbers : (k j : ℕ) → k < j → has_place k (numbers_to j) ≡ true
+pub in_numbers : (k j : ℕ) → k < j → has_place k (numbers_to j) ≡ true
 in_numbers k zero lt = absurd (omega (arith, lt))
 in_numbers k (suc j) lt = by (k == j) refl (in_numbers k j)
   where
@@ -131,7 +131,7 @@ in_numbers k (suc j) lt = by (k == j) refl (in_numbers k j)
     by true e rest = refl
     by false e rest = rest (grind (arith, lt, e))
 
-not_numbers : (k j : ℕ) → j ≤ k → has_place k (numbers_to j) ≡ false
+pub not_numbers : (k j : ℕ) → j ≤ k → has_place k (numbers_to j) ≡ false
 not_numbers k zero le = refl
 not_numbers k (suc j) le = by (k == j) refl (not_numbers k j (omega (arith, le)))
   where
@@ -155,7 +155,7 @@ wait_behind j k (q ∷ qs) rs e =
     ap (λ b. unnumbered (skip_or b (k, q) (pending_of (numbers_to j) (suc k) (qs ++ rs)))) (in_numbers k j (omega (arith, e)))
     ∙ wait_behind j (suc k) qs rs (omega (arith, e))
 
-length_spent : (fs : List FutureShape) → length (map spent fs) ≡ length fs
+pub length_spent : (fs : List FutureShape) → length (map spent fs) ≡ length fs
 length_spent [] = refl
 length_spent (f ∷ fs) = ap suc (length_spent fs)
 
@@ -164,23 +164,23 @@ queue_behind fs rs = wait_behind (length fs) 0 (map spent fs) rs (let p : length
 
 -- Items of lists
 
-in_front : {A : Type 0} (x : A) (ys zs : List A) → In x ys → In x (ys ++ zs)
+pub in_front : {A : Type 0} (x : A) (ys zs : List A) → In x ys → In x (ys ++ zs)
 in_front x [] zs i = absurd i
 in_front x (y ∷ ys) zs i = ⊎_elim (λ p. inl p) (λ j. inr (in_front x ys zs j)) i
 
-in_back : {A : Type 0} (x : A) (ys zs : List A) → In x zs → In x (ys ++ zs)
+pub in_back : {A : Type 0} (x : A) (ys zs : List A) → In x zs → In x (ys ++ zs)
 in_back x [] zs i = i
 in_back x (y ∷ ys) zs i = inr (in_back x ys zs i)
 
-in_either : {A : Type 0} (x : A) (ys zs : List A) → In x (ys ++ zs) → In x ys ⊎ In x zs
+pub in_either : {A : Type 0} (x : A) (ys zs : List A) → In x (ys ++ zs) → In x ys ⊎ In x zs
 in_either x [] zs i = inr i
 in_either x (y ∷ ys) zs i = ⊎_elim (λ p. inl (inl p)) (λ j. ⊎_elim (λ l. inl (inr l)) (λ l. inr l) (in_either x ys zs j)) i
 
-mapped_in : {A B : Type 0} (f : A → B) (y : B) (xs : List A) → In y (map f xs) → (x : A) × In x xs × (y ≡ f x)
+pub mapped_in : {A B : Type 0} (f : A → B) (y : B) (xs : List A) → In y (map f xs) → (x : A) × In x xs × (y ≡ f x)
 mapped_in f y [] i = absurd i
 mapped_in f y (x ∷ xs) i = ⊎_elim (λ p. (x, inl refl, p)) (λ j. let r = mapped_in f y xs j in (r.0, inr r.1, r.2)) i
 
-filtered_in : {A : Type 0} (test : A → Bool) (x : A) (xs : List A) → In x (filter test xs) → In x xs × (test x ≡ true)
+pub filtered_in : {A : Type 0} (test : A → Bool) (x : A) (xs : List A) → In x (filter test xs) → In x xs × (test x ≡ true)
 filtered_in test x [] i = absurd i
 filtered_in test x (y ∷ xs) i = by (test y) refl (filtered_in test x xs) i
   where
@@ -188,7 +188,7 @@ filtered_in test x (y ∷ xs) i = by (test y) refl (filtered_in test x xs) i
     by true e rest i = ⊎_elim (λ p. (inl p, ap test p ∙ e)) (λ j. let r = rest j in (inr r.0, r.1)) i
     by false e rest i = let r = rest i in (inr r.0, r.1)
 
-in_filtered : {A : Type 0} (test : A → Bool) (x : A) (xs : List A) → In x xs → test x ≡ true → In x (filter test xs)
+pub in_filtered : {A : Type 0} (test : A → Bool) (x : A) (xs : List A) → In x xs → test x ≡ true → In x (filter test xs)
 in_filtered test x [] i h = absurd i
 in_filtered test x (y ∷ xs) i h = by (test y) refl i (λ j. in_filtered test x xs j h)
   where
@@ -196,16 +196,16 @@ in_filtered test x (y ∷ xs) i h = by (test y) refl i (λ j. in_filtered test x
     by true e i rest = ⊎_elim (λ p. inl p) (λ j. inr (rest j)) i
     by false e i rest = ⊎_elim (λ p. none_true (sym e ∙ ap test (sym p) ∙ h)) rest i
 
-number_of_item : {A : Type 0} (xs : List A) (x : A) → In x xs → (k : ℕ) × (slice_get xs k ≡ Some x)
+pub number_of_item : {A : Type 0} (xs : List A) (x : A) → In x xs → (k : ℕ) × (slice_get xs k ≡ Some x)
 number_of_item [] x i = absurd i
 number_of_item (y ∷ xs) x i = ⊎_elim (λ p. (0, ap Some (sym p))) (λ j. let r = number_of_item xs x j in (suc r.0, r.1)) i
 
-numbered_in : {A : Type 0} (xs : List A) (k : ℕ) (x : A) → slice_get xs k ≡ Some x → In x xs
+pub numbered_in : {A : Type 0} (xs : List A) (k : ℕ) (x : A) → slice_get xs k ≡ Some x → In x xs
 numbered_in [] k x h = no_some h
 numbered_in (y ∷ xs) zero x h = inl (sym (some_is h))
 numbered_in (y ∷ xs) (suc k) x h = inr (numbered_in xs k x h)
 
-waiting_in : (served : List ℕ) (k : ℕ) (rs : List RequestShape) (r : RequestShape) → In r (unnumbered (pending_of served k rs)) → In r rs
+pub waiting_in : (served : List ℕ) (k : ℕ) (rs : List RequestShape) (r : RequestShape) → In r (unnumbered (pending_of served k rs)) → In r rs
 waiting_in served k [] r i = i
 waiting_in served k (q ∷ rs) r i = by (has_place k served) (waiting_in served (suc k) rs r) i
   where
@@ -213,7 +213,7 @@ waiting_in served k (q ∷ rs) r i = by (has_place k served) (waiting_in served 
     by true rest i = inr (rest i)
     by false rest i = ⊎_elim (λ p. inl p) (λ j. inr (rest j)) i
 
-future_there : (f : FutureShape) (rs : List RequestShape) → has_future f rs ≡ true → (r : RequestShape) × In r rs × (r.future ≡ f)
+pub future_there : (f : FutureShape) (rs : List RequestShape) → has_future f rs ≡ true → (r : RequestShape) × In r rs × (r.future ≡ f)
 future_there f [] h = none_true h
 future_there f (r ∷ rs) h = by (same_future f r.future) refl (future_there f rs) h
   where
@@ -255,7 +255,7 @@ home_received c s y i =
     let k = number_of_item (requests_of c x.0.0) r.0 (subst (In r.0) (sym here) r.1) in
     (k.0, r.0, subst (λ m. Stands c m k.0 r.0) (sym (ap (λ z. z.1) r.2)) k.1, sym (ap (λ z. z.0) r.2))
 
-both_true : (a b : Bool) → (a && b) ≡ true → a ≡ true
+pub both_true : (a b : Bool) → (a && b) ≡ true → a ≡ true
 both_true true b e = refl
 both_true false b e = none_true e
 
@@ -274,10 +274,10 @@ module _ (x : FirstShape) (first : IsFirst x) where
   sound : IsSound was
   sound = first.sound
 
-  in_all : (q : Name) → IsThere was q → In q x.names
+  pub in_all : (q : Name) → IsThere was q → In q x.names
   in_all q there = let k = first.numbered.numbered q there in in_names x.names k.0 q k.1
 
-  in_all_at : (q : Name) (a : Activity) → find name_cmp q was.activities ≡ Some a → In q x.names
+  pub in_all_at : (q : Name) (a : Activity) → find name_cmp q was.activities ≡ Some a → In q x.names
   in_all_at q a is = in_all q (ap is_some is)
 
   -- who is not there received nothing
@@ -288,13 +288,13 @@ module _ (x : FirstShape) (first : IsFirst x) where
       by [] e = refl
       by (r ∷ rs) e = none_true (sym (ap is_some is) ∙ (sound.requests q 0 r (ap (λ l. slice_get l 0) e)).received)
 
-  received_at : (q : Name) (a : Activity) → find name_cmp q was.activities ≡ Some a → requests_of now q ≡ received_by shape (freeze was q a)
+  pub received_at : (q : Name) (a : Activity) → find name_cmp q was.activities ≡ Some a → requests_of now q ≡ received_by shape (freeze was q a)
   received_at q a is = ap or_none (named_some was (received_by shape) x.names q a is (in_all_at q a is))
 
-  received_none : (q : Name) → find name_cmp q was.activities ≡ None → requests_of now q ≡ []
+  pub received_none : (q : Name) → find name_cmp q was.activities ≡ None → requests_of now q ≡ []
   received_none q is = ap or_none (named_none was (received_by shape) x.names q is)
 
-  bare_there : (q : Name) → bare_of (find name_cmp q was.activities) ≡ bare_of (find name_cmp q now.activities)
+  pub bare_there : (q : Name) → bare_of (find name_cmp q was.activities) ≡ bare_of (find name_cmp q now.activities)
   bare_there q = by (find name_cmp q was.activities) refl
     where
       by : (o : Option Activity) → find name_cmp q was.activities ≡ o → bare_of o ≡ bare_of (find name_cmp q now.activities)
@@ -313,7 +313,7 @@ module _ (x : FirstShape) (first : IsFirst x) where
           let served : served_by (find name_cmp q now.activities) ≡ numbers_to (length (answered shape (freeze was q a))) = ap served_by (named_some was (thawed_activity shape) x.names q a is (in_all_at q a is)) in
           sym ((λ i. waiting (served i) (received_at q a is i)) ∙ queue_behind (answered shape (freeze was q a)) (queue_of was q))
 
-  logs_there : (q : Name) → log_of was q ≡ log_of now q
+  pub logs_there : (q : Name) → log_of was q ≡ log_of now q
   logs_there q = by (find name_cmp q was.activities) refl
     where
       by : (o : Option Activity) → find name_cmp q was.activities ≡ o → log_of was q ≡ log_of now q
@@ -322,10 +322,10 @@ module _ (x : FirstShape) (first : IsFirst x) where
 
   -- Homes
 
-  frozen_home : (f : FutureShape) (m : Name) → In (f, m) shape.homes → IsHome was f m
+  pub frozen_home : (f : FutureShape) (m : Name) → In (f, m) shape.homes → IsHome was f m
   frozen_home f m i = home_received was sound.ordered.received (f, m) (in_ordered future_cmp future_total future_same (f, m) (homes_in was) i)
 
-  home_frozen : (f : FutureShape) (m : Name) → IsHome was f m → In (f, m) shape.homes
+  pub home_frozen : (f : FutureShape) (m : Name) → IsHome was f m → In (f, m) shape.homes
   home_frozen f m h = in_found future_cmp future_total future_same f m shape.homes (homes_found f (homes_in was) ∙ holders was sound f m h)
 
   home_back : (f : FutureShape) (m : Name) → IsHome now f m → IsHome was f m
@@ -345,7 +345,7 @@ module _ (x : FirstShape) (first : IsFirst x) where
           (in_either h.1 (map spent (answered shape (freeze was m a))) (queue_of was m)
           (numbered_in _ h.0 h.1 (ap (λ l. slice_get l h.0) (sym (received_at m a is)) ∙ h.2)))
 
-  home_on : (f : FutureShape) (m : Name) → IsHome was f m → IsHome now f m
+  pub home_on : (f : FutureShape) (m : Name) → IsHome was f m → IsHome now f m
   home_on f m h = by_there (find name_cmp m was.activities) refl
     where
       standing : (a : Activity) → find name_cmp m was.activities ≡ Some a → (r : RequestShape) → In r (received_by shape (freeze was m a)) → r.future ≡ f → IsHome now f m
@@ -364,10 +364,10 @@ module _ (x : FirstShape) (first : IsFirst x) where
       by_there None is = none_true (sym (ap is_some is) ∙ (sound.requests m h.0 h.1 h.2).received)
       by_there (Some a) is = by_pending a is (has_future f (queue_of was m)) refl
 
-  received_sorted : T (is_sorted name_cmp now.received)
+  pub received_sorted : T (is_sorted name_cmp now.received)
   received_sorted = ordered_is name_cmp name_total name_same (map (λ y. (y.name, received_by shape y)) shape.activities)
 
-  activities_sorted : T (is_sorted name_cmp now.activities)
+  pub activities_sorted : T (is_sorted name_cmp now.activities)
   activities_sorted = ordered_is name_cmp name_total name_same (map (λ y. (y.name, thawed_activity shape y)) shape.activities)
 
   homes_back : (f : FutureShape) (m : Name) → home_of f (homes_in now) ≡ Some m → home_of f (homes_in was) ≡ Some m

@@ -4,3 +4,5 @@ pub mod IntentLemmas
 pub mod SameLemmas
 pub mod ShowLemmas
 pub mod FrozenLemmas
+pub mod CountLemmas
+pub mod ThawLemmas

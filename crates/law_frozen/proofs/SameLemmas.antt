@@ -106,7 +106,7 @@ home_there c d s q h f m x = (first_holders_are d q).homes f m (sym (h f) ∙ ho
 
 -- It is an equivalence
 
-same_back : (c d : Configuration) → SamePending c d → SamePending d c
+pub same_back : (c d : Configuration) → SamePending c d → SamePending d c
 same_back c d s = record { activities = sym s.activities; pending = λ n. sym (s.pending n); logs = λ n. sym (s.logs n); futures = sym s.futures; homes = λ f. sym (s.homes f) }
 
 same_on : (c d e : Configuration) → SamePending c d → SamePending d e → SamePending c e
@@ -248,7 +248,7 @@ same_after c d n e x sc sd sa sb t u s same = record {
       (homes_after d c n x e u t (same_back c d s) (effects_back _ _ _ _ e x same) (home_there d c sd sc (λ f. sym (s.homes f))));
 }
 
-there_same : (o p : Option Activity) → bare_of o ≡ bare_of p → is_some o ≡ is_some p
+pub there_same : (o p : Option Activity) → bare_of o ≡ bare_of p → is_some o ≡ is_some p
 there_same None None h = refl
 there_same None (Some b) h = no_some h
 there_same (Some a) None h = no_some (sym h)

@@ -2,3 +2,4 @@
 pub mod Pending
 pub mod Same
 pub mod Frozen
+pub mod Thawed
