@@ -1,0 +1,5 @@
+-- in reading order
+pub mod Items
+pub mod Lines
+pub mod Reading
+pub mod Rows
