@@ -6,7 +6,7 @@ use Rattle.std.specs.List.{flat_map}
 use Rattle.std.specs.FinMap.{find}
 use Rattle.asp_model.specs.Names.{Name, FutureShape, name_cmp, future_cmp, same_name}
 use Rattle.asp_model.specs.Parcel.{ParcelShape, has_place}
-use Rattle.asp_model.specs.Store.{CellShape, Reference, Future, Number, Object, Group}
+use Rattle.asp_model.specs.Store.{CellShape, Reference, Future, Number, Object, Group, cell}
 use Rattle.asp_model.specs.Term.{Tree}
 use Rattle.asp_model.specs.Configuration.{RequestShape, Activity, Configuration, requests_of, log_of}
 use Rattle.asp_model.specs.Step.{name_at}
@@ -24,6 +24,7 @@ use Rattle.law_steps.proofs.EntryLemmas.{In}
 use Rattle.law_steps.proofs.NameLemmas.{name_total, name_same, name_itself, names_tied, not_some}
 use Rattle.law_steps.proofs.ReachedLemmas.{moves_go_on}
 use Rattle.law_steps.proofs.WholeLemmas.{moves_keep_sound, reached_are_sound}
+use Rattle.asp_model.specs.Contraction.{is_future}
 use Rattle.law_journals.specs.Numbered.{AreNumbered, IsFirst}
 use Rattle.law_journals.specs.Runs.{IsHome}
 use Rattle.law_journals.proofs.CountLemmas.{in_mapped}
@@ -32,7 +33,7 @@ use Rattle.law_services.specs.Correct.{bare, bare_of}
 use Rattle.law_frozen.specs.Pending.{waiting}
 use Rattle.law_frozen.specs.Same.{SamePending, queue_of, served_by}
 use Rattle.law_frozen.specs.Frozen.{FrozenShape, answered, freeze, frozen_at, frozen_of, has_future, numbers_to, spent, thawed, thawed_activity, thawed_first}
-use Rattle.law_frozen.specs.Thawed.{RunsAreLedBack, ThawedAreClosed, ThawedAreFirst}
+use Rattle.law_frozen.specs.Thawed.{RunsAreLedBack, ThawedAreWhole, ThawedAreFirst}
 use Rattle.law_frozen.proofs.SameLemmas.{moves_keep_same, same_back, there_same}
 use Rattle.law_frozen.proofs.FrozenLemmas as frozen
 use Rattle.law_frozen.proofs.FrozenLemmas.{named_none, named_some, in_numbers, not_numbers, length_spent, in_either, mapped_in, filtered_in, in_filtered, number_of_item, numbered_in, waiting_in, future_there, both_true, ordered_is}
@@ -370,8 +371,12 @@ module _ (x : FirstShape) (first : IsFirst x) where
 pub thawed_are_first : ThawedAreFirst
 thawed_are_first x first = record { sound = sound_now x first; numbered = numbered_now x first }
 
-pub thawed_are_closed : ThawedAreClosed
-thawed_are_closed x first h = closed_now x first h
+pub thawed_are_whole : ThawedAreWhole
+thawed_are_whole x first h = record {
+  sound = sound_now x first;
+  closed = closed_now x first h.closed;
+  active = at_now x first (λ a. is_future (cell a.store a.active) ≡ false) (λ a ks p. p) h.active;
+}
 
 -- sound, and equal but for what was served to one that the program reaches
 abbrev IsBacked : Tree → Configuration → Type 0

@@ -5,8 +5,8 @@ use Rattle.asp_model.specs.Configuration.{Configuration}
 use Rattle.asp_model.specs.History.{EntryShape, FirstShape}
 use Rattle.def_journals.specs.Journals.{RunShape, all_entered, run_from}
 use Rattle.law_steps.specs.Reached.{IsReached}
-use Rattle.law_steps.specs.Closed.{IsClosed}
 use Rattle.law_journals.specs.Numbered.{IsFirst}
+use Rattle.law_paths.specs.Whole.{IsWhole}
 use Rattle.law_frozen.specs.Same.{SamePending}
 use Rattle.law_frozen.specs.Frozen.{frozen_of, thawed, thawed_first}
 
@@ -14,10 +14,10 @@ use Rattle.law_frozen.specs.Frozen.{frozen_of, thawed, thawed_first}
 abbrev pub ThawedAreFirst : Type 0
 ThawedAreFirst = (x : FirstShape) → IsFirst x → IsFirst (thawed_first (frozen_of x.names x.configuration))
 
--- no place lies past the end of its store, if none did
-abbrev pub ThawedAreClosed : Type 0
-ThawedAreClosed = (x : FirstShape) → IsFirst x → IsClosed x.configuration
-    → IsClosed (thawed (frozen_of x.names x.configuration))
+-- and it is whole, if that was
+abbrev pub ThawedAreWhole : Type 0
+ThawedAreWhole = (x : FirstShape) → IsFirst x → IsWhole x.configuration
+    → IsWhole (thawed (frozen_of x.names x.configuration))
 
 -- where a run went on that was frozen at a configuration of a program, it is led back: the program reaches a
 -- configuration that differs from its end in what was served alone
