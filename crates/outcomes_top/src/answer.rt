@@ -195,7 +195,8 @@ fn one<'a>(
 ) -> Result<Prepared, Halt<'a>>
     requires family { let ends = map run_logs family.now.ends.items in
         IsFamily (tree_in family.now.runs) family.now.whole ends }
-    requires ends { AreReplayableEnds (tree_in family.now.runs) (map run_logs family.now.ends.items) }
+    requires ends { AreReplayableEnds (tree_in family.now.runs)
+        (map run_logs family.now.ends.items) }
     requires survey { let ends = map run_logs family.now.ends.items in
         IsSurvey depth (tree_in family.now.runs) ends survey.now }
     ensures answer { IfOk result

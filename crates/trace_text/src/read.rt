@@ -92,7 +92,8 @@ fn with_read(alloc: Global, progress: &mut Progress, line: &[u8]) -> Result<bool
 
 // At the end of a text, with what stands behind its last line feed.
 fn ended(progress: Progress, number: u64, rest: &[u8]) -> Result<Vec<Entry>, TraceError>
-    ensures ok { let reading = end_of (next_shape progress.next) (progress_shape progress) number rest.now in
+    ensures ok { let reading = end_of (next_shape progress.next) (progress_shape progress)
+        number rest.now in
         IfOk result (λ v. reading ≡ Reads (map entry_shape v.items)) }
     ensures bad_line { IfErr result
         (TellsOf (end_of (next_shape progress.next) (progress_shape progress) number rest.now)) }
