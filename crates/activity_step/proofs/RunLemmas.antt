@@ -6,7 +6,8 @@ use Rattle.std.specs.Prelude.{Err, IfOk, Ok, OnOk, Result}
 use Rattle.asp_model.specs.Split.{Context, Redex, Splits, split, plug}
 use Rattle.asp_model.specs.Term.{Tree, loc}
 use Rattle.asp_model.specs.Store.{Store}
-use Rattle.asp_model.specs.Shapes.{future_shape, line_shape}
+use Rattle.asp_model.specs.Shapes.{line_shape}
+use Rattle.code_table.specs.Cells.{held_future}
 use Rattle.std.specs.Option.{option_map}
 use Rattle.code_table.specs.Cells.{CodedCell}
 use Rattle.code_table.specs.Shapes.{cell_of, store_of}
@@ -176,7 +177,7 @@ cell_became x y a v n p contexts redex c h splits at view place cells lines code
     let shape : Stands k y.state (plug contexts (loc (length a.store))) (reverse a.services) (a.store ++ cell_of k c ∷ []) a.lines = record { machine = standing2; store = stored; lines = ap (λ l. map line_shape l.items) lines ∙ h.state.lines } in
     record {
       state = subst (λ q. Stands (arc_value q) y.state (plug contexts (loc (length a.store))) (reverse a.services) (a.store ++ cell_of k c ∷ []) a.lines) (sym code) shape;
-      present = ap (option_map future_shape) present ∙ h.present;
+      present = ap (option_map held_future) present ∙ h.present;
       active = active ∙ h.active;
       count = count ∙ ap suc h.count;
     }

@@ -11,7 +11,8 @@ use Rattle.asp_model.specs.Parcel.{ParcelShape, unpack, unpacked_roots}
 use Rattle.asp_model.specs.Configuration as model
 use Rattle.asp_model.specs.Configuration.{ServiceShape}
 use Rattle.asp_model.specs.Intent.{but_newest, newest}
-use Rattle.asp_model.specs.Shapes.{future_shape, line_shape}
+use Rattle.asp_model.specs.Shapes.{line_shape}
+use Rattle.code_table.specs.Cells.{held_future}
 use Rattle.code_table.specs.declared.code.Node.{Node}
 use Rattle.code_table.specs.Sound.{IsSound, empty_number}
 use Rattle.code_table.specs.Shapes.{store_of}
@@ -28,9 +29,9 @@ use Rattle.activity_step.proofs.NewestLemmas.{but_newest_is, newest_is}
 
 -- the term in its contexts waits, and the call stands alone
 pub served : (x y : Activity) (a : model.Activity) (v : View) (n : ℕ) (contexts : List Context) (redex : Redex) (l : Text) (f : FutureShape) (p : ParcelShape) (ks : List ℕ) → StandsFor x a → split a.term ≡ Splits contexts redex
-    → IsAtSome (arc_value x.code) v a.term (reverse a.services) n → view_of y.state.machine ≡ suspended_view (option_map future_shape x.present) l (x.active ∷ ks) (without_last n v)
+    → IsAtSome (arc_value x.code) v a.term (reverse a.services) n → view_of y.state.machine ≡ suspended_view (option_map held_future x.present) l (x.active ∷ ks) (without_last n v)
     → store_of (arc_value x.code) y.state.store.cells ≡ unpack (store_of (arc_value x.code) x.state.store.cells) p → ks ≡ unpacked_roots (store_of (arc_value x.code) x.state.store.cells) p
-    → y.state.lines ≡ x.state.lines → y.code ≡ x.code → option_map future_shape y.present ≡ Some f → y.active ≡ x.active → y.count ≡ suc x.count
+    → y.state.lines ≡ x.state.lines → y.code ≡ x.code → option_map held_future y.present ≡ Some f → y.active ≡ x.active → y.count ≡ suc x.count
     → StandsFor y (serving contexts l f p a)
 served x y a v n contexts redex l f p ks h splits at view cells roots lines code present active count =
     let k : List Node = arc_value x.code in
@@ -40,10 +41,10 @@ served x y a v n contexts redex l f p ks h splits at view cells roots lines code
     let ms : List ℕ = unpacked_roots a.store p in
     let roots_are : ks ≡ ms = roots ∙ ap (λ (s : Store). unpacked_roots s p) h.state.store in
     let term : Tree = node (Call l) (locs_then (a.active ∷ ms) none) in
-    let standing0 : Standing k (suspended_view (option_map future_shape x.present) l (x.active ∷ ks) (without_last n v)) (node (Call l) (locs_then (x.active ∷ ks) none)) (record { contexts = contexts_of at.below.items; future = option_map future_shape x.present } ∷ vs) =
-    suspends k (without_last n v) vs at.below (option_map future_shape x.present) l (x.active ∷ ks) at.low in
-    let standing1 : Standing k (view_of y.state.machine) (node (Call l) (locs_then (x.active ∷ ks) none)) (record { contexts = contexts_of at.below.items; future = option_map future_shape x.present } ∷ vs) =
-    subst (λ (w : View). Standing k w (node (Call l) (locs_then (x.active ∷ ks) none)) (record { contexts = contexts_of at.below.items; future = option_map future_shape x.present } ∷ vs)) (sym view) standing0 in
+    let standing0 : Standing k (suspended_view (option_map held_future x.present) l (x.active ∷ ks) (without_last n v)) (node (Call l) (locs_then (x.active ∷ ks) none)) (record { contexts = contexts_of at.below.items; future = option_map held_future x.present } ∷ vs) =
+    suspends k (without_last n v) vs at.below (option_map held_future x.present) l (x.active ∷ ks) at.low in
+    let standing1 : Standing k (view_of y.state.machine) (node (Call l) (locs_then (x.active ∷ ks) none)) (record { contexts = contexts_of at.below.items; future = option_map held_future x.present } ∷ vs) =
+    subst (λ (w : View). Standing k w (node (Call l) (locs_then (x.active ∷ ks) none)) (record { contexts = contexts_of at.below.items; future = option_map held_future x.present } ∷ vs)) (sym view) standing0 in
     let standing2 : Standing k (view_of y.state.machine) term (service ∷ vs) =
     subst (λ (z : (List ℕ × List Context) × (Option FutureShape)). Standing k (view_of y.state.machine) (node (Call l) (locs_then z.0.0 none)) (record { contexts = z.0.1; future = z.1 } ∷ vs)) (λ i. ((h.active i ∷ roots_are i, same i), h.present i)) standing1 in
     let newest_first : service ∷ vs ≡ reverse (a.services ++ service ∷ []) = sym (reverse-append a.services (service ∷ [])) in
@@ -63,7 +64,7 @@ first_service v w vs xs e f = let both : Some v ≡ Some w = sym e ∙ newest_is
 -- the newest service's term goes on
 pub ended_service : (x y : Activity) (a : model.Activity) (s : ServiceShape) (f : Option FutureShape) → StandsFor x a → IsSound (arc_value x.code) → newest a.services ≡ Some s
     → IsResumed empty_number (view_of x.state.machine) (view_of y.state.machine) f
-    → y.state.store ≡ x.state.store → y.state.lines ≡ x.state.lines → y.code ≡ x.code → option_map future_shape y.present ≡ f → y.active ≡ x.active → y.count ≡ suc x.count
+    → y.state.store ≡ x.state.store → y.state.lines ≡ x.state.lines → y.code ≡ x.code → option_map held_future y.present ≡ f → y.active ≡ x.active → y.count ≡ suc x.count
     → StandsFor y (going_on s a)
 ended_service x y a s f h sound newest_s resumed store lines code present active count =
     let k : List Node = arc_value x.code in

@@ -4,7 +4,7 @@ use Rattle.asp_model.specs.Term.{loc}
 use Rattle.asp_model.specs.Store.{CellShape}
 use Rattle.std.specs.Arc.{arc_value}
 use Rattle.std.specs.Option.{option_map}
-use Rattle.asp_model.specs.Shapes.{future_shape}
+use Rattle.code_table.specs.Cells.{held_future}
 use Rattle.asp_model.specs.Split as split
 use Rattle.asp_model.specs.Split.{Context, Redex, Splits, plug}
 use Rattle.asp_model.specs.Contraction.{contract}
@@ -18,7 +18,7 @@ use Rattle.activity_step.specs.Advances.{Stands, IsTold}
 -- apart from what it sent, created and served
 pub record StandsFor (x : Activity) (a : model.Activity) : Type 0 where
   pub state : Stands (arc_value x.code) x.state a.term (reverse a.services) a.store a.lines
-  pub present : option_map future_shape x.present ≡ a.present
+  pub present : option_map held_future x.present ≡ a.present
   pub active : x.active ≡ a.active
   pub count : x.count ≡ a.reductions
 

@@ -11,7 +11,7 @@ ghost use Rattle.activity_step.specs.Advances.{Stands};
 use crate::advance::Advance;
 use crate::state::State;
 use asp_model::{FutureName, Line};
-use code_table::{Code, Place};
+use code_table::{Code, Future, Place};
 use object_store::Store;
 use std::alloc::{AllocError, Global};
 use std::sync::Arc;
@@ -24,7 +24,7 @@ pub struct Activity {
     /// Where its active object stands.
     pub(crate) active: Place,
     /// The future of the service that runs, if it is no start term.
-    pub(crate) present: Option<FutureName>,
+    pub(crate) present: Option<Arc<Future>>,
     /// How many reductions it took.
     pub(crate) count: u64,
     /// It gave "no memory" once, and gives nothing else since.
@@ -81,7 +81,10 @@ impl Activity {
         ensures present { (a : ActivityShape) → StandsFor self.now a →
             option_map (λ f. future_shape f.now) result ≡ a.present }
     {
-        self.present.as_ref()
+        match &self.present {
+            Some(future) => Some(&future.name),
+            None => None,
+        }
     }
 
     /// It gave "no memory" once, and gives nothing else since.

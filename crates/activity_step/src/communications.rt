@@ -3,7 +3,6 @@
 ghost use Rattle.std.specs.Prelude.{◌≡◌, Err, List, OnErr, OnOk, alloc_error, true};
 ghost use Rattle.asp_model.specs.Configuration.{Activity as ActivityShape};
 ghost use Rattle.asp_model.specs.Contraction.{truth};
-ghost use Rattle.asp_model.specs.Shapes.{future_shape};
 ghost use Rattle.asp_model.specs.Split.{Context, Redex, Splits, split};
 ghost use Rattle.asp_model.specs.Store.{
   Future as FutureCell,
@@ -11,14 +10,16 @@ ghost use Rattle.asp_model.specs.Store.{
   Reference as ReferenceCell,
 };
 ghost use Rattle.code_table.specs.declared.code.Node.{Node as NodeShape};
+ghost use Rattle.code_table.specs.Cells.{held_future};
 ghost use Rattle.code_table.specs.Shapes.{cell_shape};
 ghost use Rattle.activity_step.specs.Activities.{StandsFor, with_new_cell};
 ghost use Rattle.activity_step.specs.Standings.{code_of, polled};
 
 use crate::activity::Activity;
-use asp_model::{ActivityName, FutureName};
-use code_table::Cell;
+use asp_model::ActivityName;
+use code_table::{Cell, Future};
 use std::alloc::{AllocError, Global};
+use std::sync::Arc;
 
 /// The number of an answer.
 fn number_cell(answer: bool) -> Cell
@@ -61,15 +62,14 @@ impl Activity {
     }
 
     /// The redex becomes a future.
-    fn become_future(&mut self, alloc: Global, future: FutureName) -> Result<(), AllocError>
+    fn become_future(&mut self, future: Arc<Future>) -> Result<(), AllocError>
         ensures becomes { (a : ActivityShape) (contexts : List Context) (redex : Redex) →
             StandsFor self.old a → split a.term ≡ Splits contexts redex →
-            let c = FutureCell (future_shape future) in
+            let c = FutureCell (held_future future) in
             OnOk result (StandsFor self.new (with_new_cell contexts c a)) }
         ensures code { code_of self.new ≡ code_of self.old }
     {
-        let cell = Cell::Future(Box::new(alloc, future)?);
-        self.become_cell(cell)
+        self.become_cell(Cell::Future(future))
     }
 
     /// The redex becomes the number of an answer.
@@ -98,17 +98,17 @@ impl Activity {
 
     /// The request that it asked for was sent, and this future has its answer. After `AllocError` it is
     /// spent.
-    pub fn sent(&mut self, alloc: Global, future: FutureName) -> Result<(), AllocError>
+    pub fn sent(&mut self, _alloc: Global, future: Arc<Future>) -> Result<(), AllocError>
         ensures becomes { (a : ActivityShape) (contexts : List Context) (redex : Redex) →
             StandsFor self.old a → split a.term ≡ Splits contexts redex →
-            let c = FutureCell (future_shape future) in
+            let c = FutureCell (held_future future) in
             OnOk result (StandsFor self.new (with_new_cell contexts c a)) }
         ensures spent { self.old.spent ≡ true → result ≡ Err alloc_error }
         ensures gives_up { OnErr result (self.new.spent ≡ true) }
         ensures code { code_of self.new ≡ code_of self.old }
     {
         self.unspent()?;
-        let outcome = self.become_future(alloc, future);
+        let outcome = self.become_future(future);
         self.noted(outcome)
     }
 

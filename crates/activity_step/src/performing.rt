@@ -4,46 +4,14 @@ ghost use Rattle.std.specs.Prelude.{◌≡◌, ◌++◌, ◌∷◌, [], IfOk, Li
 ghost use Rattle.asp_model.specs.Shapes.{line_shape};
 ghost use Rattle.asp_model.specs.Contraction.{NumberLine};
 ghost use Rattle.code_table.specs.declared.code.Node.{Node as NodeShape};
-ghost use Rattle.code_table.specs.Cells.{Group as group_of, Object as object_with, coded};
 ghost use Rattle.step_rows.specs.declared.decision.Decision.TheVariants as decision;
 ghost use Rattle.activity_step.specs.Advances.{IsPerformed};
 
 use asp_model::Line;
-use code_table::{Cell, Object, Place};
+use code_table::{Cell, Place};
 use object_store::Store;
 use std::alloc::{AllocError, Global};
 use step_rows::{Decision, look};
-
-/// The same cell.
-fn copy_of(alloc: Global, cell: &Cell) -> Result<Cell, AllocError>
-    ensures cell { IfOk result (λ c. coded c ≡ coded cell.now) }
-{
-    match cell {
-        Cell::Number(n) => Ok(Cell::Number(*n)),
-        Cell::Object(object) => copy_object(alloc, object),
-        Cell::Reference(name) => Ok(Cell::Reference(Box::new(alloc, name.copy(alloc)?)?)),
-        Cell::Future(future) => Ok(Cell::Future(Box::new(alloc, future.copy(alloc)?)?)),
-        Cell::Group(members) => copy_group(alloc, members),
-    }
-}
-
-fn copy_object(alloc: Global, object: &Object) -> Result<Cell, AllocError>
-    ensures cell { IfOk result
-        (λ c. coded c ≡ object_with object.now.class object.now.places.items) }
-{
-    let mut places = Vec::with_capacity(alloc, object.places.len())?;
-    places.extend_from_slice(&object.places)?;
-    let class = object.class;
-    Ok(Cell::Object(Box::new(alloc, Object { class, places })?))
-}
-
-fn copy_group(alloc: Global, members: &[Place]) -> Result<Cell, AllocError>
-    ensures cell { IfOk result (λ c. coded c ≡ group_of members.now) }
-{
-    let mut places = Vec::with_capacity(alloc, members.len())?;
-    places.extend_from_slice(members)?;
-    Ok(Cell::Group(Box::new(alloc, places)?))
-}
 
 /// The redex becomes a new number.
 #[inline(always)]
@@ -69,7 +37,7 @@ fn add_copy(
     let Some(cell) = look(store, at) else {
         return Err(AllocError);
     };
-    let cell = copy_of(alloc, cell)?;
+    let cell = cell.copy(alloc)?;
     store.add(cell)
 }
 

@@ -17,8 +17,8 @@ ghost use Rattle.std.specs.Arc.{arc_value};
 ghost use Rattle.std.specs.Option.{option_map};
 ghost use Rattle.asp_model.specs.Configuration.{Activity as ActivityShape, ServiceShape};
 ghost use Rattle.asp_model.specs.Intent.{newest};
-ghost use Rattle.asp_model.specs.Shapes.{future_shape};
 ghost use Rattle.asp_model.specs.Split.{Context, Redex, Splits, Stands, split};
+ghost use Rattle.code_table.specs.Cells.{held_future};
 ghost use Rattle.code_table.specs.Shapes.{parcel_shape};
 ghost use Rattle.law_steps.specs.Closed.{IsClosedParcel};
 ghost use Rattle.activity_step.specs.Activities.{StandsFor};
@@ -26,11 +26,12 @@ ghost use Rattle.activity_step.specs.Standings.{code_of, going_on, serving};
 
 use crate::activity::Activity;
 use crate::starting::code_is_sound;
-use asp_model::{FutureName, Label};
-use code_table::{EMPTY_NUMBER, Parcel};
+use asp_model::Label;
+use code_table::{EMPTY_NUMBER, Future, Parcel};
 use deep_copy::unpack;
 use std::alloc::{AllocError, Global};
 use std::mem;
+use std::sync::Arc;
 
 impl Activity {
     /// Whether a service is suspended.
@@ -46,15 +47,15 @@ impl Activity {
         &mut self,
         alloc: Global,
         label: Label,
-        future: FutureName,
-        arguments: &Parcel,
+        future: Arc<Future>,
+        arguments: Parcel,
     ) -> Result<(), AllocError>
-        requires closed { IsClosedParcel (parcel_shape arguments.now) }
-        requires code { arc_value arguments.now.code ≡ code_of self.old }
+        requires closed { IsClosedParcel (parcel_shape arguments) }
+        requires code { arc_value arguments.code ≡ code_of self.old }
         ensures serves { (a : ActivityShape) (contexts : List Context) (redex : Redex) →
             StandsFor self.old a → split a.term ≡ Splits contexts redex →
-            let p = parcel_shape arguments.now in
-            let f = future_shape future in
+            let p = parcel_shape arguments in
+            let f = held_future future in
             OnOk result (StandsFor self.new (serving contexts label.text f p a)) }
         ensures code { code_of self.new ≡ code_of self.old }
     {
@@ -77,15 +78,15 @@ impl Activity {
         &mut self,
         alloc: Global,
         label: Label,
-        future: FutureName,
-        arguments: &Parcel,
+        future: Arc<Future>,
+        arguments: Parcel,
     ) -> Result<(), AllocError>
-        requires closed { IsClosedParcel (parcel_shape arguments.now) }
-        requires code { arc_value arguments.now.code ≡ code_of self.old }
+        requires closed { IsClosedParcel (parcel_shape arguments) }
+        requires code { arc_value arguments.code ≡ code_of self.old }
         ensures serves { (a : ActivityShape) (contexts : List Context) (redex : Redex) →
             StandsFor self.old a → split a.term ≡ Splits contexts redex →
-            let p = parcel_shape arguments.now in
-            let f = future_shape future in
+            let p = parcel_shape arguments in
+            let f = held_future future in
             OnOk result (StandsFor self.new (serving contexts label.text f p a)) }
         ensures spent { self.old.spent ≡ true → result ≡ Err alloc_error }
         ensures gives_up { OnErr result (self.new.spent ≡ true) }
@@ -97,10 +98,10 @@ impl Activity {
     }
 
     /// The term that waited goes on with an empty object.
-    fn end(&mut self) -> Result<Option<FutureName>, AllocError>
+    fn end(&mut self) -> Result<Option<Arc<Future>>, AllocError>
         ensures ended { (a : ActivityShape) (place : ℕ) (v : ServiceShape) →
             StandsFor self.old a → split a.term ≡ Stands place → newest a.services ≡ Some v →
-            IfOk result (λ f. (option_map future_shape f ≡ a.present)
+            IfOk result (λ f. (option_map held_future f ≡ a.present)
             × StandsFor self.new (going_on v a)) }
         ensures code { code_of self.new ≡ code_of self.old }
     {
@@ -113,10 +114,10 @@ impl Activity {
 
     /// The service ends, and the term that waited goes on. Answers the future that the service had to
     /// answer. After `AllocError` it is spent.
-    pub fn ended(&mut self, _alloc: Global) -> Result<Option<FutureName>, AllocError>
+    pub fn ended(&mut self, _alloc: Global) -> Result<Option<Arc<Future>>, AllocError>
         ensures ended { (a : ActivityShape) (place : ℕ) (v : ServiceShape) →
             StandsFor self.old a → split a.term ≡ Stands place → newest a.services ≡ Some v →
-            IfOk result (λ f. (option_map future_shape f ≡ a.present)
+            IfOk result (λ f. (option_map held_future f ≡ a.present)
             × StandsFor self.new (going_on v a)) }
         ensures spent { self.old.spent ≡ true → result ≡ Err alloc_error }
         ensures gives_up { OnErr result (self.new.spent ≡ true) }

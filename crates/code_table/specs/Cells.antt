@@ -1,5 +1,9 @@
 -- What contracts see of a cell whatever code its objects are of: an object is the number of its class and its places.
 use Rattle.std.specs.Prelude.{ℕ, ℤ, pos, zero, suc, List, [], ◌∷◌, ◌++◌, Option, Some, None, map, slice_set}
+use Rattle.std.specs.Arc.{arc_value}
+use Rattle.std.specs.declared.alloc.Global.{Global}
+use Rattle.std.specs.declared.sync.Arc.{Arc}
+use Rattle.code_table.specs.declared.future.Future.{Future as Held}
 use Rattle.asp_model.specs.Names.{Name, FutureShape}
 use Rattle.asp_model.specs.Shapes.{future_shape}
 use Rattle.code_table.specs.declared.cells.Cell.{Cell}
@@ -12,11 +16,15 @@ pub data CodedCell : Type 0 where
   Future : (future : FutureShape) → CodedCell
   Group : (members : List ℕ) → CodedCell
 
+-- a future that is shared
+abbrev pub held_future : Arc Held Global → FutureShape
+held_future f = future_shape (arc_value f).name
+
 abbrev pub coded : Cell → CodedCell
 coded (cells.Number n) = Number n
 coded (cells.Object o) = Object o.value.class o.value.places.items
 coded (cells.Reference n) = Reference n.value
-coded (cells.Future f) = Future (future_shape f.value)
+coded (cells.Future f) = Future (held_future f)
 coded (cells.Group ns) = Group ns.value.items
 
 abbrev pub CodedStore : Type 0

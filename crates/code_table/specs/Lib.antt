@@ -8,6 +8,7 @@ pub mod Classes
 pub mod Sound
 pub mod Parts
 pub mod Roots
+pub mod Carried
 pub mod Cells
 pub mod Shapes
 pub mod Fits

@@ -2,16 +2,20 @@
 //! objects share their code, and what passes between two activities.
 #![tactic(auto)]
 
+mod carried;
 mod cells;
 mod code;
+mod future;
 mod laws;
 mod lookup;
 mod numbers;
 mod roots;
 mod table;
 
+pub use carried::Cells;
 pub use cells::{Cell, Object, Parcel, Place};
 pub use code::{Capture, Child, Class, Kind, Leaf, MethodCode, Node};
+pub use future::Future;
 pub use laws::locations_are_uses;
 pub use roots::Roots;
 pub use table::{Code, EMPTY_NUMBER, SERVE_NUMBER, SERVICE_NUMBER};

@@ -1,8 +1,10 @@
 //! The roots of a parcel.
 
-ghost use Rattle.std.specs.Prelude.{◌≡◌, ◌∷◌, []};
+ghost use Rattle.std.specs.Prelude.{◌≡◌, ◌∷◌, [], IfOk};
 
+use crate::carried::copy_places;
 use crate::cells::Place;
+use std::alloc::{AllocError, Global};
 use std::marker::Model;
 use std::slice;
 
@@ -43,6 +45,16 @@ impl Roots {
     {
         Roots {
             held: Held::Listed(roots),
+        }
+    }
+
+    /// Equal roots. `AllocError` is the only error.
+    pub fn copy(&self, alloc: Global) -> Result<Roots, AllocError>
+        ensures items { IfOk result (λ r. r.items ≡ self.now.items) }
+    {
+        match &self.held {
+            Held::One(root) => Ok(Roots::one(*root)),
+            Held::Listed(roots) => Ok(Roots::of(copy_places(alloc, roots)?)),
         }
     }
 

@@ -4,6 +4,7 @@ pub mod MeaningLemmas
 pub mod ReachedLemmas
 pub mod VisitLemmas
 pub mod CopyLemmas
+pub mod MovedLemmas
 pub mod UnpackLemmas
 pub mod PackLemmas
 pub mod AloneLemmas

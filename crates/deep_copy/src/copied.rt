@@ -2,9 +2,7 @@
 
 ghost use Rattle.std.specs.Prelude.{◌≡◌, IfOk, map};
 ghost use Rattle.std.specs.Arc.{arc_value};
-ghost use Rattle.asp_model.specs.Shapes.{future_shape};
 ghost use Rattle.code_table.specs.Cells.{
-  Future,
   Group,
   Object as object_with,
   Reference,
@@ -15,7 +13,7 @@ ghost use Rattle.deep_copy.specs.Moves.{move_of};
 ghost use Rattle.code_table.specs.Sound.{IsSound};
 
 use crate::moves::Moves;
-use asp_model::{ActivityName, FutureName};
+use asp_model::ActivityName;
 use code_table::{Cell, Code, Object, Place, Roots};
 use std::alloc::{AllocError, Global};
 use std::sync::Arc;
@@ -35,8 +33,35 @@ pub fn moved_cell(alloc: Global, moves: &Moves, cell: &Cell) -> Result<Cell, All
         Cell::Number(n) => Ok(Cell::Number(*n)),
         Cell::Object(object) => moved_object(alloc, moves, object),
         Cell::Reference(name) => reference(alloc, name),
-        Cell::Future(future) => held_future(alloc, future),
+        Cell::Future(future) => Ok(Cell::Future(Arc::try_clone(future)?)),
         Cell::Group(members) => group(alloc, moved_places(alloc, moves, members)?),
+    }
+}
+
+/// The same cell, with each of its places moved where it stands.
+pub fn move_cell(moves: &Moves, cell: Cell) -> Cell
+    ensures moved { coded result ≡ moved_coded (move_of moves.now) (coded cell) }
+{
+    match cell {
+        Cell::Object(mut object) => {
+            move_places(moves, &mut object.places);
+            Cell::Object(object)
+        }
+        Cell::Group(mut members) => {
+            move_places(moves, &mut members);
+            Cell::Group(members)
+        }
+        Cell::Number(n) => Cell::Number(n),
+        Cell::Reference(name) => Cell::Reference(name),
+        Cell::Future(future) => Cell::Future(future),
+    }
+}
+
+fn move_places(moves: &Moves, places: &mut [Place])
+    ensures { places.new ≡ map (move_of moves.now) places.old }
+{
+    for at in 0..places.len() {
+        places[at] = moves.moved(places[at]);
     }
 }
 
@@ -79,12 +104,6 @@ fn reference(alloc: Global, name: &ActivityName) -> Result<Cell, AllocError>
     ensures { IfOk result (λ r. coded r ≡ Reference name.now) }
 {
     Ok(Cell::Reference(Box::new(alloc, name.copy(alloc)?)?))
-}
-
-fn held_future(alloc: Global, future: &FutureName) -> Result<Cell, AllocError>
-    ensures { IfOk result (λ r. coded r ≡ Future (future_shape future.now)) }
-{
-    Ok(Cell::Future(Box::new(alloc, future.copy(alloc)?)?))
 }
 
 fn group(alloc: Global, members: Vec<Place>) -> Result<Cell, AllocError>

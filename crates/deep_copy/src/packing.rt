@@ -16,13 +16,13 @@ ghost use Rattle.code_table.specs.Sound.{IsSound};
 use crate::copied::{code_is_sound, moved_cell, moved_roots};
 use crate::moves::Moves;
 use crate::visiting::{visit_few, visit_order};
-use code_table::{Cell, Code, Object, Parcel, Place, Roots};
+use code_table::{Cell, Cells, Code, Object, Parcel, Place, Roots};
 use object_store::Store;
 use std::alloc::{AllocError, Global};
 use std::sync::Arc;
 
 // Objects are mostly copied for a new activity, whose store keeps their cells and adds so many soon.
-const ROOM: usize = 4;
+pub(crate) const ROOM: usize = 4;
 
 /// The deep copy of what the roots reach, each cell once.
 pub fn pack(
@@ -99,7 +99,7 @@ fn numbered(
     ensures fits { let fit = AllFitCode (arc_value code.now) in
         IfOk result (λ p. fit store.now.cells → fit (all_coded p.cells.items)) }
 {
-    let cells = copied_cells(alloc, store, moves, order)?;
+    let cells = Cells::of(alloc, copied_cells(alloc, store, moves, order)?)?;
     let roots = moved_roots(alloc, moves, roots)?;
     let code = Arc::try_clone(code)?;
     Ok(Parcel { code, cells, roots })
@@ -147,21 +147,13 @@ fn pack_leaf(alloc: Global, code: &Arc<Code>, cell: &Cell) -> Result<Parcel, All
     ensures roots { IfOk result (λ p. p.roots.items ≡ 0 ∷ []) }
     ensures code { IfOk result (λ p. arc_value p.code ≡ arc_value code.now) }
 {
-    let mut cells = Vec::with_capacity(alloc, room_for(cell))?;
-    cells.push(moved_cell(alloc, &Moves::Up(0), cell)?)?;
+    let cell = moved_cell(alloc, &Moves::Up(0), cell)?;
     let code = Arc::try_clone(code)?;
     Ok(Parcel {
         code,
-        cells,
+        cells: Cells::one(cell),
         roots: Roots::one(0),
     })
-}
-
-fn room_for(leaf: &Cell) -> usize {
-    match leaf {
-        Cell::Object(_) => 1 + ROOM,
-        _ => 1,
-    }
 }
 
 fn copied_cells(

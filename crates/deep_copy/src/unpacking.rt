@@ -13,9 +13,10 @@ ghost use Rattle.deep_copy.specs.Copied.{IsClosedWith, KeepsFit};
 ghost use Rattle.deep_copy.specs.Moves.{move_of};
 ghost use Rattle.law_steps.specs.Closed.{IsClosedParcel, IsClosedValue};
 
-use crate::copied::{code_is_sound, moved_cell, moved_places};
+use crate::copied::{code_is_sound, move_cell, moved_cell, moved_places};
 use crate::moves::Moves;
-use code_table::{Cell, Code, Parcel, Place};
+use crate::packing::ROOM;
+use code_table::{Cell, Cells, Code, Parcel, Place};
 use object_store::Store;
 use std::alloc::{AllocError, Global};
 use std::sync::Arc;
@@ -27,27 +28,29 @@ pub fn unpack_alone(alloc: Global, parcel: Parcel) -> Result<(Arc<Code>, Store),
         IfOk result (λ r. store_of (arc_value parcel.code) r.1.cells ≡ after) }
 {
     code_is_sound(&parcel.code);
-    let store = Store::of(alloc, parcel.cells)?;
+    let cells = parcel.cells.into_vec(alloc, ROOM)?;
+    let store = Store::of(alloc, cells)?;
     Ok((parcel.code, store))
 }
 
-/// Appends a parcel's cells, and answers where its roots then stand.
-pub fn unpack(alloc: Global, store: &mut Store, parcel: &Parcel) -> Result<Vec<Place>, AllocError>
-    requires closed { IsClosedParcel (parcel_shape parcel.now) }
-    ensures cells { let code = arc_value parcel.now.code in
-        let after = unpacked_in (store_of code store.old.cells) (parcel_shape parcel.now) in
+/// Appends a parcel's cells, and answers where its roots then stand. The cells are moved, and copied
+/// only where they are shared.
+pub fn unpack(alloc: Global, store: &mut Store, parcel: Parcel) -> Result<Vec<Place>, AllocError>
+    requires closed { IsClosedParcel (parcel_shape parcel) }
+    ensures cells { let code = arc_value parcel.code in
+        let after = unpacked_in (store_of code store.old.cells) (parcel_shape parcel) in
         OnOk result (store_of code store.new.cells ≡ after) }
-    ensures roots { let s = store_of (arc_value parcel.now.code) store.old.cells in
-        IfOk result (λ places. places.items ≡ unpacked_roots s (parcel_shape parcel.now)) }
+    ensures roots { let s = store_of (arc_value parcel.code) store.old.cells in
+        IfOk result (λ places. places.items ≡ unpacked_roots s (parcel_shape parcel)) }
     ensures err { OnErr result (store.new.cells ≡ store.old.cells) }
-    ensures closed { let closed = IsClosedWith parcel.now in
+    ensures closed { let closed = IsClosedWith parcel in
         OnOk result (closed store.old.cells → closed store.new.cells) }
-    ensures fits { OnOk result (KeepsFit parcel.now store.old.cells store.new.cells) }
+    ensures fits { OnOk result (KeepsFit parcel store.old.cells store.new.cells) }
 {
     code_is_sound(&parcel.code);
     let moves = Moves::Up(store.len());
     let roots = moved_places(alloc, &moves, parcel.roots.as_slice())?;
-    append_moved(alloc, store, &moves, &parcel.cells)?;
+    append_cells(alloc, store, &moves, parcel.cells)?;
     Ok(roots)
 }
 
@@ -73,7 +76,7 @@ pub fn unpack_at(
         root: loc,
         size: store.len(),
     };
-    graft_moved(alloc, store, loc, &moves, &parcel.cells)?;
+    graft_moved(alloc, store, loc, &moves, parcel.cells.as_slice())?;
     Ok(())
 }
 
@@ -121,20 +124,35 @@ fn put_one(
 }
 
 // Appends the cells with their places moved, all or none.
-fn append_moved(
+fn append_cells(
     alloc: Global,
     store: &mut Store,
     moves: &Moves,
-    cells: &[Cell],
+    cells: Cells,
 ) -> Result<(), AllocError>
-    ensures cells { let copied = map (moved_coded (move_of moves.now)) (all_coded cells.now) in
-        OnOk result (store.new.cells ≡ store.old.cells ++ copied) }
+    ensures cells { let moved = map (moved_coded (move_of moves.now)) (all_coded cells.items) in
+        OnOk result (store.new.cells ≡ store.old.cells ++ moved) }
+    ensures fits { OnOk result (length store.new.cells < 2 ^ 64) }
+    ensures err { OnErr result (store.new.cells ≡ store.old.cells) }
+{
+    match cells.into_one() {
+        Ok(cell) => append_alone(store, moves, cell),
+        Err(cells) => {
+            let cells = cells.into_vec(alloc, 0)?;
+            append_moved(store, moves, cells)
+        }
+    }
+}
+
+fn append_moved(store: &mut Store, moves: &Moves, cells: Vec<Cell>) -> Result<(), AllocError>
+    ensures cells { let moved = map (moved_coded (move_of moves.now)) (all_coded cells.items) in
+        OnOk result (store.new.cells ≡ store.old.cells ++ moved) }
     ensures fits { OnOk result (length store.new.cells < 2 ^ 64) }
     ensures err { OnErr result (store.new.cells ≡ store.old.cells) }
 {
     let before = store.len();
     for cell in cells {
-        if append_one(alloc, store, moves, cell).is_err() {
+        if store.add(move_cell(moves, cell)).is_err() {
             store.shorten_to(before);
             return Err(AllocError);
         }
@@ -144,18 +162,15 @@ fn append_moved(
     Ok(())
 }
 
-fn append_one(
-    alloc: Global,
-    store: &mut Store,
-    moves: &Moves,
-    cell: &Cell,
-) -> Result<(), AllocError>
-    ensures cell { let copy = moved_coded (move_of moves.now) (coded cell.now) in
-        OnOk result (store.new.cells ≡ store.old.cells ++ copy ∷ []) }
+fn append_alone(store: &mut Store, moves: &Moves, cell: Cell) -> Result<(), AllocError>
+    ensures cells { let moved = moved_coded (move_of moves.now) (coded cell) in
+        OnOk result (store.new.cells ≡ store.old.cells ++ moved ∷ []) }
+    ensures fits { OnOk result (length store.new.cells < 2 ^ 64) }
     ensures err { OnErr result (store.new.cells ≡ store.old.cells) }
 {
-    let copy = moved_cell(alloc, moves, cell)?;
-    store.add(copy)?;
+    store.add(move_cell(moves, cell))?;
+    // Read for `fits`: the number of cells is a place.
+    let _after = store.len();
     Ok(())
 }
 

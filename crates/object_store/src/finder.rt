@@ -135,7 +135,7 @@ fn is_future(cell: &Cell, future: &FutureName) -> bool
     ensures { result ≡ is_future_in (future_shape future.now) (coded cell.now) }
 {
     match cell {
-        Cell::Future(held) => **held == *future,
+        Cell::Future(held) => held.name == *future,
         _ => false,
     }
 }

@@ -119,7 +119,7 @@ impl Index {
         ensures err { OnErr result (IsAlike self.old self.new) }
     {
         match cell {
-            Cell::Future(future) => self.insert(future, place),
+            Cell::Future(future) => self.insert(&future.name, place),
             _ => Ok(()),
         }
     }
@@ -130,7 +130,7 @@ impl Index {
             ChangesWhere here (without_place place) self.old self.new }
     {
         if let Cell::Future(future) = cell {
-            self.remove(future, place);
+            self.remove(&future.name, place);
         }
     }
 
@@ -173,7 +173,7 @@ fn is_one_future(first: &Cell, second: &Cell) -> bool
     ensures { result ≡ one_future (coded first.now) (coded second.now) }
 {
     match (first, second) {
-        (Cell::Future(one), Cell::Future(other)) => one == other,
+        (Cell::Future(one), Cell::Future(other)) => one.name == other.name,
         _ => false,
     }
 }

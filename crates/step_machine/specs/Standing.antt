@@ -4,7 +4,7 @@ use Rattle.std.specs.Option.{option_map}
 use Rattle.asp_model.specs.Names.{Text, FutureShape}
 use Rattle.asp_model.specs.Term.{Call, Tree, none, Environment, loc, node, locs_then}
 use Rattle.asp_model.specs.Split.{Context, Redex, Splits, split, plug}
-use Rattle.asp_model.specs.Shapes.{future_shape}
+use Rattle.code_table.specs.Cells.{held_future}
 use Rattle.asp_model.specs.Configuration.{ServiceShape}
 use Rattle.code_table.specs.declared.code.Node.{Node}
 use Rattle.code_table.specs.Fitting.{Runs}
@@ -29,7 +29,7 @@ pub record View : Type 0 where
   pub focus : Focus
 
 abbrev pub view_of : Machine → View
-view_of m = record { frames = m.frames.items; env = m.env.items; operands = m.operands.items; futures = map (option_map future_shape) m.futures.items; asked = m.asked.text; base = m.base; focus = m.focus }
+view_of m = record { frames = m.frames.items; env = m.env.items; operands = m.operands.items; futures = map (option_map held_future) m.futures.items; asked = m.asked.text; base = m.base; focus = m.focus }
 
 -- a node whose first terms lie on the operands
 pub record IsBegun (k : List Node) (ns operands : List ℕ) (number from : ℕ) (t : Tree) : Type 0 where

@@ -37,9 +37,10 @@ ghost use Rattle.step_machine.specs.Views.{
 
 use crate::frames::{Focus, Form, Frame};
 use crate::nodes::{in_place_count, next_child, node_at};
-use asp_model::{FutureName, Label};
-use code_table::{Child, Leaf, Node};
+use asp_model::Label;
+use code_table::{Child, Future, Leaf, Node};
 use std::alloc::AllocError;
+use std::sync::Arc;
 
 /// The term of an activity, as frames, environments and operands.
 #[derive(Drop)]
@@ -50,7 +51,7 @@ pub struct Machine {
     /// The places of terms that are done.
     pub operands: Vec<usize>,
     /// The futures of the services that are suspended, the newest last.
-    pub futures: Vec<Option<FutureName>>,
+    pub futures: Vec<Option<Arc<Future>>>,
     /// The label of the call that the service began with.
     pub asked: Label,
     /// Where the environment begins.

@@ -2,7 +2,7 @@
 
 ghost use Rattle.std.specs.Prelude.{◌≡◌, ◌++◌, ◌∷◌, [], IfOk, IfSome, List, OnOk};
 ghost use Rattle.std.specs.Option.{option_map};
-ghost use Rattle.asp_model.specs.Shapes.{future_shape};
+ghost use Rattle.code_table.specs.Cells.{held_future};
 ghost use Rattle.asp_model.specs.Configuration.{ServiceShape};
 ghost use Rattle.asp_model.specs.Term.{Tree};
 ghost use Rattle.code_table.specs.Sound.{IsSound};
@@ -19,14 +19,15 @@ ghost use Rattle.step_machine.specs.Standing.{Standing, view_of};
 
 use crate::frames::{Focus, Form, Frame};
 use crate::machine::Machine;
-use asp_model::{FutureName, Label};
-use code_table::Node;
+use asp_model::Label;
+use code_table::{Future, Node};
 use std::alloc::AllocError;
+use std::sync::Arc;
 
 /// A future more. The first takes no more room than it needs, since a service seldom serves.
 fn push_future(
-    futures: &mut Vec<Option<FutureName>>,
-    future: Option<FutureName>,
+    futures: &mut Vec<Option<Arc<Future>>>,
+    future: Option<Arc<Future>>,
 ) -> Result<(), AllocError>
     ensures items { OnOk result (futures.new.items ≡ futures.old.items ++ future ∷ []) }
 {
@@ -58,9 +59,9 @@ impl Machine {
     }
 
     /// Suspends the term, which had a future to answer.
-    fn mark(&mut self, future: Option<FutureName>) -> Result<(), AllocError>
+    fn mark(&mut self, future: Option<Arc<Future>>) -> Result<(), AllocError>
         ensures view { OnOk result
-            (view_of self.new ≡ marked_view (option_map future_shape future) (view_of self.old)) }
+            (view_of self.new ≡ marked_view (option_map held_future future) (view_of self.old)) }
     {
         self.frames.push(Frame {
             form: Form::Service,
@@ -76,12 +77,12 @@ impl Machine {
     /// Suspends the term, and looks at the call that the service begins with.
     pub fn suspend(
         &mut self,
-        future: Option<FutureName>,
+        future: Option<Arc<Future>>,
         label: Label,
         receiver: usize,
         arguments: &[usize],
     ) -> Result<(), AllocError>
-        ensures view { let f = option_map future_shape future in
+        ensures view { let f = option_map held_future future in
             let places = receiver ∷ arguments.now in
             OnOk result
             (view_of self.new ≡ suspended_view f label.text places (view_of self.old)) }
@@ -107,9 +108,9 @@ impl Machine {
 
     /// Ends the service that the term is the result of: what waited for it goes on with a node. Answers
     /// the future that it had to answer.
-    pub fn resume(&mut self, number: usize) -> Result<Option<FutureName>, AllocError>
+    pub fn resume(&mut self, number: usize) -> Result<Option<Arc<Future>>, AllocError>
         ensures resumed { let old = view_of self.old in
-            IfOk result (λ f. IsResumed number old (view_of self.new) (option_map future_shape f)) }
+            IfOk result (λ f. IsResumed number old (view_of self.new) (option_map held_future f)) }
     {
         let Focus::Place(_place) = self.focus else {
             return Err(AllocError);

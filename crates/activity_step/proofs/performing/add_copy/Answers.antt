@@ -24,5 +24,5 @@ copied k old new lines at c (Ok p) is place cells = record {
 
 pub returns : goal.returns
 returns c = record {
-  performed = λ k. copied k c.args.store.now.cells c.add.new.self.cells c.args.lines.now c.args.at (coded c.in_ok-cell.cell) c.add.result (c.in_ok-cell.ensures.cell ∙ c.in-Some.ensures.cell) c.add.ensures.place c.add.ensures.cells;
+  performed = λ k. copied k c.args.store.now.cells c.add.new.self.cells c.args.lines.now c.args.at (coded c.in_ok-cell.cell) c.add.result (c.in_ok-cell.ensures.copy ∙ c.in-Some.ensures.cell) c.add.ensures.place c.add.ensures.cells;
 }

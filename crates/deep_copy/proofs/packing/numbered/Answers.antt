@@ -18,7 +18,7 @@ returns-clause-parcel c =
     let s = c.args.store.now.cells in
     let keys = c.args.order.now in
     let roots = c.args.roots.now in
-    let cells : all_coded c.in_ok-cells.cells.items ≡ copies_of (number_in keys) s keys = c.in_ok-cells.ensures ∙ ap (λ (f : ℕ → ℕ). copies_of f s keys) c.requires.moves in
+    let cells : all_coded c.in_ok-cells.cells.items ≡ copies_of (number_in keys) s keys = ap all_coded c.in_ok-cells.ensures.items ∙ c.in_ok-copied_cells.ensures ∙ ap (λ (f : ℕ → ℕ). copies_of f s keys) c.requires.moves in
     let numbers = c.in_ok-roots.ensures ∙ ap (λ (f : ℕ → ℕ). map f roots) c.requires.moves in
     ap (λ (k : List Node). made k (all_coded c.in_ok-cells.cells.items) c.in_ok-roots.roots.items) c.in_ok-code.ensures
     ∙ packed code c.requires.sound s keys roots c.in_ok-roots.roots.items (all_coded c.in_ok-cells.cells.items) c.requires.order cells numbers
@@ -31,5 +31,5 @@ returns-clause-fits c =
     let code = arc_value c.args.code.now in
     let s = c.args.store.now.cells in
     let keys = c.args.order.now in
-    let cells : all_coded c.in_ok-cells.cells.items ≡ copies_of (number_in keys) s keys = c.in_ok-cells.ensures ∙ ap (λ (f : ℕ → ℕ). copies_of f s keys) c.requires.moves in
+    let cells : all_coded c.in_ok-cells.cells.items ≡ copies_of (number_in keys) s keys = ap all_coded c.in_ok-cells.ensures.items ∙ c.in_ok-copied_cells.ensures ∙ ap (λ (f : ℕ → ℕ). copies_of f s keys) c.requires.moves in
     λ h. subst (AllFitCode code) (sym cells) (copies_fit code (number_in keys) s keys h)

@@ -1,4 +1,4 @@
-use Rattle.std.proofs.Common.{◌≡◌, ◌++◌, length, map, take}
+use Rattle.std.proofs.Common.{◌≡◌, ◌++◌, length, map}
 use Rattle.code_table.specs.Cells.{all_coded, moved_coded}
 use Rattle.deep_copy.specs.Moves.{move_of}
 use Rattle.deep_copy.proofs.unpacking.append_moved.Given as goal
@@ -6,5 +6,5 @@ use Rattle.deep_copy.proofs.unpacking.append_moved.Given as goal
 abbrev pub invariant-loop-cell : goal.invariant-loop-cell
 invariant-loop-cell l = record {
   first : l.before ≡ length l.fn.store.cells;
-  so_far : l.store.cells ≡ l.fn.store.cells ++ map (moved_coded (move_of l.moves)) (all_coded (take l.cell-index l.cells));
+  so_far : l.store.cells ≡ l.fn.store.cells ++ map (moved_coded (move_of l.moves)) (all_coded l.yielded);
 }

@@ -1,7 +1,7 @@
 use Rattle.std.proofs.Common.{rules, ◌≡◌, ◌+◌, suc, refl, ap, subst, ◌∙◌, arith}
 use Rattle.std.specs.Arc.{arc_value}
 use Rattle.std.specs.Option.{option_map}
-use Rattle.asp_model.specs.Shapes.{future_shape}
+use Rattle.code_table.specs.Cells.{held_future}
 use Rattle.code_table.specs.Sound.{IsSound}
 use Rattle.activity_step.specs.declared.activity.Activity.{Activity}
 use Rattle.activity_step.proofs.ServingLemmas.{ended_service}
@@ -14,6 +14,6 @@ returns-clause-ended c = λ a place v h splits newest_v.
     let plus : c.in_ok-reductions.reductions ≡ x.count + 1 = search (rules, c.in_ok-reductions.ensures, c.checked_add.ensures) in
     let counted : c.in_ok-reductions.reductions ≡ suc x.count = omega (arith, plus) in
     let y : Activity = record x { state = record { machine = c.resume.new.self; store = x.state.store; lines = x.state.lines }; present = c.replace.new.dest; count = c.in_ok-reductions.reductions } in (
-      ap (option_map future_shape) c.replace.ensures.value ∙ h.present,
-      ended_service x y a v (option_map future_shape c.in_ok-waiting.waiting) h sound newest_v c.in_ok-waiting.ensures.resumed refl refl refl (ap (option_map future_shape) c.replace.ensures.after) refl counted,
+      ap (option_map held_future) c.replace.ensures.value ∙ h.present,
+      ended_service x y a v (option_map held_future c.in_ok-waiting.waiting) h sound newest_v c.in_ok-waiting.ensures.resumed refl refl refl (ap (option_map held_future) c.replace.ensures.after) refl counted,
     )
