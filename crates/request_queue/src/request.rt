@@ -1,7 +1,8 @@
 //! Requests.
 
-use asp_model::{ActivityName, FutureName, Label};
-use code_table::Parcel;
+use asp_model::{ActivityName, Label};
+use code_table::{Future, Parcel};
+use std::sync::Arc;
 
 /// What is asked of an activity. The arguments stay a closed copy until they are served.
 #[derive(Drop)]
@@ -9,7 +10,7 @@ pub struct Request {
     pub label: Label,
     pub arguments: Parcel,
     /// The answer.
-    pub future: FutureName,
+    pub future: Arc<Future>,
     /// Who asks.
     pub sender: ActivityName,
 }
