@@ -8,15 +8,17 @@ ghost use Rattle.std.specs.Option.{option_map};
 ghost use Rattle.asp_model.specs.Chase.{chase as chase_of};
 ghost use Rattle.asp_model.specs.Names.{future_cmp};
 ghost use Rattle.asp_model.specs.Shapes.{future_shape};
+ghost use Rattle.code_table.specs.Cells.{held_future};
 ghost use Rattle.code_table.specs.Shapes.{parcel_shape};
 ghost use Rattle.future_table.specs.Values.{StayOfCode, chase_shape, told, values_of};
 
 use crate::chase::Chase;
 use crate::walks::{self, Walks};
 use asp_model::FutureName;
-use code_table::Parcel;
+use code_table::{Future, Parcel};
 use std::alloc::{AllocError, Global};
 use std::marker::Model;
+use std::sync::Arc;
 
 /// The filled futures with their values, seen as entries in ascending order of names.
 #[derive(Drop)]
@@ -49,15 +51,21 @@ impl FutureTable {
     }
 
     /// Gives a future its value.
-    pub fn fill(&mut self, name: FutureName, value: Parcel) -> Result<(), AllocError>
-        requires absent { find future_cmp (future_shape name) (values_of self.old) ≡ None }
+    pub fn fill(&mut self, future: Arc<Future>, value: Parcel) -> Result<(), AllocError>
+        requires absent { find future_cmp (held_future future) (values_of self.old) ≡ None }
         requires one_root { length value.roots.items ≡ 1 }
         ensures values { let old = values_of self.old in OnOk result
-            (values_of self.new ≡ put future_cmp (future_shape name) (parcel_shape value) old) }
+            (values_of self.new ≡ put future_cmp (held_future future) (parcel_shape value) old) }
         ensures code { OnOk result (StayOfCode value self.old self.new) }
         ensures err { OnErr result (self.new ≡ self.old) }
     {
+        let name = future.name.copy(self.walks.alloc)?;
         walks::fill(&mut self.walks, name, value)
+    }
+
+    /// How many futures were met, which is the number of the next one. It is a hint: no clause says it.
+    pub fn next_number(&self) -> u32 {
+        u32::try_from(self.walks.links.len()).unwrap_or(u32::MAX)
     }
 
     /// The value of a future, if it is filled.

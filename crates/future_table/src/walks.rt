@@ -25,7 +25,7 @@ use std::alloc::{AllocError, Global};
 /// a component.
 #[derive(Drop)]
 pub struct Walks {
-    alloc: Global,
+    pub alloc: Global,
     pub values: Vec<Option<Parcel>>,
     pub numbers: Numbers,
     pub links: Vec<Link>,
@@ -106,8 +106,8 @@ fn ending(names: &Numbers, link: Link) -> Chase
 fn root(value: &Parcel) -> Option<&FutureName>
     ensures root { IsRoot (parcel_shape value.now) (option_map (λ f. future_shape f.now) result) }
 {
-    match value.cells.first() {
-        Some(Cell::Future(next)) => Some(next),
+    match value.cells.as_slice().first() {
+        Some(Cell::Future(next)) => Some(&next.name),
         _ => None,
     }
 }

@@ -1,22 +1,27 @@
 //! Names of futures.
 
 ghost use Rattle.std.specs.Prelude.{◌≡◌, IfOk};
-ghost use Rattle.asp_model.specs.Shapes.{future_shape};
+ghost use Rattle.code_table.specs.Cells.{held_future};
 
 use asp_model::{ActivityName, FutureName};
+use code_table::Future;
 use std::alloc::{AllocError, Global};
+use std::sync::Arc;
 
-/// The future of the request of this number that the activity sends.
+/// The future of the request of this number that the activity sends, which is the one at `at` in the
+/// table of futures.
 pub fn future_named(
     alloc: Global,
     name: &ActivityName,
     number: u32,
-) -> Result<FutureName, AllocError>
+    at: u32,
+) -> Result<Arc<Future>, AllocError>
     ensures name { IfOk result
-        (λ f. future_shape f ≡ record { by = name.now; index = number }) }
+        (λ f. held_future f ≡ record { by = name.now; index = number }) }
 {
-    Ok(FutureName {
+    let name = FutureName {
         by: name.copy(alloc)?,
         index: number,
-    })
+    };
+    Ok(Arc::new(alloc, Future { name, number: at })?)
 }
