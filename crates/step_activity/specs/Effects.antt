@@ -5,8 +5,8 @@ use Rattle.asp_model.specs.Names.{Name}
 use Rattle.asp_model.specs.Configuration as model
 use Rattle.asp_model.specs.Configuration.{ReceptionShape, From, Poll, RequestShape}
 use Rattle.asp_model.specs.Intent.{Effect, Intent, Acts, Rests}
-use Rattle.asp_model.specs.Shapes.{future_shape}
 use Rattle.law_steps.specs.Steps.{IsPoll}
+use Rattle.code_table.specs.Cells.{held_future}
 use Rattle.code_table.specs.Shapes.{parcel_shape}
 use Rattle.code_table.specs.declared.code.Node.{Node}
 use Rattle.request_queue.specs.Requests.{request_shape}
@@ -30,7 +30,7 @@ IsGiven n e (given.Sent m r) =
     (e.sent ≡ Some (m, request_shape r)) × (e.made ≡ None) × (e.filled ≡ None)
     × (e.logged ≡ Some (m, From r.sender))
 IsGiven n e (given.Filled f p) =
-    (e.sent ≡ None) × (e.made ≡ None) × (e.filled ≡ Some (future_shape f, parcel_shape p))
+    (e.sent ≡ None) × (e.made ≡ None) × (e.filled ≡ Some (held_future f, parcel_shape p))
     × (e.logged ≡ None)
 IsGiven n e given.Polled =
     (e.sent ≡ None) × (e.made ≡ None) × (e.filled ≡ None) × IsPoll n e

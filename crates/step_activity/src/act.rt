@@ -20,11 +20,12 @@ use crate::actor::Actor;
 use crate::asked::Asked;
 use crate::communicate::copied;
 use activity_step::{Advance, Standing};
-use asp_model::{ActivityName, FutureName};
-use code_table::{Parcel, Place};
+use asp_model::ActivityName;
+use code_table::{Future, Parcel, Place};
 use future_table::FutureTable;
 use request_queue::Request;
 use std::alloc::{AllocError, Global};
+use std::sync::Arc;
 use step_reads::{Strict, fetch_all, strict_of};
 
 /// What a reduction gives to others.
@@ -36,7 +37,7 @@ pub enum Given {
     /// A request, to the activity of this name.
     Sent(ActivityName, Request),
     /// The value of a future.
-    Filled(FutureName, Parcel),
+    Filled(Arc<Future>, Parcel),
     /// Nothing, and the activity asked what is pending.
     Polled,
 }
@@ -74,7 +75,8 @@ impl Actor {
                 let to = to.copy(alloc)?;
                 let label = label.copy(alloc)?;
                 let arguments = self.activity.pack(alloc, arguments)?;
-                return self.send(alloc, name, to, label, arguments);
+                let at = futures.next_number();
+                return self.send(alloc, name, to, label, arguments, at);
             }
             Asked::Serves(labels) => {
                 let Some(number) = self.match_of(alloc, labels)? else {
@@ -138,14 +140,20 @@ impl Actor {
     {
         self.clear = 0;
         if fetch_all(alloc, &mut self.activity, futures, strict)? {
-            self.contract(alloc, name)
+            self.contract(alloc, name, futures.next_number())
         } else {
             Ok(Given::Nothing)
         }
     }
 
-    /// The redex is contracted, or does what it asks of others.
-    fn contract(&mut self, alloc: Global, name: &ActivityName) -> Result<Given, AllocError>
+    /// The redex is contracted, or does what it asks of others. The future of a request is the one at
+    /// `at` in the table of futures.
+    fn contract(
+        &mut self,
+        alloc: Global,
+        name: &ActivityName,
+        at: u32,
+    ) -> Result<Given, AllocError>
         requires closed { IsClosedFor self.old }
         ensures contracts { (a : model.Activity) (rs : List RequestShape) (cs : List Context)
             (r : Redex) → Stands self.old a rs → split a.term ≡ Splits cs r →
@@ -158,7 +166,7 @@ impl Actor {
         self.clear = 0;
         let advance = self.activity.step(alloc, true)?;
         if is_communication(advance) {
-            self.communicate(alloc, name)
+            self.communicate(alloc, name, at)
         } else {
             Ok(Given::Nothing)
         }

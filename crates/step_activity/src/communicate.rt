@@ -45,12 +45,19 @@ use asp_model::{ActivityName, Label, Reception};
 use code_table::{Parcel, Place};
 use request_queue::Request;
 use std::alloc::{AllocError, Global};
+use std::sync::Arc;
 use step_parts::future_named;
 
 impl Actor {
-    /// What the redex asks of others is done.
+    /// What the redex asks of others is done. The future of a request is the one at `at` in the table
+    /// of futures.
     #[inline(never)]
-    pub fn communicate(&mut self, alloc: Global, name: &ActivityName) -> Result<Given, AllocError>
+    pub fn communicate(
+        &mut self,
+        alloc: Global,
+        name: &ActivityName,
+        at: u32,
+    ) -> Result<Given, AllocError>
         requires closed { IsClosedFor self.old }
         ensures done { (a : model.Activity) (rs : List RequestShape) (cs : List Context) (r : Redex)
             (x : Communication) → Stands self.old a rs → split a.term ≡ Splits cs r →
@@ -70,7 +77,7 @@ impl Actor {
                 let to = to.copy(alloc)?;
                 let label = label.copy(alloc)?;
                 let arguments = self.activity.pack(alloc, arguments)?;
-                self.send(alloc, name, to, label, arguments)
+                self.send(alloc, name, to, label, arguments, at)
             }
             Asked::Serves(labels) => match self.match_of(alloc, labels)? {
                 Some(number) => self.serve(alloc, number),
@@ -133,7 +140,8 @@ impl Actor {
         Ok(Given::Made(created, made))
     }
 
-    /// This activity has a future for the answer of the request.
+    /// This activity has a future for the answer of the request, the one at `at` in the table of
+    /// futures.
     pub(crate) fn send(
         &mut self,
         alloc: Global,
@@ -141,6 +149,7 @@ impl Actor {
         to: ActivityName,
         label: Label,
         arguments: Parcel,
+        at: u32,
     ) -> Result<Given, AllocError>
         requires code { arc_value arguments.code ≡ code_of self.old }
         ensures done { (a : model.Activity) (rs : List RequestShape) (cs : List Context) (r : Redex)
@@ -153,8 +162,8 @@ impl Actor {
         ensures given { IfOk result (IsGivenOf (code_of self.old)) }
     {
         let number = next_number(self.sends)?;
-        let future = future_named(alloc, name, number)?;
-        let answer = future.copy(alloc)?;
+        let future = future_named(alloc, name, number, at)?;
+        let answer = Arc::try_clone(&future)?;
         let sender = name.copy(alloc)?;
         self.clear = 0;
         self.activity.sent(alloc, future)?;
@@ -188,7 +197,7 @@ impl Actor {
             sender: _,
         } = self.queue.take(number);
         self.clear = 0;
-        self.activity.serves(alloc, label, future, &arguments)?;
+        self.activity.serves(alloc, label, future, arguments)?;
         Ok(Given::Nothing)
     }
 

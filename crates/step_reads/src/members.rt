@@ -67,7 +67,7 @@ fn missed_at<'a>(
 fn cell_of(parcel: &Parcel, place: Place) -> Seen
     ensures cell { seen_shape result ≡ cell_in (parcel_shape parcel.now).cells place }
 {
-    match parcel.cells.get(place) {
+    match parcel.cells.as_slice().get(place) {
         Some(cell) => see(&parcel.code, cell),
         None => Seen::Number(0),
     }

@@ -35,7 +35,7 @@ pub enum Operands<'a> {
 pub fn root_of(parcel: &Parcel) -> Seen
     ensures root { seen_shape result ≡ cell_in (parcel_shape parcel.now).cells 0 }
 {
-    match parcel.cells.first() {
+    match parcel.cells.as_slice().first() {
         Some(cell) => see(&parcel.code, cell),
         None => Seen::Number(0),
     }

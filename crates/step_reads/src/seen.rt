@@ -29,7 +29,7 @@ pub fn see<'a>(code: &'a Code, cell: &'a Cell) -> Seen<'a>
         Cell::Number(n) => Seen::Number(*n),
         Cell::Object(object) => Seen::Object(object, code),
         Cell::Reference(name) => Seen::Reference(name),
-        Cell::Future(future) => Seen::Future(future),
+        Cell::Future(future) => Seen::Future(&future.name),
         Cell::Group(members) => Seen::Group(members),
     }
 }

@@ -28,7 +28,7 @@ fn of_cell<'a>(cell: &'a Cell, futures: &'a FutureTable) -> Need<'a>
         need_shape result ≡ need_of chases (cell_shape k cell.now) }
 {
     match cell {
-        Cell::Future(future) => at_end(futures.chase(future)),
+        Cell::Future(future) => at_end(futures.chase(&future.name)),
         _ => Need::Ready,
     }
 }
