@@ -2,7 +2,8 @@
 use Rattle.std.proofs.Common.{◌≡◌, ℕ, ◌+◌, ◌<◌, arith, List, [], ◌∷◌, ◌++◌, Option, length, map, take, drop, reverse, refl, sym, ap, subst, ◌∙◌, append_assoc}
 use Rattle.std.proofs.lemmas.List.{append-nil, reverse-append, map-append, length-append}
 use Rattle.std.specs.Option.{option_map}
-use Rattle.asp_model.specs.declared.name.FutureName.{FutureName}
+use Rattle.std.specs.declared.alloc.Global.{Global}
+use Rattle.std.specs.declared.sync.Arc.{Arc}
 use Rattle.asp_model.specs.declared.term.Term.{Term}
 use Rattle.asp_model.specs.Names.{FutureShape}
 use Rattle.asp_model.specs.Term.{Tree}
@@ -10,6 +11,8 @@ use Rattle.asp_model.specs.Split.{Context}
 use Rattle.asp_model.specs.Configuration.{ServiceShape}
 use Rattle.asp_model.specs.Shapes.{future_shape, tree_of}
 use Rattle.code_table.specs.declared.code.Node.{Node}
+use Rattle.code_table.specs.declared.future.Future.{Future}
+use Rattle.code_table.specs.Cells.{held_future}
 use Rattle.step_machine.specs.declared.frames.Frame.{Frame}
 use Rattle.step_machine.specs.declared.frames.Form.{Form}
 use Rattle.step_machine.specs.declared.frames.Form.TheVariants as form
@@ -83,10 +86,10 @@ walked_all k items first terms frames env operands w alone = record {
 
 -- Services
 
-abbrev pub seen_futures : List (Option FutureName) → List (Option FutureShape)
-seen_futures names = reverse (map (option_map future_shape) names)
+abbrev pub seen_futures : List (Option (Arc Future Global)) → List (Option FutureShape)
+seen_futures names = reverse (map (option_map held_future) names)
 
-pub record Found (k : List Node) (items : List Item) (found : List Suspended) (names : List (Option FutureName)) (frames : List Frame) (env operands : List ℕ) : Type 0 where
+pub record Found (k : List Node) (items : List Item) (found : List Suspended) (names : List (Option (Arc Future Global))) (frames : List Frame) (env operands : List ℕ) : Type 0 where
   pub left : List Item
   pub stack : IsStack k (reverse frames) env operands left
   pub alone : IsAlone (reverse frames)
@@ -120,18 +123,18 @@ abbrev other_futures : List (Option FutureShape) → List (Option FutureShape)
 other_futures [] = []
 other_futures (f ∷ fs) = fs
 
-newest_seen : (names older : List (Option FutureName)) (x : Option FutureName) → names ≡ older ++ x ∷ [] → seen_futures names ≡ option_map future_shape x ∷ seen_futures older
+newest_seen : (names older : List (Option (Arc Future Global))) (x : Option (Arc Future Global)) → names ≡ older ++ x ∷ [] → seen_futures names ≡ option_map held_future x ∷ seen_futures older
 newest_seen names older x e =
-    ap seen_futures e ∙ ap reverse (map-append (option_map future_shape) older (x ∷ [])) ∙ reverse-append (map (option_map future_shape) older) (option_map future_shape x ∷ [])
+    ap seen_futures e ∙ ap reverse (map-append (option_map held_future) older (x ∷ [])) ∙ reverse-append (map (option_map held_future) older) (option_map held_future x ∷ [])
 
 -- one more service, the contexts of which are a segment
-pub found_more : (k : List Node) (items : List Item) (found : List Suspended) (names older : List (Option FutureName)) (x : Option FutureName) (frames others : List Frame) (env operands : List ℕ) (f : Frame) (s : Suspended)
+pub found_more : (k : List Node) (items : List Item) (found : List Suspended) (names older : List (Option (Arc Future Global))) (x : Option (Arc Future Global)) (frames others : List Frame) (env operands : List ℕ) (f : Frame) (s : Suspended)
     (w : Found k items found names frames env operands) (p : Passed k f others env operands w.left) (inner : List Frame) (low ops : List ℕ)
-    → names ≡ older ++ x ∷ [] → option_map future_shape s.future ≡ option_map future_shape x
+    → names ≡ older ++ x ∷ [] → option_map future_shape s.future ≡ option_map held_future x
     → (terms : List Tree) → terms ≡ map tree_of s.contexts.items → IsSegment k p.below [] terms inner low ops
     → Found k items (found ++ s ∷ []) older inner low ops
 found_more k items found names older x frames others env operands f s w p inner low ops split same terms terms_are seg =
-    let futures : option_map future_shape x ∷ seen_futures older ≡ p.future ∷ futures_of p.below = sym (newest_seen names older x split) ∙ w.futures ∙ ap futures_of p.are in
+    let futures : option_map held_future x ∷ seen_futures older ≡ p.future ∷ futures_of p.below = sym (newest_seen names older x split) ∙ w.futures ∙ ap futures_of p.are in
     let first : option_map future_shape s.future ≡ p.future = same ∙ ap (λ (fs : List (Option FutureShape)). first_future fs p.future) futures in
     let service : ServiceShape = record { contexts = contexts_of p.below; future = p.future } in
     let shown : service_terms service ≡ service_shown s = λ i. ((sym seg.are ∙ terms_are) i, sym first i) in
@@ -156,7 +159,7 @@ map_reverse {B = B} f (x ∷ xs) =
     ∙ sym (reverse-append (f x ∷ []) (map f xs))
 
 -- all services
-pub found_all : (k : List Node) (items : List Item) (found : List Suspended) (names : List (Option FutureName)) (frames : List Frame) (env operands : List ℕ) → Found k items found names frames env operands → frames ≡ []
+pub found_all : (k : List Node) (items : List Item) (found : List Suspended) (names : List (Option (Arc Future Global))) (frames : List Frame) (env operands : List ℕ) → Found k items found names frames env operands → frames ≡ []
     → map service_shown (reverse found) ≡ map service_terms (reverse (services_of items))
 found_all k items found names frames env operands w none =
     let stack : IsStack k [] env operands w.left = subst (λ (fs : List Frame). IsStack k (reverse fs) env operands w.left) none w.stack in
@@ -184,8 +187,8 @@ segment_step k items first terms more_terms frames others env operands f t w for
     (subst (λ (l : List ℕ). Walked k items first (map tree_of terms ++ tree_of t ∷ []) others l ops) (sym low_is)
     (subst (λ (l : List ℕ). Walked k items first (map tree_of terms ++ tree_of t ∷ []) others (take f.height env) l) (sym ops_is) next)))
 
-pub services_step : (k : List Node) (items : List Item) (found : List Suspended) (names older : List (Option FutureName)) (x : Option FutureName) (frames others : List Frame) (env operands : List ℕ) (f : Frame) (s : Suspended)
-    → Found k items found names frames env operands → frames ≡ others ++ f ∷ [] → names ≡ older ++ x ∷ [] → option_map future_shape s.future ≡ option_map future_shape x
+pub services_step : (k : List Node) (items : List Item) (found : List Suspended) (names older : List (Option (Arc Future Global))) (x : Option (Arc Future Global)) (frames others : List Frame) (env operands : List ℕ) (f : Frame) (s : Suspended)
+    → Found k items found names frames env operands → frames ≡ others ++ f ∷ [] → names ≡ older ++ x ∷ [] → option_map future_shape s.future ≡ option_map held_future x
     → (fs : List Frame) (low ops : List ℕ) → fs ≡ others → low ≡ take f.height env → ops ≡ but_last f.done operands
     → (inner : List Frame) (left_env left_ops : List ℕ) → ((xs : List Item) → IsStack k (reverse fs) low ops xs → IsSegment k xs [] (map tree_of s.contexts.items) inner left_env left_ops)
     → (more_found : List Suspended) → more_found ≡ found ++ s ∷ [] → Found k items more_found older inner left_env left_ops

@@ -5,6 +5,7 @@ ghost use Rattle.std.specs.Option.{option_map};
 ghost use Rattle.asp_model.specs.Configuration.{ServiceShape};
 ghost use Rattle.asp_model.specs.Shapes.{future_shape, tree_of};
 ghost use Rattle.asp_model.specs.Term.{Tree};
+ghost use Rattle.code_table.specs.Cells.{held_future};
 ghost use Rattle.step_machine.specs.Items.{Item};
 ghost use Rattle.step_machine.specs.Stacks.{IsStack};
 ghost use Rattle.step_machine.specs.Standing.{Standing, view_of};
@@ -16,8 +17,9 @@ use crate::errors::DecodeError;
 use crate::focus::{focus_term, taken_by};
 use crate::frames::segment;
 use asp_model::{FutureName, Term};
-use code_table::Code;
+use code_table::{Code, Future};
 use std::alloc::{AllocError, Global};
+use std::sync::Arc;
 use step_machine::Machine;
 
 /// A term that waits for the end of a service: its contexts, innermost first, each as a term with a
@@ -59,16 +61,16 @@ fn services(
     alloc: Global,
     code: &Code,
     start: Cursor,
-    names: &[Option<FutureName>],
+    held: &[Option<Arc<Future>>],
 ) -> Result<Vec<Suspended>, DecodeError>
-    ensures services { let futures = reverse (map (option_map future_shape) names.now) in
+    ensures services { let futures = reverse (map (option_map held_future) held.now) in
         (items : List Item) → IsAlone (reverse start.entry.frames.now) →
         IsStack code.now (reverse start.entry.frames.now) start.entry.env.now start.entry.operands.now items →
         IfOk result (λ r. AreServices items futures (map service_shown r.items)) }
 {
     let mut found = Vec::new(alloc);
     let mut cursor = start;
-    let mut futures = names;
+    let mut futures = held;
     while let Some((frame, others)) = innermost(cursor.frames) {
         let Some((future, older)) = newest(futures) else {
             return Err(DecodeError::Unfit);
@@ -78,7 +80,7 @@ fn services(
         let (contexts, left) = segment(alloc, code, inner, Vec::new(alloc))?;
         found.push(Suspended {
             contexts,
-            future: copy_future(alloc, future)?,
+            future: copy_name(alloc, future)?,
         })?;
         cursor = left;
     }
@@ -86,22 +88,22 @@ fn services(
     Ok(found)
 }
 
-fn newest(names: &[Option<FutureName>]) -> Option<(&Option<FutureName>, &[Option<FutureName>])>
-    ensures some { IfSome result (λ p. names.now ≡ p.1.now ++ p.0.now ∷ []) }
+fn newest(held: &[Option<Arc<Future>>]) -> Option<(&Option<Arc<Future>>, &[Option<Arc<Future>>])>
+    ensures some { IfSome result (λ p. held.now ≡ p.1.now ++ p.0.now ∷ []) }
 {
-    if names.is_empty() {
+    if held.is_empty() {
         return None;
     }
-    let count = names.len() - 1;
-    Some((&names[count], &names[..count]))
+    let count = held.len() - 1;
+    Some((&held[count], &held[..count]))
 }
 
-fn copy_future(alloc: Global, future: &Option<FutureName>) -> Result<Option<FutureName>, AllocError>
+fn copy_name(alloc: Global, future: &Option<Arc<Future>>) -> Result<Option<FutureName>, AllocError>
     ensures same { IfOk result
-        (λ r. option_map future_shape r ≡ option_map future_shape future.now) }
+        (λ r. option_map future_shape r ≡ option_map held_future future.now) }
 {
     match future {
-        Some(name) => Ok(Some(name.copy(alloc)?)),
+        Some(held) => Ok(Some(held.name.copy(alloc)?)),
         None => Ok(None),
     }
 }

@@ -7,7 +7,7 @@ use Rattle.code_reading.proofs.shown.services.Given as goal
 
 abbrev pub invariant-loop-frame : goal.invariant-loop-frame
 invariant-loop-frame l =
-    (items : List Item) → IsAlone (reverse l.fn.start.frames.now) → IsStack l.code (reverse l.fn.start.frames.now) l.fn.start.env.now l.fn.start.operands.now items → seen_futures l.fn.names ≡ futures_of items
+    (items : List Item) → IsAlone (reverse l.fn.start.frames.now) → IsStack l.code (reverse l.fn.start.frames.now) l.fn.start.env.now l.fn.start.operands.now items → seen_futures l.fn.held ≡ futures_of items
     → Found l.code items l.found.items l.futures l.cursor.frames.now l.cursor.env.now l.cursor.operands.now
 
 abbrev pub decreases-loop-frame : goal.decreases-loop-frame

@@ -1,10 +1,13 @@
 use Rattle.std.proofs.Common.{◌≡◌, ◌∙◌, ◌∷◌, ◌++◌, [], List, Option, ℕ, map, reverse, subst, sym, ap}
 use Rattle.std.specs.Option.{option_map}
-use Rattle.asp_model.specs.declared.name.FutureName.{FutureName}
+use Rattle.std.specs.declared.alloc.Global.{Global}
+use Rattle.std.specs.declared.sync.Arc.{Arc}
 use Rattle.asp_model.specs.Configuration.{ServiceShape}
-use Rattle.asp_model.specs.Shapes.{future_shape, tree_of}
+use Rattle.asp_model.specs.Shapes.{tree_of}
 use Rattle.asp_model.specs.Term.{Tree}
 use Rattle.code_table.specs.declared.code.Node.{Node}
+use Rattle.code_table.specs.declared.future.Future.{Future}
+use Rattle.code_table.specs.Cells.{held_future}
 use Rattle.step_machine.specs.declared.frames.Frame.{Frame}
 use Rattle.step_machine.specs.Items.{Item, contexts_of, futures_of}
 use Rattle.step_machine.specs.Stacks.{IsStack, but_last}
@@ -29,8 +32,8 @@ returns c = record {
       let inner : tree_of c.in_ok-focus_term.field-0 ≡ st.inner = c.in_ok-focus_term.ensures.inner st.inner st.focus in
       let first : map tree_of c.push.new.self.items ≡ st.inner ∷ [] =
       ap (map tree_of) (c.in_ok-push.ensures.items ∙ (λ i. c.new-first.ensures.items i ++ c.in_ok-focus_term.field-0 ∷ [])) ∙ (λ i. inner i ∷ []) in
-      let futures : reverse (map (option_map future_shape) c.deref-4.result.now) ≡ futures_of segment.left =
-      ap (λ (names : List (Option FutureName)). reverse (map (option_map future_shape) names)) c.deref-4.ensures.value ∙ st.futures ∙ segment.futures in
+      let futures : reverse (map (option_map held_future) c.deref-4.result.now) ≡ futures_of segment.left =
+      ap (λ (held : List (Option (Arc Future Global))). reverse (map (option_map held_future) held)) c.deref-4.ensures.value ∙ st.futures ∙ segment.futures in
       record {
         contexts = contexts_of items;
         inner = st.inner;
