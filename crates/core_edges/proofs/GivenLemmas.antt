@@ -1,16 +1,17 @@
 -- What a reduction gives, by its effect.
 use Rattle.std.proofs.Common.{◌≡◌, true, false, List, [], ◌++◌, Option, Some, None, refl, sym, ap, ◌∙◌, append-nil}
 use Rattle.std.specs.Global.{Box}
+use Rattle.std.specs.declared.alloc.Global.{Global}
+use Rattle.std.specs.declared.sync.Arc.{Arc}
 use Rattle.asp_model.specs.Names.{Name, FutureShape}
 use Rattle.asp_model.specs.Parcel.{ParcelShape}
 use Rattle.asp_model.specs.Configuration as model
 use Rattle.asp_model.specs.Configuration.{RequestShape}
 use Rattle.asp_model.specs.Intent.{Effect}
-use Rattle.asp_model.specs.Shapes.{future_shape}
-use Rattle.code_table.specs.Cells.{CodedStore}
+use Rattle.code_table.specs.Cells.{CodedStore, held_future}
 use Rattle.code_table.specs.Shapes.{parcel_shape, store_of}
 use Rattle.code_table.specs.declared.cells.Parcel.{Parcel}
-use Rattle.asp_model.specs.declared.name.FutureName.{FutureName}
+use Rattle.code_table.specs.declared.future.Future.{Future}
 use Rattle.request_queue.specs.declared.request.Request.{Request}
 use Rattle.request_queue.specs.Requests.{request_shape}
 use Rattle.def_journals.specs.Edges.{Fills, HoldersShape, after_event, after_events, has_filled}
@@ -49,8 +50,8 @@ module _ (by : Name) (e : Effect) where
   pub sent_given : (n : Name) (r : Request) → IsGiven by e (given.Sent n r) → (h : HoldersShape) → after_events (effect_events by [] e) h ≡ after_events (sent_events by (Some (n, request_shape r))) h
   sent_given n r g h = ap (λ es. after_events es h) (parts (Some (n, request_shape r)) None None g.0 g.1 g.2 ∙ append-nil (sent_events by (Some (n, request_shape r))))
 
-  pub filled_given : (f : FutureName) (p : Parcel) → IsGiven by e (given.Filled f p) → (h : HoldersShape) → after_events (effect_events by [] e) h ≡ after_event (Fills (future_shape f)) h
-  filled_given f p g h = ap (λ es. after_events es h) (parts None None (Some (future_shape f, parcel_shape p)) g.0 g.1 g.2)
+  pub filled_given : (f : Arc Future Global) (p : Parcel) → IsGiven by e (given.Filled f p) → (h : HoldersShape) → after_events (effect_events by [] e) h ≡ after_event (Fills (held_future f)) h
+  filled_given f p g h = ap (λ es. after_events es h) (parts None None (Some (held_future f, parcel_shape p)) g.0 g.1 g.2)
 
 pub filled_once : (f : FutureShape) (h : HoldersShape) → has_filled f h.filled ≡ false → once_filled f h ≡ after_event (Fills f) h
 filled_once f h e = ap (λ b. elim b [ true ↦ h | false ↦ after_event (Fills f) h ]) e

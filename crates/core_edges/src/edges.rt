@@ -135,7 +135,7 @@ impl<P: UpdatePolicy> Edges<P> {
             Given::Made(name, actor) => self.pass_store(actor.as_ref().store(), by, name),
             Given::Sent(home, request) => self.sent(alloc, by, home, request),
             Given::Filled(future, _) => {
-                self.holders.filled(future);
+                self.holders.filled(&future.name);
                 Ok(())
             }
         }

@@ -14,7 +14,7 @@ pub fn future_in(cell: &Cell) -> Option<&FutureName>
     ensures held { option_map (λ f. future_shape f.now) result ≡ future_of (coded cell.now) }
 {
     match cell {
-        Cell::Future(future) => Some(future),
+        Cell::Future(future) => Some(&future.name),
         Cell::Number(_) => None,
         Cell::Object(_) => None,
         Cell::Reference(_) => None,

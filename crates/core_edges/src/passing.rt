@@ -3,7 +3,7 @@
 ghost use Rattle.std.specs.Prelude.{◌≡◌, [], None, OnOk};
 ghost use Rattle.std.specs.Bool.{OnFalse};
 ghost use Rattle.asp_model.specs.Shapes.{delivery_shape, future_shape};
-ghost use Rattle.code_table.specs.Cells.{all_coded, coded};
+ghost use Rattle.code_table.specs.Cells.{all_coded, coded, held_future};
 ghost use Rattle.code_table.specs.Shapes.{parcel_shape};
 ghost use Rattle.def_journals.specs.Edges.{Receives, after_event, home_of};
 ghost use Rattle.def_journals.specs.Passing.{futures_in};
@@ -55,16 +55,16 @@ impl<P: UpdatePolicy> Edges<P> {
 
     /// Keeps the strategy of the future of a new request.
     fn learn(&mut self, alloc: Global, request: &Request) -> Result<(), AllocError>
-        ensures learned { let f = future_shape request.now.future in
+        ensures learned { let f = held_future request.now.future in
             OnOk result (IsLearned f request.now.label.text self.old self.new) }
         ensures rest { KeepsLearning self.old self.new }
     {
         let strategy = self.plan.strategy_of(&request.label);
         if strategy == self.plan.strategy {
-            let _other = self.strategies.remove(&request.future);
+            let _other = self.strategies.remove(&request.future.name);
             return Ok(());
         }
-        let future = request.future.copy(alloc)?;
+        let future = request.future.name.copy(alloc)?;
         self.strategies.insert(future, strategy)?;
         Ok(())
     }
@@ -149,14 +149,15 @@ impl<P: UpdatePolicy> Edges<P> {
         request: &Request,
     ) -> Result<(), AllocError>
         requires new { let homes = self.old.holders.holders.homes in
-            home_of (future_shape request.now.future) homes ≡ None }
+            home_of (held_future request.now.future) homes ≡ None }
         ensures sent { let r = request_shape request.now in
             OnOk result (IsSent P.answer P.asked by.now home.now r self.old self.new) }
     {
         self.learn(alloc, request)?;
-        self.holders.sent(&request.future, home)?;
-        self.pass(&request.future, home, by)?;
-        self.pass_cells(&request.arguments.cells, by, home)
+        let future = &request.future.name;
+        self.holders.sent(future, home)?;
+        self.pass(future, home, by)?;
+        self.pass_cells(request.arguments.cells.as_slice(), by, home)
     }
 
     /// A delivery goes along an edge, if it is kept.
@@ -182,13 +183,14 @@ impl<P: UpdatePolicy> Edges<P> {
             let held = futures_held (all_coded value.now.cells.items) in
             OnOk result (IsHeldPassed P.answer P.asked f held by.now self.old self.new) }
     {
-        if !holds_futures(&value.cells) {
+        let cells = value.cells.as_slice();
+        if !holds_futures(cells) {
             return Ok(());
         }
         match self.holders.home(future) {
             Some(home) => {
                 let home = home.copy(alloc)?;
-                self.pass_cells(&value.cells, &home, by)
+                self.pass_cells(cells, &home, by)
             }
             None => Ok(()),
         }

@@ -2,13 +2,13 @@
 use Rattle.std.proofs.Common.{◌≡◌, ◌≢◌, ◌++◌, ◌∷◌, [], ℕ, zero, suc, true, false, List, Option, Some, None, length, refl, sym, ap, subst, ◌∙◌, ⊎_elim, arith}
 use Rattle.std.proofs.lemmas.List.{append-nil}
 use Rattle.std.specs.FinMap.{find}
-use Rattle.asp_model.specs.declared.name.FutureName.{FutureName}
+use Rattle.std.specs.declared.alloc.Global.{Global}
+use Rattle.std.specs.declared.sync.Arc.{Arc}
 use Rattle.asp_model.specs.Chase.{chase}
 use Rattle.asp_model.specs.Configuration.{Activity, Configuration, or_none, requests_of}
 use Rattle.asp_model.specs.History.{HistoryShape}
 use Rattle.asp_model.specs.Intent.{Effect}
 use Rattle.asp_model.specs.Names.{Name, name_cmp}
-use Rattle.asp_model.specs.Shapes.{future_shape}
 use Rattle.asp_model.specs.Step.{name_at, with_effect, with_last}
 use Rattle.def_journals.specs.Journals.{RunShape}
 use Rattle.law_chases.proofs.MapLemmas as Maps
@@ -17,6 +17,8 @@ use Rattle.law_chases.proofs.FutureLemmas.{no_some, true_false}
 use Rattle.law_journals.proofs.NameListLemmas.{number_stays}
 use Rattle.law_core.specs.Commits.{made_by, with_activity}
 use Rattle.code_table.specs.declared.code.Node.{Node}
+use Rattle.code_table.specs.declared.future.Future.{Future}
+use Rattle.code_table.specs.Cells.{held_future}
 use Rattle.future_table.specs.Values.{values_of}
 use Rattle.core_ranks.specs.declared.ranks.Ranks.{Ranks}
 use Rattle.core_ranks.specs.Numbers.{has_number}
@@ -162,11 +164,11 @@ module _ (h : HistoryShape) (code : List Node) (x : CoreState) (s : RunShape) (k
     pub one_received : (y : Ranks) → q ≢ k → IsRanked y q (rank_of_number t q) → OthersStay q x.ranks y → AreOthersRanked y k t
     one_received y apart here others = received_by_others y (others k Rests (λ same. apart (sym same)) own_rests) others (λ other. here)
 
-  pub one_filled : (f : FutureName) (rank : RankShape) (y : Ranks) → IsChange s.names e (change.Filled f) → rank ≡ rank_at (chase (values_of x.futures) (future_shape f)) → AreShifted (future_shape f) rank x.ranks y
+  pub one_filled : (f : Arc Future Global) (rank : RankShape) (y : Ranks) → IsChange s.names e (change.Filled f) → rank ≡ rank_at (chase (values_of x.futures) (held_future f)) → AreShifted (held_future f) rank x.ranks y
       → AreOthersRanked y k t
   one_filled f rank y is told shifts = (
     shifts k Rests own_rests,
     λ j apart. shifted_other y j apart (λ m named. same_requests is.2 m) (still_none is.3 j)
         (λ r before. subst (λ o. IsRanked y j (shifted_by o d r)) (sym is.1)
-        (subst (λ z. IsRanked y j (shifted (future_shape f) z r)) (told ∙ ap (λ values. rank_at (chase values (future_shape f))) p.populated.futures) (shifts j r before))),
+        (subst (λ z. IsRanked y j (shifted (held_future f) z r)) (told ∙ ap (λ values. rank_at (chase values (held_future f))) p.populated.futures) (shifts j r before))),
   )

@@ -5,7 +5,6 @@ use Rattle.asp_model.specs.History.{HistoryShape}
 use Rattle.asp_model.specs.Intent.{Acts, Effect}
 use Rattle.asp_model.specs.Names.{Name}
 use Rattle.asp_model.specs.Parcel.{ParcelShape}
-use Rattle.asp_model.specs.Shapes.{future_shape}
 use Rattle.asp_model.specs.Step.{intent_in, name_at, with_effect}
 use Rattle.def_journals.specs.Journals.{RunShape, first_in, out_but, run_of}
 use Rattle.law_steps.specs.Sound.{IsSound}
@@ -13,6 +12,7 @@ use Rattle.law_journals.specs.Numbered.{AreNumbered, IsFirst}
 use Rattle.law_paths.specs.Whole.{IsWhole}
 use Rattle.law_core.specs.Commits.{made_by, with_activity}
 use Rattle.code_table.specs.declared.code.Node.{Node}
+use Rattle.code_table.specs.Cells.{held_future}
 use Rattle.core_ranks.specs.declared.ranks.Ranks.{Ranks}
 use Rattle.core_ranks.specs.Ranks.{IsRanked, RankShape, Goes, Rests}
 use Rattle.law_core.specs.Runs.{rank_of_number}
@@ -26,7 +26,7 @@ abbrev pub IsChange : List Name → Effect → Change → Type 0
 IsChange ns e change.Nothing = (e.sent ≡ None) × (e.made ≡ None) × (e.filled ≡ None)
 IsChange ns e (change.Made k) = (m : Name) × (b : Activity) × (e.made ≡ Some (m, b)) × (k ≡ length ns) × (e.sent ≡ None) × (e.filled ≡ None)
 IsChange ns e (change.Received k) = (m : Name) × (r : RequestShape) × (e.sent ≡ Some (m, r)) × (name_at ns k ≡ Some m) × (e.made ≡ None) × (e.filled ≡ None)
-IsChange ns e (change.Filled f) = (v : ParcelShape) × (e.filled ≡ Some (future_shape f, v)) × (e.sent ≡ None) × (e.made ≡ None)
+IsChange ns e (change.Filled f) = (v : ParcelShape) × (e.filled ≡ Some (held_future f, v)) × (e.sent ≡ None) × (e.made ≡ None)
 
 -- the run after a reduction of an activity that comes in
 abbrev pub acted : RunShape → ℕ → Name → Activity → Effect → ℕ → RunShape

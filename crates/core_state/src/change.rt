@@ -1,6 +1,7 @@
 //! What others have of a reduction.
 
-use asp_model::FutureName;
+use code_table::Future;
+use std::sync::Arc;
 
 /// What changed for others, once what a reduction gives was handed on.
 #[derive(Drop)]
@@ -11,5 +12,5 @@ pub enum Change {
     /// The activity of this number received a request.
     Received(u32),
     /// This future was filled.
-    Filled(FutureName),
+    Filled(Arc<Future>),
 }

@@ -27,6 +27,7 @@ use crate::state::CoreState;
 use asp_model::ActivityName;
 use request_queue::Request;
 use std::alloc::AllocError;
+use std::sync::Arc;
 use step_activity::Given;
 
 /// A request comes to whom it is sent: to the activity, or into its box. Its number is answered.
@@ -85,9 +86,9 @@ pub fn hand_on(state: &mut CoreState, given: Given) -> Result<Change, AllocError
             Ok(Change::Received(number))
         }
         Given::Filled(future, value) => {
-            let name = future.copy(state.alloc)?;
+            let filled = Arc::try_clone(&future)?;
             state.futures.fill(future, value)?;
-            Ok(Change::Filled(name))
+            Ok(Change::Filled(filled))
         }
     }
 }

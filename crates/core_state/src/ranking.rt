@@ -121,8 +121,8 @@ pub fn rank_others(state: &mut CoreState, number: u32, change: Change) -> Result
             Ok(())
         }
         Change::Filled(future) => {
-            let rank = look_beyond(state.alloc, &future, &state.futures)?;
-            state.ranks.shift(&future, rank)?;
+            let rank = look_beyond(state.alloc, &future.name, &state.futures)?;
+            state.ranks.shift(&future.name, rank)?;
             Ok(())
         }
     }

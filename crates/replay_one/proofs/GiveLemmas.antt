@@ -1,15 +1,17 @@
 -- Who is ready once an effect is handed on.
 use Rattle.std.proofs.Common.{◌≡◌, true, false, Option, Some, None, refl, sym, ap, subst, ◌∙◌}
 use Rattle.std.specs.Global.{Box}
-use Rattle.asp_model.specs.declared.name.FutureName.{FutureName}
+use Rattle.std.specs.declared.alloc.Global.{Global}
+use Rattle.std.specs.declared.sync.Arc.{Arc}
 use Rattle.asp_model.specs.Names.{Name, FutureShape}
 use Rattle.asp_model.specs.Parcel.{ParcelShape}
 use Rattle.asp_model.specs.Configuration as model
 use Rattle.asp_model.specs.Configuration.{Configuration, From, Poll, ReceptionShape, RequestShape, log_of, requests_of}
 use Rattle.asp_model.specs.Intent.{Effect}
 use Rattle.asp_model.specs.Step.{ListsShape, with_effect}
-use Rattle.asp_model.specs.Shapes.{future_shape}
 use Rattle.code_table.specs.declared.cells.Parcel.{Parcel}
+use Rattle.code_table.specs.declared.future.Future.{Future}
+use Rattle.code_table.specs.Cells.{held_future}
 use Rattle.code_table.specs.Shapes.{parcel_shape}
 use Rattle.request_queue.specs.declared.request.Request.{Request}
 use Rattle.request_queue.specs.Requests.{request_shape}
@@ -73,7 +75,7 @@ module _ (p : Population) (n : Name) (c : Configuration) (e : Effect) where
         sends = both.sends;
       }
 
-  pub filled_handed : (lists : Option ListsShape) (s t : Seen) (f : FutureName) (v : Parcel) → IsGiving p n (given.Filled f v) c e → IsMoreReady s (Some (future_shape f)) t → ((m : Name) → noted_in s (future_shape f) m ≡ true → ready_in t m ≡ true) → IsHandedOn lists c n e s t
+  pub filled_handed : (lists : Option ListsShape) (s t : Seen) (f : Arc Future Global) (v : Parcel) → IsGiving p n (given.Filled f v) c e → IsMoreReady s (Some (held_future f)) t → ((m : Name) → noted_in s (held_future f) m ≡ true → ready_in t m ≡ true) → IsHandedOn lists c n e s t
   filled_handed lists s t f v h more woken = record {
     made = λ k a is. no_some (sym h.given.1 ∙ is);
     target = λ k r is. no_some (sym h.given.0 ∙ is);

@@ -172,7 +172,7 @@ impl Machine {
             }
             Given::Filled(future, value) => {
                 self.schedule
-                    .wake_noted(alloc, &self.population.roster, &future)?;
+                    .wake_noted(alloc, &self.population.roster, &future.name)?;
                 self.population.fill(future, value)
             }
             Given::Polled => {

@@ -9,8 +9,8 @@ ghost use Rattle.def_journals.specs.Journals.{number_of};
 ghost use Rattle.asp_model.specs.Configuration as model;
 ghost use Rattle.asp_model.specs.Configuration.{Configuration, log_of, requests_of, start as start_of};
 ghost use Rattle.asp_model.specs.Intent.{Acts, Effect};
-ghost use Rattle.asp_model.specs.Shapes.{future_shape};
 ghost use Rattle.asp_model.specs.Step.{intent_in};
+ghost use Rattle.code_table.specs.Cells.{held_future};
 ghost use Rattle.code_table.specs.Shapes.{parcel_shape};
 ghost use Rattle.request_queue.specs.Requests.{request_shape};
 ghost use Rattle.future_table.specs.Values.{values_of};
@@ -23,8 +23,8 @@ ghost use Rattle.replay_population.specs.Roster.{IsEntered, IsRoster};
 ghost use Rattle.replay_population.specs.Population.{HasSeat, AreActorsOf, AreNamed, IsClosedBySome, IsForgotten, IsGivenIn, IsKnown, IsPassing, IsPopulation, IsRunIn, IsSet, KeepsPassed, found_in, or_zero, passed_in, seat_at, term_of, unboxed, with_activity, with_poll, with_request, with_value};
 
 use crate::roster::Roster;
-use asp_model::{ActivityName, FutureName};
-use code_table::{Code, Parcel};
+use asp_model::ActivityName;
+use code_table::{Code, Future, Parcel};
 use future_table::FutureTable;
 use request_queue::Request;
 use serve_rules::LabelSet;
@@ -252,13 +252,13 @@ impl Population {
     }
 
     /// A future's value.
-    pub fn fill(&mut self, future: FutureName, value: Parcel) -> Result<(), AllocError>
+    pub fn fill(&mut self, future: Arc<Future>, value: Parcel) -> Result<(), AllocError>
         requires absent { let values = values_of self.old.futures in
-            find future_cmp (future_shape future) values ≡ None }
+            find future_cmp (held_future future) values ≡ None }
         requires one_root { length value.roots.items ≡ 1 }
         ensures filled { (c : Configuration) → (p : IsPopulation self.old c) →
             arc_value value.code ≡ p.code → OnOk result
-            (IsPopulation self.new (with_value (future_shape future) (parcel_shape value) c)) }
+            (IsPopulation self.new (with_value (held_future future) (parcel_shape value) c)) }
         ensures roster { OnOk result (self.new.roster ≡ self.old.roster) }
         ensures passed { OnOk result (KeepsPassed self.old self.new) }
     {

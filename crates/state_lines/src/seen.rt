@@ -38,7 +38,7 @@ fn see<'a>(code: &'a Code, cell: &'a Cell) -> Seen<'a>
         Cell::Number(n) => Seen::Number(*n),
         Cell::Object(object) => Seen::Object(object, code),
         Cell::Reference(name) => Seen::Reference(name),
-        Cell::Future(future) => Seen::Future(future),
+        Cell::Future(future) => Seen::Future(&future.name),
         Cell::Group(members) => Seen::Group(members),
     }
 }
@@ -57,8 +57,9 @@ pub fn in_store<'a>(code: &'a Code, store: &'a Store, place: Place) -> Seen<'a>
 pub fn in_value(value: &Parcel, place: Place) -> Seen<'_>
     ensures cell { seen_shape result ≡ cell_in (parcel_shape value.now).cells place }
 {
-    if place >= value.cells.len() {
+    let cells = value.cells.as_slice();
+    if place >= cells.len() {
         return Seen::Number(0);
     }
-    see(&value.code, &value.cells[place])
+    see(&value.code, &cells[place])
 }

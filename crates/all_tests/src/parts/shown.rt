@@ -67,7 +67,7 @@ fn push_cell(text: &mut String, code: &Code, cell: &Cell) -> Result<(), AllocErr
         }
         Cell::Future(future) => {
             text.push_str("future ")?;
-            push_future(text, future)
+            push_future(text, &future.name)
         }
         Cell::Group(members) => {
             text.push_str("group")?;

@@ -2,6 +2,7 @@ use Rattle.std.proofs.Common.{◌≡◌, ◌∙◌, None, Some, ap, length, refl
 use Rattle.std.specs.FinMap.{find}
 use Rattle.asp_model.specs.Names.{future_cmp}
 use Rattle.asp_model.specs.Shapes.{future_shape}
+use Rattle.code_table.specs.Cells.{held_future}
 use Rattle.code_table.specs.Shapes.{parcel_shape}
 use Rattle.request_queue.specs.Requests.{request_shape}
 use Rattle.step_activity.specs.declared.act.Given.TheVariants as given
@@ -23,13 +24,13 @@ pub fill-requires-clause-absent : goal.fill-requires-clause-absent
 fill-requires-clause-absent c =
     let r = c.requires.given in
     let to = subst (λ g. IsToHand r.0 r.1 c.args.state.now r.2 r.3 r.4 g) c.in-Filled.is r.5 in
-    ap (find future_cmp (future_shape c.in-Filled.future)) to.populated.futures ∙ (to.filled (future_shape c.in-Filled.future, parcel_shape c.in-Filled.value) to.given.2).0
+    ap (find future_cmp (held_future c.in-Filled.future)) to.populated.futures ∙ (to.filled (held_future c.in-Filled.future, parcel_shape c.in-Filled.value) to.given.2).0
 
 pub fill-requires-clause-one_root : goal.fill-requires-clause-one_root
 fill-requires-clause-one_root c =
     let r = c.requires.given in
     let to = subst (λ g. IsToHand r.0 r.1 c.args.state.now r.2 r.3 r.4 g) c.in-Filled.is r.5 in
-    (to.filled (future_shape c.in-Filled.future, parcel_shape c.in-Filled.value) to.given.2).1
+    (to.filled (held_future c.in-Filled.future, parcel_shape c.in-Filled.value) to.given.2).1
 
 pub hand_over-requires : goal.hand_over-requires
 hand_over-requires c =
@@ -74,4 +75,4 @@ pub returns-in_ok-fill-in-Filled-clause-change : goal.returns-in_ok-fill-in-Fill
 returns-in_ok-fill-in-Filled-clause-change c = λ h code u own e r.
     let to = subst (λ g. IsToHand h code c.args.state.now u own e g) c.in-Filled.is r in
     let value = parcel_shape c.in-Filled.value in
-    (value, to.given.2 ∙ ap (λ f. Some (future_shape f, value)) (sym c.in_ok-name-in-Filled.ensures.name), to.given.0, to.given.1)
+    (value, to.given.2 ∙ ap (λ f. Some (future_shape f.name, value)) (sym c.in_ok-filled-in-Filled.ensures), to.given.0, to.given.1)

@@ -1,7 +1,7 @@
 use Rattle.std.proofs.Common.{◌≡◌, List, refl, sym, ap, ◌∙◌, subst}
 use Rattle.asp_model.specs.Configuration as model
 use Rattle.asp_model.specs.Configuration.{RequestShape}
-use Rattle.asp_model.specs.Shapes.{future_shape}
+use Rattle.code_table.specs.Cells.{held_future}
 use Rattle.code_table.specs.Shapes.{parcel_shape, store_of}
 use Rattle.request_queue.specs.Requests.{request_shape}
 use Rattle.step_activity.specs.Actors.{Stands, code_of}
@@ -23,7 +23,7 @@ sent-requires g c =
 pub filled-requires : goal.filled-requires
 filled-requires g c =
     let x = subst (IsSomeFresh c.args.self.now.holders.holders) c.in-Filled.is c.requires.fresh in
-    record { told = x.3.begun (future_shape c.in-Filled.future, parcel_shape c.in-Filled.field-1) x.2.2 }
+    record { told = x.3.begun (held_future c.in-Filled.future, parcel_shape c.in-Filled.field-1) x.2.2 }
 
 pub returns-in-Nothing-clause-answers : goal.returns-in-Nothing-clause-answers
 returns-in-Nothing-clause-answers g c = none_answered g.P.UpdatePolicy.answer g.P.UpdatePolicy.asked (strategy_in c.args.self.now) c.args.self.now c.args.self.now refl refl refl
@@ -49,7 +49,7 @@ returns-in-Sent-clause-holders g c e given =
 pub returns-in-Filled-clause-holders : goal.returns-in-Filled-clause-holders
 returns-in-Filled-clause-holders g c e given =
     let old = c.args.self.now.holders.holders in
-    let f = future_shape c.in-Filled.future in
+    let f = held_future c.in-Filled.future in
     let is = subst (IsGiven c.args.by.now e) c.in-Filled.is given in
     let x = subst (IsSomeFresh old) c.in-Filled.is c.requires.fresh in
     let new = filled_once f old (x.3.filled (f, parcel_shape c.in-Filled.field-1) x.2.2) in
@@ -58,7 +58,7 @@ returns-in-Filled-clause-holders g c e given =
 pub returns-in-Filled-clause-answers : goal.returns-in-Filled-clause-answers
 returns-in-Filled-clause-answers g c =
     let old = c.args.self.now in
-    let f = future_shape c.in-Filled.future in
+    let f = held_future c.in-Filled.future in
     let x = subst (IsSomeFresh old.holders.holders) c.in-Filled.is c.requires.fresh in
     let new = filled_once f old.holders.holders (x.3.filled (f, parcel_shape c.in-Filled.field-1) x.2.2) in
     none_answered g.P.UpdatePolicy.answer g.P.UpdatePolicy.asked (strategy_in (record old { holders = c.filled.new.self })) old (record old { holders = c.filled.new.self }) (ap (λ h. h.edges) (c.filled.ensures.filled ∙ new)) c.filled.ensures.answers refl

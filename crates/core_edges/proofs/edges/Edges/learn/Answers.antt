@@ -1,4 +1,5 @@
 use Rattle.std.proofs.Common.{◌≡◌, ◌∙◌, None, Some, sym, ap, subst, rules}
+use Rattle.std.specs.Arc.{arc_value}
 use Rattle.std.specs.BTreeMap as trees
 use Rattle.asp_model.specs.declared.name.FutureName.{FutureName}
 use Rattle.update_policy.specs.Plans.{or_strategy}
@@ -11,7 +12,7 @@ returns-then-eq-clause-learned g c =
     let usual : c.strategy_of-strategy.result ≡ old.plan.strategy = search rules in
     record {
       here = ap (or_strategy old.plan.strategy) c.remove-other.ensures.updates.1 ∙ sym usual ∙ c.strategy_of-strategy.ensures.strategy;
-      others = others_keep old.plan.strategy old.strategies c.remove-other.new.self c.args.request.now.future None c.remove-other.ensures.updates;
+      others = others_keep old.plan.strategy old.strategies c.remove-other.new.self (arc_value c.args.request.now.future).name None c.remove-other.ensures.updates;
     }
 
 pub returns-clause-learned : goal.returns-clause-learned
@@ -20,5 +21,5 @@ returns-clause-learned g c =
     let told = subst (λ (f : FutureName). trees.UpdatesBy future_order (future_order f) old.strategies c.insert.new.self (Some c.strategy_of-strategy.result)) c.in_ok-future.ensures.name c.in_ok-insert.ensures.updates in
     record {
       here = ap (or_strategy old.plan.strategy) told.1 ∙ c.strategy_of-strategy.ensures.strategy;
-      others = others_keep old.plan.strategy old.strategies c.insert.new.self c.args.request.now.future (Some c.strategy_of-strategy.result) told;
+      others = others_keep old.plan.strategy old.strategies c.insert.new.self (arc_value c.args.request.now.future).name (Some c.strategy_of-strategy.result) told;
     }

@@ -18,5 +18,5 @@ returns-then-not-holds_futures g c =
     let held = futures_held (all_coded c.args.value.now.cells.items) in
     record {
       passed = no_future_passed g.P.UpdatePolicy.answer g.P.UpdatePolicy.asked (future_shape c.args.future.now) held c.args.by.now c.args.self.now (subst (λ b. OnFalse b (held ≡ [])) c.if-not-holds_futures.true
-          (subst (λ (cs : List Cell). OnFalse c.holds_futures.result (futures_held (all_coded cs) ≡ [])) c.deref.ensures.value c.holds_futures.ensures.none));
+          (subst (λ (cs : List Cell). OnFalse c.holds_futures.result (futures_held (all_coded cs) ≡ [])) c.as_slice-cells.ensures.items c.holds_futures.ensures.none));
     }

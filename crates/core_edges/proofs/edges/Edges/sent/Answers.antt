@@ -20,5 +20,5 @@ returns g c =
       sent = on_ok c.pass_cells.result (sent_is g.P.UpdatePolicy.answer g.P.UpdatePolicy.asked by home (request_shape r) (futures_held cells) (passes_are (arc_value r.arguments.code) cells by home)
           c.args.self.now first begun c.pass.new.self c.pass_cells.new.self
           c.in_ok-learn.ensures.learned c.in_ok-learn.ensures.rest c.in_ok-sent.ensures.begun c.sent.ensures.answers refl (record { activities = c.sent.ensures.activities; plan = refl; strategies = refl })
-          c.in_ok-pass.ensures.passed) (subst (λ (cs : List Cell). OnOk c.pass_cells.result (ArePassed g.P.UpdatePolicy.answer g.P.UpdatePolicy.asked (futures_held (all_coded cs)) by home c.pass.new.self c.pass_cells.new.self)) c.deref.ensures.value c.pass_cells.ensures.passed);
+          c.in_ok-pass.ensures.passed) (subst (λ (cs : List Cell). OnOk c.pass_cells.result (ArePassed g.P.UpdatePolicy.answer g.P.UpdatePolicy.asked (futures_held (all_coded cs)) by home c.pass.new.self c.pass_cells.new.self)) c.as_slice.ensures.items c.pass_cells.ensures.passed);
     }

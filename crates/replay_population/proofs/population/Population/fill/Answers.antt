@@ -1,5 +1,5 @@
 use Rattle.std.proofs.Common.{refl}
-use Rattle.asp_model.specs.Shapes.{future_shape}
+use Rattle.code_table.specs.Cells.{held_future}
 use Rattle.code_table.specs.Shapes.{parcel_shape}
 use Rattle.replay_population.specs.declared.population.Population.{Population}
 use Rattle.replay_population.proofs.PopulationLemmas.{any_way, if_ok_with, value_filled}
@@ -10,7 +10,7 @@ returns c =
     let p : Population = c.args.self.now in
     let q : Population = record p { futures = c.fill.new.self } in
     record {
-      filled = λ k h code. if_ok_with c.fill.result _ _ _ (λ values coded. value_filled p q k (future_shape c.args.future) (parcel_shape c.args.value) h refl values (coded h.code code h.values)) c.fill.ensures.values c.fill.ensures.code;
+      filled = λ k h code. if_ok_with c.fill.result _ _ _ (λ values coded. value_filled p q k (held_future c.args.future) (parcel_shape c.args.value) h refl values (coded h.code code h.values)) c.fill.ensures.values c.fill.ensures.code;
       roster = any_way c.fill.result _ refl;
       passed = any_way c.fill.result _ (λ m j e. e);
     }
