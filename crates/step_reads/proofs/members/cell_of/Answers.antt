@@ -16,10 +16,10 @@ returns-in-Some c =
     let cs : List Cell = c.args.parcel.now.cells.items in
     let p : ℕ = c.args.place in
     let d : Cell = c.in-Some.cell.now in
-    let there : d ≡ get_or cs p d = subst (λ (xs : List Cell). d ≡ get_or xs p d) c.deref.ensures.value (c.in-Some.ensures.lookup.3.1 d) in
-    let within : p < length cs = subst (λ (xs : List Cell). p < length xs) c.deref.ensures.value (grind (arith, nat_tests, c.in-Some.ensures.lookup.0)) in
+    let there : d ≡ get_or cs p d = subst (λ (xs : List Cell). d ≡ get_or xs p d) c.as_slice.ensures.items (c.in-Some.ensures.lookup.3.1 d) in
+    let within : p < length cs = subst (λ (xs : List Cell). p < length xs) c.as_slice.ensures.items (grind (arith, nat_tests, c.in-Some.ensures.lookup.0)) in
     record {
-      cell = c.see.ensures.cell ∙ ap (λ (m : List Node). cell_shape m d) c.deref-in-Some.ensures
+      cell = c.see.ensures.cell ∙ ap (λ (m : List Node). cell_shape m d) c.deref.ensures
           ∙ sym (cell-store_of k (all_coded cs) p ∙ ap (cell_of k) (at_place cs p d within ∙ ap coded (sym there)));
     }
 
@@ -28,7 +28,7 @@ returns-in-None c =
     let k : List Node = arc_value c.args.parcel.now.code in
     let cs : List Cell = c.args.parcel.now.cells.items in
     let p : ℕ = c.args.place in
-    let size : length c.deref.result.now ≡ length cs = ap length c.deref.ensures.value in
+    let size : length c.as_slice.result.now ≡ length cs = ap length c.as_slice.ensures.items in
     let many : length (store_of k (all_coded cs)) ≡ length cs = length-store_of k (all_coded cs) ∙ length-map cs coded in
     let past : length (store_of k (all_coded cs)) ≤ p = grind (arith, nat_tests, many, size, c.in-None.ensures.lookup.0) in
     record { cell = sym (past_end (store_of k (all_coded cs)) p past) }
