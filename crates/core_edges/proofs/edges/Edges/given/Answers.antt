@@ -1,7 +1,12 @@
-use Rattle.std.proofs.Common.{◌≡◌, List, refl, sym, ap, ◌∙◌, subst}
+use Rattle.std.proofs.Common.{◌≡◌, List, IsSome, refl, sym, ap, ◌∙◌, subst}
 use Rattle.asp_model.specs.Configuration as model
 use Rattle.asp_model.specs.Configuration.{RequestShape}
+use Rattle.asp_model.specs.declared.name.FutureName.{FutureName}
+use Rattle.asp_model.specs.Shapes.{future_shape}
+use Rattle.code_table.specs.declared.future.Future.{Future}
 use Rattle.code_table.specs.Cells.{held_future}
+use Rattle.def_journals.specs.Edges.{home_of}
+use Rattle.future_update.specs.Changes.{once_filled}
 use Rattle.code_table.specs.Shapes.{parcel_shape, store_of}
 use Rattle.request_queue.specs.Requests.{request_shape}
 use Rattle.step_activity.specs.Actors.{Stands, code_of}
@@ -23,7 +28,9 @@ sent-requires g c =
 pub filled-requires : goal.filled-requires
 filled-requires g c =
     let x = subst (IsSomeFresh c.args.self.now.holders.holders) c.in-Filled.is c.requires.fresh in
-    record { told = x.3.begun (held_future c.in-Filled.future, parcel_shape c.in-Filled.field-1) x.2.2 }
+    let named = ap (λ (f : Future). f.name) c.deref.ensures in
+    let told : IsSome (home_of (held_future c.in-Filled.future) c.args.self.now.holders.holders.homes) = x.3.begun (held_future c.in-Filled.future, parcel_shape c.in-Filled.field-1) x.2.2 in
+    record { told = subst (λ (f : FutureName). IsSome (home_of (future_shape f) c.args.self.now.holders.holders.homes)) (sym named) told }
 
 pub returns-in-Nothing-clause-answers : goal.returns-in-Nothing-clause-answers
 returns-in-Nothing-clause-answers g c = none_answered g.P.UpdatePolicy.answer g.P.UpdatePolicy.asked (strategy_in c.args.self.now) c.args.self.now c.args.self.now refl refl refl
@@ -53,7 +60,8 @@ returns-in-Filled-clause-holders g c e given =
     let is = subst (IsGiven c.args.by.now e) c.in-Filled.is given in
     let x = subst (IsSomeFresh old) c.in-Filled.is c.requires.fresh in
     let new = filled_once f old (x.3.filled (f, parcel_shape c.in-Filled.field-1) x.2.2) in
-    c.filled.ensures.filled ∙ new ∙ sym (filled_given c.args.by.now e c.in-Filled.future c.in-Filled.field-1 is old)
+    let named = ap (λ (f : Future). once_filled (future_shape f.name) old) c.deref.ensures in
+    c.filled.ensures.filled ∙ named ∙ new ∙ sym (filled_given c.args.by.now e c.in-Filled.future c.in-Filled.field-1 is old)
 
 pub returns-in-Filled-clause-answers : goal.returns-in-Filled-clause-answers
 returns-in-Filled-clause-answers g c =
@@ -61,7 +69,8 @@ returns-in-Filled-clause-answers g c =
     let f = held_future c.in-Filled.future in
     let x = subst (IsSomeFresh old.holders.holders) c.in-Filled.is c.requires.fresh in
     let new = filled_once f old.holders.holders (x.3.filled (f, parcel_shape c.in-Filled.field-1) x.2.2) in
-    none_answered g.P.UpdatePolicy.answer g.P.UpdatePolicy.asked (strategy_in (record old { holders = c.filled.new.self })) old (record old { holders = c.filled.new.self }) (ap (λ h. h.edges) (c.filled.ensures.filled ∙ new)) c.filled.ensures.answers refl
+    let named = ap (λ (f : Future). once_filled (future_shape f.name) old.holders.holders) c.deref.ensures in
+    none_answered g.P.UpdatePolicy.answer g.P.UpdatePolicy.asked (strategy_in (record old { holders = c.filled.new.self })) old (record old { holders = c.filled.new.self }) (ap (λ h. h.edges) (c.filled.ensures.filled ∙ named ∙ new)) c.filled.ensures.answers refl
 
 pub returns-in-Nothing-clause-labels : goal.returns-in-Nothing-clause-labels
 returns-in-Nothing-clause-labels g c d n e new given labels =

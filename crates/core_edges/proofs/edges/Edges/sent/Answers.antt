@@ -1,9 +1,13 @@
-use Rattle.std.proofs.Common.{OnOk, List, refl, subst}
+use Rattle.std.proofs.Common.{◌≡◌, OnOk, List, refl, ap, subst}
 use Rattle.std.specs.Arc.{arc_value}
+use Rattle.asp_model.specs.declared.name.FutureName.{FutureName}
+use Rattle.asp_model.specs.Shapes.{future_shape}
+use Rattle.code_table.specs.declared.future.Future.{Future}
 use Rattle.code_table.specs.Cells.{all_coded}
 use Rattle.code_table.specs.declared.cells.Cell.{Cell}
 use Rattle.request_queue.specs.Requests.{request_shape}
-use Rattle.core_edges.specs.Passing.{ArePassed, futures_held}
+use Rattle.def_journals.specs.Edges.{Begins, after_event}
+use Rattle.core_edges.specs.Passing.{ArePassed, futures_held, one_future}
 use Rattle.core_edges.proofs.AnswerLemmas.{on_ok}
 use Rattle.core_edges.proofs.PassingLemmas.{passes_are, sent_is}
 use Rattle.core_edges.proofs.edges.Edges.sent.Goals as goal
@@ -16,9 +20,12 @@ returns g c =
     let cells = all_coded r.arguments.cells.items in
     let first = c.learn.new.self in
     let begun = record first { holders = c.sent.new.self } in
+    let named : c.deref.result.now.name ≡ (arc_value r.future).name = ap (λ (f : Future). f.name) c.deref.ensures in
+    let begins = subst (λ (f : FutureName). c.sent.new.self.holders ≡ after_event (Begins (future_shape f) home) first.holders.holders) named c.in_ok-sent.ensures.begun in
+    let passed = subst (λ (f : FutureName). ArePassed g.P.UpdatePolicy.answer g.P.UpdatePolicy.asked (one_future (future_shape f)) home by begun c.pass.new.self) named c.in_ok-pass.ensures.passed in
     record {
       sent = on_ok c.pass_cells.result (sent_is g.P.UpdatePolicy.answer g.P.UpdatePolicy.asked by home (request_shape r) (futures_held cells) (passes_are (arc_value r.arguments.code) cells by home)
           c.args.self.now first begun c.pass.new.self c.pass_cells.new.self
-          c.in_ok-learn.ensures.learned c.in_ok-learn.ensures.rest c.in_ok-sent.ensures.begun c.sent.ensures.answers refl (record { activities = c.sent.ensures.activities; plan = refl; strategies = refl })
-          c.in_ok-pass.ensures.passed) (subst (λ (cs : List Cell). OnOk c.pass_cells.result (ArePassed g.P.UpdatePolicy.answer g.P.UpdatePolicy.asked (futures_held (all_coded cs)) by home c.pass.new.self c.pass_cells.new.self)) c.as_slice.ensures.items c.pass_cells.ensures.passed);
+          c.in_ok-learn.ensures.learned c.in_ok-learn.ensures.rest begins c.sent.ensures.answers refl (record { activities = c.sent.ensures.activities; plan = refl; strategies = refl })
+          passed) (subst (λ (cs : List Cell). OnOk c.pass_cells.result (ArePassed g.P.UpdatePolicy.answer g.P.UpdatePolicy.asked (futures_held (all_coded cs)) by home c.pass.new.self c.pass_cells.new.self)) c.as_slice.ensures.items c.pass_cells.ensures.passed);
     }
