@@ -2,6 +2,7 @@ use Rattle.std.proofs.Common.{◌≡◌, suc, Some, refl, sym, ap, ◌∙◌, su
 use Rattle.asp_model.specs.Configuration as model
 use Rattle.asp_model.specs.Configuration.{From, RequestShape}
 use Rattle.asp_model.specs.Names.{FutureShape}
+use Rattle.asp_model.specs.Shapes.{future_shape}
 use Rattle.asp_model.specs.Store.{Future}
 use Rattle.code_table.specs.declared.future.Future.{Future as Held}
 use Rattle.code_table.specs.Cells.{held_future}
@@ -19,7 +20,7 @@ returns-clause-done c = λ a rs cs r places h e is.
     let z : Actor = record x { activity = y; sends = c.in_ok-number.number; clear = 0 } in
     let counted : c.in_ok-number.number ≡ suc a.sends = c.in_ok-number.ensures ∙ ap suc h.sends in
     let named : held_future c.in_ok-future.future ≡ record { by = n; index = suc a.sends } = c.in_ok-future.ensures.name ∙ (λ i. record { by = n; index = counted i }) in
-    let copied : future_shape c.in_ok-answer.answer ≡ record { by = n; index = suc a.sends } = ap (λ (f : FutureName). future_shape f) c.in_ok-answer.ensures.name ∙ named in
+    let copied : held_future c.in_ok-answer.answer ≡ record { by = n; index = suc a.sends } = ap (λ (f : Held). future_shape f.name) c.in_ok-answer.ensures ∙ named in
     let b : model.Activity = with_new_cell cs (Future (record { by = n; index = suc a.sends })) a in
     let for : StandsFor y b = subst (λ (f : FutureShape). StandsFor y (with_new_cell cs (Future f) a)) named (c.in_ok-sent.ensures.becomes a cs r h.activity e) in (
       record {
