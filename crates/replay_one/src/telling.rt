@@ -92,8 +92,8 @@ fn tell_given<N: Notes>(
     let event = match given {
         Given::Nothing => return Ok(()),
         Given::Made(made, _) => Event::Made(made),
-        Given::Sent(to, request) => Event::Sent(to, &request.label, &request.future),
-        Given::Filled(future, _) => Event::Answered(future),
+        Given::Sent(to, request) => Event::Sent(to, &request.label, &request.future.name),
+        Given::Filled(future, _) => Event::Answered(&future.name),
         Given::Polled => Event::Polled,
     };
     notes.note(Note { by, count, event })

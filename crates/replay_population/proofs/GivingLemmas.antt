@@ -2,7 +2,8 @@
 use Rattle.std.proofs.Common.{◌≡◌, [], ℕ, List, Option, Some, None, is_some, length, sym, ap, subst, ◌∙◌}
 use Rattle.std.specs.Global.{Box}
 use Rattle.std.specs.FinMap.{find, put}
-use Rattle.asp_model.specs.declared.name.FutureName.{FutureName}
+use Rattle.std.specs.declared.alloc.Global.{Global}
+use Rattle.std.specs.declared.sync.Arc.{Arc}
 use Rattle.asp_model.specs.Names.{Name, FutureShape, name_cmp, future_cmp}
 use Rattle.asp_model.specs.Term.{Tree, locations}
 use Rattle.asp_model.specs.Parcel.{ParcelShape}
@@ -11,9 +12,10 @@ use Rattle.asp_model.specs.Configuration as model
 use Rattle.asp_model.specs.Configuration.{Configuration, From, Poll, ReceptionShape, RequestShape, log_of, requests_of}
 use Rattle.asp_model.specs.Intent.{Acts, Effect}
 use Rattle.asp_model.specs.Step.{intent_in, put_some, with_effect, with_last}
-use Rattle.asp_model.specs.Shapes.{future_shape}
 use Rattle.def_journals.specs.Journals.{number_of}
 use Rattle.code_table.specs.declared.cells.Parcel.{Parcel}
+use Rattle.code_table.specs.declared.future.Future.{Future}
+use Rattle.code_table.specs.Cells.{held_future}
 use Rattle.code_table.specs.Shapes.{parcel_shape}
 use Rattle.request_queue.specs.declared.request.Request.{Request}
 use Rattle.request_queue.specs.Requests.{request_shape}
@@ -103,13 +105,13 @@ module _ (p : Population) (n : Name) (c : Configuration) (e : Effect) where
   pub polled_is : IsGiving p n given.Polled c e → with_poll n given.Polled (with_activity n e.own c) ≡ with_effect n e c
   polled_is h = effect_of n e c None None None (Some (n, Poll)) h.given.0 h.given.1 h.given.2 h.given.3
 
-  pub filled_is : (f : FutureName) (v : Parcel) → IsGiving p n (given.Filled f v) c e → with_value (future_shape f) (parcel_shape v) (with_activity n e.own c) ≡ with_effect n e c
-  filled_is f v h = effect_of n e c None None (Some (future_shape f, parcel_shape v)) None h.given.0 h.given.1 h.given.2 h.given.3
+  pub filled_is : (f : Arc Future Global) (v : Parcel) → IsGiving p n (given.Filled f v) c e → with_value (held_future f) (parcel_shape v) (with_activity n e.own c) ≡ with_effect n e c
+  filled_is f v h = effect_of n e c None None (Some (held_future f, parcel_shape v)) None h.given.0 h.given.1 h.given.2 h.given.3
 
   -- the future was not filled
-  pub filled_new : (f : FutureName) (v : Parcel) → IsGiving p n (given.Filled f v) c e → find future_cmp (future_shape f) (values_of p.futures) ≡ None
-  filled_new f v h = ap (λ (vs : Values). find future_cmp (future_shape f) vs) h.here.population.futures ∙ (h.free.filled (future_shape f) (parcel_shape v) h.given.2).0
+  pub filled_new : (f : Arc Future Global) (v : Parcel) → IsGiving p n (given.Filled f v) c e → find future_cmp (held_future f) (values_of p.futures) ≡ None
+  filled_new f v h = ap (λ (vs : Values). find future_cmp (held_future f) vs) h.here.population.futures ∙ (h.free.filled (held_future f) (parcel_shape v) h.given.2).0
 
   -- its value has one root
-  pub filled_root : (f : FutureName) (v : Parcel) → IsGiving p n (given.Filled f v) c e → length v.roots.items ≡ 1
-  filled_root f v h = (h.free.filled (future_shape f) (parcel_shape v) h.given.2).1
+  pub filled_root : (f : Arc Future Global) (v : Parcel) → IsGiving p n (given.Filled f v) c e → length v.roots.items ≡ 1
+  filled_root f v h = (h.free.filled (held_future f) (parcel_shape v) h.given.2).1
