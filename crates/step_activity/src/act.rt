@@ -148,12 +148,7 @@ impl Actor {
 
     /// The redex is contracted, or does what it asks of others. The future of a request is the one at
     /// `at` in the table of futures.
-    fn contract(
-        &mut self,
-        alloc: Global,
-        name: &ActivityName,
-        at: u32,
-    ) -> Result<Given, AllocError>
+    fn contract(&mut self, alloc: Global, name: &ActivityName, at: u32) -> Result<Given, AllocError>
         requires closed { IsClosedFor self.old }
         ensures contracts { (a : model.Activity) (rs : List RequestShape) (cs : List Context)
             (r : Redex) → Stands self.old a rs → split a.term ≡ Splits cs r →
