@@ -8,6 +8,7 @@ use Rattle.asp_model.specs.Chase.{Chase, chase}
 use Rattle.asp_model.specs.Configuration.{Activity, Configuration}
 use Rattle.asp_model.specs.Intent.{Reads, Lacks, redex_ready, newest}
 
+-- what a redex comes to is a communication
 abbrev pub is_asking : Contraction → Bool
 is_asking (Communicates x) = true
 is_asking (Becomes t store lines) = false
@@ -25,5 +26,7 @@ is_communication chases a = elim (split a.term) [
   ]
 ]
 
+-- the next step of an activity of a configuration is a communication; without such an activity, or where it cannot
+-- step, none is
 abbrev pub communicates_next : Configuration → Name → Bool
 communicates_next c n = elim (find name_cmp n c.activities) [ None ↦ false | Some a ↦ is_communication (chase c.futures) a ]

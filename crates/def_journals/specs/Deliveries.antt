@@ -25,6 +25,7 @@ abbrev pub unpack_each : Store → List ℕ → ParcelShape → Store
 unpack_each s [] p = s
 unpack_each s (n ∷ ns) p = unpack_each (unpack_at s n p) ns p
 
+-- the configuration in which the activity of this name has this store
 abbrev pub with_store : Configuration → Name → Activity → Store → Configuration
 with_store c n a s = record c { activities = put name_cmp n (record a { store = s }) c.activities }
 
@@ -52,6 +53,7 @@ abbrev pub value_needed : (FutureShape → Chase) → FutureShape → CellShape 
 value_needed chases f (Future g) = value_of f (chases g)
 value_needed chases f c = None
 
+-- the value, if there is one, in place of the cell at one place
 abbrev pub at_place : Configuration → Name → ℕ → Activity → Option ParcelShape → Option Configuration
 at_place c to place a None = None
 at_place c to place a (Some p) = Some (with_store c to a (unpack_at a.store place p))

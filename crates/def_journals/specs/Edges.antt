@@ -22,6 +22,7 @@ pub data Event : Type 0 where
   -- the value was delivered along this edge
   Delivers : (edge : EdgeShape) → Event
 
+-- where futures went: their homes, the edges along which they were passed, and what became of their values
 pub record HoldersShape : Type 0 where
   -- each future with its home
   pub homes : List (FutureShape × Name)
@@ -51,18 +52,23 @@ first_holders c = record {
 abbrev pub no_holders : HoldersShape
 no_holders = record { homes = []; edges = []; filled = []; received = []; delivered = [] }
 
+-- they have one future and lead from one activity to one activity
 abbrev pub same_edge : EdgeShape → EdgeShape → Bool
 same_edge x y = same_future x.future y.future && (same_name x.from y.from && same_name x.to y.to)
 
+-- the edge is in the list
 abbrev pub has_edge : EdgeShape → List EdgeShape → Bool
 has_edge x = list_any (same_edge x)
 
+-- the future is in the list of those that are filled
 abbrev pub has_filled : FutureShape → List FutureShape → Bool
 has_filled f = list_any (same_future f)
 
+-- the activity is in the list of those that received the value of this future
 abbrev pub has_received : FutureShape → Name → List (FutureShape × Name) → Bool
 has_received f n = list_any (λ x. same_future f x.0 && same_name n x.1)
 
+-- the activity that is asked by the request of a future, if that was sent
 abbrev pub home_of : FutureShape → List (FutureShape × Name) → Option Name
 home_of f [] = None
 home_of f (x ∷ xs) = elim (same_future f x.0) [ true ↦ Some x.1 | false ↦ home_of f xs ]
@@ -73,6 +79,7 @@ home_of f (x ∷ xs) = elim (same_future f x.0) [ true ↦ Some x.1 | false ↦ 
 abbrev pub is_no_edge : EdgeShape → List EdgeShape → Bool
 is_no_edge x edges = same_name x.from x.to || has_edge x edges
 
+-- an edge is entered at the end, unless it is kept already or leads from an activity to itself
 abbrev pub with_edge : EdgeShape → List EdgeShape → List EdgeShape
 with_edge x edges = elim (is_no_edge x edges) [ true ↦ edges | false ↦ edges ++ x ∷ [] ]
 
@@ -86,6 +93,7 @@ abbrev pub with_held : List FutureShape → Option Name → Name → List EdgeSh
 with_held fs None to edges = edges
 with_held fs (Some home) to edges = with_edges fs home to edges
 
+-- the activity counts as one that has received the value; entered once
 abbrev pub with_received : FutureShape → Name → List (FutureShape × Name) → List (FutureShape × Name)
 with_received f n xs = elim (has_received f n xs) [ true ↦ xs | false ↦ xs ++ (f, n) ∷ [] ]
 
@@ -93,6 +101,7 @@ with_received f n xs = elim (has_received f n xs) [ true ↦ xs | false ↦ xs +
 abbrev pub with_delivered : EdgeShape → List EdgeShape → List EdgeShape → List EdgeShape
 with_delivered x edges xs = elim (has_edge x edges && not (has_edge x xs)) [ true ↦ xs ++ x ∷ [] | false ↦ xs ]
 
+-- what one event leaves
 abbrev pub after_event : Event → HoldersShape → HoldersShape
 after_event (Begins f home) h = record h { homes = h.homes ++ (f, home) ∷ [] }
 after_event (Passes x) h = record h { edges = with_edge x h.edges }
@@ -103,12 +112,14 @@ after_event (Receives f n held) h = record h {
 }
 after_event (Delivers x) h = record h { delivered = with_delivered x h.edges h.delivered }
 
+-- what events leave, one after another
 abbrev pub after_events : List Event → HoldersShape → HoldersShape
 after_events [] h = h
 after_events (e ∷ es) h = after_events es (after_event e h)
 
 -- Owed edges
 
+-- this activity is the home
 abbrev pub is_home : Name → Option Name → Bool
 is_home n None = false
 is_home n (Some m) = same_name n m
@@ -117,6 +128,8 @@ is_home n (Some m) = same_name n m
 abbrev pub has_value : HoldersShape → EdgeShape → Bool
 has_value h x = is_home x.from (home_of x.future h.homes) || has_received x.future x.from h.received
 
+-- the answer sends the value along the edge now: under `FromHome` always, under `Forward` once the edge's first
+-- activity has it, under `Leave` never
 abbrev pub is_chosen : ChoiceShape → HoldersShape → EdgeShape → Bool
 is_chosen FromHome h x = true
 is_chosen Forward h x = has_value h x
@@ -126,6 +139,7 @@ is_chosen Leave h x = false
 abbrev pub is_owed : HoldersShape → ChoiceShape → EdgeShape → Bool
 is_owed h answer x = not (has_edge x h.delivered) && (has_filled x.future h.filled && is_chosen answer h x)
 
+-- an edge with its answer is owed, where both are there
 abbrev pub owed_at : HoldersShape → Option EdgeShape → Option ChoiceShape → Bool
 owed_at h (Some x) (Some answer) = is_owed h answer x
 owed_at h x answer = false

@@ -11,6 +11,7 @@ use Rattle.asp_model.specs.declared.limits.TheConstants.{MOST_GRANTED}
 use Rattle.def_journals.specs.Deliveries.{edge_delivered, need_delivered}
 use Rattle.def_journals.specs.Communications.{communicates_next}
 
+-- what the entries of a history have made of its beginning
 pub record RunShape : Type 0 where
   pub configuration : Configuration
   -- the names of the activities in the order of creation: the k-th is that of number k
@@ -64,12 +65,15 @@ is_in s n = elim (number_of n s.names) [ None ↦ false | Some k ↦ is_none (gr
 
 -- Lent: an activity that is in and running goes out, with what is left of the budget up to the most
 
+-- the activity of this number is in, it can step, and some of the budget is left
 abbrev pub may_lend : RunShape → ℕ → Name → Bool
 may_lend s k n = is_none (grant_of k s.out) && is_running (status_of s.configuration n) && nat_lt 0 s.left
 
+-- the grant of a lease: what is left of the budget, up to the most
 abbrev pub granted : RunShape → ℕ
 granted s = min MOST_GRANTED s.left
 
+-- the activity goes out with its grant, which leaves the budget; none where it may not be lent
 abbrev pub lent : ℕ → RunShape → Option Name → Option RunShape
 lent k s None = None
 lent k s (Some n) = elim (may_lend s k n) [
@@ -102,6 +106,8 @@ back s k rest (Some d) = Some (record {
   out = out_but k s.out;
 })
 
+-- the activity comes in after r steps, with the rest of its grant; none where it was not out, took more than its
+-- grant, or cannot take these steps
 abbrev pub committed : (k r : ℕ) → RunShape → Option Name → Option ℕ → Option RunShape
 committed k r s None grant = None
 committed k r s (Some n) None = None
@@ -112,10 +118,12 @@ committed k r s (Some n) (Some grant) = elim (nat_le r grant) [
 
 -- Delivered: to an activity that is in
 
+-- the run with this configuration in place of its own
 abbrev pub over : RunShape → Option Configuration → Option RunShape
 over s None = None
 over s (Some d) = Some (record s { configuration = d })
 
+-- one delivery is made; none where the receiver is out or not there, or there is no such value or place
 abbrev pub delivered : DeliveryShape → RunShape → Option RunShape
 delivered (Edge f from to) s = elim (is_some (find name_cmp from s.configuration.activities) && is_in s to) [
   | true ↦ over s (edge_delivered s.configuration f to)

@@ -21,10 +21,12 @@ needed_at (Value f p) place = Some (f, place)
 needed_at (Unfilled f) place = None
 needed_at (Cycle f) place = None
 
+-- the need at a cell that is a future
 abbrev pub need_in : (FutureShape → Chase) → ℕ → CellShape → Option (FutureShape × ℕ)
 need_in chases place (Future f) = needed_at (chases f) place
 need_in chases place c = None
 
+-- the need at the place of the first operand that is a future, if there is one
 abbrev pub need_at : (FutureShape → Chase) → Store → Option ℕ → Option (FutureShape × ℕ)
 need_at chases s None = None
 need_at chases s (Some place) = need_in chases place (cell s place)
@@ -36,15 +38,18 @@ need_of chases a = elim (split a.term) [
   | Splits contexts r ↦ need_at chases a.store (first_future a.store (strict_operands r.head r.places ++ strict_members a.store r.head r.places))
 ]
 
+-- the need of an activity of a configuration
 abbrev pub need_to : Configuration → Name → Option (FutureShape × ℕ)
 need_to c n = elim (find name_cmp n c.activities) [ None ↦ None | Some a ↦ need_of (chase c.futures) a ]
 
 -- What is owed next
 
+-- the delivery that a need asks for
 abbrev pub need_delivery : Name → Option (FutureShape × ℕ) → Option DeliveryShape
 need_delivery n None = None
 need_delivery n (Some x) = Some (Need x.0 n x.1)
 
+-- the first, or the second where there is none
 abbrev pub or_else : Option DeliveryShape → Option DeliveryShape → Option DeliveryShape
 or_else (Some x) o = Some x
 or_else None o = o
@@ -72,6 +77,7 @@ next_owed s h answers = or_else (first_need s s.names) (first_edge s h h.edges a
 
 -- The verdict
 
+-- the list is not empty
 abbrev pub is_any : {A : Type 0} → List A → Bool
 is_any [] = false
 is_any (x ∷ xs) = true

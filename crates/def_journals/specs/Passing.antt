@@ -18,6 +18,7 @@ use Rattle.asp_model.specs.Step.{name_at}
 
 -- Futures in cells
 
+-- the future that a cell is, if it is one
 abbrev pub future_in : CellShape → List FutureShape
 future_in (Future f) = f ∷ []
 future_in c = []
@@ -28,11 +29,13 @@ futures_in = flat_map future_in
 
 -- What a step unpacks
 
+-- the value to which a future leads, with that value's own future
 abbrev pub value_read : Chase → List (FutureShape × ParcelShape)
 value_read (Value f p) = (f, p) ∷ []
 value_read (Unfilled f) = []
 value_read (Cycle f) = []
 
+-- the value to which the future in a cell leads
 abbrev pub cell_read : (FutureShape → Chase) → CellShape → List (FutureShape × ParcelShape)
 cell_read chases (Future f) = value_read (chases f)
 cell_read chases c = []
@@ -60,6 +63,7 @@ unpacked_by chases a = elim (split a.term) [ Stands place ↦ [] | Splits contex
 
 -- Events of a step
 
+-- the activity receives this value, which holds futures
 abbrev pub receives : Name → FutureShape × ParcelShape → Event
 receives n x = Receives x.0 n (futures_in x.1.cells)
 
@@ -79,6 +83,7 @@ abbrev pub made_events : Name → Option (Name × Activity) → List Event
 made_events n None = []
 made_events n (Some x) = passes_all n x.0 x.1.store
 
+-- a future is filled
 abbrev pub filled_events : Option (FutureShape × ParcelShape) → List Event
 filled_events None = []
 filled_events (Some x) = Fills x.0 ∷ []
@@ -87,6 +92,7 @@ filled_events (Some x) = Fills x.0 ∷ []
 abbrev pub effect_events : Name → List (FutureShape × ParcelShape) → Effect → List Event
 effect_events n read e = map (receives n) read ++ (sent_events n e.sent ++ (made_events n e.made ++ filled_events e.filled))
 
+-- what the next step of an activity of a configuration unpacks
 abbrev pub read_in : Configuration → Name → List (FutureShape × ParcelShape)
 read_in c n = elim (find name_cmp n c.activities) [ None ↦ [] | Some a ↦ unpacked_by (chase c.futures) a ]
 
@@ -94,15 +100,18 @@ read_in c n = elim (find name_cmp n c.activities) [ None ↦ [] | Some a ↦ unp
 abbrev pub step_events : Configuration → Name → List Event
 step_events c n = elim (intent_in c n) [ Rests status ↦ [] | Acts e ↦ effect_events n (read_in c n) e ]
 
+-- the events of so many steps of an activity, as far as it can take them
 abbrev pub steps_events : ℕ → Configuration → Name → List Event
 steps_events zero c n = []
 steps_events (suc r) c n = step_events c n ++ elim (step None c n) [ None ↦ [] | Some d ↦ steps_events r d n ]
 
 -- Events of a journal
 
+-- an activity receives the own value of a future, if it has one
 abbrev pub received_events : Configuration → FutureShape → Name → List Event
 received_events c f to = elim (find future_cmp f c.futures) [ None ↦ [] | Some p ↦ receives to (f, p) ∷ [] ]
 
+-- the events of so many steps of the activity that has this name, if there is one
 abbrev pub named_events : RunShape → ℕ → Option Name → List Event
 named_events s r None = []
 named_events s r (Some n) = steps_events r s.configuration n
@@ -114,6 +123,7 @@ entry_events (Committed k r) s = named_events s r (name_at s.names k)
 entry_events (Delivered (Edge f from to)) s = Delivers (record { future = f; from = from; to = to }) ∷ received_events s.configuration f to
 entry_events (Delivered (Need f to place)) s = received_events s.configuration f to
 
+-- the events of entries, up to the first whose condition does not hold
 abbrev pub events_from : List EntryShape → RunShape → List Event
 events_from [] s = []
 events_from (x ∷ xs) s = entry_events x s ++ elim (entered x s) [ None ↦ [] | Some t ↦ events_from xs t ]

@@ -20,9 +20,11 @@ pub data MayBoth {A B : Type 0} (R : A → B → Type 0) : Option A → Option B
   neither : MayBoth R None None
   both : {x : A} {y : B} → R x y → MayBoth R (Some x) (Some y)
 
+-- a context with each location set to 0
 abbrev pub blank_context : Context → Context
 blank_context x = record { head = moved_head (λ n. 0) x.head; before = map (λ n. 0) x.before; behind = moved_below (λ n. 0) x.behind }
 
+-- the locations of a context, in text order
 abbrev pub places_round : Context → List ℕ
 places_round x = own_locations x.head ++ (x.before ++ locations_below x.behind)
 
@@ -30,6 +32,7 @@ places_round x = own_locations x.head ++ (x.before ++ locations_below x.behind)
 abbrev pub blank_service : ServiceShape → ServiceShape
 blank_service v = record { contexts = map blank_context v.contexts; future = v.future }
 
+-- the locations of a term that waits, context by context
 abbrev pub places_in : ServiceShape → List ℕ
 places_in v = flat_map places_round v.contexts
 
@@ -49,9 +52,11 @@ pub record ActivitiesAgree (k l : FutureShape → Chase) (a b : Activity) : Type
   pub lines : a.lines ≡ b.lines
   pub served : a.served ≡ b.served
 
+-- every path from their roots finds the same
 abbrev pub ParcelsAgree : (k l : FutureShape → Chase) → ParcelShape → ParcelShape → Type 0
 ParcelsAgree k l p q = AreReadAlike (side_by k p.cells) (side_by l q.cells) p.roots q.roots
 
+-- they are equal but for their arguments, which agree
 pub record RequestsAgree (k l : FutureShape → Chase) (r s : RequestShape) : Type 0 where
   pub label : r.label ≡ s.label
   pub sender : r.sender ≡ s.sender

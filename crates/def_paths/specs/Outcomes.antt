@@ -25,9 +25,11 @@ pub record WholeOutcome : Type 0 where
   pub ends : List EndShape
   pub futures : Values
 
+-- the end of an activity of a configuration
 abbrev pub end_of : Configuration → Name × Activity → EndShape
 end_of c x = record { report = activity_report c x; snapshot = snapshot_of x.1 }
 
+-- the end of a run that leaves this configuration, with the states
 abbrev pub whole_outcome_of : Configuration → WholeOutcome
 whole_outcome_of c = record { verdict = verdict_of c; ends = map (end_of c) c.activities; futures = c.futures }
 
@@ -43,9 +45,11 @@ pub record SnapshotsAgree (k l : FutureShape → Chase) (s t : SnapshotShape) : 
   pub services : map blank_service s.services ≡ map blank_service t.services
   pub reading : AreReadAlike (side_by k s.store) (side_by l t.store) (roots_in s) (roots_in t)
 
+-- equal but for the states, which agree
 abbrev pub EndsAgree : (k l : FutureShape → Chase) → EndShape → EndShape → Type 0
 EndsAgree k l e d = (e.report ≡ d.report) × SnapshotsAgree k l e.snapshot d.snapshot
 
+-- one future, and values that agree
 abbrev pub ValuesAgree : (k l : FutureShape → Chase) → FutureShape × ParcelShape → FutureShape × ParcelShape → Type 0
 ValuesAgree k l x y = (x.0 ≡ y.0) × ParcelsAgree k l x.1 y.1
 
@@ -57,10 +61,12 @@ pub record OutcomesAgree (o p : WholeOutcome) : Type 0 where
 
 -- The report at a depth
 
+-- the state lines of an activity, if a depth is asked for
 abbrev pub lines_to : Option ℕ → Values → EndShape → List (List ℕ)
 lines_to None values e = []
 lines_to (Some d) values e = state_lines d values e.report.status e.snapshot
 
+-- what a report shows of an activity: its own lines, then those of its state
 abbrev pub end_lines : Option ℕ → Values → EndShape → List (List ℕ)
 end_lines depth values e = activity_lines e.report ++ lines_to depth values e
 

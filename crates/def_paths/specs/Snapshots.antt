@@ -10,12 +10,14 @@ use Rattle.def_paths.specs.Places.{Side, side_of, found_at}
 use Rattle.def_paths.specs.Agree.{places_in}
 use Rattle.def_paths.specs.PathLabels.{PathLabel, from_by}
 
+-- the state of an activity: its term, the services that wait, its store, and where its active object is
 pub record SnapshotShape : Type 0 where
   pub term : Tree
   pub services : List ServiceShape
   pub store : Store
   pub active : ℕ
 
+-- the state of an activity of a configuration
 abbrev pub snapshot_of : Activity → SnapshotShape
 snapshot_of a = record { term = a.term; services = a.services; store = a.store; active = a.active }
 
@@ -36,6 +38,7 @@ abbrev pub result_in : StatusShape → Tree → Option ℕ
 result_in Done (node (Loc n) ts) = Some n
 result_in status t = None
 
+-- the number of the root after the active object's, if there is such a place
 abbrev pub number_if : Option ℕ → Option ℕ
 number_if None = None
 number_if (Some place) = Some 1
@@ -46,6 +49,7 @@ root_number status s Active_object = Some 0
 root_number status s Result = number_if (result_in status s.term)
 root_number status s (Term_at n) = Some (suc n)
 
+-- what a path finds from the root of that number, if there is one
 abbrev pub read_from : Side → List ℕ → List PathLabel → Option ℕ → Option CellShape
 read_from a roots path None = None
 read_from a roots path (Some k) = found_at a (from_by a roots k path)
