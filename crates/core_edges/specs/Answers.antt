@@ -1,4 +1,4 @@
--- The answers of new edges: each by the policy of its future's strategy, which is asked once.
+-- The answers of new edges: each by the policy of its future's strategy, which is asked at most once.
 use Rattle.std.specs.Prelude.{◌≡◌, ◌≤◌, ◌+◌, ℕ, List, [], ◌∷◌, ◌++◌}
 use Rattle.asp_model.specs.Names.{Name, FutureShape}
 use Rattle.asp_model.specs.History.{ChoiceShape}

@@ -46,6 +46,7 @@ pub record IsStanding (h : HistoryShape) (code : List Node) (x : CoreState) (t :
   pub name : Name
   pub named : name_at t.names k ≡ Some name
 
+-- the same, of some history
 abbrev pub IsSomeStanding : CoreState → ℕ → Type 0
 IsSomeStanding x k = (h : HistoryShape) × (code : List Node) × (t : RunShape) × IsStanding h code x t k
 

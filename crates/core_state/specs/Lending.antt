@@ -19,12 +19,12 @@ pub record IsNewLease (h : HistoryShape) (code : List Node) (k : ℕ) (x : Lease
   pub taken : x.taken ≡ 0
   pub fresh : x.spent ≡ false
 
--- who is ready is lent, with one entry more; nothing changes where it is not
+-- an activity that is ready is lent, with one entry more; if it is not ready, nothing changes
 abbrev pub IsLentBy : HistoryShape → List Node → RunShape → ℕ → (old : CoreState) → Option Lease → (new : CoreState) → Type 0
 IsLentBy h code s k old None new = (is_ready s k ≡ false) × (new ≡ old)
 IsLentBy h code s k old (Some x) new = (is_ready s k ≡ true) × IsCore (with_entry h (Lent k)) code new (with_lease s k) × IsNewLease (with_entry h (Lent k)) code k x
 
--- the least number of those who are ready, or nobody is
+-- the lowest-numbered activity that is ready; none if no activity is
 abbrev pub IsNextReady : RunShape → Option ℕ → Type 0
 IsNextReady s None = (k : ℕ) → is_ready s k ≡ false
 IsNextReady s (Some k) = (is_ready s k ≡ true) × ((j : ℕ) → is_ready s j ≡ true → k ≤ j)

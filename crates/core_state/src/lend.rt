@@ -14,8 +14,8 @@ use crate::state::CoreState;
 use asp_model::{Entry, MOST_GRANTED};
 
 impl CoreState {
-    /// The least number of those who are ready: who are in, can step, and lack nothing, while some
-    /// budget is left.
+    /// The lowest-numbered activity that is ready, or none if the budget is used up. An activity is
+    /// ready if it is in, can take a step, and is owed no value.
     pub fn next_ready(&self) -> Option<u32>
         ensures next { (h : HistoryShape) (code : List NodeShape) (s : RunShape) →
             IsCore h code self.now s → IsNextReady s result }

@@ -63,7 +63,7 @@ unpacked_by chases a = elim (split a.term) [ Stands place ↦ [] | Splits contex
 
 -- Events of a step
 
--- the activity receives this value, which holds futures
+-- an activity receives a value, and with it the futures that this holds
 abbrev pub receives : Name → FutureShape × ParcelShape → Event
 receives n x = Receives x.0 n (futures_in x.1.cells)
 

@@ -48,7 +48,8 @@ use asp_model::Choice;
 use core_sets::Lanes;
 use std::alloc::AllocError;
 
-/// Makes room for an edge.
+/// Makes room for an edge: in the records, in the list of what was passed, and a place in the lane of
+/// its receiver. After it `enter` allocates nothing.
 pub fn make_room(
     records: &mut Records,
     passings: &mut Passings,

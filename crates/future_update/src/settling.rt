@@ -11,8 +11,8 @@ use crate::passings::Passings;
 use crate::records::Records;
 use core_sets::Lanes;
 
-/// Marks what is owed of the edges of a future that begin at activities from one number to another,
-/// where all else that is owed is marked.
+/// Marks the edges of a future that are owed and begin at activities numbered from `first` to `last`.
+/// All other edges have right marks before.
 pub fn settle(
     records: &Records,
     passings: &Passings,

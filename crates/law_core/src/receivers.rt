@@ -2,12 +2,13 @@
 
 ghost use Rattle.law_core.specs.Receivers.{DeliveriesKeepRank, NeedsKeepRank};
 
-/// A delivery along an edge leaves the rank of its receiver, where no value was owed to that.
+/// A delivery along an edge leaves the rank of its receiver, if no value was owed to it.
 pub fn deliveries_keep_rank()
     ensures { DeliveriesKeepRank }
 {}
 
-/// So does a delivery at a place where the value is needed.
+/// A delivery at a place where the value is needed leaves the rank of its receiver, if no value was
+/// owed to it.
 pub fn needs_keep_rank()
     ensures { NeedsKeepRank }
 {}

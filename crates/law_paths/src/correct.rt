@@ -8,7 +8,8 @@ pub fn reached_are_replayed()
     ensures { ReachedAreReplayed }
 {}
 
-/// So does what a lawful journal of leases and deliveries leaves.
+/// Whatever a lawful journal of leases and deliveries leaves agrees with the replay of its own lists
+/// and counts.
 pub fn journals_are_replayed()
     ensures { JournalsAreReplayed }
 {}

@@ -66,7 +66,7 @@ pub record IsWokenBy (lists : Option ListsShape) (c : Configuration) (n : Name) 
 
 -- Laws
 
--- after a step, with those ready who were and whom it wakes, who is not ready rests still
+-- if a step adds the activities that it wakes to the ready ones, every other activity still rests
 abbrev pub WokenAreScheduled : Type 0
 WokenAreScheduled = (program : Tree) (lists : Option ListsShape) (count : Name → ℕ) (c : Configuration)
     (n : Name) (e : Effect) (noted : FutureShape → Name → Bool) (before after : Name → Bool)

@@ -3,12 +3,12 @@
 ghost use Rattle.law_schedules.specs.Schedules.{LeastSteps, MainIsReady, NoneIsReady, NotesLeave, RestersLeave, WokenAreScheduled};
 ghost use Rattle.law_schedules.specs.Watches.{CalledAreScheduled, MainIsWatched};
 
-/// After a step, with those ready whom it wakes, who is not ready rests still.
+/// If a step adds the activities that it wakes to the ready ones, every other activity still rests.
 pub fn woken_are_scheduled()
     ensures { WokenAreScheduled }
 {}
 
-/// Who rests may leave those who are ready.
+/// An activity that rests may leave the ready ones.
 pub fn resters_leave()
     ensures { RestersLeave }
 {}
@@ -33,8 +33,8 @@ pub fn main_is_ready()
     ensures { MainIsReady }
 {}
 
-/// After a step, with those ready whom it is for, who is not ready rests still, and waits for what
-/// is noted.
+/// If a step adds the activities that it is for to the ready ones, every other activity still rests,
+/// and waits for what is noted of it.
 pub fn called_are_scheduled()
     ensures { CalledAreScheduled }
 {}

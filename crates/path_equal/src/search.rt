@@ -13,7 +13,7 @@ pub enum Search {
     Found(usize),
 }
 
-/// Behind these places.
+/// The search after these places were passed.
 pub fn past(search: Search, places: &[usize]) -> Search
     ensures searched { result ≡ searched places.now search }
 {
@@ -29,7 +29,7 @@ pub fn past(search: Search, places: &[usize]) -> Search
     }
 }
 
-/// Behind a place.
+/// The search after this place was passed.
 pub fn past_place(search: Search, place: usize) -> Search
     ensures searched { result ≡ searched (place ∷ []) search }
 {

@@ -3,6 +3,7 @@ use Rattle.std.specs.Prelude.{ℕ}
 use Rattle.asp_model.specs.Marked.{Marked, marked}
 use Rattle.syntax_grammar.specs.States.{Have, StateShape, At, operand_part}
 
+-- the parentheses round a term
 abbrev pub parentheses_of : Marked → ℕ
 parentheses_of (marked h m ts) = m.parentheses
 

@@ -11,6 +11,7 @@ use Rattle.syntax_tokens.specs.Tokens.{Lexeme, lexeme}
 use Rattle.syntax_grammar.specs.Nodes.{PartShape, part, number_at, variable_at, echo_at, word_at, active_at, if_at, let_at, group_at, scatter_at, member_at, operated, got, called, put, is_get, terms_at, in_parentheses, made, served, method}
 use Rattle.syntax_grammar.specs.Signs.{IsProductSign, IsSumSign, IsTestSign, IsWord, IsLabelWord, IsHead, IsService, IsLabelPart}
 
+-- whether a term may stand on the left of `:=`: under the rule a field access alone
 abbrev pub may_put : Bool → Marked → Bool
 may_put false t = true
 may_put true t = is_get t
@@ -83,30 +84,36 @@ mutual
         → IsMethods s ws ms methods → IsHead ls ns h → IsSeq s us n ts
         → IsMethods s (ws ++ lexeme tokens.Comma comma_at ∷ (ls ++ lexeme tokens.Close close_at ∷ lexeme tokens.Equals equals_at ∷ us)) (ms ++ ns) (methods ++ method h (terms_at n ts) ∷ [])
 
+  -- [ Fields ]
   pub data IsFieldPart : Bool → List Lexeme → List ℕ → List (Text × Marked) → Type 0 where
     no_fields : (s : Bool) → IsFieldPart s [] [] []
     fields : (s : Bool) (ls : List Lexeme) (ns : List ℕ) (xs : List (Text × Marked)) → IsFields s ls ns xs → IsFieldPart s ls ns xs
 
+  -- [ ";" Methods ]
   pub data IsMethodPart : Bool → List Lexeme → List ℕ → List MarkedMethod → Type 0 where
     no_methods : (s : Bool) → IsMethodPart s [] [] []
     methods : (s : Bool) (ls : List Lexeme) (ns : List ℕ) (xs : List MarkedMethod) (at : ℕ) → IsMethods s ls ns xs
         → IsMethodPart s (lexeme tokens.Semicolon at ∷ ls) ns xs
 
+  -- Post { ("*" | "/" | "%") Post }
   pub data IsProd : Bool → List Lexeme → PartShape → Type 0 where
     post : (s : Bool) (ls : List Lexeme) (p : PartShape) → IsPost s ls p → IsProd s ls p
     times : (s : Bool) (token : Token) (sign : SignShape) (at : ℕ) (ls us : List Lexeme) (p q : PartShape) → IsProductSign token sign → IsProd s ls p → IsPost s us q
         → IsProd s (ls ++ lexeme token at ∷ us) (operated sign p q)
 
+  -- Prod { ("+" | "-") Prod }
   pub data IsSum : Bool → List Lexeme → PartShape → Type 0 where
     prod : (s : Bool) (ls : List Lexeme) (p : PartShape) → IsProd s ls p → IsSum s ls p
     plus : (s : Bool) (token : Token) (sign : SignShape) (at : ℕ) (ls us : List Lexeme) (p q : PartShape) → IsSumSign token sign → IsSum s ls p → IsProd s us q
         → IsSum s (ls ++ lexeme token at ∷ us) (operated sign p q)
 
+  -- Sum [ ("<" | "==") Sum ]
   pub data IsTest : Bool → List Lexeme → PartShape → Type 0 where
     sum : (s : Bool) (ls : List Lexeme) (p : PartShape) → IsSum s ls p → IsTest s ls p
     test : (s : Bool) (token : Token) (sign : SignShape) (at : ℕ) (ls us : List Lexeme) (p q : PartShape) → IsTestSign token sign → IsSum s ls p → IsSum s us q
         → IsTest s (ls ++ lexeme token at ∷ us) (operated sign p q)
 
+  -- Test [ ":=" Expr ], with a field access on the left under the rule
   pub data IsExpr : Bool → List Lexeme → PartShape → Type 0 where
     tested : (s : Bool) (ls : List Lexeme) (p : PartShape) → IsTest s ls p → IsExpr s ls p
     assign : (s : Bool) (at : ℕ) (ls us : List Lexeme) (p q : PartShape) → IsTest s ls p → may_put s p.term ≡ true → IsExpr s us q

@@ -28,6 +28,7 @@ next_term kind e s outer =
 abbrev pub times : term.SignShape → PartShape → OpenShape → List OpenShape → Option StateShape
 times sign p s outer = Some (At Want (with_product sign p s) outer)
 
+-- a sign of sums after an operand
 abbrev pub plus : term.SignShape → PartShape → OpenShape → List OpenShape → Option StateShape
 plus sign p s outer = Some (At Want (with_sum sign p s) outer)
 
@@ -36,6 +37,7 @@ abbrev pub test_behind : Option OperatorShape → term.SignShape → PartShape �
 test_behind (Some a) sign p s outer = None
 test_behind None sign p s outer = Some (At Want (with_test sign p s) outer)
 
+-- `:=` after an operand, if that may stand on its left
 abbrev pub assign : PartShape → Bool → OpenShape → List OpenShape → Option StateShape
 assign p false s outer = None
 assign p true s outer = Some (At Want (with_put p s) outer)
@@ -60,6 +62,7 @@ behind rule p s outer tokens.Comma = concluded comma (finish p s outer)
 behind rule p s outer tokens.End = ended (finish p s outer)
 behind rule p s outer token = None
 
+-- a token after an operand
 abbrev pub have : Bool → OperandShape → OpenShape → List OpenShape → Token → Option StateShape
 have rule x s outer tokens.Open = changed (call_begun x) s outer
 have rule x s outer token = behind rule (operand_part x) s outer token
@@ -127,13 +130,16 @@ stepped rule (SelfNaming x label) s outer token at = changed (self_named x label
 stepped rule (HeadNamed x h) s outer token at = changed (head_goes_on x h token) s outer
 stepped rule (ParameterNaming x h) s outer token at = changed (parameter_named x h token at) s outer
 
+-- the next state; none if the token cannot stand there
 abbrev pub step : Bool → StateShape → Lexeme → Option StateShape
 step rule (At mode s outer) l = stepped rule mode s outer l.token l.at
 step rule (Done t) l = None
 
+-- the state after lexemes
 abbrev pub run : Bool → StateShape → List Lexeme → Option StateShape
 run rule x [] = Some x
 run rule x (l ∷ ls) = step rule x l >>= λ y. run rule y ls
 
+-- before the first lexeme
 abbrev pub start : StateShape
 start = At Begin (fresh Top) []

@@ -8,15 +8,18 @@ use Rattle.syntax_tokens.specs.declared.token.Token.TheVariants as tokens
 use Rattle.syntax_tokens.specs.Tokens.{Lexeme, lexeme}
 use Rattle.syntax_grammar.specs.Nodes.{with_parameter}
 
+-- "*", "/" or "%"
 pub data IsProductSign : Token → SignShape → Type 0 where
   multiplies : IsProductSign tokens.Star term.Multiply
   divides : IsProductSign tokens.Slash term.Divide
   leaves : IsProductSign tokens.Percent term.Remainder
 
+-- "+" or "-"
 pub data IsSumSign : Token → SignShape → Type 0 where
   adds : IsSumSign tokens.Plus term.Add
   subtracts : IsSumSign tokens.Minus term.Subtract
 
+-- "<" or "=="
 pub data IsTestSign : Token → SignShape → Type 0 where
   is_less : IsTestSign tokens.Less term.Less
   is_same : IsTestSign tokens.Same term.Equal
@@ -53,6 +56,7 @@ pub data IsLabels : List Lexeme → List ℕ → List Text → Type 0 where
   and_label : (ls : List Lexeme) (ns : List ℕ) (labels : List Text) (comma_at at : ℕ) (label : Text) → IsLabels ls ns labels
       → IsLabels (ls ++ lexeme tokens.Comma comma_at ∷ lexeme (tokens.Name label) at ∷ []) (ns ++ at ∷ []) (labels ++ label ∷ [])
 
+-- [ Labels ]
 pub data IsLabelPart : List Lexeme → List ℕ → List Text → Type 0 where
   no_labels : IsLabelPart [] [] []
   labels : (ls : List Lexeme) (ns : List ℕ) (xs : List Text) → IsLabels ls ns xs → IsLabelPart ls ns xs

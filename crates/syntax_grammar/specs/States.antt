@@ -86,10 +86,12 @@ pub data ModeShape : Type 0 where
   HeadNamed : (object : ObjectShape) (head : MethodHead) → ModeShape
   ParameterNaming : (object : ObjectShape) (head : MethodHead) → ModeShape
 
+-- how far the reading is: what may come next, what is open, innermost first; or the whole program
 pub data StateShape : Type 0 where
   At : (mode : ModeShape) (inner : OpenShape) (outer : List OpenShape) → StateShape
   Done : (term : Marked) → StateShape
 
+-- an operator that waits for its right side
 abbrev pub operator : SignShape → PartShape → OperatorShape
 operator sign left = record { sign = sign; left = left }
 
@@ -98,10 +100,12 @@ abbrev pub has_terms : KindShape → Bool
 has_terms (InField object label) = false
 has_terms kind = true
 
+-- an open sequence, part by part
 abbrev pub opened_with : KindShape → ℕ → List Marked → List PartShape → Option OperatorShape → Option OperatorShape → Option OperatorShape → OpenShape
 opened_with kind start before puts test sum product =
     record { kind = kind; start = start; before = before; puts = puts; test = test; sum = sum; product = product }
 
+-- an open sequence of which nothing was read
 abbrev pub fresh : KindShape → OpenShape
 fresh kind = opened_with kind 0 [] [] None None None
 
@@ -109,12 +113,15 @@ fresh kind = opened_with kind 0 [] [] None None None
 abbrev pub new_object : ℕ → ObjectShape
 new_object at = record { at = at; names = []; fields = []; methods = [] }
 
+-- the object with the place of one name more
 abbrev pub with_name : ObjectShape → ℕ → ObjectShape
 with_name x at = record x { names = x.names ++ at ∷ [] }
 
+-- with one field more
 abbrev pub with_field : ObjectShape → Text → Marked → ObjectShape
 with_field x label t = record x { fields = x.fields ++ (label, t) ∷ [] }
 
+-- with one method more
 abbrev pub with_method : ObjectShape → MethodHead → Marked → ObjectShape
 with_method x head t = record x { methods = x.methods ++ method head t ∷ [] }
 
@@ -122,9 +129,11 @@ with_method x head t = record x { methods = x.methods ++ method head t ∷ [] }
 abbrev pub new_labels : Bool → ℕ → LabelsShape
 new_labels polls at = record { at = at; polls = polls; names = []; labels = [] }
 
+-- with one label more
 abbrev pub with_label : LabelsShape → ℕ → Text → LabelsShape
 with_label x at label = record x { names = x.names ++ at ∷ []; labels = x.labels ++ label ∷ [] }
 
+-- the term that an operand is
 abbrev pub operand_part : OperandShape → PartShape
 operand_part (Plain p) = p
 operand_part (Access p at label) = got p at label
@@ -139,13 +148,16 @@ abbrev pub joined : Option OperatorShape → PartShape → PartShape
 joined None p = p
 joined (Some a) p = operated a.sign a.left p
 
+-- the assignments that wait, from the innermost out, with their right side
 abbrev pub put_all : List PartShape → PartShape → PartShape
 put_all [] p = p
 put_all (a ∷ ps) p = put_all ps (put a p)
 
+-- the sum that an operand ends
 abbrev pub sum_in : OpenShape → PartShape → PartShape
 sum_in s p = joined s.sum (joined s.product p)
 
+-- the test that an operand ends
 abbrev pub test_in : OpenShape → PartShape → PartShape
 test_in s p = joined s.test (sum_in s p)
 
@@ -157,9 +169,11 @@ term_in s p = put_all s.puts (test_in s p)
 abbrev pub without_sum : OpenShape → OpenShape
 without_sum s = record s { sum = None; product = None }
 
+-- without operators that wait
 abbrev pub without_test : OpenShape → OpenShape
 without_test s = record s { test = None; sum = None; product = None }
 
+-- without assignments either
 abbrev pub without_puts : OpenShape → OpenShape
 without_puts s = record s { puts = []; test = None; sum = None; product = None }
 
@@ -167,9 +181,11 @@ without_puts s = record s { puts = []; test = None; sum = None; product = None }
 abbrev pub with_product : SignShape → PartShape → OpenShape → OpenShape
 with_product sign p s = record s { product = Some (operator sign (joined s.product p)) }
 
+-- a sum that waits for its right side
 abbrev pub with_sum : SignShape → PartShape → OpenShape → OpenShape
 with_sum sign p s = record s { sum = Some (operator sign (sum_in s p)); product = None }
 
+-- a test that waits for its right side
 abbrev pub with_test : SignShape → PartShape → OpenShape → OpenShape
 with_test sign p s = record s { test = Some (operator sign (sum_in s p)); sum = None; product = None }
 
@@ -186,6 +202,7 @@ first_start (t ∷ ts) n at = n
 abbrev pub with_next : PartShape → OpenShape → OpenShape
 with_next e s = record s { start = first_start s.before s.start e.start; before = s.before ++ e.term ∷ [] }
 
+-- a sequence as one term
 abbrev pub sequence_part : ℕ → List Marked → PartShape
 sequence_part n ts = part n (terms_at n ts)
 

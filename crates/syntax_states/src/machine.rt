@@ -274,7 +274,7 @@ fn behind(
     }
 }
 
-// The same but for the end.
+// What a token other than the end makes of an expression that was read.
 fn follow(alloc: Global, state: &mut State, part: Part, token: Token) -> Result<(), Stop>
     requires few { parentheses_of (part_shape part).term ≤ MOST_LEVEL }
     ensures { let inner = open_shape state.old.inner in

@@ -23,12 +23,15 @@ use Rattle.syntax_grammar.specs.Nodes.{PartShape, part, got, ObjectShape, Labels
 use Rattle.syntax_grammar.specs.States.{OperatorShape, TargetShape, KindShape, OpenShape, operator, listed}
 use Rattle.syntax_grammar.specs.States as states
 
+-- a term that was read, with where it begins
 abbrev pub part_shape : Part → PartShape
 part_shape p = record { start = p.start; term = marked_of p.term.value }
 
+-- an operator with its left side
 abbrev pub operator_shape : Operator → OperatorShape
 operator_shape p = operator (sign_shape p.sign) (part_shape p.left)
 
+-- the operator that waits for its right side, if one does
 abbrev pub waiting_shape : Option Operator → Option OperatorShape
 waiting_shape None = None
 waiting_shape (Some p) = Some (operator_shape p)

@@ -1,4 +1,4 @@
-//! What a policy is. It is asked once for each edge, and may change as it answers.
+//! What a policy is. It is asked at most once for each edge, and may change as it answers.
 
 ghost use Rattle.std.specs.Prelude.{◌≡◌, ◌≤◌, ◌+◌, ℕ};
 ghost use Rattle.asp_model.specs.History.{ChoiceShape};
