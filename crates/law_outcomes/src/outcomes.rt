@@ -38,13 +38,14 @@ pub fn replay_reports_are_read()
     ensures { ReplayReportsAreRead }
 {}
 
-/// Two ended runs of one program whose reports read as equal logs print the same bytes.
+/// Two ended runs of one program whose reports, at one depth, read as equal logs print the same
+/// bytes.
 pub fn end_reports_agree()
     ensures { EndReportsAgree }
 {}
 
-/// Where the logs of an ended run are narrow, each of one sender and without a poll, every run of
-/// the program that ends prints the same bytes.
+/// If the logs of an ended run are narrow, each of one sender and without a poll, every run of the
+/// program that ends prints the same bytes at each depth.
 pub fn narrow_reports_are_all()
     ensures { NarrowReportsAreAll }
 {}
