@@ -2,7 +2,8 @@
 
 ghost use Rattle.std.specs.Prelude.{◌≡◌, IfOk, OnOk, Some};
 ghost use Rattle.asp_model.specs.Configuration as model;
-ghost use Rattle.asp_model.specs.Configuration.{Configuration};
+ghost use Rattle.asp_model.specs.Chase.{chase};
+ghost use Rattle.asp_model.specs.Configuration.{Configuration, requests_of};
 ghost use Rattle.asp_model.specs.Names.{Name};
 ghost use Rattle.asp_model.specs.Shapes.{status_shape};
 ghost use Rattle.asp_model.specs.Status.{status_of};
@@ -10,6 +11,7 @@ ghost use Rattle.asp_model.specs.Step.{intent_in};
 ghost use Rattle.def_journals.specs.Journals.{number_of};
 ghost use Rattle.law_steps.specs.Reached.{IsAt};
 ghost use Rattle.step_activity.specs.Outlook.{IsOutlook};
+ghost use Rattle.step_activity.specs.Stances.{stance_of, stance_shape};
 ghost use Rattle.replay_population.specs.Population.{
   IsClosedBySome,
   IsKnown,
@@ -20,7 +22,7 @@ ghost use Rattle.replay_population.specs.Population.{
 use crate::population::Population;
 use asp_model::Status;
 use std::alloc::{AllocError, Global};
-use step_parts::Outlook;
+use step_parts::{Outlook, Stance};
 
 impl Population {
     /// How many reductions an activity took; none where nobody has the number.
@@ -61,6 +63,21 @@ impl Population {
         match self.get(number) {
             Some(actor) => actor.outlook(alloc, &self.futures),
             None => Ok(Outlook::Done),
+        }
+    }
+
+    /// Where an activity stands that has settled: what is owed to it first, and else what it does.
+    pub fn stance(&self, alloc: Global, number: u32) -> Result<Stance<'_>, AllocError>
+        requires closed { IsClosedBySome self.now }
+        requires known { IsKnown self.now number }
+        ensures stance { (c : Configuration) (a : model.Activity) (n : Name) →
+            IsPopulation self.now c → number_of n self.now.roster ≡ Some number → IsAt c n a →
+            let stands = stance_of (chase c.futures) (requests_of c n) n a in
+            IfOk result (λ x. stance_shape x ≡ stands) }
+    {
+        match self.get(number) {
+            Some(actor) => actor.stance(alloc, &self.futures),
+            None => Ok(Stance::Done),
         }
     }
 
