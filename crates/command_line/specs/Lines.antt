@@ -4,7 +4,7 @@ use Rattle.clap.specs.Walk.{Text}
 use Rattle.update_policy.specs.declared.strategy.Strategy.{Strategy}
 use Rattle.update_policy.specs.declared.strategy.Strategy.TheVariants.{Lazy, Forward, Message}
 use Rattle.command_line.specs.Settings.{SettingsShape, usual}
-use Rattle.command_line.specs.Task.{TaskShape, Runs, Checks, Rules, Replays, Makes, task_of}
+use Rattle.command_line.specs.Task.{TaskShape, Runs, Checks, Rules, Journals, Replays, Makes, task_of}
 
 abbrev pub Asks : List Text → TaskShape → Type 0
 Asks words task = task_of words ≡ Some task
@@ -38,13 +38,17 @@ pub record AcceptedLines : Type 0 where
   pub determinate : Asks (one ∷ codes "--determinate" ∷ []) (Rules one usual)
   pub determinate_settings : Asks (codes "--determinate" ∷ one ∷ codes "--workers=64" ∷ codes "--strategy=message" ∷ [])
       (Rules one (record (with_plan Message []) { workers = 64 }))
+  pub journal : Asks (one ∷ codes "--journal" ∷ codes "--strategy=message" ∷ [])
+      (Journals one (with_plan Message []))
   pub replay : Asks (one ∷ codes "--replay=one.report" ∷ []) (Replays one (codes "one.report") None)
   pub replay_hyphen : Asks (one ∷ codes "--replay" ∷ codes "-" ∷ []) (Replays one (codes "-") None)
   pub hyphen_behind : Asks (one ∷ codes "--replay=-r" ∷ []) (Replays one (codes "-r") None)
   pub state : Asks (one ∷ codes "--state=0" ∷ []) (Runs one usual (Some 0))
-  pub state_budget : Asks (codes "--state" ∷ codes "4" ∷ one ∷ codes "--budget=5" ∷ []) (Runs one (with_budget 5) (Some 4))
+  pub state_budget : Asks (codes "--state" ∷ codes "4" ∷ one ∷ codes "--budget=5" ∷ [])
+      (Runs one (with_budget 5) (Some 4))
   pub state_zeros : Asks (one ∷ codes "--state=00000003" ∷ []) (Runs one usual (Some 3))
-  pub state_replay : Asks (one ∷ codes "--replay=one.report" ∷ codes "--state=2" ∷ []) (Replays one (codes "one.report") (Some 2))
+  pub state_replay : Asks (one ∷ codes "--replay=one.report" ∷ codes "--state=2" ∷ [])
+      (Replays one (codes "one.report") (Some 2))
   pub make : Asks (codes "--make" ∷ codes "3" ∷ []) (Makes 3 usual)
   pub make_budget : Asks (codes "--make=2000" ∷ codes "--budget=7" ∷ []) (Makes 2000 (with_budget 7))
   pub strategy : Asks (one ∷ codes "--strategy=message" ∷ []) (Runs one (with_plan Message []) None)
@@ -76,6 +80,11 @@ pub record RefusedCombinations : Type 0 where
   pub determinate_replay : IsRefused (one ∷ codes "--determinate" ∷ codes "--replay=one.report" ∷ [])
   pub determinate_state : IsRefused (one ∷ codes "--determinate" ∷ codes "--state=1" ∷ [])
   pub determinate_make : IsRefused (codes "--make=3" ∷ codes "--determinate" ∷ [])
+  pub journal_check : IsRefused (one ∷ codes "--journal" ∷ codes "--check" ∷ [])
+  pub journal_replay : IsRefused (one ∷ codes "--journal" ∷ codes "--replay=one.report" ∷ [])
+  pub journal_state : IsRefused (one ∷ codes "--journal" ∷ codes "--state=1" ∷ [])
+  pub journal_determinate : IsRefused (one ∷ codes "--journal" ∷ codes "--determinate" ∷ [])
+  pub journal_make : IsRefused (codes "--make=3" ∷ codes "--journal" ∷ [])
   pub state_alone : IsRefused (codes "--state=1" ∷ [])
   pub check_state : IsRefused (codes "--check" ∷ one ∷ codes "--state=1" ∷ [])
   pub make_state : IsRefused (codes "--make=3" ∷ codes "--state=1" ∷ [])

@@ -5,8 +5,8 @@ use Rattle.clap.specs.Walk.{Text}
 use Rattle.update_policy.specs.Plans.{plan_shape}
 use Rattle.command_line.specs.Command.{SettingTexts, TextsShape}
 use Rattle.command_line.specs.Settings.{SettingsShape}
-use Rattle.command_line.specs.Wanted.{CompanionsShape, WantedShape, Run, Check, Rule, Replay, Make}
-use Rattle.command_line.specs.Task.{TaskShape, Runs, Checks, Rules, Replays, Makes}
+use Rattle.command_line.specs.Wanted.{CompanionsShape, WantedShape, Run, Check, Rule, Journal, Replay, Make}
+use Rattle.command_line.specs.Task.{TaskShape, Runs, Checks, Rules, Journals, Replays, Makes}
 use Rattle.command_line.specs.declared.command.Given.{Given}
 use Rattle.command_line.specs.declared.command.Texts.{Texts}
 use Rattle.command_line.specs.declared.settings.Settings.{Settings}
@@ -32,6 +32,7 @@ texts_shape t = record {
   file = text_behind t.file;
   check = t.check;
   determinate = t.determinate;
+  journal = t.journal;
   replay = text_behind t.replay;
   make = text_behind t.make;
   state = text_behind t.state;
@@ -45,6 +46,7 @@ abbrev pub task_shape : Task → TaskShape
 task_shape (task.Run file settings depth) = Runs file.now (settings_shape settings) depth
 task_shape (task.Check file) = Checks file.now
 task_shape (task.Rule file settings) = Rules file.now (settings_shape settings)
+task_shape (task.Journal file settings) = Journals file.now (settings_shape settings)
 task_shape (task.Replay file report depth) = Replays file.now report.now depth
 task_shape (task.Make pairs settings) = Makes pairs (settings_shape settings)
 
@@ -52,6 +54,7 @@ abbrev pub wanted_shape : Wanted → WantedShape
 wanted_shape wanted.Run = Run
 wanted_shape wanted.Check = Check
 wanted_shape wanted.Rule = Rule
+wanted_shape wanted.Journal = Journal
 wanted_shape (wanted.Replay report) = Replay report.now
 wanted_shape (wanted.Make pairs) = Make pairs.now
 

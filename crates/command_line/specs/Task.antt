@@ -6,13 +6,14 @@ use Rattle.asp_model.specs.declared.limits.TheConstants.{MOST_DEPTH, MOST_PAIRS}
 use Rattle.command_line.specs.Command.{SettingTexts, TextsShape, is_taken, texts_of}
 use Rattle.command_line.specs.Numbers.{number_in}
 use Rattle.command_line.specs.Settings.{IsSettings, SettingsShape, settings_of}
-use Rattle.command_line.specs.Wanted.{WantedShape, Run, Check, Rule, Replay, Make, companions_of, stand, wanted_in}
+use Rattle.command_line.specs.Wanted.{WantedShape, Run, Check, Rule, Journal, Replay, Make, companions_of, stand, wanted_in}
 
 -- a depth is that of the states that the report shows; with none it shows no state
 pub data TaskShape : Type 0 where
   Runs : (file : Text) (settings : SettingsShape) (depth : Option ℕ) → TaskShape
   Checks : (file : Text) → TaskShape
   Rules : (file : Text) (settings : SettingsShape) → TaskShape
+  Journals : (file : Text) (settings : SettingsShape) → TaskShape
   Replays : (file report : Text) (depth : Option ℕ) → TaskShape
   Makes : (pairs : ℕ) (settings : SettingsShape) → TaskShape
 
@@ -25,6 +26,7 @@ IsDepth (Some depth) = depth ≤ MOST_DEPTH
 abbrev pub IsWithin : TaskShape → Type 0
 IsWithin (Runs file settings depth) = IsSettings settings × IsDepth depth
 IsWithin (Rules file settings) = IsSettings settings
+IsWithin (Journals file settings) = IsSettings settings
 IsWithin (Replays file report depth) = IsDepth depth
 IsWithin (Makes pairs settings) = ((1 ≤ pairs) × (pairs ≤ MOST_PAIRS)) × IsSettings settings
 IsWithin task = ⊤
@@ -41,6 +43,9 @@ running file given state =
 abbrev pub ruling : Text → SettingTexts → Option TaskShape
 ruling file given = option_map (Rules file) (settings_of given)
 
+abbrev pub journaling : Text → SettingTexts → Option TaskShape
+journaling file given = option_map (Journals file) (settings_of given)
+
 abbrev pub replaying : Text → Text → Option Text → Option TaskShape
 replaying file report state = option_map (Replays file report) (depth_of state)
 
@@ -53,6 +58,7 @@ abbrev pub task_by : WantedShape → (file : Option Text) → TextsShape → Opt
 task_by Run (Some file) t = running file t.settings t.state
 task_by Check (Some file) t = Some (Checks file)
 task_by Rule (Some file) t = ruling file t.settings
+task_by Journal (Some file) t = journaling file t.settings
 task_by (Replay report) (Some file) t = replaying file report t.state
 task_by (Make pairs) None t = making pairs t.settings
 task_by wanted file t = None

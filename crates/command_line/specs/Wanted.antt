@@ -10,6 +10,8 @@ pub data WantedShape : Type 0 where
   Check : WantedShape
   -- whether the run is the only one
   Rule : WantedShape
+  -- what the core of the run did
+  Journal : WantedShape
   Replay : (report : Text) → WantedShape
   Make : (pairs : Text) → WantedShape
 
@@ -28,6 +30,7 @@ abbrev pub wanted_in : TextsShape → Option WantedShape
 wanted_in t =
     let asked = and_asks (Some Run) (flag_asks t.check Check) in
     let asked = and_asks asked (flag_asks t.determinate Rule) in
+    let asked = and_asks asked (flag_asks t.journal Journal) in
     let asked = and_asks asked (option_map Replay t.replay) in
     and_asks asked (option_map Make t.make)
 
@@ -42,6 +45,7 @@ abbrev pub companions_of : WantedShape → CompanionsShape
 companions_of Run = record { racing = true; budget = true; state = true }
 companions_of Check = record { racing = false; budget = false; state = false }
 companions_of Rule = record { racing = true; budget = true; state = false }
+companions_of Journal = record { racing = true; budget = true; state = false }
 companions_of (Replay report) = record { racing = false; budget = false; state = true }
 companions_of (Make pairs) = record { racing = true; budget = true; state = false }
 

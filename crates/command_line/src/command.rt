@@ -27,6 +27,7 @@ pub struct Texts<'a> {
     pub file: Option<&'a str>,
     pub check: bool,
     pub determinate: bool,
+    pub journal: bool,
     pub replay: Option<&'a str>,
     pub make: Option<&'a str>,
     pub state: Option<&'a str>,
@@ -90,7 +91,8 @@ fn with_more_options<'a>(alloc: Global, command: Command<'a>) -> Result<Command<
 fn with_tasks<'a>(alloc: Global, command: Command<'a>) -> Result<Command<'a>, AllocError>
     ensures { IfOk result (λ c. app_of c ≡ with_the_tasks (app_of command.entry)) }
 {
-    with_flag(alloc, command, "determinate")
+    let command = with_flag(alloc, command, "determinate")?;
+    with_flag(alloc, command, "journal")
 }
 
 // The program's name.
@@ -147,6 +149,7 @@ fn texts_found<'a>(matches: &ArgMatches<'a>) -> Texts<'a>
         file: text_of(matches, "file"),
         check: is_true(text_of(matches, "check")),
         determinate: is_true(text_of(matches, "determinate")),
+        journal: is_true(text_of(matches, "journal")),
         replay: text_of(matches, "replay"),
         make: text_of(matches, "make"),
         state: text_of(matches, "state"),

@@ -5,6 +5,7 @@ ghost use Rattle.command_line.specs.Task.{
   IsDepth,
   IsWithin,
   depth_of,
+  journaling,
   making,
   replaying,
   ruling,
@@ -43,6 +44,13 @@ pub enum Task<'a> {
     },
     /// Run it, and say whether that run is the only one.
     Rule {
+        /// The file's name.
+        file: &'a str,
+        /// How it is run.
+        settings: Settings,
+    },
+    /// Run it, and write what its core did.
+    Journal {
         /// The file's name.
         file: &'a str,
         /// How it is run.
@@ -98,14 +106,16 @@ fn task_from<'a>(alloc: Global, texts: &Texts<'a>) -> Result<Task<'a>, WordsErro
 fn task_by<'a>(alloc: Global, wanted: Wanted<'a>, texts: &Texts<'a>) -> Result<Task<'a>, WordsError>
     ensures ok { let asked = task_given (wanted_shape wanted.entry) in IfOk result
         (λ t. asked (text_behind texts.now.file) (texts_shape texts.now) ≡ Some (task_shape t)) }
-    ensures usage { let asked = task_given (wanted_shape wanted.entry) in IfErr result (λ e. e ≡ errors.Usage
-        → asked (text_behind texts.now.file) (texts_shape texts.now) ≡ None) }
+    ensures usage { let asked = task_given (wanted_shape wanted.entry) in
+        let task = asked (text_behind texts.now.file) (texts_shape texts.now) in
+        IfErr result (λ e. e ≡ errors.Usage → task ≡ None) }
     ensures within { IfOk result (λ t. IsWithin (task_shape t)) }
 {
     match (wanted, texts.file) {
         (Wanted::Run, Some(file)) => run(alloc, file, &texts.settings, texts.state),
         (Wanted::Check, Some(file)) => Ok(Task::Check { file }),
         (Wanted::Rule, Some(file)) => rule(alloc, file, &texts.settings),
+        (Wanted::Journal, Some(file)) => journal(alloc, file, &texts.settings),
         (Wanted::Replay(report), Some(file)) => replay(file, report, texts.state),
         (Wanted::Make(pairs), None) => make(alloc, pairs, &texts.settings),
         _ => Err(WordsError::Usage),
@@ -142,6 +152,17 @@ fn rule<'a>(alloc: Global, file: &'a str, given: &Given<'_>) -> Result<Task<'a>,
 {
     let settings = settings_in(alloc, given)?;
     Ok(Task::Rule { file, settings })
+}
+
+fn journal<'a>(alloc: Global, file: &'a str, given: &Given<'_>) -> Result<Task<'a>, WordsError>
+    ensures ok { IfOk result
+        (λ t. journaling file.entry.now (given_shape given.now) ≡ Some (task_shape t)) }
+    ensures usage { IfErr result
+        (λ e. e ≡ errors.Usage → journaling file.entry.now (given_shape given.now) ≡ None) }
+    ensures within { IfOk result (λ t. IsWithin (task_shape t)) }
+{
+    let settings = settings_in(alloc, given)?;
+    Ok(Task::Journal { file, settings })
 }
 
 fn replay<'a>(file: &'a str, report: &'a str, state: Option<&str>) -> Result<Task<'a>, WordsError>

@@ -25,6 +25,8 @@ pub enum Wanted<'a> {
     Check,
     /// Whether its run is the only one.
     Rule,
+    /// That it is run, and what its core did is written.
+    Journal,
     /// That the report in a file is replayed.
     Replay(&'a str),
     /// That it is the generated program of so many pairs.
@@ -43,7 +45,8 @@ pub struct Companions {
 // With one option more, where it is given.
 fn and_asks<'a>(asked: Option<Wanted<'a>>, more: Option<Wanted<'a>>) -> Option<Wanted<'a>>
     ensures { let before = option_map wanted_shape asked.entry in
-        option_map wanted_shape result ≡ and_asks_shape before (option_map wanted_shape more.entry) }
+        let added = option_map wanted_shape more.entry in
+        option_map wanted_shape result ≡ and_asks_shape before added }
 {
     let Some(wanted) = more else {
         return asked;
@@ -84,6 +87,7 @@ pub fn wanted_in<'a>(texts: &Texts<'a>) -> Option<Wanted<'a>>
 {
     let asked = and_asks(Some(Wanted::Run), flag_asks(texts.check, Wanted::Check));
     let asked = and_asks(asked, flag_asks(texts.determinate, Wanted::Rule));
+    let asked = and_asks(asked, flag_asks(texts.journal, Wanted::Journal));
     let asked = and_asks(asked, replay_asks(texts.replay));
     and_asks(asked, make_asks(texts.make))
 }
@@ -104,6 +108,11 @@ pub fn companions_of(wanted: Wanted<'_>) -> Companions
             state: false,
         },
         Wanted::Rule => Companions {
+            racing: true,
+            budget: true,
+            state: false,
+        },
+        Wanted::Journal => Companions {
             racing: true,
             budget: true,
             state: false,

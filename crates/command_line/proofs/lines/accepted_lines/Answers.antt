@@ -18,6 +18,7 @@ accepted = record {
   check = refl;
   determinate = refl;
   determinate_settings = refl;
+  journal = refl;
   replay = refl;
   replay_hyphen = refl;
   hyphen_behind = refl;
