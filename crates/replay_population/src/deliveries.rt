@@ -55,7 +55,7 @@ fn future_of(cell: &Cell) -> Option<&FutureName>
     ensures future { (k : List NodeShape) → IsFutureOf (cell_shape k cell.now) result }
 {
     match cell {
-        Cell::Future(future) => Some(future),
+        Cell::Future(future) => Some(&future.name),
         Cell::Number(_) => None,
         Cell::Object(_) => None,
         Cell::Reference(_) => None,
