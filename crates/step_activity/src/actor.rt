@@ -1,10 +1,10 @@
 //! An activity with the requests that it received, and its log.
 
-ghost use Rattle.std.specs.Prelude.{◌≡◌, ◌∷◌, ◌++◌, [], IfOk, List, OnOk, length};
+ghost use Rattle.std.specs.Prelude.{◌≡◌, ◌∷◌, ◌++◌, [], IfOk, List, OnOk, length, map};
 ghost use Rattle.std.specs.Arc.{arc_value};
 ghost use Rattle.asp_model.specs.Configuration as model;
 ghost use Rattle.asp_model.specs.Configuration.{From, RequestShape, begun};
-ghost use Rattle.asp_model.specs.Shapes.{activity_shape as report_shape, status_shape};
+ghost use Rattle.asp_model.specs.Shapes.{activity_shape as report_shape, line_shape, status_shape};
 ghost use Rattle.asp_model.specs.Store.{Object as ObjectCell};
 ghost use Rattle.code_table.specs.Shapes.{store_of};
 ghost use Rattle.code_table.specs.Pieces.{tree};
@@ -17,7 +17,7 @@ ghost use Rattle.run_ends.specs.Ends.{IsSnapshotOf};
 ghost use Rattle.step_activity.specs.Actors.{Stands, code_of, log_in};
 
 use activity_step::{Activity, State};
-use asp_model::{ActivityName, ActivityReport, Reception, Status};
+use asp_model::{ActivityName, ActivityReport, Line, Reception, Status};
 use code_table::Code;
 use object_store::Store;
 use request_queue::{Queue, Request};
@@ -108,6 +108,14 @@ impl Actor {
             store_of (code_of self.now) result.now.cells ≡ a.store }
     {
         self.activity.store()
+    }
+
+    /// What it printed, in order.
+    pub fn lines(&self) -> &[Line]
+        ensures lines { (a : model.Activity) (rs : List RequestShape) → Stands self.now a rs →
+            map line_shape result.now ≡ a.lines }
+    {
+        self.activity.lines()
     }
 
     /// What a run's end tells of it, and its state.
