@@ -1,5 +1,11 @@
-use Rattle.std.proofs.Common.{◌≡◌, subst}
-use Rattle.core_ranks.specs.Ranks.{IsRanked, rank_shape}
+use Rattle.std.proofs.Common.{◌≡◌, ◌∙◌, ap, subst}
+use Rattle.asp_model.specs.Chase.{chase}
+use Rattle.asp_model.specs.Shapes.{future_shape}
+use Rattle.code_table.specs.Cells.{held_future}
+use Rattle.code_table.specs.declared.future.Future.{Future}
+use Rattle.future_table.specs.Values.{values_of}
+use Rattle.core_ranks.specs.Ranks.{AreShifted, IsRanked, rank_shape}
+use Rattle.law_core.specs.Ranked.{rank_at}
 use Rattle.law_core.specs.Runs.{rank_of_number}
 use Rattle.core_state.specs.Changes.{IsChange, acted}
 use Rattle.core_state.proofs.OtherLemmas.{made_rests, made_stands, nothing_changed, one_filled, one_made, one_received, own_received, receiver_may_wake, receiver_stands}
@@ -64,5 +70,8 @@ returns-in_ok-wake-in-Received-clause-ranks c = λ h code s n b e left p.
 
 pub returns-in_ok-shift-in-Filled-clause-ranks : goal.returns-in_ok-shift-in-Filled-clause-ranks
 returns-in_ok-shift-in-Filled-clause-ranks c = λ h code s n b e left p.
-    one_filled h code c.args.state.now s c.args.number n b e left c.args.change p c.in-Filled.future (rank_shape c.in_ok-rank-in-Filled.rank) c.shift.new.self
-    (subst (IsChange s.names e) c.in-Filled.is p.change) c.in_ok-rank-in-Filled.ensures.rank c.in_ok-shift-in-Filled.ensures.shifted
+    let x = c.args.state.now in
+    let rank = rank_shape c.in_ok-rank-in-Filled.rank in
+    let told : rank ≡ rank_at (chase (values_of x.futures) (held_future c.in-Filled.future)) = c.in_ok-rank-in-Filled.ensures.rank ∙ ap (λ (f : Future). rank_at (chase (values_of x.futures) (future_shape f.name))) c.deref.ensures in
+    let shifts = subst (λ (f : Future). AreShifted (future_shape f.name) rank x.ranks c.shift.new.self) c.deref-in-Filled.ensures c.in_ok-shift-in-Filled.ensures.shifted in
+    one_filled h code x s c.args.number n b e left c.args.change p c.in-Filled.future rank c.shift.new.self (subst (IsChange s.names e) c.in-Filled.is p.change) told shifts
