@@ -1,5 +1,8 @@
 use Rattle.std.proofs.Common.{◌≡◌, ◌∙◌, true, Some, None, OnOk, List, refl, ap, slice_get, sym, subst}
 use Rattle.asp_model.specs.Names.{Name}
+use Rattle.asp_model.specs.Shapes.{future_shape}
+use Rattle.code_table.specs.Cells.{held_future}
+use Rattle.code_table.specs.declared.future.Future.{Future}
 use Rattle.request_queue.specs.Requests.{request_shape}
 use Rattle.asp_model.specs.Configuration.{Configuration}
 use Rattle.asp_model.specs.Step.{with_effect}
@@ -12,7 +15,7 @@ use Rattle.replay_one.specs.Bounds.{lists_within}
 use Rattle.replay_population.specs.Population.{AreActorsOf, IsPopulation, with_activity, with_poll, with_request}
 use Rattle.replay_population.specs.Giving.{IsGiving}
 use Rattle.replay_population.specs.Roster.{IsEntered}
-use Rattle.replay_one.specs.Schedule.{IsMoreReady, Seen, ready_in, seen, sends_in}
+use Rattle.replay_one.specs.Schedule.{IsMoreReady, Seen, noted_in, ready_in, seen, sends_in}
 use Rattle.replay_population.proofs.RosterLemmas.{number_within}
 use Rattle.replay_one.proofs.ScheduleLemmas.{handed_by, more_names, more_twice}
 use Rattle.replay_one.proofs.GiveLemmas.{filled_handed, made_handed, nothing_handed, polled_handed, sent_handed}
@@ -136,15 +139,17 @@ returns-in_ok-wake_noted-in-Filled c =
     let f = c.in-Filled.future in
     let v = c.in-Filled.value in
     let s : Seen = seen p.roster c.args.self.now.schedule in
+    let now : Seen = seen p.roster c.wake_noted.new.self in
+    let more : IsMoreReady s (Some (held_future f)) now = subst (λ (x : Future). IsMoreReady s (Some (future_shape x.name)) now) c.deref.ensures c.in_ok-wake_noted-in-Filled.ensures.more in
+    let woken : (m : Name) → noted_in s (held_future f) m ≡ true → ready_in now m ≡ true = subst (λ (x : Future). (m : Name) → noted_in s (future_shape x.name) m ≡ true → ready_in now m ≡ true) c.deref.ensures c.in_ok-wake_noted-in-Filled.ensures.ready in
     record {
       population = λ k e n has h.
           let g : IsGiving p n (given.Filled f v) k e = subst (λ g. IsGiving p n g k e) c.in-Filled.is h in
           on_ok c.fill.result _ _ (subst (IsPopulation q) (filled_is p n k e f v g)) (c.fill.ensures.filled (with_activity n e.own k) g.here.population g.here.coded);
       handed_on = λ k e n has h. on_ok c.fill.result _ _ (λ (roster : q.roster ≡ p.roster).
-          let t : Seen = seen p.roster c.wake_noted.new.self in
-          let now : Seen = seen q.roster c.wake_noted.new.self in
-          let same : now ≡ t = ap (λ (ns : List Name). seen ns c.wake_noted.new.self) roster in
-          filled_handed p n k e (lists_within c.args.bounds.now) s now f v (subst (λ g. IsGiving p n g k e) c.in-Filled.is h) (subst (IsMoreReady s _) (sym same) c.in_ok-wake_noted-in-Filled.ensures.more) (λ m a. subst (λ (w : Seen). ready_in w m ≡ true) (sym same) (c.in_ok-wake_noted-in-Filled.ensures.ready m a))) c.fill.ensures.roster;
+          let then : Seen = seen q.roster c.wake_noted.new.self in
+          let same : then ≡ now = ap (λ (ns : List Name). seen ns c.wake_noted.new.self) roster in
+          filled_handed p n k e (lists_within c.args.bounds.now) s then f v (subst (λ g. IsGiving p n g k e) c.in-Filled.is h) (subst (IsMoreReady s (Some (held_future f))) (sym same) more) (λ m a. subst (λ (w : Seen). ready_in w m ≡ true) (sym same) (woken m a))) c.fill.ensures.roster;
       leads = on_ok c.fill.result _ _ (λ (roster : q.roster ≡ p.roster) j m h. ap (λ (ns : List Name). slice_get ns j) roster ∙ h) c.fill.ensures.roster;
       passed = c.fill.ensures.passed;
       ordered = any_way c.fill.result _ c.in_ok-wake_noted-in-Filled.ensures.ordered;
