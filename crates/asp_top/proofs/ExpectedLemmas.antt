@@ -9,7 +9,7 @@ use Rattle.syntax_grammar.specs.Programs.{IsProgramText}
 use Rattle.asp_check.specs.Faults.{IsChecked}
 use Rattle.asp_edge.specs.Causes.{IsContent}
 use Rattle.asp_edge.specs.declared.edge.ReadError.TheVariants.{TooLong}
-use Rattle.command_line.specs.Task.{TaskShape, Runs, Checks, Rules, Replays, Makes, task_of}
+use Rattle.command_line.specs.Task.{TaskShape, Runs, Checks, Rules, Journals, Replays, Makes, task_of}
 use Rattle.asp_top.specs.Seen.{Call, Outside, SomeReadFails, IsLong, IsLongContent, IsUntouched, Takes}
 use Rattle.asp_top.specs.Programs.{IsFile, IsText, IsProgramOf, HasProgram, HasReport}
 use Rattle.asp_top.specs.Correct.{Answers, IsReported}
@@ -44,6 +44,7 @@ same_text : (o : Outside) (task : TaskShape) (bytes other : List ℕ) → HasTex
 same_text o (Runs file settings depth) bytes other e f = same_file o 0 file MOST_PROGRAM_BYTES bytes other e.0 f
 same_text o (Checks file) bytes other e f = same_file o 0 file MOST_PROGRAM_BYTES bytes other e.0 f
 same_text o (Rules file settings) bytes other e f = same_file o 0 file MOST_PROGRAM_BYTES bytes other e.0 f
+same_text o (Journals file settings) bytes other e f = same_file o 0 file MOST_PROGRAM_BYTES bytes other e.0 f
 same_text o (Replays file name depth) bytes other e f = same_file o 0 file MOST_PROGRAM_BYTES bytes other e.0 f
 same_text o (Makes pairs settings) bytes other e f = f ∙ sym e
 
@@ -57,6 +58,7 @@ program_fits : (o : Outside) (task : TaskShape) (bytes name : List ℕ) → HasT
 program_fits o (Runs file settings depth) bytes name e n l = too_long o 0 name bytes MOST_PROGRAM_BYTES (has_named o 0 file name bytes n e.0) e.1 l
 program_fits o (Checks file) bytes name e n l = too_long o 0 name bytes MOST_PROGRAM_BYTES (has_named o 0 file name bytes n e.0) e.1 l
 program_fits o (Rules file settings) bytes name e n l = too_long o 0 name bytes MOST_PROGRAM_BYTES (has_named o 0 file name bytes n e.0) e.1 l
+program_fits o (Journals file settings) bytes name e n l = too_long o 0 name bytes MOST_PROGRAM_BYTES (has_named o 0 file name bytes n e.0) e.1 l
 program_fits o (Replays file report depth) bytes name e n l = too_long o 0 name bytes MOST_PROGRAM_BYTES (has_named o 0 file name bytes n e.0) e.1 l
 program_fits o (Makes pairs settings) bytes name e n l = n
 
@@ -64,6 +66,7 @@ report_fits : (o : Outside) (task : TaskShape) (program : Marked) (name : List �
 report_fits o (Runs file settings depth) program name m n l = n
 report_fits o (Checks file) program name m n l = n
 report_fits o (Rules file settings) program name m n l = n
+report_fits o (Journals file settings) program name m n l = n
 report_fits o (Replays file report depth) program name m n l = too_long o 1 name m.0 MOST_REPORT_BYTES (has_named o 1 report name m.0 n m.1.0) m.1.1 l
 report_fits o (Makes pairs settings) program name m n l = n
 
@@ -72,6 +75,7 @@ report_reads : (o : Outside) (task : TaskShape) (program : Marked) (name bytes :
 report_reads o (Runs file settings depth) program name bytes line m n f e = n
 report_reads o (Checks file) program name bytes line m n f e = n
 report_reads o (Rules file settings) program name bytes line m n f e = n
+report_reads o (Journals file settings) program name bytes line m n f e = n
 report_reads o (Replays file report depth) program name bytes line m n f e =
     let same : bytes ≡ m.0 = same_file o 1 name MOST_REPORT_BYTES m.0 bytes (has_named o 1 report name m.0 n m.1.0) f in
     let no : Reads m.2.lists m.2.counts ≡ BadLine line = sym m.2.reads ∙ ap read_report (sym same) ∙ e in
@@ -88,6 +92,7 @@ report_replays : (o : Outside) (task : TaskShape) (program : Marked) (name : Lis
 report_replays o (Runs file settings depth) program name lists counts m n r unfit = n
 report_replays o (Checks file) program name lists counts m n r unfit = n
 report_replays o (Rules file settings) program name lists counts m n r unfit = n
+report_replays o (Journals file settings) program name lists counts m n r unfit = n
 report_replays o (Replays file report depth) program name lists counts m n r unfit =
     let same : r.bytes ≡ m.0 = same_file o 1 name MOST_REPORT_BYTES m.0 r.bytes (has_named o 1 report name m.0 n m.1.0) r.file in
     let e : Reads m.2.lists m.2.counts ≡ Reads lists counts = sym m.2.reads ∙ ap read_report (sym same) ∙ r.reads in
@@ -148,6 +153,7 @@ given_in : (o : Outside) (task : TaskShape) (text : List ℕ) (status : ℕ) →
 given_in o (Runs file settings depth) text status a = (a.0.program, a.0.given)
 given_in o (Checks file) text status a = (a.0, a.1)
 given_in o (Rules file settings) text status a = (a.0.program, a.0.given)
+given_in o (Journals file settings) text status a = (a.0.program, a.0.given)
 given_in o (Replays file name depth) text status a = (a.0.program, a.0.given)
 given_in o (Makes pairs settings) text status a = (a.0.program, a.0.given)
 
@@ -167,6 +173,7 @@ module _ (c : Call) (a : AsksUnfit c) where
   never_has (Runs file settings depth) n program h = not_given c.outside file a.bytes h.bytes program (has_named c.outside 0 a.name file a.bytes (sym n) a.had) a.unfit h.text h.is
   never_has (Checks file) n program h = not_given c.outside file a.bytes h.bytes program (has_named c.outside 0 a.name file a.bytes (sym n) a.had) a.unfit h.text h.is
   never_has (Rules file settings) n program h = not_given c.outside file a.bytes h.bytes program (has_named c.outside 0 a.name file a.bytes (sym n) a.had) a.unfit h.text h.is
+  never_has (Journals file settings) n program h = not_given c.outside file a.bytes h.bytes program (has_named c.outside 0 a.name file a.bytes (sym n) a.had) a.unfit h.text h.is
   never_has (Replays file report depth) n program h = not_given c.outside file a.bytes h.bytes program (has_named c.outside 0 a.name file a.bytes (sym n) a.had) a.unfit h.text h.is
   never_has (Makes pairs settings) n program h = n
 

@@ -1,5 +1,7 @@
 -- What a run and a replay have written, from the end of the run and the outcome of the replay.
-use Rattle.std.proofs.Common.{◌≡◌, ℕ, List, Option, None, ◌++◌, sym, ap, ◌∙◌, arith}
+use Rattle.std.specs.Prelude.{map, string_bytes}
+use Rattle.std.specs.List.{concat}
+use Rattle.std.proofs.Common.{◌≡◌, ℕ, List, Option, None, ◌++◌, sym, ap, subst, ◌∙◌, arith}
 use Rattle.asp_model.specs.Configuration.{Configuration}
 use Rattle.asp_model.specs.Term.{Tree}
 use Rattle.asp_model.specs.Step.{ListsShape}
@@ -21,9 +23,14 @@ use Rattle.run_report.specs.Rulings.{ruled_report, ruling_lines}
 use Rattle.run_report.specs.Summary.{summary_of}
 use Rattle.run_report.proofs.PassedLemmas.{rulings_are_passed_over}
 use Rattle.asp_core.specs.EndOfRun.{IsEndOfRun}
+use Rattle.run_traces.specs.declared.traced.Traced.{Traced}
+use Rattle.run_traces.specs.Traced.{IsTracedRun}
+use Rattle.asp_model.specs.History.{EntryShape}
+use Rattle.trace_text.specs.Traces as Trace
+use Rattle.trace_text.specs.Traces.{read_trace, trace_of}
 use Rattle.load_gen.specs.Generated.{generated}
 use Rattle.command_line.specs.Settings.{IsSettings, SettingsShape}
-use Rattle.command_line.specs.Task.{Runs, Rules, Replays, Makes}
+use Rattle.command_line.specs.Task.{Runs, Rules, Journals, Replays, Makes}
 use Rattle.asp_top.specs.Seen.{Outside}
 use Rattle.asp_top.specs.Programs.{IsProgramOf, IsInFile, HasReport}
 use Rattle.asp_top.specs.Correct.{Answers, IsWithin}
@@ -98,6 +105,31 @@ module _ (c : Checked) (settings : SettingsShape) (end : RunEnd) (h : IsEndOfRun
     (e ∙ ap (summary_of pairs) same_outcome, s ∙ ap exit_status same_outcome),
     within,
   )
+
+-- equal texts are read alike
+read_alike : (text other : List ℕ) (entries : List EntryShape) → text ≡ other → read_trace other ≡ Trace.Reads entries → read_trace text ≡ Trace.Reads entries
+read_alike text other entries e h = subst (λ (t : List ℕ). read_trace t ≡ Trace.Reads entries) (sym e) h
+
+pub journal_is : (o : Outside) (file : List ℕ) (c : Checked) (settings : SettingsShape) (traced : Traced) (text : List ℕ) (status : ℕ) → IsTracedRun (tree_of c.program.root) settings.budget traced → IsInFile o file (program_in c)
+    → text ≡ concat (map string_bytes traced.pieces.items) → status ≡ exit_status (outcome_shape traced.end.outcome) → Answers o (Journals file settings) text status
+journal_is o file c settings traced text status h given e is =
+    let program : Tree = tree_of c.program.root in
+    let ended : Configuration = h.ended.run.configuration in
+    let replayed : Configuration = replay program (lists_in (outcome_of ended)) (counts_in (outcome_of ended)) in (
+      record { program = program_in c; given = given; lists = lists_in (outcome_of ended); counts = counts_in (outcome_of ended); fits = h.replayed.fits },
+      (
+        record {
+          entries = h.journal;
+          journal = h.ended;
+          written = e ∙ h.text;
+          read = read_alike text (trace_of h.journal) h.journal (e ∙ h.text) h.read;
+          agrees = h.replayed.agrees;
+          outcome = sym h.replayed.outcome;
+        },
+        is ∙ ap exit_status (h.outcome ∙ sym h.replayed.outcome),
+      ),
+      (h.budgeted.within, λ (v : verdict_of replayed ≡ Budget). h.budgeted.spent (sym (ap (λ (x : OutcomeShape). x.verdict) h.replayed.outcome) ∙ v)),
+    )
 
 pub replay_is : (o : Outside) (file name : List ℕ) (depth : Option ℕ) (c : Checked) (lists : ListsShape) (counts : CountsShape) (outcome : OutcomeShape) (text : List ℕ) (status : ℕ) → IsInFile o file (program_in c) → HasReport o 1 name lists counts
     → Fits (tree_of c.program.root) lists counts → outcome ≡ outcome_of (replay (tree_of c.program.root) lists counts) → text ≡ report_to depth (whole_outcome_of (replay (tree_of c.program.root) lists counts)) → status ≡ exit_status outcome

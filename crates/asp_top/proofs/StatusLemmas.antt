@@ -5,7 +5,7 @@ use Rattle.std.specs.List.{list_any}
 use Rattle.asp_model.specs.Configuration.{Configuration}
 use Rattle.asp_model.specs.Status.{VerdictShape, End, Blocked, Budget, IsStuck, is_awaiting, is_running, statuses_of, verdict_of}
 use Rattle.asp_model.specs.Outcome.{ActivityReportShape, outcome_of, exit_status, is_faulted}
-use Rattle.command_line.specs.Task.{TaskShape, Runs, Checks, Rules, Replays, Makes, task_of}
+use Rattle.command_line.specs.Task.{TaskShape, Runs, Checks, Rules, Journals, Replays, Makes, task_of}
 use Rattle.asp_top.specs.Seen.{Call, Outside, IsUntouched, Takes}
 use Rattle.asp_top.specs.Correct.{Answers, IsReported, Reports, end_of}
 use Rattle.asp_top.specs.Refusals.{Refusal, Usage, Unread, LongProgram, NoProgram, Unchecked, LongReport, NoReport, Diverges, NoMemory, status_of_refusal}
@@ -132,6 +132,7 @@ pub answers_reported : (o : Outside) (task : TaskShape) (text : List ℕ) (statu
 answers_reported o (Runs file settings depth) text status a = reported_at (end_of a.0) status a.1.1 (stops (end_of a.0))
 answers_reported o (Checks file) text status a = inl a.3
 answers_reported o (Rules file settings) text status a = reported_at (end_of a.0) status a.1.1 (stops (end_of a.0))
+answers_reported o (Journals file settings) text status a = reported_at (end_of a.0) status a.1.1 (stops (end_of a.0))
 answers_reported o (Replays file name depth) text status a = reported_at (end_of a.0) status a.1.1 (stops (end_of a.0))
 answers_reported o (Makes pairs settings) text status a = reported_at (end_of a.0) status a.1.1 (stops (end_of a.0))
 
@@ -139,6 +140,7 @@ has_ended : (o : Outside) (task : TaskShape) (text : List ℕ) (status : ℕ) (a
 has_ended o (Runs file settings depth) text status a h = end_at (end_of a.0) status a.1.1 h (stops (end_of a.0))
 has_ended o (Checks file) text status a h = a.3
 has_ended o (Rules file settings) text status a h = end_at (end_of a.0) status a.1.1 h (stops (end_of a.0))
+has_ended o (Journals file settings) text status a h = end_at (end_of a.0) status a.1.1 h (stops (end_of a.0))
 has_ended o (Replays file name depth) text status a h = end_at (end_of a.0) status a.1.1 h (stops (end_of a.0))
 has_ended o (Makes pairs settings) text status a h = end_at (end_of a.0) status a.1.1 h (stops (end_of a.0))
 
@@ -146,6 +148,7 @@ has_blocked : (o : Outside) (task : TaskShape) (text : List ℕ) (status : ℕ) 
 has_blocked o (Runs file settings depth) text status a h = blocked_at (end_of a.0) status a.1.1 h (stops (end_of a.0))
 has_blocked o (Checks file) text status a h = clash status 0 4 a.3 h refl refl
 has_blocked o (Rules file settings) text status a h = blocked_at (end_of a.0) status a.1.1 h (stops (end_of a.0))
+has_blocked o (Journals file settings) text status a h = blocked_at (end_of a.0) status a.1.1 h (stops (end_of a.0))
 has_blocked o (Replays file name depth) text status a h = blocked_at (end_of a.0) status a.1.1 h (stops (end_of a.0))
 has_blocked o (Makes pairs settings) text status a h = blocked_at (end_of a.0) status a.1.1 h (stops (end_of a.0))
 
@@ -153,6 +156,7 @@ has_spent : (o : Outside) (task : TaskShape) (text : List ℕ) (status : ℕ) (a
 has_spent o (Runs file settings depth) text status a h = let g = going_at (end_of a.0) status a.1.1 h (stops (end_of a.0)) in (g, a.3.1 g.verdict)
 has_spent o (Checks file) text status a h = clash status 0 5 a.3 h refl refl
 has_spent o (Rules file settings) text status a h = let g = going_at (end_of a.0) status a.1.1 h (stops (end_of a.0)) in (g, a.3.1 g.verdict)
+has_spent o (Journals file settings) text status a h = let g = going_at (end_of a.0) status a.1.1 h (stops (end_of a.0)) in (g, a.2.1 g.verdict)
 has_spent o (Replays file name depth) text status a h = going_at (end_of a.0) status a.1.1 h (stops (end_of a.0))
 has_spent o (Makes pairs settings) text status a h = let g = going_at (end_of a.0) status a.1.1 h (stops (end_of a.0)) in (g, a.2.1 g.verdict)
 

@@ -2,18 +2,24 @@
 use Rattle.std.specs.Prelude.{◌≡◌, ◌⊎◌, ℕ, ◌≤◌, List, Option, Some, codes}
 use Rattle.asp_model.specs.Marked.{Marked, plain}
 use Rattle.asp_model.specs.Configuration.{Configuration}
+use Rattle.asp_model.specs.History.{EntryShape}
+use Rattle.asp_model.specs.Term.{Tree}
 use Rattle.asp_model.specs.Step.{ListsShape}
 use Rattle.asp_model.specs.Status.{Budget, verdict_of}
 use Rattle.asp_model.specs.Replay.{CountsShape, Fits, replay, total}
 use Rattle.asp_model.specs.Outcome.{outcome_of, exit_status}
 use Rattle.asp_model.specs.Report.{with_feed}
 use Rattle.asp_model.specs.ReadReport.{read_report, Reads}
+use Rattle.def_paths.specs.Agree.{Agrees}
 use Rattle.def_paths.specs.Outcomes.{whole_outcome_of}
 use Rattle.law_reports.specs.Depths.{report_to}
 use Rattle.determinacy.specs.Rulings.{Determinate, ruled}
 use Rattle.run_report.specs.Rulings.{ruled_report}
 use Rattle.run_report.specs.Summary.{summary_of}
-use Rattle.command_line.specs.Task.{TaskShape, Runs, Checks, Rules, Replays, Makes, task_of}
+use Rattle.law_traces.specs.Standings.{IsEndedJournal}
+use Rattle.trace_text.specs.Traces as Trace
+use Rattle.trace_text.specs.Traces.{read_trace, trace_of}
+use Rattle.command_line.specs.Task.{TaskShape, Runs, Checks, Rules, Journals, Replays, Makes, task_of}
 use Rattle.asp_top.specs.Seen.{Call, Outside, IsUntouched, Takes}
 use Rattle.asp_top.specs.Programs.{HasProgram, HasReport}
 use Rattle.asp_top.specs.Rulings.{IsOnlyEnd}
@@ -46,6 +52,16 @@ Tells told c text status = (text ≡ told c) × (status ≡ exit_status (outcome
 abbrev pub IsWithin : ℕ → CountsShape → Configuration → Type 0
 IsWithin budget counts c = (total counts ≤ budget) × (verdict_of c ≡ Budget → total counts ≡ budget)
 
+-- the text is the trace of a lawful journal of the program, from the budget, and is read as that; its run has ended, and
+-- agrees with this configuration
+pub record IsTrace (program : Tree) (budget : ℕ) (c : Configuration) (text : List ℕ) : Type 0 where
+  pub entries : List EntryShape
+  pub journal : IsEndedJournal program budget entries
+  pub written : text ≡ trace_of entries
+  pub read : read_trace text ≡ Trace.Reads entries
+  pub agrees : Agrees journal.run.configuration c
+  pub outcome : outcome_of journal.run.configuration ≡ outcome_of c
+
 abbrev pub Answers : Outside → TaskShape → List ℕ → ℕ → Type 0
 -- `asp FILE`: the report, at the depth asked for, of the replay under the logs and counts that it reads as
 Answers o (Runs file settings depth) report status = (r : ReplayOf o (Runs file settings depth))
@@ -57,6 +73,11 @@ Answers o (Rules file settings) text status = (r : ReplayOf o (Rules file settin
     × Tells ruled_at (end_of r) text status × (read_report text ≡ Reads r.lists r.counts)
     × IsWithin settings.budget r.counts (end_of r)
     × (ruled (outcome_of (end_of r)) ≡ Determinate → IsOnlyEnd (plain r.program) (end_of r))
+-- `asp FILE --journal`: the trace of a lawful journal of the program, which has ended, and the status, of a replay with
+-- which it agrees
+Answers o (Journals file settings) text status = (r : ReplayOf o (Journals file settings))
+    × (IsTrace (plain r.program) settings.budget (end_of r) text × (status ≡ exit_status (outcome_of (end_of r))))
+    × IsWithin settings.budget r.counts (end_of r)
 -- `asp FILE --replay REPORT`: the report of the replay under those that the file REPORT reads as
 Answers o (Replays file name depth) report status = (r : ReplayOf o (Replays file name depth))
     × Tells (report_at depth) (end_of r) report status × HasReport o 1 name r.lists r.counts

@@ -12,7 +12,7 @@ use Rattle.asp_syntax.specs.Faults.{FirstFault}
 use Rattle.syntax_grammar.specs.Programs.{IsProgramText}
 use Rattle.asp_check.specs.declared.fault.CheckFault.{CheckFault}
 use Rattle.asp_check.specs.Faults.{IsChecked, IsFirstFault}
-use Rattle.command_line.specs.Task.{TaskShape, Runs, Checks, Rules, Replays, Makes, task_of}
+use Rattle.command_line.specs.Task.{TaskShape, Runs, Checks, Rules, Journals, Replays, Makes, task_of}
 use Rattle.asp_top.specs.Seen.{Call, Outside, ReadFails, IsLong, IsUntouched, Takes, TakesFront}
 use Rattle.asp_top.specs.Refusals.{Refusal, Usage, Unread, LongProgram, NoProgram, Unchecked, LongReport, NoReport, Diverges, NoMemory, status_of_refusal, message_of, write_message}
 use Rattle.asp_top.specs.Programs.{IsFile, IsText, HasProgram, HasReport}
@@ -35,6 +35,7 @@ abbrev pub NamesProgram : TaskShape → List ℕ → Type 0
 NamesProgram (Runs file settings depth) name = file ≡ name
 NamesProgram (Checks file) name = file ≡ name
 NamesProgram (Rules file settings) name = file ≡ name
+NamesProgram (Journals file settings) name = file ≡ name
 NamesProgram (Replays file report depth) name = file ≡ name
 NamesProgram (Makes pairs settings) name = ⊥
 

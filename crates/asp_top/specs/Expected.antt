@@ -8,7 +8,7 @@ use Rattle.asp_model.specs.ReadReport.{read_report, Reads, BadLine}
 use Rattle.syntax_grammar.specs.Programs.{IsProgramText}
 use Rattle.asp_check.specs.Faults.{IsChecked}
 use Rattle.load_gen.specs.Generated.{generated}
-use Rattle.command_line.specs.Task.{TaskShape, Runs, Checks, Rules, Replays, Makes, task_of}
+use Rattle.command_line.specs.Task.{TaskShape, Runs, Checks, Rules, Journals, Replays, Makes, task_of}
 use Rattle.asp_top.specs.Seen.{Call, Outside, Gave, SomeReadFails, IsUntouched, Takes, Fails}
 use Rattle.asp_top.specs.Refusals.{Refusal, LongReport, NoReport, Diverges, message_of}
 use Rattle.asp_top.specs.Programs.{IsProgramOf, HasProgram}
@@ -29,6 +29,7 @@ abbrev pub HasText : Outside → TaskShape → List ℕ → Type 0
 HasText o (Runs file settings depth) bytes = HasShort o 0 file MOST_PROGRAM_BYTES bytes
 HasText o (Checks file) bytes = HasShort o 0 file MOST_PROGRAM_BYTES bytes
 HasText o (Rules file settings) bytes = HasShort o 0 file MOST_PROGRAM_BYTES bytes
+HasText o (Journals file settings) bytes = HasShort o 0 file MOST_PROGRAM_BYTES bytes
 HasText o (Replays file name depth) bytes = HasShort o 0 file MOST_PROGRAM_BYTES bytes
 HasText o (Makes pairs settings) bytes = bytes ≡ generated pairs
 

@@ -10,7 +10,7 @@ use Rattle.asp_check.specs.Faults.{IsChecked}
 use Rattle.asp_edge.specs.Told.{Asks}
 use Rattle.asp_edge.specs.Causes.{IsContent}
 use Rattle.load_gen.specs.Generated.{generated}
-use Rattle.command_line.specs.Task.{TaskShape, Runs, Checks, Rules, Replays, Makes, task_of}
+use Rattle.command_line.specs.Task.{TaskShape, Runs, Checks, Rules, Journals, Replays, Makes, task_of}
 use Rattle.asp_top.specs.Seen.{Outside, Asked, Gave}
 
 -- the file of this name, which was asked for at this place, has these bytes, and at most so many: the source
@@ -25,6 +25,7 @@ abbrev pub IsText : Outside → TaskShape → List ℕ → Type 0
 IsText o (Runs file settings depth) bytes = IsFile o 0 file MOST_PROGRAM_BYTES bytes
 IsText o (Checks file) bytes = IsFile o 0 file MOST_PROGRAM_BYTES bytes
 IsText o (Rules file settings) bytes = IsFile o 0 file MOST_PROGRAM_BYTES bytes
+IsText o (Journals file settings) bytes = IsFile o 0 file MOST_PROGRAM_BYTES bytes
 IsText o (Replays file report depth) bytes = IsFile o 0 file MOST_PROGRAM_BYTES bytes
 IsText o (Makes pairs settings) bytes = bytes ≡ generated pairs
 
@@ -63,6 +64,7 @@ abbrev pub files_of : TaskShape → List (List ℕ)
 files_of (Runs file settings depth) = file ∷ []
 files_of (Checks file) = file ∷ []
 files_of (Rules file settings) = file ∷ []
+files_of (Journals file settings) = file ∷ []
 files_of (Replays file report depth) = file ∷ report ∷ []
 files_of (Makes pairs settings) = []
 

@@ -7,7 +7,7 @@ use Rattle.asp_model.specs.Status.{End, Blocked, Budget, IsStuck, is_awaiting, s
 use Rattle.asp_model.specs.Replay.{total}
 use Rattle.asp_syntax.specs.declared.error.SyntaxFault.{SyntaxFault}
 use Rattle.asp_check.specs.declared.fault.CheckFault.{CheckFault}
-use Rattle.command_line.specs.Task.{TaskShape, Runs, Checks, Rules, Replays, Makes, task_of}
+use Rattle.command_line.specs.Task.{TaskShape, Runs, Checks, Rules, Journals, Replays, Makes, task_of}
 use Rattle.asp_top.specs.Seen.{Call, Outside, SomeReadFails, Takes, Fails}
 use Rattle.asp_top.specs.Refusals.{LongProgram, NoProgram, Unchecked, LongReport, NoReport, Diverges}
 use Rattle.asp_top.specs.Correct.{Answers, end_of}
@@ -42,6 +42,7 @@ abbrev pub HasEnded : OfAnswers
 HasEnded o (Runs file settings depth) text status a = IsEnd (end_of a.0)
 HasEnded o (Checks file) text status a = status ≡ 0
 HasEnded o (Rules file settings) text status a = IsEnd (end_of a.0)
+HasEnded o (Journals file settings) text status a = IsEnd (end_of a.0)
 HasEnded o (Replays file name depth) text status a = IsEnd (end_of a.0)
 HasEnded o (Makes pairs settings) text status a = IsEnd (end_of a.0)
 
@@ -50,6 +51,7 @@ abbrev pub HasBlocked : OfAnswers
 HasBlocked o (Runs file settings depth) text status a = IsBlocked (end_of a.0)
 HasBlocked o (Checks file) text status a = ⊥
 HasBlocked o (Rules file settings) text status a = IsBlocked (end_of a.0)
+HasBlocked o (Journals file settings) text status a = IsBlocked (end_of a.0)
 HasBlocked o (Replays file name depth) text status a = IsBlocked (end_of a.0)
 HasBlocked o (Makes pairs settings) text status a = IsBlocked (end_of a.0)
 
@@ -58,6 +60,7 @@ abbrev pub HasSpent : OfAnswers
 HasSpent o (Runs file settings depth) text status a = GoesOn (end_of a.0) × (total a.0.counts ≡ settings.budget)
 HasSpent o (Checks file) text status a = ⊥
 HasSpent o (Rules file settings) text status a = GoesOn (end_of a.0) × (total a.0.counts ≡ settings.budget)
+HasSpent o (Journals file settings) text status a = GoesOn (end_of a.0) × (total a.0.counts ≡ settings.budget)
 HasSpent o (Replays file name depth) text status a = GoesOn (end_of a.0)
 HasSpent o (Makes pairs settings) text status a = GoesOn (end_of a.0) × (total a.0.counts ≡ settings.budget)
 

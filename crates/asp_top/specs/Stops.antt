@@ -13,6 +13,8 @@ use Rattle.asp_core.specs.EndOfRun.{IsEndOfRun}
 use Rattle.asp_edge.specs.declared.edge.ReadError.{ReadError}
 use Rattle.replay_one.specs.Listed.{AreReplayable}
 use Rattle.run_ends.specs.declared.ends.RunEnd.{RunEnd}
+use Rattle.run_traces.specs.declared.traced.Traced.{Traced}
+use Rattle.run_traces.specs.Traced.{IsTracedRun}
 use Rattle.asp_syntax.specs.declared.error.SyntaxError.{SyntaxError}
 use Rattle.asp_syntax.specs.declared.error.SyntaxError.TheVariants as syntax
 use Rattle.asp_check.specs.declared.fault.CheckError.{CheckError}
@@ -77,6 +79,12 @@ pub record IsRunOf (o : Outside) (file : List ℕ) (budget : ℕ) (end : RunEnd)
   pub checked : Checked
   pub given : IsCheckedFile o file checked
   pub run : IsEndOfRun (tree_of checked.program.root) budget end
+
+-- and the end of one with its trace
+pub record IsTracedRunOf (o : Outside) (file : List ℕ) (budget : ℕ) (traced : Traced) : Type 0 where
+  pub checked : Checked
+  pub given : IsCheckedFile o file checked
+  pub run : IsTracedRun (tree_of checked.program.root) budget traced
 
 -- the cause of a stop at a text
 abbrev pub RefusedAt : List ℕ → Refusal → Type 0

@@ -10,12 +10,13 @@ ghost use Rattle.law_reports.specs.Depths.{report_to};
 ghost use Rattle.run_ends.specs.Ends.{IsEndOf};
 ghost use Rattle.run_report.specs.Rulings.{ruled_report};
 ghost use Rattle.run_report.specs.Summary.{summary_of};
-ghost use Rattle.command_line.specs.Task.{Runs, Checks, Rules, Replays, Makes, IsWithin};
+ghost use Rattle.run_traces.specs.Traced.{IsTracedRun};
+ghost use Rattle.command_line.specs.Task.{Runs, Checks, Rules, Journals, Replays, Makes, IsWithin};
 ghost use Rattle.command_line.specs.Settings.{IsSettings};
 ghost use Rattle.command_line.specs.Shapes.{settings_shape, task_shape};
 ghost use Rattle.asp_top.specs.Seen.{Outside, bytes_of, outside};
 ghost use Rattle.asp_top.specs.Programs.{AsksInTurn, ReadsFiles, files_of};
-ghost use Rattle.asp_top.specs.Stops.{AsksOnce, IsRunOf, StopsInFile, StopsTask, StopsWords};
+ghost use Rattle.asp_top.specs.Stops.{AsksOnce, IsRunOf, IsTracedRunOf, StopsInFile, StopsTask, StopsWords};
 ghost use Rattle.asp_top.specs.Ready.{IsReady, IsReadyFor, text_in};
 
 use crate::letting_go::let_go;
@@ -30,6 +31,7 @@ use load_gen::make;
 use replay_one::replay;
 use run_ends::RunEnd;
 use run_report::{render, render_ruled, summarize};
+use run_traces::{Traced, run_traced};
 use std::alloc::{AllocError, Global};
 use std::sync::Wait;
 use std::thread::Threads;
@@ -191,6 +193,73 @@ fn prepare_ruled<'a, R: Threads + Wait + Sync, S: Source, G: Gate>(
     Ok(report?)
 }
 
+// Runs the program as the settings ask, and writes what its core did.
+fn raced_with_trace<R: Threads + Wait + Sync, G: Gate>(
+    rt: &R,
+    alloc: Global,
+    program: &Checked,
+    settings: Settings,
+    policies: Policies,
+    gate: &G,
+) -> Result<Traced, AllocError>
+    requires within { IsSettings (settings_shape settings) }
+    ensures traced { let term = tree_of program.now.program.root in
+        IfOk result (IsTracedRun term settings.budget) }
+{
+    let racing = Racing {
+        workers: settings.workers,
+        budget: settings.budget,
+        plan: settings.plan,
+    };
+    run_traced(rt, alloc, program, racing, policies, gate)
+}
+
+// Runs the program in the file of this name, and writes what its core did.
+fn trace_file<'a, R: Threads + Wait + Sync, S: Source, G: Gate>(
+    rt: &R,
+    alloc: Global,
+    file: &'a str,
+    settings: Settings,
+    source: &mut S,
+    policies: Policies,
+    gate: &G,
+) -> Result<Traced, Stop<'a>>
+    requires within { IsSettings (settings_shape settings) }
+    ensures ran { let name = file.entry.now in
+        IfOk result (IsTracedRunOf (outside S.told source) name settings.budget) }
+    ensures stop { IfErr result (StopsInFile (outside S.told source) file.entry.now) }
+    ensures asked { AsksOnce (outside S.told source) file.entry.now }
+{
+    let checked = program_of(alloc, file, source)?;
+    let traced = raced_with_trace(rt, alloc, &checked, settings, policies, gate);
+    drop(checked);
+    Ok(traced?)
+}
+
+fn prepare_journal<'a, R: Threads + Wait + Sync, S: Source, G: Gate>(
+    rt: &R,
+    alloc: Global,
+    file: &'a str,
+    settings: Settings,
+    source: &mut S,
+    policies: Policies,
+    gate: &G,
+) -> Result<Prepared, Stop<'a>>
+    requires within { IsSettings (settings_shape settings) }
+    ensures answer { let task = Journals file.entry.now (settings_shape settings) in
+        IfOk result (IsReady (outside S.told source) task) }
+    ensures stop { let task = Journals file.entry.now (settings_shape settings) in
+        IfErr result (StopsTask (outside S.told source) task) }
+    ensures asked { AsksOnce (outside S.told source) file.entry.now }
+{
+    let workers = settings.workers;
+    let traced = trace_file(rt, alloc, file, settings, source, policies, gate)?;
+    let Traced { pieces, end } = traced;
+    let status = exit_number(&end.outcome);
+    let_go(rt, alloc, end, workers);
+    Ok(Prepared { status, pieces })
+}
+
 fn prepare_check<'a, S: Source>(
     alloc: Global,
     file: &'a str,
@@ -279,6 +348,9 @@ fn prepare_task<'a, R: Threads + Wait + Sync, S: Source, G: Gate>(
         Task::Check { file } => prepare_check(alloc, file, source),
         Task::Rule { file, settings } => {
             prepare_ruled(rt, alloc, file, settings, source, policies, gate)
+        }
+        Task::Journal { file, settings } => {
+            prepare_journal(rt, alloc, file, settings, source, policies, gate)
         }
         Task::Replay {
             file,

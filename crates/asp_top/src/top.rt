@@ -41,7 +41,8 @@ fn run_words<R: Threads + Wait + Sync, S: Source, O: Sink, E: Sink, G: Gate>(
 /// Runs the command that the words give, and writes its text, one write for each line. `asp FILE`
 /// runs the program in a file and writes its report, `asp FILE --replay REPORT` replays a report of
 /// it, `asp FILE --check` reads and checks it, `asp FILE --determinate` runs it and says behind the
-/// report whether there is another, and `asp --make N` runs the generated program of N pairs and
+/// report whether there is another, `asp FILE --journal` runs it and writes the trace of what its
+/// core did, in pieces, and `asp --make N` runs the generated program of N pairs and
 /// writes a summary. With `--state D` a report shows the states of its activities. A run
 /// asks the policy of each future's strategy, which `--strategy` and `--update` name, how the
 /// future's value is to come to the activities that it was passed to; the policies are dropped when

@@ -38,6 +38,16 @@ returns-in-Rule-clause-reads g c =
     let o = outside_between g.S.Source.told c.args.source.now c.prepare_ruled.new.source in
     subst (λ (t : Task). AsksInTurn o (files_of (task_shape t))) (sym c.in-Rule.is) (in_turn_once o _ [] c.prepare_ruled.ensures.asked)
 
+pub returns-in-Journal-clause-answer : goal.returns-in-Journal-clause-answer
+returns-in-Journal-clause-answer g c =
+    let o = outside_between g.S.Source.told c.args.source.now c.prepare_journal.new.source in
+    subst (λ (t : Task). IfOk c.prepare_journal.result (IsReady o (task_shape t))) (sym c.in-Journal.is) c.prepare_journal.ensures.answer
+
+pub returns-in-Journal-clause-reads : goal.returns-in-Journal-clause-reads
+returns-in-Journal-clause-reads g c =
+    let o = outside_between g.S.Source.told c.args.source.now c.prepare_journal.new.source in
+    subst (λ (t : Task). AsksInTurn o (files_of (task_shape t))) (sym c.in-Journal.is) (in_turn_once o _ [] c.prepare_journal.ensures.asked)
+
 pub returns-in-Check-clause-reads : goal.returns-in-Check-clause-reads
 returns-in-Check-clause-reads g c =
     let o = outside_between g.S.Source.told c.args.source.now c.prepare_check.new.source in
