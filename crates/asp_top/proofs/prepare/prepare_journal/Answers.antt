@@ -12,7 +12,7 @@ pub returns-clause-answer : goal.returns-clause-answer
 returns-clause-answer g c =
     let o = outside_between g.S.Source.told c.args.source.now c.trace_file.new.source in
     let ran = c.in_ok-traced.ensures.ran in
-    journal_is o c.args.file.now ran.checked (settings_shape c.args.settings) c.in_ok-traced.traced (text_of_all c.in_ok-traced.traced.pieces.items) c.exit_number-status.result ran.run ran.given refl c.exit_number-status.ensures
+    journal_is o c.args.file.now ran.checked (settings_shape c.args.settings) c.in_ok-traced.traced (text_of_all c.in_ok-traced.traced.pieces.items) c.exit_number-status.result ran.run ran.given refl c.exit_number-status.ensures.status
 
 pub returns-in_err-traced-clause-stop : goal.returns-in_err-traced-clause-stop
 returns-in_err-traced-clause-stop g c =
