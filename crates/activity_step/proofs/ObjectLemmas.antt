@@ -11,7 +11,7 @@ use Rattle.asp_model.specs.Store as store
 use Rattle.asp_model.specs.Store.{CellShape, Field, MethodShape, Store}
 use Rattle.asp_model.specs.Configuration.{ServiceShape}
 use Rattle.asp_model.specs.Contraction.{Becomes, LineShape, TextLine, allots, fields_at}
-use Rattle.code_table.specs.declared.code.Class.{Class}
+use Rattle.code_table.specs.declared.class.Class.{Class}
 use Rattle.code_table.specs.declared.code.Kind.{Kind}
 use Rattle.code_table.specs.declared.code.Kind.TheVariants as kind
 use Rattle.code_table.specs.declared.code.MethodCode.{MethodCode}

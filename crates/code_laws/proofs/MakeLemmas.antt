@@ -9,7 +9,7 @@ use Rattle.asp_model.specs.Contraction.{fields_at, methods_with, allots, row}
 use Rattle.code_table.specs.declared.code.Leaf.{Leaf}
 use Rattle.code_table.specs.declared.code.Leaf.TheVariants as leaves
 use Rattle.code_table.specs.declared.code.Capture.{Capture}
-use Rattle.code_table.specs.declared.code.Class.{Class}
+use Rattle.code_table.specs.declared.class.Class.{Class}
 use Rattle.code_table.specs.declared.code.MethodCode.{MethodCode}
 use Rattle.code_table.specs.Pieces.{Piece, object, Pieces, nothing, also, Bodies, no_method, method, count, heads_of, at_slot, leaf_tree, captured_trees, tree, below, bodies}
 use Rattle.code_table.specs.Fitting.{placed, captured_names, LeafFits, CapturesFit, head_names, body_scope, body_height, BodiesFit, Runs}

@@ -5,7 +5,7 @@ use Rattle.asp_model.specs.Term.{Let, Make, Steps, If, Repeat, Tree, Environment
 use Rattle.asp_model.specs.Split.{Context, Splits, split, plug, plugged}
 use Rattle.asp_model.specs.Store.{Store, cell}
 use Rattle.asp_model.specs.Contraction.{Becomes, allots, if_row, method_found, row}
-use Rattle.code_table.specs.declared.code.Class.{Class}
+use Rattle.code_table.specs.declared.class.Class.{Class}
 use Rattle.code_table.specs.declared.code.MethodCode.{MethodCode}
 use Rattle.code_table.specs.Pieces.{Piece, piece, object, Pieces, count, heads_of}
 use Rattle.code_table.specs.Fitting.{names, captured_names, body_scope, Under, Runs, term_in}

@@ -3,8 +3,7 @@ use Rattle.std.specs.Prelude.{ℕ, Bool, true, false, zero, suc, List, [], lengt
 use Rattle.asp_model.specs.Names.{Text}
 use Rattle.asp_model.specs.Term.{Head, Hole, If, Let, Make, Repeat, Steps, Tree, Trees, none, more, Environment, binders, loc, put_below}
 use Rattle.asp_model.specs.Split.{Context, Redex, reduced_count}
-use Rattle.code_table.specs.declared.code.Kind.{Kind}
-use Rattle.code_table.specs.declared.code.Kind.TheVariants as kind
+pub use Rattle.code_table.specs.Operands.{operand_count}
 use Rattle.code_table.specs.Pieces.{Piece, variable, piece, object, Pieces, nothing, also, Bodies, no_method, method, count, heads_of, tree, below, bodies}
 use Rattle.code_table.specs.Fitting.{placed}
 use Rattle.code_laws.specs.Places.{captured_places}
@@ -50,26 +49,6 @@ abbrev pub in_place : Piece → ℕ
 in_place (variable l) = 0
 in_place (piece h ps) = reduced_count h (below [] ps none)
 in_place (object ls fs ms) = count fs
-
--- the same of a node of code, with so many terms below it
-abbrev pub operand_count : Kind → ℕ → ℕ
-operand_count (kind.Make k) n = n
-operand_count (kind.Get l) n = 1
-operand_count (kind.Put l) n = 2
-operand_count (kind.Call l) n = n
-operand_count kind.Clone n = 1
-operand_count (kind.Active l) n = 1
-operand_count (kind.Let x) n = 1
-operand_count kind.Steps n = 1
-operand_count kind.If n = 1
-operand_count (kind.Operate s) n = 2
-operand_count kind.Print n = 1
-operand_count kind.Group n = n
-operand_count (kind.Scatter l) n = 2
-operand_count kind.Size n = 1
-operand_count kind.Member n = 2
-operand_count kind.WaitAll n = 1
-operand_count k n = 0
 
 -- all terms below it are reduced in place
 abbrev pub is_strict : Head → Bool

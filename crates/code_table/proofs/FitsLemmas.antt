@@ -2,7 +2,7 @@
 use Rattle.std.proofs.Common.{◌≡◌, ℕ, zero, suc, List, [], ◌∷◌, ◌++◌, Option, Some, None, length, map, ◌∙◌, slice_set}
 use Rattle.std.proofs.lemmas.List.{length-map, length-set}
 use Rattle.code_table.specs.declared.code.Node.{Node}
-use Rattle.code_table.specs.declared.code.Class.{Class}
+use Rattle.code_table.specs.declared.class.Class.{Class}
 use Rattle.code_table.specs.Classes.{class_at}
 use Rattle.code_table.specs.Cells.{CodedCell, Number, Object, Reference, Future, Group, CodedStore, cell_at, with_cell_at, with_coded_at, with_place_at, moved_coded}
 use Rattle.code_table.specs.Fits.{FitsClass, FitsCode, AllFitCode}

@@ -7,7 +7,7 @@ use Rattle.std.proofs.lemmas.List.{drop-drop, take_all}
 use Rattle.asp_model.specs.Names.{Text, same_text}
 use Rattle.asp_model.specs.Store.{Field, MethodShape}
 use Rattle.asp_model.specs.Contraction.{fields_at, field_place, with_field, method_at}
-use Rattle.code_table.specs.declared.code.Class.{Class}
+use Rattle.code_table.specs.declared.class.Class.{Class}
 use Rattle.code_table.specs.declared.code.MethodCode.{MethodCode}
 use Rattle.code_table.specs.Pieces.{Piece}
 use Rattle.code_table.specs.Tables.{text_of, labels_of, head_of, with_places, placed_method, seen_methods}

@@ -13,7 +13,7 @@ use Rattle.asp_model.specs.declared.term.Term.TheFolds.{fold-roll-Term, fold-rol
 use Rattle.asp_model.specs.Names.{Text}
 use Rattle.asp_model.specs.Term as term
 use Rattle.asp_model.specs.Term.{Trees, node, none, more, trees, loc, leaf, one, two}
-use Rattle.asp_model.specs.Marked.{Marked, all_marked, plain, plain_below}
+use Rattle.asp_model.specs.Marked.{Marked, marked, and_marked, one_marked, two_marked, all_marked, plain, plain_below}
 use Rattle.asp_model.specs.Shapes.{MarkedMethod, term_step, method_step, marked_of, method_of, tree_of, sign_shape, field_of, make_shape, mark_shape}
 use Rattle.code_table.specs.Tables.{text_of}
 use Rattle.code_table.specs.Parts.{field_label, field_tree, method_head, body_tree}
@@ -135,3 +135,54 @@ pub ruleset twos_are = (put_is, let_is, operate_is, scatter_is, member_is)
 pub ruleset others_are = (call_is, if_is)
 
 pub ruleset rows_are = (steps_is, group_is)
+
+-- Terms with their marks
+
+abbrev marked_field : Label × Term → Marked
+marked_field f = marked_of f.1
+
+abbrev marked_body : Method → Marked
+marked_body m = marked_of m.body
+
+pub call_marked : (a : Box Term) (l : Label) (ts : Vec Term) (m : Mark) → marked_of (Call a l ts m) ≡ marked (term.Call l.text) (mark_shape m) (and_marked (marked_of a.value) (all_marked (map marked_of ts.items)))
+call_marked a l ts m = ap marked_of (sym (rolls-Call a l ts m)) ∙ fold-roll-Term Marked MarkedMethod term_step method_step (layer.Call a l ts m)
+
+pub put_marked : (a : Box Term) (l : Label) (b : Box Term) (m : Mark) → marked_of (Put a l b m) ≡ marked (term.Put l.text) (mark_shape m) (two_marked (marked_of a.value) (marked_of b.value))
+put_marked a l b m = ap marked_of (sym (rolls-Put a l b m)) ∙ fold-roll-Term Marked MarkedMethod term_step method_step (layer.Put a l b m)
+
+pub let_marked : (x : List ℕ) (a b : Box Term) (m : Mark) → marked_of (Let x a b m) ≡ marked (term.Let x) (mark_shape m) (two_marked (marked_of a.value) (marked_of b.value))
+let_marked x a b m = ap marked_of (sym (rolls-Let x a b m)) ∙ fold-roll-Term Marked MarkedMethod term_step method_step (layer.Let x a b m)
+
+pub steps_marked : (ts : Vec Term) (m : Mark) → marked_of (Steps ts m) ≡ marked term.Steps (mark_shape m) (all_marked (map marked_of ts.items))
+steps_marked ts m = ap marked_of (sym (rolls-Steps ts m)) ∙ fold-roll-Term Marked MarkedMethod term_step method_step (layer.Steps ts m)
+
+pub if_marked : (a b c : Box Term) (m : Mark) → marked_of (If a b c m) ≡ marked term.If (mark_shape m) (and_marked (marked_of a.value) (two_marked (marked_of b.value) (marked_of c.value)))
+if_marked a b c m = ap marked_of (sym (rolls-If a b c m)) ∙ fold-roll-Term Marked MarkedMethod term_step method_step (layer.If a b c m)
+
+pub operate_marked : (s : Sign) (a b : Box Term) (m : Mark) → marked_of (Operate s a b m) ≡ marked (term.Operate (sign_shape s)) (mark_shape m) (two_marked (marked_of a.value) (marked_of b.value))
+operate_marked s a b m = ap marked_of (sym (rolls-Operate s a b m)) ∙ fold-roll-Term Marked MarkedMethod term_step method_step (layer.Operate s a b m)
+
+pub group_marked : (ts : Vec Term) (m : Mark) → marked_of (Group ts m) ≡ marked term.Group (mark_shape m) (all_marked (map marked_of ts.items))
+group_marked ts m = ap marked_of (sym (rolls-Group ts m)) ∙ fold-roll-Term Marked MarkedMethod term_step method_step (layer.Group ts m)
+
+pub scatter_marked : (a : Box Term) (l : Label) (b : Box Term) (m : Mark) → marked_of (Scatter a l b m) ≡ marked (term.Scatter l.text) (mark_shape m) (two_marked (marked_of a.value) (marked_of b.value))
+scatter_marked a l b m = ap marked_of (sym (rolls-Scatter a l b m)) ∙ fold-roll-Term Marked MarkedMethod term_step method_step (layer.Scatter a l b m)
+
+pub member_marked : (a b : Box Term) (m : Mark) → marked_of (Member a b m) ≡ marked term.Member (mark_shape m) (two_marked (marked_of a.value) (marked_of b.value))
+member_marked a b m = ap marked_of (sym (rolls-Member a b m)) ∙ fold-roll-Term Marked MarkedMethod term_step method_step (layer.Member a b m)
+
+marked_bodies : (ms : List Method) → map (λ (x : MarkedMethod). x.body) (map method_of ms) ≡ map marked_body ms
+marked_bodies [] = refl
+marked_bodies (m ∷ ms) = λ i. (method_is m i).body ∷ marked_bodies ms i
+
+marked_parts : (fs : List (Label × Term)) (ms : List Method)
+    → map (λ (f : Text × Marked). f.1) (map field_of fs) ++ map (λ (x : MarkedMethod). x.body) (map method_of ms) ≡ map marked_field fs ++ map marked_body ms
+marked_parts [] ms = marked_bodies ms
+marked_parts (f ∷ fs) ms = ap (λ (us : List Marked). marked_of f.1 ∷ us) (marked_parts fs ms)
+
+pub make_marked : (fs : Vec (Label × Term)) (ms : Vec Method) (m : Mark)
+    → marked_of (Make fs ms m) ≡ marked (term.Make (map field_label fs.items) (map method_head ms.items)) (mark_shape m) (all_marked (map marked_field fs.items ++ map marked_body ms.items))
+make_marked fs ms m =
+    ap marked_of (sym (rolls-Make fs ms m)) ∙ fold-roll-Term Marked MarkedMethod term_step method_step (layer.Make fs ms m)
+    ∙ ap (λ (xs : List (Text × Marked)). make_shape (mark_shape m) xs (map method_of ms.items)) (map_map _ (λ f. (f.0.text, f.1)) field_of (λ x. refl) fs.items)
+    ∙ (λ i. marked (term.Make (labels_are fs.items i) (heads_are ms.items i)) (mark_shape m) (all_marked (marked_parts fs.items ms.items i)))

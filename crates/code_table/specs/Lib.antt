@@ -1,11 +1,13 @@
 -- in reading order
 pub mod Numbers
+pub mod Operands
 pub mod Pieces
 pub mod Fitting
 pub mod Uses
 pub mod Tables
 pub mod Classes
 pub mod Sound
+pub mod Marks
 pub mod Parts
 pub mod Roots
 pub mod Carried

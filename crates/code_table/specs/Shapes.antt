@@ -5,7 +5,7 @@ use Rattle.asp_model.specs.Store as store
 use Rattle.asp_model.specs.Store.{CellShape, Store}
 use Rattle.asp_model.specs.Parcel.{ParcelShape}
 use Rattle.code_table.specs.declared.code.Node.{Node}
-use Rattle.code_table.specs.declared.code.Class.{Class}
+use Rattle.code_table.specs.declared.class.Class.{Class}
 use Rattle.code_table.specs.Tables.{pieces, object_of}
 use Rattle.code_table.specs.Classes.{class_at}
 use Rattle.code_table.specs.declared.cells.Cell.{Cell}

@@ -10,7 +10,7 @@ use Rattle.asp_model.specs.Store.{MethodShape, CellShape, Object}
 use Rattle.asp_model.specs.Contraction.{fields_at}
 use Rattle.code_table.specs.declared.code.Child.{Child}
 use Rattle.code_table.specs.declared.code.Child.TheVariants as child
-use Rattle.code_table.specs.declared.code.Class.{Class}
+use Rattle.code_table.specs.declared.class.Class.{Class}
 use Rattle.code_table.specs.declared.code.Kind.{Kind}
 use Rattle.code_table.specs.declared.code.Kind.TheVariants as kind
 use Rattle.code_table.specs.declared.code.MethodCode.{MethodCode}

@@ -1,9 +1,9 @@
 //! Code: a table of nodes that all activities of a run share.
 
-ghost use Rattle.std.specs.Prelude.{map};
-ghost use Rattle.code_table.specs.Numbers.{HaveNumbers};
+ghost use Rattle.std.specs.Prelude.{◌≡◌, length};
+ghost use Rattle.code_table.specs.Operands.{operand_count};
 
-use crate::numbers::Numbers;
+use crate::class::Class;
 use asp_model::{Label, Sign, Word};
 
 /// A variable of a body, by its slot in the body's environment. The environment begins with what the
@@ -48,18 +48,6 @@ pub struct MethodCode {
     pub body: Child,
 }
 
-/// What the objects that one node makes have in common.
-#[derive(Drop)]
-pub struct Class {
-    pub fields: Vec<Label>,
-    pub methods: Vec<MethodCode>,
-    // The numbers of the labels, where these are many.
-    pub(crate) field_numbers: Option<Numbers>,
-    pub(crate) method_numbers: Option<Numbers>,
-    ghost fields_numbered: { HaveNumbers (map (λ l. l.text) fields.items) field_numbers },
-    ghost methods_numbered: { HaveNumbers (map (λ m. m.label.text) methods.items) method_numbers },
-}
-
 /// What a node is, apart from the terms below it.
 #[derive(Drop)]
 pub enum Kind {
@@ -92,4 +80,44 @@ pub enum Kind {
 pub struct Node {
     pub kind: Kind,
     pub children: Vec<Child>,
+    /// The byte of the text where it stood, or 0 if it stood in none.
+    pub mark: usize,
+    /// How many terms below it are reduced in place, from the first on.
+    pub operands: usize,
+    /// Whether it reads a field of a variable, or has a sign between a variable and a variable or a
+    /// number. This is a hint: whoever goes by it looks at the node.
+    pub lean: bool,
+    ghost counted: { operands ≡ operand_count kind (length children.items) },
+}
+
+impl Node {
+    /// The node of this kind over these terms, which stood at this byte.
+    pub fn new(kind: Kind, children: Vec<Child>, mark: usize, lean: bool) -> Node
+        ensures kind { result.kind ≡ kind }
+        ensures children { result.children ≡ children }
+        ensures mark { result.mark ≡ mark }
+    {
+        let operands = operand_count(&kind, children.len());
+        Node {
+            kind,
+            children,
+            mark,
+            operands,
+            lean,
+        }
+    }
+}
+
+/// How many of so many terms below a node of this kind are reduced in place.
+fn operand_count(kind: &Kind, count: usize) -> usize
+    ensures count { result ≡ operand_count kind.now count }
+{
+    match kind {
+        Kind::Make(_) | Kind::Call(_) | Kind::Group => count,
+        Kind::Put(_) | Kind::Operate(_) | Kind::Scatter(_) | Kind::Member => 2,
+        Kind::Get(_) | Kind::Clone | Kind::Active(_) | Kind::Let(_) | Kind::Steps => 1,
+        Kind::If | Kind::Print | Kind::Size | Kind::WaitAll => 1,
+        Kind::Number(_) | Kind::Serve(_) | Kind::Pending(_) | Kind::Echo(_) => 0,
+        Kind::Repeat => 0,
+    }
 }

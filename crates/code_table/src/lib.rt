@@ -4,6 +4,7 @@
 
 mod carried;
 mod cells;
+mod class;
 mod code;
 mod future;
 mod laws;
@@ -14,7 +15,8 @@ mod table;
 
 pub use carried::Cells;
 pub use cells::{Cell, Object, Parcel, Place};
-pub use code::{Capture, Child, Class, Kind, Leaf, MethodCode, Node};
+pub use class::Class;
+pub use code::{Capture, Child, Kind, Leaf, MethodCode, Node};
 pub use future::Future;
 pub use laws::locations_are_uses;
 pub use roots::Roots;

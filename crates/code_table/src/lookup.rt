@@ -3,7 +3,8 @@
 ghost use Rattle.std.specs.Prelude.{◌≡◌, IfOk};
 ghost use Rattle.code_table.specs.Classes.{field_number, method_number};
 
-use crate::code::{Class, MethodCode};
+use crate::class::Class;
+use crate::code::MethodCode;
 use crate::numbers::{number_fields, number_methods};
 use asp_model::Label;
 use std::alloc::{AllocError, Global};

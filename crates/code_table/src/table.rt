@@ -6,7 +6,8 @@ ghost use Rattle.code_table.specs.Sound.{IsSound, MethodsBelow, MethodsSound, St
 ghost use Rattle.code_table.specs.Tables.{pieces};
 ghost use Rattle.code_table.specs.declared.code.Node.{Node as NodeShape};
 
-use crate::code::{Class, Kind, Node};
+use crate::class::Class;
+use crate::code::{Kind, Node};
 use std::marker::Model;
 
 /// Where the node `serve()` stands in every table.

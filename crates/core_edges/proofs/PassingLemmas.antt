@@ -6,7 +6,7 @@ use Rattle.asp_model.specs.Names.{Name, FutureShape}
 use Rattle.asp_model.specs.History.{ChoiceShape, DeliveryShape, Edge, Need}
 use Rattle.asp_model.specs.Configuration.{RequestShape}
 use Rattle.code_table.specs.declared.code.Node.{Node}
-use Rattle.code_table.specs.declared.code.Class.{Class}
+use Rattle.code_table.specs.declared.class.Class.{Class}
 use Rattle.code_table.specs.Classes.{class_at}
 use Rattle.code_table.specs.Cells as coded
 use Rattle.code_table.specs.Cells.{CodedCell, CodedStore, all_coded, cell_at}

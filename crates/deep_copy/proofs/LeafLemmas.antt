@@ -4,7 +4,7 @@ use Rattle.std.proofs.lemmas.Bool.{eq-eqb}
 use Rattle.asp_model.specs.Parcel.{ParcelShape, number_in, parcel_of, visit}
 use Rattle.asp_model.specs.Store.{Store, cell, reached}
 use Rattle.code_table.specs.declared.code.Node.{Node}
-use Rattle.code_table.specs.declared.code.Class.{Class}
+use Rattle.code_table.specs.declared.class.Class.{Class}
 use Rattle.code_table.specs.Classes.{class_at}
 use Rattle.code_table.specs.Sound.{IsSound}
 use Rattle.code_table.specs.Cells as coded

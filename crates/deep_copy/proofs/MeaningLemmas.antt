@@ -9,7 +9,7 @@ use Rattle.asp_model.specs.Contraction.{fields_at}
 use Rattle.code_table.specs.declared.code.Leaf.{Leaf}
 use Rattle.code_table.specs.declared.code.Leaf.TheVariants as leaves
 use Rattle.code_table.specs.declared.code.Capture.{Capture}
-use Rattle.code_table.specs.declared.code.Class.{Class}
+use Rattle.code_table.specs.declared.class.Class.{Class}
 use Rattle.code_table.specs.declared.code.Kind.{Kind}
 use Rattle.code_table.specs.declared.code.Kind.TheVariants as kind
 use Rattle.code_table.specs.declared.code.MethodCode.{MethodCode}

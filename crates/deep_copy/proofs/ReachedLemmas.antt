@@ -7,7 +7,7 @@ use Rattle.asp_model.specs.Names.{Text}
 use Rattle.asp_model.specs.Term.{loc, locations}
 use Rattle.asp_model.specs.Store.{Field, MethodShape, reached}
 use Rattle.asp_model.specs.Contraction.{fields_at}
-use Rattle.code_table.specs.declared.code.Class.{Class}
+use Rattle.code_table.specs.declared.class.Class.{Class}
 use Rattle.code_table.specs.declared.code.MethodCode.{MethodCode}
 use Rattle.code_table.specs.declared.code.Node.{Node}
 use Rattle.code_table.specs.Pieces.{Piece, tree}

@@ -4,7 +4,7 @@ use Rattle.std.specs.List.{flat_map}
 use Rattle.std.specs.Option.{option_to_list}
 use Rattle.asp_model.specs.Store.{CellShape}
 use Rattle.code_table.specs.declared.code.Node.{Node}
-use Rattle.code_table.specs.declared.code.Class.{Class}
+use Rattle.code_table.specs.declared.class.Class.{Class}
 use Rattle.code_table.specs.declared.code.MethodCode.{MethodCode}
 use Rattle.code_table.specs.Classes.{class_at}
 use Rattle.code_table.specs.declared.cells.Object.{Object}

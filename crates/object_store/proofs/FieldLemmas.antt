@@ -5,7 +5,7 @@ use Rattle.asp_model.specs.Store as store
 use Rattle.asp_model.specs.Store.{CellShape, with_cell}
 use Rattle.asp_model.specs.Contraction.{with_field}
 use Rattle.code_table.specs.declared.code.Node.{Node}
-use Rattle.code_table.specs.declared.code.Class.{Class}
+use Rattle.code_table.specs.declared.class.Class.{Class}
 use Rattle.code_table.specs.Tables.{object_of, pieces, seen_methods}
 use Rattle.code_table.specs.Classes.{field_number}
 use Rattle.code_table.proofs.LookupLemmas.{field_put, field_within}

@@ -5,7 +5,7 @@ use Rattle.asp_model.specs.Store as store
 use Rattle.asp_model.specs.Store.{MethodShape, Field, Store, cell, with_cell}
 use Rattle.asp_model.specs.Contraction.{with_field}
 use Rattle.code_table.specs.declared.code.Node.{Node}
-use Rattle.code_table.specs.declared.code.Class.{Class}
+use Rattle.code_table.specs.declared.class.Class.{Class}
 use Rattle.code_table.specs.Classes.{class_at, field_number}
 use Rattle.code_table.specs.Cells.{CodedStore, Object, cell_at, with_cell_at, with_place_at}
 use Rattle.code_table.specs.Shapes.{store_of}

@@ -14,7 +14,7 @@ use Rattle.asp_model.specs.Parcel.{ParcelShape}
 use Rattle.asp_model.specs.Store.{CellShape, Field, MethodShape, Number, Object, Reference, Future, Group, reached}
 use Rattle.asp_model.specs.Term.{Tree, Loc, node, loc, locations, moved}
 use Rattle.law_steps.proofs.MovedLemmas.{locations_moved}
-use Rattle.code_table.specs.declared.code.Class.{Class}
+use Rattle.code_table.specs.declared.class.Class.{Class}
 use Rattle.code_table.specs.declared.code.MethodCode.{MethodCode}
 use Rattle.code_table.specs.declared.code.Node.{Node}
 use Rattle.code_table.specs.Classes.{number_of}

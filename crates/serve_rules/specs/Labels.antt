@@ -6,7 +6,7 @@ use Rattle.asp_model.specs.declared.word.Label.{Label}
 use Rattle.asp_model.specs.Intent.{method_labels}
 use Rattle.code_table.specs.Pieces.{Piece}
 use Rattle.code_table.specs.Tables.{object_of}
-use Rattle.code_table.specs.declared.code.Class.{Class}
+use Rattle.code_table.specs.declared.class.Class.{Class}
 use Rattle.code_table.specs.declared.code.MethodCode.{MethodCode}
 
 abbrev pub label_text : Label → Text

@@ -11,7 +11,7 @@ use Rattle.asp_model.specs.Names.{FutureShape, Text}
 use Rattle.asp_model.specs.Contraction.{fields_at}
 use Rattle.asp_model.specs.Store.{CellShape, Field, MethodShape, Number, Object, Reference, Future, Group, reached}
 use Rattle.asp_model.specs.Term.{locations}
-use Rattle.code_table.specs.declared.code.Class.{Class}
+use Rattle.code_table.specs.declared.class.Class.{Class}
 use Rattle.code_table.specs.declared.code.Node.{Node}
 use Rattle.code_table.specs.Tables.{pieces, labels_of, seen_methods, text_of}
 use Rattle.code_table.specs.Shapes.{class_object}

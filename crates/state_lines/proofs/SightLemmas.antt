@@ -4,7 +4,7 @@ use Rattle.asp_model.specs.Names.{FutureShape}
 use Rattle.asp_model.specs.Parcel.{ParcelShape}
 use Rattle.asp_model.specs.Store.{CellShape, Number, Object, Reference, Future, Group, Store, cell}
 use Rattle.asp_model.specs.Chase.{chase}
-use Rattle.code_table.specs.declared.code.Class.{Class}
+use Rattle.code_table.specs.declared.class.Class.{Class}
 use Rattle.code_table.specs.declared.code.Node.{Node}
 use Rattle.code_table.specs.Shapes.{class_object, store_of}
 use Rattle.def_paths.specs.Places.{Place, In_store, In_value, Side, inner, written, entered, read, found, entered_by, read_by, part, name_by}

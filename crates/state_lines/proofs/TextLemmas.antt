@@ -10,7 +10,7 @@ use Rattle.asp_model.specs.Contraction.{fields_at}
 use Rattle.asp_model.specs.Report.{name_text}
 use Rattle.asp_model.specs.Store.{Field, MethodShape}
 use Rattle.asp_model.specs.Term.{moved}
-use Rattle.code_table.specs.declared.code.Class.{Class}
+use Rattle.code_table.specs.declared.class.Class.{Class}
 use Rattle.code_table.specs.declared.code.MethodCode.{MethodCode}
 use Rattle.code_table.specs.declared.code.Node.{Node}
 use Rattle.code_table.specs.Pieces.{Piece}

@@ -7,7 +7,7 @@ use Rattle.std.specs.List.{flat_map}
 use Rattle.asp_model.specs.Names.{Text}
 use Rattle.asp_model.specs.Chase.{Values, chase}
 use Rattle.asp_model.specs.Store.{CellShape}
-use Rattle.code_table.specs.declared.code.Class.{Class}
+use Rattle.code_table.specs.declared.class.Class.{Class}
 use Rattle.code_table.specs.declared.code.MethodCode.{MethodCode}
 use Rattle.code_table.specs.declared.code.Node.{Node}
 use Rattle.code_table.specs.Classes.{class_at}

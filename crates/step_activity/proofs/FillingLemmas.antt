@@ -18,7 +18,7 @@ use Rattle.law_steps.proofs.MovedLemmas.{length_written}
 use Rattle.law_chases.proofs.FutureLemmas.{future_itself, futures_tied}
 use Rattle.object_store.specs.Holders.{holders, holders_from, is_future}
 use Rattle.code_table.specs.Classes.{class_at}
-use Rattle.code_table.specs.declared.code.Class.{Class}
+use Rattle.code_table.specs.declared.class.Class.{Class}
 use Rattle.code_table.specs.declared.code.Node.{Node}
 use Rattle.step_activity.specs.declared.actor.Actor.{Actor}
 use Rattle.step_activity.specs.Actors.{Stands}

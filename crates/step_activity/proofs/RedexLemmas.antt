@@ -15,7 +15,7 @@ use Rattle.step_rows.specs.declared.redex.Redex.TheVariants as redex
 use Rattle.step_rows.specs.Decisions.{value_redex}
 use Rattle.step_rows.specs.Redexes.{IsRedex}
 use Rattle.step_rows.proofs.ReadLemmas.{cell_seen}
-use Rattle.code_table.specs.declared.code.Class.{Class}
+use Rattle.code_table.specs.declared.class.Class.{Class}
 use Rattle.code_table.specs.declared.code.Node.{Node}
 use Rattle.std.specs.Borrow.{Bor}
 use Rattle.asp_model.specs.Intent.{method_labels}

@@ -9,7 +9,7 @@ use Rattle.asp_model.specs.Contraction.{Communication, Contraction, Communicates
 use Rattle.asp_model.specs.Intent.{labels_served}
 use Rattle.step_rows.specs.declared.redex.Redex.{Redex}
 use Rattle.step_rows.specs.declared.redex.Redex.TheVariants as redex
-use Rattle.code_table.specs.declared.code.Class.{Class}
+use Rattle.code_table.specs.declared.class.Class.{Class}
 use Rattle.code_table.specs.declared.code.Node.{Node}
 use Rattle.code_table.specs.Classes.{class_at}
 use Rattle.law_steps.specs.Closed.{AreBelow}

@@ -13,7 +13,7 @@ use Rattle.asp_model.specs.Contraction.{Contraction, Becomes, Needs, allots, con
 use Rattle.asp_model.specs.Configuration.{ServiceShape}
 use Rattle.code_table.specs.declared.code.Child.{Child}
 use Rattle.code_table.specs.declared.code.Child.TheVariants as child
-use Rattle.code_table.specs.declared.code.Class.{Class}
+use Rattle.code_table.specs.declared.class.Class.{Class}
 use Rattle.code_table.specs.declared.code.Kind.{Kind}
 use Rattle.code_table.specs.declared.code.Kind.TheVariants as kind
 use Rattle.code_table.specs.declared.code.MethodCode.{MethodCode}

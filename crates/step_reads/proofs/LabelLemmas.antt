@@ -7,7 +7,7 @@ use Rattle.asp_model.specs.Names.{Text, same_text}
 use Rattle.asp_model.specs.Term.{MethodHead, has_text}
 use Rattle.asp_model.specs.Store.{Field, MethodShape}
 use Rattle.asp_model.specs.Contraction.{field_place, fields_at, method_at}
-use Rattle.code_table.specs.declared.code.Class.{Class}
+use Rattle.code_table.specs.declared.class.Class.{Class}
 use Rattle.code_table.specs.declared.code.MethodCode.{MethodCode}
 use Rattle.code_table.specs.declared.code.Node.{Node}
 use Rattle.code_table.specs.Classes.{field_number, method_number}

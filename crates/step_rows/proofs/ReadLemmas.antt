@@ -4,7 +4,7 @@ use Rattle.asp_model.specs.Names.{Text}
 use Rattle.asp_model.specs.Term.{Head, SignShape, Get, Put, Clone, Active, Operate, Print, Size, Member, If, Scatter, Call, Tree, none, more}
 use Rattle.asp_model.specs.Store.{CellShape, Store, Number, Object, Reference, Future, Group, cell}
 use Rattle.asp_model.specs.Contraction.{Contraction, Faults, Needs, NotNumber, Communicates, Creates, contract, first_future, is_future, allots, get_row, put_row, active_row, print_row, operate_row, size_row, member_row, if_row, scatter_row, call_row}
-use Rattle.code_table.specs.declared.code.Class.{Class}
+use Rattle.code_table.specs.declared.class.Class.{Class}
 use Rattle.code_table.specs.declared.code.Node.{Node}
 use Rattle.code_table.specs.Cells.{CodedStore, CodedCell, cell_at}
 use Rattle.code_table.specs.Shapes.{class_object, cell_of, store_of}

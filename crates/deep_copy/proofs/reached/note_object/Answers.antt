@@ -1,6 +1,6 @@
 use Rattle.std.proofs.Common.{◌≡◌, ◌++◌, List, ℕ, Option, Some, OnOk, sym, ap, subst, ◌∙◌}
 use Rattle.asp_model.specs.Store.{reached}
-use Rattle.code_table.specs.declared.code.Class.{Class}
+use Rattle.code_table.specs.declared.class.Class.{Class}
 use Rattle.code_table.specs.Classes.{class_at}
 use Rattle.code_table.specs.Shapes.{class_object}
 use Rattle.deep_copy.specs.Reached.{class_places, object_shape}

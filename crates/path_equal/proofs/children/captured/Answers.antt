@@ -1,5 +1,5 @@
 use Rattle.std.proofs.Common.{◌≡◌, List, Option, ◌∙◌, length, drop, sym, ap, arith}
-use Rattle.code_table.specs.declared.code.Class.{Class}
+use Rattle.code_table.specs.declared.class.Class.{Class}
 use Rattle.code_table.specs.declared.code.MethodCode.{MethodCode}
 use Rattle.code_table.specs.Shapes.{class_object}
 use Rattle.def_paths.specs.PathLabels.{To_captured}

@@ -1,5 +1,5 @@
 use Rattle.std.proofs.Common.{List, ℕ, Option, ◌∙◌, sym, ap, slice_get}
-use Rattle.code_table.specs.declared.code.Class.{Class}
+use Rattle.code_table.specs.declared.class.Class.{Class}
 use Rattle.code_table.specs.Shapes.{class_object}
 use Rattle.def_paths.specs.PathLabels.{To_field}
 use Rattle.state_lines.specs.declared.seen.Seen.{Seen}

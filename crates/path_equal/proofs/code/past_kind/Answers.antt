@@ -1,7 +1,7 @@
 use Rattle.std.proofs.Common.{◌≡◌, ◌∙◌, List, ℕ, ap, subst, sym}
 use Rattle.std.specs.List.{flat_map}
 use Rattle.asp_model.specs.Term.{locations_below}
-use Rattle.code_table.specs.declared.code.Class.{Class}
+use Rattle.code_table.specs.declared.class.Class.{Class}
 use Rattle.code_table.specs.declared.code.Kind.{Kind}
 use Rattle.code_table.specs.declared.code.MethodCode.{MethodCode}
 use Rattle.code_table.specs.Sound.{KindSound, MethodsSound}

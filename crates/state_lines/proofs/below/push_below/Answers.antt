@@ -1,6 +1,6 @@
 use Rattle.std.proofs.Common.{◌∙◌, List, Option, OnOk, map, sym, ap, subst}
 use Rattle.asp_model.specs.declared.word.Label.{Label}
-use Rattle.code_table.specs.declared.code.Class.{Class}
+use Rattle.code_table.specs.declared.class.Class.{Class}
 use Rattle.code_table.specs.Tables.{labels_of, text_of}
 use Rattle.code_table.specs.Shapes.{class_object}
 use Rattle.def_paths.specs.Places.{Place}

@@ -2,7 +2,7 @@ use Rattle.std.proofs.Common.{IfOk, List, Option, sym, subst}
 use Rattle.asp_model.specs.Names.{Text}
 use Rattle.code_table.specs.Cells.{coded}
 use Rattle.std.specs.Borrow.{Bor}
-use Rattle.code_table.specs.declared.code.Class.{Class}
+use Rattle.code_table.specs.declared.class.Class.{Class}
 use Rattle.code_table.specs.Classes.{seen_class}
 use Rattle.serve_rules.specs.Labels.{HaveSame}
 use Rattle.step_activity.proofs.RedexLemmas.{class_texts, methods_by}

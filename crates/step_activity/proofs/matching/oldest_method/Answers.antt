@@ -5,7 +5,7 @@ use Rattle.asp_model.specs.Intent.{Numbered, method_labels}
 use Rattle.asp_model.specs.Names.{Text}
 use Rattle.code_table.specs.Cells.{coded}
 use Rattle.code_table.specs.Shapes.{cell_shape}
-use Rattle.code_table.specs.declared.code.Class.{Class}
+use Rattle.code_table.specs.declared.class.Class.{Class}
 use Rattle.code_table.specs.Classes.{seen_class}
 use Rattle.request_queue.specs.Pending.{oldest, waiting}
 use Rattle.step_activity.proofs.MatchLemmas.{none_asked}

@@ -1,5 +1,5 @@
 use Rattle.std.proofs.Common.{rules, ◌≡◌, ◌∙◌, List, Some, nat_lt, length, sym, ap}
-use Rattle.code_table.specs.declared.code.Class.{Class}
+use Rattle.code_table.specs.declared.class.Class.{Class}
 use Rattle.code_table.specs.declared.code.Node.{Node}
 use Rattle.code_table.specs.Classes.{class_at, seen_class}
 use Rattle.step_reads.proofs.LabelLemmas.{has_no_field, has_field_at}

@@ -3,7 +3,7 @@ use Rattle.asp_model.specs.Names.{Text}
 use Rattle.asp_model.specs.Store.{Store}
 use Rattle.asp_model.specs.Contraction.{get_row, stays_at}
 use Rattle.asp_model.specs.Contraction as contraction
-use Rattle.code_table.specs.declared.code.Class.{Class}
+use Rattle.code_table.specs.declared.class.Class.{Class}
 use Rattle.code_table.specs.declared.code.Node.{Node}
 use Rattle.code_table.specs.Classes.{class_at, seen_class, field_number}
 use Rattle.code_table.proofs.LookupLemmas as lookup

@@ -3,7 +3,7 @@ use Rattle.asp_model.specs.Names.{Text}
 use Rattle.asp_model.specs.Store.{Store, Object, Field, MethodShape, cell}
 use Rattle.asp_model.specs.Contraction.{put_row, stays_at, with_field, fields_at}
 use Rattle.asp_model.specs.Contraction as contraction
-use Rattle.code_table.specs.declared.code.Class.{Class}
+use Rattle.code_table.specs.declared.class.Class.{Class}
 use Rattle.code_table.specs.declared.code.Node.{Node}
 use Rattle.code_table.specs.Classes.{class_at, seen_class, field_number}
 use Rattle.code_table.specs.Tables.{labels_of, pieces, seen_methods}

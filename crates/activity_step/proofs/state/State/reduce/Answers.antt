@@ -12,7 +12,7 @@ use Rattle.step_machine.specs.Standing.{View, view_of}
 use Rattle.step_machine.proofs.RowLemmas.{value_row}
 use Rattle.step_machine.proofs.SpreadLemmas.{at_call}
 use Rattle.code_table.specs.Classes.{class_of}
-use Rattle.code_table.specs.declared.code.Class.{Class}
+use Rattle.code_table.specs.declared.class.Class.{Class}
 use Rattle.activity_step.proofs.TermLemmas.{bare_at, simple_size}
 use Rattle.activity_step.proofs.state.State.reduce.Goals as goal
 

@@ -1,7 +1,7 @@
 use Rattle.std.proofs.Common.{◌<◌, length, sym, ◌∙◌, arith}
 use Rattle.code_table.specs.Tables.{text_of}
 use Rattle.code_table.proofs.LookupLemmas.{labelled_here, labelled_later}
-use Rattle.code_table.proofs.code.Class.walk_fields.Goals as goal
+use Rattle.code_table.proofs.class.Class.walk_fields.Goals as goal
 
 pub returns-then-eq : goal.returns-then-eq
 returns-then-eq c =

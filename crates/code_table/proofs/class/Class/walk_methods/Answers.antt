@@ -2,7 +2,7 @@ use Rattle.std.proofs.Common.{◌<◌, length, sym, ◌∙◌, arith}
 use Rattle.code_table.specs.declared.code.MethodCode.{MethodCode}
 use Rattle.code_table.specs.Tables.{head_of}
 use Rattle.code_table.proofs.LookupLemmas.{labelled_here, labelled_later}
-use Rattle.code_table.proofs.code.Class.walk_methods.Goals as goal
+use Rattle.code_table.proofs.class.Class.walk_methods.Goals as goal
 
 pub returns-then-eq : goal.returns-then-eq
 returns-then-eq c =

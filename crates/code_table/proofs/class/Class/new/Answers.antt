@@ -2,7 +2,7 @@ use Rattle.std.proofs.Common.{List, map, subst}
 use Rattle.asp_model.specs.declared.word.Label.{Label}
 use Rattle.code_table.specs.declared.code.MethodCode.{MethodCode}
 use Rattle.code_table.specs.Numbers.{HaveNumbers}
-use Rattle.code_table.proofs.code.Class.new.Goals as goal
+use Rattle.code_table.proofs.class.Class.new.Goals as goal
 
 pub invariant_of-result : goal.invariant_of-result
 invariant_of-result c = record {
