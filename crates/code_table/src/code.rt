@@ -84,15 +84,12 @@ pub struct Node {
     pub mark: usize,
     /// How many terms below it are reduced in place, from the first on.
     pub operands: usize,
-    /// Whether it reads a field of a variable, or has a sign between a variable and a variable or a
-    /// number. This is a hint: whoever goes by it looks at the node.
-    pub lean: bool,
     ghost counted: { operands ≡ operand_count kind (length children.items) },
 }
 
 impl Node {
     /// The node of this kind over these terms, which stood at this byte.
-    pub fn new(kind: Kind, children: Vec<Child>, mark: usize, lean: bool) -> Node
+    pub fn new(kind: Kind, children: Vec<Child>, mark: usize) -> Node
         ensures kind { result.kind ≡ kind }
         ensures children { result.children ≡ children }
         ensures mark { result.mark ≡ mark }
@@ -103,7 +100,6 @@ impl Node {
             children,
             mark,
             operands,
-            lean,
         }
     }
 }
