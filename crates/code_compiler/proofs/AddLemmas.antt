@@ -21,7 +21,7 @@ use Rattle.code_table.specs.Sound.{AllBelow, KindBelow, KindSound}
 use Rattle.code_table.proofs.GrowthLemmas.{last_piece, ordered_put, all_below_more, all_below_append, children_kept, sound_put}
 use Rattle.code_compiler.proofs.ScopeLemmas.{leaf_is}
 use Rattle.code_compiler.specs.Closed.{IsClosed, AreClosed}
-use Rattle.code_compiler.specs.Compiled.{Body, names_in, SameScope, IsPlain, IsTable, Grows, variables, StandFor, Adds, EndsTable}
+use Rattle.code_compiler.specs.Compiled.{Body, names_in, SameScope, IsPlain, IsTable, Grows, IsPut, variables, StandFor, Adds, EndsTable}
 
 pub both_ok : {A E : Type 0} (r : Result A E) (P Q R : Type 0) → OnOk r P → OnOk r Q → (P → Q → R) → OnOk r R
 both_ok (Ok a) P Q R p q f = f p q
@@ -187,10 +187,12 @@ put_adds a b ns ms ks cs es n t same g h pushed child_is term fits used =
       uses = used ∙ ap (λ (p : Piece). a.uses ++ uses p) (sym is) ∙ ap (λ (l : List ℕ). a.uses ++ l) (sym (append-nil (uses (piece_at (pieces all) (length ms)))));
     })
 
-pub node_added : (a b : Body) (ns ms ks : List Node) (cs es : List Child) (k : Kind) (row : Vec Child) (ts : List Tree) → Adds a b ns ms [] row.items ts → IsPlain k (length ts)
-    → ks ≡ ms ++ record { kind = k; children = row } ∷ [] → es ≡ cs ++ child.Node (length ms) ∷ [] → Adds a b ns ks cs es (node (kind_head k) (trees ts) ∷ [])
-node_added a b ns ms ks cs es k row ts x plain pushed child_is =
-    let n : Node = record { kind = k; children = row } in
+-- over the children of a node
+above : (a b : Body) (ns ms : List Node) (cs es : List Child) (n : Node) (ts : List Tree) → Adds a b ns ms [] n.children.items ts → IsPlain n.kind (length ts)
+    → es ≡ cs ++ child.Node (length ms) ∷ [] → Adds a b ns (ms ++ n ∷ []) cs es (node (kind_head n.kind) (trees ts) ∷ [])
+above a b ns ms cs es n ts x plain child_is =
+    let k : Kind = n.kind in
+    let row : Vec Child = n.children in
     let xs : List Text = a.captured in
     let scope : Environment = a.bound in
     let h : ℕ = length xs + length a.bound in
@@ -203,10 +205,19 @@ node_added a b ns ms ks cs es k row ts x plain pushed child_is =
     let all : AllFit xs scope h (binders (kind_head k)) ps = subst (λ (l : List (List Text)). AllFit xs scope h l ps) (sym (plain_binders k (length ts) plain)) stand.fits in
     let arity : HasArity (kind_head k) (count ps) = subst (HasArity (kind_head k)) (sym size) (plain_arity k (length ts) plain) in
     let fits : Fits xs scope h (piece (kind_head k) ps) = (plain_node k (length ts) plain, arity, all) in
-    put_adds a b ns ms ks cs es n (node (kind_head k) (trees ts)) x.same x.grows
-    (put_grows ms n before (plain_below k (length ts) (length ms) plain) (λ t. plain_sound k (length ts) (pieces ms) plain)) pushed child_is
+    put_adds a b ns ms (ms ++ n ∷ []) cs es n (node (kind_head k) (trees ts)) x.same x.grows
+    (put_grows ms n before (plain_below k (length ts) (length ms) plain) (λ t. plain_sound k (length ts) (pieces ms) plain)) refl child_is
     (ap (tree (variables xs)) is ∙ ap (node (kind_head k)) stand.terms) (subst (Fits xs scope h) (sym is) fits)
     (x.uses ∙ (λ i. a.uses ++ uses_below (pieces_of (pieces ms) (new i))) ∙ ap (λ (p : Piece). a.uses ++ uses p) (sym is))
+
+pub node_added : {at : ℕ} (a b : Body) (ns ms ks : List Node) (cs es : List Child) (k : Kind) (row : Vec Child) (ts : List Tree) → Adds a b ns ms [] row.items ts → IsPlain k (length ts)
+    → IsPut ms ks k row at → es ≡ cs ++ child.Node (length ms) ∷ [] → Adds a b ns ks cs es (node (kind_head k) (trees ts) ∷ [])
+node_added a b ns ms ks cs es k row ts x plain put child_is =
+    let here : Adds a b ns ms [] put.node.children.items ts = subst (λ (v : Vec Child). Adds a b ns ms [] v.items ts) (sym put.below_is) x in
+    let added : Adds a b ns (ms ++ put.node ∷ []) cs es (node (kind_head put.node.kind) (trees ts) ∷ []) =
+    above a b ns ms cs es put.node ts here (subst (λ (q : Kind). IsPlain q (length ts)) (sym put.kind_is) plain) child_is in
+    subst (λ (l : List Node). Adds a b ns l cs es (node (kind_head k) (trees ts) ∷ [])) (sym put.pushed)
+    (subst (λ (q : Kind). Adds a b ns (ms ++ put.node ∷ []) cs es (node (kind_head q) (trees ts) ∷ [])) put.kind_is added)
 
 -- A variable
 
@@ -271,13 +282,13 @@ fits_at : (xs : List Text) (scope : Environment) (h k : ℕ) (p : Piece) → h �
 fits_at xs scope h k p e f = subst (λ (n : ℕ). Fits xs scope n p) e f
 
 -- the first term stands in the body a, and the second where a name is bound behind its other ones
-pub let_added : (a b c d e : Body) (ns ms ls ks : List Node) (cs es : List Child) (x : Text) (row : Vec Child) (ds : List Child) (t u : Tree)
+pub let_added : {at : ℕ} (a b c d e : Body) (ns ms ls ks : List Node) (cs es : List Child) (x : Text) (row : Vec Child) (ds : List Child) (t u : Tree)
     → Adds a b ns ms [] ds (t ∷ []) → SameScope b c → b.uses ≡ c.uses
     → d.captured ≡ c.captured → d.bound ≡ (x, length c.captured + length c.bound) ∷ c.bound → d.uses ≡ c.uses
     → (f : Body) → Adds d e ms ls ds row.items (u ∷ []) → SameScope a f → f.uses ≡ e.uses
-    → ks ≡ ls ++ record { kind = kind.Let x; children = row } ∷ [] → es ≡ cs ++ child.Node (length ls) ∷ [] → Adds a f ns ks cs es (node (term.Let x) (more t (more u none)) ∷ [])
-let_added a b c d e ns ms ls ks cs es x row ds t u first same_c uses_c captured_d bound_d uses_d f second same_f uses_f pushed child_is =
-    let n : Node = record { kind = kind.Let x; children = row } in
+    → IsPut ls ks (kind.Let x) row at → es ≡ cs ++ child.Node (length ls) ∷ [] → Adds a f ns ks cs es (node (term.Let x) (more t (more u none)) ∷ [])
+let_added a b c d e ns ms ls ks cs es x row ds t u first same_c uses_c captured_d bound_d uses_d f second same_f uses_f put child_is =
+    let n : Node = put.node in
     let xs : List Text = a.captured in
     let scope : Environment = a.bound in
     let h : ℕ = length xs + length a.bound in
@@ -297,7 +308,8 @@ let_added a b c d e ns ms ls ks cs es x row ds t u first same_c uses_c captured_
     let before : AllBelow (length ls) row.items = subst (AllBelow (length ls)) (sym both) (old.0, last) in
     let pp : Piece = piece_of (pieces ls) p.child in
     let qq : Piece = piece_of (pieces ls) q.child in
-    let is : node_piece (pieces ls) n ≡ piece (term.Let x) (also pp (also qq nothing)) = ap (λ (l : List Child). piece (term.Let x) (pieces_of (pieces ls) l)) both in
+    let is : node_piece (pieces ls) n ≡ piece (term.Let x) (also pp (also qq nothing)) =
+    (λ i. kind_piece (pieces ls) (put.kind_is i) (pieces_of (pieces ls) (put.below_is i).items)) ∙ ap (λ (l : List Child). piece (term.Let x) (pieces_of (pieces ls) l)) both in
     let none_more : h ≡ h + 0 = omega arith in
     let q_here : Fits xs ((x, h) ∷ scope) (h + 1) qq = fits_at xs ((x, h) ∷ scope) (length d.captured + length d.bound) (h + 1) qq height
     (subst (λ (ys : List Text). Fits ys ((x, h) ∷ scope) (length d.captured + length d.bound) qq) captured (subst (λ (e : Environment). Fits d.captured e (length d.captured + length d.bound) qq) inner q.fits)) in
@@ -306,7 +318,8 @@ let_added a b c d e ns ms ls ks cs es x row ds t u first same_c uses_c captured_
     let first_uses : uses_below (pieces_of (pieces ms) first.new) ≡ uses pp = ap uses_below (sym kept) ∙ ap (λ (l : List Child). uses_below (pieces_of (pieces ls) l)) p.is ∙ append-nil (uses pp) in
     let second_uses : uses_below (pieces_of (pieces ls) second.new) ≡ uses qq ++ [] = ap (λ (l : List Child). uses_below (pieces_of (pieces ls) l)) q.is in
     put_adds a f ns ls ks cs es n (node (term.Let x) (more t (more u none))) same_f (grows_more ns ms ls first.grows second.grows)
-    (put_grows ls n before tt (λ t. tt)) pushed child_is
+    (put_grows ls n (subst (λ (v : Vec Child). AllBelow (length ls) v.items) (sym put.below_is) before) (subst (KindBelow (length ls)) (sym put.kind_is) tt)
+    (λ t. subst (KindSound (pieces ls)) (sym put.kind_is) tt)) put.pushed child_is
     (ap (tree (variables xs)) is ∙ (λ i. node (term.Let x) (more (p.term i) (more (q_term i) none)))) (subst (Fits xs scope h) (sym is) fits)
     (uses_f ∙ second.uses ∙ (λ i. (uses_d ∙ sym uses_c ∙ first.uses ∙ ap (λ (l : List ℕ). a.uses ++ l) first_uses) i ++ second_uses i) ∙ append_assoc a.uses (uses pp) (uses qq ++ [])
     ∙ ap (λ (p : Piece). a.uses ++ uses p) (sym is))

@@ -9,4 +9,5 @@ pub mod PartLemmas
 pub mod ScopeLemmas
 pub mod AddLemmas
 pub mod MethodLemmas
+pub mod MarkLemmas
 pub mod ProgramLemmas

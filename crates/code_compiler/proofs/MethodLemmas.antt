@@ -9,18 +9,18 @@ use Rattle.asp_model.specs.Term as term
 use Rattle.code_table.specs.declared.code.Capture.{Capture}
 use Rattle.code_table.specs.declared.code.Child.{Child}
 use Rattle.code_table.specs.declared.code.Child.TheVariants as child
-use Rattle.code_table.specs.declared.code.Class.{Class}
+use Rattle.code_table.specs.declared.class.Class.{Class}
 use Rattle.code_table.specs.declared.code.Kind.TheVariants as kind
 use Rattle.code_table.specs.declared.code.MethodCode.{MethodCode}
 use Rattle.code_table.specs.declared.code.Node.{Node}
-use Rattle.code_table.specs.Pieces.{Piece, Pieces, nothing, also, Bodies, count, heads_of, captured_trees, tree, below, bodies}
+use Rattle.code_table.specs.Pieces.{Piece, object, Pieces, nothing, also, Bodies, count, heads_of, captured_trees, tree, below, bodies}
 use Rattle.code_table.specs.Fitting.{Fits, BodiesFit, captured_names, head_names, body_scope, body_height, slots_from}
 use Rattle.code_table.specs.Uses.{use_at, uses, uses_below, uses_in}
-use Rattle.code_table.specs.Tables.{labels_of, head_of, piece_of, pieces_of, bodies_of, node_piece, pieces}
-use Rattle.code_table.specs.Sound.{IsBelow, AllBelow, MethodsSound, StartFrom, KindSound}
+use Rattle.code_table.specs.Tables.{labels_of, head_of, piece_of, pieces_of, bodies_of, kind_piece, node_piece, pieces}
+use Rattle.code_table.specs.Sound.{IsBelow, AllBelow, KindBelow, MethodsSound, StartFrom, KindSound}
 use Rattle.code_table.proofs.GrowthLemmas.{all_below_more, methods_below_more, methods_below_append, bodies_kept, methods_sound_kept}
 use Rattle.code_compiler.proofs.SlotLemmas.{length-slots}
-use Rattle.code_compiler.specs.Compiled.{Body, variables, scope_of, StandFor, Adds, heads_of_code, captured_count, AddsMethods, IsMethod}
+use Rattle.code_compiler.specs.Compiled.{Body, IsPut, variables, scope_of, StandFor, Adds, heads_of_code, captured_count, AddsMethods, IsMethod}
 use Rattle.code_compiler.proofs.ScopeLemmas.{captured_are}
 use Rattle.code_compiler.proofs.AddLemmas.{then, trees_append, grows_not, grows_more, longer, same_self, same_then, OnePiece, one_piece, put_adds, put_grows, stays, count_stand}
 
@@ -158,12 +158,12 @@ map_size : {A B : Type 0} (f : A → B) (xs : List A) → length (map f xs) ≡ 
 map_size f [] = refl
 map_size f (x ∷ xs) = ap suc (map_size f xs)
 
-pub object_added : (a b c : Body) (ns ms ls ks : List Node) (cs es : List Child) (row : Vec Child) (k : Box Class) (start : ℕ) (labels : List Text) (heads : List MethodHead) (ts us : List Tree)
+pub object_added : {at : ℕ} (a b c : Body) (ns ms ls ks : List Node) (cs es : List Child) (row : Vec Child) (k : Box Class) (start : ℕ) (labels : List Text) (heads : List MethodHead) (ts us : List Tree)
     → Adds a b ns ms [] row.items ts → AddsMethods b c ms ls start k.value.methods.items heads us → labels_of k.value ≡ labels → length labels ≡ length ts → start ≡ length k.value.fields.items
-    → ks ≡ ls ++ record { kind = kind.Make k; children = row } ∷ [] → es ≡ cs ++ child.Node (length ls) ∷ []
+    → IsPut ls ks (kind.Make k) row at → es ≡ cs ++ child.Node (length ls) ∷ []
     → Adds a c ns ks cs es (node (term.Make labels heads) (trees (ts ++ us)) ∷ [])
-object_added a b c ns ms ls ks cs es row k start labels heads ts us x y labels_are size start_is pushed child_is =
-    let n : Node = record { kind = kind.Make k; children = row } in
+object_added a b c ns ms ls ks cs es row k start labels heads ts us x y labels_are size start_is put child_is =
+    let n : Node = put.node in
     let codes : List MethodCode = k.value.methods.items in
     let xs : List Text = a.captured in
     let vs : List Tree = variables xs in
@@ -180,15 +180,17 @@ object_added a b c ns ms ls ks cs es row k start labels heads ts us x y labels_a
     subst (λ (ys : List Text). BodiesFit ys (scope_of a) bs) x.same.captured (subst (λ (e : Environment). BodiesFit b.captured e bs) x.same.bound y.fits) in
     let bodies_are : bodies vs bs ≡ trees us = ap (λ (ys : List Text). bodies (variables ys) bs) (sym x.same.captured) ∙ y.terms in
     let heads_are : heads_of bs ≡ heads = heads_in_code ps codes ∙ y.heads_are in
+    let is : node_piece ps n ≡ object (labels_of k.value) fs bs = λ i. kind_piece ps (put.kind_is i) (pieces_of ps (put.below_is i).items) in
     let term_is : tree vs (node_piece ps n) ≡ node (term.Make labels heads) (trees (ts ++ us)) =
-    (λ i. node (term.Make (labels_are i) (heads_are i)) ((below_trees vs fs (bodies vs bs) ∙ (λ j. then (stand.terms j) (bodies_are j)) ∙ trees_append ts us) i)) in
-    let fits : Fits xs a.bound (length xs + length a.bound) (node_piece ps n) = (field_count, stand.fits, bodies_fit) in
+    ap (tree vs) is ∙ (λ i. node (term.Make (labels_are i) (heads_are i)) ((below_trees vs fs (bodies vs bs) ∙ (λ j. then (stand.terms j) (bodies_are j)) ∙ trees_append ts us) i)) in
+    let fits : Fits xs a.bound (length xs + length a.bound) (node_piece ps n) = subst (Fits xs a.bound (length xs + length a.bound)) (sym is) (field_count, stand.fits, bodies_fit) in
     let old : AllBelow (length ls) row.items = all_below_more (length ms) (length ls) row.items (longer ms ls y.grows) before in
     let sound : KindSound ps (kind.Make k) = (y.sound, subst (λ (j : ℕ). StartFrom j codes) start_is y.starts) in
     let field_uses : uses_below (pieces_of (pieces ms) x.new) ≡ uses_below fs = ap (λ (l : List Child). uses_below (pieces_of (pieces ms) l)) new ∙ ap uses_below (sym kept) in
     put_adds a c ns ls ks cs es n (node (term.Make labels heads) (trees (ts ++ us))) (same_then a b c x.same y.same) (grows_more ns ms ls x.grows y.grows)
-    (put_grows ls n old y.before (λ t. sound)) pushed child_is term_is fits
-    (y.uses ∙ ap (λ (l : List ℕ). l ++ uses_in bs) (x.uses ∙ ap (λ (l : List ℕ). a.uses ++ l) field_uses) ∙ append_assoc a.uses (uses_below fs) (uses_in bs))
+    (put_grows ls n (subst (λ (v : Vec Child). AllBelow (length ls) v.items) (sym put.below_is) old) (subst (KindBelow (length ls)) (sym put.kind_is) y.before)
+    (λ t. subst (KindSound ps) (sym put.kind_is) sound)) put.pushed child_is term_is fits
+    (y.uses ∙ ap (λ (l : List ℕ). l ++ uses_in bs) (x.uses ∙ ap (λ (l : List ℕ). a.uses ++ l) field_uses) ∙ append_assoc a.uses (uses_below fs) (uses_in bs) ∙ ap (λ (p : Piece). a.uses ++ uses p) (sym is))
 
 -- a row of one term has one child
 pub one_child_long : (a b : Body) (ns ms : List Node) (cs ds : List Child) (t : Tree) → cs ≡ [] → Adds a b ns ms cs ds (t ∷ []) → length ds ≡ 1

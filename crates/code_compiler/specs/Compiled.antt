@@ -1,8 +1,10 @@
 -- What compiling a term adds to a table.
 use Rattle.std.specs.Prelude.{◌≡◌, ℕ, suc, ◌+◌, ◌≤◌, Bool, true, false, List, [], ◌∷◌, ◌++◌, length, map}
+use Rattle.std.specs.Global.{Vec}
 use Rattle.std.specs.List.{flat_map}
 use Rattle.asp_model.specs.Names.{Text}
 use Rattle.asp_model.specs.Term.{MethodHead, Serve, Repeat, Var, Tree, none, leaf, trees, Environment, has_text}
+use Rattle.asp_model.specs.Marked.{MarkedList}
 use Rattle.asp_model.specs.Readable.{HasArity}
 use Rattle.code_table.specs.declared.code.Child.{Child}
 use Rattle.code_table.specs.declared.code.Child.TheVariants as child
@@ -14,6 +16,7 @@ use Rattle.code_table.specs.Pieces.{piece, object, Pieces, nothing, also, no_met
 use Rattle.code_table.specs.Fitting.{names, Fits, captured_names, AllFit, BodiesFit, CapturesFit}
 use Rattle.code_table.specs.Uses.{use_at, uses_below, uses_in}
 use Rattle.code_table.specs.Tables.{piece_at, pieces_of, bodies_of, pieces, kind_head, head_of}
+use Rattle.code_table.specs.Marks.{HaveMarks}
 use Rattle.code_table.specs.Sound.{IsOrdered, ClassesSound, AllBelow, MethodsBelow, MethodsSound, StartFrom, root_of, serve_number, service_number, empty_number}
 
 -- Bodies
@@ -69,6 +72,14 @@ pub record Grows (ns ms : List Node) : Type 0 where
   pub grown : ms ≡ ns ++ added
   pub table : IsTable ns → IsTable ms
 
+-- a node of this kind over these terms, which stood at this byte, stands behind others
+pub record IsPut (ns ms : List Node) (k : Kind) (below : Vec Child) (at : ℕ) : Type 0 where
+  pub node : Node
+  pub pushed : ms ≡ ns ++ node ∷ []
+  pub kind_is : node.kind ≡ k
+  pub below_is : node.children ≡ below
+  pub mark_is : node.mark ≡ at
+
 -- What is added
 
 -- the variables of these names
@@ -89,6 +100,12 @@ pub record Adds (a b : Body) (ns ms : List Node) (cs ds : List Child) (ts : List
   pub before : AllBelow (length ms) new
   pub stand : StandFor a.captured a.bound (pieces_of (pieces ms) new) ts
   pub uses : b.uses ≡ a.uses ++ uses_below (pieces_of (pieces ms) new)
+
+-- children stand behind others, and their nodes have the bytes where those of these terms stood
+pub record AddsMarks (ms : List Node) (cs ds : List Child) (ts : MarkedList) : Type 0 where
+  pub new : List Child
+  pub children : ds ≡ cs ++ new
+  pub marks : HaveMarks ms new ts
 
 -- the last of these children, where it is a node, is the last one of the table
 abbrev pub EndsTable : ℕ → List Child → Type 0

@@ -5,7 +5,8 @@ use Rattle.asp_model.specs.declared.term.Term.{Term}
 use Rattle.asp_model.specs.declared.term.Method.{Method}
 use Rattle.asp_model.specs.Names.{Text}
 use Rattle.asp_model.specs.Term.{Head, Hole, Let, Loc, Make, Var, Tree, Trees, node, none, more, trees}
-use Rattle.asp_model.specs.Shapes.{tree_of}
+use Rattle.asp_model.specs.Marked.{Marked, MarkedList, MarkShape, marked, all_marked}
+use Rattle.asp_model.specs.Shapes.{marked_of, tree_of}
 use Rattle.code_compiler.specs.Closed.{AreClosed}
 use Rattle.code_compiler.specs.Slots.{bound_in}
 use Rattle.code_table.specs.Parts.{body_tree, field_label, field_tree, method_head}
@@ -46,3 +47,26 @@ object_tree fs ms = node (Make (map field_label fs) (map method_head ms)) (trees
 -- methods whose bodies are closed under what is bound round their object
 abbrev pub AreClosedMethods : List Text → List Method → Type 0
 AreClosedMethods bound ms = AreClosed bound (map bound_in ms) (bodies_below ms)
+
+-- Terms with their marks
+
+abbrev pub mark_in : Marked → MarkShape
+mark_in (marked h m ts) = m
+
+abbrev pub marked_below : Marked → MarkedList
+marked_below (marked h m ts) = ts
+
+abbrev pub field_marked : Label × Term → Marked
+field_marked f = marked_of f.1
+
+abbrev pub body_marked : Method → Marked
+body_marked m = marked_of m.body
+
+abbrev pub terms_marked : List Term → MarkedList
+terms_marked ts = all_marked (map marked_of ts)
+
+abbrev pub fields_marked : List (Label × Term) → MarkedList
+fields_marked fs = all_marked (map field_marked fs)
+
+abbrev pub bodies_marked : List Method → MarkedList
+bodies_marked ms = all_marked (map body_marked ms)

@@ -3,7 +3,8 @@
 ghost use Rattle.std.specs.Prelude.{◌≡◌, ◌∷◌, ◌++◌, [], List, ℕ, length, map, reverse, IfOk, OnOk, true};
 ghost use Rattle.std.specs.Global.{Vec};
 ghost use Rattle.std.specs.Option.{option_map};
-ghost use Rattle.asp_model.specs.Shapes.{tree_of};
+ghost use Rattle.asp_model.specs.Marked.{Marked, one_marked};
+ghost use Rattle.asp_model.specs.Shapes.{mark_shape, marked_of, tree_of};
 ghost use Rattle.asp_model.specs.Term.{Var, has_text, leaf};
 ghost use Rattle.code_table.specs.Tables.{kind_head, text_of};
 ghost use Rattle.code_table.specs.Uses.{leaf_use};
@@ -11,12 +12,12 @@ ghost use Rattle.code_table.specs.declared.code.Child.TheVariants as child;
 ghost use Rattle.code_table.specs.declared.code.Node.{Node as NodeShape};
 ghost use Rattle.code_compiler.specs.Slots.{names_of};
 ghost use Rattle.code_compiler.specs.Added.{AddsTerm};
-ghost use Rattle.code_compiler.specs.Compiled.{EndsTable, is_plain};
-ghost use Rattle.code_compiler.specs.Parts.{head_at, is_plain_head};
+ghost use Rattle.code_compiler.specs.Compiled.{AddsMarks, EndsTable, IsPut, is_plain};
+ghost use Rattle.code_compiler.specs.Parts.{head_at, is_plain_head, mark_in};
 ghost use Rattle.code_table.specs.Parts.{field_label};
 
 use crate::scope::{Scope, leaf_of};
-use asp_model::{Label, Term, Word};
+use asp_model::{Label, Mark, Term, Word};
 use code_table::{Child, Kind, Leaf, Node};
 use std::alloc::{AllocError, Global};
 
@@ -24,19 +25,16 @@ use std::alloc::{AllocError, Global};
 pub fn put(
     nodes: &mut Vec<Node>,
     children: &mut Vec<Child>,
+    at: usize,
     kind: Kind,
     below: Vec<Child>,
 ) -> Result<(), AllocError>
-    ensures node { OnOk result
-        (nodes.new.items ≡ nodes.old.items ++ record { kind = kind; children = below } ∷ []) }
+    ensures node { OnOk result (IsPut nodes.old.items nodes.new.items kind below at) }
     ensures child { OnOk result
         (children.new.items ≡ children.old.items ++ child.Node (length nodes.old.items) ∷ []) }
 {
     let number = nodes.len();
-    nodes.push(Node {
-        kind,
-        children: below,
-    })?;
+    nodes.push(Node::new(kind, below, at))?;
     children.push(Child::Node(number))?;
     Ok(())
 }
@@ -52,6 +50,8 @@ pub fn put_variable(
     requires bound { has_text name.now (names_of scope.now) ≡ true }
     ensures adds { let t = leaf (Var name.now) in (ns : Vec NodeShape) → OnOk result
         (AddsTerm scope.now uses.old uses.new ns ns children.old children.new t) }
+    ensures marks { (ns : List NodeShape) (t : Marked) → OnOk result
+        (AddsMarks ns children.old.items children.new.items (one_marked t)) }
     ensures ends { (m : ℕ) → OnOk result (EndsTable m children.new.items) }
 {
     let leaf = leaf_of(alloc, scope, name)?;
@@ -102,6 +102,38 @@ pub fn kind_of(alloc: Global, term: &Term) -> Result<Kind, AllocError>
         Term::Pending(labels, _) => Ok(Kind::Pending(copy_labels(alloc, labels)?)),
         Term::Var(_, _) | Term::Make { .. } | Term::Let(_, _, _, _) => unreachable!(),
         Term::Loc(_, _) | Term::Hole(_) => unreachable!(),
+    }
+}
+
+/// Where the node of a term stood in its text.
+pub fn mark_of(term: &Term) -> &Mark
+    ensures mark { mark_shape result.now ≡ mark_in (marked_of term.now) }
+{
+    match term {
+        Term::Loc(_, mark)
+        | Term::Hole(mark)
+        | Term::Var(_, mark)
+        | Term::Number(_, mark)
+        | Term::Make { mark, .. }
+        | Term::Get(_, _, mark)
+        | Term::Put(_, _, _, mark)
+        | Term::Call(_, _, _, mark)
+        | Term::Clone(_, mark)
+        | Term::Active(_, _, mark)
+        | Term::Serve(_, mark)
+        | Term::Let(_, _, _, mark)
+        | Term::Steps(_, mark)
+        | Term::If(_, _, _, mark)
+        | Term::Repeat(_, mark)
+        | Term::Operate(_, _, _, mark)
+        | Term::Print(_, mark)
+        | Term::Echo(_, mark)
+        | Term::Group(_, mark)
+        | Term::Scatter(_, _, _, mark)
+        | Term::Size(_, mark)
+        | Term::Member(_, _, mark)
+        | Term::WaitAll(_, mark)
+        | Term::Pending(_, mark) => mark,
     }
 }
 

@@ -14,26 +14,40 @@ ghost use Rattle.std.specs.Prelude.{
   true,
 };
 ghost use Rattle.std.specs.Global.{Vec};
-ghost use Rattle.asp_model.specs.Shapes.{tree_of};
-ghost use Rattle.asp_model.specs.Term.{Let, Make, Tree, node, trees, two};
+ghost use Rattle.asp_model.specs.Marked.{
+  MarkShape,
+  Marked,
+  all_marked,
+  marked,
+  one_marked,
+  two_marked,
+};
+ghost use Rattle.asp_model.specs.Shapes.{marked_of, tree_of};
+ghost use Rattle.asp_model.specs.Term.{Head, Let, Make, Tree, node, trees, two};
+ghost use Rattle.code_table.specs.Marks.{HasMarks, HaveMarks, method_bodies};
 ghost use Rattle.code_table.specs.Tables.{text_of};
 ghost use Rattle.code_table.specs.declared.code.Node.{Node as NodeShape};
 ghost use Rattle.code_compiler.specs.Slots.{bound_in, names_of};
 ghost use Rattle.code_table.specs.Parts.{body_tree, field_tree, method_head};
 ghost use Rattle.code_compiler.specs.Added.{AddsChild, AddsCode, AddsRow, AddsTerm, AddsTerms};
 ghost use Rattle.code_compiler.specs.Closed.{AreClosed, IsClosed};
-ghost use Rattle.code_compiler.specs.Compiled.{EndsTable};
+ghost use Rattle.code_compiler.specs.Compiled.{AddsMarks, EndsTable};
 ghost use Rattle.code_compiler.specs.Parts.{
   AreClosedMethods,
+  bodies_marked,
+  body_marked,
   fields_below,
+  fields_marked,
   head_at,
   is_plain_head,
+  marked_below,
   parts_of,
   terms_below,
+  terms_marked,
 };
 
 use crate::methods::{Ended, captured_names_of, end_method, next_start, only_child};
-use crate::nodes::{field_labels, kind_of, put, put_variable};
+use crate::nodes::{field_labels, kind_of, mark_of, put, put_variable};
 use crate::scope::{Scope, bound_with, head_slots};
 use asp_model::{Label, Method, Term, Word};
 use code_table::{Child, Class, Kind, MethodCode, Node};
@@ -52,6 +66,8 @@ pub fn compile_term(
     requires closed { IsClosed (names_of scope.now) (tree_of term.now) }
     ensures adds { let t = tree_of term.now in OnOk result
         (AddsTerm scope.now uses.old uses.new nodes.old nodes.new children.old children.new t) }
+    ensures marks { let t = marked_of term.now in OnOk result
+        (AddsMarks nodes.new.items children.old.items children.new.items (one_marked t)) }
     ensures ends { OnOk result (EndsTable (length nodes.new.items) children.new.items) }
 {
     match term {
@@ -61,16 +77,18 @@ pub fn compile_term(
         Term::Make {
             fields,
             methods,
-            ..
+            mark,
         } => {
             let labels = field_labels(alloc, fields)?;
             let mut below = Vec::new(alloc);
             compile_fields(alloc, nodes, scope, uses, &mut below, fields)?;
-            put_object(alloc, nodes, scope, uses, children, labels, below, methods)
+            put_object(
+                alloc, nodes, scope, uses, children, mark.at, labels, below, methods,
+            )
         }
-        Term::Let(name, a, b, _) => {
+        Term::Let(name, a, b, mark) => {
             let below = first(alloc, nodes, scope, uses, a)?;
-            put_let(alloc, nodes, scope, uses, children, name, below, b)
+            put_let(alloc, nodes, scope, uses, children, mark.at, name, below, b)
         }
         _ => put_node(alloc, nodes, scope, uses, children, term),
     }
@@ -90,12 +108,14 @@ fn put_node(
     requires closed { IsClosed (names_of scope.now) (tree_of term.now) }
     ensures adds { let t = tree_of term.now in OnOk result
         (AddsTerm scope.now uses.old uses.new nodes.old nodes.new children.old children.new t) }
+    ensures marks { let t = marked_of term.now in OnOk result
+        (AddsMarks nodes.new.items children.old.items children.new.items (one_marked t)) }
     ensures ends { OnOk result (EndsTable (length nodes.new.items) children.new.items) }
 {
     let mut below = Vec::new(alloc);
     compile_below(alloc, nodes, scope, uses, &mut below, term)?;
     let kind = kind_of(alloc, term)?;
-    put(nodes, children, kind, below)?;
+    put(nodes, children, mark_of(term).at, kind, below)?;
     Ok(())
 }
 
@@ -113,6 +133,8 @@ fn compile_below(
     requires closed { IsClosed (names_of scope.now) (tree_of term.now) }
     ensures adds { let ts = parts_of (tree_of term.now) in OnOk result
         (AddsTerms scope.now uses.old uses.new nodes.old nodes.new children.old children.new ts) }
+    ensures marks { let ts = marked_below (marked_of term.now) in OnOk result
+        (AddsMarks nodes.new.items children.old.items children.new.items ts) }
 {
     match term {
         Term::Number(_, _) | Term::Serve(_, _) | Term::Pending(_, _) | Term::Echo(_, _) => Ok(()),
@@ -159,6 +181,8 @@ fn first(
     requires closed { IsClosed (names_of scope.now) (tree_of term.now) }
     ensures adds { let ts = tree_of term.now ∷ [] in IfOk result
         (λ r. AddsRow scope.now uses.old uses.new nodes.old nodes.new r ts) }
+    ensures marks { let t = marked_of term.now in IfOk result
+        (λ r. AddsMarks nodes.new.items [] r.items (one_marked t)) }
 {
     let mut row = Vec::new(alloc);
     compile_term(alloc, nodes, scope, uses, &mut row, term)?;
@@ -172,6 +196,7 @@ fn put_let(
     scope: &Scope,
     uses: &mut Vec<usize>,
     children: &mut Vec<Child>,
+    at: usize,
     name: &Word,
     below: Vec<Child>,
     last: &Term,
@@ -181,6 +206,10 @@ fn put_let(
         → AddsRow scope.now us uses.old ns nodes.old below (x ∷ [])
         → let t = two (Let name.now) x (tree_of last.now) in OnOk result
         (AddsTerm scope.now us uses.new ns nodes.new children.old children.new t) }
+    ensures marks { (m : MarkShape) (x : Marked) → m.at ≡ at
+        → AddsMarks nodes.old.items [] below.items (one_marked x)
+        → let t = marked (Let name.now) m (two_marked x (marked_of last.now)) in OnOk result
+        (AddsMarks nodes.new.items children.old.items children.new.items (one_marked t)) }
     ensures ends { OnOk result (EndsTable (length nodes.new.items) children.new.items) }
 {
     let bound = bound_with(alloc, scope, name)?;
@@ -190,7 +219,7 @@ fn put_let(
     };
     let mut below = below;
     compile_term(alloc, nodes, &inner, uses, &mut below, last)?;
-    put(nodes, children, Kind::Let(name.copy(alloc)?), below)?;
+    put(nodes, children, at, Kind::Let(name.copy(alloc)?), below)?;
     Ok(())
 }
 
@@ -201,6 +230,7 @@ fn put_object(
     scope: &Scope,
     uses: &mut Vec<usize>,
     children: &mut Vec<Child>,
+    at: usize,
     fields: Vec<Label>,
     below: Vec<Child>,
     methods: &[Method],
@@ -212,12 +242,16 @@ fn put_object(
         → let ls = map text_of fields.items in
         let t = node (Make ls (map method_head methods.now)) (trees (ts ++ map body_tree methods.now)) in OnOk result
         (AddsTerm scope.now us uses.new ns nodes.new children.old children.new t) }
+    ensures marks { (h : Head) (m : MarkShape) (ts : List Marked) → m.at ≡ at
+        → AddsMarks nodes.old.items [] below.items (all_marked ts)
+        → let t = marked h m (all_marked (ts ++ map body_marked methods.now)) in OnOk result
+        (AddsMarks nodes.new.items children.old.items children.new.items (one_marked t)) }
     ensures ends { OnOk result (EndsTable (length nodes.new.items) children.new.items) }
 {
     let methods = compile_methods(alloc, nodes, scope, uses, fields.len(), methods)?;
     let made = Class::new(alloc, fields, methods)?;
     let class = Box::new(alloc, made)?;
-    put(nodes, children, Kind::Make(class), below)?;
+    put(nodes, children, at, Kind::Make(class), below)?;
     Ok(())
 }
 
@@ -233,6 +267,8 @@ fn compile_all(
     requires closed { AreClosed (names_of scope.now) [] (terms_below terms.now) }
     ensures adds { let ts = map tree_of terms.now in OnOk result
         (AddsTerms scope.now uses.old uses.new nodes.old nodes.new children.old children.new ts) }
+    ensures marks { let ts = terms_marked terms.now in OnOk result
+        (AddsMarks nodes.new.items children.old.items children.new.items ts) }
 {
     for term in terms {
         compile_term(alloc, nodes, scope, uses, children, term)?;
@@ -252,6 +288,8 @@ fn compile_fields(
     requires closed { AreClosed (names_of scope.now) [] (fields_below fields.now) }
     ensures adds { let ts = map field_tree fields.now in OnOk result
         (AddsTerms scope.now uses.old uses.new nodes.old nodes.new children.old children.new ts) }
+    ensures marks { let ts = fields_marked fields.now in OnOk result
+        (AddsMarks nodes.new.items children.old.items children.new.items ts) }
 {
     for (_, term) in fields {
         compile_term(alloc, nodes, scope, uses, children, term)?;
@@ -271,6 +309,8 @@ fn compile_methods(
     requires closed { AreClosedMethods (names_of scope.now) methods.now }
     ensures adds { IfOk result
         (λ r. AddsCode scope.now uses.old uses.new nodes.old nodes.new first r.items methods.now) }
+    ensures marks { let ts = bodies_marked methods.now in IfOk result
+        (λ r. HaveMarks nodes.new.items (method_bodies r.items) ts) }
 {
     let mut codes = Vec::new(alloc);
     let mut start = first;
@@ -294,6 +334,8 @@ fn compile_method(
     requires closed { IsClosed (bound_in method.now ++ names_of scope.now) (body_tree method.now) }
     ensures adds { IfOk result
         (λ r. AddsCode scope.now uses.old uses.new nodes.old nodes.new start (r ∷ []) (method.now ∷ [])) }
+    ensures marks { let t = body_marked method.now in IfOk result
+        (λ r. HasMarks nodes.new.items r.body t) }
 {
     let captured = captured_names_of(alloc, method)?;
     let bound = head_slots(alloc, &captured, method)?;
@@ -322,6 +364,8 @@ fn compile_body(
     requires closed { IsClosed (names_of scope.now) (body_tree method.now) }
     ensures adds { let ts = body_tree method.now ∷ [] in IfOk result
         (λ r. AddsChild scope.now uses.old uses.new nodes.old nodes.new r ts) }
+    ensures marks { let t = body_marked method.now in IfOk result
+        (λ r. HasMarks nodes.new.items r t) }
 {
     let mut children = Vec::new(alloc);
     compile_term(alloc, nodes, scope, uses, &mut children, &method.body)?;
