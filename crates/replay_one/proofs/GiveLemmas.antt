@@ -1,5 +1,5 @@
 -- Who is ready once an effect is handed on.
-use Rattle.std.proofs.Common.{◌≡◌, true, false, Option, Some, None, refl, sym, ap, subst, ◌∙◌}
+use Rattle.std.proofs.Common.{◌≡◌, ℕ, true, false, Option, Some, None, refl, sym, ap, subst, ◌∙◌}
 use Rattle.std.specs.Global.{Box}
 use Rattle.std.specs.declared.alloc.Global.{Global}
 use Rattle.std.specs.declared.sync.Arc.{Arc}
@@ -17,13 +17,15 @@ use Rattle.request_queue.specs.declared.request.Request.{Request}
 use Rattle.request_queue.specs.Requests.{request_shape}
 use Rattle.law_chases.proofs.FutureLemmas.{no_some, some_is}
 use Rattle.step_activity.specs.declared.actor.Actor.{Actor}
+use Rattle.def_journals.specs.Journals.{number_of}
+use Rattle.step_activity.specs.declared.act.Given.{Given}
 use Rattle.step_activity.specs.declared.act.Given.TheVariants as given
 use Rattle.law_schedules.specs.Schedules.{IsNextIn}
 use Rattle.replay_population.specs.declared.population.Population.{Population}
 use Rattle.replay_population.specs.Giving.{IsGiving}
 use Rattle.replay_one.specs.Schedule.{IsMoreReady, Seen, asks_in, noted_in, ready_in, sends_in}
 use Rattle.replay_one.proofs.ScheduleLemmas.{more_twice}
-use Rattle.replay_one.specs.Round.{IsHandedOn}
+use Rattle.replay_one.specs.Round.{IsGivingTo, IsHandedOn, IsTargetOf}
 use Rattle.replay_population.proofs.GivingLemmas.{made_given}
 
 -- who was ready before is ready, and else this says so
@@ -99,3 +101,17 @@ module _ (p : Population) (n : Name) (c : Configuration) (e : Effect) where
     asks = more.asks;
     sends = more.sends;
   }
+
+-- Whom a request goes to
+
+module _ (p : Population) (number : ℕ) (o : Option ℕ) (g : Given) (m : Name) (r : Request) (h : IsGivingTo p number o g) (is : g ≡ given.Sent m r) where
+  target_by : IsTargetOf p.roster (Some (m, request_shape r)) o
+  target_by =
+      let y : IsGiving p h.0 (given.Sent m r) h.2 h.3 = subst (λ g. IsGiving p h.0 g h.2 h.3) is h.4 in
+      subst (λ s. IsTargetOf p.roster s o) y.given.0 h.5
+
+  pub target_number : (k : ℕ) → o ≡ Some k → number_of m p.roster ≡ Some k
+  target_number k to = subst (λ t. IsTargetOf p.roster (Some (m, request_shape r)) t) to target_by
+
+  pub no_target : o ≡ None → ⊥
+  no_target none = subst (λ t. IsTargetOf p.roster (Some (m, request_shape r)) t) none target_by

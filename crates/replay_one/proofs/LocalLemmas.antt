@@ -27,7 +27,7 @@ use Rattle.law_schedules.proofs.WokenLemmas.{called_are_scheduled}
 use Rattle.activity_step.specs.Local.{IsLocalStep, LocalRun}
 use Rattle.replay_population.specs.Population.{with_activity}
 use Rattle.replay_one.specs.Notes.{least_notes, notes_from, notes_of}
-use Rattle.replay_one.proofs.NoteLemmas.{first_noted, least_noted, local_noted}
+use Rattle.replay_one.proofs.NoteLemmas.{AreLines, first_noted, least_noted, lines_both, local_noted}
 
 -- One contraction
 
@@ -85,7 +85,7 @@ pub record Goes (program : Tree) (lists : Option ListsShape) (count : Name → �
   pub steps : (m : ℕ) → steps_from (k + m) lists count c ≡ steps_from m lists count d
   pub scheduled : IsScheduled lists count d ready noted
   pub watched : IsWatched w count d ready
-  pub quiet : notes_from k lists count c ≡ []
+  pub lines : AreLines (notes_from k lists count c)
 
 module _ (program : Tree) (lists : Option ListsShape) (count : Name → ℕ) (ready : Name → Bool) (noted : FutureShape → Name → Bool) (w : Watches) (n : Name) (here : ready n ≡ true) (least : (m : Name) → ready m ≡ true → is_lt (name_cmp m n) ≡ false) where
   abbrev Ahead : ℕ → Configuration → Configuration → Type 0
@@ -103,10 +103,10 @@ module _ (program : Tree) (lists : Option ListsShape) (count : Name → ℕ) (re
     steps = λ m. let same : 0 + m ≡ m = omega arith in ap (λ k. steps_from k lists count c) same;
     scheduled = h.scheduled;
     watched = h.watched;
-    quiet = refl;
+    lines = tt;
   }
 
-  takes_one : (c : Configuration) (a b : Activity) → Here c → IsAt c n a → IsLocalStep a b → a.reductions < count n → (least_step lists count c c.activities ≡ Some (with_activity n b c)) × Here (with_activity n b c) × (least_notes lists count c c.activities ≡ [])
+  takes_one : (c : Configuration) (a b : Activity) → Here c → IsAt c n a → IsLocalStep a b → a.reductions < count n → (least_step lists count c c.activities ≡ Some (with_activity n b c)) × Here (with_activity n b c) × AreLines (least_notes lists count c c.activities)
   takes_one c a b h is x below =
       let e : Effect = own_effect b in
       let d : Configuration = with_activity n b c in
@@ -121,7 +121,7 @@ module _ (program : Tree) (lists : Option ListsShape) (count : Name → ℕ) (re
       }) in (
         least_steps program lists count c d n a ready noted h.reached h.scheduled least is below steps,
         record { reached = moves_go_on program c d (Steps lists n) h.reached steps; scheduled = after.0; watched = after.1 },
-        least_noted program lists count c d n a ready noted h.reached h.scheduled least is below steps ∙ ap (notes_of n a) intends ∙ local_noted n a b x,
+        subst AreLines (sym (least_noted program lists count c d n a ready noted h.reached h.scheduled least is below steps ∙ ap (notes_of n a) intends)) (local_noted n a b x),
       )
 
   goes_on : (c d : Configuration) (k m : ℕ) → least_step lists count c c.activities ≡ Some d → steps_from (suc k + m) lists count c ≡ steps_from (k + m) lists count d
@@ -137,7 +137,7 @@ module _ (program : Tree) (lists : Option ListsShape) (count : Name → ℕ) (re
       let one = takes_one c a x h is run.1 (omega (arith, within)) in
       let more : x.reductions ≡ suc a.reductions = ap (λ y. y.reductions) run.1.after in
       let rest : Ahead k d (with_activity n b d) = run_ahead k d x b one.1 (find_same name_cmp name_total name_same n x c.activities) run.2 (omega (arith, within, more)) in
-      let all : Ahead (suc k) c (with_activity n b d) = record { reached = rest.reached; steps = λ m. goes_on c d k m one.0 ∙ rest.steps m; scheduled = rest.scheduled; watched = rest.watched; quiet = first_noted lists count k c d one.0 ∙ (λ i. one.2 i ++ rest.quiet i) } in
+      let all : Ahead (suc k) c (with_activity n b d) = record { reached = rest.reached; steps = λ m. goes_on c d k m one.0 ∙ rest.steps m; scheduled = rest.scheduled; watched = rest.watched; lines = subst AreLines (sym (first_noted lists count k c d one.0)) (lines_both (least_notes lists count c c.activities) (notes_from k lists count d) one.2 rest.lines) } in
       subst (Ahead (suc k) c) (written_over program c n h.reached x b) all
 
 -- so many contractions of the least-named that is ready, within its count, are as many steps of the run

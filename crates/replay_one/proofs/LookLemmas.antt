@@ -33,7 +33,8 @@ use Rattle.replay_one.specs.Bounds.{IsNextAt}
 use Rattle.step_activity.specs.Passing.{HasPassed, IsPassedFor}
 use Rattle.replay_population.specs.Population.{HasPassedIn, IsPopulation, found_in}
 use Rattle.step_ends.specs.Activities.{StandsAt}
-use Rattle.replay_one.specs.Round.{CanStep, Leaves, LogsTo}
+use Rattle.def_journals.specs.Journals.{number_of}
+use Rattle.replay_one.specs.Round.{CanStep, IsTargetOf, Leaves, LogsTo}
 use Rattle.replay_population.proofs.PopulationLemmas.{found_stands}
 use Rattle.step_ends.proofs.ReportLemmas.{stands_none}
 
@@ -210,6 +211,31 @@ polls_now lists count c n a is below o turn = turn_steps lists count c n n Poll 
 -- it polls out of turn
 pub poll_rests : (lists : Option ListsShape) (count : Name → ℕ) (c : Configuration) (n : Name) (a : model.Activity) → IsAt c n a → IsOutlook n (intent_in c n) outlook.Polls → is_next lists c n Poll ≡ false → RestsIn lists count c n × LogsTo c n n
 poll_rests lists count c n a is o turn = turn_rests lists count c n n Poll (polls_log c n o) (ap is_some is) turn
+
+-- Whom it sends to
+
+to_target : (ns : List Name) (s : Option (Name × RequestShape)) (m : Name) (k : ℕ) → IsTo s m → number_of m ns ≡ Some k → IsTargetOf ns s (Some k)
+to_target ns None m k h e = absurd h
+to_target ns (Some z) m k h e = ap (λ (q : Name). number_of q ns) h ∙ e
+
+polled_nothing : (n : Name) (s : Option (Name × RequestShape)) (l : Option (Name × ReceptionShape)) → IsLogged n s l → l ≡ Some (n, Poll) → s ≡ None
+polled_nothing n None l h e = refl
+polled_nothing n (Some z) l h e =
+    let same : From n ≡ Poll = ap (λ (x : Name × ReceptionShape). x.1) (some_is (sym h ∙ e)) in
+    absurd cc
+
+module _ (lists : Option ListsShape) (count : Name → ℕ) (c : Configuration) (n : Name) (ns : List Name) (x : CanStep lists count c n) where
+  pub sends_target : (to : Bor ActivityName) (k : ℕ) → IsOutlook n (intent_in c n) (outlook.Sends to) → number_of to.now ns ≡ Some k → IsTargetOf ns x.effect.sent (Some k)
+  sends_target to k o e = to_target ns x.effect.sent to.now k (subst (λ p. IsOutlook n p (outlook.Sends to)) x.intends o) e
+
+  pub steps_target : IsOutlook n (intent_in c n) outlook.Steps → IsTargetOf ns x.effect.sent None
+  steps_target o = let own = subst (λ p. IsOutlook n p outlook.Steps) x.intends o in subst (λ s. IsTargetOf ns s None) (sym own.0) tt
+
+  pub polls_target : IsOutlook n (intent_in c n) outlook.Polls → IsTargetOf ns x.effect.sent None
+  polls_target o =
+      let own = subst (λ p. IsOutlook n p outlook.Polls) x.intends o in
+      let none = polled_nothing n x.effect.sent x.effect.logged (acts_facts c n x.effect x.intends).1.logged own in
+      subst (λ s. IsTargetOf ns s None) (sym none) tt
 
 -- What is next
 

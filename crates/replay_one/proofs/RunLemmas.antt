@@ -1,6 +1,7 @@
 -- Rounds and runs of the machine.
-use Rattle.std.proofs.Common.{◌≡◌, ◌≢◌, ◌≤◌, ◌<◌, ◌+◌, ◌++◌, [], ℕ, zero, suc, true, false, List, Option, Some, None, is_some, map, refl, sym, ap, subst, ◌∙◌, inl, inr, ⊎_elim, arith}
+use Rattle.std.proofs.Common.{◌≡◌, ◌≢◌, ◌≤◌, ◌<◌, ◌+◌, ◌++◌, [], ℕ, zero, suc, true, false, List, Option, Some, None, is_some, map, refl, sym, ap, subst, ◌∙◌, inl, inr, ◌⊎◌, ⊎_elim, arith}
 use Rattle.std.proofs.lemmas.Bool.{false_from_ne_true}
+use Rattle.std.proofs.lemmas.List.{append_assoc}
 use Rattle.std.specs.FinMap.{find}
 use Rattle.asp_model.specs.Names.{Name, FutureShape, Text, future_cmp, name_cmp}
 use Rattle.asp_model.specs.Term.{Tree, has_text}
@@ -42,11 +43,12 @@ use Rattle.replay_population.specs.Population.{ArePassed, HasPassedIn, IsForgott
 use Rattle.replay_population.specs.Reached.{IsReachedPopulation}
 use Rattle.replay_one.specs.declared.schedule.Schedule.{Schedule}
 use Rattle.replay_one.specs.Schedule.{IsForNobody, IsMoreReady, IsNoted, IsTaken, IsWatching, Seen, seen, asks_in, noted_in, ready_in, sends_in, watches_in}
-use Rattle.replay_one.specs.Round.{CanStep, IsHandedOn, IsRunAt, IsRunBut, IsRunWith, LeadsTo, Leaves, LogsTo, next_by, seen_in}
-use Rattle.replay_one.specs.Notes.{notes_of}
+use Rattle.replay_one.specs.Round.{CanStep, IsHandedOn, IsRunAt, IsRunBut, IsRunLess, IsRunWith, LeadsTo, Leaves, LogsTo, next_by, seen_in}
+use Rattle.replay_one.specs.Listening.{IsDeafToLines}
+use Rattle.replay_one.specs.Notes.{NoteShape, notes_of}
 use Rattle.replay_one.specs.Told.{notes_by}
 use Rattle.replay_one.proofs.LocalLemmas.{local_runs_go_on}
-use Rattle.replay_one.proofs.NoteLemmas.{least_noted, notes_more, one_noted}
+use Rattle.replay_one.proofs.NoteLemmas.{AreLines, least_noted, notes_more, one_noted, told_lines, told_quiet}
 use Rattle.replay_population.proofs.PopulationLemmas.{absent_nowhere, still_none}
 
 pub reached_population : (b : Bounds) (p : Population) (s : Seen) (program : Tree) (c : Configuration) → IsRunWith b p s program c → IsReachedPopulation p program c
@@ -305,43 +307,39 @@ woken_run b program c n q old mid new h t more woken =
 
 -- reductions that need no other are steps of the run
 pub ran : (b : Bounds) (program : Tree) (c : Configuration) (n : Name) (p : Population) (s : Seen) (q : Population) (mid : Seen) (most k : ℕ) → IsRunWith b p s program c → IsTaken s n mid → IsRunIn q c n most (count_within b n) k → q.roster ≡ p.roster → KeepsPassed p q → passed_in p n ≡ None
-    → (d : Configuration) × LeadsTo b k c d × IsRunWith b q s program d × (k ≤ most) × (notes_by b k c ≡ [])
+    → (d : Configuration) × LeadsTo b k c d × IsRunWith b q s program d × (k ≤ most) × AreLines (notes_by b k c)
 ran b program c n p s q mid most k h t (inl r) roster same alone =
     let g = local_runs_go_on program (lists_within b) (count_within b) (ready_in s) (noted_in s) (watches_in s) c n k r.activity r.end h.reached h.scheduled h.watched t.ready t.least r.there r.run r.below in
-    (with_activity n r.end c, g.steps, record { bare = h.bare; reached = g.reached; population = r.population; numbered = subst (IsNumbered b) (sym roster) h.numbered; scheduled = g.scheduled; watched = g.watched; passed = ran_passed c n p q r.end same alone h.passed }, r.within, g.quiet)
+    (with_activity n r.end c, g.steps, record { bare = h.bare; reached = g.reached; population = r.population; numbered = subst (IsNumbered b) (sym roster) h.numbered; scheduled = g.scheduled; watched = g.watched; passed = ran_passed c n p q r.end same alone h.passed }, r.within, g.lines)
 ran b program c n p s q mid most k h t (inr e) roster same alone =
     let none : k ≡ 0 = e.0 in
-    (c, (λ j. let all : k + j ≡ j = omega (arith, none) in ap (λ i. steps_from i (lists_within b) (count_within b) c) all), settled_run b program c p s q h e.1 roster same, omega (arith, none), ap (λ i. notes_by b i c) none)
+    (c, (λ j. let all : k + j ≡ j = omega (arith, none) in ap (λ i. steps_from i (lists_within b) (count_within b) c) all), settled_run b program c p s q h e.1 roster same, omega (arith, none), subst (λ i. AreLines (notes_by b i c)) (sym none) tt)
 
 -- where the least of those ready has taken its reductions that need no other
-pub record Ran (b : Bounds) (program : Tree) (c : Configuration) (n : Name) (number : ℕ) (s : Seen) (mid : Schedule) (q : Population) (most k : ℕ) : Type 0 where
+pub record Ran (b : Bounds) (program : Tree) (c : Configuration) (n : Name) (number : ℕ) (m : Machine) (q : Population) (most k : ℕ) : Type 0 where
   pub then : Configuration
   pub leads : LeadsTo b k c then
   pub within : k ≤ most
   pub has : number_of n q.roster ≡ Some number
-  pub but : IsRunBut b (record { population = q; schedule = mid }) n program then
-  pub before : IsRunWith b q s program then
-  pub taken : IsTaken s n (seen q.roster mid)
-  pub quiet : notes_by b k c ≡ []
+  pub but : IsRunBut b (record { population = q; schedule = m.schedule }) n program then
+  pub lines : AreLines (notes_by b k c)
 
-pub ran_on : (b : Bounds) (program : Tree) (c : Configuration) (n : Name) (number : ℕ) (m : Machine) (mid : Schedule) (p q : Population) (most count k : ℕ) → IsRunAt b m program c → number_of n m.population.roster ≡ Some number → IsForgotten m.population n p → IsTaken (seen_in m) n (seen m.population.roster mid) → (IsPopulation p c → number_of n p.roster ≡ Some number → IsRunIn q c n most count k)
-    → (IsRoster m.population.roster → IsNumbered b m.population.roster → number_of n m.population.roster ≡ Some number → count ≡ count_within b n) → q.roster ≡ p.roster → KeepsPassed p q → passed_in p n ≡ None → Ran b program c n number (seen_in m) mid q most k
-ran_on b program c n number m mid p q most count k h has f t runs bound roster same alone =
-    let s : Seen = seen_in m in
-    let h2 = forgotten_run b program c m.population s n p h f in
+pub ran_on : (b : Bounds) (program : Tree) (c : Configuration) (n : Name) (number : ℕ) (m : Machine) (p q : Population) (most count k : ℕ) → IsRunLess b m n program c → number_of n m.population.roster ≡ Some number → IsForgotten m.population n p → (IsPopulation p c → number_of n p.roster ≡ Some number → IsRunIn q c n most count k)
+    → (IsRoster m.population.roster → IsNumbered b m.population.roster → number_of n m.population.roster ≡ Some number → count ≡ count_within b n) → q.roster ≡ p.roster → KeepsPassed p q → passed_in p n ≡ None → Ran b program c n number m q most k
+ran_on b program c n number m p q most count k h has f runs bound roster same alone =
+    let s : Seen = h.before in
+    let h2 = forgotten_run b program c m.population s n p h.run f in
     let names : p.roster ≡ m.population.roster = ap (λ (r : Population). r.roster) f.same in
-    let run = subst (λ j. IsRunIn q c n most j k) (bound h.population.roster h.numbered has) (runs h2.population (ap (number_of n) names ∙ has)) in
-    let r = ran b program c n p s q (seen m.population.roster mid) most k h2 t run roster same alone in
-    let taken : IsTaken s n (seen q.roster mid) = subst (λ (ns : List Name). IsTaken s n (seen ns mid)) (sym (roster ∙ names)) t in
+    let run = subst (λ j. IsRunIn q c n most j k) (bound h.run.population.roster h.run.numbered has) (runs h2.population (ap (number_of n) names ∙ has)) in
+    let r = ran b program c n p s q (seen_in m) most k h2 h.taken run roster same alone in
+    let taken : IsTaken s n (seen q.roster m.schedule) = subst (λ (ns : List Name). IsTaken s n (seen ns m.schedule)) (sym (roster ∙ names)) h.taken in
     record {
       then = r.0;
       leads = r.1;
       within = r.3;
       has = ap (number_of n) (roster ∙ names) ∙ has;
       but = record { before = s; run = r.2; taken = taken; forgotten = still_none p q n same alone };
-      before = r.2;
-      taken = taken;
-      quiet = r.4;
+      lines = r.4;
     }
 
 pub leads_nowhere : (b : Bounds) (c d : Configuration) (k : ℕ) → LeadsTo b k c d → k ≡ 0 → d ≡ c
@@ -373,9 +371,14 @@ noted_on b c d k j leads =
     let then : steps_from k lists count c ≡ d = ap (λ i. steps_from i lists count c) (sym all) ∙ leads 0 in
     notes_more lists count k j c ∙ (λ i. notes_by b k c ++ notes_by b j (then i))
 
--- after quiet steps
-pub noted_next : (b : Bounds) (c d : Configuration) (k : ℕ) → LeadsTo b k c d → notes_by b k c ≡ [] → notes_by b 1 d ≡ notes_by b (k + 1) c
-noted_next b c d k leads quiet = sym (noted_on b c d k 1 leads ∙ ap (λ ys. ys ++ notes_by b 1 d) quiet)
+-- what was noted before is told, and then one step more
+pub told_next : (tells : List NoteShape → Type 0) (xs : List NoteShape) (b : Bounds) (c d : Configuration) (k : ℕ) → LeadsTo b k c d → tells ((xs ++ notes_by b k c) ++ notes_by b 1 d) → tells (xs ++ notes_by b (k + 1) c)
+told_next tells xs b c d k leads t = subst tells (append_assoc xs (notes_by b k c) (notes_by b 1 d) ∙ ap (λ ys. xs ++ ys) (sym (noted_on b c d k 1 leads))) t
+
+-- reductions that need no other are told to who does not hear lines, and where there are none
+pub told_run : (tells : List NoteShape → Type 0) (xs : List NoteShape) (b : Bounds) (c : Configuration) (most k : ℕ) → (most ≡ 0) ⊎ IsDeafToLines tells → k ≤ most → AreLines (notes_by b k c) → tells xs → tells (xs ++ notes_by b k c)
+told_run tells xs b c most k (inl none) le lines t = let zero : k ≡ 0 = omega (arith, none, le) in told_quiet tells xs (notes_by b k c) (ap (λ i. notes_by b i c) zero) t
+told_run tells xs b c most k (inr deaf) le lines t = told_lines tells deaf xs (notes_by b k c) lines t
 
 -- Nobody leaves who has a number
 

@@ -1,22 +1,29 @@
 -- What a listener is told of a step, and of where the activities stand.
-use Rattle.std.proofs.Common.{◌≡◌, ◌||◌, ◌+◌, ◌++◌, ◌∷◌, [], ℕ, true, false, List, Option, Some, None, get_or, map, slice_get, take, refl, sym, ap, subst, ◌∙◌}
-use Rattle.std.proofs.lemmas.List.{append_assoc, append-nil, map-append, take_more}
+use Rattle.std.proofs.Common.{◌≡◌, ◌<◌, ◌||◌, ◌+◌, ◌++◌, ◌∷◌, [], ℕ, true, false, List, Option, Some, None, get_or, map, drop, length, slice_get, slice_index_or, take, refl, sym, ap, subst, ◌∙◌}
+use Rattle.std.proofs.lemmas.List.{append_assoc, append-nil, drop-map, map-append, take_more}
 use Rattle.std.proofs.lemmas.Option.{slice_get-get_or, slice_get_within}
 use Rattle.std.specs.FinMap.{find}
 use Rattle.std.proofs.lemmas.Slice.Eq.{bytes_eq-Decides}
 use Rattle.asp_model.specs.Names.{Name, Text, name_cmp, same_text}
 use Rattle.asp_model.specs.Term.{has_text}
 use Rattle.asp_model.specs.Configuration.{Activity, Configuration}
-use Rattle.asp_model.specs.Intent.{Acts, Effect}
+use Rattle.asp_model.specs.declared.outcome.Line.{Line}
+use Rattle.asp_model.specs.Intent.{Acts, Effect, StatusShape}
+use Rattle.asp_model.specs.Shapes.{line_shape}
+use Rattle.asp_model.specs.Status.{status_of}
 use Rattle.def_journals.specs.Journals.{number_of}
 use Rattle.law_chases.proofs.FutureLemmas.{some_is, true_false}
+use Rattle.law_chases.proofs.MapLemmas.{find_same}
+use Rattle.law_steps.proofs.NameLemmas.{name_same, name_total}
+use Rattle.step_activity.specs.declared.act.Given.{Given}
+use Rattle.step_activity.specs.declared.act.Given.TheVariants as given
 use Rattle.replay_population.specs.declared.population.Population.{Population}
-use Rattle.replay_population.specs.Population.{IsPopulation}
+use Rattle.replay_population.specs.Population.{IsPopulation, with_activity, with_poll}
 use Rattle.replay_population.proofs.PopulationLemmas.{absent_nowhere}
 use Rattle.replay_population.proofs.RosterLemmas.{number_named}
 use Rattle.law_steps.specs.Waking.{labels_wanted}
 use Rattle.serve_rules.specs.Labels.{HaveSame}
-use Rattle.replay_one.specs.Notes.{NoteShape, HasNames, Served, given_by, has_some, noted_as, notes_of, place_of, places_by, places_in, served_by, standing}
+use Rattle.replay_one.specs.Notes.{NoteShape, HasNames, Printed, Served, faulted_by, given_by, has_some, noted_as, notes_of, place_of, places_by, places_in, printed_by, served_by, standing}
 
 text_tied : (l : Text) → same_text l l ≡ true
 text_tied l = (bytes_eq-Decides l l).1 refl
@@ -47,19 +54,58 @@ some_placed n a [] e = absurd cc
 some_placed n a (l ∷ ls) e = refl
 
 -- the place of an activity that is there
-pub place_at : (c : Configuration) (n : Name) (a : Activity) → find name_cmp n c.activities ≡ Some a → place_of c n ≡ places_by n a (labels_wanted a)
-place_at c n a is = ap (λ (o : Option Activity). elim o [ None ↦ [] | Some a ↦ places_by n a (labels_wanted a) ]) is
+pub place_at : (c : Configuration) (n : Name) (a : Activity) → find name_cmp n c.activities ≡ Some a → place_of c n ≡ places_by n a (labels_wanted a) ++ faulted_by n a (status_of c n)
+place_at c n a is = ap (λ (o : Option Activity). elim o [ None ↦ [] | Some a ↦ places_by n a (labels_wanted a) ++ faulted_by n a (status_of c n) ]) is
 
 pub place_none : (c : Configuration) (n : Name) → find name_cmp n c.activities ≡ None → place_of c n ≡ []
-place_none c n is = ap (λ (o : Option Activity). elim o [ None ↦ [] | Some a ↦ places_by n a (labels_wanted a) ]) is
+place_none c n is = ap (λ (o : Option Activity). elim o [ None ↦ [] | Some a ↦ places_by n a (labels_wanted a) ++ faulted_by n a (status_of c n) ]) is
 
--- a service, and then what is given
+-- where it stands, and then its fault
+pub told_place : (tells : List NoteShape → Type 0) (xs : List NoteShape) (c : Configuration) (n : Name) (a : Activity) (s : StatusShape) → find name_cmp n c.activities ≡ Some a → s ≡ status_of c n
+    → tells ((xs ++ places_by n a (labels_wanted a)) ++ faulted_by n a s) → tells (xs ++ place_of c n)
+told_place tells xs c n a s is same t =
+    let ps = places_by n a (labels_wanted a) in
+    subst tells (append_assoc xs ps (faulted_by n a s) ∙ (λ i. xs ++ (ps ++ faulted_by n a (same i))) ∙ ap (λ ys. xs ++ ys) (sym (place_at c n a is))) t
+
+-- a service, then what is given, and then what is printed
 pub told_step : (tells : List NoteShape → Type 0) (xs : List NoteShape) (n : Name) (a : Activity) (e : Effect)
-    → tells ((xs ++ map (noted_as n a.reductions) (served_by (labels_wanted a))) ++ map (noted_as n a.reductions) (given_by e)) → tells (xs ++ notes_of n a (Acts e))
+    → tells (((xs ++ map (noted_as n a.reductions) (served_by (labels_wanted a))) ++ map (noted_as n a.reductions) (given_by e)) ++ map (noted_as n a.reductions) (printed_by a e.own)) → tells (xs ++ notes_of n a (Acts e))
 told_step tells xs n a e t =
     let f = noted_as n a.reductions in
     let s = served_by (labels_wanted a) in
-    subst tells (append_assoc xs (map f s) (map f (given_by e)) ∙ ap (λ ys. xs ++ ys) (sym (map-append f s (given_by e)))) t
+    let g = given_by e in
+    let p = printed_by a e.own in
+    subst tells
+    (append_assoc (xs ++ map f s) (map f g) (map f p)
+    ∙ append_assoc xs (map f s) (map f g ++ map f p)
+    ∙ ap (λ ys. xs ++ (map f s ++ ys)) (sym (map-append f g p))
+    ∙ ap (λ ys. xs ++ ys) (sym (map-append f s (g ++ p)))) t
+
+-- the lines behind those that an activity had
+pub lines_behind : (ls all : List Line) (k : ℕ) (a b : Activity) → ls ≡ drop k all → k ≡ length a.lines → map line_shape all ≡ b.lines → map Printed (map line_shape ls) ≡ printed_by a b
+lines_behind ls all k a b same few lines = ap (map Printed) (ap (map line_shape) same ∙ sym (drop-map line_shape k all) ∙ (λ i. drop (few i) (lines i)))
+
+-- one line more is told
+abbrev pub lines_told : Name → ℕ → List Line → List NoteShape
+lines_told n k ls = map (noted_as n k) (map Printed (map line_shape ls))
+
+one_told : (n : Name) (k : ℕ) (ls : List Line) (l : Line) → lines_told n k (ls ++ l ∷ []) ≡ lines_told n k ls ++ noted_as n k (Printed (line_shape l)) ∷ []
+one_told n k [] l = refl
+one_told n k (x ∷ ls) l = ap (λ ys. noted_as n k (Printed (line_shape x)) ∷ ys) (one_told n k ls l)
+
+pub lines_more : (tells : List NoteShape → Type 0) (xs : List NoteShape) (n : Name) (k : ℕ) (ls : List Line) (i : ℕ) (x : Line) → i < length ls → x ≡ slice_index_or ls i x
+    → tells ((xs ++ lines_told n k (take i ls)) ++ noted_as n k (Printed (line_shape x)) ∷ []) → tells (xs ++ lines_told n k (take (i + 1) ls))
+lines_more tells xs n k ls i x lt is t =
+    let more : take (i + 1) ls ≡ take i ls ++ x ∷ [] = take_more ls i x lt ∙ ap (λ l. take i ls ++ l ∷ []) (sym is) in
+    subst tells (append_assoc xs (lines_told n k (take i ls)) (noted_as n k (Printed (line_shape x)) ∷ []) ∙ ap (λ ys. xs ++ ys) (sym (ap (lines_told n k) more ∙ one_told n k (take i ls) x))) t
+
+-- after its reduction an activity is there as it left itself
+pub acted_at : (n : Name) (g : Given) (c : Configuration) (a : Activity) → find name_cmp n (with_poll n g (with_activity n a c)).activities ≡ Some a
+acted_at n given.Nothing c a = find_same name_cmp name_total name_same n a c.activities
+acted_at n (given.Made m x) c a = find_same name_cmp name_total name_same n a c.activities
+acted_at n (given.Sent m r) c a = find_same name_cmp name_total name_same n a c.activities
+acted_at n (given.Filled f v) c a = find_same name_cmp name_total name_same n a c.activities
+acted_at n given.Polled c a = find_same name_cmp name_total name_same n a c.activities
 
 -- one place more
 pub places_more : (c : Configuration) (ns : List Name) (n : Name) → places_in c (ns ++ n ∷ []) ≡ places_in c ns ++ place_of c n

@@ -1,11 +1,14 @@
 -- What a run notes: what its steps ask of others and give to them, in the order of the steps.
-use Rattle.std.specs.Prelude.{◌≡◌, ℕ, zero, suc, nat_lt, Bool, true, false, List, [], ◌∷◌, ◌++◌, Option, Some, None, map, slice_get}
+use Rattle.std.specs.Prelude.{◌≡◌, ℕ, zero, suc, nat_lt, Bool, true, false, List, [], ◌∷◌, ◌++◌, Option, Some, None, map, slice_get, length, drop}
 use Rattle.std.specs.FinMap.{find}
 use Rattle.asp_model.specs.Names.{Name, FutureShape, Text, name_cmp}
 use Rattle.asp_model.specs.Term.{Tree}
 use Rattle.asp_model.specs.Parcel.{ParcelShape}
 use Rattle.asp_model.specs.Configuration.{Activity, Configuration, From, Poll, ReceptionShape, RequestShape, label_of, start}
-use Rattle.asp_model.specs.Intent.{Acts, Effect, Intent, Rests}
+use Rattle.asp_model.specs.Contraction.{FaultShape, LineShape}
+use Rattle.asp_model.specs.Intent as intents
+use Rattle.asp_model.specs.Intent.{Acts, Effect, Intent, Rests, StatusShape}
+use Rattle.asp_model.specs.Status.{status_of}
 use Rattle.asp_model.specs.Step.{ListsShape, intent_in, step}
 use Rattle.asp_model.specs.Replay.{CountsShape, count_in, least_step, total}
 use Rattle.law_steps.specs.Reached.{IsThere}
@@ -21,8 +24,11 @@ pub data EventShape : Type 0 where
   Answered : (future : FutureShape) → EventShape
   -- it asks what is pending
   Polled : EventShape
+  Printed : (line : LineShape) → EventShape
   -- it stands at a `serve` that asks for these labels
   Standing : (labels : List Text) → EventShape
+  -- it stands at a fault
+  Faulted : (fault : FaultShape) → EventShape
 
 -- who, after so many of its reductions, and what
 pub record NoteShape : Type 0 where
@@ -41,6 +47,10 @@ has_some (l ∷ ls) = true
 abbrev pub served_by : List Text → List EventShape
 served_by [] = []
 served_by (l ∷ ls) = Served (l ∷ ls) ∷ []
+
+-- the lines that an activity has more
+abbrev pub printed_by : Activity → Activity → List EventShape
+printed_by a b = map Printed (drop (length a.lines) b.lines)
 
 abbrev pub made_by : Option (Name × Activity) → List EventShape
 made_by None = []
@@ -72,7 +82,8 @@ noted_as n k x = record { by = n; count = k; event = x }
 -- what an activity notes that intends this
 abbrev pub notes_of : Name → Activity → Intent → List NoteShape
 notes_of n a (Rests s) = []
-notes_of n a (Acts e) = map (noted_as n a.reductions) (served_by (labels_wanted a) ++ given_by e)
+notes_of n a (Acts e) =
+    map (noted_as n a.reductions) (served_by (labels_wanted a) ++ (given_by e ++ printed_by a e.own))
 
 -- A run
 
@@ -107,9 +118,17 @@ abbrev pub places_by : Name → Activity → List Text → List NoteShape
 places_by n a [] = []
 places_by n a (l ∷ ls) = standing n a ∷ []
 
--- the note of where the activity of a name stands, if it asks for labels
+-- where it stands at a fault
+abbrev pub faulted_by : Name → Activity → StatusShape → List NoteShape
+faulted_by n a (intents.Faulted f) = noted_as n a.reductions (Faulted f) ∷ []
+faulted_by n a s = []
+
+-- the notes of where the activity of a name stands, if it asks for labels or has stopped at a fault
 abbrev pub place_of : Configuration → Name → List NoteShape
-place_of c n = elim (find name_cmp n c.activities) [ None ↦ [] | Some a ↦ places_by n a (labels_wanted a) ]
+place_of c n = elim (find name_cmp n c.activities) [
+  | None ↦ []
+  | Some a ↦ places_by n a (labels_wanted a) ++ faulted_by n a (status_of c n)
+]
 
 -- of these, one after the other
 abbrev pub places_in : Configuration → List Name → List NoteShape

@@ -14,14 +14,17 @@ use Rattle.law_steps.specs.Reached.{IsReached, IsAt}
 use Rattle.law_schedules.specs.Schedules.{IsFilledBy, IsLoggedTo, IsNextIn, IsScheduled, RestsIn, WaitsFor}
 use Rattle.law_schedules.specs.Watches.{IsWatched}
 use Rattle.replay_one.specs.declared.bounds.Bounds.{Bounds}
+use Rattle.step_activity.specs.declared.act.Given.{Given}
 use Rattle.replay_population.specs.declared.population.Population.{Population}
+use Rattle.replay_population.specs.Giving.{IsGiving}
 use Rattle.replay_one.specs.declared.looks.Look.{Look}
 use Rattle.replay_one.specs.declared.looks.Look.TheVariants as look
 use Rattle.replay_one.specs.declared.round.Round.{Round}
 use Rattle.replay_one.specs.declared.round.Round.TheVariants as round
+use Rattle.replay_one.specs.declared.round.Gone.{Gone}
 use Rattle.replay_one.specs.declared.round.Machine.{Machine}
 use Rattle.replay_one.specs.Bounds.{IsNumbered, count_within, lists_within}
-use Rattle.replay_population.specs.Population.{ArePassed, IsPopulation, passed_in}
+use Rattle.replay_population.specs.Population.{ArePassed, HasPassedIn, IsPopulation, passed_in}
 use Rattle.replay_one.specs.Ready.{Ascend, size}
 use Rattle.replay_one.specs.Schedule.{IsTaken, Seen, asks_in, noted_in, ready_in, seen, sends_in, watches_in}
 
@@ -50,18 +53,29 @@ pub record Leaves (lists : Option ListsShape) (count : Name → ℕ) (c : Config
 abbrev pub LogsAt : Configuration → List Name → Name → ℕ → Type 0
 LogsAt c ns n k = (to : Name) × (number_of to ns ≡ Some k) × LogsTo c n to
 
+-- the number of whom a request is sent to, if one is sent
+abbrev pub IsTargetOf : List Name → Option (Name × RequestShape) → Option ℕ → Type 0
+IsTargetOf ns None None = Unit {0}
+IsTargetOf ns (Some x) (Some k) = number_of x.0 ns ≡ Some k
+IsTargetOf ns s o = ⊥
+
 abbrev pub IsLook : Option ListsShape → (Name → ℕ) → Configuration → List Name → Name → Look → Type 0
 IsLook lists count c ns n look.Leaves = Leaves lists count c n
 IsLook lists count c ns n (look.Awaits f) = RestsIn lists count c n × (status_of c n ≡ Awaits (future_shape f.now))
 IsLook lists count c ns n look.Serves = RestsIn lists count c n × (status_of c n ≡ Serving)
 IsLook lists count c ns n (look.Holds k) = RestsIn lists count c n × LogsAt c ns n k
-IsLook lists count c ns n look.Steps = CanStep lists count c n
+IsLook lists count c ns n (look.Steps o) = (x : CanStep lists count c n) × IsTargetOf ns x.effect.sent o
 
--- in its turn it steps, and else it is held at the log of the one with this number
-abbrev pub IsTurn : Bool → ℕ → Look → Type 0
-IsTurn true to look.Steps = Unit {0}
-IsTurn false to (look.Holds k) = k ≡ to
-IsTurn b to l = ⊥
+-- in its turn it steps, and sends to this one, and else it is held at the log of the one with this number
+abbrev pub IsTurn : Bool → ℕ → Option ℕ → Look → Type 0
+IsTurn true to o (look.Steps t) = t ≡ o
+IsTurn false to o (look.Holds k) = k ≡ to
+IsTurn b to o l = ⊥
+
+-- the one with this number has taken its step, and a request of it goes to the one with the other number
+abbrev pub IsGivingTo : Population → ℕ → Option ℕ → Given → Type 0
+IsGivingTo p number o g = (n : Name) × (number_of n p.roster ≡ Some number) × (c : Configuration) × (e : Effect)
+    × IsGiving p n g c e × IsTargetOf p.roster e.sent o
 
 -- whom the effect is for, apart from its stepper, is ready, and who is not ready waits for what it did
 pub record IsHandedOn (lists : Option ListsShape) (c : Configuration) (n : Name) (e : Effect) (old new : Seen) : Type 0 where
@@ -95,11 +109,21 @@ abbrev pub IsRunSomewhere : Bounds → Machine → Type 0
 IsRunSomewhere b m = (program : Tree) × (c : Configuration) × IsRunAt b m program c
 
 -- the machine runs, but for the least of those ready, who was taken out of them
+pub record IsRunLess (b : Bounds) (m : Machine) (n : Name) (program : Tree) (c : Configuration) : Type 0 where
+  pub before : Seen
+  pub run : IsRunWith b m.population before program c
+  pub taken : IsTaken before n (seen_in m)
+
+-- this number is that one's
+abbrev pub IsRunLessSomewhere : Bounds → Machine → ℕ → Type 0
+IsRunLessSomewhere b m k = (n : Name) × (number_of n m.population.roster ≡ Some k)
+    × (program : Tree) × (c : Configuration) × IsRunLess b m n program c
+
+-- it runs so, and of the members that the one passed nothing is noted
 pub record IsRunBut (b : Bounds) (m : Machine) (n : Name) (program : Tree) (c : Configuration) : Type 0 where
   pub before : Seen
   pub run : IsRunWith b m.population before program c
   pub taken : IsTaken before n (seen_in m)
-  -- of the members that it passed nothing is noted
   pub forgotten : passed_in m.population n ≡ None
 
 -- this number is that one's
@@ -115,6 +139,16 @@ next_by b c = least_step (lists_within b) (count_within b) c c.activities
 abbrev pub LeadsTo : Bounds → ℕ → Configuration → Configuration → Type 0
 LeadsTo b k c d = (n : ℕ)
     → steps_from (k + n) (lists_within b) (count_within b) c ≡ steps_from n (lists_within b) (count_within b) d
+
+-- so many reductions were taken that need no other, and so many members of a group are passed
+pub record IsGone (b : Bounds) (program : Tree) (c : Configuration) (n : Name) (number most : ℕ) (g : Gone) (new : Machine)
+    : Type 0 where
+  pub then : Configuration
+  pub leads : LeadsTo b g.taken c then
+  pub within : g.taken ≤ most
+  pub has : number_of n new.population.roster ≡ Some number
+  pub but : IsRunBut b new n program then
+  pub passed : HasPassedIn then n g.passed
 
 -- some steps were taken, at most so many
 pub record IsAhead (b : Bounds) (program : Tree) (c : Configuration) (most k : ℕ) (new : Machine) : Type 0 where

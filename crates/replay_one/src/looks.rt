@@ -30,7 +30,8 @@ pub enum Look<'a> {
     /// It is not next in the log of the activity with this number: whom it sends to, or itself
     /// where it polls.
     Holds(u32),
-    Steps,
+    /// It takes a reduction, which sends a request to the activity of this number, if there is one.
+    Steps(Option<u32>),
 }
 
 /// What an activity does, and how many members of a group that it waits for have values.
@@ -85,11 +86,15 @@ fn may_poll(population: &Population, bounds: &Bounds, number: u32) -> bool
 }
 
 /// Where it sends to this activity, or polls as this one, in its turn or out of turn.
-fn in_turn<'a>(may: bool, to: u32, passed: usize) -> View<'a>
+fn in_turn<'a>(may: bool, to: u32, target: Option<u32>, passed: usize) -> View<'a>
     ensures passed { result.passed ≡ passed }
-    ensures look { IsTurn may to result.look }
+    ensures look { IsTurn may to target result.look }
 {
-    let look = if may { Look::Steps } else { Look::Holds(to) };
+    let look = if may {
+        Look::Steps(target)
+    } else {
+        Look::Holds(to)
+    };
     View { look, passed }
 }
 
@@ -123,7 +128,7 @@ pub fn look_at<'a>(
     let passed = seen.passed;
     match seen.outlook {
         Outlook::Steps => Ok(View {
-            look: Look::Steps,
+            look: Look::Steps(None),
             passed,
         }),
         Outlook::Sends(name) => {
@@ -131,11 +136,11 @@ pub fn look_at<'a>(
                 unreachable!()
             };
             let may = may_come(population, bounds, to, population.roster.name(number));
-            Ok(in_turn(may, to, passed))
+            Ok(in_turn(may, to, Some(to), passed))
         }
         Outlook::Polls => {
             let may = may_poll(population, bounds, number);
-            Ok(in_turn(may, number, passed))
+            Ok(in_turn(may, number, None, passed))
         }
         Outlook::Awaits(future) => Ok(View {
             look: Look::Awaits(future),

@@ -1,10 +1,10 @@
 //! What is noted of a run, and who listens.
 
 ghost use Rattle.std.specs.Prelude.{◌≡◌, ◌∷◌, ◌++◌, [], List, OnOk, false};
-ghost use Rattle.replay_one.specs.Listening.{IsDeaf, IsNote};
+ghost use Rattle.replay_one.specs.Listening.{IsDeaf, IsDeafToLines, IsNote};
 ghost use Rattle.replay_one.specs.Notes.{NoteShape};
 
-use asp_model::{ActivityName, FutureName, Label};
+use asp_model::{ActivityName, Fault, FutureName, Label, Line};
 use serve_rules::LabelSet;
 use std::alloc::AllocError;
 
@@ -20,8 +20,11 @@ pub enum Event<'a> {
     Answered(&'a FutureName),
     /// It asks what is pending.
     Polled,
+    Printed(&'a Line),
     /// It stands at a `serve` with these labels when the run is over.
     Standing(&'a LabelSet),
+    /// It stands at this fault when the run is over.
+    Faulted(Fault),
 }
 
 /// Who does what, after how many of its reductions.
@@ -41,6 +44,11 @@ pub trait Notes {
     fn listens(&self) -> bool
         ensures deaf { result ≡ false → IsDeaf (tells self.now) };
 
+    /// Whether it wants to be told of lines too. While it does, an activity takes one reduction in
+    /// a round.
+    fn hears_lines(&self) -> bool
+        ensures deaf { result ≡ false → IsDeafToLines (tells self.now) };
+
     /// It is told one note more.
     fn note(&mut self, note: Note) -> Result<(), AllocError>
         ensures told { (xs : List NoteShape) (x : NoteShape) → tells self.old xs →
@@ -58,6 +66,11 @@ impl Notes for NoNotes {
 
     #[inline]
     fn listens(&self) -> bool {
+        false
+    }
+
+    #[inline]
+    fn hears_lines(&self) -> bool {
         false
     }
 

@@ -1,6 +1,6 @@
 //! A round: the least of those who are ready takes reductions, or leaves them.
 
-ghost use Rattle.std.specs.Prelude.{◌≡◌, ◌<◌, true, IfOk, List, None, OnOk, Some, length};
+ghost use Rattle.std.specs.Prelude.{◌≡◌, ◌<◌, ◌≤◌, ◌⊎◌, ◌++◌, true, IfOk, List, None, OnOk, Some, length};
 ghost use Rattle.std.specs.Arc.{arc_value};
 ghost use Rattle.asp_model.specs.Names.{Name, main_name};
 ghost use Rattle.asp_model.specs.Term.{Tree};
@@ -14,11 +14,12 @@ ghost use Rattle.asp_model.specs.Shapes.{reception_shape};
 ghost use Rattle.replay_population.specs.Roster.{Leads};
 ghost use Rattle.replay_one.specs.Bounds.{IsAscending, IsNumbered, lists_within};
 ghost use Rattle.replay_population.specs.Population.{HasPassedBySome, IsPopulation, KeepsPassed, passed_in, term_of};
-ghost use Rattle.replay_population.specs.Giving.{IsGiving, IsGivingAs};
+ghost use Rattle.replay_population.specs.Giving.{IsGiving};
 ghost use Rattle.replay_one.specs.Schedule.{IsMoreReady, ready_in, seen, sends_in};
-ghost use Rattle.replay_one.specs.Round.{IsFewer, IsHandedOn, IsInOrder, IsKept, IsRound, IsRunAt, IsRunBut, IsRunButSomewhere, IsRunSomewhere, IsStepped, IsTried, seen_in};
+ghost use Rattle.replay_one.specs.Round.{IsFewer, IsGivingTo, IsGone, IsHandedOn, IsInOrder, IsKept, IsRound, IsRunAt, IsRunBut, IsRunButSomewhere, IsRunLess, IsRunLessSomewhere, IsRunSomewhere, IsStepped, IsTried, seen_in};
+ghost use Rattle.replay_one.specs.Listening.{IsDeafToLines};
 ghost use Rattle.replay_one.specs.Notes.{NoteShape};
-ghost use Rattle.replay_one.specs.Told.{AreToldIf, AreToldInRound, AreToldInStep};
+ghost use Rattle.replay_one.specs.Told.{AreToldIf, AreToldInRound, AreToldInStep, notes_by};
 
 use crate::bounds::{Bounds, Next};
 use crate::looks::{Look, look_at, next_in};
@@ -45,6 +46,14 @@ pub enum Round {
     Ends,
 }
 
+/// How many reductions an activity took that need no other, and how many members it has passed of a
+/// group that it waits for.
+#[derive(Clone, Copy)]
+pub struct Gone {
+    pub taken: u64,
+    pub passed: usize,
+}
+
 /// The activities, and who of them is ready.
 #[derive(Drop)]
 pub struct Machine {
@@ -58,6 +67,14 @@ fn passed_after(taken: u64, known: usize) -> usize
     ensures later { 0 < taken → result ≡ 0 }
 {
     if taken == 0 { known } else { 0 }
+}
+
+/// How many reductions an activity takes in one go, of so many: none where lines are heard.
+fn at_once<N: Notes>(most: u64, notes: &N) -> u64
+    ensures within { result ≤ most }
+    ensures lines { (result ≡ 0) ⊎ IsDeafToLines (N.tells notes.now) }
+{
+    if notes.hears_lines() { 0 } else { most }
 }
 
 /// Who is next in the log of an activity is ready, if it is held there.
@@ -129,17 +146,19 @@ impl Machine {
         })
     }
 
-    /// What a reduction gives to others, all but who stepped being ready whom that is for.
+    /// What a reduction gives to others, all but who stepped being ready whom that is for. A request
+    /// goes to the activity of the number `target`.
     fn give(
         &mut self,
         alloc: Global,
         bounds: &Bounds,
         number: u32,
+        target: Option<u32>,
         given: Given,
     ) -> Result<(), AllocError>
         requires ascending { IsAscending bounds.now }
         requires numbered { IsNumbered bounds.now self.old.population.roster }
-        requires giving { IsGivingAs self.old.population number given }
+        requires giving { IsGivingTo self.old.population number target given }
         ensures population { (c : Configuration) (e : Effect) (n : Name) →
             number_of n self.old.population.roster ≡ Some number →
             IsGiving self.old.population n given c e →
@@ -160,10 +179,8 @@ impl Machine {
                 let made = self.population.insert(made, actor)?;
                 self.schedule.wake(alloc, &self.population.roster, made)
             }
-            Given::Sent(name, request) => {
-                let Some(to) = self.population.roster.number(&name) else {
-                    unreachable!()
-                };
+            Given::Sent(_name, request) => {
+                let Some(to) = target else { unreachable!() };
                 let roster = &self.population.roster;
                 self.schedule
                     .wake_server(alloc, roster, to, &request.label)?;
@@ -224,15 +241,46 @@ impl Machine {
                 self.schedule.hold(number, to)?;
                 Ok(false)
             }
-            Look::Steps => {
+            Look::Steps(target) => {
                 let known = before(alloc, &self.population, number, notes)?;
                 let given = self.population.act(alloc, number)?;
-                tell(self.population.roster.name(number), known, &given, notes)?;
-                self.give(alloc, bounds, number, given)?;
+                tell(&self.population, number, known, &given, notes)?;
+                self.give(alloc, bounds, number, target, given)?;
                 self.schedule.wake(alloc, &self.population.roster, number)?;
                 Ok(true)
             }
         }
+    }
+
+    /// The least of those who are ready, who was taken out of them, takes its reductions up to the
+    /// next that needs others, at most so many.
+    fn go<N: Notes>(
+        &mut self,
+        alloc: Global,
+        bounds: &Bounds,
+        number: u32,
+        most: u64,
+        notes: &N,
+    ) -> Result<Gone, AllocError>
+        requires ascending { IsAscending bounds.now }
+        requires running { IsRunLessSomewhere bounds.now self.old number }
+        ensures gone { (program : Tree) (c : Configuration) (n : Name) →
+            number_of n self.old.population.roster ≡ Some number →
+            IsRunLess bounds.now self.old n program c →
+            IfOk result (λ g. IsGone bounds.now program c n number most g self.new) }
+        ensures told { (program : Tree) (c : Configuration) (n : Name) (xs : List NoteShape) →
+            number_of n self.old.population.roster ≡ Some number →
+            IsRunLess bounds.now self.old n program c → N.tells notes.now xs →
+            IfOk result (λ g. N.tells notes.now (xs ++ notes_by bounds.now g.taken c)) }
+        ensures schedule { self.new.schedule ≡ self.old.schedule }
+        ensures roster { OnOk result (self.new.population.roster ≡ self.old.population.roster) }
+    {
+        let known = self.population.take_passed(number);
+        let count = bounds.count(number);
+        let alone = at_once(most, notes);
+        let taken = self.population.run(alloc, number, alone, count)?;
+        let passed = passed_after(taken, known);
+        Ok(Gone { taken, passed })
     }
 
     /// The least of those who are ready takes its reductions up to the next that needs others, and
@@ -262,15 +310,13 @@ impl Machine {
             Least::Unknown => return Ok(Round::Leaves),
             Least::Nobody => return Ok(Round::Ends),
         };
-        let known = self.population.take_passed(number);
-        let count = bounds.count(number);
-        let taken = self.population.run(alloc, number, most, count)?;
+        let gone = self.go(alloc, bounds, number, most, notes)?;
+        let taken = gone.taken;
         if taken == most {
             self.schedule.wake(alloc, &self.population.roster, number)?;
             return Ok(Round::Steps(taken));
         }
-        let passed = passed_after(taken, known);
-        if self.try_step(alloc, bounds, number, passed, notes)? {
+        if self.try_step(alloc, bounds, number, gone.passed, notes)? {
             return Ok(Round::Steps(taken + 1));
         }
         if taken > 0 {

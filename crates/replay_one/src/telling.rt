@@ -1,6 +1,6 @@
 //! A listener is told of a step, and where the activities stand in the end.
 
-ghost use Rattle.std.specs.Prelude.{◌≡◌, ◌++◌, IfOk, List, OnOk, Some, map};
+ghost use Rattle.std.specs.Prelude.{◌≡◌, ◌++◌, IfOk, List, OnOk, Some, drop, map};
 ghost use Rattle.asp_model.specs.Configuration as model;
 ghost use Rattle.asp_model.specs.Configuration.{Configuration};
 ghost use Rattle.asp_model.specs.Intent.{Acts, Effect};
@@ -10,24 +10,39 @@ ghost use Rattle.law_steps.specs.Reached.{IsAt};
 ghost use Rattle.step_activity.specs.Effects.{IsGiven};
 ghost use Rattle.replay_population.specs.Population.{IsClosedBySome, IsKnown, IsPopulation};
 ghost use Rattle.law_steps.specs.Waking.{labels_wanted};
+ghost use Rattle.serve_rules.specs.Labels.{HaveSame};
 ghost use Rattle.replay_population.specs.Reached.{IsReachedPopulation};
 ghost use Rattle.replay_one.specs.Listening.{AreToldPlaces, IsBefore, IsKnownBefore};
-ghost use Rattle.replay_one.specs.Notes.{NoteShape, given_by, has_some, noted_as, notes_of, place_of, served_by};
+ghost use Rattle.asp_model.specs.Shapes.{line_shape, status_shape};
+ghost use Rattle.replay_one.specs.Notes.{NoteShape, Printed, faulted_by, given_by, has_some, noted_as, notes_of, place_of, places_by, served_by};
 ghost use Rattle.asp_model.specs.Term.{Tree};
 
 use crate::notes::{Event, Note, Notes};
-use asp_model::ActivityName;
+use asp_model::{ActivityName, Line, Status};
 use replay_population::Population;
 use serve_rules::LabelSet;
 use std::alloc::{AllocError, Global};
 use step_activity::Given;
 
-/// What is known of an activity before it takes its step: how many reductions it took, and which
-/// labels it asks for.
+/// What is known of an activity before it takes its step: how many reductions it took, which labels
+/// it asks for, and how many lines it printed.
 #[derive(Drop)]
 pub struct Known {
     pub count: u64,
     pub wanted: LabelSet,
+    pub lines: usize,
+}
+
+/// What an activity printed, in order; nothing where nobody has the number.
+fn lines_of(population: &Population, number: u32) -> &[Line]
+    ensures lines { (c : Configuration) (a : model.Activity) (n : Name) →
+        IsPopulation population.now c → number_of n population.now.roster ≡ Some number →
+        IsAt c n a → map line_shape result.now ≡ a.lines }
+{
+    match population.get(number) {
+        Some(actor) => actor.lines(),
+        None => &[],
+    }
 }
 
 /// What is known of an activity before its step, where somebody listens.
@@ -48,7 +63,12 @@ pub fn before<N: Notes>(
     }
     let count = population.count(number);
     let wanted = population.wanted(alloc, number)?;
-    Ok(Some(Known { count, wanted }))
+    let lines = lines_of(population, number).len();
+    Ok(Some(Known {
+        count,
+        wanted,
+        lines,
+    }))
 }
 
 /// Whether it asks for labels.
@@ -99,26 +119,110 @@ fn tell_given<N: Notes>(
     notes.note(Note { by, count, event })
 }
 
-/// It is told of a step, where somebody listens.
-pub fn tell<N: Notes>(
+/// The lines behind so many.
+fn behind(lines: &[Line], before: usize) -> &[Line]
+    ensures { result.now ≡ drop before lines.now }
+{
+    if before < lines.len() {
+        &lines[before..]
+    } else {
+        &[]
+    }
+}
+
+/// It is told of lines, where it wants to.
+fn tell_lines<N: Notes>(
     by: &ActivityName,
+    count: u64,
+    lines: &[Line],
+    notes: &mut N,
+) -> Result<(), AllocError>
+    ensures told { (xs : List NoteShape) → N.tells notes.old xs →
+        let events = map Printed (map line_shape lines.now) in
+        OnOk result (N.tells notes.new (xs ++ map (noted_as by.now count) events)) }
+{
+    if !notes.hears_lines() {
+        return Ok(());
+    }
+    for line in lines {
+        notes.note(Note {
+            by,
+            count,
+            event: Event::Printed(line),
+        })?;
+    }
+    Ok(())
+}
+
+/// It is told of a step that the activity of a number took, where somebody listens.
+pub fn tell<N: Notes>(
+    population: &Population,
+    number: u32,
     before: Option<Known>,
     given: &Given,
     notes: &mut N,
 ) -> Result<(), AllocError>
-    ensures told { (xs : List NoteShape) (a : model.Activity) (e : Effect) →
-        N.tells notes.old xs → IsKnownBefore (N.tells notes.old) a before →
-        IsGiven by.now e given.now →
-        OnOk result (N.tells notes.new (xs ++ notes_of by.now a (Acts e))) }
+    requires known { IsKnown population.now number }
+    ensures told { (xs : List NoteShape) (c : Configuration) (n : Name) (a : model.Activity)
+        (e : Effect) → N.tells notes.old xs → IsKnownBefore (N.tells notes.old) a before →
+        IsPopulation population.now c → number_of n population.now.roster ≡ Some number →
+        IsAt c n e.own → IsGiven n e given.now →
+        OnOk result (N.tells notes.new (xs ++ notes_of n a (Acts e))) }
 {
     let Some(before) = before else {
         return Ok(());
     };
+    let by = population.roster.name(number);
     tell_service(by, &before, notes)?;
-    tell_given(by, before.count, given, notes)
+    tell_given(by, before.count, given, notes)?;
+    let lines = behind(lines_of(population, number), before.lines);
+    tell_lines(by, before.count, lines, notes)
 }
 
-/// It is told where an activity stands, if it is there and asks for labels.
+/// It is told where an activity stands, if it asks for labels there.
+fn tell_serve<N: Notes>(
+    by: &ActivityName,
+    count: u64,
+    wanted: &LabelSet,
+    notes: &mut N,
+) -> Result<(), AllocError>
+    ensures told { (xs : List NoteShape) (a : model.Activity) → N.tells notes.old xs →
+        count ≡ a.reductions → HaveSame wanted.now (labels_wanted a) →
+        OnOk result (N.tells notes.new (xs ++ places_by by.now a (labels_wanted a))) }
+{
+    if !asks(wanted) {
+        return Ok(());
+    }
+    notes.note(Note {
+        by,
+        count,
+        event: Event::Standing(wanted),
+    })
+}
+
+/// It is told of the fault at which an activity stands, if its status is one.
+fn tell_fault<N: Notes>(
+    by: &ActivityName,
+    count: u64,
+    status: &Status,
+    notes: &mut N,
+) -> Result<(), AllocError>
+    ensures told { (xs : List NoteShape) (a : model.Activity) → N.tells notes.old xs →
+        count ≡ a.reductions → let faults = faulted_by by.now a (status_shape status.now) in
+        OnOk result (N.tells notes.new (xs ++ faults)) }
+{
+    match status {
+        Status::Faulted(fault) => notes.note(Note {
+            by,
+            count,
+            event: Event::Faulted(*fault),
+        }),
+        Status::Done | Status::Serving | Status::Running | Status::Awaits(_) => Ok(()),
+    }
+}
+
+/// It is told where an activity stands, if it is there and asks for labels or has stopped at a
+/// fault.
 fn tell_place<N: Notes>(
     alloc: Global,
     population: &mut Population,
@@ -138,15 +242,12 @@ fn tell_place<N: Notes>(
         return Ok(());
     };
     population.settle(number)?;
+    let count = population.count(number);
     let wanted = population.wanted(alloc, number)?;
-    if !asks(&wanted) {
-        return Ok(());
-    }
-    notes.note(Note {
-        by: population.roster.name(number),
-        count: population.count(number),
-        event: Event::Standing(&wanted),
-    })
+    let status = population.status(alloc, number)?;
+    let by = population.roster.name(number);
+    tell_serve(by, count, &wanted, notes)?;
+    tell_fault(by, count, &status, notes)
 }
 
 /// It is told where all activities stand, where somebody listens.

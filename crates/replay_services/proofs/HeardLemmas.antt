@@ -1,5 +1,5 @@
 -- What the notes of a replay tell is what its services could take.
-use Rattle.std.specs.Prelude.{◌≡◌, ◌≢◌, ◌&&◌, ◌||◌, ℕ, zero, suc, ◌+◌, ◌-◌, ◌≤◌, nat_le, Bool, true, false, cond, List, [], ◌∷◌, ◌++◌, Option, Some, None, map, is_some, nat_lt, slice_get}
+use Rattle.std.specs.Prelude.{◌≡◌, ◌≢◌, ◌&&◌, ◌||◌, ℕ, zero, suc, ◌+◌, ◌-◌, ◌≤◌, nat_le, Bool, true, false, cond, List, [], ◌∷◌, ◌++◌, Option, Some, None, map, drop, length, is_some, nat_lt, slice_get}
 use Rattle.std.specs.List.{Contains, flat_map, list_any}
 use Rattle.std.specs.FinMap.{find, put}
 use Rattle.std.proofs.Common.{refl, sym, ap, subst, ◌∙◌, arith, inl, inr, ⊎_elim, ◌⊎◌}
@@ -14,7 +14,10 @@ use Rattle.asp_model.specs.Split.{Split, Stands, Splits, split}
 use Rattle.asp_model.specs.Store.{CellShape, cell}
 use Rattle.asp_model.specs.Parcel.{ParcelShape}
 use Rattle.asp_model.specs.Configuration.{Activity, Configuration, From, Poll, ReceptionShape, RequestShape, label_of, log_of, or_none, requests_of, start}
-use Rattle.asp_model.specs.Intent.{Acts, Effect}
+use Rattle.asp_model.specs.Contraction.{FaultShape, LineShape}
+use Rattle.asp_model.specs.Intent as intents
+use Rattle.asp_model.specs.Intent.{Acts, Effect, StatusShape}
+use Rattle.asp_model.specs.Status.{status_of}
 use Rattle.asp_model.specs.Services.{ArrivalShape}
 use Rattle.asp_model.specs.Step.{ListsShape, intent_in, step, with_effect, with_last}
 use Rattle.asp_model.specs.Replay.{CountsShape, Fits, count_in, least_step, replay, steps_from, total}
@@ -34,7 +37,7 @@ use Rattle.law_steps.proofs.StepLemmas.{step_taken}
 use Rattle.law_services.specs.Services.{StoodAt, arrival_of, has_poll, replayed_to, set_at, set_by, set_of_head}
 use Rattle.law_services.proofs.EndLemmas.{more_steps, one_more, replay_run}
 use Rattle.law_services.proofs.SameLemmas.{right_at}
-use Rattle.replay_one.specs.Notes.{EventShape, HasNames, NoteShape, answered_by, given_by, least_notes, made_by, noted_as, notes_from, notes_of, place_of, places_by, places_in, polled_by, sent_by, served_by, standing}
+use Rattle.replay_one.specs.Notes.{EventShape, Faulted, HasNames, NoteShape, Printed, answered_by, faulted_by, given_by, least_notes, made_by, noted_as, notes_from, notes_of, place_of, places_by, places_in, polled_by, printed_by, sent_by, served_by, standing}
 use Rattle.replay_services.specs.Heard.{came_as, asked_as, is_poll, came_in, asked_in, polled_in, came_to, asked_by, has_polled, TellsServices, NotesTell}
 
 -- Notes of one step more
@@ -121,6 +124,10 @@ came_polled n m None = refl
 came_polled n m (Some (z, From q)) = refl
 came_polled n m (Some (z, Poll)) = refl
 
+came_printed : (n m : Name) (ls : List LineShape) → came_of n m (map Printed ls) ≡ []
+came_printed n m [] = refl
+came_printed n m (l ∷ ls) = came_printed n m ls
+
 came_sent : (n m : Name) (o : Option (Name × RequestShape)) → ((z : Name × RequestShape) → o ≡ Some z → z.1.sender ≡ m) → came_of n m (sent_by o) ≡ map arrival_of (there n o)
 came_sent n m None from = refl
 came_sent n m (Some z) from =
@@ -140,9 +147,23 @@ flat_step g ls e =
     ∙ ap (λ l. flat_map g (made_by e.made) ++ l) (flat_map-append g (sent_by e.sent) (answered_by e.filled ++ polled_by e.logged)
     ∙ ap (λ l. flat_map g (sent_by e.sent) ++ l) (flat_map-append g (answered_by e.filled) (polled_by e.logged))))
 
-came_step : (n m : Name) (ls : List Text) (e : Effect) → ((z : Name × RequestShape) → e.sent ≡ Some z → z.1.sender ≡ m) → came_of n m (served_by ls ++ given_by e) ≡ map arrival_of (there n e.sent)
-came_step n m ls e from =
-    flat_step (came_as n m) ls e
+-- of lines nothing is found
+flat_lines : {Y : Type 0} (g : EventShape → List Y) (ls : List Text) (e : Effect) (ps : List EventShape) → flat_map g ps ≡ [] → flat_map g (served_by ls ++ (given_by e ++ ps)) ≡ flat_map g (served_by ls ++ given_by e)
+flat_lines g ls e ps none =
+    ap (flat_map g) (sym (append_assoc (served_by ls) (given_by e) ps))
+    ∙ flat_map-append g (served_by ls ++ given_by e) ps
+    ∙ ap (λ l. flat_map g (served_by ls ++ given_by e) ++ l) none
+    ∙ append-nil (flat_map g (served_by ls ++ given_by e))
+
+-- what a step tells
+abbrev told_by : Activity → Effect → List EventShape
+told_by a e = served_by (labels_wanted a) ++ (given_by e ++ printed_by a e.own)
+
+came_step : (n m : Name) (a : Activity) (e : Effect) → ((z : Name × RequestShape) → e.sent ≡ Some z → z.1.sender ≡ m) → came_of n m (told_by a e) ≡ map arrival_of (there n e.sent)
+came_step n m a e from =
+    let ls = labels_wanted a in
+    flat_lines (came_as n m) ls e (printed_by a e.own) (came_printed n m (drop (length a.lines) e.own.lines))
+    ∙ flat_step (came_as n m) ls e
     ∙ (λ i. came_served n m ls i ++ (came_made n m e.made i ++ (came_of n m (sent_by e.sent) ++ (came_answered n m e.filled i ++ came_polled n m e.logged i))))
     ∙ append-nil (came_of n m (sent_by e.sent)) ∙ came_sent n m e.sent from
 
@@ -151,13 +172,17 @@ came_step n m ls e from =
 served_asked : List Text → List (List Text)
 served_asked ls = flat_map asked_as (served_by ls)
 
-asked_step : (b : Bool) (ls : List Text) (e : Effect) → flat_map (λ x. cond b (asked_as x) []) (served_by ls ++ given_by e) ≡ cond b (flat_map asked_as (served_by ls)) []
-asked_step false ls e = none (served_by ls ++ given_by e)
+asked_printed : (ls : List LineShape) → flat_map asked_as (map Printed ls) ≡ []
+asked_printed [] = refl
+asked_printed (l ∷ ls) = asked_printed ls
+
+asked_step : (b : Bool) (a : Activity) (e : Effect) → flat_map (λ x. cond b (asked_as x) []) (told_by a e) ≡ cond b (flat_map asked_as (served_by (labels_wanted a))) []
+asked_step false a e = none (told_by a e)
   where
     none : (es : List EventShape) → flat_map (λ (x : EventShape). cond false (asked_as x) []) es ≡ []
     none [] = refl
     none (x ∷ es) = none es
-asked_step true ls e = flat_step asked_as ls e ∙ (λ i. flat_map asked_as (served_by ls) ++ (of_made e.made i ++ (of_sent e.sent i ++ (of_answered e.filled i ++ of_polled e.logged i)))) ∙ append-nil (flat_map asked_as (served_by ls))
+asked_step true a e = let ls = labels_wanted a in flat_lines asked_as ls e (printed_by a e.own) (asked_printed (drop (length a.lines) e.own.lines)) ∙ flat_step asked_as ls e ∙ (λ i. flat_map asked_as (served_by ls) ++ (of_made e.made i ++ (of_sent e.sent i ++ (of_answered e.filled i ++ of_polled e.logged i)))) ∙ append-nil (flat_map asked_as (served_by ls))
   where
     of_made : (o : Option (Name × Activity)) → flat_map asked_as (made_by o) ≡ []
     of_made None = refl
@@ -209,16 +234,29 @@ any_answered : (b : Bool) (o : Option (FutureShape × ParcelShape)) → any_poll
 any_answered b None = refl
 any_answered b (Some x) = no_poll b
 
+any_printed : (b : Bool) (ls : List LineShape) → any_poll b (map Printed ls) ≡ false
+any_printed b [] = refl
+any_printed b (l ∷ ls) = ap (λ t. (b && false) || t) (any_printed b ls) ∙ no_poll b
+
 any_logged : (n m : Name) (s : Option (Name × RequestShape)) (l : Option (Name × ReceptionShape)) → IsLogged m s l → any_poll (same_name n m) (polled_by l) ≡ has_poll (there n l)
 any_logged n m None l (inl e) = subst (λ k. any_poll (same_name n m) (polled_by k) ≡ has_poll (there n k)) (sym e) refl
 any_logged n m None l (inr e) = subst (λ k. any_poll (same_name n m) (polled_by k) ≡ has_poll (there n k)) (sym e) (a_poll (same_name n m))
 any_logged n m (Some z) l e = subst (λ k. any_poll (same_name n m) (polled_by k) ≡ has_poll (there n k)) (sym e) (no_from (same_name n z.0) m)
 
-polled_step : (n m : Name) (ls : List Text) (e : Effect) → IsLogged m e.sent e.logged → any_poll (same_name n m) (served_by ls ++ given_by e) ≡ has_poll (there n e.logged)
-polled_step n m ls e logged =
+or_no : (t : Bool) → (t || false) ≡ t
+or_no true = refl
+or_no false = refl
+
+polled_step : (n m : Name) (a : Activity) (e : Effect) → IsLogged m e.sent e.logged → any_poll (same_name n m) (told_by a e) ≡ has_poll (there n e.logged)
+polled_step n m a e logged =
     let b : Bool = same_name n m in
-    list_any-append (λ x. b && is_poll x) (served_by ls) (given_by e)
-    ∙ ap (λ t. t || any_poll b (given_by e)) (any_served b ls)
+    let ls = labels_wanted a in
+    let ps = printed_by a e.own in
+    list_any-append (λ x. b && is_poll x) (served_by ls) (given_by e ++ ps)
+    ∙ ap (λ t. t || any_poll b (given_by e ++ ps)) (any_served b ls)
+    ∙ list_any-append (λ x. b && is_poll x) (given_by e) ps
+    ∙ ap (λ t. any_poll b (given_by e) || t) (any_printed b (drop (length a.lines) e.own.lines))
+    ∙ or_no (any_poll b (given_by e))
     ∙ list_any-append (λ x. b && is_poll x) (made_by e.made) (sent_by e.sent ++ (answered_by e.filled ++ polled_by e.logged))
     ∙ ap (λ t. t || any_poll b (sent_by e.sent ++ (answered_by e.filled ++ polled_by e.logged))) (any_made b e.made)
     ∙ list_any-append (λ x. b && is_poll x) (sent_by e.sent) (answered_by e.filled ++ polled_by e.logged)
@@ -263,12 +301,12 @@ tells_step : (c : Configuration) (m : Name) (a : Activity) (e : Effect) (xs : Li
 tells_step c m a e xs t h = record {
   came = λ n.
       flat_map-append (came_in n) xs (stepped m a e)
-      ∙ (λ i. h.came n i ++ (came_noted n m a.reductions (served_by (labels_wanted a) ++ given_by e) ∙ came_step n m (labels_wanted a) e (sender_of m c e t.facts.sent)) i)
+      ∙ (λ i. h.came n i ++ (came_noted n m a.reductions (told_by a e) ∙ came_step n m a e (sender_of m c e t.facts.sent)) i)
       ∙ sym (map-append arrival_of (requests_of c n) (there n e.sent))
       ∙ ap (map arrival_of) (sym (boxed n e.sent c.received));
   polled = λ n.
       list_any-append (polled_in n) xs (stepped m a e)
-      ∙ (λ i. h.polled n i || (polled_noted n m a.reductions (served_by (labels_wanted a) ++ given_by e) ∙ polled_step n m (labels_wanted a) e t.facts.logged) i)
+      ∙ (λ i. h.polled n i || (polled_noted n m a.reductions (told_by a e) ∙ polled_step n m a e t.facts.logged) i)
       ∙ sym (poll_either (log_of c n) (there n e.logged))
       ∙ ap has_poll (sym (boxed n e.logged c.logs));
 }
@@ -289,7 +327,7 @@ pub none_there : {X : Type 0} (y : X) → Contains [] y → ⊥
 none_there y (k, lt, e) = omega (arith, lt)
 
 asked_at : (n m : Name) (a : Activity) (e : Effect) → asked_by n (stepped m a e) ≡ cond (same_name n m) (flat_map asked_as (served_by (labels_wanted a))) []
-asked_at n m a e = asked_noted n m a.reductions (served_by (labels_wanted a) ++ given_by e) ∙ asked_step (same_name n m) (labels_wanted a) e
+asked_at n m a e = asked_noted n m a.reductions (told_by a e) ∙ asked_step (same_name n m) a e
 
 -- a step asks for what its activity wants, and nothing else
 asked_sound : (n m : Name) (a : Activity) (e : Effect) (ls : List Text) → Contains (asked_by n (stepped m a e)) ls → (n ≡ m) × (labels_wanted a ≡ ls) × (ls ≢ [])
@@ -524,24 +562,56 @@ standing_asks n m a ls c = by (same_name n m) refl c
 asks_own : (n : Name) (a : Activity) → Contains (asked_in n (standing n a)) (labels_wanted a)
 asks_own n a = subst (λ b. Contains (cond b (labels_wanted a ∷ []) []) (labels_wanted a)) (sym (name_itself n)) (one_there (labels_wanted a))
 
--- each of these notes says where an activity stands, and each that asks for labels is noted
+-- a note that tells of no request and no poll, and only of labels that an activity asks for where it stands
+record TellsPlace (c : Configuration) (y : NoteShape) : Type 0 where
+  came : (n : Name) → came_in n y ≡ []
+  polls : (n : Name) → polled_in n y ≡ false
+  asks : (n : Name) (ls : List Text) → Contains (asked_in n y) ls → (a : Activity) × IsAt c n a × (labels_wanted a ≡ ls)
+
+-- each of these notes does so, and where labels are asked for that is noted
 record AreStanding (c : Configuration) (ys : List NoteShape) : Type 0 where
-  sound : (y : NoteShape) → Contains ys y → (a : Activity) × IsAt c y.by a × (y ≡ standing y.by a)
+  sound : (y : NoteShape) → Contains ys y → TellsPlace c y
   whole : (n : Name) (a : Activity) → IsAt c n a → labels_wanted a ≢ [] → Contains ys (standing n a)
 
 module _ (c : Configuration) where
-  abbrev Stands_there : NoteShape → Type 0
-  Stands_there y = (a : Activity) × IsAt c y.by a × (y ≡ standing y.by a)
+  of_standing : (m : Name) (a : Activity) → IsAt c m a → TellsPlace c (standing m a)
+  of_standing m a at = record {
+    came = λ n. refl;
+    polls = λ n. standing_polls n m a;
+    asks = λ n ls h. let own = standing_asks n m a ls h in (a, subst (λ q. IsAt c q a) (sym own.0) at, own.1);
+  }
 
-  by_labels : (n : Name) (a : Activity) (ws : List Text) (y : NoteShape) → IsAt c n a → Contains (places_by n a ws) y → Stands_there y
+  of_fault : (m : Name) (k : ℕ) (f : FaultShape) → TellsPlace c (noted_as m k (Faulted f))
+  of_fault m k f = record {
+    came = λ n. refl;
+    polls = λ n. not_if (same_name n m);
+    asks = λ n ls h. absurd (no_asks (same_name n m) ls h);
+  }
+    where
+      not_if : (b : Bool) → (b && false) ≡ false
+      not_if true = refl
+      not_if false = refl
+
+      no_asks : (b : Bool) (ls : List Text) → Contains (cond b [] []) ls → ⊥
+      no_asks true ls h = none_there ls h
+      no_asks false ls h = none_there ls h
+
+  by_labels : (n : Name) (a : Activity) (ws : List Text) (y : NoteShape) → IsAt c n a → Contains (places_by n a ws) y → TellsPlace c y
   by_labels n a [] y at h = absurd (none_there y h)
-  by_labels n a (w ∷ ws) y at h = subst Stands_there (one_only (standing n a) y h) (a, at, refl)
+  by_labels n a (w ∷ ws) y at h = subst (TellsPlace c) (one_only (standing n a) y h) (of_standing n a at)
 
-  by_place : (n : Name) (o : Option Activity) (y : NoteShape) → find name_cmp n c.activities ≡ o → Contains (elim o [ None ↦ [] | Some a ↦ places_by n a (labels_wanted a) ]) y → Stands_there y
+  by_status : (n : Name) (a : Activity) (s : StatusShape) (y : NoteShape) → Contains (faulted_by n a s) y → TellsPlace c y
+  by_status n a (intents.Faulted f) y h = subst (TellsPlace c) (one_only (noted_as n a.reductions (Faulted f)) y h) (of_fault n a.reductions f)
+  by_status n a intents.Done y h = absurd (none_there y h)
+  by_status n a intents.Serving y h = absurd (none_there y h)
+  by_status n a intents.Running y h = absurd (none_there y h)
+  by_status n a (intents.Awaits f) y h = absurd (none_there y h)
+
+  by_place : (n : Name) (o : Option Activity) (y : NoteShape) → find name_cmp n c.activities ≡ o → Contains (elim o [ None ↦ [] | Some a ↦ places_by n a (labels_wanted a) ++ faulted_by n a (status_of c n) ]) y → TellsPlace c y
   by_place n None y at h = absurd (none_there y h)
-  by_place n (Some a) y at h = by_labels n a (labels_wanted a) y at h
+  by_place n (Some a) y at h = ⊎_elim (λ p. by_labels n a (labels_wanted a) y at p) (λ f. by_status n a (status_of c n) y f) (Contains-append_cases (places_by n a (labels_wanted a)) (faulted_by n a (status_of c n)) y h)
 
-  places_sound : (ns : List Name) (y : NoteShape) → Contains (places_in c ns) y → Stands_there y
+  places_sound : (ns : List Name) (y : NoteShape) → Contains (places_in c ns) y → TellsPlace c y
   places_sound [] y h = absurd (none_there y h)
   places_sound (n ∷ ns) y h = ⊎_elim (λ here. by_place n (find name_cmp n c.activities) y refl here) (λ later. places_sound ns y later) (Contains-append_cases (place_of c n) (places_in c ns) y h)
 
@@ -550,7 +620,8 @@ module _ (c : Configuration) where
   asks_there n a (w ∷ ws) some = one_there (standing n a)
 
   place_there : (n : Name) (a : Activity) → IsAt c n a → labels_wanted a ≢ [] → Contains (place_of c n) (standing n a)
-  place_there n a at some = subst (λ (o : Option Activity). Contains (elim o [ None ↦ [] | Some b ↦ places_by n b (labels_wanted b) ]) (standing n a)) (sym at) (asks_there n a (labels_wanted a) some)
+  place_there n a at some = subst (λ (o : Option Activity). Contains (elim o [ None ↦ [] | Some b ↦ places_by n b (labels_wanted b) ++ faulted_by n b (status_of c n) ]) (standing n a)) (sym at)
+      (Contains-append_left (places_by n a (labels_wanted a)) (faulted_by n a (status_of c n)) (standing n a) (asks_there n a (labels_wanted a) some))
 
   places_whole : (ns : List Name) (k : ℕ) (n : Name) (a : Activity) → slice_get ns k ≡ Some n → IsAt c n a → labels_wanted a ≢ [] → Contains (places_in c ns) (standing n a)
   places_whole [] k n a h at some = no_some h
@@ -572,10 +643,6 @@ module _ (program : Tree) (lists : ListsShape) (counts : CountsShape) (ys : List
 
   abbrev all : Noted program lists counts (total counts)
   all = noted program lists counts (total counts)
-
-  or_false : (b : Bool) → (b || false) ≡ b
-  or_false true = refl
-  or_false false = refl
 
   at_end : (n : Name) (ls : List Text) (a : Activity) → IsAt c n a → labels_wanted a ≡ ls → (ls ≡ []) ⊎ StoodAt program lists counts n ls
   at_end n [] a at e = inl refl
@@ -599,19 +666,18 @@ module _ (program : Tree) (lists : ListsShape) (counts : CountsShape) (ys : List
   told = record {
     came = λ n.
         flat_map-append (came_in n) xs ys
-        ∙ (λ i. all.tells.came n i ++ none_came n ys (λ y c. let s = st.sound y c in ap (came_in n) s.2) i)
+        ∙ (λ i. all.tells.came n i ++ none_came n ys (λ y c. (st.sound y c).came n) i)
         ∙ append-nil (map arrival_of (requests_of c n));
     polled = λ n.
         list_any-append (polled_in n) xs ys
-        ∙ (λ i. all.tells.polled n i || none_polled n ys (λ y c. let s = st.sound y c in ap (polled_in n) s.2 ∙ standing_polls n y.by s.0) i)
-        ∙ or_false (has_poll (log_of c n));
+        ∙ (λ i. all.tells.polled n i || none_polled n ys (λ y c. (st.sound y c).polls n) i)
+        ∙ or_no (has_poll (log_of c n));
     stood = λ n ls h. ⊎_elim
         (λ before. inr (all.stood n ls before))
         (λ after.
         let w = who_asked n ys ls after in
-        let s = st.sound w.0 w.1 in
-        let own = standing_asks n w.0.by s.0 ls (subst (λ z. Contains (asked_in n z) ls) s.2 w.2) in
-        at_end n ls s.0 (subst (λ q. IsAt c q s.0) (sym own.0) s.1) own.1)
+        let s = (st.sound w.0 w.1).asks n ls w.2 in
+        at_end n ls s.0 s.1 s.2)
         (Contains-append_cases (asked_by n xs) (asked_by n ys) ls (subst (λ l. Contains l ls) (flat_map-append (asked_in n) xs ys) h));
     sets = λ n ls h. kept n ls h;
   }

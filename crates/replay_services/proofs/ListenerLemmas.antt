@@ -8,14 +8,16 @@ use Rattle.std.proofs.lemmas.List.Elements.{Contains-append_left, Contains-appen
 use Rattle.std.proofs.lemmas.List.Folds.{list_any-append}
 use Rattle.std.proofs.lemmas.Grind.{flat_map-append}
 use Rattle.asp_model.specs.declared.name.FutureName.{FutureName}
+use Rattle.asp_model.specs.declared.outcome.Fault.{Fault}
+use Rattle.asp_model.specs.declared.outcome.Line.{Line}
 use Rattle.asp_model.specs.Names.{FutureShape, Name, Text, name_cmp, same_name}
 use Rattle.asp_model.specs.declared.word.Label.{Label}
 use Rattle.law_steps.proofs.NameLemmas.{name_case, name_itself, names_apart, names_tied}
 use Rattle.serve_rules.specs.Labels.{HaveSame}
-use Rattle.replay_one.specs.Notes.{EventShape, NoteShape, Served, Made, Sent, Answered, Polled, Standing}
+use Rattle.replay_one.specs.Notes.{EventShape, NoteShape, noted_as, Served, Made, Sent, Answered, Polled, Printed, Standing, Faulted}
 use Rattle.replay_one.specs.declared.notes.Event.TheVariants as event
 use Rattle.replay_one.specs.declared.notes.Note.{Note}
-use Rattle.replay_one.specs.Listening.{IsEvent, IsNote}
+use Rattle.replay_one.specs.Listening.{IsDeafToLines, IsEvent, IsNote}
 use Rattle.replay_services.specs.Heard.{came_as, asked_as, is_poll, came_in, asked_in, polled_in, came_to, asked_by, has_polled}
 use Rattle.replay_services.specs.declared.heard.Heard.{Heard}
 use Rattle.replay_services.specs.declared.listener.Listener.{Listener}
@@ -182,6 +184,8 @@ module _ (old new : Listener) (xs : List NoteShape) (x : NoteShape) where
   sent_as by to label f is (Answered g) at h change told = absurd h
   sent_as by to label f is Polled at h change told = absurd h
   sent_as by to label f is (Standing ls) at h change told = absurd h
+  sent_as by to label f is (Printed z) at h change told = absurd h
+  sent_as by to label f is (Faulted z) at h change told = absurd h
 
   served_as : (by : Name) (labels : Bor (List Text)) → by ≡ x.by → (e : EventShape) → x.event ≡ e → IsEvent (event.Served labels) e → ChangesAt by (IsWithSet labels.now) old new → Tells old xs → Tells new (xs ++ x ∷ [])
   served_as by labels is (Served ls) at h change told = about (Served ls) at
@@ -191,6 +195,8 @@ module _ (old new : Listener) (xs : List NoteShape) (x : NoteShape) where
   served_as by labels is (Answered g) at h change told = absurd h
   served_as by labels is Polled at h change told = absurd h
   served_as by labels is (Standing ls) at h change told = absurd h
+  served_as by labels is (Printed z) at h change told = absurd h
+  served_as by labels is (Faulted z) at h change told = absurd h
 
   standing_as : (by : Name) (labels : Bor (List Text)) → by ≡ x.by → (e : EventShape) → x.event ≡ e → IsEvent (event.Standing labels) e → ChangesAt by (IsWithSet labels.now) old new → Tells old xs → Tells new (xs ++ x ∷ [])
   standing_as by labels is (Standing ls) at h change told = about (Standing ls) at
@@ -200,6 +206,8 @@ module _ (old new : Listener) (xs : List NoteShape) (x : NoteShape) where
   standing_as by labels is (Answered g) at h change told = absurd h
   standing_as by labels is Polled at h change told = absurd h
   standing_as by labels is (Served ls) at h change told = absurd h
+  standing_as by labels is (Printed z) at h change told = absurd h
+  standing_as by labels is (Faulted z) at h change told = absurd h
 
   polled_as : (by : Name) → by ≡ x.by → (e : EventShape) → x.event ≡ e → IsEvent event.Polled e → ChangesAt by (λ h g. g ≡ with_poll h) old new → Tells old xs → Tells new (xs ++ x ∷ [])
   polled_as by is Polled at h change told = about Polled at (polled_told old new xs x.by x.count (subst (λ z. ChangesAt z (λ h g. g ≡ with_poll h) old new) is change) told)
@@ -208,6 +216,8 @@ module _ (old new : Listener) (xs : List NoteShape) (x : NoteShape) where
   polled_as by is (Answered g) at h change told = absurd h
   polled_as by is (Served ls) at h change told = absurd h
   polled_as by is (Standing ls) at h change told = absurd h
+  polled_as by is (Printed z) at h change told = absurd h
+  polled_as by is (Faulted z) at h change told = absurd h
 
 module _ (old new : Listener) (xs : List NoteShape) (x : NoteShape) (told : Note) (n : IsNote told x) where
   pub noted_sent : (to : Bor Name) (label : Bor Label) (f : Bor FutureName) → told.event ≡ event.Sent to label f
@@ -231,6 +241,8 @@ module _ (l : Listener) (xs : List NoteShape) (x : NoteShape) (told : Note) (n :
   made_as m Polled at h tells = absurd h
   made_as m (Served ls) at h tells = absurd h
   made_as m (Standing ls) at h tells = absurd h
+  made_as m (Printed z) at h tells = absurd h
+  made_as m (Faulted z) at h tells = absurd h
 
   answered_as : (f : Bor FutureName) (e : EventShape) → x.event ≡ e → IsEvent (event.Answered f) e → Tells l xs → Tells l (xs ++ x ∷ [])
   answered_as f (Answered g) at h tells = about l l xs x (Answered g) at (others_told l xs x.by x.count (Answered g) refl (λ n. refl) refl tells)
@@ -239,12 +251,44 @@ module _ (l : Listener) (xs : List NoteShape) (x : NoteShape) (told : Note) (n :
   answered_as f Polled at h tells = absurd h
   answered_as f (Served ls) at h tells = absurd h
   answered_as f (Standing ls) at h tells = absurd h
+  answered_as f (Printed z) at h tells = absurd h
+  answered_as f (Faulted z) at h tells = absurd h
+
+  printed_as : (l' : Bor Line) (e : EventShape) → x.event ≡ e → IsEvent (event.Printed l') e → Tells l xs → Tells l (xs ++ x ∷ [])
+  printed_as l' (Printed z) at h tells = about l l xs x (Printed z) at (others_told l xs x.by x.count (Printed z) refl (λ n. refl) refl tells)
+  printed_as l' (Sent t k g) at h tells = absurd h
+  printed_as l' (Made m) at h tells = absurd h
+  printed_as l' (Answered g) at h tells = absurd h
+  printed_as l' Polled at h tells = absurd h
+  printed_as l' (Served ls) at h tells = absurd h
+  printed_as l' (Standing ls) at h tells = absurd h
+  printed_as l' (Faulted z) at h tells = absurd h
+
+  faulted_as : (f : Fault) (e : EventShape) → x.event ≡ e → IsEvent (event.Faulted f) e → Tells l xs → Tells l (xs ++ x ∷ [])
+  faulted_as f (Faulted z) at h tells = about l l xs x (Faulted z) at (others_told l xs x.by x.count (Faulted z) refl (λ n. refl) refl tells)
+  faulted_as f (Sent t k g) at h tells = absurd h
+  faulted_as f (Made m) at h tells = absurd h
+  faulted_as f (Answered g) at h tells = absurd h
+  faulted_as f Polled at h tells = absurd h
+  faulted_as f (Served ls) at h tells = absurd h
+  faulted_as f (Standing ls) at h tells = absurd h
+  faulted_as f (Printed z) at h tells = absurd h
 
   pub noted_made : (m : Bor Name) → told.event ≡ event.Made m → Tells l xs → Tells l (xs ++ x ∷ [])
   noted_made m is tells = made_as m x.event refl (subst (λ e. IsEvent e x.event) is n.event) tells
 
   pub noted_answered : (f : Bor FutureName) → told.event ≡ event.Answered f → Tells l xs → Tells l (xs ++ x ∷ [])
   noted_answered f is tells = answered_as f x.event refl (subst (λ e. IsEvent e x.event) is n.event) tells
+
+  pub noted_printed : (line : Bor Line) → told.event ≡ event.Printed line → Tells l xs → Tells l (xs ++ x ∷ [])
+  noted_printed line is tells = printed_as line x.event refl (subst (λ e. IsEvent e x.event) is n.event) tells
+
+  pub noted_faulted : (f : Fault) → told.event ≡ event.Faulted f → Tells l xs → Tells l (xs ++ x ∷ [])
+  noted_faulted f is tells = faulted_as f x.event refl (subst (λ e. IsEvent e x.event) is n.event) tells
+
+-- lines tell nothing
+pub deaf_to_lines : (l : Listener) → IsDeafToLines (Tells l)
+deaf_to_lines l xs n k line tells = others_told l xs n k (Printed line) refl (λ m. refl) refl tells
 
 -- A set more
 

@@ -112,6 +112,10 @@ impl Notes for Listener {
         true
     }
 
+    fn hears_lines(&self) -> bool {
+        false
+    }
+
     fn note(&mut self, note: Note) -> Result<(), AllocError> {
         match note.event {
             Event::Sent(to, label, _) => self.add_arrival(to, note.by, label),
@@ -120,6 +124,8 @@ impl Notes for Listener {
             Event::Polled => self.add_poll(note.by),
             Event::Made(_) => Ok(()),
             Event::Answered(_) => Ok(()),
+            Event::Printed(_) => Ok(()),
+            Event::Faulted(_) => Ok(()),
         }
     }
 }

@@ -1,4 +1,4 @@
-use Rattle.std.proofs.Common.{◌≡◌, ◌<◌, ℕ, Bool, true, false, List, Option, Some, is_some, refl, sym, ap, subst, ◌∙◌, arith}
+use Rattle.std.proofs.Common.{◌≡◌, ◌<◌, ℕ, Bool, true, false, List, Option, Some, None, is_some, refl, sym, ap, subst, ◌∙◌, arith}
 use Rattle.asp_model.specs.Chase.{chase}
 use Rattle.asp_model.specs.Configuration.{Configuration, From, requests_of}
 use Rattle.asp_model.specs.Names.{Name}
@@ -20,8 +20,8 @@ use Rattle.replay_one.specs.Bounds.{count_within, lists_within}
 use Rattle.replay_population.specs.Population.{HasPassedIn, found_in}
 use Rattle.replay_one.specs.declared.looks.Look.{Look}
 use Rattle.replay_one.specs.declared.looks.Look.TheVariants as look
-use Rattle.replay_one.specs.Round.{CanStep, IsLook, IsTurn, LogsTo}
-use Rattle.replay_one.proofs.LookLemmas.{absent_leaves, awaits_intent, awaits_rests, counted_leaves, done_leaves, done_intent, faulted_intent, held_rests, passed_for, poll_rests, polls_now, seen_passed, sends_now, serves_rests, serving_intent, steps_now, target_there}
+use Rattle.replay_one.specs.Round.{IsLook, IsTurn, LogsTo}
+use Rattle.replay_one.proofs.LookLemmas.{absent_leaves, awaits_intent, awaits_rests, counted_leaves, done_leaves, done_intent, faulted_intent, held_rests, passed_for, poll_rests, polls_now, polls_target, seen_passed, sends_now, sends_target, serves_rests, serving_intent, steps_now, steps_target, target_there}
 use Rattle.replay_population.proofs.PopulationLemmas.{found_at, found_stands, actor_closed, absent_nowhere, values_closed}
 use Rattle.replay_one.proofs.looks.look_at.Goals as goal
 
@@ -67,17 +67,17 @@ returns-then-count c =
     }
 
 -- whether its turn has come
-by_turn : (lists : Option ListsShape) (count : Name → ℕ) (c : Configuration) (ns : List Name) (n to : Name) (k : ℕ) (may : Bool) (l : Look) → IsTurn may k l → number_of to ns ≡ Some k → (may ≡ true → CanStep lists count c n) → (may ≡ false → RestsIn lists count c n × LogsTo c n to) → IsLook lists count c ns n l
-by_turn lists count c ns n to k true look.Steps t has can rests = can refl
-by_turn lists count c ns n to k true look.Leaves t has can rests = absurd t
-by_turn lists count c ns n to k true (look.Awaits f) t has can rests = absurd t
-by_turn lists count c ns n to k true look.Serves t has can rests = absurd t
-by_turn lists count c ns n to k true (look.Holds x) t has can rests = absurd t
-by_turn lists count c ns n to k false (look.Holds x) t has can rests = let r = rests refl in (r.0, (to, has ∙ ap Some (sym t), r.1))
-by_turn lists count c ns n to k false look.Leaves t has can rests = absurd t
-by_turn lists count c ns n to k false (look.Awaits f) t has can rests = absurd t
-by_turn lists count c ns n to k false look.Serves t has can rests = absurd t
-by_turn lists count c ns n to k false look.Steps t has can rests = absurd t
+by_turn : (lists : Option ListsShape) (count : Name → ℕ) (c : Configuration) (ns : List Name) (n to : Name) (k : ℕ) (o : Option ℕ) (may : Bool) (l : Look) → IsTurn may k o l → number_of to ns ≡ Some k → (may ≡ true → IsLook lists count c ns n (look.Steps o)) → (may ≡ false → RestsIn lists count c n × LogsTo c n to) → IsLook lists count c ns n l
+by_turn lists count c ns n to k o true (look.Steps t) h has can rests = subst (λ (u : Option ℕ). IsLook lists count c ns n (look.Steps u)) (sym h) (can refl)
+by_turn lists count c ns n to k o true look.Leaves h has can rests = absurd h
+by_turn lists count c ns n to k o true (look.Awaits f) h has can rests = absurd h
+by_turn lists count c ns n to k o true look.Serves h has can rests = absurd h
+by_turn lists count c ns n to k o true (look.Holds x) h has can rests = absurd h
+by_turn lists count c ns n to k o false (look.Holds x) h has can rests = let r = rests refl in (r.0, (to, has ∙ ap Some (sym h), r.1))
+by_turn lists count c ns n to k o false look.Leaves h has can rests = absurd h
+by_turn lists count c ns n to k o false (look.Awaits f) h has can rests = absurd h
+by_turn lists count c ns n to k o false look.Serves h has can rests = absurd h
+by_turn lists count c ns n to k o false (look.Steps t) h has can rests = absurd h
 
 pub returns-in-Steps : goal.returns-in-Steps
 returns-in-Steps c =
@@ -91,7 +91,9 @@ returns-in-Steps c =
           let count = c.count.ensures.count s.0 (requests_of k n) s.2 in
           let bound = c.count-2.ensures.count p.roster n h.population.roster c.requires.numbered has in
           let below : s.0.reductions < count_within b n = omega (arith, c.if-count.false, count, bound) in
-          steps_now (lists_within b) (count_within b) k n s.0 s.1 below (subst (IsOutlook n (intent_in k n)) c.in-Steps.is (intended p k n x c.in_ok-seen.seen.outlook h.population is c.in_ok-seen.ensures.outlook));
+          let o = subst (IsOutlook n (intent_in k n)) c.in-Steps.is (intended p k n x c.in_ok-seen.seen.outlook h.population is c.in_ok-seen.ensures.outlook) in
+          let y = steps_now (lists_within b) (count_within b) k n s.0 s.1 below o in
+          (y, steps_target (lists_within b) (count_within b) k n p.roster y o);
       passed = λ k n h has. seen_passed p k n x c.in_ok-seen.seen.passed h (found_at p n c.args.number has ∙ sym c.in-Some.ensures.value) c.in_ok-seen.ensures.passed;
     }
 
@@ -126,8 +128,10 @@ returns-in-Some-number-clause-look c = λ program k n h has.
     let number : number_of to.now p.roster ≡ Some c.in-Some-number.to = sym c.in-Some-number.ensures.number in
     let mine : c.name.result.now ≡ n = some_is (sym c.name.ensures.name ∙ number_named p.roster n c.args.number has) in
     let turn = c.may_come-may.ensures.may k to.now h.population number (target_there program k n to h.reached o) ∙ ap (λ (m : Name). is_next (lists_within b) k to.now (From m)) mine in
-    by_turn (lists_within b) (count_within b) k p.roster n to.now c.in-Some-number.to c.may_come-may.result c.in_turn.result.look c.in_turn.ensures.look number
-    (λ e. sends_now (lists_within b) (count_within b) program k n s.0 to h.reached s.1 below o (sym turn ∙ e))
+    by_turn (lists_within b) (count_within b) k p.roster n to.now c.in-Some-number.to (Some c.in-Some-number.to) c.may_come-may.result c.in_turn.result.look c.in_turn.ensures.look number
+    (λ e.
+    let y = sends_now (lists_within b) (count_within b) program k n s.0 to h.reached s.1 below o (sym turn ∙ e) in
+    (y, sends_target (lists_within b) (count_within b) k n p.roster y to c.in-Some-number.to o number))
     (λ e. held_rests (lists_within b) (count_within b) program k n to h.reached o (sym turn ∙ e))
 
 pub returns-in-Some-number-clause-passed : goal.returns-in-Some-number-clause-passed
@@ -150,8 +154,10 @@ returns-in-Polls c =
           let below : s.0.reductions < count_within b n = omega (arith, c.if-count.false, count, bound) in
           let o = subst (IsOutlook n (intent_in k n)) c.in-Polls.is (intended p k n x c.in_ok-seen.seen.outlook h.population is c.in_ok-seen.ensures.outlook) in
           let turn = c.may_poll-may.ensures.may k n h.population has (ap is_some s.1) in
-          by_turn (lists_within b) (count_within b) k p.roster n n c.args.number c.may_poll-may.result c.in_turn-in-Polls.result.look c.in_turn-in-Polls.ensures.look has
-          (λ e. polls_now (lists_within b) (count_within b) k n s.0 s.1 below o (sym turn ∙ e))
+          by_turn (lists_within b) (count_within b) k p.roster n n c.args.number None c.may_poll-may.result c.in_turn-in-Polls.result.look c.in_turn-in-Polls.ensures.look has
+          (λ e.
+          let y = polls_now (lists_within b) (count_within b) k n s.0 s.1 below o (sym turn ∙ e) in
+          (y, polls_target (lists_within b) (count_within b) k n p.roster y o))
           (λ e. poll_rests (lists_within b) (count_within b) k n s.0 s.1 o (sym turn ∙ e));
       passed = λ k n h has. subst (HasPassedIn k n) (sym c.in_turn-in-Polls.ensures.passed) (seen_passed p k n x c.in_ok-seen.seen.passed h (found_at p n c.args.number has ∙ sym c.in-Some.ensures.value) c.in_ok-seen.ensures.passed);
     }

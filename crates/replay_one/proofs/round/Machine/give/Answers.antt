@@ -18,8 +18,8 @@ use Rattle.replay_population.specs.Roster.{IsEntered}
 use Rattle.replay_one.specs.Schedule.{IsMoreReady, Seen, noted_in, ready_in, seen, sends_in}
 use Rattle.replay_population.proofs.RosterLemmas.{number_within}
 use Rattle.replay_one.proofs.ScheduleLemmas.{handed_by, more_names, more_twice}
-use Rattle.replay_one.proofs.GiveLemmas.{filled_handed, made_handed, nothing_handed, polled_handed, sent_handed}
-use Rattle.replay_population.proofs.GivingLemmas.{filled_is, filled_new, filled_root, made_alone, made_given, made_population, made_unlogged, nothing_population, polled_is, polled_there, sent_found, sent_is, sent_there}
+use Rattle.replay_one.proofs.GiveLemmas.{filled_handed, made_handed, no_target, nothing_handed, polled_handed, sent_handed, target_number}
+use Rattle.replay_population.proofs.GivingLemmas.{filled_is, filled_new, filled_root, made_alone, made_given, made_population, made_unlogged, nothing_population, polled_is, polled_there, sent_is, sent_there}
 use Rattle.replay_population.proofs.PopulationLemmas.{any_way, on_ok}
 use Rattle.replay_one.proofs.round.Machine.give.Goals as goal
 
@@ -66,17 +66,13 @@ returns-in_ok-made-in-Made c =
     }
 
 pub unreachable-requires : goal.unreachable-requires
-unreachable-requires c =
-    let p : Population = c.args.self.now.population in
-    let r = c.requires.giving in
-    let g : IsGiving p r.0 (given.Sent c.in-Sent.name c.in-Sent.request) r.2 r.3 = subst (λ g. IsGiving p r.0 g r.2 r.3) c.in-Sent.is r.4 in
-    sent_found p r.0 r.2 r.3 c.in-Sent.name c.in-Sent.request g (sym c.in_default.ensures.number)
+unreachable-requires c = no_target c.args.self.now.population c.args.number c.args.target c.args.given c.in-Sent._name c.in-Sent.request c.requires.giving c.in-Sent.is c.in_default.is
 
 pub wake_server-requires : goal.wake_server-requires
-wake_server-requires c = record { known = number_within c.args.self.now.population.roster c.in-Sent.name c.in-Some.to (sym c.in-Some.ensures.number) }
+wake_server-requires c = record { known = number_within c.args.self.now.population.roster c.in-Sent._name c.in-Some.to (target_number c.args.self.now.population c.args.number c.args.target c.args.given c.in-Sent._name c.in-Sent.request c.requires.giving c.in-Sent.is c.in-Some.to c.in-Some.is) }
 
 pub wake_next-requires-clause-known : goal.wake_next-requires-clause-known
-wake_next-requires-clause-known c = number_within c.send.new.self.roster c.in-Sent.name c.in-Some.to (ap (number_of c.in-Sent.name) c.in_ok-send-in-Sent.ensures.roster ∙ sym c.in-Some.ensures.number)
+wake_next-requires-clause-known c = number_within c.send.new.self.roster c.in-Sent._name c.in-Some.to (ap (number_of c.in-Sent._name) c.in_ok-send-in-Sent.ensures.roster ∙ target_number c.args.self.now.population c.args.number c.args.target c.args.given c.in-Sent._name c.in-Sent.request c.requires.giving c.in-Sent.is c.in-Some.to c.in-Some.is)
 
 pub wake_next-requires-in-Polled-clause-known : goal.wake_next-requires-in-Polled-clause-known
 wake_next-requires-in-Polled-clause-known c = let r = c.requires.giving in number_within c.args.self.now.population.roster r.0 c.args.number r.1
@@ -85,9 +81,9 @@ pub returns-in_ok-send-in-Sent : goal.returns-in_ok-send-in-Sent
 returns-in_ok-send-in-Sent c =
     let p : Population = c.args.self.now.population in
     let q : Population = c.send.new.self in
-    let name : Name = c.in-Sent.name in
+    let name : Name = c.in-Sent._name in
     let to = c.in-Some.to in
-    let target : number_of name p.roster ≡ Some to = sym c.in-Some.ensures.number in
+    let target : number_of name p.roster ≡ Some to = target_number c.args.self.now.population c.args.number c.args.target c.args.given c.in-Sent._name c.in-Sent.request c.requires.giving c.in-Sent.is c.in-Some.to c.in-Some.is in
     let r = c.in-Sent.request in
     let lists = lists_within c.args.bounds.now in
     let roster : q.roster ≡ p.roster = c.in_ok-send-in-Sent.ensures.roster in
@@ -120,8 +116,8 @@ pub send-requires : goal.send-requires
 send-requires c =
     let p : Population = c.args.self.now.population in
     let r = c.requires.giving in
-    let g : IsGiving p r.0 (given.Sent c.in-Sent.name c.in-Sent.request) r.2 r.3 = subst (λ g. IsGiving p r.0 g r.2 r.3) c.in-Sent.is r.4 in
-    record { code = subst (λ k. AreActorsOf k p) (sym g.here.coded) g.here.population.actors; known = (c.in-Sent.name, sym c.in-Some.ensures.number) }
+    let g : IsGiving p r.0 (given.Sent c.in-Sent._name c.in-Sent.request) r.2 r.3 = subst (λ g. IsGiving p r.0 g r.2 r.3) c.in-Sent.is r.4 in
+    record { code = subst (λ k. AreActorsOf k p) (sym g.here.coded) g.here.population.actors; known = (c.in-Sent._name, target_number c.args.self.now.population c.args.number c.args.target c.args.given c.in-Sent._name c.in-Sent.request c.requires.giving c.in-Sent.is c.in-Some.to c.in-Some.is) }
 
 pub fill-requires : goal.fill-requires
 fill-requires c =

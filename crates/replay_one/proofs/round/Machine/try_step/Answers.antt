@@ -9,15 +9,12 @@ use Rattle.replay_one.specs.declared.schedule.Schedule.{Schedule}
 use Rattle.replay_one.specs.declared.round.Machine.{Machine}
 use Rattle.replay_one.specs.Bounds.{count_within, lists_within}
 use Rattle.replay_population.specs.declared.population.Population.{Population}
-use Rattle.replay_population.specs.Population.{IsPassing}
+use Rattle.replay_population.specs.Population.{IsPassing, with_activity, with_poll}
 use Rattle.replay_population.specs.Giving.{IsGiving}
 use Rattle.replay_one.specs.Schedule.{IsNoted, IsTaken, seen}
-use Rattle.replay_one.specs.Round.{CanStep, IsLook, IsRunWith, seen_in}
+use Rattle.replay_one.specs.Round.{CanStep, IsLook, IsRunWith, IsTargetOf, seen_in}
 use Rattle.replay_population.proofs.RosterLemmas.{number_named, number_within}
-use Rattle.law_chases.proofs.FutureLemmas.{some_is}
-use Rattle.asp_model.specs.Intent.{Acts}
-use Rattle.step_activity.specs.Effects.{IsGiven}
-use Rattle.replay_one.specs.Notes.{notes_of}
+use Rattle.replay_one.proofs.TellLemmas.{acted_at}
 use Rattle.replay_one.proofs.LookLemmas.{awaits_there}
 use Rattle.replay_one.proofs.ReadyLemmas.{ascend_on}
 use Rattle.replay_population.proofs.GivingLemmas.{reached_hand_on}
@@ -77,9 +74,17 @@ give-requires-clause-giving g c =
     let b : Bounds = c.args.bounds.now in
     let m : Machine = c.args.self.now in
     let n : Name = r.0 in
-    let x : CanStep (lists_within b) (count_within b) r.3 n = subst (IsLook (lists_within b) (count_within b) r.3 m.population.roster n) c.in-Steps.is (c.in_ok-view.ensures.look r.2 r.3 n (but_reached b m n r.2 r.3 r.4) r.1) in
-    let acts = c.in_ok-given-in-Steps.ensures.acts r.3 x.effect n r.4.run.population r.1 x.intends in
-    (n, ap (number_of n) c.in_ok-given-in-Steps.ensures.roster ∙ r.1, r.3, x.effect, record { free = reached_hand_on r.2 r.3 n x.effect r.4.run.bare r.4.run.reached x.intends; given = acts.0; here = acts.1 })
+    let roster = c.in_ok-given-in-Steps.ensures.roster in
+    let look = subst (IsLook (lists_within b) (count_within b) r.3 m.population.roster n) c.in-Steps.is (c.in_ok-view.ensures.look r.2 r.3 n (but_reached b m n r.2 r.3 r.4) r.1) in
+    let x : CanStep (lists_within b) (count_within b) r.3 n = look.0 in
+    let acts = c.in_ok-given-in-Steps.ensures.acts r.3 x.effect n r.4.run.population r.1 x.intends in (
+      n,
+      ap (number_of n) roster ∙ r.1,
+      r.3,
+      x.effect,
+      record { free = reached_hand_on r.2 r.3 n x.effect r.4.run.bare r.4.run.reached x.intends; given = acts.0; here = acts.1 },
+      subst (λ (ms : List Name). IsTargetOf ms x.effect.sent c.in-Steps.target) (sym roster) look.1,
+    )
 
 pub returns-in_ok-wake-in-Steps-clause-tried : goal.returns-in_ok-wake-in-Steps-clause-tried
 returns-in_ok-wake-in-Steps-clause-tried g c = λ program k n has h.
@@ -91,7 +96,8 @@ returns-in_ok-wake-in-Steps-clause-tried g c = λ program k n has h.
     let roster : p.roster ≡ ns = c.in_ok-given-in-Steps.ensures.roster in
     let now : number_of n p.roster ≡ Some c.args.number = ap (number_of n) roster ∙ has in
     let leads = c.in_ok-give-in-Steps.ensures.leads in
-    let x : CanStep (lists_within b) (count_within b) k n = subst (IsLook (lists_within b) (count_within b) k ns n) c.in-Steps.is (c.in_ok-view.ensures.look program k n (but_reached b m n program k h) has) in
+    let look = subst (IsLook (lists_within b) (count_within b) k ns n) c.in-Steps.is (c.in_ok-view.ensures.look program k n (but_reached b m n program k h) has) in
+    let x : CanStep (lists_within b) (count_within b) k n = look.0 in
     let acts = c.in_ok-given-in-Steps.ensures.acts k x.effect n h.run.population has x.intends in
     let giving : IsGiving p n c.in_ok-given-in-Steps.given k x.effect = record { free = reached_hand_on program k n x.effect h.run.bare h.run.reached x.intends; given = acts.0; here = acts.1 } in
     let population = c.in_ok-give-in-Steps.ensures.population k x.effect n now giving in
@@ -144,24 +150,25 @@ before-requires-clause-closed g c =
 pub before-requires-clause-known : goal.before-requires-clause-known
 before-requires-clause-known g c = let r = c.requires.running in (r.0, r.1)
 
-pub name-requires : goal.name-requires
-name-requires g c =
+pub tell-requires : goal.tell-requires
+tell-requires g c =
     let r = c.requires.running in
-    record { within = number_within c.act.new.self.roster r.0 c.args.number (ap (number_of r.0) c.in_ok-given-in-Steps.ensures.roster ∙ r.1) }
+    record { known = (r.0, ap (number_of r.0) c.in_ok-given-in-Steps.ensures.roster ∙ r.1) }
 
 pub returns-in_ok-wake-in-Steps-clause-told : goal.returns-in_ok-wake-in-Steps-clause-told
 returns-in_ok-wake-in-Steps-clause-told g c = λ program k n xs has h t.
     let b : Bounds = c.args.bounds.now in
     let m : Machine = c.args.self.now in
-    let p : Population = c.act.new.self in
-    let x : CanStep (lists_within b) (count_within b) k n = subst (IsLook (lists_within b) (count_within b) k m.population.roster n) c.in-Steps.is (c.in_ok-view.ensures.look program k n (but_reached b m n program k h) has) in
+    let look = subst (IsLook (lists_within b) (count_within b) k m.population.roster n) c.in-Steps.is (c.in_ok-view.ensures.look program k n (but_reached b m n program k h) has) in
+    let x : CanStep (lists_within b) (count_within b) k n = look.0 in
+    let given = c.in_ok-given-in-Steps.given in
     let acts = c.in_ok-given-in-Steps.ensures.acts k x.effect n h.run.population has x.intends in
-    let now : number_of n p.roster ≡ Some c.args.number = ap (number_of n) c.in_ok-given-in-Steps.ensures.roster ∙ has in
-    let name : c.name.result.now ≡ n = some_is (sym c.name.ensures.name ∙ number_named p.roster n c.args.number now) in
+    let now = ap (number_of n) c.in_ok-given-in-Steps.ensures.roster ∙ has in
     let known = c.in_ok-known-in-Steps.ensures.known k x.activity n h.run.population has x.there in
-    let told = c.in_ok-tell-in-Steps.ensures.told xs x.activity x.effect t known (subst (λ (w : Name). IsGiven w x.effect c.in_ok-given-in-Steps.given) (sym name) acts.0) in
+    let last = with_poll n given (with_activity n x.effect.own k) in
+    let told = c.in_ok-tell-in-Steps.ensures.told xs last n x.activity x.effect t known acts.1.population now (acted_at n given k x.effect.own) acts.0 in
     let next = returns-in_ok-wake-in-Steps-clause-tried g c program k n has h in
-    subst (λ ys. g.N.Notes.tells c.tell.new.notes (xs ++ ys)) (ap (λ (w : Name). notes_of w x.activity (Acts x.effect)) name ∙ sym (step_noted b program k n m x next.0 h next.1)) told
+    subst (λ ys. g.N.Notes.tells c.tell.new.notes (xs ++ ys)) (sym (step_noted b program k n m x next.0 h next.1)) told
 
 pub returns-in_ok-wake-in-Steps-clause-order : goal.returns-in_ok-wake-in-Steps-clause-order
 returns-in_ok-wake-in-Steps-clause-order g c = λ h.

@@ -1,5 +1,5 @@
 use Rattle.std.proofs.lemmas.Result.{on_ok_weaker}
-use Rattle.replay_services.proofs.ListenerLemmas.{noted_answered, noted_made, noted_polled, noted_sent, noted_served, noted_standing}
+use Rattle.replay_services.proofs.ListenerLemmas.{noted_answered, noted_faulted, noted_made, noted_polled, noted_printed, noted_sent, noted_served, noted_standing}
 use Rattle.replay_services.proofs.listener.ListenerNotes.note.Goals as goal
 
 pub returns-in-Sent : goal.returns-in-Sent
@@ -30,4 +30,14 @@ returns-in-Made c = record {
 pub returns-in-Answered : goal.returns-in-Answered
 returns-in-Answered c = record {
   told = λ xs x tells n. noted_answered c.args.self.now xs x c.args.note n c.in-Answered.field-0 c.in-Answered.is tells;
+}
+
+pub returns-in-Printed : goal.returns-in-Printed
+returns-in-Printed c = record {
+  told = λ xs x tells n. noted_printed c.args.self.now xs x c.args.note n c.in-Printed.field-0 c.in-Printed.is tells;
+}
+
+pub returns-in-Faulted : goal.returns-in-Faulted
+returns-in-Faulted c = record {
+  told = λ xs x tells n. noted_faulted c.args.self.now xs x c.args.note n c.in-Faulted.field-0 c.in-Faulted.is tells;
 }
