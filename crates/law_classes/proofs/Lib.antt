@@ -9,3 +9,4 @@ pub mod StateLemmas
 pub mod RunLemmas
 pub mod WithinLemmas
 pub mod ClassLaws
+pub mod RequestLemmas

@@ -82,15 +82,15 @@ module _ (K : Text → ℕ) (program : Tree) where
 
   -- The first step of a run, from a configuration that looks so
 
-  record Moved (lists : ClassLogs) (c : Configuration) (logs : ClassLogs) (l : Name) (w : State) : Type 0 where
-    effect : Effect
-    takes : Takes None c l effect
-    turn : IsTurn lists logs (entry_of K c l effect)
-    asks : AsksInClass K c l
-    then : view K (with_effect l effect c) ≡ w.0
-    enters : with_entry (entry_of K c l effect) logs ≡ w.1
+  pub record Moved (lists : ClassLogs) (c : Configuration) (logs : ClassLogs) (l : Name) (w : State) : Type 0 where
+    pub effect : Effect
+    pub takes : Takes None c l effect
+    pub turn : IsTurn lists logs (entry_of K c l effect)
+    pub asks : AsksInClass K c l
+    pub then : view K (with_effect l effect c) ≡ w.0
+    pub enters : with_entry (entry_of K c l effect) logs ≡ w.1
 
-  moved : (lists : ClassLogs) (c : Configuration) (logs : ClassLogs) (l : Name) (w : State) → IsReached program c → ClassStep K program lists l (view K c, logs) w → Moved lists c logs l w
+  pub moved : (lists : ClassLogs) (c : Configuration) (logs : ClassLogs) (l : Name) (w : State) → IsReached program c → ClassStep K program lists l (view K c, logs) w → Moved lists c logs l w
   moved lists c logs l w reached s =
       let back = view_alike K s.at c s.is in
       let x = takes_alike K program s.at c l s.effect s.reached reached back s.asks (takes_of K program lists l (view K c, logs) w s) in

@@ -3,3 +3,4 @@ pub mod Alike
 pub mod Runs
 pub mod Families
 pub mod Complete
+pub mod Requests

@@ -2,6 +2,7 @@
 //! so.
 
 ghost use Rattle.law_classes.specs.Complete.{AlikeOutcomes, AlikeStatuses, AlikeSteps, FittingAreWithin, RunsEnd, RunsLeadOn, StuckRunsAreAlike};
+ghost use Rattle.law_classes.specs.Requests.{RestingRunsAreFull, StuckReplaysAreEnds};
 
 /// A step of who asks in one class is one in each configuration that is alike.
 pub fn alike_steps()
@@ -37,4 +38,15 @@ pub fn runs_end()
 /// step.
 pub fn fitting_are_within()
     ensures { FittingAreWithin }
+{}
+
+/// A replay after which nobody can step is an end by classes, if nobody polled and all asked in one
+/// class.
+pub fn stuck_replays_are_ends()
+    ensures { StuckReplaysAreEnds }
+{}
+
+/// A run within lists with which those of an end begin has gone as far as it can, if nobody is next.
+pub fn resting_runs_are_full()
+    ensures { RestingRunsAreFull }
 {}

@@ -5,6 +5,6 @@
 mod classes;
 
 pub use classes::{
-    alike_outcomes, alike_statuses, alike_steps, fitting_are_within, runs_end, runs_lead_on,
-    stuck_runs_are_alike,
+    alike_outcomes, alike_statuses, alike_steps, fitting_are_within, resting_runs_are_full,
+    runs_end, runs_lead_on, stuck_replays_are_ends, stuck_runs_are_alike,
 };
