@@ -1,17 +1,20 @@
 -- Runs in which nobody asks what is pending, as runs under lists by classes.
-use Rattle.std.specs.Prelude.{◌≡◌, ◌==◌, ◌&&◌, ◌+◌, ◌-◌, ◌≤◌, ℕ, zero, suc, cond, true, false, Bool, List, [], ◌∷◌, ◌++◌, Option, Some, None, map, is_some}
+use Rattle.std.specs.Prelude.{◌≡◌, ◌==◌, ◌&&◌, ◌||◌, ◌+◌, ◌-◌, ◌≤◌, ℕ, zero, suc, cond, true, false, Bool, List, [], ◌∷◌, ◌++◌, Option, Some, None, map, is_some}
 use Rattle.std.proofs.Common.{refl, sym, ap, subst, ◌∙◌, arith, inl, inr, ⊎_elim}
 use Rattle.std.proofs.lemmas.Bool.{eq-eqb, eqb-true}
 use Rattle.std.proofs.lemmas.List.{append-nil, map-append}
+use Rattle.std.proofs.lemmas.Slice.Eq.{bytes_eq-Decides}
+use Rattle.std.specs.List.{Contains}
 use Rattle.std.specs.FinMap.{find}
 use Rattle.law_steps.specs.Systems.{Run}
-use Rattle.asp_model.specs.Names.{Name, Text, name_cmp, same_name}
-use Rattle.asp_model.specs.Term.{Head, Serve, Pending, Tree}
+use Rattle.asp_model.specs.Names.{Name, Text, name_cmp, same_name, same_text}
+use Rattle.asp_model.specs.Term.{Head, Serve, Pending, Tree, has_text}
 use Rattle.asp_model.specs.Split.{Split, Stands, Splits, split}
 use Rattle.asp_model.specs.Store.{CellShape, cell}
 use Rattle.asp_model.specs.Chase.{chase}
 use Rattle.asp_model.specs.Configuration.{RequestShape, ReceptionShape, From, Poll, Activity, Configuration, or_none, start, requests_of, log_of}
 use Rattle.asp_model.specs.Intent.{Effect, Acts, labels_served}
+use Rattle.asp_model.specs.Services.{ArrivalShape}
 use Rattle.asp_model.specs.Step.{ListsShape, intent_in, with_effect, with_last}
 use Rattle.asp_model.specs.Replay.{CountsShape, total, replay}
 use Rattle.law_steps.specs.Reached.{IsReached, RunsTo}
@@ -25,13 +28,14 @@ use Rattle.law_steps.proofs.ListLemmas.{prefix_both, prefix_same, grown_by, logg
 use Rattle.law_steps.proofs.ReachedLemmas.{reached_right, start_is_reached}
 use Rattle.law_steps.proofs.SystemCounts.{run_both}
 use Rattle.law_steps.proofs.SystemJoins.{stopped_end}
-use Rattle.law_services.specs.Services.{set_of_head, set_by, set_at, has_poll, replayed_to}
+use Rattle.law_services.specs.Services.{arrival_of, set_of_head, set_by, set_at, has_poll, replayed_to}
+use Rattle.law_services.specs.Told.{HaveSameTexts, IsKept, entry_at}
 use Rattle.law_services.proofs.BareLemmas.{is_pending, pending_by, calm_at}
 use Rattle.law_services.proofs.EndLemmas.{replay_run}
 use Rattle.law_classes.specs.Alike.{in_class, labels_of_asker, labels_in, asked_of, asked_at, AreOneClass, AsksInClass}
 use Rattle.law_classes.specs.Runs.{view, ClassLogs, entered, entry_of, with_entry, IsTurn, ClassStep, first_state}
 use Rattle.law_classes.specs.Families.{ClassEnd, state_of, IsInside, IsClassEnd}
-use Rattle.law_classes.specs.Requests.{request_logs, NobodyPolled, StuckReplaysAreEnds, RestingRunsAreFull}
+use Rattle.law_classes.specs.Requests.{request_logs, NobodyPolled, StuckReplaysAreEnds, RestingRunsAreFull, arrived_in, arrival_logs, ServicesShowClasses}
 use Rattle.law_classes.proofs.BoxLemmas.{class_more}
 use Rattle.law_classes.proofs.AlikeLemmas.{sent_to, target_box, other_box}
 use Rattle.law_classes.proofs.EntryLemmas.{grown_entry, turn_in}
@@ -240,3 +244,35 @@ pub stuck_replays_are_ends : StuckReplaysAreEnds
 stuck_replays_are_ends K program all counts stuck unpolled serves asks =
     let w = walk_at K program all counts unpolled (λ k n a ls is at. serves n ls (k, a, is, at)) (total counts) (omega arith) in
     record { reached = w.reached; names = w.names; run = w.run; stuck = stuck; asks = asks }
+
+-- Services
+
+arrived_more : (r : RequestShape) (qs : List RequestShape) (xs : List ArrivalShape) (b : Bool) → map (λ (q : RequestShape). From q.sender) qs ≡ map (λ (x : ArrivalShape). From x.sender) xs → map (λ (q : RequestShape). From q.sender) (elim b [ true ↦ r ∷ qs | false ↦ qs ]) ≡ map (λ (x : ArrivalShape). From x.sender) (elim b [ true ↦ arrival_of r ∷ xs | false ↦ xs ])
+arrived_more r qs xs true more = ap (λ (l : List ReceptionShape). From r.sender ∷ l) more
+arrived_more r qs xs false more = more
+
+arrived_alike : (K : Text → ℕ) (κ : ℕ) (rs : List RequestShape) → map (λ (r : RequestShape). From r.sender) (in_class K κ rs) ≡ map (λ (x : ArrivalShape). From x.sender) (arrived_in K κ (map arrival_of rs))
+arrived_alike K κ [] = refl
+arrived_alike K κ (r ∷ rs) = arrived_more r (in_class K κ rs) (arrived_in K κ (map arrival_of rs)) (K r.label == κ) (arrived_alike K κ rs)
+
+same_itself : (x : Text) → same_text x x ≡ true
+same_itself x = (bytes_eq-Decides x x).1 refl
+
+-- what has the texts of one class is of one class
+one_class_same : (K : Text → ℕ) (others labels : List Text) → HaveSameTexts others labels → AreOneClass K others → AreOneClass K labels
+one_class_same K others [] same one = λ l h. none_true h
+one_class_same K others (x ∷ xs) same one = λ l h. one l (same l ∙ h) ∙ sym (one x (same x ∙ ap (λ b. b || has_text x xs) (same_itself x)))
+
+kept_one_class : (K : Text → ℕ) (sets : List (List Text)) (labels : List Text) → ((set : List Text) → Contains sets set → AreOneClass K set) → IsKept sets labels → AreOneClass K labels
+kept_one_class K sets labels one (inl none) = subst (AreOneClass K) (sym none) (λ l h. none_true h)
+kept_one_class K sets labels one (inr kept) = one_class_same K kept.0 labels kept.2 (one kept.0 kept.1)
+
+pub services_show_classes : ServicesShowClasses
+services_show_classes K program all counts s shown = record {
+  logs = λ i q κ. at q κ i;
+  unpolled = λ none n. sym (shown.polled n) ∙ none n;
+  serves = λ one n labels stood. kept_one_class K (entry_at s n).sets labels (one n) (shown.sets n labels stood);
+}
+  where
+    at : (q : Name) (κ : ℕ) → request_logs K (replay program all counts) q κ ≡ arrival_logs K s q κ
+    at q κ = arrived_alike K κ (requests_of (replay program all counts) q) ∙ ap (λ (xs : List ArrivalShape). map (λ (x : ArrivalShape). From x.sender) (arrived_in K κ xs)) (sym (shown.arrivals q))

@@ -1,14 +1,17 @@
 -- Runs in which nobody asks what is pending: their logs by classes are those of the requests.
-use Rattle.std.specs.Prelude.{◌≡◌, ℕ, List, None, Some, length, map, false}
+use Rattle.std.specs.Prelude.{◌≡◌, ◌==◌, ℕ, true, false, List, [], ◌∷◌, None, Some, length, map}
+use Rattle.std.specs.List.{Contains}
 use Rattle.asp_model.specs.Names.{Name, Text}
 use Rattle.asp_model.specs.Term.{Tree}
 use Rattle.asp_model.specs.Configuration.{From, Configuration, start, requests_of, log_of}
 use Rattle.asp_model.specs.Intent.{Effect, Acts}
+use Rattle.asp_model.specs.Services.{ArrivalShape, ServicesShape}
 use Rattle.asp_model.specs.Step.{ListsShape, intent_in, reception_at}
 use Rattle.asp_model.specs.Status.{IsStuck}
 use Rattle.asp_model.specs.Replay.{CountsShape, replay}
 use Rattle.law_steps.specs.Reached.{RunsTo}
 use Rattle.law_services.specs.Services.{StoodAt, has_poll}
+use Rattle.law_services.specs.Told.{entry_at, AreServicesOf}
 use Rattle.law_classes.specs.Alike.{in_class, AreOneClass, AsksInClass}
 use Rattle.law_classes.specs.Runs.{ClassLogs, Entry, entry_of}
 use Rattle.law_classes.specs.Families.{ClassEnd, IsInside, IsClassEnd, IsFull}
@@ -45,3 +48,24 @@ RestingRunsAreFull = (K : Text → ℕ) (program : Tree) (x : ClassEnd) (lists :
     (c : Configuration) → IsClassEnd K program x → IsInside lists x.1 → RunsTo None (start program) names c
     → NobodyPolled c → IsInside (request_logs K c) lists → NobodyIsNext K lists c
     → IsFull K program lists (c, request_logs K c)
+
+-- the arrivals with labels of a class, in order
+abbrev pub arrived_in : (Text → ℕ) → ℕ → List ArrivalShape → List ArrivalShape
+arrived_in K κ [] = []
+arrived_in K κ (x ∷ xs) = elim (K x.label == κ) [ true ↦ x ∷ arrived_in K κ xs | false ↦ arrived_in K κ xs ]
+
+-- the logs by classes that services show: for each class of each activity, who sent what arrived
+abbrev pub arrival_logs : (Text → ℕ) → ServicesShape → ClassLogs
+arrival_logs K s q κ = map (λ x. From x.sender) (arrived_in K κ (entry_at s q).arrivals)
+
+-- the services of a replay show its logs by classes, that nobody polled, and that each `serve` asked in one class
+pub record AreShown (K : Text → ℕ) (program : Tree) (lists : ListsShape) (counts : CountsShape)
+    (s : ServicesShape) : Type 0 where
+  pub logs : request_logs K (replay program lists counts) ≡ arrival_logs K s
+  pub unpolled : ((n : Name) → (entry_at s n).polled ≡ false) → NobodyPolled (replay program lists counts)
+  pub serves : ((n : Name) (labels : List Text) → Contains (entry_at s n).sets labels → AreOneClass K labels)
+      → ServesInClasses K program lists counts
+
+abbrev pub ServicesShowClasses : Type 0
+ServicesShowClasses = (K : Text → ℕ) (program : Tree) (lists : ListsShape) (counts : CountsShape) (s : ServicesShape)
+    → AreServicesOf program lists counts s → AreShown K program lists counts s

@@ -2,7 +2,7 @@
 //! so.
 
 ghost use Rattle.law_classes.specs.Complete.{AlikeOutcomes, AlikeStatuses, AlikeSteps, FittingAreWithin, RunsEnd, RunsLeadOn, StuckRunsAreAlike};
-ghost use Rattle.law_classes.specs.Requests.{RestingRunsAreFull, StuckReplaysAreEnds};
+ghost use Rattle.law_classes.specs.Requests.{RestingRunsAreFull, ServicesShowClasses, StuckReplaysAreEnds};
 
 /// A step of who asks in one class is one in each configuration that is alike.
 pub fn alike_steps()
@@ -49,4 +49,10 @@ pub fn stuck_replays_are_ends()
 /// A run within lists with which those of an end begin has gone as far as it can, if nobody is next.
 pub fn resting_runs_are_full()
     ensures { RestingRunsAreFull }
+{}
+
+/// The services of a replay show its logs by classes, that nobody polled, and that all asked in one
+/// class.
+pub fn services_show_classes()
+    ensures { ServicesShowClasses }
 {}

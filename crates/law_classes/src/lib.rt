@@ -6,5 +6,5 @@ mod classes;
 
 pub use classes::{
     alike_outcomes, alike_statuses, alike_steps, fitting_are_within, resting_runs_are_full,
-    runs_end, runs_lead_on, stuck_replays_are_ends, stuck_runs_are_alike,
+    runs_end, runs_lead_on, services_show_classes, stuck_replays_are_ends, stuck_runs_are_alike,
 };
