@@ -8,4 +8,4 @@ mod logs;
 
 pub use ends::{FoundEnd, Offer, Sending};
 pub use laws::closed_is_complete;
-pub use logs::ClassLog;
+pub use logs::{ClassLog, begin_with};
