@@ -139,7 +139,7 @@ module _ (c : Configuration) (s : IsSound c) where
 
   -- Who waits for nobody
 
-  abbrev IsCaused : Name → Option Cause → Type 0
+  abbrev pub IsCaused : Name → Option Cause → Type 0
   IsCaused n o = (x : Cause) × (o ≡ Some x) × Holds c n x
 
   abbrev value_cause : Name → Option (Course FutureShape) → Option Cause
@@ -168,7 +168,7 @@ module _ (c : Configuration) (s : IsSound c) where
       by_intent (Acts e) is h = let r = sound_intents c s in no_some (sym (r.stuck stuck m) ∙ r.step m e is)
       by_intent (Rests status) is h = none_rests_running c m (is ∙ ap Rests h)
 
-  rest_caused : (n m : Name) → IsStuck c → ComesTo (waited c) n m → waited c m ≡ None → IsCaused n (cause_by c m (status_of c m))
+  pub rest_caused : (n m : Name) → IsStuck c → ComesTo (waited c) n m → waited c m ≡ None → IsCaused n (cause_by c m (status_of c m))
   rest_caused n m stuck behind last = by_status (status_of c m) refl
     where
       by_value : (f : FutureShape) → status_of c m ≡ Awaits f → (o : Option ParcelShape) → find future_cmp f c.futures ≡ o → IsCaused n (cause_by c m (Awaits f))

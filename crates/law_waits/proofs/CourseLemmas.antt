@@ -38,7 +38,7 @@ module _ {X : Type 0} (same : X → X → Bool) (tied : (x y : X) → same x y �
 
   -- Lists without repetitions
 
-  abbrev AreApart : List X → Type 0
+  abbrev pub AreApart : List X → Type 0
   AreApart [] = Unit {0}
   AreApart (x ∷ xs) = (has_item same x xs ≡ false) × AreApart xs
 
@@ -46,7 +46,7 @@ module _ {X : Type 0} (same : X → X → Bool) (tied : (x y : X) → same x y �
   none_more x y [] h k = or_both (same x y) false h refl
   none_more x y (z ∷ xs) h k = or_both (same x z) _ (or_first (same x z) _ k) (none_more x y xs h (or_second (same x z) _ k))
 
-  apart_more : (y : X) (xs : List X) → AreApart xs → has_item same y xs ≡ false → AreApart (xs ++ y ∷ [])
+  pub apart_more : (y : X) (xs : List X) → AreApart xs → has_item same y xs ≡ false → AreApart (xs ++ y ∷ [])
   apart_more y [] a h = (refl, tt)
   apart_more y (x ∷ xs) a h = (none_more x y xs (turned y x (or_first (same y x) _ h)) a.0, apart_more y xs a.1 (or_second (same y x) _ h))
 
@@ -92,7 +92,7 @@ module _ {X : Type 0} (same : X → X → Bool) (tied : (x y : X) → same x y �
   -- Courses
 
   module _ (next : X → Option X) where
-    abbrev Came : X → List X → X → Type 0
+    abbrev pub Came : X → List X → X → Type 0
     Came first [] x = first ≡ x
     Came first (b ∷ bs) x = (first ≡ b) × GoesThrough next b bs x
 
@@ -100,11 +100,11 @@ module _ {X : Type 0} (same : X → X → Bool) (tied : (x y : X) → same x y �
     through_more b [] x y g e = (g, e)
     through_more b (d ∷ bs) x y g e = (g.0, through_more d bs x y g.1 e)
 
-    came_more : (first : X) (before : List X) (x y : X) → Came first before x → next x ≡ Some y → Came first (before ++ x ∷ []) y
+    pub came_more : (first : X) (before : List X) (x y : X) → Came first before x → next x ≡ Some y → Came first (before ++ x ∷ []) y
     came_more first [] x y c e = (c, e)
     came_more first (b ∷ bs) x y c e = (c.0, through_more b bs x y c.1 e)
 
-    comes_to : (first : X) (before : List X) (x : X) → Came first before x → ComesTo next first x
+    pub comes_to : (first : X) (before : List X) (x : X) → Came first before x → ComesTo next first x
     comes_to first [] x c = inl c
     comes_to first (b ∷ bs) x c = inr (bs, subst (λ z. GoesThrough next z bs x) (sym c.0) c.1)
 
@@ -126,7 +126,7 @@ module _ {X : Type 0} (same : X → X → Bool) (tied : (x y : X) → same x y �
       | false ↦ λ e. others_apart bs y a.1
     ] refl
 
-    circle_of : (first : X) (bs : List X) (y : X) → Came first bs y → AreApart bs → has_item same y bs ≡ true → IsCircle next y (items_after same y bs)
+    pub circle_of : (first : X) (bs : List X) (y : X) → Came first bs y → AreApart bs → has_item same y bs ≡ true → IsCircle next y (items_after same y bs)
     circle_of first [] y c a h = none_true h
     circle_of first (b ∷ bs) y c a h = (part b bs y c.1 h, others_apart (b ∷ bs) y a)
 

@@ -1,0 +1,4 @@
+-- in reading order
+pub mod Ways
+pub mod Walks
+pub mod Whys
