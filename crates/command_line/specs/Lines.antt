@@ -4,7 +4,7 @@ use Rattle.clap.specs.Walk.{Text}
 use Rattle.update_policy.specs.declared.strategy.Strategy.{Strategy}
 use Rattle.update_policy.specs.declared.strategy.Strategy.TheVariants.{Lazy, Forward, Message}
 use Rattle.command_line.specs.Settings.{SettingsShape, usual}
-use Rattle.command_line.specs.Task.{TaskShape, Runs, Checks, Rules, Journals, Replays, Makes, task_of}
+use Rattle.command_line.specs.Task.{TaskShape, Runs, Checks, Rules, Journals, Replays, Compares, Makes, task_of}
 
 abbrev pub Asks : List Text → TaskShape → Type 0
 Asks words task = task_of words ≡ Some task
@@ -43,6 +43,8 @@ pub record AcceptedLines : Type 0 where
   pub replay : Asks (one ∷ codes "--replay=one.report" ∷ []) (Replays one (codes "one.report") None)
   pub replay_hyphen : Asks (one ∷ codes "--replay" ∷ codes "-" ∷ []) (Replays one (codes "-") None)
   pub hyphen_behind : Asks (one ∷ codes "--replay=-r" ∷ []) (Replays one (codes "-r") None)
+  pub same : Asks (one ∷ codes "--replay=one.report" ∷ codes "--same=two.report" ∷ [])
+      (Compares one (codes "one.report") (codes "two.report"))
   pub state : Asks (one ∷ codes "--state=0" ∷ []) (Runs one usual (Some 0))
   pub state_budget : Asks (codes "--state" ∷ codes "4" ∷ one ∷ codes "--budget=5" ∷ [])
       (Runs one (with_budget 5) (Some 4))
@@ -85,6 +87,10 @@ pub record RefusedCombinations : Type 0 where
   pub journal_state : IsRefused (one ∷ codes "--journal" ∷ codes "--state=1" ∷ [])
   pub journal_determinate : IsRefused (one ∷ codes "--journal" ∷ codes "--determinate" ∷ [])
   pub journal_make : IsRefused (codes "--make=3" ∷ codes "--journal" ∷ [])
+  pub same_alone : IsRefused (one ∷ codes "--same=two.report" ∷ [])
+  pub same_state : IsRefused (one ∷ codes "--replay=one.report" ∷ codes "--same=two.report" ∷ codes "--state=1" ∷ [])
+  pub same_check : IsRefused (one ∷ codes "--check" ∷ codes "--same=two.report" ∷ [])
+  pub same_make : IsRefused (codes "--make=3" ∷ codes "--same=two.report" ∷ [])
   pub state_alone : IsRefused (codes "--state=1" ∷ [])
   pub check_state : IsRefused (codes "--check" ∷ one ∷ codes "--state=1" ∷ [])
   pub make_state : IsRefused (codes "--make=3" ∷ codes "--state=1" ∷ [])

@@ -6,7 +6,8 @@ use Rattle.asp_model.specs.declared.limits.TheConstants.{MOST_DEPTH, MOST_PAIRS}
 use Rattle.command_line.specs.Command.{SettingTexts, TextsShape, is_taken, texts_of}
 use Rattle.command_line.specs.Numbers.{number_in}
 use Rattle.command_line.specs.Settings.{IsSettings, SettingsShape, settings_of}
-use Rattle.command_line.specs.Wanted.{WantedShape, Run, Check, Rule, Journal, Replay, Make, companions_of, stand, wanted_in}
+use Rattle.command_line.specs.Wanted.{WantedShape, Run, Check, Rule, Journal, Replay, Compare, Make}
+use Rattle.command_line.specs.Wanted.{companions_of, stand, wanted_in}
 
 -- a depth is that of the states that the report shows; with none it shows no state
 pub data TaskShape : Type 0 where
@@ -15,6 +16,7 @@ pub data TaskShape : Type 0 where
   Rules : (file : Text) (settings : SettingsShape) → TaskShape
   Journals : (file : Text) (settings : SettingsShape) → TaskShape
   Replays : (file report : Text) (depth : Option ℕ) → TaskShape
+  Compares : (file report other : Text) → TaskShape
   Makes : (pairs : ℕ) (settings : SettingsShape) → TaskShape
 
 -- a depth is at most 4
@@ -60,6 +62,7 @@ task_by Check (Some file) t = Some (Checks file)
 task_by Rule (Some file) t = ruling file t.settings
 task_by Journal (Some file) t = journaling file t.settings
 task_by (Replay report) (Some file) t = replaying file report t.state
+task_by (Compare report other) (Some file) t = Some (Compares file report other)
 task_by (Make pairs) None t = making pairs t.settings
 task_by wanted file t = None
 

@@ -1,5 +1,6 @@
 -- The table of the command: which task is asked for, and what may stand beside it.
-use Rattle.std.specs.Prelude.{◌&&◌, ◌||◌, not, if◌then◌else◌, Bool, true, false, Option, Some, None, option_map, is_some}
+use Rattle.std.specs.Prelude.{◌&&◌, ◌||◌, not, if◌then◌else◌, Bool, true, false}
+use Rattle.std.specs.Prelude.{Option, Some, None, option_map, is_some}
 use Rattle.clap.specs.Walk.{Text}
 use Rattle.command_line.specs.Command.{SettingTexts, TextsShape}
 
@@ -13,6 +14,8 @@ pub data WantedShape : Type 0 where
   -- what the core of the run did
   Journal : WantedShape
   Replay : (report : Text) → WantedShape
+  -- two reports of it, as services see them
+  Compare : (report other : Text) → WantedShape
   Make : (pairs : Text) → WantedShape
 
 -- with one option more, where it is given: it asks for something in place of a run, and no two of them stand together
@@ -25,13 +28,19 @@ and_asks asked (Some wanted) = None
 abbrev pub flag_asks : Bool → WantedShape → Option WantedShape
 flag_asks given wanted = if given then Some wanted else None
 
+-- `--replay` asks for a replay, and with `--same` for a comparison
+abbrev pub replay_asks : Option Text → Option Text → Option WantedShape
+replay_asks None same = None
+replay_asks (Some report) None = Some (Replay report)
+replay_asks (Some report) (Some other) = Some (Compare report other)
+
 -- the one task asked for: a line for each option that asks for one
 abbrev pub wanted_in : TextsShape → Option WantedShape
 wanted_in t =
     let asked = and_asks (Some Run) (flag_asks t.check Check) in
     let asked = and_asks asked (flag_asks t.determinate Rule) in
     let asked = and_asks asked (flag_asks t.journal Journal) in
-    let asked = and_asks asked (option_map Replay t.replay) in
+    let asked = and_asks asked (replay_asks t.replay t.same) in
     and_asks asked (option_map Make t.make)
 
 -- what may stand beside what is asked for
@@ -47,6 +56,7 @@ companions_of Check = record { racing = false; budget = false; state = false }
 companions_of Rule = record { racing = true; budget = true; state = false }
 companions_of Journal = record { racing = true; budget = true; state = false }
 companions_of (Replay report) = record { racing = false; budget = false; state = true }
+companions_of (Compare report other) = record { racing = false; budget = false; state = false }
 companions_of (Make pairs) = record { racing = true; budget = true; state = false }
 
 -- workers or a strategy are given
@@ -57,7 +67,8 @@ is_racing t = is_some t.workers || (is_some t.strategy || is_some t.update)
 abbrev pub is_allowed : (may given : Bool) → Bool
 is_allowed may given = may || not given
 
--- all that is given may stand there
+-- all that is given may stand there, and `--same` beside `--replay` alone
 abbrev pub stand : CompanionsShape → TextsShape → Bool
 stand c t = is_allowed c.racing (is_racing t.settings)
-    && (is_allowed c.budget (is_some t.settings.budget) && is_allowed c.state (is_some t.state))
+    && (is_allowed c.budget (is_some t.settings.budget)
+    && (is_allowed c.state (is_some t.state) && is_allowed (is_some t.replay) (is_some t.same)))

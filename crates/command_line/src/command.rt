@@ -29,6 +29,7 @@ pub struct Texts<'a> {
     pub determinate: bool,
     pub journal: bool,
     pub replay: Option<&'a str>,
+    pub same: Option<&'a str>,
     pub make: Option<&'a str>,
     pub state: Option<&'a str>,
     pub settings: Given<'a>,
@@ -92,7 +93,8 @@ fn with_tasks<'a>(alloc: Global, command: Command<'a>) -> Result<Command<'a>, Al
     ensures { IfOk result (λ c. app_of c ≡ with_the_tasks (app_of command.entry)) }
 {
     let command = with_flag(alloc, command, "determinate")?;
-    with_flag(alloc, command, "journal")
+    let command = with_flag(alloc, command, "journal")?;
+    with_option(alloc, command, "same")
 }
 
 // The program's name.
@@ -151,6 +153,7 @@ fn texts_found<'a>(matches: &ArgMatches<'a>) -> Texts<'a>
         determinate: is_true(text_of(matches, "determinate")),
         journal: is_true(text_of(matches, "journal")),
         replay: text_of(matches, "replay"),
+        same: text_of(matches, "same"),
         make: text_of(matches, "make"),
         state: text_of(matches, "state"),
         settings: given_found(matches),

@@ -65,6 +65,15 @@ pub enum Task<'a> {
         /// How deep the report of the replay shows states, if it shows any.
         depth: Option<u32>,
     },
+    /// Replay two reports of it, and say whether a service could tell them apart.
+    Compare {
+        /// The program's file.
+        file: &'a str,
+        /// The first report's file.
+        report: &'a str,
+        /// The second report's file.
+        other: &'a str,
+    },
     /// Run the generated program of so many pairs.
     Make {
         /// The number of pairs.
@@ -117,6 +126,11 @@ fn task_by<'a>(alloc: Global, wanted: Wanted<'a>, texts: &Texts<'a>) -> Result<T
         (Wanted::Rule, Some(file)) => rule(alloc, file, &texts.settings),
         (Wanted::Journal, Some(file)) => journal(alloc, file, &texts.settings),
         (Wanted::Replay(report), Some(file)) => replay(file, report, texts.state),
+        (Wanted::Compare(report, other), Some(file)) => Ok(Task::Compare {
+            file,
+            report,
+            other,
+        }),
         (Wanted::Make(pairs), None) => make(alloc, pairs, &texts.settings),
         _ => Err(WordsError::Usage),
     }

@@ -4,12 +4,12 @@ ghost use Rattle.std.specs.Prelude.{◌≡◌, option_map};
 ghost use Rattle.command_line.specs.Shapes.{companions_shape, given_shape, text_behind, texts_shape, wanted_shape};
 ghost use Rattle.command_line.specs.Wanted.{
   Make,
-  Replay,
   and_asks as and_asks_shape,
   companions_of as companions_wanted,
   flag_asks as flag_asks_shape,
   is_allowed as is_allowed_beside,
   is_racing as is_racing_given,
+  replay_asks as replay_asks_shape,
   stand as stand_beside,
   wanted_in as wanted_among,
 };
@@ -29,6 +29,8 @@ pub enum Wanted<'a> {
     Journal,
     /// That the report in a file is replayed.
     Replay(&'a str),
+    /// That the reports in two files are compared, as services see them.
+    Compare(&'a str, &'a str),
     /// That it is the generated program of so many pairs.
     Make(&'a str),
 }
@@ -63,12 +65,16 @@ fn flag_asks<'a>(given: bool, wanted: Wanted<'a>) -> Option<Wanted<'a>>
     if given { Some(wanted) } else { None }
 }
 
-fn replay_asks<'a>(report: Option<&'a str>) -> Option<Wanted<'a>>
-    ensures { option_map wanted_shape result ≡ option_map Replay (text_behind report.entry) }
+fn replay_asks<'a>(report: Option<&'a str>, other: Option<&'a str>) -> Option<Wanted<'a>>
+    ensures { let asked = replay_asks_shape (text_behind report.entry) in
+        option_map wanted_shape result ≡ asked (text_behind other.entry) }
 {
-    match report {
-        Some(report) => Some(Wanted::Replay(report)),
-        None => None,
+    let Some(report) = report else {
+        return None;
+    };
+    match other {
+        Some(other) => Some(Wanted::Compare(report, other)),
+        None => Some(Wanted::Replay(report)),
     }
 }
 
@@ -88,7 +94,7 @@ pub fn wanted_in<'a>(texts: &Texts<'a>) -> Option<Wanted<'a>>
     let asked = and_asks(Some(Wanted::Run), flag_asks(texts.check, Wanted::Check));
     let asked = and_asks(asked, flag_asks(texts.determinate, Wanted::Rule));
     let asked = and_asks(asked, flag_asks(texts.journal, Wanted::Journal));
-    let asked = and_asks(asked, replay_asks(texts.replay));
+    let asked = and_asks(asked, replay_asks(texts.replay, texts.same));
     and_asks(asked, make_asks(texts.make))
 }
 
@@ -122,6 +128,11 @@ pub fn companions_of(wanted: Wanted<'_>) -> Companions
             budget: false,
             state: true,
         },
+        Wanted::Compare(_, _) => Companions {
+            racing: false,
+            budget: false,
+            state: false,
+        },
         Wanted::Make(_) => Companions {
             racing: true,
             budget: true,
@@ -149,4 +160,5 @@ pub fn stand(companions: &Companions, texts: &Texts<'_>) -> bool
     is_allowed(companions.racing, is_racing(&texts.settings))
         && is_allowed(companions.budget, texts.settings.budget.is_some())
         && is_allowed(companions.state, texts.state.is_some())
+        && is_allowed(texts.replay.is_some(), texts.same.is_some())
 }

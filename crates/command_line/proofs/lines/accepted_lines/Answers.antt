@@ -22,6 +22,7 @@ accepted = record {
   replay = refl;
   replay_hyphen = refl;
   hyphen_behind = refl;
+  same = refl;
   state = refl;
   state_budget = refl;
   state_zeros = refl;
