@@ -60,9 +60,9 @@ in_turn_once o name names h = record { asks = (name, h.answer) ∷ []; asked = h
 rose_later : (a b c : ℕ) → a ≤ b → Rose b c → Rose a c
 rose_later a b c h r = omega (arith, h, r)
 
--- a read of one file, and then of another
-module _ {S : Type 0} (told : S → SourceTells) (first middle last : S) (file report : List ℕ)
-    (one : AsksOnce (outside_between told first middle) file) (two : AsksOnce (outside_between told middle last) report) where
+-- a read of one file, and then of others
+module _ {S : Type 0} (told : S → SourceTells) (first middle last : S) (file : List ℕ) (names : List (List ℕ))
+    (one : AsksOnce (outside_between told first middle) file) (two : AsksInTurn (outside_between told middle last) names) where
   abbrev before : Outside
   before = outside_between told first middle
 
@@ -78,40 +78,40 @@ module _ {S : Type 0} (told : S → SourceTells) (first middle last : S) (file r
   pub gave_first : (place : ℕ) (name : List ℕ) (a : Result (List ℕ) ReadError) → Gave before place name a → Gave whole place name a
   gave_first place name a g = record {
     front = g.front;
-    back = g.back ++ (report, two.answer) ∷ [];
+    back = g.back ++ two.asks;
     at = g.at;
-    asked = asked_then (g.front ++ (name, a) ∷ g.back) ((report, two.answer) ∷ []) g.asked two.asked
-        ∙ ap (λ (l : Asks). (told first).asked ++ l) (append_assoc g.front ((name, a) ∷ g.back) ((report, two.answer) ∷ []));
+    asked = asked_then (g.front ++ (name, a) ∷ g.back) two.asks g.asked two.asked
+        ∙ ap (λ (l : Asks). (told first).asked ++ l) (append_assoc g.front ((name, a) ∷ g.back) two.asks);
   }
 
-  pub gave_second : (name : List ℕ) (a : Result (List ℕ) ReadError) → Gave behind 0 name a → Gave whole 1 name a
-  gave_second name a g = record {
+  pub gave_later : (place : ℕ) (name : List ℕ) (a : Result (List ℕ) ReadError) → Gave behind place name a → Gave whole (suc place) name a
+  gave_later place name a g = record {
     front = (file, one.answer) ∷ g.front;
     back = g.back;
     at = ap suc g.at;
     asked = asked_then ((file, one.answer) ∷ []) (g.front ++ (name, a) ∷ g.back) one.asked g.asked;
   }
 
-  pub fails_second : (name : List ℕ) → (told first).faults ≤ (told middle).faults → ReadFails behind 0 name → ReadFails whole 1 name
-  fails_second name later h = record {
-    gave = gave_second name _ h.gave;
+  pub fails_later : (place : ℕ) (name : List ℕ) → (told first).faults ≤ (told middle).faults → ReadFails behind place name → ReadFails whole (suc place) name
+  fails_later place name later h = record {
+    gave = gave_later place name _ h.gave;
     rises = rose_later (told first).faults (told middle).faults (told last).faults later h.rises;
   }
 
-  pub long_second : (name : List ℕ) (most : ℕ) → (told middle).content ≡ (told first).content → IsLong behind 0 name most → IsLong whole 1 name most
-  long_second name most same h = record {
+  pub long_later : (place : ℕ) (name : List ℕ) (most : ℕ) → (told middle).content ≡ (told first).content → IsLong behind place name most → IsLong whole (suc place) name most
+  long_later place name most same h = record {
     taken = h.taken;
     beyond = h.beyond;
-    gave = gave_second name _ h.gave;
+    gave = gave_later place name _ h.gave;
     content = subst (λ (k : List ℕ → Option (List ℕ)). IsLongContent most (k name)) same h.content;
   }
 
-  -- where the first had its bytes, both are in turn
-  pub in_turn_twice : (bytes : List ℕ) → Gave before 0 file (Ok bytes) → AsksInTurn whole (file ∷ report ∷ [])
-  in_turn_twice bytes g =
+  -- where the first had its bytes, all are in turn
+  pub in_turn_then : (bytes : List ℕ) → Gave before 0 file (Ok bytes) → AsksInTurn whole (file ∷ names)
+  in_turn_then bytes g =
       let e : one.answer ≡ Ok bytes = one_answer before 0 file file one.answer (Ok bytes) (gave_at before file one.answer one.asked) g in
       record {
-        asks = (file, one.answer) ∷ (report, two.answer) ∷ [];
-        asked = asked_then ((file, one.answer) ∷ []) ((report, two.answer) ∷ []) one.asked two.asked;
-        turn = (refl, (refl, tt, λ no. refl), λ no. let bad : true ≡ false = sym (ap is_ok e) ∙ no in absurd cc);
+        asks = (file, one.answer) ∷ two.asks;
+        asked = asked_then ((file, one.answer) ∷ []) two.asks one.asked two.asked;
+        turn = (refl, two.turn, λ no. let bad : true ≡ false = sym (ap is_ok e) ∙ no in absurd cc);
       }

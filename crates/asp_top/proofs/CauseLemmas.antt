@@ -6,6 +6,7 @@ use Rattle.asp_top.specs.Seen.{Call, SomeReadFails, Fails}
 use Rattle.asp_top.specs.Correct.{IsReported}
 use Rattle.asp_top.specs.Refusals.{Refusal, Usage, Unread, LongProgram, NoProgram, Unchecked, LongReport, NoReport, Diverges, NoMemory, status_of_refusal}
 use Rattle.asp_top.specs.Endings.{Ends, Written, Refused, Unheard, Unwritten, IsCause, OfWords, OfMemory, OfTask, OfProgram, OfReport}
+use Rattle.asp_top.specs.Programs.{place_of}
 use Rattle.asp_top.specs.Statuses.{IsUnfit, IsNotReplayed}
 use Rattle.asp_top.proofs.StatusLemmas.{answers_reported, clash, no_report}
 
@@ -18,7 +19,7 @@ unread_cause : (c : Call) (name : List ℕ) → IsCause c (Unread name) → Some
 unread_cause c name (OfWords u n) = absurd cc
 unread_cause c name (OfMemory u) = absurd cc
 unread_cause c name (OfTask task o (OfProgram n fails)) = (0, name, fails)
-unread_cause c name (OfTask task o (OfReport program given n fails)) = (1, name, fails)
+unread_cause c name (OfTask task o (OfReport which program comes fails)) = (place_of which, name, fails)
 
 usage_of : (c : Call) (r : Refusal) → status_of_refusal r ≡ 2 → IsCause c r → task_of c.words ≡ None
 usage_of c Usage e h = usage_cause c h
@@ -26,9 +27,9 @@ usage_of c (Unread name) e h = absurd cc
 usage_of c LongProgram e h = absurd cc
 usage_of c (NoProgram fault) e h = absurd cc
 usage_of c (Unchecked fault) e h = absurd cc
-usage_of c LongReport e h = absurd cc
-usage_of c (NoReport line) e h = absurd cc
-usage_of c (Diverges activity) e h = absurd cc
+usage_of c (LongReport which) e h = absurd cc
+usage_of c (NoReport which line) e h = absurd cc
+usage_of c (Diverges which activity) e h = absurd cc
 usage_of c NoMemory e h = absurd cc
 
 unfit_of : (c : Call) (r : Refusal) → status_of_refusal r ≡ 3 → IsCause c r → IsUnfit c
@@ -37,9 +38,9 @@ unfit_of c (Unread name) e h = absurd cc
 unfit_of c LongProgram e h = inl h
 unfit_of c (NoProgram fault) e h = inr (inl (fault, h))
 unfit_of c (Unchecked fault) e h = inr (inr (fault, h))
-unfit_of c LongReport e h = absurd cc
-unfit_of c (NoReport line) e h = absurd cc
-unfit_of c (Diverges activity) e h = absurd cc
+unfit_of c (LongReport which) e h = absurd cc
+unfit_of c (NoReport which line) e h = absurd cc
+unfit_of c (Diverges which activity) e h = absurd cc
 unfit_of c NoMemory e h = absurd cc
 
 unread_of : (c : Call) (r : Refusal) → status_of_refusal r ≡ 6 → IsCause c r → SomeReadFails c.outside
@@ -48,9 +49,9 @@ unread_of c (Unread name) e h = unread_cause c name h
 unread_of c LongProgram e h = absurd cc
 unread_of c (NoProgram fault) e h = absurd cc
 unread_of c (Unchecked fault) e h = absurd cc
-unread_of c LongReport e h = absurd cc
-unread_of c (NoReport line) e h = absurd cc
-unread_of c (Diverges activity) e h = absurd cc
+unread_of c (LongReport which) e h = absurd cc
+unread_of c (NoReport which line) e h = absurd cc
+unread_of c (Diverges which activity) e h = absurd cc
 unread_of c NoMemory e h = absurd cc
 
 unreplayed_of : (c : Call) (r : Refusal) → status_of_refusal r ≡ 9 → IsCause c r → IsNotReplayed c
@@ -59,9 +60,9 @@ unreplayed_of c (Unread name) e h = absurd cc
 unreplayed_of c LongProgram e h = absurd cc
 unreplayed_of c (NoProgram fault) e h = absurd cc
 unreplayed_of c (Unchecked fault) e h = absurd cc
-unreplayed_of c LongReport e h = inl h
-unreplayed_of c (NoReport line) e h = inr (inl (line, h))
-unreplayed_of c (Diverges activity) e h = inr (inr (activity, h))
+unreplayed_of c (LongReport which) e h = (which, inl h)
+unreplayed_of c (NoReport which line) e h = (which, inr (inl (line, h)))
+unreplayed_of c (Diverges which activity) e h = (which, inr (inr (activity, h)))
 unreplayed_of c NoMemory e h = absurd cc
 
 not_seven : (r : Refusal) → status_of_refusal r ≡ 7 → ⊥
@@ -70,9 +71,9 @@ not_seven (Unread name) e = cc
 not_seven LongProgram e = cc
 not_seven (NoProgram fault) e = cc
 not_seven (Unchecked fault) e = cc
-not_seven LongReport e = cc
-not_seven (NoReport line) e = cc
-not_seven (Diverges activity) e = cc
+not_seven (LongReport which) e = cc
+not_seven (NoReport which line) e = cc
+not_seven (Diverges which activity) e = cc
 not_seven NoMemory e = cc
 
 record HasCause (c : Call) (k : ℕ) : Type 0 where

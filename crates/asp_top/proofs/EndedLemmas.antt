@@ -1,15 +1,21 @@
--- Two calls that ended.
-use Rattle.std.proofs.Common.{List, ℕ, Option, sym, subst}
+-- Two calls that ended, and what a comparison says.
+use Rattle.std.proofs.Common.{◌≡◌, ◌∙◌, List, [], ◌∷◌, ℕ, Bool, true, false, Option, refl, ap, sym, subst, inl, inr}
+use Rattle.std.specs.Prelude.{◌↔◌, nat_eq}
 use Rattle.asp_model.specs.Term.{Tree}
 use Rattle.asp_model.specs.Marked.{plain}
 use Rattle.asp_model.specs.Step.{ListsShape}
 use Rattle.command_line.specs.Settings.{SettingsShape}
-use Rattle.command_line.specs.Task.{Runs}
+use Rattle.command_line.specs.Task.{Runs, Compares}
 use Rattle.law_outcomes.specs.Outcomes.{IsEndReport}
 use Rattle.law_outcomes.proofs.ReportLaws.{end_reports_agree, narrow_reports_are_all}
+use Rattle.law_services.specs.Services.{AreServedAlike, IsServedAlike}
+use Rattle.replay_services.specs.Compares.{AreStuck}
+use Rattle.asp_model.specs.Names.{Name}
+use Rattle.asp_model.specs.Replay.{CountsShape}
 use Rattle.asp_top.specs.Seen.{Outside}
+use Rattle.asp_top.specs.Comparisons.{Said, Same, Differ, Unended, IsSo, ShowAlike, text_said}
 use Rattle.asp_top.specs.Correct.{Answers, end_of}
-use Rattle.asp_top.specs.Ended.{IsEnded, EndedRunsPrintTheSame, OneSenderPrintsTheSame}
+use Rattle.asp_top.specs.Ended.{IsEnded, ComparisonsAreExact, EndedRunsPrintTheSame, OneSenderPrintsTheSame}
 use Rattle.asp_top.proofs.StatusLemmas.{stuck_at}
 
 -- the report of a run that has ended
@@ -33,3 +39,37 @@ one_sender_prints_the_same o p file name settings others depth report other stat
     let first : IsEndReport depth (plain b.0.program) a.0.lists report =
     subst (λ (t : Tree). IsEndReport depth t a.0.lists report) same (end_report o file settings depth report status a ended) in
     sym (narrow_reports_are_all depth (plain b.0.program) a.0.lists b.0.lists report other first narrow (end_report p name others depth other code b stopped))
+
+-- What a comparison says
+
+-- the first letter of `same`
+abbrev begins_as_same : List ℕ → Bool
+begins_as_same [] = false
+begins_as_same (x ∷ xs) = nat_eq x 115
+
+other_text : (text : List ℕ) (said : Said) → text ≡ text_said said → text ≡ text_said Same → begins_as_same (text_said said) ≡ false → ⊥
+other_text text said e h other = let no : true ≡ false = sym (ap begins_as_same h) ∙ ap begins_as_same e ∙ other in absurd cc
+
+module _ (program : Tree) (lists : ListsShape) (counts : CountsShape) (others : ListsShape) (other_counts : CountsShape) where
+  abbrev AreAlike : Type 0
+  AreAlike = AreStuck program lists counts others other_counts × AreServedAlike program lists counts others other_counts
+
+  abbrev Exactly : List ℕ → Type 0
+  Exactly text = ((text ≡ text_said Same) ↔ AreAlike) × (text ≡ text_said Same → ShowAlike program lists counts others other_counts)
+
+  served_at : (n : Name) → AreServedAlike program lists counts others other_counts → IsServedAlike program lists counts others other_counts n
+  served_at n h = record { unpolled = h.unpolled n; unpolled_too = h.unpolled_too n; arrivals = h.arrivals n }
+
+  -- nothing else is written where no service can tell
+  never : (said : Said) (text : List ℕ) → text ≡ text_said said → begins_as_same (text_said said) ≡ false → (AreAlike → ⊥) → Exactly text
+  never said text e other unlike = ((λ h. absurd (other_text text said e h other), λ a. absurd (unlike a)), λ h. absurd (other_text text said e h other))
+
+  exactly : (said : Said) (text : List ℕ) → IsSo said program lists counts others other_counts → text ≡ text_said said → Exactly text
+  exactly Same text so e = ((λ h. (so.0.stuck, so.0.served), λ a. e), λ h. so.1)
+  exactly (Differ n) text so e = never (Differ n) text e refl (λ a. so.told (served_at n a.1))
+  exactly Unended text (inl free) e = never Unended text e refl (λ a. free a.0.0)
+  exactly Unended text (inr free) e = never Unended text e refl (λ a. free a.0.1)
+
+pub comparisons_are_exact : ComparisonsAreExact
+comparisons_are_exact o file name other text status a =
+    exactly (plain a.0.program) a.0.first.lists a.0.first.counts a.0.second.lists a.0.second.counts a.1 text a.2 a.3

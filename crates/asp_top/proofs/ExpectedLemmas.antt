@@ -9,25 +9,25 @@ use Rattle.syntax_grammar.specs.Programs.{IsProgramText}
 use Rattle.asp_check.specs.Faults.{IsChecked}
 use Rattle.asp_edge.specs.Causes.{IsContent}
 use Rattle.asp_edge.specs.declared.edge.ReadError.TheVariants.{TooLong}
-use Rattle.command_line.specs.Task.{TaskShape, Runs, Checks, Rules, Journals, Replays, Makes, task_of}
-use Rattle.asp_top.specs.Seen.{Call, Outside, SomeReadFails, IsLong, IsLongContent, IsUntouched, Takes}
-use Rattle.asp_top.specs.Programs.{IsFile, IsText, IsProgramOf, HasProgram, HasReport}
+use Rattle.command_line.specs.Task.{TaskShape, Runs, Checks, Rules, Journals, Replays, Compares, Makes, task_of}
+use Rattle.asp_top.specs.Seen.{Call, Outside, SomeReadFails, IsLong, IsLongContent}
+use Rattle.asp_top.specs.Programs.{IsFile, IsText, IsProgramOf, HasProgram, HasReport, NamesProgram, place_of}
 use Rattle.asp_top.specs.Correct.{Answers, IsReported}
-use Rattle.asp_top.specs.Refusals.{Refusal, Usage, Unread, LongProgram, NoProgram, Unchecked, LongReport, NoReport, Diverges, NoMemory, status_of_refusal, message_of}
-use Rattle.asp_top.specs.Endings.{Ends, Written, Refused, Unheard, Unwritten, IsCause, OfWords, OfMemory, OfTask, HoldsFor, IsUnread, OfProgram, OfReport, NamesProgram, NamesReport}
+use Rattle.asp_top.specs.Refusals.{Refusal, Usage, Unread, LongProgram, NoProgram, Unchecked, LongReport, NoReport, Diverges, NoMemory, status_of_refusal}
+use Rattle.asp_top.specs.Endings.{Ends, Written, Refused, Unheard, Unwritten, IsCause, OfWords, OfMemory, OfTask, HoldsFor, IsUnread, OfProgram, OfReport}
 use Rattle.asp_top.specs.Statuses.{CouldNot}
-use Rattle.asp_top.specs.Expected.{Has, HasText, MayReplay, MayAnswer, AsksUnfit, AsksNoReplay, RefusesReport, Completes, RefusesProgram, RefusesPrograms, RefusesReports, IsUsageEnd}
+use Rattle.asp_top.specs.Expected.{Has, HasText, MayReplayAt, MayAnswer, AsksUnfit, Completes, RefusesProgram, RefusesPrograms, IsUsageEnd}
 use Rattle.asp_top.proofs.AskLemmas.{one_answer}
 use Rattle.asp_top.proofs.StatusLemmas.{answers_reported, same_task}
 
 -- a file that could not be read is a read that failed
-unread_for : (o : Outside) (task : TaskShape) (name : List ℕ) → IsUnread o task name → SomeReadFails o
+pub unread_for : (o : Outside) (task : TaskShape) (name : List ℕ) → IsUnread o task name → SomeReadFails o
 unread_for o task name (OfProgram n fails) = (0, name, fails)
-unread_for o task name (OfReport program given n fails) = (1, name, fails)
+unread_for o task name (OfReport which program comes fails) = (place_of which, name, fails)
 
 -- What the source has is one text
 
-long_if : (o : Outside) (place : ℕ) (name bytes : List ℕ) (most : ℕ) → Has o place name bytes → IsLong o place name most → most < length bytes
+pub long_if : (o : Outside) (place : ℕ) (name bytes : List ℕ) (most : ℕ) → Has o place name bytes → IsLong o place name most → most < length bytes
 long_if o place name bytes most (inl e) l = subst (IsLongContent most) e l.content
 long_if o place name bytes most (inr g) l =
     let no : Ok bytes ≡ Err (TooLong l.taken) = one_answer o place name name (Ok bytes) (Err (TooLong l.taken)) g l.gave in absurd cc
@@ -35,7 +35,7 @@ long_if o place name bytes most (inr g) l =
 too_long : (o : Outside) (place : ℕ) (name bytes : List ℕ) (most : ℕ) → Has o place name bytes → length bytes ≤ most → IsLong o place name most → ⊥
 too_long o place name bytes most e h l = let beyond : most < length bytes = long_if o place name bytes most e l in omega (arith, beyond, h)
 
-same_file : (o : Outside) (place : ℕ) (name : List ℕ) (most : ℕ) (bytes other : List ℕ) → Has o place name bytes → IsFile o place name most other → other ≡ bytes
+pub same_file : (o : Outside) (place : ℕ) (name : List ℕ) (most : ℕ) (bytes other : List ℕ) → Has o place name bytes → IsFile o place name most other → other ≡ bytes
 same_file o place name most bytes other (inl e) f = subst (λ (c : Option (List ℕ)). IsContent c other) e f.told
 same_file o place name most bytes other (inr g) f =
     let e : Ok other ≡ Ok bytes = one_answer o place name name (Ok other) (Ok bytes) f.gave g in cc
@@ -46,9 +46,10 @@ same_text o (Checks file) bytes other e f = same_file o 0 file MOST_PROGRAM_BYTE
 same_text o (Rules file settings) bytes other e f = same_file o 0 file MOST_PROGRAM_BYTES bytes other e.0 f
 same_text o (Journals file settings) bytes other e f = same_file o 0 file MOST_PROGRAM_BYTES bytes other e.0 f
 same_text o (Replays file name depth) bytes other e f = same_file o 0 file MOST_PROGRAM_BYTES bytes other e.0 f
+same_text o (Compares file name other) bytes found e f = same_file o 0 file MOST_PROGRAM_BYTES bytes found e.0 f
 same_text o (Makes pairs settings) bytes other e f = f ∙ sym e
 
-has_named : (o : Outside) (place : ℕ) (file name bytes : List ℕ) → file ≡ name → Has o place file bytes → Has o place name bytes
+pub has_named : (o : Outside) (place : ℕ) (file name bytes : List ℕ) → file ≡ name → Has o place file bytes → Has o place name bytes
 has_named o place file name bytes n h = subst (λ (l : List ℕ). Has o place l bytes) n h
 
 -- A program that a call may answer
@@ -60,27 +61,8 @@ program_fits o (Checks file) bytes name e n l = too_long o 0 name bytes MOST_PRO
 program_fits o (Rules file settings) bytes name e n l = too_long o 0 name bytes MOST_PROGRAM_BYTES (has_named o 0 file name bytes n e.0) e.1 l
 program_fits o (Journals file settings) bytes name e n l = too_long o 0 name bytes MOST_PROGRAM_BYTES (has_named o 0 file name bytes n e.0) e.1 l
 program_fits o (Replays file report depth) bytes name e n l = too_long o 0 name bytes MOST_PROGRAM_BYTES (has_named o 0 file name bytes n e.0) e.1 l
+program_fits o (Compares file report other) bytes name e n l = too_long o 0 name bytes MOST_PROGRAM_BYTES (has_named o 0 file name bytes n e.0) e.1 l
 program_fits o (Makes pairs settings) bytes name e n l = n
-
-report_fits : (o : Outside) (task : TaskShape) (program : Marked) (name : List ℕ) → MayReplay o task program → NamesReport task name → IsLong o 1 name MOST_REPORT_BYTES → ⊥
-report_fits o (Runs file settings depth) program name m n l = n
-report_fits o (Checks file) program name m n l = n
-report_fits o (Rules file settings) program name m n l = n
-report_fits o (Journals file settings) program name m n l = n
-report_fits o (Replays file report depth) program name m n l = too_long o 1 name m.0 MOST_REPORT_BYTES (has_named o 1 report name m.0 n m.1.0) m.1.1 l
-report_fits o (Makes pairs settings) program name m n l = n
-
--- the bytes of a report that the source has are read as the lists and counts that fit
-report_reads : (o : Outside) (task : TaskShape) (program : Marked) (name bytes : List ℕ) (line : ℕ) → MayReplay o task program → NamesReport task name → IsFile o 1 name MOST_REPORT_BYTES bytes → read_report bytes ≡ BadLine line → ⊥
-report_reads o (Runs file settings depth) program name bytes line m n f e = n
-report_reads o (Checks file) program name bytes line m n f e = n
-report_reads o (Rules file settings) program name bytes line m n f e = n
-report_reads o (Journals file settings) program name bytes line m n f e = n
-report_reads o (Replays file report depth) program name bytes line m n f e =
-    let same : bytes ≡ m.0 = same_file o 1 name MOST_REPORT_BYTES m.0 bytes (has_named o 1 report name m.0 n m.1.0) f in
-    let no : Reads m.2.lists m.2.counts ≡ BadLine line = sym m.2.reads ∙ ap read_report (sym same) ∙ e in
-    absurd cc
-report_reads o (Makes pairs settings) program name bytes line m n f e = n
 
 one_reading : (program : Marked) (lists others : ListsShape) (counts more : CountsShape) → Reads lists counts ≡ Reads others more → Fits (plain program) lists counts → Fits (plain program) others more
 one_reading program lists others counts more e fits =
@@ -88,16 +70,22 @@ one_reading program lists others counts more e fits =
     let c : counts ≡ more = cc in
     subst (λ (x : ListsShape). Fits (plain program) x more) l (subst (λ (x : CountsShape). Fits (plain program) lists x) c fits)
 
-report_replays : (o : Outside) (task : TaskShape) (program : Marked) (name : List ℕ) (lists : ListsShape) (counts : CountsShape) → MayReplay o task program → NamesReport task name → HasReport o 1 name lists counts → (Fits (plain program) lists counts → ⊥) → ⊥
-report_replays o (Runs file settings depth) program name lists counts m n r unfit = n
-report_replays o (Checks file) program name lists counts m n r unfit = n
-report_replays o (Rules file settings) program name lists counts m n r unfit = n
-report_replays o (Journals file settings) program name lists counts m n r unfit = n
-report_replays o (Replays file report depth) program name lists counts m n r unfit =
-    let same : r.bytes ≡ m.0 = same_file o 1 name MOST_REPORT_BYTES m.0 r.bytes (has_named o 1 report name m.0 n m.1.0) r.file in
-    let e : Reads m.2.lists m.2.counts ≡ Reads lists counts = sym m.2.reads ∙ ap read_report (sym same) ∙ r.reads in
-    unfit (one_reading program m.2.lists lists m.2.counts counts e m.2.fits)
-report_replays o (Makes pairs settings) program name lists counts m n r unfit = n
+-- a report that fits the program, and is short enough, is refused for nothing
+module _ (o : Outside) (place : ℕ) (name : List ℕ) (program : Marked) (m : MayReplayAt o place name program) where
+  report_fits : IsLong o place name MOST_REPORT_BYTES → ⊥
+  report_fits l = too_long o place name m.0 MOST_REPORT_BYTES m.1.0 m.1.1 l
+
+  report_reads : (bytes : List ℕ) (line : ℕ) → IsFile o place name MOST_REPORT_BYTES bytes → read_report bytes ≡ BadLine line → ⊥
+  report_reads bytes line f e =
+      let same : bytes ≡ m.0 = same_file o place name MOST_REPORT_BYTES m.0 bytes m.1.0 f in
+      let no : Reads m.2.lists m.2.counts ≡ BadLine line = sym m.2.reads ∙ ap read_report (sym same) ∙ e in
+      absurd cc
+
+  report_replays : (lists : ListsShape) (counts : CountsShape) → HasReport o place name lists counts → (Fits (plain program) lists counts → ⊥) → ⊥
+  report_replays lists counts r unfit =
+      let same : r.bytes ≡ m.0 = same_file o place name MOST_REPORT_BYTES m.0 r.bytes m.1.0 r.file in
+      let e : Reads m.2.lists m.2.counts ≡ Reads lists counts = sym m.2.reads ∙ ap read_report (sym same) ∙ r.reads in
+      unfit (one_reading program m.2.lists lists m.2.counts counts e m.2.fits)
 
 module _ (c : Call) (m : MayAnswer c) where
   reads_as : (other : List ℕ) → IsText c.outside m.task other → IsProgramText other m.program
@@ -109,14 +97,15 @@ module _ (c : Call) (m : MayAnswer c) where
   nothing_holds : (r : Refusal) (status : ℕ) → HoldsFor c.outside m.task r → status ≡ status_of_refusal r → status ≡ 8
   nothing_holds Usage status h e = absurd h
   nothing_holds (Unread name) status (OfProgram n fails) e = absurd (m.read (0, name, fails))
-  nothing_holds (Unread name) status (OfReport program given n fails) e = absurd (m.read (1, name, fails))
+  nothing_holds (Unread name) status (OfReport which program comes fails) e = absurd (m.read (place_of which, name, fails))
   nothing_holds LongProgram status h e = absurd (program_fits c.outside m.task m.bytes h.name m.had h.named h.long)
   nothing_holds (NoProgram fault) status h e = absurd (h.2.none m.program (reads_as h.0 h.1))
   nothing_holds (Unchecked fault) status h e = absurd (h.2.none m.program (reads_as h.0 h.1) m.is.checked)
-  nothing_holds LongReport status h e = absurd (report_fits c.outside m.task m.program h.name m.replays h.named h.long)
-  nothing_holds (NoReport line) status h e = absurd (report_reads c.outside m.task m.program h.name h.bytes line m.replays h.named h.file h.reads)
-  nothing_holds (Diverges activity) status h e =
-      absurd (report_replays c.outside m.task m.program h.name h.lists h.counts m.replays h.named h.old (subst (λ (p : Marked). Fits (plain p) h.lists h.counts → ⊥) (same_program h.program h.given) h.unfit))
+  nothing_holds (LongReport which) status h e = absurd (report_fits c.outside (place_of which) h.name m.program (m.replays which h.name h.comes.named) h.long)
+  nothing_holds (NoReport which line) status h e = absurd (report_reads c.outside (place_of which) h.name m.program (m.replays which h.name h.comes.named) h.bytes line h.file h.reads)
+  nothing_holds (Diverges which activity) status h e =
+      absurd (report_replays c.outside (place_of which) h.name m.program (m.replays which h.name h.comes.named) h.lists h.counts h.old
+      (subst (λ (p : Marked). Fits (plain p) h.lists h.counts → ⊥) (same_program h.program h.comes.given) h.unfit))
   nothing_holds NoMemory status h e = e
 
   refused_only : (r : Refusal) (status : ℕ) → IsCause c r → status ≡ status_of_refusal r → status ≡ 8
@@ -155,6 +144,7 @@ given_in o (Checks file) text status a = (a.0, a.1)
 given_in o (Rules file settings) text status a = (a.0.program, a.0.given)
 given_in o (Journals file settings) text status a = (a.0.program, a.0.given)
 given_in o (Replays file name depth) text status a = (a.0.program, a.0.given)
+given_in o (Compares file name other) text status a = (a.0.program, a.0.given)
 given_in o (Makes pairs settings) text status a = (a.0.program, a.0.given)
 
 -- a file whose bytes are too long, or no checked program, is none
@@ -175,6 +165,7 @@ module _ (c : Call) (a : AsksUnfit c) where
   never_has (Rules file settings) n program h = not_given c.outside file a.bytes h.bytes program (has_named c.outside 0 a.name file a.bytes (sym n) a.had) a.unfit h.text h.is
   never_has (Journals file settings) n program h = not_given c.outside file a.bytes h.bytes program (has_named c.outside 0 a.name file a.bytes (sym n) a.had) a.unfit h.text h.is
   never_has (Replays file report depth) n program h = not_given c.outside file a.bytes h.bytes program (has_named c.outside 0 a.name file a.bytes (sym n) a.had) a.unfit h.text h.is
+  never_has (Compares file report other) n program h = not_given c.outside file a.bytes h.bytes program (has_named c.outside 0 a.name file a.bytes (sym n) a.had) a.unfit h.text h.is
   never_has (Makes pairs settings) n program h = n
 
   unfit_end : (r : Refusal) (status : ℕ) → HoldsFor c.outside a.task r → status ≡ status_of_refusal r → RefusesProgram c status ⊎ CouldNot c status
@@ -183,9 +174,9 @@ module _ (c : Call) (a : AsksUnfit c) where
   unfit_end LongProgram status h e = inl (e, inl (OfTask a.task a.asked h))
   unfit_end (NoProgram fault) status h e = inl (e, inr (inl (fault, OfTask a.task a.asked h)))
   unfit_end (Unchecked fault) status h e = inl (e, inr (inr (fault, OfTask a.task a.asked h)))
-  unfit_end LongReport status h e = absurd (never_has a.task a.named h.program h.given)
-  unfit_end (NoReport line) status h e = absurd (never_has a.task a.named h.program h.given)
-  unfit_end (Diverges activity) status h e = absurd (never_has a.task a.named h.program h.given)
+  unfit_end (LongReport which) status h e = absurd (never_has a.task a.named h.program h.comes.given)
+  unfit_end (NoReport which line) status h e = absurd (never_has a.task a.named h.program h.comes.given)
+  unfit_end (Diverges which activity) status h e = absurd (never_has a.task a.named h.program h.comes.given)
   unfit_end NoMemory status h e = inr (inr (inr e))
 
   unfit_refused : (r : Refusal) (status : ℕ) → IsCause c r → status ≡ status_of_refusal r → RefusesProgram c status ⊎ CouldNot c status
@@ -203,76 +194,3 @@ module _ (c : Call) (a : AsksUnfit c) where
 
 pub refuses_program : {c : Call} {status : ℕ} → Ends c status → RefusesPrograms c status
 refuses_program {c} {status} ends a = refused_program c a status ends
-
--- Reports that are refused
-
-module _ (c : Call) (a : AsksNoReplay c) where
-  abbrev End : ℕ → Type 0
-  End status = RefusesReport c a status ⊎ RefusesProgram c status ⊎ CouldNot c status
-
-  abbrev AsksReplay : TaskShape
-  AsksReplay = Replays a.file a.name a.depth
-
-  never_replays : (program : Marked) (lists : ListsShape) (counts : CountsShape) → HasProgram c.outside AsksReplay program → HasReport c.outside 1 a.name lists counts → Fits (plain program) lists counts → ⊥
-  never_replays program lists counts given r fits =
-      let same : r.bytes ≡ a.report = same_file c.outside 1 a.name MOST_REPORT_BYTES a.report r.bytes a.had r.file in
-      elim a.unfit [
-        | inl long ↦ let short : length a.report ≤ MOST_REPORT_BYTES = subst (λ (l : List ℕ). length l ≤ MOST_REPORT_BYTES) same r.file.within in omega (arith, long, short)
-        | inr none ↦ none program given (record { lists = lists; counts = counts; reads = ap read_report (sym same) ∙ r.reads; fits = fits })
-      ]
-
-  told_as : (name other : List ℕ) → a.name ≡ name → IsFile c.outside 1 name MOST_REPORT_BYTES other → other ≡ a.report
-  told_as name other n f = same_file c.outside 1 name MOST_REPORT_BYTES a.report other (has_named c.outside 1 a.name name a.report n a.had) f
-
-  -- the refusals that a task may hold, each with what was taken
-  no_replay_end : (r : Refusal) (status : ℕ) → HoldsFor c.outside AsksReplay r → IsUntouched c.out → Takes c.err (message_of r) → status ≡ status_of_refusal r → End status
-  no_replay_end Usage status h u t e = absurd h
-  no_replay_end (Unread name) status h u t e = inr (inr (inl (e, unread_for c.outside AsksReplay name h)))
-  no_replay_end LongProgram status h u t e = inr (inl (e, inl (OfTask AsksReplay a.asked h)))
-  no_replay_end (NoProgram fault) status h u t e = inr (inl (e, inr (inl (fault, OfTask AsksReplay a.asked h))))
-  no_replay_end (Unchecked fault) status h u t e = inr (inl (e, inr (inr (fault, OfTask AsksReplay a.asked h))))
-  no_replay_end LongReport status h u t e = inl (record {
-    program = h.program;
-    given = h.given;
-    refusal = LongReport;
-    cause = long_if c.outside 1 h.name a.report MOST_REPORT_BYTES (has_named c.outside 1 a.name h.name a.report h.named a.had) h.long;
-    told = t;
-    untouched = u;
-    answered = e;
-  })
-  no_replay_end (NoReport line) status h u t e = inl (record {
-    program = h.program;
-    given = h.given;
-    refusal = NoReport line;
-    cause = ap read_report (sym (told_as h.name h.bytes h.named h.file)) ∙ h.reads;
-    told = t;
-    untouched = u;
-    answered = e;
-  })
-  no_replay_end (Diverges activity) status h u t e = inl (record {
-    program = h.program;
-    given = h.given;
-    refusal = Diverges activity;
-    cause = (h.lists, h.counts, ap read_report (sym (told_as h.name h.old.bytes h.named h.old.file)) ∙ h.old.reads, h.least);
-    told = t;
-    untouched = u;
-    answered = e;
-  })
-  no_replay_end NoMemory status h u t e = inr (inr (inr (inr e)))
-
-  no_replay_refused : (r : Refusal) (status : ℕ) → IsCause c r → IsUntouched c.out → Takes c.err (message_of r) → status ≡ status_of_refusal r → End status
-  no_replay_refused r status (OfWords x n) u t e = let no : None ≡ Some AsksReplay = sym n ∙ a.asked in absurd cc
-  no_replay_refused r status (OfMemory x) u t e = inr (inr (inr (inr (e ∙ ap status_of_refusal x))))
-  no_replay_refused r status (OfTask task asked h) u t e =
-      no_replay_end r status (subst (λ (k : TaskShape). HoldsFor c.outside k r) (same_task c.words task AsksReplay asked a.asked) h) u t e
-
-  refused_report : (status : ℕ) → Ends c status → End status
-  refused_report status (Written text w took still) =
-      let answer : Answers c.outside AsksReplay text status = subst (λ (t : TaskShape). Answers c.outside t text status) (same_task c.words w.task AsksReplay w.asked a.asked) w.answer in
-      absurd (never_replays answer.0.program answer.0.lists answer.0.counts answer.0.given answer.2 answer.0.fits)
-  refused_report status (Refused r h u t e) = no_replay_refused r status h u t e
-  refused_report status (Unheard r h u t e) = inr (inr (inr (inl (e, inr t.0))))
-  refused_report status (Unwritten text other w took told e) = inr (inr (inr (inl (e, inl took.0))))
-
-pub refuses_report : {c : Call} {status : ℕ} → Ends c status → RefusesReports c status
-refuses_report {c} {status} ends a = refused_report c a status ends

@@ -4,8 +4,10 @@ pub mod AskLemmas
 pub mod PrepareLemmas
 pub mod RulingLemmas
 pub mod OutcomeLemmas
+pub mod CompareLemmas
 pub mod EndsLemmas
 pub mod StatusLemmas
 pub mod CauseLemmas
 pub mod ExpectedLemmas
+pub mod RefusedLemmas
 pub mod EndedLemmas

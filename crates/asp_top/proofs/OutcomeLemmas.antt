@@ -4,9 +4,10 @@ use Rattle.std.specs.List.{concat}
 use Rattle.std.proofs.Common.{◌≡◌, ℕ, List, Option, None, ◌++◌, sym, ap, subst, ◌∙◌, arith}
 use Rattle.asp_model.specs.Configuration.{Configuration}
 use Rattle.asp_model.specs.Term.{Tree}
+use Rattle.asp_model.specs.Marked.{Marked, plain}
 use Rattle.asp_model.specs.Step.{ListsShape}
 use Rattle.asp_model.specs.Status.{Budget, verdict_of}
-use Rattle.asp_model.specs.Replay.{CountsShape, Fits, replay}
+use Rattle.asp_model.specs.Replay.{CountsShape, replay}
 use Rattle.asp_model.specs.Outcome.{OutcomeShape, outcome_of, counts_in, lists_in, exit_status}
 use Rattle.asp_model.specs.Report.{text_of}
 use Rattle.asp_model.specs.ReadReport.{read_report, Reads}
@@ -30,9 +31,10 @@ use Rattle.trace_text.specs.Traces as Trace
 use Rattle.trace_text.specs.Traces.{read_trace, trace_of}
 use Rattle.load_gen.specs.Generated.{generated}
 use Rattle.command_line.specs.Settings.{IsSettings, SettingsShape}
-use Rattle.command_line.specs.Task.{Runs, Rules, Journals, Replays, Makes}
+use Rattle.command_line.specs.Task.{Runs, Rules, Journals, Replays, Compares, Makes}
 use Rattle.asp_top.specs.Seen.{Outside}
-use Rattle.asp_top.specs.Programs.{IsProgramOf, IsInFile, HasReport}
+use Rattle.asp_top.specs.Programs.{IsProgramOf, IsInFile, HasReplay}
+use Rattle.asp_top.specs.Comparisons.{Said, IsSo, status_said, text_said}
 use Rattle.asp_top.specs.Correct.{Answers, IsWithin}
 use Rattle.asp_top.specs.Stops.{program_in}
 use Rattle.asp_top.proofs.RulingLemmas.{only_end}
@@ -131,11 +133,15 @@ journal_is o file c settings traced text status h given e is =
       (h.budgeted.within, λ (v : verdict_of replayed ≡ Budget). h.budgeted.spent (sym (ap (λ (x : OutcomeShape). x.verdict) h.replayed.outcome) ∙ v)),
     )
 
-pub replay_is : (o : Outside) (file name : List ℕ) (depth : Option ℕ) (c : Checked) (lists : ListsShape) (counts : CountsShape) (outcome : OutcomeShape) (text : List ℕ) (status : ℕ) → IsInFile o file (program_in c) → HasReport o 1 name lists counts
-    → Fits (tree_of c.program.root) lists counts → outcome ≡ outcome_of (replay (tree_of c.program.root) lists counts) → text ≡ report_to depth (whole_outcome_of (replay (tree_of c.program.root) lists counts)) → status ≡ exit_status outcome
+pub replay_is : (o : Outside) (file name : List ℕ) (depth : Option ℕ) (program : Marked) (outcome : OutcomeShape) (text : List ℕ) (status : ℕ) → IsInFile o file program → (h : HasReplay o 1 name program)
+    → outcome ≡ outcome_of (replay (plain program) h.lists h.counts) → text ≡ report_to depth (whole_outcome_of (replay (plain program) h.lists h.counts)) → status ≡ exit_status outcome
     → Answers o (Replays file name depth) text status
-replay_is o file name depth c lists counts outcome text status given old fits is e s = (
-  record { program = program_in c; given = given; lists = lists; counts = counts; fits = fits },
+replay_is o file name depth program outcome text status given h is e s = (
+  record { program = program; given = given; lists = h.lists; counts = h.counts; fits = h.fits },
   (e, s ∙ ap exit_status is),
-  old,
+  h.old,
 )
+
+pub compare_is : (o : Outside) (file name other : List ℕ) (program : Marked) (text : List ℕ) (status : ℕ) (said : Said) → IsInFile o file program → (h : HasReplay o 1 name program) (g : HasReplay o 2 other program)
+    → IsSo said (plain program) h.lists h.counts g.lists g.counts → text ≡ text_said said → status ≡ status_said said → Answers o (Compares file name other) text status
+compare_is o file name other program text status said given h g so e s = (record { program = program; given = given; first = h; second = g }, said, so, e, s)

@@ -5,13 +5,14 @@ use Rattle.std.specs.List.{list_any}
 use Rattle.asp_model.specs.Configuration.{Configuration}
 use Rattle.asp_model.specs.Status.{VerdictShape, End, Blocked, Budget, IsStuck, is_awaiting, is_running, statuses_of, verdict_of}
 use Rattle.asp_model.specs.Outcome.{ActivityReportShape, outcome_of, exit_status, is_faulted}
-use Rattle.command_line.specs.Task.{TaskShape, Runs, Checks, Rules, Journals, Replays, Makes, task_of}
+use Rattle.command_line.specs.Task.{TaskShape, Runs, Checks, Rules, Journals, Replays, Compares, Makes, task_of}
+use Rattle.asp_top.specs.Comparisons.{Said, Same, Differ, Unended, status_said}
 use Rattle.asp_top.specs.Seen.{Call, Outside, IsUntouched, Takes}
-use Rattle.asp_top.specs.Correct.{Answers, IsReported, Reports, end_of}
+use Rattle.asp_top.specs.Correct.{Answers, IsReported, IsSaid, ReplaysOf, Reports, end_of}
 use Rattle.asp_top.specs.Refusals.{Refusal, Usage, Unread, LongProgram, NoProgram, Unchecked, LongReport, NoReport, Diverges, NoMemory, status_of_refusal}
 use Rattle.asp_top.specs.Endings.{IsAnswer, Ends, Written, Refused, Unheard, Unwritten}
 use Rattle.asp_top.specs.Ended.{IsEnded}
-use Rattle.asp_top.specs.Statuses.{IsEnd, IsBlocked, GoesOn, OfAnswers, HasEnded, HasBlocked, HasSpent, Says, SaysEnd, SaysBlocked, SaysBudget}
+use Rattle.asp_top.specs.Statuses.{IsEnd, IsBlocked, GoesOn, OfAnswers, HasEnded, HasBlocked, HasSpent, Says, SaysEnd, SaysBlocked, SaysBudget, AreEnded}
 
 -- a number is not two
 pub clash : (n k m : ℕ) → n ≡ k → n ≡ m → nat_eq k k ≡ true → nat_eq k m ≡ false → ⊥
@@ -126,6 +127,35 @@ stuck_at c status e h = stuck_by c status e h (stops c)
     stuck_by c status e h (Waiting s) = s.stuck
     stuck_by c status e h (Going s) = absurd (not_five status h (e ∙ five_status c s.verdict))
 
+-- What is said of two replays
+
+said_reported : (said : Said) (status : ℕ) → status ≡ status_said said → IsReported status
+said_reported Same status e = inl e
+said_reported (Differ n) status e = inl e
+said_reported Unended status e = inr (inr (inr e))
+
+said_low : (said : Said) (status : ℕ) → status ≡ status_said said → IsLow status → status ≡ 0
+said_low Same status e h = e
+said_low (Differ n) status e h = e
+said_low Unended status e (inl h) = h
+said_low Unended status e (inr h) = absurd (clash status 1 5 h e refl refl)
+
+module _ {o : Outside} {file name other : List ℕ} (r : ReplaysOf o file name other) where
+  said_stuck : (said : Said) (status : ℕ) → IsSaid r said → status ≡ status_said said → status ≡ 0 → AreEnded r
+  said_stuck Same status h e low = h.0.stuck
+  said_stuck (Differ n) status h e low = h.stuck
+  said_stuck Unended status h e low = absurd (clash status 0 5 low e refl refl)
+
+  said_going : (said : Said) (status : ℕ) → IsSaid r said → status ≡ status_said said → status ≡ 5 → IsSaid r Unended
+  said_going Same status h e five = absurd (clash status 0 5 e five refl refl)
+  said_going (Differ n) status h e five = absurd (clash status 0 5 e five refl refl)
+  said_going Unended status h e five = h
+
+not_four : (said : Said) (status : ℕ) → status ≡ status_said said → status ≡ 4 → ⊥
+not_four Same status e h = clash status 0 4 e h refl refl
+not_four (Differ n) status e h = clash status 0 4 e h refl refl
+not_four Unended status e h = clash status 5 4 e h refl refl
+
 -- Answers
 
 pub answers_reported : (o : Outside) (task : TaskShape) (text : List ℕ) (status : ℕ) → Answers o task text status → IsReported status
@@ -134,6 +164,7 @@ answers_reported o (Checks file) text status a = inl a.3
 answers_reported o (Rules file settings) text status a = reported_at (end_of a.0) status a.1.1 (stops (end_of a.0))
 answers_reported o (Journals file settings) text status a = reported_at (end_of a.0) status a.1.1 (stops (end_of a.0))
 answers_reported o (Replays file name depth) text status a = reported_at (end_of a.0) status a.1.1 (stops (end_of a.0))
+answers_reported o (Compares file name other) text status a = said_reported a.1 status a.4
 answers_reported o (Makes pairs settings) text status a = reported_at (end_of a.0) status a.1.1 (stops (end_of a.0))
 
 has_ended : (o : Outside) (task : TaskShape) (text : List ℕ) (status : ℕ) (a : Answers o task text status) → IsLow status → HasEnded o task text status a
@@ -142,6 +173,8 @@ has_ended o (Checks file) text status a h = a.3
 has_ended o (Rules file settings) text status a h = end_at (end_of a.0) status a.1.1 h (stops (end_of a.0))
 has_ended o (Journals file settings) text status a h = end_at (end_of a.0) status a.1.1 h (stops (end_of a.0))
 has_ended o (Replays file name depth) text status a h = end_at (end_of a.0) status a.1.1 h (stops (end_of a.0))
+has_ended o (Compares file name other) text status a h =
+    let low = said_low a.1 status a.4 h in (low, said_stuck a.0 a.1 status a.2 a.4 low)
 has_ended o (Makes pairs settings) text status a h = end_at (end_of a.0) status a.1.1 h (stops (end_of a.0))
 
 has_blocked : (o : Outside) (task : TaskShape) (text : List ℕ) (status : ℕ) (a : Answers o task text status) → status ≡ 4 → HasBlocked o task text status a
@@ -150,6 +183,7 @@ has_blocked o (Checks file) text status a h = clash status 0 4 a.3 h refl refl
 has_blocked o (Rules file settings) text status a h = blocked_at (end_of a.0) status a.1.1 h (stops (end_of a.0))
 has_blocked o (Journals file settings) text status a h = blocked_at (end_of a.0) status a.1.1 h (stops (end_of a.0))
 has_blocked o (Replays file name depth) text status a h = blocked_at (end_of a.0) status a.1.1 h (stops (end_of a.0))
+has_blocked o (Compares file name other) text status a h = not_four a.1 status a.4 h
 has_blocked o (Makes pairs settings) text status a h = blocked_at (end_of a.0) status a.1.1 h (stops (end_of a.0))
 
 has_spent : (o : Outside) (task : TaskShape) (text : List ℕ) (status : ℕ) (a : Answers o task text status) → status ≡ 5 → HasSpent o task text status a
@@ -158,6 +192,7 @@ has_spent o (Checks file) text status a h = clash status 0 5 a.3 h refl refl
 has_spent o (Rules file settings) text status a h = let g = going_at (end_of a.0) status a.1.1 h (stops (end_of a.0)) in (g, a.3.1 g.verdict)
 has_spent o (Journals file settings) text status a h = let g = going_at (end_of a.0) status a.1.1 h (stops (end_of a.0)) in (g, a.2.1 g.verdict)
 has_spent o (Replays file name depth) text status a h = going_at (end_of a.0) status a.1.1 h (stops (end_of a.0))
+has_spent o (Compares file name other) text status a h = said_going a.0 a.1 status a.2 a.4 h
 has_spent o (Makes pairs settings) text status a h = let g = going_at (end_of a.0) status a.1.1 h (stops (end_of a.0)) in (g, a.2.1 g.verdict)
 
 -- Endings with the status of an answer
@@ -181,9 +216,9 @@ not_refused (Unread name) n e h = no_report n 6 e h refl
 not_refused LongProgram n e h = no_report n 3 e h refl
 not_refused (NoProgram fault) n e h = no_report n 3 e h refl
 not_refused (Unchecked fault) n e h = no_report n 3 e h refl
-not_refused LongReport n e h = no_report n 9 e h refl
-not_refused (NoReport line) n e h = no_report n 9 e h refl
-not_refused (Diverges activity) n e h = no_report n 9 e h refl
+not_refused (LongReport which) n e h = no_report n 9 e h refl
+not_refused (NoReport which line) n e h = no_report n 9 e h refl
+not_refused (Diverges which activity) n e h = no_report n 9 e h refl
 not_refused NoMemory n e h = no_report n 8 e h refl
 
 record WasWritten (c : Call) (status : ℕ) : Type 0 where

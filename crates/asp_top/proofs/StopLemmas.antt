@@ -20,8 +20,8 @@ use Rattle.asp_top.specs.declared.stop.Stop.{Stop}
 use Rattle.asp_top.specs.Seen.{Sight, Outside}
 use Rattle.asp_top.specs.Refusals.{Refusal, Usage, Unread, LongProgram, NoProgram, Unchecked, LongReport, NoReport, Diverges, NoMemory, status_of_refusal, message_of}
 use Rattle.command_line.specs.Task.{TaskShape}
-use Rattle.asp_top.specs.Programs.{IsFile, IsText, IsProgramOf}
-use Rattle.asp_top.specs.Endings.{HoldsFor, NamesProgram, OfProgram}
+use Rattle.asp_top.specs.Programs.{IsFile, IsText, IsProgramOf, NamesProgram}
+use Rattle.asp_top.specs.Endings.{HoldsFor, OfProgram}
 use Rattle.asp_top.specs.Stops.{IsCheckedFile, RefusedAt, RefusedInFile, StopsAt, StopsInFile, syntax_stop, check_stop, program_in, refusal_of}
 use Rattle.asp_top.specs.Ready.{Told, ToldRefusal}
 
@@ -73,9 +73,9 @@ refused_in_file o name bytes (Unread other) f h = absurd h
 refused_in_file o name bytes LongProgram f h = absurd h
 refused_in_file o name bytes (NoProgram fault) f h = (bytes, f, h)
 refused_in_file o name bytes (Unchecked fault) f h = (bytes, f, h)
-refused_in_file o name bytes LongReport f h = absurd h
-refused_in_file o name bytes (NoReport line) f h = absurd h
-refused_in_file o name bytes (Diverges activity) f h = absurd h
+refused_in_file o name bytes (LongReport which) f h = absurd h
+refused_in_file o name bytes (NoReport which line) f h = absurd h
+refused_in_file o name bytes (Diverges which activity) f h = absurd h
 refused_in_file o name bytes NoMemory f h = tt
 
 pub stops_in_file : (o : Outside) (name bytes : List ℕ) (r : Result Checked Stop) → IsFile o 0 name MOST_PROGRAM_BYTES bytes → IfErr r (StopsAt bytes) → IfErr r (StopsInFile o name)
@@ -89,9 +89,9 @@ no_program o task file named text (Unread name) h = OfProgram (subst (NamesProgr
 no_program o task file named text LongProgram h = record { name = file; named = named; long = h }
 no_program o task file named text (NoProgram fault) h = (h.0, text h.0 h.1, h.2)
 no_program o task file named text (Unchecked fault) h = (h.0, text h.0 h.1, h.2)
-no_program o task file named text LongReport h = absurd h
-no_program o task file named text (NoReport line) h = absurd h
-no_program o task file named text (Diverges activity) h = absurd h
+no_program o task file named text (LongReport which) h = absurd h
+no_program o task file named text (NoReport which line) h = absurd h
+no_program o task file named text (Diverges which activity) h = absurd h
 no_program o task file named text NoMemory h = tt
 
 pub if_named : {S E : Type 0} (f : S → List ℕ) (r : Result S E) (a b : List ℕ) → a ≡ b → IfOk r (λ s. f s ≡ a) → IfOk r (λ s. f s ≡ b)

@@ -19,10 +19,11 @@ use Rattle.run_report.specs.Summary.{summary_of}
 use Rattle.law_traces.specs.Standings.{IsEndedJournal}
 use Rattle.trace_text.specs.Traces as Trace
 use Rattle.trace_text.specs.Traces.{read_trace, trace_of}
-use Rattle.command_line.specs.Task.{TaskShape, Runs, Checks, Rules, Journals, Replays, Makes, task_of}
+use Rattle.command_line.specs.Task.{TaskShape, Runs, Checks, Rules, Journals, Replays, Compares, Makes, task_of}
 use Rattle.asp_top.specs.Seen.{Call, Outside, IsUntouched, Takes}
-use Rattle.asp_top.specs.Programs.{HasProgram, HasReport}
+use Rattle.asp_top.specs.Programs.{HasProgram, HasReplay, HasReport}
 use Rattle.asp_top.specs.Rulings.{IsOnlyEnd}
+use Rattle.asp_top.specs.Comparisons.{Said, IsSo, status_said, text_said}
 
 -- logs and counts that fit the program of a task
 pub record ReplayOf (o : Outside) (task : TaskShape) : Type 0 where
@@ -62,6 +63,17 @@ pub record IsTrace (program : Tree) (budget : ℕ) (c : Configuration) (text : L
   pub agrees : Agrees journal.run.configuration c
   pub outcome : outcome_of journal.run.configuration ≡ outcome_of c
 
+-- two reports that fit the program in a file, read one after the other
+pub record ReplaysOf (o : Outside) (file name other : List ℕ) : Type 0 where
+  pub program : Marked
+  pub given : HasProgram o (Compares file name other) program
+  pub first : HasReplay o 1 name program
+  pub second : HasReplay o 2 other program
+
+-- this is so of their replays
+abbrev pub IsSaid : {o : Outside} {file name other : List ℕ} → ReplaysOf o file name other → Said → Type 0
+IsSaid r said = IsSo said (plain r.program) r.first.lists r.first.counts r.second.lists r.second.counts
+
 abbrev pub Answers : Outside → TaskShape → List ℕ → ℕ → Type 0
 -- `asp FILE`: the report, at the depth asked for, of the replay under the logs and counts that it reads as
 Answers o (Runs file settings depth) report status = (r : ReplayOf o (Runs file settings depth))
@@ -81,6 +93,9 @@ Answers o (Journals file settings) text status = (r : ReplayOf o (Journals file 
 -- `asp FILE --replay REPORT`: the report of the replay under those that the file REPORT reads as
 Answers o (Replays file name depth) report status = (r : ReplayOf o (Replays file name depth))
     × Tells (report_at depth) (end_of r) report status × HasReport o 1 name r.lists r.counts
+-- `asp FILE --replay REPORT --same OTHER`: what services could tell of the replays under those that both files read as
+Answers o (Compares file name other) text status = (r : ReplaysOf o file name other)
+    × (said : Said) × IsSaid r said × (text ≡ text_said said) × (status ≡ status_said said)
 -- `asp --make N`: the summary of a replay of the generated program
 Answers o (Makes pairs settings) summary status = (r : ReplayOf o (Makes pairs settings))
     × Tells (λ c. summary_of pairs (outcome_of c)) (end_of r) summary status × IsWithin settings.budget r.counts (end_of r)

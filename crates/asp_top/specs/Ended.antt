@@ -1,10 +1,13 @@
--- What two calls say of each other.
-use Rattle.std.specs.Prelude.{◌≡◌, ◌⊎◌, ℕ, List, Option}
+-- What two calls say of each other, and what a comparison says.
+use Rattle.std.specs.Prelude.{◌≡◌, ◌⊎◌, ◌↔◌, ℕ, List, Option}
 use Rattle.asp_model.specs.Marked.{plain}
 use Rattle.law_steps.specs.Joins.{AreNarrow}
 use Rattle.command_line.specs.Settings.{SettingsShape}
-use Rattle.command_line.specs.Task.{Runs}
+use Rattle.law_services.specs.Services.{AreServedAlike}
+use Rattle.replay_services.specs.Compares.{AreStuck}
+use Rattle.command_line.specs.Task.{Runs, Compares}
 use Rattle.asp_top.specs.Seen.{Outside}
+use Rattle.asp_top.specs.Comparisons.{Same, ShowAlike, text_said}
 use Rattle.asp_top.specs.Correct.{Answers}
 
 -- the run has ended: nobody can go on
@@ -30,3 +33,15 @@ OneSenderPrintsTheSame = (o p : Outside) (file name : List ℕ) (settings others
     → (b : Answers p (Runs name others depth) other code)
     → IsEnded status → IsEnded code
     → plain a.0.program ≡ plain b.0.program → AreNarrow a.0.lists → report ≡ other
+
+-- `same` is written exactly where both replays are stuck and no service can tell, and then their reports are equal, at
+-- every depth, but for the lines of logs
+abbrev pub ComparisonsAreExact : Type 0
+ComparisonsAreExact = (o : Outside) (file name other text : List ℕ) (status : ℕ)
+    → (a : Answers o (Compares file name other) text status)
+    → let program = plain a.0.program in
+    let lists = a.0.first.lists in let counts = a.0.first.counts in
+    let others = a.0.second.lists in let other_counts = a.0.second.counts in
+    ((text ≡ text_said Same) ↔ (AreStuck program lists counts others other_counts
+    × AreServedAlike program lists counts others other_counts))
+    × (text ≡ text_said Same → ShowAlike program lists counts others other_counts)

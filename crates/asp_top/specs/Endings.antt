@@ -12,10 +12,13 @@ use Rattle.asp_syntax.specs.Faults.{FirstFault}
 use Rattle.syntax_grammar.specs.Programs.{IsProgramText}
 use Rattle.asp_check.specs.declared.fault.CheckFault.{CheckFault}
 use Rattle.asp_check.specs.Faults.{IsChecked, IsFirstFault}
-use Rattle.command_line.specs.Task.{TaskShape, Runs, Checks, Rules, Journals, Replays, Makes, task_of}
+use Rattle.command_line.specs.Task.{TaskShape, task_of}
+use Rattle.asp_top.specs.declared.stop.Which.{Which}
+use Rattle.asp_top.specs.declared.stop.Which.TheVariants.{First, Second}
 use Rattle.asp_top.specs.Seen.{Call, Outside, ReadFails, IsLong, IsUntouched, Takes, TakesFront}
 use Rattle.asp_top.specs.Refusals.{Refusal, Usage, Unread, LongProgram, NoProgram, Unchecked, LongReport, NoReport, Diverges, NoMemory, status_of_refusal, message_of, write_message}
-use Rattle.asp_top.specs.Programs.{IsFile, IsText, HasProgram, HasReport}
+use Rattle.asp_top.specs.Programs.{IsFile, IsText, HasProgram, HasReplay, HasReport}
+use Rattle.asp_top.specs.Programs.{NamesProgram, NamesReport, place_of}
 use Rattle.asp_top.specs.Correct.{Answers}
 
 -- the bytes are no program, and this is their first fault
@@ -30,63 +33,55 @@ pub record IsUncheckedText (bytes : List ℕ) (fault : CheckFault) : Type 0 wher
   pub first : IsFirstFault program fault
   pub none : (program : Marked) → IsProgramText bytes program → IsChecked program → ⊥
 
--- the task names a file for its program
-abbrev pub NamesProgram : TaskShape → List ℕ → Type 0
-NamesProgram (Runs file settings depth) name = file ≡ name
-NamesProgram (Checks file) name = file ≡ name
-NamesProgram (Rules file settings) name = file ≡ name
-NamesProgram (Journals file settings) name = file ≡ name
-NamesProgram (Replays file report depth) name = file ≡ name
-NamesProgram (Makes pairs settings) name = ⊥
-
--- the task names a report
-abbrev pub NamesReport : TaskShape → List ℕ → Type 0
-NamesReport (Replays file report depth) name = report ≡ name
-NamesReport task name = ⊥
-
 -- the file of the task's program is longer than a program may be
 pub record HasLongProgram (o : Outside) (task : TaskShape) : Type 0 where
   pub name : List ℕ
   pub named : NamesProgram task name
   pub long : IsLong o 0 name MOST_PROGRAM_BYTES
 
--- the task has a program and names a report that is too long
-pub record HasLongReport (o : Outside) (task : TaskShape) : Type 0 where
-  pub program : Marked
-  pub given : HasProgram o task program
-  pub name : List ℕ
-  pub named : NamesReport task name
-  pub long : IsLong o 1 name MOST_REPORT_BYTES
+-- the report that comes before this one fits the program
+abbrev pub IsBehind : Outside → TaskShape → Marked → Which → Type 0
+IsBehind o task program First = Unit {0}
+IsBehind o task program Second = (name : List ℕ) × NamesReport task First name × HasReplay o 1 name program
 
--- the task has a program and names a file that is no report: this is the first line that cannot
--- stand in its place
-pub record HasBadLine (o : Outside) (task : TaskShape) (line : ℕ) : Type 0 where
-  pub program : Marked
+-- the task has a program, and comes to one of its reports
+pub record ComesTo (o : Outside) (task : TaskShape) (which : Which) (name : List ℕ) (program : Marked) : Type 0 where
   pub given : HasProgram o task program
+  pub named : NamesReport task which name
+  pub behind : IsBehind o task program which
+
+-- this one is too long
+pub record HasLongReport (o : Outside) (task : TaskShape) (which : Which) : Type 0 where
+  pub program : Marked
   pub name : List ℕ
-  pub named : NamesReport task name
+  pub comes : ComesTo o task which name program
+  pub long : IsLong o (place_of which) name MOST_REPORT_BYTES
+
+-- it is no report: this is the first line that cannot stand in its place
+pub record HasBadLine (o : Outside) (task : TaskShape) (which : Which) (line : ℕ) : Type 0 where
+  pub program : Marked
+  pub name : List ℕ
+  pub comes : ComesTo o task which name program
   pub bytes : List ℕ
-  pub file : IsFile o 1 name MOST_REPORT_BYTES bytes
+  pub file : IsFile o (place_of which) name MOST_REPORT_BYTES bytes
   pub reads : read_report bytes ≡ BadLine line
 
--- the task has a program and names a report that does not fit it: this is the least activity that
--- shows it
-pub record HasDivergence (o : Outside) (task : TaskShape) (activity : Name) : Type 0 where
+-- it does not fit the program: this is the least activity that shows it
+pub record HasDivergence (o : Outside) (task : TaskShape) (which : Which) (activity : Name) : Type 0 where
   pub program : Marked
-  pub given : HasProgram o task program
   pub name : List ℕ
-  pub named : NamesReport task name
+  pub comes : ComesTo o task which name program
   pub lists : ListsShape
   pub counts : CountsShape
-  pub old : HasReport o 1 name lists counts
+  pub old : HasReport o (place_of which) name lists counts
   pub least : IsLeastDiverging (plain program) lists counts activity
   pub unfit : Fits (plain program) lists counts → ⊥
 
--- a file could not be read: the program's, or the report of a task that has a program
+-- a file could not be read: the program's, or a report to which the task comes
 pub data IsUnread (o : Outside) (task : TaskShape) (name : List ℕ) : Type 0 where
   OfProgram : NamesProgram task name → ReadFails o 0 name → IsUnread o task name
-  OfReport : (program : Marked) → HasProgram o task program
-      → NamesReport task name → ReadFails o 1 name → IsUnread o task name
+  OfReport : (which : Which) (program : Marked) → ComesTo o task which name program
+      → ReadFails o (place_of which) name → IsUnread o task name
 
 -- the cause of a refusal of a task
 abbrev pub HoldsFor : Outside → TaskShape → Refusal → Type 0
@@ -97,9 +92,9 @@ HoldsFor o task (NoProgram fault) =
     (bytes : List ℕ) × IsText o task bytes × IsFaultyText bytes fault
 HoldsFor o task (Unchecked fault) =
     (bytes : List ℕ) × IsText o task bytes × IsUncheckedText bytes fault
-HoldsFor o task LongReport = HasLongReport o task
-HoldsFor o task (NoReport line) = HasBadLine o task line
-HoldsFor o task (Diverges activity) = HasDivergence o task activity
+HoldsFor o task (LongReport which) = HasLongReport o task which
+HoldsFor o task (NoReport which line) = HasBadLine o task which line
+HoldsFor o task (Diverges which activity) = HasDivergence o task which activity
 HoldsFor o task NoMemory = Unit {0}
 
 -- the cause of a refusal: the words ask for nothing, memory ran out, or it is one of the task

@@ -8,12 +8,14 @@ use Rattle.asp_model.specs.ReadReport.{read_report, Reads, BadLine}
 use Rattle.syntax_grammar.specs.Programs.{IsProgramText}
 use Rattle.asp_check.specs.Faults.{IsChecked}
 use Rattle.load_gen.specs.Generated.{generated}
-use Rattle.command_line.specs.Task.{TaskShape, Runs, Checks, Rules, Journals, Replays, Makes, task_of}
+use Rattle.command_line.specs.Task.{TaskShape, Runs, Checks, Rules, Journals, Replays, Compares, Makes, task_of}
+use Rattle.asp_top.specs.declared.stop.Which.{Which}
+use Rattle.asp_top.specs.declared.stop.Which.TheVariants.{First, Second}
 use Rattle.asp_top.specs.Seen.{Call, Outside, Gave, SomeReadFails, IsUntouched, Takes, Fails}
 use Rattle.asp_top.specs.Refusals.{Refusal, LongReport, NoReport, Diverges, message_of}
-use Rattle.asp_top.specs.Programs.{IsProgramOf, HasProgram}
+use Rattle.asp_top.specs.Programs.{IsProgramOf, HasProgram, NamesProgram, NamesReport, place_of}
 use Rattle.asp_top.specs.Correct.{IsReported}
-use Rattle.asp_top.specs.Endings.{NamesProgram}
+use Rattle.asp_top.specs.Endings.{HoldsFor}
 use Rattle.asp_top.specs.Statuses.{CouldNot, IsUnfit}
 
 -- the source tells these bytes under the name, or hands them out when it is asked for it at this place
@@ -31,6 +33,7 @@ HasText o (Checks file) bytes = HasShort o 0 file MOST_PROGRAM_BYTES bytes
 HasText o (Rules file settings) bytes = HasShort o 0 file MOST_PROGRAM_BYTES bytes
 HasText o (Journals file settings) bytes = HasShort o 0 file MOST_PROGRAM_BYTES bytes
 HasText o (Replays file name depth) bytes = HasShort o 0 file MOST_PROGRAM_BYTES bytes
+HasText o (Compares file name other) bytes = HasShort o 0 file MOST_PROGRAM_BYTES bytes
 HasText o (Makes pairs settings) bytes = bytes ≡ generated pairs
 
 -- a report in these bytes reads as logs and counts that fit the program
@@ -40,14 +43,18 @@ pub record IsReportOf (program : Marked) (bytes : List ℕ) : Type 0 where
   pub reads : read_report bytes ≡ Reads lists counts
   pub fits : Fits (plain program) lists counts
 
--- the source has the report that is named, and it is short enough and fits the program
-abbrev pub MayReplay : Outside → TaskShape → Marked → Type 0
-MayReplay o (Replays file name depth) program =
-    (bytes : List ℕ) × HasShort o 1 name MOST_REPORT_BYTES bytes × IsReportOf program bytes
-MayReplay o task program = Unit {0}
+-- the source has this report, and it is short enough and fits the program
+abbrev pub MayReplayAt : Outside → ℕ → List ℕ → Marked → Type 0
+MayReplayAt o place name program =
+    (bytes : List ℕ) × HasShort o place name MOST_REPORT_BYTES bytes × IsReportOf program bytes
 
--- the words ask for a task, the source has its files, and they are short enough, a checked program and a report
--- that fits it; no read fails, and no sink
+-- so has it each report that is named
+abbrev pub MayReplay : Outside → TaskShape → Marked → Type 0
+MayReplay o task program =
+    (which : Which) (name : List ℕ) → NamesReport task which name → MayReplayAt o (place_of which) name program
+
+-- the words ask for a task, the source has its files, and they are short enough, a checked program and reports
+-- that fit it; no read fails, and no sink
 pub record MayAnswer (c : Call) : Type 0 where
   pub task : TaskShape
   pub asked : task_of c.words ≡ Some task
@@ -71,34 +78,47 @@ pub record AsksUnfit (c : Call) : Type 0 where
   pub unfit : (MOST_PROGRAM_BYTES < length bytes)
       ⊎ ((program : Marked) → IsProgramText bytes program → IsChecked program → ⊥)
 
--- the words ask for a replay, and the source has the report, and it is too long, or shows no logs and counts
--- that fit the program in the file
+-- the words name a report, and the source has it, and it is too long, or shows no logs and counts that fit the
+-- program in the file
 pub record AsksNoReplay (c : Call) : Type 0 where
-  pub file : List ℕ
+  pub task : TaskShape
+  pub asked : task_of c.words ≡ Some task
+  pub which : Which
   pub name : List ℕ
-  pub depth : Option ℕ
-  pub asked : task_of c.words ≡ Some (Replays file name depth)
+  pub named : NamesReport task which name
   pub report : List ℕ
-  pub had : Has c.outside 1 name report
+  pub had : Has c.outside (place_of which) name report
   pub unfit : (MOST_REPORT_BYTES < length report) ⊎ ((program : Marked)
-      → HasProgram c.outside (Replays file name depth) program → IsReportOf program report → ⊥)
+      → HasProgram c.outside task program → IsReportOf program report → ⊥)
 
--- why a report in these bytes is refused for a program: it is too long; or it is not of its form,
--- by its first bad line; or the program's replay diverges, at the least such activity
-abbrev pub IsRefusedFor : Marked → List ℕ → Refusal → Type 0
-IsRefusedFor program report LongReport = MOST_REPORT_BYTES < length report
-IsRefusedFor program report (NoReport line) = read_report report ≡ BadLine line
-IsRefusedFor program report (Diverges activity) = (lists : ListsShape) × (counts : CountsShape)
-    × (read_report report ≡ Reads lists counts)
+-- why one of the reports, in these bytes, is refused for a program: it is too long; or it is not of its form, by its
+-- first bad line; or the program's replay diverges, at the least such activity
+abbrev pub IsRefusedFor : Marked → Which → List ℕ → Refusal → Type 0
+IsRefusedFor program which report (LongReport one) = (one ≡ which) × (MOST_REPORT_BYTES < length report)
+IsRefusedFor program which report (NoReport one line) = (one ≡ which) × (read_report report ≡ BadLine line)
+IsRefusedFor program which report (Diverges one activity) = (one ≡ which)
+    × (lists : ListsShape) × (counts : CountsShape) × (read_report report ≡ Reads lists counts)
     × IsLeastDiverging (plain program) lists counts activity
-IsRefusedFor program report r = ⊥
+IsRefusedFor program which report r = ⊥
 
--- the report is refused for the program in the file, and one message tells why
+-- it is the first report that is refused
+abbrev pub IsOfFirst : Refusal → Type 0
+IsOfFirst (LongReport First) = Unit {0}
+IsOfFirst (NoReport First line) = Unit {0}
+IsOfFirst (Diverges First activity) = Unit {0}
+IsOfFirst r = ⊥
+
+-- the one before it is refused
+abbrev pub IsRefusedBefore : Outside → TaskShape → Which → Refusal → Type 0
+IsRefusedBefore o task First r = ⊥
+IsRefusedBefore o task Second r = IsOfFirst r × HoldsFor o task r
+
+-- the report is refused for the program in the file, or the one before it, and one message tells why
 pub record RefusesReport (c : Call) (a : AsksNoReplay c) (status : ℕ) : Type 0 where
   pub program : Marked
-  pub given : HasProgram c.outside (Replays a.file a.name a.depth) program
+  pub given : HasProgram c.outside a.task program
   pub refusal : Refusal
-  pub cause : IsRefusedFor program a.report refusal
+  pub cause : IsRefusedFor program a.which a.report refusal ⊎ IsRefusedBefore c.outside a.task a.which refusal
   pub told : Takes c.err (message_of refusal)
   pub untouched : IsUntouched c.out
   pub answered : status ≡ 9

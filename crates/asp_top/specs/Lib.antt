@@ -2,6 +2,7 @@
 pub mod Seen
 pub mod Programs
 pub mod Rulings
+pub mod Comparisons
 pub mod Correct
 pub mod Refusals
 pub mod Endings
@@ -10,3 +11,4 @@ pub mod Expected
 pub mod Ended
 pub mod Stops
 pub mod Ready
+pub mod Replayed

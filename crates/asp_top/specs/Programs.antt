@@ -1,16 +1,18 @@
 -- The files that a task names, and the program that it asks for.
 use Rattle.std.specs.Prelude.{◌≡◌, ℕ, ◌≤◌, List, [], ◌∷◌, length, Option, Some, None, Ok, is_ok, false}
 use Rattle.asp_model.specs.declared.limits.TheConstants.{MOST_PROGRAM_BYTES, MOST_REPORT_BYTES}
-use Rattle.asp_model.specs.Marked.{Marked}
+use Rattle.asp_model.specs.Marked.{Marked, plain}
 use Rattle.asp_model.specs.Step.{ListsShape}
-use Rattle.asp_model.specs.Replay.{CountsShape}
+use Rattle.asp_model.specs.Replay.{CountsShape, Fits}
 use Rattle.asp_model.specs.ReadReport.{read_report, Reads}
 use Rattle.syntax_grammar.specs.Programs.{IsProgramText}
 use Rattle.asp_check.specs.Faults.{IsChecked}
 use Rattle.asp_edge.specs.Told.{Asks}
 use Rattle.asp_edge.specs.Causes.{IsContent}
 use Rattle.load_gen.specs.Generated.{generated}
-use Rattle.command_line.specs.Task.{TaskShape, Runs, Checks, Rules, Journals, Replays, Makes, task_of}
+use Rattle.command_line.specs.Task.{TaskShape, Runs, Checks, Rules, Journals, Replays, Compares, Makes, task_of}
+use Rattle.asp_top.specs.declared.stop.Which.{Which}
+use Rattle.asp_top.specs.declared.stop.Which.TheVariants.{First, Second}
 use Rattle.asp_top.specs.Seen.{Outside, Asked, Gave}
 
 -- the file of this name, which was asked for at this place, has these bytes, and at most so many: the source
@@ -27,6 +29,7 @@ IsText o (Checks file) bytes = IsFile o 0 file MOST_PROGRAM_BYTES bytes
 IsText o (Rules file settings) bytes = IsFile o 0 file MOST_PROGRAM_BYTES bytes
 IsText o (Journals file settings) bytes = IsFile o 0 file MOST_PROGRAM_BYTES bytes
 IsText o (Replays file report depth) bytes = IsFile o 0 file MOST_PROGRAM_BYTES bytes
+IsText o (Compares file report other) bytes = IsFile o 0 file MOST_PROGRAM_BYTES bytes
 IsText o (Makes pairs settings) bytes = bytes ≡ generated pairs
 
 -- the bytes are this program and no other, and it is checked
@@ -57,7 +60,36 @@ pub record HasReport (o : Outside) (place : ℕ) (name : List ℕ)
   pub file : IsFile o place name MOST_REPORT_BYTES bytes
   pub reads : read_report bytes ≡ Reads lists counts
 
+-- and these fit the program
+pub record HasReplay (o : Outside) (place : ℕ) (name : List ℕ) (program : Marked) : Type 0 where
+  pub lists : ListsShape
+  pub counts : CountsShape
+  pub old : HasReport o place name lists counts
+  pub fits : Fits (plain program) lists counts
+
 -- Which files are asked for
+
+-- the task names a file for its program
+abbrev pub NamesProgram : TaskShape → List ℕ → Type 0
+NamesProgram (Runs file settings depth) name = file ≡ name
+NamesProgram (Checks file) name = file ≡ name
+NamesProgram (Rules file settings) name = file ≡ name
+NamesProgram (Journals file settings) name = file ≡ name
+NamesProgram (Replays file report depth) name = file ≡ name
+NamesProgram (Compares file report other) name = file ≡ name
+NamesProgram (Makes pairs settings) name = ⊥
+
+-- the task names this for one of its reports
+abbrev pub NamesReport : TaskShape → Which → List ℕ → Type 0
+NamesReport (Replays file report depth) First name = report ≡ name
+NamesReport (Compares file report other) First name = report ≡ name
+NamesReport (Compares file report other) Second name = other ≡ name
+NamesReport task which name = ⊥
+
+-- where that is asked for
+abbrev pub place_of : Which → ℕ
+place_of First = 1
+place_of Second = 2
 
 -- the files that a task names, in their order
 abbrev pub files_of : TaskShape → List (List ℕ)
@@ -66,6 +98,7 @@ files_of (Checks file) = file ∷ []
 files_of (Rules file settings) = file ∷ []
 files_of (Journals file settings) = file ∷ []
 files_of (Replays file report depth) = file ∷ report ∷ []
+files_of (Compares file report other) = file ∷ report ∷ other ∷ []
 files_of (Makes pairs settings) = []
 
 abbrev pub files_in : Option TaskShape → List (List ℕ)
@@ -84,6 +117,6 @@ pub record AsksInTurn (o : Outside) (names : List (List ℕ)) : Type 0 where
   pub asked : Asked o asks
   pub turn : InTurn names asks
 
--- nothing was asked in the call but the files that the words name, in turn: the program's, and then the report
+-- nothing was asked in the call but the files that the words name, in turn: the program's, and then the reports
 abbrev pub ReadsFiles : List (List ℕ) → Outside → Type 0
 ReadsFiles words o = AsksInTurn o (files_in (task_of words))

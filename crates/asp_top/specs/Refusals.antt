@@ -9,6 +9,8 @@ use Rattle.asp_syntax.specs.declared.error.SyntaxFault.{SyntaxFault}
 use Rattle.asp_check.specs.declared.fault.CheckKind.{CheckKind}
 use Rattle.asp_check.specs.declared.fault.CheckKind.TheVariants.{Unbound, DoubleLabel, DoubleParameter, TooManyParameters, Arity, ServiceArity}
 use Rattle.asp_check.specs.declared.fault.CheckFault.{CheckFault}
+use Rattle.asp_top.specs.declared.stop.Which.{Which}
+use Rattle.asp_top.specs.declared.stop.Which.TheVariants.{First, Second}
 
 pub data Refusal : Type 0 where
   Usage : Refusal
@@ -16,10 +18,11 @@ pub data Refusal : Type 0 where
   LongProgram : Refusal
   NoProgram : (fault : SyntaxFault) → Refusal
   Unchecked : (fault : CheckFault) → Refusal
-  LongReport : Refusal
+  -- one of the reports
+  LongReport : (which : Which) → Refusal
   -- by its first line that cannot stand in its place
-  NoReport : (line : ℕ) → Refusal
-  Diverges : (activity : Name) → Refusal
+  NoReport : (which : Which) (line : ℕ) → Refusal
+  Diverges : (which : Which) (activity : Name) → Refusal
   NoMemory : Refusal
 
 abbrev pub status_of_refusal : Refusal → ℕ
@@ -28,9 +31,9 @@ status_of_refusal (Unread name) = 6
 status_of_refusal LongProgram = 3
 status_of_refusal (NoProgram fault) = 3
 status_of_refusal (Unchecked fault) = 3
-status_of_refusal LongReport = 9
-status_of_refusal (NoReport line) = 9
-status_of_refusal (Diverges activity) = 9
+status_of_refusal (LongReport which) = 9
+status_of_refusal (NoReport which line) = 9
+status_of_refusal (Diverges which activity) = 9
 status_of_refusal NoMemory = 8
 
 abbrev pub kind_text : SyntaxKind → List ℕ
@@ -52,6 +55,23 @@ check_text ServiceArity = codes "ServiceArity"
 abbrev pub fault_line : List ℕ → ℕ → List ℕ
 fault_line kind at = with_feed (codes "asp: program: " ++ kind ++ codes " at " ++ decimal at)
 
+-- the option that names a report
+abbrev pub option_text : Which → List ℕ
+option_text First = codes "replay"
+option_text Second = codes "same"
+
+-- why a report is refused, by its option
+
+abbrev pub long_line : List ℕ → List ℕ
+long_line option = with_feed (codes "asp: " ++ option ++ codes ": longer than 16777216 bytes")
+
+abbrev pub bad_line : List ℕ → ℕ → List ℕ
+bad_line option line = with_feed (codes "asp: " ++ option ++ codes ": line " ++ decimal line)
+
+abbrev pub diverging_line : List ℕ → Name → List ℕ
+diverging_line option activity =
+    with_feed (codes "asp: " ++ option ++ codes ": " ++ name_text activity ++ codes " diverges")
+
 abbrev pub usage_line : List ℕ
 usage_line = with_feed (codes "asp: usage: asp FILE [OPTION ..], or asp --make N [OPTION ..]")
 
@@ -61,10 +81,9 @@ message_of (Unread name) = with_feed (codes "asp: cannot read " ++ name)
 message_of LongProgram = with_feed (codes "asp: program: longer than 1048576 bytes")
 message_of (NoProgram fault) = fault_line (kind_text fault.kind) fault.at
 message_of (Unchecked fault) = fault_line (check_text fault.kind) fault.at
-message_of LongReport = with_feed (codes "asp: replay: longer than 16777216 bytes")
-message_of (NoReport line) = with_feed (codes "asp: replay: line " ++ decimal line)
-message_of (Diverges activity) =
-    with_feed (codes "asp: replay: " ++ name_text activity ++ codes " diverges")
+message_of (LongReport which) = long_line (option_text which)
+message_of (NoReport which line) = bad_line (option_text which) line
+message_of (Diverges which activity) = diverging_line (option_text which) activity
 message_of NoMemory = with_feed (codes "asp: no memory")
 
 abbrev pub write_message : List ℕ

@@ -3,14 +3,18 @@ use Rattle.std.specs.Prelude.{◌≡◌, ◌⊎◌, ℕ, true, false, List, Some
 use Rattle.std.specs.List.{list_any}
 use Rattle.asp_model.specs.Names.{Name}
 use Rattle.asp_model.specs.Configuration.{Configuration}
+use Rattle.asp_model.specs.Marked.{plain}
 use Rattle.asp_model.specs.Status.{End, Blocked, Budget, IsStuck, is_awaiting, statuses_of, verdict_of}
 use Rattle.asp_model.specs.Replay.{total}
 use Rattle.asp_syntax.specs.declared.error.SyntaxFault.{SyntaxFault}
 use Rattle.asp_check.specs.declared.fault.CheckFault.{CheckFault}
-use Rattle.command_line.specs.Task.{TaskShape, Runs, Checks, Rules, Journals, Replays, Makes, task_of}
+use Rattle.command_line.specs.Task.{TaskShape, Runs, Checks, Rules, Journals, Replays, Compares, Makes, task_of}
+use Rattle.asp_top.specs.declared.stop.Which.{Which}
 use Rattle.asp_top.specs.Seen.{Call, Outside, SomeReadFails, Takes, Fails}
 use Rattle.asp_top.specs.Refusals.{LongProgram, NoProgram, Unchecked, LongReport, NoReport, Diverges}
-use Rattle.asp_top.specs.Correct.{Answers, end_of}
+use Rattle.replay_services.specs.Compares.{AreStuck}
+use Rattle.asp_top.specs.Comparisons.{Unended}
+use Rattle.asp_top.specs.Correct.{Answers, IsSaid, ReplaysOf, end_of}
 use Rattle.asp_top.specs.Endings.{IsCause}
 
 -- What a status says of a replay
@@ -32,18 +36,23 @@ pub record GoesOn (c : Configuration) : Type 0 where
   pub verdict : verdict_of c ≡ Budget
   pub free : IsStuck c → ⊥
 
+-- both replays of a comparison are stuck
+abbrev pub AreEnded : {o : Outside} {file name other : List ℕ} → ReplaysOf o file name other → Type 0
+AreEnded r = AreStuck (plain r.program) r.first.lists r.first.counts r.second.lists r.second.counts
+
 -- a fact of answers
 abbrev pub OfAnswers : Type 1
 OfAnswers = (o : Outside) (task : TaskShape) (text : List ℕ) (status : ℕ)
     → Answers o task text status → Type 0
 
--- what status 0 or 1 says of an answer
+-- what status 0 or 1 says of an answer: a comparison has 0 alone, and both replays are stuck
 abbrev pub HasEnded : OfAnswers
 HasEnded o (Runs file settings depth) text status a = IsEnd (end_of a.0)
 HasEnded o (Checks file) text status a = status ≡ 0
 HasEnded o (Rules file settings) text status a = IsEnd (end_of a.0)
 HasEnded o (Journals file settings) text status a = IsEnd (end_of a.0)
 HasEnded o (Replays file name depth) text status a = IsEnd (end_of a.0)
+HasEnded o (Compares file name other) text status a = (status ≡ 0) × AreEnded a.0
 HasEnded o (Makes pairs settings) text status a = IsEnd (end_of a.0)
 
 -- what status 4 says of it
@@ -53,15 +62,17 @@ HasBlocked o (Checks file) text status a = ⊥
 HasBlocked o (Rules file settings) text status a = IsBlocked (end_of a.0)
 HasBlocked o (Journals file settings) text status a = IsBlocked (end_of a.0)
 HasBlocked o (Replays file name depth) text status a = IsBlocked (end_of a.0)
+HasBlocked o (Compares file name other) text status a = ⊥
 HasBlocked o (Makes pairs settings) text status a = IsBlocked (end_of a.0)
 
--- what status 5 says of it: a run has spent its budget
+-- what status 5 says of it: a run has spent its budget, and of two replays one can go on
 abbrev pub HasSpent : OfAnswers
 HasSpent o (Runs file settings depth) text status a = GoesOn (end_of a.0) × (total a.0.counts ≡ settings.budget)
 HasSpent o (Checks file) text status a = ⊥
 HasSpent o (Rules file settings) text status a = GoesOn (end_of a.0) × (total a.0.counts ≡ settings.budget)
 HasSpent o (Journals file settings) text status a = GoesOn (end_of a.0) × (total a.0.counts ≡ settings.budget)
 HasSpent o (Replays file name depth) text status a = GoesOn (end_of a.0)
+HasSpent o (Compares file name other) text status a = IsSaid a.0 Unended
 HasSpent o (Makes pairs settings) text status a = GoesOn (end_of a.0) × (total a.0.counts ≡ settings.budget)
 
 -- a text was written of which this holds
@@ -89,10 +100,10 @@ abbrev pub IsUnfit : Call → Type 0
 IsUnfit c = IsCause c LongProgram ⊎ ((fault : SyntaxFault) × IsCause c (NoProgram fault))
     ⊎ ((fault : CheckFault) × IsCause c (Unchecked fault))
 
--- the report is too long, none, or does not fit
+-- one of the reports is too long, none, or does not fit
 abbrev pub IsNotReplayed : Call → Type 0
-IsNotReplayed c = IsCause c LongReport ⊎ ((line : ℕ) × IsCause c (NoReport line))
-    ⊎ ((activity : Name) × IsCause c (Diverges activity))
+IsNotReplayed c = (which : Which) × (IsCause c (LongReport which) ⊎ ((line : ℕ) × IsCause c (NoReport which line))
+    ⊎ ((activity : Name) × IsCause c (Diverges which activity)))
 
 -- a read failed, a sink failed, or memory ran out
 abbrev pub CouldNot : Call → ℕ → Type 0

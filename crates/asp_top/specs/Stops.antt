@@ -2,16 +2,12 @@
 use Rattle.std.specs.Prelude.{◌≡◌, ℕ, List, [], ◌∷◌, Result}
 use Rattle.std.specs.declared.alloc.Global.{Global}
 use Rattle.std.specs.declared.string.String.{String}
-use Rattle.asp_model.specs.declared.limits.TheConstants.{MOST_PROGRAM_BYTES, MOST_REPORT_BYTES}
+use Rattle.asp_model.specs.declared.limits.TheConstants.{MOST_PROGRAM_BYTES}
 use Rattle.asp_model.specs.Marked.{Marked}
-use Rattle.asp_model.specs.Shapes.{marked_of, lists_shape, counts_shape, tree_of}
-use Rattle.asp_model.specs.declared.outcome.Lists.{Lists}
-use Rattle.asp_model.specs.declared.outcome.Counts.{Counts}
-use Rattle.asp_model.specs.ReadReport.{read_report, BadLine}
+use Rattle.asp_model.specs.Shapes.{marked_of, tree_of}
 use Rattle.asp_check.specs.declared.checked.Checked.{Checked}
 use Rattle.asp_core.specs.EndOfRun.{IsEndOfRun}
 use Rattle.asp_edge.specs.declared.edge.ReadError.{ReadError}
-use Rattle.replay_one.specs.Listed.{AreReplayable}
 use Rattle.run_ends.specs.declared.ends.RunEnd.{RunEnd}
 use Rattle.run_traces.specs.declared.traced.Traced.{Traced}
 use Rattle.run_traces.specs.Traced.{IsTracedRun}
@@ -28,8 +24,9 @@ use Rattle.command_line.specs.declared.error.WordsError.TheVariants as words
 use Rattle.command_line.specs.Task.{TaskShape}
 use Rattle.asp_top.specs.declared.stop.Stop.{Stop}
 use Rattle.asp_top.specs.declared.stop.Stop.TheVariants as stops
+use Rattle.asp_top.specs.declared.stop.Which.{Which}
 use Rattle.asp_top.specs.Seen.{Outside, Asked, ReadFails, IsLong, bytes_of}
-use Rattle.asp_top.specs.Programs.{IsFile, IsInFile, HasReport}
+use Rattle.asp_top.specs.Programs.{IsFile, IsInFile}
 use Rattle.asp_top.specs.Refusals.{Refusal, Usage, Unread, LongProgram, NoProgram, Unchecked, LongReport, NoReport, Diverges, NoMemory}
 use Rattle.asp_top.specs.Endings.{IsFaultyText, IsUncheckedText, Holds, HoldsFor}
 
@@ -39,9 +36,9 @@ refusal_of (stops.Unread name) = Unread name.now
 refusal_of stops.LongProgram = LongProgram
 refusal_of (stops.Syntax fault) = NoProgram fault
 refusal_of (stops.Check fault) = Unchecked fault
-refusal_of stops.LongReport = LongReport
-refusal_of (stops.BadLine line) = NoReport line
-refusal_of (stops.Diverged activity) = Diverges activity
+refusal_of (stops.LongReport which) = LongReport which
+refusal_of (stops.BadLine which line) = NoReport which line
+refusal_of (stops.Diverged which activity) = Diverges which activity
 refusal_of stops.Memory = NoMemory
 
 -- the stops that errors are
@@ -58,13 +55,13 @@ abbrev pub check_stop : CheckError → Stop
 check_stop (check.Fault fault) = stops.Check fault
 check_stop check.Memory = stops.Memory
 
-abbrev pub log_stop : LogError → Stop
-log_stop (log.BadLine line) = stops.BadLine line
-log_stop log.Memory = stops.Memory
+abbrev pub log_stop : Which → LogError → Stop
+log_stop which (log.BadLine line) = stops.BadLine which line
+log_stop which log.Memory = stops.Memory
 
-abbrev pub replay_stop : ReplayStop → Stop
-replay_stop (replays.Diverged activity) = stops.Diverged activity
-replay_stop replays.Memory = stops.Memory
+abbrev pub replay_stop : Which → ReplayStop → Stop
+replay_stop which (replays.Diverged activity) = stops.Diverged which activity
+replay_stop which replays.Memory = stops.Memory
 
 -- the checked program that the code holds
 abbrev pub program_in : Checked → Marked
@@ -114,23 +111,6 @@ StopsInFile o file s = RefusedInFile o file (refusal_of s)
 pub record AsksOnce (o : Outside) (name : List ℕ) : Type 0 where
   pub answer : Result (List ℕ) ReadError
   pub asked : Asked o ((name, answer) ∷ [])
-
--- the file is a report with these logs and counts, and they can be replayed
-pub record IsReplayable (o : Outside) (name : List ℕ) (log : Lists × Counts) : Type 0 where
-  pub old : HasReport o 0 name (lists_shape log.0) (counts_shape log.1)
-  pub replayable : AreReplayable (lists_shape log.0) (counts_shape log.1)
-
--- the cause of a stop at the file of a report
-abbrev pub RefusedInReport : Outside → List ℕ → Refusal → Type 0
-RefusedInReport o report (Unread name) = (report ≡ name) × ReadFails o 0 name
-RefusedInReport o report LongReport = IsLong o 0 report MOST_REPORT_BYTES
-RefusedInReport o report (NoReport line) =
-    (bytes : List ℕ) × IsFile o 0 report MOST_REPORT_BYTES bytes × (read_report bytes ≡ BadLine line)
-RefusedInReport o report NoMemory = Unit {0}
-RefusedInReport o report r = ⊥
-
-abbrev pub StopsInReport : Outside → List ℕ → Stop → Type 0
-StopsInReport o report s = RefusedInReport o report (refusal_of s)
 
 -- Tasks
 

@@ -1,6 +1,6 @@
 //! What two calls say of each other.
 
-ghost use Rattle.asp_top.specs.Ended.{EndedRunsPrintTheSame, OneSenderPrintsTheSame};
+ghost use Rattle.asp_top.specs.Ended.{ComparisonsAreExact, EndedRunsPrintTheSame, OneSenderPrintsTheSame};
 
 /// Two runs of one program that have ended, whose reports show states to one depth and read as
 /// equal logs, print equal bytes.
@@ -12,4 +12,10 @@ pub fn ended_runs_print_the_same()
 /// one sender at most, and without a poll.
 pub fn one_sender_prints_the_same()
     ensures { OneSenderPrintsTheSame }
+{}
+
+/// A comparison of two reports writes `same` exactly where both replays are stuck and no service
+/// can tell, and then the two reports are equal at every depth but for the lines of logs.
+pub fn comparisons_are_exact()
+    ensures { ComparisonsAreExact }
 {}

@@ -1,6 +1,7 @@
 //! Runs the command from its words to its report.
 #![tactic(auto)]
 
+mod comparing;
 mod ended;
 mod letting_go;
 mod prepare;
@@ -10,9 +11,9 @@ mod stop;
 mod top;
 mod writing;
 
-pub use ended::{ended_runs_print_the_same, one_sender_prints_the_same};
+pub use ended::{comparisons_are_exact, ended_runs_print_the_same, one_sender_prints_the_same};
 pub use prepare::{Prepared, report_for};
 pub use programs::program_of;
-pub use stop::Stop;
+pub use stop::{Stop, Which};
 pub use top::run_asp;
 pub use writing::{refuse, write_prepared};

@@ -11,7 +11,7 @@ ghost use Rattle.run_ends.specs.Ends.{IsEndOf};
 ghost use Rattle.run_report.specs.Rulings.{ruled_report};
 ghost use Rattle.run_report.specs.Summary.{summary_of};
 ghost use Rattle.run_traces.specs.Traced.{IsTracedRun};
-ghost use Rattle.command_line.specs.Task.{Runs, Checks, Rules, Journals, Replays, Makes, IsWithin};
+ghost use Rattle.command_line.specs.Task.{Runs, Checks, Rules, Journals, Replays, Compares, Makes, IsWithin};
 ghost use Rattle.command_line.specs.Settings.{IsSettings};
 ghost use Rattle.command_line.specs.Shapes.{settings_shape, task_shape};
 ghost use Rattle.asp_top.specs.Seen.{Outside, bytes_of, outside};
@@ -19,16 +19,16 @@ ghost use Rattle.asp_top.specs.Programs.{AsksInTurn, ReadsFiles, files_of};
 ghost use Rattle.asp_top.specs.Stops.{AsksOnce, IsRunOf, IsTracedRunOf, StopsInFile, StopsTask, StopsWords};
 ghost use Rattle.asp_top.specs.Ready.{IsReady, IsReadyFor, text_in};
 
+use crate::comparing::compare_reports;
 use crate::letting_go::let_go;
 use crate::programs::{checked_in, program_of};
-use crate::reports::lists_of;
+use crate::reports::end_in;
 use crate::stop::Stop;
 use asp_check::Checked;
 use asp_edge::Source;
 use asp_model::{MOST_PAIRS, Outcome, Word, exit_number};
 use command_line::{Settings, Task, read_words};
 use load_gen::make;
-use replay_one::replay;
 use run_ends::RunEnd;
 use run_report::{render, render_ruled, summarize};
 use run_traces::{Traced, run_traced};
@@ -288,18 +288,29 @@ fn prepare_replay<'a, S: Source>(
         AsksInTurn (outside S.told source) (files_of task) }
 {
     let checked = program_of(alloc, file, source)?;
-    match lists_of(alloc, report, source) {
-        Ok((lists, counts)) => {
-            let end = replay(alloc, &checked, &lists, &counts);
-            drop((checked, lists, counts));
-            let end = end?;
-            Ok(report_for(alloc, &end, depth)?)
-        }
-        Err(stop) => {
-            drop(checked);
-            Err(stop)
-        }
-    }
+    let end = end_in(alloc, &checked, report, source);
+    drop(checked);
+    Ok(report_for(alloc, &end?, depth)?)
+}
+
+fn prepare_compare<'a, S: Source>(
+    alloc: Global,
+    file: &'a str,
+    report: &'a str,
+    other: &'a str,
+    source: &mut S,
+) -> Result<Prepared, Stop<'a>>
+    ensures answer { let task = Compares file.entry.now report.entry.now other.entry.now in
+        IfOk result (IsReady (outside S.told source) task) }
+    ensures stop { let task = Compares file.entry.now report.entry.now other.entry.now in
+        IfErr result (StopsTask (outside S.told source) task) }
+    ensures reads { let task = Compares file.entry.now report.entry.now other.entry.now in
+        AsksInTurn (outside S.told source) (files_of task) }
+{
+    let checked = program_of(alloc, file, source)?;
+    let compared = compare_reports(alloc, &checked, report, other, source);
+    drop(checked);
+    compared
 }
 
 fn prepare_made<'a, R: Threads + Wait + Sync, G: Gate>(
@@ -357,13 +368,18 @@ fn prepare_task<'a, R: Threads + Wait + Sync, S: Source, G: Gate>(
             report,
             depth,
         } => prepare_replay(alloc, file, report, depth, source),
+        Task::Compare {
+            file,
+            report,
+            other,
+        } => prepare_compare(alloc, file, report, other, source),
         Task::Make { pairs, settings } => prepare_made(rt, alloc, pairs, settings, policies, gate),
     }
 }
 
 /// What the words ask for, ready to be written. The words come first, then the program's file, its
-/// reading and its check, the report's file where there is one, and the run or the replay; the
-/// first refusal in this order ends the work.
+/// reading and its check, and the run, or each report's file and its replay; the first refusal in
+/// this order ends the work.
 pub fn prepare<'a, R: Threads + Wait + Sync, S: Source, G: Gate>(
     rt: &R,
     alloc: Global,

@@ -12,6 +12,15 @@ use replay_one::ReplayStop;
 use sender_log::LogError;
 use std::alloc::AllocError;
 
+/// Which of the reports that are replayed.
+#[derive(Clone, Copy)]
+pub enum Which {
+    /// That of `--replay`.
+    First,
+    /// That of `--same`.
+    Second,
+}
+
 /// Why there is nothing to write.
 #[derive(Drop)]
 pub enum Stop<'a> {
@@ -26,12 +35,34 @@ pub enum Stop<'a> {
     /// The program is not checked, and this is its first fault.
     Check(CheckFault),
     /// There are more bytes than a report may have.
-    LongReport,
+    LongReport(Which),
     /// The line of this number is the first one of a report that cannot stand in its place.
-    BadLine(u64),
+    BadLine(Which, u64),
     /// The report does not fit the program, and this is the least activity that shows it.
-    Diverged(ActivityName),
+    Diverged(Which, ActivityName),
     Memory,
+}
+
+impl Stop<'_> {
+    /// What an error in one of the reports stops at.
+    pub fn of_log(which: Which, error: LogError) -> Self
+        ensures { result ≡ log_stop which error }
+    {
+        match error {
+            LogError::BadLine { line } => Stop::BadLine(which, line),
+            LogError::Memory => Stop::Memory,
+        }
+    }
+
+    /// What a stop of its replay stops at.
+    pub fn of_replay(which: Which, stop: ReplayStop) -> Self
+        ensures { result ≡ replay_stop which stop }
+    {
+        match stop {
+            ReplayStop::Diverged { activity } => Stop::Diverged(which, activity),
+            ReplayStop::Memory => Stop::Memory,
+        }
+    }
 }
 
 impl From<AllocError> for Stop<'_> {
@@ -71,28 +102,6 @@ impl From<CheckError> for Stop<'_> {
         match error {
             CheckError::Fault(fault) => Stop::Check(fault),
             CheckError::Memory => Stop::Memory,
-        }
-    }
-}
-
-impl From<LogError> for Stop<'_> {
-    ghost from_gives = { λ e s. s ≡ log_stop e };
-
-    fn from(error: LogError) -> Self {
-        match error {
-            LogError::BadLine { line } => Stop::BadLine(line),
-            LogError::Memory => Stop::Memory,
-        }
-    }
-}
-
-impl From<ReplayStop> for Stop<'_> {
-    ghost from_gives = { λ e s. s ≡ replay_stop e };
-
-    fn from(stop: ReplayStop) -> Self {
-        match stop {
-            ReplayStop::Diverged { activity } => Stop::Diverged(activity),
-            ReplayStop::Memory => Stop::Memory,
         }
     }
 }

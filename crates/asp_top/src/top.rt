@@ -40,7 +40,8 @@ fn run_words<R: Threads + Wait + Sync, S: Source, O: Sink, E: Sink, G: Gate>(
 
 /// Runs the command that the words give, and writes its text, one write for each line. `asp FILE`
 /// runs the program in a file and writes its report, `asp FILE --replay REPORT` replays a report of
-/// it, `asp FILE --check` reads and checks it, `asp FILE --determinate` runs it and says behind the
+/// it, with `--same OTHER` it replays two and says what services could tell, `asp FILE --check`
+/// reads and checks it, `asp FILE --determinate` runs it and says behind the
 /// report whether there is another, `asp FILE --journal` runs it and writes the trace of what its
 /// core did, in pieces, and `asp --make N` runs the generated program of N pairs and
 /// writes a summary. With `--state D` a report shows the states of its activities. A run
@@ -48,7 +49,7 @@ fn run_words<R: Threads + Wait + Sync, S: Source, O: Sink, E: Sink, G: Gate>(
 /// future's value is to come to the activities that it was passed to; the policies are dropped when
 /// the call ends, if not before. Workers race for the run, 4 or as many as `--workers` says, and
 /// each passes the gate between its work and the turn in which that is committed. The words come
-/// first, then the program's file, the reading, the check, the report's file, the run or the
+/// first, then the program's file, the reading, the check, the run or each report's file and its
 /// replay, and the writing; the first refusal in this order ends the call. All lines are made
 /// before the first is written.
 pub fn run_asp<R: AllocGlobal + Threads + Wait + Sync, S: Source, O: Sink, E: Sink, G: Gate>(

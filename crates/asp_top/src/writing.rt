@@ -2,12 +2,12 @@
 
 ghost use Rattle.std.specs.Prelude.{◌≡◌, ◌≤◌, string_bytes, IfOk, IfErr, OnOk, OnErr};
 ghost use Rattle.asp_top.specs.Seen.{Fails, Takes, TakesSome, sight};
-ghost use Rattle.asp_top.specs.Refusals.{kind_text as text_of_kind, check_text as text_of_check, fault_line, message_of, Diverges, NoMemory, NoReport, Unread};
+ghost use Rattle.asp_top.specs.Refusals.{kind_text as text_of_kind, check_text as text_of_check, option_text as text_of_option, bad_line, diverging_line, fault_line, long_line, message_of, NoMemory, Unread};
 ghost use Rattle.asp_top.specs.Stops.{refusal_of};
 ghost use Rattle.asp_top.specs.Ready.{Told, ToldOf, ToldRefusal, WrittenOf, text_of_all};
 
 use crate::prepare::Prepared;
-use crate::stop::Stop;
+use crate::stop::{Stop, Which};
 use asp_check::CheckKind;
 use asp_edge::{Sink, WriteFailed};
 use asp_model::ActivityName;
@@ -18,8 +18,6 @@ use std::alloc::{AllocError, Global};
 const USAGE: &[u8] = b"asp: usage: asp FILE [OPTION ..], or asp --make N [OPTION ..]\n";
 
 const LONG_PROGRAM: &[u8] = b"asp: program: longer than 1048576 bytes\n";
-
-const LONG_REPORT: &[u8] = b"asp: replay: longer than 16777216 bytes\n";
 
 const CANNOT_WRITE: &[u8] = b"asp: cannot write\n";
 
@@ -63,16 +61,32 @@ fn unread_message(alloc: Global, name: &str) -> Result<String, AllocError>
     format!(in alloc; "asp: cannot read {name}\n")
 }
 
-fn bad_line_message(alloc: Global, line: u64) -> Result<String, AllocError>
-    ensures { IfOk result (λ s. string_bytes s ≡ message_of (NoReport line)) }
+// The option that names a report.
+fn option_text(which: Which) -> &'static str
+    ensures { result.now ≡ text_of_option which }
 {
-    format!(in alloc; "asp: replay: line {line}\n")
+    match which {
+        Which::First => "replay",
+        Which::Second => "same",
+    }
 }
 
-fn diverges_message(alloc: Global, name: &ActivityName) -> Result<String, AllocError>
-    ensures { IfOk result (λ s. string_bytes s ≡ message_of (Diverges name.now)) }
+fn long_message(alloc: Global, option: &str) -> Result<String, AllocError>
+    ensures { IfOk result (λ s. string_bytes s ≡ long_line option.now) }
 {
-    let mut text = String::from_str(alloc, "asp: replay: ")?;
+    format!(in alloc; "asp: {option}: longer than 16777216 bytes\n")
+}
+
+fn bad_line_message(alloc: Global, option: &str, line: u64) -> Result<String, AllocError>
+    ensures { IfOk result (λ s. string_bytes s ≡ bad_line option.now line) }
+{
+    format!(in alloc; "asp: {option}: line {line}\n")
+}
+
+fn diverges_message(alloc: Global, option: &str, name: &ActivityName) -> Result<String, AllocError>
+    ensures { IfOk result (λ s. string_bytes s ≡ diverging_line option.now name.now) }
+{
+    let mut text = format!(in alloc; "asp: {option}: ")?;
     push_name(&mut text, name)?;
     text.push_str(" diverges\n")?;
     Ok(text)
@@ -115,9 +129,18 @@ pub fn refuse<E: Sink>(alloc: Global, stop: &Stop<'_>, err: &mut E) -> u8
             let message = fault_message(alloc, check_text(fault.kind), fault.at);
             tell_made(err, message, 3)
         }
-        Stop::LongReport => tell(err, LONG_REPORT, 9),
-        Stop::BadLine(line) => tell_made(err, bad_line_message(alloc, *line), 9),
-        Stop::Diverged(activity) => tell_made(err, diverges_message(alloc, activity), 9),
+        Stop::LongReport(which) => {
+            let message = long_message(alloc, option_text(*which));
+            tell_made(err, message, 9)
+        }
+        Stop::BadLine(which, line) => {
+            let message = bad_line_message(alloc, option_text(*which), *line);
+            tell_made(err, message, 9)
+        }
+        Stop::Diverged(which, activity) => {
+            let message = diverges_message(alloc, option_text(*which), activity);
+            tell_made(err, message, 9)
+        }
         Stop::Memory => tell(err, NO_MEMORY, 8),
     }
 }

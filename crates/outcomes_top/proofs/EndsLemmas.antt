@@ -65,9 +65,9 @@ not_refused status (Unread name) h e = not_six status h e
 not_refused status LongProgram h e = not_three status h e
 not_refused status (NoProgram fault) h e = not_three status h e
 not_refused status (Unchecked fault) h e = not_three status h e
-not_refused status LongReport h e = not_nine status h e
-not_refused status (NoReport line) h e = not_nine status h e
-not_refused status (Diverges activity) h e = not_nine status h e
+not_refused status (LongReport which) h e = not_nine status h e
+not_refused status (NoReport which line) h e = not_nine status h e
+not_refused status (Diverges which activity) h e = not_nine status h e
 not_refused status NoMemory h e = not_eight status h e
 
 not_caused : {A : Type 0} (words : List (List ℕ)) (o : Outside) (message : List ℕ) (status : ℕ) → IsEnded status → IsCause words o message status → A

@@ -62,3 +62,13 @@ pub returns-in-Make-clause-reads : goal.returns-in-Make-clause-reads
 returns-in-Make-clause-reads g c =
     let o = outside_between g.S.Source.told c.args.source.now c.args.source.now in
     subst (λ (t : Task). AsksInTurn o (files_of (task_shape t))) (sym c.in-Make.is) (in_turn_none o [] refl)
+
+pub returns-in-Compare-clause-answer : goal.returns-in-Compare-clause-answer
+returns-in-Compare-clause-answer g c =
+    let o = outside_between g.S.Source.told c.args.source.now c.prepare_compare.new.source in
+    subst (λ (t : Task). IfOk c.prepare_compare.result (IsReady o (task_shape t))) (sym c.in-Compare.is) c.prepare_compare.ensures.answer
+
+pub returns-in-Compare-clause-reads : goal.returns-in-Compare-clause-reads
+returns-in-Compare-clause-reads g c =
+    let o = outside_between g.S.Source.told c.args.source.now c.prepare_compare.new.source in
+    subst (λ (t : Task). AsksInTurn o (files_of (task_shape t))) (sym c.in-Compare.is) c.prepare_compare.ensures.reads

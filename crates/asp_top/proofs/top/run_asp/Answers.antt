@@ -1,6 +1,7 @@
 use Rattle.asp_top.proofs.StatusLemmas.{blocked, ended, reports, spent}
 use Rattle.asp_top.proofs.CauseLemmas.{program_only, read_fault_only, replay_only, usage_only, write_fault_only}
-use Rattle.asp_top.proofs.ExpectedLemmas.{completes, refuses_program, refuses_report, refuses_words}
+use Rattle.asp_top.proofs.ExpectedLemmas.{completes, refuses_program, refuses_words}
+use Rattle.asp_top.proofs.RefusedLemmas.{refuses_report}
 use Rattle.asp_top.proofs.top.run_asp.Goals as goal
 
 pub returns-clause-report : goal.returns-clause-report

@@ -2,7 +2,7 @@ use Rattle.std.proofs.Common.{ℕ, List, sym, ap, subst, inl}
 use Rattle.std.specs.Prelude.{string_bytes}
 use Rattle.asp_top.specs.declared.stop.Stop.{Stop}
 use Rattle.asp_top.specs.Seen.{sight_between}
-use Rattle.asp_top.specs.Refusals.{Unread, NoProgram, Unchecked, NoReport, Diverges, fault_line, message_of}
+use Rattle.asp_top.specs.Refusals.{Unread, NoProgram, Unchecked, LongReport, NoReport, Diverges, bad_line, diverging_line, fault_line, long_line, message_of}
 use Rattle.asp_top.specs.Stops.{refusal_of}
 use Rattle.asp_top.specs.Ready.{ToldOf}
 use Rattle.asp_top.proofs.StopLemmas.{if_named, made_told}
@@ -42,17 +42,28 @@ returns-in-Check g c =
 
 pub returns-in-LongReport : goal.returns-in-LongReport
 returns-in-LongReport g c =
-    let s = sight_between g.E.Sink.told c.args.err.now c.tell-in-LongReport.new.err in
-    subst (λ (stop : Stop). ToldOf (refusal_of stop) s c.tell-in-LongReport.result) (sym c.in-LongReport.is) (inl c.tell-in-LongReport.ensures)
+    let s = sight_between g.E.Sink.told c.args.err.now c.tell_made-in-LongReport.new.err in
+    let which = c.in-LongReport.which in
+    let made = if_named string_bytes c.long_message-message.result (long_line c.option_text.result.now) (message_of (LongReport which)) (ap (λ (k : List ℕ). long_line k) c.option_text.ensures) c.long_message-message.ensures in
+    subst (λ (stop : Stop). ToldOf (refusal_of stop) s c.tell_made-in-LongReport.result) (sym c.in-LongReport.is)
+    (made_told string_bytes (LongReport which) c.long_message-message.result s c.tell_made-in-LongReport.result made c.tell_made-in-LongReport.ensures.made c.tell_made-in-LongReport.ensures.no_memory)
 
 pub returns-in-BadLine : goal.returns-in-BadLine
 returns-in-BadLine g c =
     let s = sight_between g.E.Sink.told c.args.err.now c.tell_made-in-BadLine.new.err in
+    let which = c.in-BadLine.which in
+    let line = c.in-BadLine.line in
+    let option = c.option_text-in-BadLine in
+    let made = if_named string_bytes c.bad_line_message-message.result (bad_line option.result.now line) (message_of (NoReport which line)) (ap (λ (k : List ℕ). bad_line k line) option.ensures) c.bad_line_message-message.ensures in
     subst (λ (stop : Stop). ToldOf (refusal_of stop) s c.tell_made-in-BadLine.result) (sym c.in-BadLine.is)
-    (made_told string_bytes (NoReport c.in-BadLine.line) c.bad_line_message.result s c.tell_made-in-BadLine.result c.bad_line_message.ensures c.tell_made-in-BadLine.ensures.made c.tell_made-in-BadLine.ensures.no_memory)
+    (made_told string_bytes (NoReport which line) c.bad_line_message-message.result s c.tell_made-in-BadLine.result made c.tell_made-in-BadLine.ensures.made c.tell_made-in-BadLine.ensures.no_memory)
 
 pub returns-in-Diverged : goal.returns-in-Diverged
 returns-in-Diverged g c =
     let s = sight_between g.E.Sink.told c.args.err.now c.tell_made-in-Diverged.new.err in
+    let which = c.in-Diverged.which in
+    let activity = c.in-Diverged.activity in
+    let option = c.option_text-in-Diverged in
+    let made = if_named string_bytes c.diverges_message-message.result (diverging_line option.result.now activity) (message_of (Diverges which activity)) (ap (λ (k : List ℕ). diverging_line k activity) option.ensures) c.diverges_message-message.ensures in
     subst (λ (stop : Stop). ToldOf (refusal_of stop) s c.tell_made-in-Diverged.result) (sym c.in-Diverged.is)
-    (made_told string_bytes (Diverges c.in-Diverged.activity) c.diverges_message.result s c.tell_made-in-Diverged.result c.diverges_message.ensures c.tell_made-in-Diverged.ensures.made c.tell_made-in-Diverged.ensures.no_memory)
+    (made_told string_bytes (Diverges which activity) c.diverges_message-message.result s c.tell_made-in-Diverged.result made c.tell_made-in-Diverged.ensures.made c.tell_made-in-Diverged.ensures.no_memory)
