@@ -1,3 +1,4 @@
 -- in reading order
 pub mod LogLemmas
 pub mod FoundLemmas
+pub mod OfferLemmas

@@ -1,5 +1,5 @@
 -- Ends by classes that were found, and what they offer.
-use Rattle.std.specs.Prelude.{◌⊎◌, ◌≤◌, ℕ, List, [], ◌∷◌, Some, length, map}
+use Rattle.std.specs.Prelude.{◌⊎◌, ◌<◌, ◌≤◌, ℕ, List, [], ◌∷◌, Some, length, map}
 use Rattle.asp_model.specs.Names.{Name, Text}
 use Rattle.asp_model.specs.Term.{Tree}
 use Rattle.asp_model.specs.Configuration.{ReceptionShape}
@@ -11,6 +11,7 @@ use Rattle.outcome_search.specs.Ends.{IsReplayableEnd, run_logs}
 use Rattle.end_search.specs.Found.{AreAll, AreClosed}
 use Rattle.class_search.specs.declared.ends.FoundEnd.{FoundEnd}
 use Rattle.class_search.specs.declared.ends.Offer.{Offer}
+use Rattle.class_search.specs.declared.logs.ClassLog.{ClassLog}
 use Rattle.class_search.specs.Logs.{logs_of}
 
 -- the configuration with which its run ends, and its logs by classes
@@ -35,6 +36,14 @@ abbrev pub HasOffers : (Text → ℕ) → Tree → ClassEnd → Name → ℕ →
 HasOffers K program x q κ k os = (entry : ReceptionShape) → ComesBehind (x.1 q κ) k entry
     → (f : ClassEnd) × IsFull K program (cut_logs x.1 q κ k) f
     × (IsOffered K f.0 q κ entry → HasLogs os (with_entry (Some (q, κ, entry)) f.1))
+
+-- so it is at the first places of this log
+abbrev pub HasOffersTo : (Text → ℕ) → Tree → ClassEnd → ℕ → List Offer → ClassLog → Type 0
+HasOffersTo K program x places os l = (k : ℕ) → k < places → HasOffers K program x l.to l.class k os
+
+-- at all of them
+abbrev pub HasOffersIn : (Text → ℕ) → Tree → ClassEnd → List Offer → ClassLog → Type 0
+HasOffersIn K program x os l = HasOffersTo K program x (length l.entries.items) os l
 
 -- so it is at each place of each log
 abbrev pub HasAllOffers : (Text → ℕ) → Tree → FoundEnd → List Offer → Type 0

@@ -5,7 +5,9 @@
 mod ends;
 mod laws;
 mod logs;
+mod offers;
 
 pub use ends::{FoundEnd, Offer, Sending};
 pub use laws::closed_is_complete;
 pub use logs::{ClassLog, begin_with};
+pub use offers::{Cuts, all_offers};
