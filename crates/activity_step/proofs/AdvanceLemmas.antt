@@ -1,23 +1,29 @@
 -- Advances from what a redex comes to.
 use Rattle.std.specs.Prelude.{ℤ}
-use Rattle.std.proofs.Common.{◌≡◌, ℕ, Bool, true, false, List, [], ◌++◌, map, refl, sym, ap, subst, ◌∙◌}
+use Rattle.std.proofs.Common.{◌≡◌, ℕ, Bool, true, false, List, [], ◌∷◌, ◌++◌, length, map, refl, sym, ap, subst, ◌∙◌}
 use Rattle.std.proofs.lemmas.List.{append-nil}
 use Rattle.asp_model.specs.Term.{Tree, loc}
 use Rattle.asp_model.specs.Split.{Redex, plug}
+use Rattle.asp_model.specs.Store as store
 use Rattle.asp_model.specs.Store.{Store}
 use Rattle.asp_model.specs.Configuration.{ServiceShape}
 use Rattle.asp_model.specs.Contraction.{LineShape, Becomes, contract}
 use Rattle.asp_model.specs.Shapes.{line_shape}
 use Rattle.code_table.specs.declared.code.Node.{Node}
+use Rattle.code_table.specs.Cells as coded
+use Rattle.code_table.specs.Cells.{CodedStore}
 use Rattle.code_table.specs.Shapes.{store_of}
+use Rattle.code_table.proofs.CodedLemmas.{length-store_of, store_of-append}
+use Rattle.step_rows.specs.Decisions.{decided}
+use Rattle.step_rows.specs.declared.decision.Decision.TheVariants as decision
 use Rattle.step_machine.specs.Rows.{place_view, IsAtRedex, Contracts}
 use Rattle.step_machine.specs.Standing.{View, Standing, view_of}
 use Rattle.activity_step.specs.declared.state.State.{State}
 use Rattle.activity_step.specs.declared.advance.Advance.{Advance}
 use Rattle.activity_step.specs.declared.advance.Advance.TheVariants as advance
-use Rattle.step_machine.specs.Sites.{IsBefore, given_view, number_redex}
+use Rattle.step_machine.specs.Sites.{Gives, GivesTwo, given_view, number_redex}
 use Rattle.activity_step.specs.Activities.{reduces}
-use Rattle.activity_step.specs.Advances.{Stands, Reduced, IsTold, IsStopped, Told, IsReduction, IsAdvance, IsStop, IsTaken}
+use Rattle.activity_step.specs.Advances.{Stands, Reduced, IsTold, IsStopped, Told, IsReduction, IsAdvance, IsStop, IsTaken, AreTaken}
 
 -- what is no contraction is told
 pub stopped : (k : List Node) (x : State) (t : Tree) (vs : List ServiceShape) (s : Store) (ls : List LineShape) (go : Bool) (n : ℕ) (r : Redex) (a : Advance) → Stands k x t vs s ls → IsAtRedex k (view_of x.machine) t vs n r
@@ -92,20 +98,47 @@ taken k x t vs s ls advance.Sends h = h.kept
 taken k x t vs s ls advance.Serves h = h.kept
 taken k x t vs s ls advance.Polls h = h.kept
 
--- a number below a node became a place
-pub given : (k : List Node) (x y : State) (t : Tree) (vs : List ServiceShape) (s : Store) (ls : List LineShape) (number from done p : ℕ) (z : ℤ) (added : List LineShape) → Stands k x t vs s ls → IsBefore k t vs (view_of x.machine) number from done z
-    → contract (store_of k x.store.cells) (number_redex z) ≡ Becomes (loc p) (store_of k y.store.cells) added → view_of y.machine ≡ given_view number from done p (view_of x.machine) → map line_shape y.lines.items ≡ map line_shape x.lines.items ++ added
+-- a redex below a node became a place
+pub given : (k : List Node) (x y : State) (t : Tree) (vs : List ServiceShape) (s : Store) (ls : List LineShape) (number from done p : ℕ) (r : Redex) (added : List LineShape) → Stands k x t vs s ls → Gives k t vs (view_of x.machine) number from done r
+    → contract (store_of k x.store.cells) r ≡ Becomes (loc p) (store_of k y.store.cells) added → view_of y.machine ≡ given_view number from done p (view_of x.machine) → map line_shape y.lines.items ≡ map line_shape x.lines.items ++ added
     → Reduced k y t vs s ls
-given k x y t vs s ls number from done p z added h at is view lines = record {
+given k x y t vs s ls number from done p r added h at is view lines = record {
   contexts = at.contexts;
-  redex = number_redex z;
+  redex = r;
   becomes = loc p;
   store = store_of k y.store.cells;
   added = added;
   splits = at.splits;
-  is = ap (λ (q : Store). contract q (number_redex z)) (sym h.store) ∙ is;
+  is = ap (λ (q : Store). contract q r) (sym h.store) ∙ is;
   after = record { machine = subst (λ (v : View). Standing k v (plug at.contexts (loc p)) vs) (sym view) (at.place p); store = refl; lines = lines ∙ ap (λ (l : List LineShape). l ++ added) h.lines };
 }
+
+-- one contraction
+pub one_taken : (k : List Node) (x : State) (t : Tree) (vs : List ServiceShape) (s : Store) (ls : List LineShape) → Reduced k x t vs s ls → AreTaken k x t vs s ls 1
+one_taken k x t vs s ls r = (record { contexts = r.contexts; redex = r.redex; becomes = r.becomes; store = r.store; added = r.added; splits = r.splits; is = r.is }, r.after)
+
+-- a number below a node became a place, and then a redex over it became another number
+pub two_given : (k : List Node) (x y : State) (t : Tree) (vs : List ServiceShape) (s : Store) (ls : List LineShape) (number from done p : ℕ) (z w : ℤ) (r : ℕ → Redex) → Stands k x t vs s ls → GivesTwo k t vs (view_of x.machine) number from done z r
+    → contract (store_of k (x.store.cells ++ coded.Number z ∷ [])) (r (length x.store.cells)) ≡ decided k (x.store.cells ++ coded.Number z ∷ []) (decision.Number w)
+    → y.store.cells ≡ x.store.cells ++ coded.Number z ∷ [] ++ coded.Number w ∷ [] → p ≡ length (x.store.cells ++ coded.Number z ∷ [])
+    → view_of y.machine ≡ given_view number from done p (view_of x.machine) → y.lines ≡ x.lines
+    → AreTaken k y t vs s ls 2
+two_given k x y t vs s ls number from done p z w r h at is cells place view lines =
+    let old : CodedStore = x.store.cells in
+    let mid : CodedStore = old ++ coded.Number z ∷ [] in
+    let second : Gives k (plug at.contexts (loc (length old))) vs (view_of x.machine) number from done (r (length old)) = at.second (length old) in
+    let first_is : contract (store_of k old) (number_redex z) ≡ Becomes (loc (length old)) (store_of k mid) [] = (λ i. Becomes (loc (length-store_of k old i)) (sym (store_of-append k old (coded.Number z ∷ [])) i) []) in
+    let grown : store_of k mid ++ store.Number w ∷ [] ≡ store_of k y.store.cells = sym (store_of-append k mid (coded.Number w ∷ [])) ∙ ap (store_of k) (sym cells) in
+    let end : length (store_of k mid) ≡ p = length-store_of k mid ∙ sym place in
+    let second_is : contract (store_of k mid) (r (length old)) ≡ Becomes (loc p) (store_of k y.store.cells) [] = is ∙ (λ i. Becomes (loc (end i)) (grown i) []) in
+    let machine : Standing k (view_of y.machine) (plug second.contexts (loc p)) vs = subst (λ (v : View). Standing k v (plug second.contexts (loc p)) vs) (sym view) (second.place p) in
+    let out : map line_shape y.lines.items ≡ ls ++ [] ++ [] = ap (λ l. map line_shape l.items) lines ∙ h.lines ∙ sym (append-nil ls) ∙ sym (append-nil (ls ++ [])) in (
+      record { contexts = at.contexts; redex = number_redex z; becomes = loc (length old); store = store_of k mid; added = []; splits = at.splits; is = ap (λ (q : Store). contract q (number_redex z)) (sym h.store) ∙ first_is },
+      (
+        record { contexts = second.contexts; redex = r (length old); becomes = loc p; store = store_of k y.store.cells; added = []; splits = second.splits; is = second_is },
+        record { machine = machine; store = refl; lines = out },
+      ),
+    )
 
 -- a stop that is told is an advance that took nothing
 pub stop_advance : (k : List Node) (x : State) (t : Tree) (vs : List ServiceShape) (s : Store) (ls : List LineShape) (go : Bool) (r : Advance) → IsStop k x t vs s ls r → IsAdvance k x t vs s ls go r

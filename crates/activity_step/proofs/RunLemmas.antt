@@ -1,5 +1,5 @@
 -- Runs of contractions.
-use Rattle.std.proofs.Common.{◌≡◌, ◌≤◌, ◌++◌, ℕ, zero, suc, Bool, true, false, List, [], ◌∷◌, length, map, reverse, refl, sym, ap, subst, ◌∙◌, arith}
+use Rattle.std.proofs.Common.{◌≡◌, ◌≤◌, ◌+◌, ◌++◌, ℕ, zero, suc, Bool, true, false, List, [], ◌∷◌, length, map, reverse, refl, sym, ap, subst, ◌∙◌, arith}
 use Rattle.std.proofs.lemmas.Bool.{false≢true}
 use Rattle.std.specs.Arc.{arc_value}
 use Rattle.std.specs.Prelude.{Err, IfOk, Ok, OnOk, Result}
@@ -24,13 +24,27 @@ use Rattle.activity_step.specs.declared.state.State.{State}
 use Rattle.activity_step.specs.declared.advance.Advance.{Advance}
 use Rattle.activity_step.specs.declared.advance.Advance.TheVariants as advance
 use Rattle.activity_step.specs.Local.{IsLocalStep, LocalRun}
-use Rattle.activity_step.specs.Advances.{Stands, Reduced, Told, IsAdvance}
-use Rattle.activity_step.specs.Activities.{StandsFor, IsToldAt, IsStepped, IsStopped, IsAfter, IsUsed, IsRun, reduces, with_new_cell}
+use Rattle.activity_step.specs.Advances.{AreTaken, Contracted, Stands, Reduced, Told, IsAdvance}
+use Rattle.activity_step.specs.Activities.{StandsFor, IsToldAt, IsNext, IsRunning, IsStepped, IsStopped, IsAfter, IsUsed, IsRun, reduces, with_new_cell}
 
--- one contraction more
-pub one_more : (n : ℕ) (a b c : model.Activity) → LocalRun n a b → IsLocalStep b c → LocalRun (suc n) a c
-one_more zero a b c e s = (c, subst (λ (x : model.Activity). IsLocalStep x c) (sym e) s, refl)
-one_more (suc n) a b c r s = (r.0, r.1, one_more n r.0 b c r.2 s)
+-- one run behind another
+pub goes_on : (n m : ℕ) (a b c : model.Activity) → LocalRun n a b → LocalRun m b c → LocalRun (n + m) a c
+goes_on zero m a b c e r = let same : m ≡ 0 + m = omega arith in subst (λ (i : ℕ). LocalRun i a c) same (subst (λ (x : model.Activity). LocalRun m x c) (sym e) r)
+goes_on (suc n) m a b c r q =
+    let same : suc (n + m) ≡ suc n + m = omega arith in
+    let all : LocalRun (suc (n + m)) a c = (r.0, r.1, goes_on n m r.0 b c r.2 q) in
+    subst (λ (i : ℕ). LocalRun i a c) same all
+
+-- the contractions of a state are a run of its activity
+pub taken_run : (x : Activity) (y : State) (c n : ℕ) (a : model.Activity) → option_map held_future x.present ≡ a.present → x.active ≡ a.active → c ≡ a.reductions + n
+    → AreTaken (arc_value x.code) y a.term (reverse a.services) a.store a.lines n → IsRunning (record x { state = y; count = c }) a n
+taken_run x y c zero a present active count t = record { here = a; run = refl; stands = record { state = t; present = present; active = active; count = omega (arith, count) } }
+taken_run x y c (suc n) a present active count t =
+    let one : Contracted a.term a.store = t.0 in
+    let next : model.Activity = record a { term = plug one.contexts one.becomes; store = one.store; lines = a.lines ++ one.added; reductions = suc a.reductions } in
+    let r : IsRunning (record x { state = y; count = c }) next n = taken_run x y c n next present active (omega (arith, count)) t.1 in
+    let step : IsLocalStep a next = record { contexts = one.contexts; redex = one.redex; becomes = one.becomes; store = one.store; added = one.added; splits = one.splits; is = one.is; after = refl } in
+    record { here = r.here; run = (next, step, r.run); stands = r.stands }
 
 pub stepped : (x : Activity) (y : State) (n : ℕ) (a : model.Activity) → StandsFor x a → n ≡ suc x.count → Reduced (arc_value x.code) y a.term (reverse a.services) a.store a.lines → IsStepped (record x { state = y; count = n }) a
 stepped x y n a h e r = record {
@@ -107,27 +121,37 @@ reduced_advance k y a true advance.Serves t g e = absurd (false≢true e)
 reduced_advance k y a true advance.Polls t g e = absurd (false≢true e)
 reduced_advance k y a false r t g e = absurd (false≢true g)
 
--- what a step tells
-pub step_taken : (x : Activity) (a : model.Activity) (r : Advance) → IsAfter x a true r → reduces r ≡ true → IsStepped x a
-step_taken x a advance.Reduces h e = h
-step_taken x a (advance.Rests p) h e = absurd (false≢true e)
-step_taken x a (advance.Faults f) h e = absurd (false≢true e)
-step_taken x a (advance.Needs p) h e = absurd (false≢true e)
-step_taken x a (advance.Creates p) h e = absurd (false≢true e)
-step_taken x a advance.Sends h e = absurd (false≢true e)
-step_taken x a advance.Serves h e = absurd (false≢true e)
-step_taken x a advance.Polls h e = absurd (false≢true e)
+-- a step is one contraction, or a stop
+pub next_of : (x : Activity) (a : model.Activity) (r : Advance) → IsAfter x a true r → IsNext x a 1 r
+next_of x a advance.Reduces h = record { here = h.next; run = (h.next, h.step, refl); stands = h.stands }
+next_of x a (advance.Rests p) h = h
+next_of x a (advance.Faults f) h = h
+next_of x a (advance.Needs p) h = h
+next_of x a (advance.Creates p) h = h
+next_of x a advance.Sends h = h
+next_of x a advance.Serves h = h
+next_of x a advance.Polls h = h
+
+pub next_taken : (x : Activity) (a : model.Activity) (n : ℕ) (r : Advance) → IsNext x a n r → reduces r ≡ true → IsRunning x a n
+next_taken x a n advance.Reduces h e = h
+next_taken x a n (advance.Rests p) h e = absurd (false≢true e)
+next_taken x a n (advance.Faults f) h e = absurd (false≢true e)
+next_taken x a n (advance.Needs p) h e = absurd (false≢true e)
+next_taken x a n (advance.Creates p) h e = absurd (false≢true e)
+next_taken x a n advance.Sends h e = absurd (false≢true e)
+next_taken x a n advance.Serves h e = absurd (false≢true e)
+next_taken x a n advance.Polls h e = absurd (false≢true e)
 
 -- a run that stops before all contractions were taken
-pub stopped_run : (x : Activity) (a b : model.Activity) (n most : ℕ) (r : Advance) → LocalRun n a b → n ≤ most → IsAfter x b true r → reduces r ≡ false → IsRun x a most r
-stopped_run x a b n most advance.Reduces run le h e = absurd (false≢true (sym e))
-stopped_run x a b n most (advance.Rests p) run le h e = record { count = n; end = b; run = run; within = le; stands = h.stands; stop = h.stop; used = tt }
-stopped_run x a b n most (advance.Faults f) run le h e = record { count = n; end = b; run = run; within = le; stands = h.stands; stop = h.stop; used = tt }
-stopped_run x a b n most (advance.Needs p) run le h e = record { count = n; end = b; run = run; within = le; stands = h.stands; stop = h.stop; used = tt }
-stopped_run x a b n most (advance.Creates p) run le h e = record { count = n; end = b; run = run; within = le; stands = h.stands; stop = h.stop; used = tt }
-stopped_run x a b n most advance.Sends run le h e = record { count = n; end = b; run = run; within = le; stands = h.stands; stop = h.stop; used = tt }
-stopped_run x a b n most advance.Serves run le h e = record { count = n; end = b; run = run; within = le; stands = h.stands; stop = h.stop; used = tt }
-stopped_run x a b n most advance.Polls run le h e = record { count = n; end = b; run = run; within = le; stands = h.stands; stop = h.stop; used = tt }
+pub stopped_run : (x : Activity) (a b : model.Activity) (n most m : ℕ) (r : Advance) → LocalRun n a b → n ≤ most → IsNext x b m r → reduces r ≡ false → IsRun x a most r
+stopped_run x a b n most m advance.Reduces run le h e = absurd (false≢true (sym e))
+stopped_run x a b n most m (advance.Rests p) run le h e = record { count = n; end = b; run = run; within = le; stands = h.stands; stop = h.stop; used = tt }
+stopped_run x a b n most m (advance.Faults f) run le h e = record { count = n; end = b; run = run; within = le; stands = h.stands; stop = h.stop; used = tt }
+stopped_run x a b n most m (advance.Needs p) run le h e = record { count = n; end = b; run = run; within = le; stands = h.stands; stop = h.stop; used = tt }
+stopped_run x a b n most m (advance.Creates p) run le h e = record { count = n; end = b; run = run; within = le; stands = h.stands; stop = h.stop; used = tt }
+stopped_run x a b n most m advance.Sends run le h e = record { count = n; end = b; run = run; within = le; stands = h.stands; stop = h.stop; used = tt }
+stopped_run x a b n most m advance.Serves run le h e = record { count = n; end = b; run = run; within = le; stands = h.stands; stop = h.stop; used = tt }
+stopped_run x a b n most m advance.Polls run le h e = record { count = n; end = b; run = run; within = le; stands = h.stands; stop = h.stop; used = tt }
 
 all_used : (n : ℕ) (r : Advance) → IsUsed n n r
 all_used n advance.Reduces = refl

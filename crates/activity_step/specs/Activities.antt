@@ -50,11 +50,6 @@ abbrev pub IsAfter : Activity → model.Activity → Bool → Advance → Type 0
 IsAfter x a true advance.Reduces = IsStepped x a
 IsAfter x a go r = IsStopped x a r
 
--- one contraction was taken, or nothing was done
-abbrev pub IsQuick : Activity → model.Activity → Bool → Type 0
-IsQuick x a true = IsStepped x a
-IsQuick x a false = StandsFor x a
-
 -- all contractions that may be taken were taken, where one more could be
 abbrev pub IsUsed : ℕ → ℕ → Advance → Type 0
 IsUsed n most advance.Reduces = n ≡ most
@@ -70,11 +65,16 @@ pub record IsRun (x : Activity) (a : model.Activity) (most : ℕ) (r : Advance) 
   pub stop : IsStopAt end r
   pub used : IsUsed count most r
 
--- on its way
+-- it took so many contractions
 pub record IsRunning (x : Activity) (a : model.Activity) (count : ℕ) : Type 0 where
   pub here : model.Activity
   pub run : LocalRun count a here
   pub stands : StandsFor x here
+
+-- it took so many contractions, or stands as before, and where it stops is told
+abbrev pub IsNext : Activity → model.Activity → ℕ → Advance → Type 0
+IsNext x a n advance.Reduces = IsRunning x a n
+IsNext x a n r = IsStopped x a r
 
 abbrev pub reduces : Advance → Bool
 reduces advance.Reduces = true

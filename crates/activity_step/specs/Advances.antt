@@ -1,5 +1,5 @@
 -- What an advance makes of an activity.
-use Rattle.std.specs.Prelude.{◌≡◌, ℕ, Bool, true, false, List, ◌++◌, Option, map, reverse}
+use Rattle.std.specs.Prelude.{◌≡◌, ℕ, zero, suc, Bool, true, false, List, ◌++◌, Option, map, reverse}
 use Rattle.asp_model.specs.Names.{Name, Text}
 use Rattle.asp_model.specs.Term.{Tree, loc}
 use Rattle.asp_model.specs.Split as split
@@ -87,6 +87,21 @@ IsStop k x t vs s ls r = Told k x t vs s ls r
 abbrev pub IsTaken : List Node → State → Tree → List ServiceShape → Store → List LineShape → Bool → Type 0
 IsTaken k x t vs s ls true = Reduced k x t vs s ls
 IsTaken k x t vs s ls false = Stands k x t vs s ls
+
+-- a contraction of a term over a store
+pub record Contracted (t : Tree) (s : Store) : Type 0 where
+  pub contexts : List Context
+  pub redex : Redex
+  pub becomes : Tree
+  pub store : Store
+  pub added : List LineShape
+  pub splits : split.split t ≡ Splits contexts redex
+  pub is : contract s redex ≡ Becomes becomes store added
+
+-- so many contractions were taken
+abbrev pub AreTaken : List Node → State → Tree → List ServiceShape → Store → List LineShape → ℕ → Type 0
+AreTaken k x t vs s ls zero = Stands k x t vs s ls
+AreTaken k x t vs s ls (suc n) = (c : Contracted t s) × AreTaken k x (plug c.contexts c.becomes) vs c.store (ls ++ c.added) n
 
 -- a decision was done: the redex became this place, the cells changed so, and the output grew so
 pub record IsPerformed (k : List Node) (old new : CodedStore) (lines now : List Line) (d : Decision) (p : ℕ) : Type 0 where

@@ -1,10 +1,17 @@
 //! An activity, and its contractions.
 
-ghost use Rattle.std.specs.Prelude.{◌≡◌, Err, IfOk, OnErr, OnOk, alloc_error, reverse, true};
+ghost use Rattle.std.specs.Prelude.{◌≡◌, ◌<◌, ◌≤◌, Err, IfOk, OnErr, OnOk, alloc_error, reverse, true};
 ghost use Rattle.std.specs.Option.{option_map};
 ghost use Rattle.asp_model.specs.Shapes.{future_shape};
 ghost use Rattle.asp_model.specs.Configuration.{Activity as ActivityShape};
-ghost use Rattle.activity_step.specs.Activities.{IsAfter, IsQuick, IsRun, StandsFor, reduces};
+ghost use Rattle.activity_step.specs.Activities.{
+  IsAfter,
+  IsNext,
+  IsRun,
+  IsRunning,
+  StandsFor,
+  reduces,
+};
 ghost use Rattle.activity_step.specs.Standings.{code_of};
 ghost use Rattle.activity_step.specs.Advances.{Stands};
 
@@ -165,34 +172,36 @@ impl Activity {
         self.noted(outcome)
     }
 
-    /// One contraction of the kinds that run most, or none.
+    /// Contractions of the kinds that run most, no more than are left.
     #[inline(always)]
-    fn quick(&mut self, alloc: Global) -> Result<bool, AllocError>
-        ensures quick { (a : ActivityShape) → StandsFor self.old a →
-            IfOk result (IsQuick self.new a) }
+    fn quick(&mut self, alloc: Global, left: u64) -> Result<u64, AllocError>
+        ensures taken { (a : ActivityShape) → StandsFor self.old a →
+            IfOk result (IsRunning self.new a) }
+        ensures within { 0 < left → IfOk result (λ n. n ≤ left) }
         ensures code { code_of self.new ≡ code_of self.old }
     {
-        if !self.state.quick(alloc, &self.code)? {
-            return Ok(false);
-        }
-        let count = self.count.checked_add(1).ok_or(AllocError)?;
+        let taken = self.state.quick(alloc, &self.code, left)?;
+        let count = self.count.checked_add(taken).ok_or(AllocError)?;
         self.count = count;
-        Ok(true)
+        Ok(taken)
     }
 
-    /// One contraction, or what the redex comes to. What a call that is not inlined answers is kept
-    /// apart, so that the answer itself needs no memory.
+    /// The next contractions, no more than are left, or what the redex comes to. What a call that is not
+    /// inlined answers is kept apart, so that the answer itself needs no memory.
     #[inline(always)]
-    fn take_next(&mut self, alloc: Global) -> Result<Advance, AllocError>
-        ensures after { (a : ActivityShape) → StandsFor self.old a →
-            IfOk result (IsAfter self.new a true) }
+    fn take_next(&mut self, alloc: Global, left: u64) -> Result<(u64, Advance), AllocError>
+        ensures next { (a : ActivityShape) → StandsFor self.old a →
+            IfOk result (λ x. IsNext self.new a x.0 x.1) }
+        ensures some { IfOk result (λ x. 0 < x.0) }
+        ensures within { 0 < left → IfOk result (λ x. x.0 ≤ left) }
         ensures code { code_of self.new ≡ code_of self.old }
     {
-        if self.quick(alloc)? {
-            return Ok(Advance::Reduces);
+        let taken = self.quick(alloc, left)?;
+        if taken > 0 {
+            return Ok((taken, Advance::Reduces));
         }
         let advance = self.take(alloc, true)?;
-        Ok(advance)
+        Ok((1, advance))
     }
 
     /// Takes the contractions before its stop, at most so many.
@@ -204,11 +213,11 @@ impl Activity {
     {
         let mut left = most;
         while left > 0 {
-            let advance = self.take_next(alloc)?;
+            let (taken, advance) = self.take_next(alloc, left)?;
             if !is_reduction(advance) {
                 return Ok(advance);
             }
-            left -= 1;
+            left -= taken;
         }
         let advance = self.take(alloc, false)?;
         Ok(advance)

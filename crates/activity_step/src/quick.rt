@@ -1,9 +1,10 @@
 //! Contractions of the kinds that run most.
 
-ghost use Rattle.std.specs.Prelude.{◌≡◌, IfOk, List, OnOk, Some, true, ℕ};
+ghost use Rattle.std.specs.Prelude.{◌≡◌, ◌<◌, ◌≤◌, IfOk, List, OnOk, Some, true, ℕ};
 ghost use Rattle.asp_model.specs.Configuration.{ServiceShape};
-ghost use Rattle.asp_model.specs.Contraction.{LineShape};
+ghost use Rattle.asp_model.specs.Contraction.{LineShape, contract};
 ghost use Rattle.asp_model.specs.Names.{Text};
+ghost use Rattle.asp_model.specs.Split.{Redex};
 ghost use Rattle.asp_model.specs.Store.{Store as StoreShape};
 ghost use Rattle.asp_model.specs.Term.{Tree};
 ghost use Rattle.code_laws.specs.Nodes.{in_place};
@@ -11,24 +12,27 @@ ghost use Rattle.code_table.specs.Classes.{class_at, class_of};
 ghost use Rattle.code_table.specs.Tables.{kind_head};
 ghost use Rattle.code_table.specs.declared.code.Kind.TheVariants as kind;
 ghost use Rattle.code_table.specs.declared.code.Node.{Node as NodeShape};
-ghost use Rattle.step_rows.specs.Decisions.{value_redex};
+ghost use Rattle.code_table.specs.Shapes.{store_of};
+ghost use Rattle.step_rows.specs.Decisions.{decided, value_redex};
 ghost use Rattle.step_machine.specs.declared.frames.Focus.TheVariants as focus;
 ghost use Rattle.step_machine.specs.Rows.{AtNode, IsAtRedex};
-ghost use Rattle.step_machine.specs.Sites.{IsBefore};
+ghost use Rattle.step_machine.specs.declared.frames.Nested.TheVariants as nested;
+ghost use Rattle.step_machine.specs.Sites.{Gives, IsNested, number_redex};
 ghost use Rattle.step_machine.specs.Stacks.{last, piece_from};
 ghost use Rattle.step_machine.specs.Standing.{view_of};
 ghost use Rattle.activity_step.specs.declared.state.State.{State as StateShape};
-ghost use Rattle.activity_step.specs.Advances.{IsAdvance, IsTaken, Reduced, Stands};
+ghost use Rattle.activity_step.specs.Advances.{AreTaken, IsAdvance, IsTaken, Reduced, Stands};
 
 use crate::activity::is_reduction;
-use crate::advance::Advance;
-use crate::performing::add_number;
+use crate::advance::{Advance, stop_of};
+use crate::performing::{add_number, perform};
 use crate::reducing::node_in;
 use crate::state::State;
-use code_table::{Class, Code, Kind, Node};
+use asp_model::Sign;
+use code_table::{Cell, Class, Code, Kind, Node, Place};
 use std::alloc::{AllocError, Global};
-use step_machine::{Focus, Site};
-use step_rows::Decision;
+use step_machine::{Focus, Nested, Site};
+use step_rows::{Decision, get_row, operate_next, operate_row};
 
 /// Whether a contraction was taken.
 #[inline(always)]
@@ -39,6 +43,17 @@ fn taken(outcome: Result<Advance, AllocError>) -> Result<bool, AllocError>
 {
     let advance = outcome?;
     Ok(is_reduction(advance))
+}
+
+/// How many contractions were taken.
+#[inline(always)]
+fn count_of(taken: bool) -> u64
+    ensures taken { (k : List NodeShape) (x : StateShape) (t : Tree) (vs : List ServiceShape)
+        (s : StoreShape) (ls : List LineShape) →
+        IsTaken k x t vs s ls taken → AreTaken k x t vs s ls result }
+    ensures within { result ≤ 1 }
+{
+    if taken { 1 } else { 0 }
 }
 
 impl State {
@@ -54,7 +69,7 @@ impl State {
         ensures reduced { (k : List NodeShape) (t : Tree) (vs : List ServiceShape) (s : StoreShape)
             (ls : List LineShape) →
             Stands k self.old t vs s ls →
-            IsBefore k t vs (view_of self.old.machine) number from done value →
+            Gives k t vs (view_of self.old.machine) number from done (number_redex value) →
             OnOk result (Reduced k self.new t vs s ls) }
     {
         let place = add_number(&mut self.store, &self.lines, value)?;
@@ -170,28 +185,124 @@ impl State {
         }
     }
 
-    /// Takes the next contraction where it is of a kind that runs most, or none.
+    /// What a redex below a node comes to, where that is a contraction.
     #[inline(always)]
-    pub fn quick(&mut self, alloc: Global, code: &Code) -> Result<bool, AllocError>
+    fn nested_decided(
+        &mut self,
+        alloc: Global,
+        decision: Decision,
+        number: usize,
+        from: usize,
+        done: usize,
+    ) -> Result<u64, AllocError>
+        ensures taken { (k : List NodeShape) (r : Redex) (t : Tree) (vs : List ServiceShape)
+            (s : StoreShape) (ls : List LineShape) →
+            Stands k self.old t vs s ls →
+            Gives k t vs (view_of self.old.machine) number from done r →
+            contract (store_of k self.old.store.cells) r ≡ decided k self.old.store.cells decision →
+            IfOk result (AreTaken k self.new t vs s ls) }
+        ensures within { IfOk result (λ n. n ≤ 1) }
+    {
+        if stop_of(decision).is_some() {
+            return Ok(0);
+        }
+        let place = perform(alloc, &mut self.store, &mut self.lines, decision)?;
+        self.machine.give(number, from, done, place)?;
+        Ok(1)
+    }
+
+    /// A number, and a sign over a place and it, if that gives a number too.
+    #[inline(always)]
+    fn quick_pair(
+        &mut self,
+        sign: Sign,
+        first: Place,
+        value: i64,
+        number: usize,
+        from: usize,
+        done: usize,
+    ) -> Result<u64, AllocError>
+        ensures taken { (k : List NodeShape) (t : Tree) (vs : List ServiceShape) (s : StoreShape)
+            (ls : List LineShape) →
+            Stands k self.old t vs s ls →
+            let next = nested.OperateNumber sign first value in
+            IsNested k t vs (view_of self.old.machine) number from done next →
+            IfOk result (AreTaken k self.new t vs s ls) }
+        ensures within { IfOk result (λ n. n ≤ 2) }
+    {
+        let Some(sum) = operate_next(&self.store, sign, first, value) else {
+            return Ok(0);
+        };
+        self.store.add(Cell::Number(value))?;
+        let place = self.store.add(Cell::Number(sum))?;
+        self.machine.give(number, from, done, place)?;
+        Ok(2)
+    }
+
+    /// A redex below a node, which needs no frame, and no more contractions than are left.
+    #[inline(always)]
+    fn quick_nested(
+        &mut self,
+        alloc: Global,
+        code: &Code,
+        number: usize,
+        from: usize,
+        done: usize,
+        redex: Nested,
+        left: u64,
+    ) -> Result<u64, AllocError>
         ensures taken { (t : Tree) (vs : List ServiceShape) (s : StoreShape) (ls : List LineShape) →
             Stands code.now self.old t vs s ls →
-            IfOk result (IsTaken code.now self.new t vs s ls) }
+            IsNested code.now t vs (view_of self.old.machine) number from done redex.entry →
+            IfOk result (AreTaken code.now self.new t vs s ls) }
+        ensures within { 0 < left → IfOk result (λ n. n ≤ left) }
+    {
+        match redex {
+            Nested::Number(value) => {
+                self.quick_number(number, from, done, value)?;
+                Ok(1)
+            }
+            Nested::Get(label, at) => {
+                let decision = get_row(code, &self.store, label, &[at])?;
+                self.nested_decided(alloc, decision, number, from, done)
+            }
+            Nested::Operate(sign, first, second) => {
+                let decision = operate_row(&self.store, sign, &[first, second])?;
+                self.nested_decided(alloc, decision, number, from, done)
+            }
+            Nested::OperateNumber(sign, first, value) => {
+                if left < 2 {
+                    return Ok(0);
+                }
+                self.quick_pair(sign, first, value, number, from, done)
+            }
+        }
+    }
+
+    /// Takes the next contractions where they are of a kind that runs most, no more than are left.
+    #[inline(always)]
+    pub fn quick(&mut self, alloc: Global, code: &Code, left: u64) -> Result<u64, AllocError>
+        ensures taken { (t : Tree) (vs : List ServiceShape) (s : StoreShape) (ls : List LineShape) →
+            Stands code.now self.old t vs s ls →
+            IfOk result (AreTaken code.now self.new t vs s ls) }
+        ensures within { 0 < left → IfOk result (λ n. n ≤ left) }
     {
         let site = self.machine.reach(code.nodes())?;
         match site {
             Site::Redex { number, from, done } => {
-                self.quick_redex(alloc, code, number, from, done)
+                let taken = self.quick_redex(alloc, code, number, from, done)?;
+                Ok(count_of(taken))
             }
-            Site::Number {
+            Site::Nested {
                 number,
                 from,
                 done,
-                value,
-            } => {
-                self.quick_number(number, from, done, value)?;
-                Ok(true)
+                redex,
+            } => self.quick_nested(alloc, code, number, from, done, redex, left),
+            Site::Other => {
+                let taken = self.quick_other(alloc, code)?;
+                Ok(count_of(taken))
             }
-            Site::Other => self.quick_other(alloc, code),
         }
     }
 }

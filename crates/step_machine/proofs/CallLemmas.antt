@@ -1,5 +1,5 @@
 -- Machines at groups of calls.
-use Rattle.std.proofs.Common.{◌≡◌, ℕ, zero, suc, ◌+◌, ◌-◌, ◌<◌, ◌≤◌, List, [], ◌∷◌, ◌++◌, Option, Some, length, take, drop, reverse, inl, refl, sym, ap, subst, ◌∙◌, arith, length-append, append_assoc}
+use Rattle.std.proofs.Common.{◌≡◌, ℕ, suc, ◌+◌, ◌-◌, ◌<◌, ◌≤◌, List, [], ◌∷◌, ◌++◌, length, take, drop, reverse, inl, refl, sym, ap, subst, ◌∙◌, arith, length-append, append_assoc}
 use Rattle.std.proofs.lemmas.List.{reverse-append, take_all, length-take-le, take-append-drop}
 use Rattle.asp_model.specs.Names.{Text}
 use Rattle.asp_model.specs.Term.{Call, Group, Tree, Trees, none, more, node, loc, locs_then, child_count}
@@ -11,20 +11,19 @@ use Rattle.code_laws.specs.Nodes.{in_place}
 use Rattle.code_laws.proofs.OpenLemmas.{count_locs}
 use Rattle.code_laws.proofs.SplitLemmas.{locs_snoc, splits_one_way}
 use Rattle.step_machine.specs.declared.frames.Frame.{Frame}
-use Rattle.step_machine.specs.declared.frames.Focus.{Focus}
 use Rattle.step_machine.specs.declared.frames.Focus.TheVariants as focus
 use Rattle.step_machine.specs.declared.frames.Form.{Form}
 use Rattle.step_machine.specs.declared.frames.Form.TheVariants as form
 use Rattle.step_machine.specs.declared.frames.Spread.{Spread}
 use Rattle.step_machine.specs.Items.{Item, Waits, Suspends, contexts_of, services_of, futures_of}
-use Rattle.step_machine.specs.Calls.{IsCalled, IsCalling, IsDealt, IsLaid, beside_count, called_label, calls, calls_behind, rounds}
-use Rattle.step_machine.specs.Stacks.{last, but_last, top, IsItem, IsWithin, IsStack}
+use Rattle.step_machine.specs.Calls.{IsCalled, IsCalling, IsDealt, IsLaid, beside_count, called_label, calls, calls_behind}
+use Rattle.step_machine.specs.Stacks.{last, but_last, IsItem, IsWithin, IsStack}
 use Rattle.step_machine.specs.Standing.{View, Standing}
 use Rattle.step_machine.specs.Views.{IsOpen, all_done, dealt_view, onward}
 use Rattle.step_machine.specs.Services.{Below, IsAtSome}
 use Rattle.step_machine.specs.Rows.{IsAtRedex, without_last}
 use Rattle.step_machine.specs.Spreads.{IsAtCall, IsAtResults}
-use Rattle.step_machine.proofs.StackLemmas.{last_none, but_last_none, last_size, last_more, but_last_more, last_seam, but_last_seam, stack_cut}
+use Rattle.step_machine.proofs.StackLemmas.{but_last_none, last_size, last_more, but_last_more, last_seam, but_last_seam}
 use Rattle.step_machine.proofs.RoundLemmas.{length-own, next_round, round, rounds_over}
 use Rattle.step_machine.proofs.MoveLemmas.{at_focus, are_contexts, closed}
 use Rattle.step_machine.proofs.RowLemmas.{stand_place}

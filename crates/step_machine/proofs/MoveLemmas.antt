@@ -1,9 +1,8 @@
 -- Moves of a machine within its term.
 use Rattle.std.proofs.Common.{◌≡◌, ℕ, suc, ◌+◌, ◌<◌, ◌≤◌, List, [], ◌∷◌, ◌++◌, length, take, drop, reverse, refl, sym, ap, subst, ◌∙◌, arith, length-append}
 use Rattle.std.proofs.lemmas.List.{reverse-append, take_all, length-take-le}
-use Rattle.asp_model.specs.Names.{Text}
-use Rattle.asp_model.specs.Term.{Group, Tree, Trees, more, Environment, loc, locs_then, child_count}
-use Rattle.asp_model.specs.Split.{Context, Redex, Splits, split, plug, plugged}
+use Rattle.asp_model.specs.Term.{Group, Tree, Trees, more, loc, locs_then, child_count}
+use Rattle.asp_model.specs.Split.{Context, plug, plugged}
 use Rattle.asp_model.specs.Configuration.{ServiceShape}
 use Rattle.code_table.specs.declared.code.Leaf.{Leaf}
 use Rattle.code_table.specs.declared.code.Node.{Node}
@@ -14,7 +13,7 @@ use Rattle.code_laws.specs.Places.{leaf_place}
 use Rattle.code_laws.specs.Nodes.{IsTerm, parts, nth, in_place, redex_in, context_in}
 use Rattle.code_laws.specs.Splitting.{redex_node, IsContext, AreContexts}
 use Rattle.code_laws.proofs.OpenLemmas.{count_locs}
-use Rattle.code_laws.proofs.TurnLemmas.{leaf_term, begins, child_runs, opens, goes_on, is_context, splits_here}
+use Rattle.code_laws.proofs.TurnLemmas.{leaf_term, begins, child_runs, opens, goes_on, is_context}
 use Rattle.step_machine.specs.declared.frames.Frame.{Frame}
 use Rattle.step_machine.specs.declared.frames.Focus.{Focus}
 use Rattle.step_machine.specs.declared.frames.Focus.TheVariants as focus

@@ -4,7 +4,6 @@ use Rattle.std.proofs.lemmas.List.{drop-append-le}
 use Rattle.std.proofs.Math.Seq.{drop-append_seam}
 use Rattle.std.proofs.lemmas.Bool.{false≢true}
 use Rattle.std.specs.Prelude.{ℤ, pos, negsuc}
-use Rattle.asp_model.specs.declared.word.Label.{Label}
 use Rattle.asp_model.specs.Names.{Text}
 use Rattle.asp_model.specs.Term.{Call, Let, Steps, If, Repeat, Tree, Trees, none, more, loc, locs_then, child_count, Environment}
 use Rattle.asp_model.specs.Split.{Context, Redex, Stands, Splits, split, plug}

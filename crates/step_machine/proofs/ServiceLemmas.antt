@@ -1,7 +1,6 @@
 -- Services that begin and end.
 use Rattle.std.proofs.Common.{◌≡◌, ℕ, ◌+◌, ◌-◌, ◌≤◌, List, [], ◌∷◌, ◌++◌, Option, length, take, drop, reverse, refl, sym, ap, subst, ◌∙◌, arith, length-append}
 use Rattle.std.proofs.lemmas.List.{reverse-append, take_all, length-take-le}
-use Rattle.std.proofs.Math.Seq.{drop-append_seam, take-append_seam}
 use Rattle.asp_model.specs.Names.{Text, FutureShape}
 use Rattle.asp_model.specs.Term.{Call, Make, Tree, leaf, none, node, locs_then}
 use Rattle.asp_model.specs.Split.{Context, plug}

@@ -1,24 +1,22 @@
 -- A call on a group, and a `scatter`, as they become groups of calls.
-use Rattle.std.proofs.Common.{◌≡◌, ℕ, zero, suc, ◌+◌, ◌-◌, ◌<◌, ◌≤◌, Bool, true, false, List, [], ◌∷◌, ◌++◌, Option, Some, None, length, map, take, drop, reverse, refl, sym, ap, subst, ◌∙◌, arith, length-append, append_assoc}
-use Rattle.std.proofs.lemmas.List.{append-nil, length-take-le}
+use Rattle.std.proofs.Common.{◌≡◌, ℕ, ◌+◌, ◌≤◌, true, false, List, [], ◌∷◌, ◌++◌, length, take, reverse, refl, sym, ap, subst, ◌∙◌, arith, length-append, append_assoc}
+use Rattle.std.proofs.lemmas.List.{append-nil}
 use Rattle.asp_model.specs.declared.word.Label.{Label}
 use Rattle.asp_model.specs.Names.{Text}
-use Rattle.asp_model.specs.Term.{Call, Group, Scatter, Tree, Trees, none, node, locs_then}
-use Rattle.asp_model.specs.Split.{Context, Redex, Splits, split, plug}
+use Rattle.asp_model.specs.Term.{Call, Group, Scatter, Tree, Trees, none, node}
+use Rattle.asp_model.specs.Split.{Context, Splits, plug}
 use Rattle.asp_model.specs.Store as store
 use Rattle.asp_model.specs.Store.{CellShape, Store, cell}
-use Rattle.asp_model.specs.Contraction.{Becomes, broadcast, call_row, contract, is_future, scattered, sizes_compared}
+use Rattle.asp_model.specs.Contraction.{broadcast, call_row, contract, is_future, scattered, sizes_compared}
 use Rattle.asp_model.specs.Configuration.{ServiceShape}
 use Rattle.code_table.specs.declared.code.Kind.TheVariants as kind
 use Rattle.code_table.specs.declared.code.Node.{Node}
-use Rattle.code_table.specs.Pieces.{Piece, Pieces, piece}
-use Rattle.code_table.specs.Tables.{kind_head, node_piece, pieces, pieces_of, piece_at}
+use Rattle.code_table.specs.Pieces.{Pieces, piece}
+use Rattle.code_table.specs.Tables.{kind_head, pieces, pieces_of, piece_at}
 use Rattle.code_laws.specs.Nodes.{in_place}
-use Rattle.step_machine.specs.declared.frames.Frame.{Frame}
-use Rattle.step_machine.specs.declared.frames.Focus.TheVariants as focus
 use Rattle.step_machine.specs.declared.frames.Spread.{Spread}
 use Rattle.step_machine.specs.declared.frames.Spread.TheVariants as spread
-use Rattle.step_machine.specs.Items.{Item, contexts_of}
+use Rattle.step_machine.specs.Items.{contexts_of}
 use Rattle.step_machine.specs.Calls.{IsDealt, IsLaid, beside_count, called_label, calls, pairs, rounds}
 use Rattle.step_machine.specs.Sequences.{later}
 use Rattle.step_machine.specs.Stacks.{IsStack, but_last, last, piece_from, top}

@@ -1,5 +1,7 @@
 //! Frames, and what a machine looks at.
 
+use asp_model::{Label, Sign};
+
 /// The arguments of the calls that a call on a group, or a `scatter`, becomes.
 #[derive(Clone, Copy)]
 pub enum Spread {
@@ -64,21 +66,32 @@ pub enum Focus {
     },
 }
 
+/// A redex that needs no frame: all terms of its node are variables or numbers.
+#[derive(Clone, Copy)]
+pub enum Nested<'a> {
+    Number(i64),
+    /// A field of the object at a place.
+    Get(&'a Label, usize),
+    Operate(Sign, usize, usize),
+    /// A sign over a place and a number, which becomes a place first.
+    OperateNumber(Sign, usize, i64),
+}
+
 /// What the next contraction is, as far as the machine alone tells.
 #[derive(Clone, Copy)]
-pub enum Site {
+pub enum Site<'a> {
     /// That of the node that it looks at.
     Redex {
         number: usize,
         from: usize,
         done: usize,
     },
-    /// That of a number, which is the next term below the node that it looks at.
-    Number {
+    /// That of the next term below the node that it looks at.
+    Nested {
         number: usize,
         from: usize,
         done: usize,
-        value: i64,
+        redex: Nested<'a>,
     },
     Other,
 }

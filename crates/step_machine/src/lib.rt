@@ -11,6 +11,6 @@ mod services;
 mod sites;
 
 pub use calls::{Round, have_results, results_in, round_at};
-pub use frames::{Focus, Form, Frame, Site, Spread};
+pub use frames::{Focus, Form, Frame, Nested, Site, Spread};
 pub use machine::Machine;
 pub use nodes::{call_label, child_at, in_place_count, next_child, node_at};

@@ -8,6 +8,7 @@ ghost use Rattle.code_table.specs.Tables.{node_piece, piece_at, piece_of, pieces
 ghost use Rattle.code_laws.specs.Nodes.{in_place, nth, parts};
 ghost use Rattle.step_machine.specs.Calls.{called_label};
 ghost use Rattle.step_machine.specs.Sequences.{child_number, later};
+ghost use Rattle.step_machine.specs.Sites.{IsNumber};
 
 use asp_model::Label;
 use code_table::{Child, Kind, Node};
@@ -80,6 +81,20 @@ pub fn child_at<'a>(node: &'a Node, number: usize) -> Option<&'a Child>
         return None;
     };
     Some(child)
+}
+
+/// The number that a node is.
+#[inline(always)]
+pub fn number_at(nodes: &[Node], number: usize) -> Option<i64>
+    ensures number { IsSound nodes.now → IfSome result (IsNumber nodes.now number) }
+{
+    let Some(node) = node_at(nodes, number) else {
+        return None;
+    };
+    match &node.kind {
+        Kind::Number(value) => Some(*value),
+        _ => None,
+    }
 }
 
 /// The label of the calls that a node stands for: of a call, or of a `scatter`.

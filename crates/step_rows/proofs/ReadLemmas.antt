@@ -1,5 +1,5 @@
 -- Strict operands that are read.
-use Rattle.std.proofs.Common.{◌≡◌, ℕ, ℤ, Bool, true, false, List, [], ◌∷◌, Option, Some, None, refl, sym, ap, ◌∙◌}
+use Rattle.std.proofs.Common.{◌≡◌, ◌<◌, ◌++◌, ℕ, zero, suc, ℤ, Bool, true, false, List, [], ◌∷◌, Option, Some, None, length, refl, sym, ap, ◌∙◌, arith}
 use Rattle.asp_model.specs.Names.{Text}
 use Rattle.asp_model.specs.Term.{Head, SignShape, Get, Put, Clone, Active, Operate, Print, Size, Member, If, Scatter, Call, Tree, none, more}
 use Rattle.asp_model.specs.Store.{CellShape, Store, Number, Object, Reference, Future, Group, cell}
@@ -32,6 +32,17 @@ object_active i service k ns (Some x) = refl
 -- the cell that was looked at
 pub cell_seen : (k : List Node) (s : CodedStore) (p : ℕ) (c : CodedCell) → c ≡ cell_at s p → cell (store_of k s) p ≡ cell_of k c
 cell_seen k s p c e = cell-store_of k s p ∙ ap (cell_of k) (sym e)
+
+-- a cell stays where the store grows
+pub cell_kept : (s added : CodedStore) (p : ℕ) → p < length s → cell_at (s ++ added) p ≡ cell_at s p
+cell_kept [] added p h = absurd (omega arith)
+cell_kept (c ∷ cs) added zero h = refl
+cell_kept (c ∷ cs) added (suc p) h = cell_kept cs added p (omega arith)
+
+-- the cell that was added
+pub cell_added : (s added : CodedStore) (c : CodedCell) → cell_at (s ++ c ∷ added) (length s) ≡ c
+cell_added [] added c = refl
+cell_added (d ∷ s) added c = cell_added s added c
 
 -- First futures
 

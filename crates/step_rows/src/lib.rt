@@ -24,5 +24,7 @@ pub use groups::{
 };
 pub use numbers::operate;
 pub use redex::Redex;
-pub use rows::{Operand, clone_row, get_row, one_operand, operate_row, print_row, put_row};
+pub use rows::{
+    Operand, clone_row, get_row, one_operand, operate_next, operate_row, print_row, put_row,
+};
 pub use seen::{Seen, sight_of};

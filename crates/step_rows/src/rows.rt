@@ -1,6 +1,6 @@
 //! What a redex of one or two strict operands comes to.
 
-ghost use Rattle.std.specs.Prelude.{◌≡◌, ◌∷◌, [], IfOk, IfSome, List};
+ghost use Rattle.std.specs.Prelude.{◌≡◌, ◌++◌, ◌∷◌, [], IfOk, IfSome, List, ℕ};
 ghost use Rattle.asp_model.specs.Contraction.{allots, contract, operate as operate_of};
 ghost use Rattle.asp_model.specs.Shapes.{sign_shape};
 ghost use Rattle.asp_model.specs.Store.{cell as cell_in};
@@ -12,10 +12,11 @@ ghost use Rattle.asp_model.specs.Term.{
   Put as PutHead,
 };
 ghost use Rattle.code_table.specs.declared.code.Node.{Node as NodeShape};
-ghost use Rattle.code_table.specs.Cells.{CodedStore, cell_at, coded};
+ghost use Rattle.code_table.specs.Cells.{CodedStore, Number as NumberCell, cell_at, coded};
 ghost use Rattle.code_table.specs.Shapes.{store_of};
 ghost use Rattle.step_rows.specs.Decisions.{decided, value_redex};
 ghost use Rattle.step_rows.specs.Sights.{operated, printed, seen_or};
+ghost use Rattle.step_rows.specs.declared.decision.Decision.TheVariants as decision;
 ghost use Rattle.step_rows.specs.declared.seen.Seen.TheVariants as seen;
 
 use crate::cells::{look, one, two};
@@ -194,4 +195,25 @@ pub fn operate_row(store: &Store, sign: Sign, operands: &[Place]) -> Result<Deci
     };
     let second = sight_of(cell);
     Ok(operate_at(sign, first, second, at, other))
+}
+
+/// A sign over the number at a place and a number that stands in no cell yet, if it gives one.
+#[inline(always)]
+pub fn operate_next(store: &Store, sign: Sign, first: Place, second: i64) -> Option<i64>
+    ensures row { (k : List NodeShape) (added : CodedStore) (other : ℕ) →
+        let s = store.now.cells ++ added in
+        let r = value_redex (OperateHead (sign_shape sign)) (first ∷ other ∷ []) in
+        cell_at s other ≡ NumberCell second →
+        IfSome result (λ n. contract (store_of k s) r ≡ decided k s (decision.Number n)) }
+{
+    if first >= store.len() {
+        return None;
+    }
+    let Seen::Number(x) = sight_of(store.cell(first)) else {
+        return None;
+    };
+    match answer_of(sign, x, second) {
+        Decision::Number(number) => Some(number),
+        _ => None,
+    }
 }

@@ -1,8 +1,7 @@
-use Rattle.std.proofs.Common.{rules, ◌≡◌, ◌+◌, ℕ, List, true, sym, ap, ◌∙◌, arith}
+use Rattle.std.proofs.Common.{rules, ◌≡◌, ℕ, List, sym, ap, ◌∙◌, arith}
 use Rattle.code_table.specs.declared.code.Node.{Node}
 use Rattle.code_table.specs.Tables.{node_piece, piece_at, pieces}
 use Rattle.code_laws.specs.Nodes.{in_place}
-use Rattle.step_machine.specs.Calls.{beside_count}
 use Rattle.step_machine.proofs.calls.have_results.Goals as goal
 
 pub returns : goal.returns

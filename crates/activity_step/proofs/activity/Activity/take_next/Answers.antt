@@ -1,14 +1,12 @@
-use Rattle.std.proofs.Common.{rules, ◌≡◌, true, false, subst}
-use Rattle.activity_step.specs.Activities.{IsQuick, StandsFor}
+use Rattle.std.proofs.Common.{rules, ◌≡◌, ℕ, sym, subst, arith}
+use Rattle.asp_model.specs.Configuration as model
+use Rattle.activity_step.specs.Activities.{IsRunning, StandsFor}
+use Rattle.activity_step.proofs.RunLemmas.{next_of}
 use Rattle.activity_step.proofs.activity.Activity.take_next.Goals as goal
 
-pub returns-then-branch-clause-after : goal.returns-then-branch-clause-after
-returns-then-branch-clause-after c = λ a h.
-    let some : c.in_ok-quick.field-0 ≡ true = search (rules, c.if-branch.true) in
-    subst (IsQuick c.quick.new.self a) some (c.in_ok-quick.ensures.quick a h)
-
-pub returns-clause-after : goal.returns-clause-after
-returns-clause-after c = λ a h.
-    let none : c.in_ok-quick.field-0 ≡ false = search (rules, c.if-branch.false) in
-    let here : StandsFor c.quick.new.self a = subst (IsQuick c.quick.new.self a) none (c.in_ok-quick.ensures.quick a h) in
-    c.in_ok-advance.ensures.after a here
+pub returns-clause-next : goal.returns-clause-next
+returns-clause-next c = λ a h.
+    let none : c.in_ok-taken.taken ≡ 0 = omega (arith, c.if-taken-gt0.false) in
+    let run : IsRunning c.quick.new.self a 0 = subst (IsRunning c.quick.new.self a) none (c.in_ok-taken.ensures.taken a h) in
+    let here : StandsFor c.quick.new.self a = subst (λ (b : model.Activity). StandsFor c.quick.new.self b) (sym run.run) run.stands in
+    next_of c.take.new.self a c.in_ok-advance.advance (c.in_ok-advance.ensures.after a here)
