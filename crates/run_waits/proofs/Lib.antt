@@ -1,0 +1,5 @@
+pub mod TargetLemmas
+pub mod ListenLemmas
+pub mod WaitLemmas
+pub mod OnceLemmas
+pub mod EndLemmas
