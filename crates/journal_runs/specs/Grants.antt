@@ -1,5 +1,6 @@
 -- Grants by numbers.
-use Rattle.std.specs.Prelude.{◌≡◌, ◌≢◌, ◌⊎◌, ◌<◌, ◌≤◌, ◌^◌, ℕ, Bool, true, false, List, Option, Some, None, is_some, length, slice_get}
+use Rattle.std.specs.Prelude.{◌≡◌, ◌≢◌, ◌⊎◌, ◌<◌, ◌≤◌, ◌^◌, ℕ, Bool, true, false}
+use Rattle.std.specs.Prelude.{List, Option, Some, None, is_some, length, slice_get}
 use Rattle.asp_model.specs.Names.{Name}
 use Rattle.journal_runs.specs.declared.runs.JournalRun.{JournalRun}
 use Rattle.journal_runs.specs.Runs.{grant_at}

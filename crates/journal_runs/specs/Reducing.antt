@@ -15,7 +15,8 @@ SameThere c d = (m : Name) → is_some (find name_cmp m d.activities) ≡ is_som
 
 -- on the way of so many reductions from a configuration: those that are left lead from here where all
 -- of them lead, and nobody was made while some are left
-pub record IsOnTheWay (p : Population) (program : Tree) (ns : List Name) (c : Configuration) (number : ℕ) (n : Name) (r left : ℕ) : Type 0 where
+pub record IsOnTheWay (p : Population) (program : Tree) (ns : List Name) (c : Configuration) (number : ℕ)
+    (n : Name) (r left : ℕ) : Type 0 where
   pub here : Configuration
   pub reducing : IsReducing p program here number n
   pub names : p.roster ≡ ns ++ newcomers c here

@@ -16,7 +16,8 @@ grant_at grants k = elim (slice_get grants k) [ None ↦ None | Some o ↦ o ]
 
 -- the run has redone these entries, which are a lawful journal of the program from this budget, and
 -- stands where they lead
-pub record IsRunOf (x : JournalRun) (program : Tree) (budget : ℕ) (entries : List EntryShape) (s : RunShape) : Type 0 where
+pub record IsRunOf (x : JournalRun) (program : Tree) (budget : ℕ) (entries : List EntryShape) (s : RunShape)
+    : Type 0 where
   pub bare : locations program ≡ []
   pub small : budget < 2 ^ 64
   pub lawful : run_of (program_history program budget entries) ≡ Some s

@@ -60,7 +60,8 @@ abbrev pub IsNewIn : List Name → Effect → Type 0
 IsNewIn ns e = (z : Name × Activity) → e.made ≡ Some z → number_of z.0 ns ≡ None
 
 -- the population after an effect: whom it makes has the next number
-pub record IsAfter (p : Population) (program : Tree) (ns : List Name) (c : Configuration) (number : ℕ) (n : Name) (e : Effect) : Type 0 where
+pub record IsAfter (p : Population) (program : Tree) (ns : List Name) (c : Configuration) (number : ℕ) (n : Name)
+    (e : Effect) : Type 0 where
   pub reducing : IsReducing p program (with_effect n e c) number n
   pub names : p.roster ≡ ns ++ made_by e.made
 
@@ -73,6 +74,7 @@ IsActed p program ns c number n e more false = (more ≡ true) × (gives e ≡ t
 -- a step was taken, which is no communication where more shall follow; or there is none, or it is a
 -- communication and more shall follow
 abbrev pub IsStepped : Population → Tree → List Name → Configuration → ℕ → Name → Bool → Bool → Type 0
-IsStepped p program ns c number n more true = (e : Effect) × (intent_in c n ≡ Acts e) × IsAfter p program ns c number n e
+IsStepped p program ns c number n more true =
+    (e : Effect) × (intent_in c n ≡ Acts e) × IsAfter p program ns c number n e
     × (more ≡ true → communicates_next c n ≡ false)
 IsStepped p program ns c number n more false = IsResting c n ⊎ ((more ≡ true) × (communicates_next c n ≡ true))

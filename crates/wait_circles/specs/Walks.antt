@@ -1,5 +1,6 @@
 -- What a walk leaves: for private functions alone.
-use Rattle.std.specs.Prelude.{◌≡◌, ◌<◌, ℕ, suc, nat_eq, Bool, true, false, List, [], ◌∷◌, Option, Some, None, length, slice_get, get_or}
+use Rattle.std.specs.Prelude.{◌≡◌, ◌<◌, ℕ, suc, nat_eq, Bool, true, false, List, [], ◌∷◌}
+use Rattle.std.specs.Prelude.{Option, Some, None, length, slice_get, get_or}
 use Rattle.law_steps.specs.Linked.{Each}
 use Rattle.law_waits.specs.Courses.{ComesTo, IsCircle, has_item, items_after}
 use Rattle.wait_circles.specs.declared.ways.Circle.{Circle}
