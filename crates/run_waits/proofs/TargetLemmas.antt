@@ -1,16 +1,12 @@
 -- The notes of a replay tell where each request went.
-use Rattle.std.specs.Prelude.{◌≡◌, ◌≢◌, ◌≤◌, ◌⊎◌, ℕ, zero, suc, nat_lt, Bool, true, false, cond, List, [], ◌∷◌, ◌++◌, Option, Some, None, is_some, length, map, option_map, slice_get}
-use Rattle.std.specs.FinMap.{find, put}
-use Rattle.std.specs.BTreeMap.{BTreeMap, get, is_at}
+use Rattle.std.specs.Prelude.{◌≡◌, ◌≢◌, ◌≤◌, ◌⊎◌, ℕ, zero, suc, nat_lt, Bool, true, false, List, [], ◌∷◌, ◌++◌, Option, Some, None, is_some, length, map, slice_get}
+use Rattle.std.specs.FinMap.{find}
 use Rattle.std.proofs.Common.{refl, sym, ap, subst, ◌∙◌, inl, inr, ⊎_elim}
-use Rattle.std.proofs.lemmas.List.{append-nil}
-use Rattle.asp_model.specs.declared.name.FutureName.{FutureName}
-use Rattle.asp_model.specs.Names.{Name, FutureShape, Text, name_cmp, same_future, same_name}
+use Rattle.asp_model.specs.Names.{Name, FutureShape, Text, name_cmp, same_future}
 use Rattle.asp_model.specs.Term.{Tree}
 use Rattle.asp_model.specs.Parcel.{ParcelShape}
-use Rattle.asp_model.specs.Configuration.{Activity, Configuration, From, Poll, ReceptionShape, RequestShape, label_of, or_none, requests_of, start}
-use Rattle.asp_model.specs.Intent.{Acts, Effect}
-use Rattle.asp_model.specs.Shapes.{future_shape}
+use Rattle.asp_model.specs.Configuration.{Activity, Configuration, From, Poll, ReceptionShape, RequestShape, or_none, requests_of, start}
+use Rattle.asp_model.specs.Intent.{Effect}
 use Rattle.asp_model.specs.Step.{ListsShape, intent_in, step, with_effect, with_last}
 use Rattle.asp_model.specs.Replay.{CountsShape, count_in, least_step, replay, steps_from, total}
 use Rattle.law_chases.proofs.FutureLemmas.{no_some, some_is, none_true, futures_tied, future_itself}
@@ -19,12 +15,11 @@ use Rattle.law_steps.specs.Kept.{Stands, IsBegun, sends_of}
 use Rattle.law_steps.specs.Reached.{Steps}
 use Rattle.law_steps.specs.Sound.{IsSound}
 use Rattle.law_steps.specs.Waking.{labels_wanted}
-use Rattle.law_steps.proofs.EntryLemmas.{In}
-use Rattle.law_steps.proofs.NameLemmas.{name_case, name_itself, name_same, name_total, names_apart, names_tied}
+use Rattle.law_steps.proofs.NameLemmas.{name_case, name_same, name_total}
 use Rattle.law_steps.proofs.StepLemmas.{step_taken}
 use Rattle.law_steps.proofs.WholeLemmas.{moves_keep_sound, start_is_sound}
 use Rattle.law_waits.proofs.HolderLemmas.{stands_once}
-use Rattle.replay_one.specs.Notes.{EventShape, NoteShape, Sent, answered_by, given_by, least_notes, made_by, noted_as, notes_from, notes_of, place_of, places_by, places_in, polled_by, replay_notes, sent_by, served_by}
+use Rattle.replay_one.specs.Notes.{EventShape, NoteShape, answered_by, given_by, least_notes, made_by, noted_as, notes_from, notes_of, place_of, places_by, places_in, polled_by, replay_notes, sent_by, served_by}
 use Rattle.run_waits.specs.Targets.{Place, place_after, place_from, place_in}
 
 -- Places in lists of notes

@@ -1,5 +1,5 @@
 -- Whom one waits for, from what is told of the end of a run.
-use Rattle.std.proofs.Common.{◌≡◌, ◌<◌, ◌+◌, ◌&&◌, ◌⊎◌, ℕ, zero, suc, nat_eq, Bool, true, false, T, List, [], ◌∷◌, ◌++◌, Option, Some, None, IfSome, IfNone, is_some, length, map, option_map, refl, sym, ap, subst, ◌∙◌, inl, inr, ⊎_elim, arith, eqb-true}
+use Rattle.std.proofs.Common.{◌≡◌, ◌<◌, ◌+◌, ◌&&◌, ◌⊎◌, ℕ, zero, suc, nat_eq, Bool, true, false, T, List, [], ◌∷◌, ◌++◌, Option, Some, None, IfSome, IfNone, is_some, length, map, refl, sym, ap, subst, ◌∙◌, inl, inr, ⊎_elim, arith, eqb-true}
 use Rattle.std.proofs.lemmas.Bool.{eqb-false}
 use Rattle.std.proofs.lemmas.Option.{slice_get_within}
 use Rattle.std.specs.List.{slice_get}
@@ -20,8 +20,8 @@ use Rattle.law_chases.proofs.FutureLemmas.{no_some, some_is, none_true}
 use Rattle.law_steps.specs.Kept.{Stands}
 use Rattle.law_steps.specs.Reached.{IsThere}
 use Rattle.law_steps.proofs.EntryLemmas.{In, found_entry}
-use Rattle.law_waits.specs.Waits.{Standing, Pending, InService, holder_of, wait_of, waited}
-use Rattle.law_waits.specs.Laws.{IsWait, StandsSo}
+use Rattle.law_waits.specs.Waits.{Standing, Pending, InService, holder_of, waited}
+use Rattle.law_waits.specs.Laws.{StandsSo}
 use Rattle.law_waits.proofs.CauseLemmas.{waits_are_found, waits_are_so}
 use Rattle.future_table.specs.Values.{values_of}
 use Rattle.path_equal.specs.Views.{IsNamedAt, IsNowhere, NamesAscend}
@@ -29,7 +29,7 @@ use Rattle.wait_circles.specs.Ways.{next_in}
 use Rattle.wait_circles.specs.Whys.{AreOf, IsNumbered, names_of}
 use Rattle.wait_circles.proofs.WhyLemmas.{name_at, status_at}
 use Rattle.run_waits.specs.Explains.{IsEndTold}
-use Rattle.run_waits.specs.Targets.{Place, place_of, target_at, target_lent}
+use Rattle.run_waits.specs.Targets.{place_of, target_at}
 use Rattle.run_waits.specs.declared.receipts.Receipts.{Receipts}
 use Rattle.run_waits.specs.declared.receipts.Target.{Target}
 

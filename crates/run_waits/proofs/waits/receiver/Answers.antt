@@ -1,4 +1,4 @@
-use Rattle.run_waits.proofs.WaitLemmas.{filled_none, named_within, receiver_none, receiver_number}
+use Rattle.run_waits.proofs.WaitLemmas.{filled_none, receiver_none, receiver_number}
 use Rattle.run_waits.proofs.waits.receiver.Goals as goal
 
 pub returns-in-Some-clause-waits : goal.returns-in-Some-clause-waits

@@ -1,6 +1,6 @@
 use Rattle.std.proofs.Common.{◌∙◌, ap, refl}
-use Rattle.asp_model.specs.Intent.{Done, Faulted, Running, Serving}
-use Rattle.asp_model.specs.Shapes.{fault_shape, status_shape}
+use Rattle.asp_model.specs.Intent.{Done, Running, Serving}
+use Rattle.asp_model.specs.Shapes.{status_shape}
 use Rattle.run_waits.proofs.WaitLemmas.{none_waited}
 use Rattle.run_waits.proofs.waits.wait_of.Goals as goal
 
