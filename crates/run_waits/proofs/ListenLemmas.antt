@@ -6,11 +6,11 @@ use Rattle.asp_model.specs.declared.name.FutureName.{FutureName}
 use Rattle.asp_model.specs.declared.word.Label.{Label}
 use Rattle.asp_model.specs.Names.{Name, FutureShape, Text, same_future}
 use Rattle.asp_model.specs.Shapes.{future_shape}
-use Rattle.replay_one.specs.Notes.{EventShape, NoteShape, Answered, Made, Polled, Sent, Served, Standing}
+use Rattle.replay_one.specs.Notes.{EventShape, NoteShape, noted_as, Answered, Faulted, Made, Polled, Printed, Sent, Served, Standing}
 use Rattle.replay_one.specs.declared.notes.Event.{Event}
 use Rattle.replay_one.specs.declared.notes.Event.TheVariants as event
 use Rattle.replay_one.specs.declared.notes.Note.{Note}
-use Rattle.replay_one.specs.Listening.{IsEvent, IsNote}
+use Rattle.replay_one.specs.Listening.{IsDeafToLines, IsEvent, IsNote}
 use Rattle.run_waits.specs.Targets.{Keeps, IsSentTo, Place, future_order, place_after, place_in, place_of, target_at}
 use Rattle.run_waits.specs.declared.receipts.Receipts.{Receipts}
 use Rattle.run_waits.specs.declared.receipts.Target.{Target}
@@ -46,7 +46,9 @@ module _ (told : Note) (x : NoteShape) (n : IsNote told x) (xs : List NoteShape)
   sent_after to label future f o (Made m) h = absurd h
   sent_after to label future f o (Answered g) h = absurd h
   sent_after to label future f o Polled h = absurd h
+  sent_after to label future f o (Printed l) h = absurd h
   sent_after to label future f o (Standing ls) h = absurd h
+  sent_after to label future f o (Faulted g) h = absurd h
 
   pub sent_kept : (to : Bor Name) (label : Bor Label) (future : Bor FutureName) → told.event ≡ event.Sent to label future → IsSentTo to.now label.now.text future.now old new → Keeps new (xs ++ x ∷ [])
   sent_kept to label future is sent f =
@@ -70,13 +72,21 @@ quiet_other e none f o (Sent m l g) h = absurd (by_event e none h)
     by_event (event.Made made) none h = h
     by_event (event.Answered future) none h = h
     by_event event.Polled none h = h
+    by_event (event.Printed line) none h = h
     by_event (event.Standing labels) none h = h
+    by_event (event.Faulted fault) none h = h
 quiet_other e none f o (Served ls) h = refl
 quiet_other e none f o (Made m) h = refl
 quiet_other e none f o (Answered g) h = refl
 quiet_other e none f o Polled h = refl
+quiet_other e none f o (Printed l) h = refl
 quiet_other e none f o (Standing ls) h = refl
+quiet_other e none f o (Faulted g) h = refl
 
 -- a note of another event leaves what is kept
 pub other_kept : (told : Note) (x : NoteShape) → IsNote told x → (xs : List NoteShape) (r : Receipts) → Keeps r xs → (e : Event) → told.event ≡ e → (is_sending e → ⊥) → Keeps r (xs ++ x ∷ [])
 other_kept told x n xs r keeps e is none = quiet_kept told x n xs r r keeps e is (quiet_other e none) refl
+
+-- lines tell of no request
+pub deaf_to_lines : (r : Receipts) → IsDeafToLines (Keeps r)
+deaf_to_lines r xs n k l keeps f = keeps f ∙ sym (place_more (future_shape f) xs (noted_as n k (Printed l)))

@@ -1,12 +1,15 @@
 -- The notes of a replay tell where each request went.
-use Rattle.std.specs.Prelude.{◌≡◌, ◌≢◌, ◌≤◌, ◌⊎◌, ℕ, zero, suc, nat_lt, Bool, true, false, List, [], ◌∷◌, ◌++◌, Option, Some, None, is_some, length, map, slice_get}
+use Rattle.std.specs.Prelude.{◌≡◌, ◌≢◌, ◌≤◌, ◌⊎◌, ℕ, zero, suc, nat_lt, Bool, true, false, List, [], ◌∷◌, ◌++◌, Option, Some, None, is_some, length, drop, map, slice_get}
 use Rattle.std.specs.FinMap.{find}
 use Rattle.std.proofs.Common.{refl, sym, ap, subst, ◌∙◌, inl, inr, ⊎_elim}
 use Rattle.asp_model.specs.Names.{Name, FutureShape, Text, name_cmp, same_future}
 use Rattle.asp_model.specs.Term.{Tree}
 use Rattle.asp_model.specs.Parcel.{ParcelShape}
 use Rattle.asp_model.specs.Configuration.{Activity, Configuration, From, Poll, ReceptionShape, RequestShape, or_none, requests_of, start}
-use Rattle.asp_model.specs.Intent.{Effect}
+use Rattle.asp_model.specs.Contraction.{LineShape}
+use Rattle.asp_model.specs.Intent as intents
+use Rattle.asp_model.specs.Intent.{Effect, StatusShape}
+use Rattle.asp_model.specs.Status.{status_of}
 use Rattle.asp_model.specs.Step.{ListsShape, intent_in, step, with_effect, with_last}
 use Rattle.asp_model.specs.Replay.{CountsShape, count_in, least_step, replay, steps_from, total}
 use Rattle.law_chases.proofs.FutureLemmas.{no_some, some_is, none_true, futures_tied, future_itself}
@@ -19,7 +22,7 @@ use Rattle.law_steps.proofs.NameLemmas.{name_case, name_same, name_total}
 use Rattle.law_steps.proofs.StepLemmas.{step_taken}
 use Rattle.law_steps.proofs.WholeLemmas.{moves_keep_sound, start_is_sound}
 use Rattle.law_waits.proofs.HolderLemmas.{stands_once}
-use Rattle.replay_one.specs.Notes.{EventShape, NoteShape, answered_by, given_by, least_notes, made_by, noted_as, notes_from, notes_of, place_of, places_by, places_in, polled_by, replay_notes, sent_by, served_by}
+use Rattle.replay_one.specs.Notes.{EventShape, NoteShape, Printed, answered_by, faulted_by, given_by, least_notes, made_by, noted_as, notes_from, notes_of, place_of, places_by, places_in, polled_by, printed_by, replay_notes, sent_by, served_by}
 use Rattle.run_waits.specs.Targets.{Place, place_after, place_from, place_in}
 
 -- Places in lists of notes
@@ -39,6 +42,10 @@ events_from f o (x ∷ xs) = events_from f (place_after f o x) xs
 noted_from : (f : FutureShape) (o : Option Place) (n : Name) (k : ℕ) (es : List EventShape) → place_from f o (map (noted_as n k) es) ≡ events_from f o es
 noted_from f o n k [] = refl
 noted_from f o n k (x ∷ es) = noted_from f (place_after f o x) n k es
+
+events_append : (f : FutureShape) (o : Option Place) (es gs : List EventShape) → events_from f o (es ++ gs) ≡ events_from f (events_from f o es) gs
+events_append f o [] gs = refl
+events_append f o (x ∷ es) gs = events_append f (place_after f o x) es gs
 
 -- by the request that is sent
 abbrev sent_place : FutureShape → Option Place → Option (Name × RequestShape) → Option Place
@@ -66,11 +73,17 @@ after_polled f o None = refl
 after_polled f o (Some (z, From q)) = refl
 after_polled f o (Some (z, Poll)) = refl
 
+after_printed : (f : FutureShape) (o : Option Place) (ls : List LineShape) → events_from f o (map Printed ls) ≡ o
+after_printed f o [] = refl
+after_printed f o (l ∷ ls) = after_printed f o ls
+
 -- what a step tells is where its request goes
-step_place : (f : FutureShape) (o : Option Place) (n : Name) (a : Activity) (ls : List Text) (e : Effect) → place_from f o (map (noted_as n a.reductions) (served_by ls ++ given_by e)) ≡ sent_place f o e.sent
+step_place : (f : FutureShape) (o : Option Place) (n : Name) (a : Activity) (ls : List Text) (e : Effect) → place_from f o (map (noted_as n a.reductions) (served_by ls ++ (given_by e ++ printed_by a e.own))) ≡ sent_place f o e.sent
 step_place f o n a ls e =
-    noted_from f o n a.reductions (served_by ls ++ given_by e)
-    ∙ after_served f o ls (given_by e)
+    noted_from f o n a.reductions (served_by ls ++ (given_by e ++ printed_by a e.own))
+    ∙ after_served f o ls (given_by e ++ printed_by a e.own)
+    ∙ events_append f o (given_by e) (printed_by a e.own)
+    ∙ after_printed f (events_from f o (given_by e)) (drop (length a.lines) e.own.lines)
     ∙ after_made f o e.made (sent_by e.sent ++ (answered_by e.filled ++ polled_by e.logged))
     ∙ after_sent f o e.sent (answered_by e.filled ++ polled_by e.logged)
     ∙ after_answered f (sent_place f o e.sent) e.filled (polled_by e.logged)
@@ -82,15 +95,25 @@ stood_from : (f : FutureShape) (o : Option Place) (n : Name) (a : Activity) (ls 
 stood_from f o n a [] = refl
 stood_from f o n a (l ∷ ls) = refl
 
-stood_of : (f : FutureShape) (o : Option Place) (n : Name) (x : Option Activity) (of : Activity → List Text) → place_from f o (elim x [ None ↦ [] | Some a ↦ places_by n a (of a) ]) ≡ o
-stood_of f o n None of = refl
-stood_of f o n (Some a) of = stood_from f o n a (of a)
+faulted_from : (f : FutureShape) (o : Option Place) (n : Name) (a : Activity) (s : StatusShape) → place_from f o (faulted_by n a s) ≡ o
+faulted_from f o n a (intents.Faulted g) = refl
+faulted_from f o n a intents.Done = refl
+faulted_from f o n a intents.Serving = refl
+faulted_from f o n a intents.Running = refl
+faulted_from f o n a (intents.Awaits g) = refl
+
+stood_of : (f : FutureShape) (o : Option Place) (n : Name) (x : Option Activity) (of : Activity → List Text) (s : StatusShape) → place_from f o (elim x [ None ↦ [] | Some a ↦ places_by n a (of a) ++ faulted_by n a s ]) ≡ o
+stood_of f o n None of s = refl
+stood_of f o n (Some a) of s =
+    place_append f o (places_by n a (of a)) (faulted_by n a s)
+    ∙ faulted_from f (place_from f o (places_by n a (of a))) n a s
+    ∙ stood_from f o n a (of a)
 
 stood_in : (c : Configuration) (f : FutureShape) (o : Option Place) (ns : List Name) → place_from f o (places_in c ns) ≡ o
 stood_in c f o [] = refl
 stood_in c f o (n ∷ ns) =
     place_append f o (place_of c n) (places_in c ns)
-    ∙ ap (λ p. place_from f p (places_in c ns)) (stood_of f o n (find name_cmp n c.activities) labels_wanted)
+    ∙ ap (λ p. place_from f p (places_in c ns)) (stood_of f o n (find name_cmp n c.activities) labels_wanted (status_of c n))
     ∙ stood_in c f o ns
 
 -- Requests that stand

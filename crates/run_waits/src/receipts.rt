@@ -69,6 +69,10 @@ impl Notes for Receipts {
         true
     }
 
+    fn hears_lines(&self) -> bool {
+        false
+    }
+
     fn note(&mut self, note: Note) -> Result<(), AllocError> {
         match note.event {
             Event::Sent(to, label, future) => self.add_target(to, label, future),
@@ -76,7 +80,9 @@ impl Notes for Receipts {
             Event::Made(_) => Ok(()),
             Event::Answered(_) => Ok(()),
             Event::Polled => Ok(()),
+            Event::Printed(_) => Ok(()),
             Event::Standing(_) => Ok(()),
+            Event::Faulted(_) => Ok(()),
         }
     }
 }

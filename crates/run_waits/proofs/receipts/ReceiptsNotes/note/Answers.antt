@@ -32,3 +32,13 @@ pub returns-in-Polled : goal.returns-in-Polled
 returns-in-Polled c = record {
   told = λ xs x tells n. other_kept c.args.note x n xs c.args.self.now tells event.Polled c.in-Polled.is (λ no. no);
 }
+
+pub returns-in-Printed : goal.returns-in-Printed
+returns-in-Printed c = record {
+  told = λ xs x tells n. other_kept c.args.note x n xs c.args.self.now tells (event.Printed c.in-Printed.field-0) c.in-Printed.is (λ no. no);
+}
+
+pub returns-in-Faulted : goal.returns-in-Faulted
+returns-in-Faulted c = record {
+  told = λ xs x tells n. other_kept c.args.note x n xs c.args.self.now tells (event.Faulted c.in-Faulted.field-0) c.in-Faulted.is (λ no. no);
+}
