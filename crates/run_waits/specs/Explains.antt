@@ -13,7 +13,8 @@ use Rattle.run_waits.specs.declared.receipts.Receipts.{Receipts}
 use Rattle.run_waits.specs.Targets.{AreTold}
 
 -- the activities of a configuration, its filled futures, and where each of its requests went
-pub record IsEndTold (c : Configuration) (rs : List ActivityReport) (futures : List (FutureName × Parcel)) (r : Receipts) : Type 0 where
+pub record IsEndTold (c : Configuration) (rs : List ActivityReport) (futures : List (FutureName × Parcel))
+    (r : Receipts) : Type 0 where
   pub sound : IsSound c
   pub activities : AreOf c rs
   pub futures_are : values_of futures ≡ c.futures
