@@ -1,8 +1,14 @@
 -- What a listener keeps is what it was told.
-use Rattle.std.specs.Prelude.{◌≡◌, ◌&&◌, ◌||◌, ℕ, Bool, true, false, cond, List, [], ◌∷◌, ◌++◌, Option, Some, None}
-use Rattle.std.specs.BTreeMap.{BTreeMap, WritesThrough, get, is_at}
+use Rattle.std.specs.Prelude.{◌≡◌, ◌&&◌, ◌||◌, ℕ, Bool, true, false, cond, List, [], ◌∷◌, ◌++◌, Some, None, slice_get}
+use Rattle.indexmap.specs.IndexMap.{IndexMap, IsUnique, Updates, get, get_key_by, values, with_value_at}
+use Rattle.indexmap.proofs.CallerLemmas.{updates-with_value_at}
+use Rattle.std.specs.Map.{lookup_key}
+use Rattle.std.specs.Option.{option_map}
+use Rattle.std.specs.Cmp.{eq_by_cmp_equiv}
+use Rattle.std.specs.Cmp.Lexicographic.{nat_list_cmp_total}
+use Rattle.std.proofs.lemmas.Option.{slice_get-map}
 use Rattle.std.specs.List.{Contains}
-use Rattle.std.proofs.Common.{Bor, IsSome, refl, sym, ap, subst, ◌∙◌, inl, inr, ⊎_elim, ◌⊎◌}
+use Rattle.std.proofs.Common.{Bor, refl, sym, ap, subst, ◌∙◌, inl, inr, ⊎_elim, ◌⊎◌}
 use Rattle.std.proofs.lemmas.List.{append-nil}
 use Rattle.std.proofs.lemmas.List.Elements.{Contains-append_left, Contains-append_right, Contains-append_cases}
 use Rattle.std.proofs.lemmas.List.Folds.{list_any-append}
@@ -10,18 +16,18 @@ use Rattle.std.proofs.lemmas.Grind.{flat_map-append}
 use Rattle.asp_model.specs.declared.name.FutureName.{FutureName}
 use Rattle.asp_model.specs.declared.outcome.Fault.{Fault}
 use Rattle.asp_model.specs.declared.outcome.Line.{Line}
-use Rattle.asp_model.specs.Names.{FutureShape, Name, Text, name_cmp, same_name}
+use Rattle.asp_model.specs.Names.{FutureShape, Name, Text, same_name}
 use Rattle.asp_model.specs.declared.word.Label.{Label}
 use Rattle.law_steps.proofs.NameLemmas.{name_case, name_itself, names_apart, names_tied}
 use Rattle.serve_rules.specs.Labels.{HaveSame}
-use Rattle.replay_one.specs.Notes.{EventShape, NoteShape, noted_as, Served, Made, Sent, Answered, Polled, Printed, Standing, Faulted}
+use Rattle.replay_one.specs.Notes.{EventShape, NoteShape, Served, Made, Sent, Answered, Polled, Printed, Standing, Faulted}
 use Rattle.replay_one.specs.declared.notes.Event.TheVariants as event
 use Rattle.replay_one.specs.declared.notes.Note.{Note}
 use Rattle.replay_one.specs.Listening.{IsDeafToLines, IsEvent, IsNote}
 use Rattle.replay_services.specs.Heard.{came_as, asked_as, is_poll, came_in, asked_in, polled_in, came_to, asked_by, has_polled}
 use Rattle.replay_services.specs.declared.heard.Heard.{Heard}
 use Rattle.replay_services.specs.declared.listener.Listener.{Listener}
-use Rattle.replay_services.specs.Listeners.{ChangesAt, HeardShape, IsHeard, IsWithSet, arrived, heard_shape, kept_at, nothing, shape_or_nothing, with_arrival, with_poll}
+use Rattle.replay_services.specs.Listeners.{ChangesAt, HeardShape, IsHeard, IsKeptAt, IsWithSet, arrived, heard_shape, kept_at, kept_in, nothing, shape_or_nothing, with_arrival, with_poll}
 use Rattle.replay_services.proofs.HeardLemmas.{one_only, one_there, none_there}
 
 -- What the map lends
@@ -33,26 +39,38 @@ name_turned n m e = ⊎_elim
     (name_case m n)
 
 -- an entry that is new has nothing, as before
-pub known_same : (k : Name) (old new : BTreeMap Name Heard) (h : Heard) → get name_cmp old k ≡ None → heard_shape h ≡ nothing → ((n : Name) → get name_cmp new n ≡ cond (is_at (name_cmp k) n) (Some h) (get name_cmp old n))
-    → (n : Name) → shape_or_nothing (get name_cmp new n) ≡ shape_or_nothing (get name_cmp old n)
+pub known_same : {S : Type 0} (k : Name) (old new : IndexMap Name Heard S) (h : Heard) → get same_name old k ≡ None → heard_shape h ≡ nothing
+    → ((n : Name) → get same_name new n ≡ cond (same_name k n) (Some h) (get same_name old n)) → (n : Name) → kept_in new n ≡ kept_in old n
 known_same k old new h none empty updates n = by (same_name k n) refl
   where
-    by : (b : Bool) → same_name k n ≡ b → shape_or_nothing (get name_cmp new n) ≡ shape_or_nothing (get name_cmp old n)
-    by true e = ap shape_or_nothing (updates n ∙ ap (λ b. cond b (Some h) (get name_cmp old n)) e) ∙ empty ∙ ap shape_or_nothing (sym none ∙ ap (get name_cmp old) (names_tied k n e))
-    by false e = ap shape_or_nothing (updates n ∙ ap (λ b. cond b (Some h) (get name_cmp old n)) e)
+    by : (b : Bool) → same_name k n ≡ b → kept_in new n ≡ kept_in old n
+    by true e = ap shape_or_nothing (updates n ∙ ap (λ b. cond b (Some h) (get same_name old n)) e) ∙ empty ∙ ap shape_or_nothing (sym none ∙ ap (get same_name old) (names_tied k n e))
+    by false e = ap shape_or_nothing (updates n ∙ ap (λ b. cond b (Some h) (get same_name old n)) e)
 
--- what was written through it is a change of one activity
-pub written : (m : Name) (Change : HeardShape → HeardShape → Type 0) (first : Listener) (old new : BTreeMap Name Heard) (was now : Heard) (last : Listener)
-    → ((n : Name) → shape_or_nothing (get name_cmp old n) ≡ kept_at first n) → last.heard ≡ new
-    → Some was ≡ get name_cmp old m → Change (heard_shape was) (heard_shape now) → WritesThrough name_cmp (name_cmp m) old now new → ChangesAt m Change first last
-written m Change first old new was now last same is found change writes =
-    let there : IsSome (get name_cmp old m) = subst (λ (o : Option Heard). IsSome o) found refl in
-    let updates = (writes.3 there).0 in
-    let after : (n : Name) → kept_at last n ≡ shape_or_nothing (cond (same_name m n) (Some now) (get name_cmp old n)) = λ n. ap (λ x. shape_or_nothing (get name_cmp x n)) is ∙ ap shape_or_nothing (updates n) in
-    let here : kept_at last m ≡ heard_shape now = after m ∙ ap (λ b. shape_or_nothing (cond b (Some now) (get name_cmp old m))) (name_itself m) in
-    let before : heard_shape was ≡ kept_at first m = ap shape_or_nothing found ∙ same m in (
+-- the key that is found is the name
+pub key_found : {S : Type 0} (n k : Name) (m : IndexMap Name Heard S) → get_key_by (same_name n) m ≡ Some k → k ≡ n
+key_found n k m e = among m.entries e
+  where
+    among : (es : List (Name × Heard)) → lookup_key (same_name n) es ≡ Some k → k ≡ n
+    among [] e = absurd cc
+    among (x ∷ es) e = elim (same_name n x.0) as (λ b. same_name n x.0 ≡ b → cond b (Some x.0) (lookup_key (same_name n) es) ≡ Some k → k ≡ n) [
+      | true ↦ λ same at. let here : x.0 ≡ k = cc in sym here ∙ sym (names_tied n x.0 same)
+      | false ↦ λ other at. among es at
+    ] refl e
+
+-- what was written at a place is a change of one activity
+pub written : (m : Name) (k : ℕ) (Change : HeardShape → HeardShape → Type 0) (first old last : Listener) (was now : Heard)
+    → ((n : Name) → kept_at old n ≡ kept_at first n) → IsKeptAt old m k → IsUnique same_name old.heard → Some was ≡ slice_get (values old.heard) k
+    → last.heard ≡ with_value_at old.heard k now → Change (heard_shape was) (heard_shape now) → ChangesAt m Change first last
+written m k Change first old last was now same at unique found writes change =
+    let updates : Updates same_name old.heard (with_value_at old.heard k now) m (Some now) = updates-with_value_at old.heard k now (eq_by_cmp_equiv nat_list_cmp_total) unique m at.0 at.1 in
+    let value : slice_get (values old.heard) k ≡ Some at.0 = slice_get-map (λ (x : Name × Heard). x.1) old.heard.entries k ∙ ap (option_map (λ (x : Name × Heard). x.1)) at.1 in
+    let kept : Some was ≡ get same_name old.heard m = found ∙ value ∙ sym at.2 in
+    let after : (n : Name) → kept_at last n ≡ shape_or_nothing (cond (same_name m n) (Some now) (get same_name old.heard n)) = λ n. ap (λ x. kept_in x n) writes ∙ ap shape_or_nothing (updates.0 n) in
+    let here : kept_at last m ≡ heard_shape now = after m ∙ ap (λ b. shape_or_nothing (cond b (Some now) (get same_name old.heard m))) (name_itself m) in
+    let before : heard_shape was ≡ kept_at first m = ap shape_or_nothing kept ∙ same m in (
       subst (λ h. Change h (kept_at last m)) before (subst (Change (heard_shape was)) (sym here) change),
-      λ n apart. after n ∙ ap (λ b. shape_or_nothing (cond b (Some now) (get name_cmp old n))) (name_turned n m apart) ∙ same n,
+      λ n apart. after n ∙ ap (λ b. shape_or_nothing (cond b (Some now) (get same_name old.heard n))) (name_turned n m apart) ∙ same n,
     )
 
 -- One note more

@@ -1,8 +1,8 @@
 -- What a listener keeps of each activity.
-use Rattle.std.specs.Prelude.{◌≡◌, ◌⊎◌, Bool, true, false, List, [], ◌∷◌, ◌++◌, Option, Some, None, map}
-use Rattle.std.specs.BTreeMap.{get}
+use Rattle.std.specs.Prelude.{◌≡◌, ◌⊎◌, ℕ, Bool, true, false, List, [], ◌∷◌, ◌++◌, Option, Some, None, map, slice_get}
+use Rattle.indexmap.specs.IndexMap.{IndexMap, get}
 use Rattle.std.specs.List.{Contains}
-use Rattle.asp_model.specs.Names.{Name, Text, name_cmp, same_name}
+use Rattle.asp_model.specs.Names.{Name, Text, same_name}
 use Rattle.asp_model.specs.Services.{ArrivalShape, ServiceEntryShape}
 use Rattle.asp_model.specs.Shapes.{arrival_shape, labels_shape}
 use Rattle.serve_rules.specs.Labels.{HaveSame}
@@ -32,8 +32,15 @@ shape_or_nothing None = nothing
 shape_or_nothing (Some h) = heard_shape h
 
 -- what is kept of an activity
+abbrev pub kept_in : {S : Type 0} → IndexMap Name Heard S → Name → HeardShape
+kept_in m n = shape_or_nothing (get same_name m n)
+
 abbrev pub kept_at : Listener → Name → HeardShape
-kept_at l n = shape_or_nothing (get name_cmp l.heard n)
+kept_at l n = kept_in l.heard n
+
+-- at this place
+abbrev pub IsKeptAt : Listener → Name → ℕ → Type 0
+IsKeptAt l n k = (h : Heard) × (slice_get l.heard.entries k ≡ Some (n, h)) × (get same_name l.heard n ≡ Some h)
 
 -- the entry of an activity
 abbrev pub entry_of : Name → HeardShape → ServiceEntryShape

@@ -1,36 +1,66 @@
 //! What is kept of a replay that is listened to.
 
-ghost use Rattle.std.specs.Prelude.{◌≡◌, ◌∷◌, ◌++◌, [], List, IfOk, OnOk, IsSome};
-ghost use Rattle.std.specs.BTreeMap.{get};
-ghost use Rattle.asp_model.specs.Names.{Name, name_cmp};
+ghost use Rattle.std.specs.Prelude.{◌≡◌, ◌∷◌, ◌++◌, [], List, IfNone, IfOk, IfSome, IsSome, None, OnOk};
+ghost use Rattle.indexmap.specs.IndexMap.{get, keys};
+ghost use Rattle.std.specs.List.Sorted.{IsSorted};
+ghost use Rattle.asp_model.specs.Names.{Name, name_cmp, same_name};
 ghost use Rattle.asp_model.specs.Shapes.{services_shape};
 ghost use Rattle.law_services.specs.Told.{NamesAscend, entry_at};
 ghost use Rattle.replay_one.specs.Notes.{NoteShape};
-ghost use Rattle.replay_services.specs.Listeners.{ChangesAt, IsWithSet, arrived, entry_of, kept_at, nothing, with_arrival, with_poll};
+ghost use Rattle.replay_services.specs.Listeners.{ChangesAt, IsKeptAt, IsWithSet, arrived, entry_of, kept_at, kept_in, nothing, with_arrival, with_poll};
 
 use crate::heard::Heard;
-use asp_model::{ActivityName, Arrival, Label, Services};
+use asp_model::{ActivityName, Arrival, Label, Lists, Services};
+use indexmap::IndexMap;
 use replay_one::{Event, Note, Notes};
 use serve_rules::LabelSet;
 use std::alloc::{AllocError, Global};
-use std::collections::BTreeMap;
 
-/// What is kept of each activity of which something was told.
+/// What is kept of each activity, in the order in which they were met.
 #[derive(Drop)]
 pub struct Listener {
     alloc: Global,
-    pub heard: BTreeMap<ActivityName, Heard>,
+    pub heard: IndexMap<ActivityName, Heard>,
+}
+
+/// In the order of the names, as they mostly are.
+fn in_order(
+    heard: IndexMap<ActivityName, Heard>,
+) -> Result<IndexMap<ActivityName, Heard>, AllocError>
+    ensures sorted { IfOk result (λ m. IsSorted name_cmp (keys m)) }
+    ensures same { IfOk result (λ m. (n : Name) → get same_name m n ≡ get same_name heard n) }
+{
+    if heard.as_slice().is_sorted() {
+        return Ok(heard);
+    }
+    let mut sorted = heard;
+    sorted.sort_keys()?;
+    Ok(sorted)
+}
+
+fn entries_of(alloc: Global, heard: IndexMap<ActivityName, Heard>) -> Result<Services, AllocError>
+    requires sorted { IsSorted name_cmp (keys heard) }
+    ensures ascending { IfOk result (λ s. NamesAscend (services_shape s)) }
+    ensures kept { IfOk result (λ s. (n : Name) →
+        entry_at (services_shape s) n ≡ entry_of n (kept_in heard n)) }
+{
+    let mut entries = Vec::with_capacity(alloc, heard.len())?;
+    for (name, heard) in heard {
+        entries.push(heard.into_entry(name))?;
+    }
+    Ok(Services { entries })
 }
 
 impl Listener {
-    /// Nothing was told.
-    pub fn new(alloc: Global) -> Listener
-        ensures none { (n : Name) → kept_at result n ≡ nothing }
+    /// Nothing was told. The activities of these logs come first, in their order.
+    pub fn new(alloc: Global, lists: &Lists) -> Result<Listener, AllocError>
+        ensures none { IfOk result (λ l. (n : Name) → kept_at l n ≡ nothing) }
     {
-        Listener {
-            alloc,
-            heard: BTreeMap::new(alloc),
+        let mut heard = IndexMap::with_capacity(alloc, lists.entries.len())?;
+        for list in &lists.entries {
+            heard.insert(list.0.copy(alloc)?, Heard::new(alloc))?;
         }
+        Ok(Listener { alloc, heard })
     }
 
     /// What was kept, by the names of the activities.
@@ -39,23 +69,44 @@ impl Listener {
         ensures kept { IfOk result (λ s. (n : Name) →
             entry_at (services_shape s) n ≡ entry_of n (kept_at self n)) }
     {
-        let mut entries = Vec::with_capacity(alloc, self.heard.len())?;
-        for (name, heard) in self.heard {
-            entries.push(heard.into_entry(name))?;
-        }
-        Ok(Services { entries })
+        entries_of(alloc, in_order(self.heard)?)
     }
 
-    // There is room to keep something of this activity.
-    fn know(&mut self, name: &ActivityName) -> Result<(), AllocError>
-        ensures known { OnOk result (IsSome (get name_cmp self.new.heard name.now)) }
+    // The place of what is kept of this activity, if there is one.
+    fn place_of(&self, name: &ActivityName) -> Option<usize>
+        ensures at { IfSome result (IsKeptAt self.now name.now) }
+        ensures none { IfNone result (get same_name self.now.heard name.now ≡ None) }
+    {
+        match self.heard.get_full(name) {
+            Some((place, _key, _value)) => Some(place),
+            None => None,
+        }
+    }
+
+    // Something may be kept of an activity that was not met before.
+    fn meet(&mut self, name: &ActivityName) -> Result<(), AllocError>
+        requires new { get same_name self.old.heard name.now ≡ None }
+        ensures met { OnOk result (IsSome (get same_name self.new.heard name.now)) }
         ensures same { OnOk result ((n : Name) → kept_at self.new n ≡ kept_at self.old n) }
     {
-        if !self.heard.contains_key(name) {
-            let name = name.copy(self.alloc)?;
-            self.heard.insert(name, Heard::new(self.alloc))?;
-        }
+        let name = name.copy(self.alloc)?;
+        self.heard.insert(name, Heard::new(self.alloc))?;
         Ok(())
+    }
+
+    // The place of what is kept of this activity.
+    fn know(&mut self, name: &ActivityName) -> Result<usize, AllocError>
+        ensures at { IfOk result (IsKeptAt self.new name.now) }
+        ensures same { OnOk result ((n : Name) → kept_at self.new n ≡ kept_at self.old n) }
+    {
+        if let Some(place) = self.place_of(name) {
+            return Ok(place);
+        }
+        self.meet(name)?;
+        match self.place_of(name) {
+            Some(place) => Ok(place),
+            None => unreachable!(),
+        }
     }
 
     fn add_arrival(
@@ -71,8 +122,8 @@ impl Listener {
             sender: by.copy(self.alloc)?,
             label: label.copy(self.alloc)?,
         };
-        self.know(to)?;
-        match self.heard.get_mut(to) {
+        let place = self.know(to)?;
+        match self.heard.get_index_mut(place) {
             Some(heard) => heard.add_arrival(arrival),
             None => unreachable!(),
         }
@@ -81,8 +132,8 @@ impl Listener {
     fn add_poll(&mut self, by: &ActivityName) -> Result<(), AllocError>
         ensures { OnOk result (ChangesAt by.now (λ h g. g ≡ with_poll h) self.old self.new) }
     {
-        self.know(by)?;
-        match self.heard.get_mut(by) {
+        let place = self.know(by)?;
+        match self.heard.get_index_mut(place) {
             Some(heard) => {
                 heard.add_poll();
                 Ok(())
@@ -94,8 +145,8 @@ impl Listener {
     fn add_set(&mut self, by: &ActivityName, labels: &LabelSet) -> Result<(), AllocError>
         ensures { OnOk result (ChangesAt by.now (IsWithSet labels.now) self.old self.new) }
     {
-        self.know(by)?;
-        match self.heard.get_mut(by) {
+        let place = self.know(by)?;
+        match self.heard.get_index_mut(place) {
             Some(heard) => heard.add_set(self.alloc, labels),
             None => unreachable!(),
         }

@@ -40,7 +40,7 @@ pub fn replay_services(
     ensures diverged { IfErr result (IsStop (tree_of program.now.program.root)
         (lists_shape lists.now) (counts_shape counts.now)) }
 {
-    let mut listener = Listener::new(alloc);
+    let mut listener = Listener::new(alloc, lists)?;
     let end = replay_noting(alloc, program, lists, counts, &mut listener)?;
     let services = listener.into_services(alloc)?;
     Ok(ServicesRun {

@@ -1,9 +1,12 @@
 use Rattle.std.proofs.Common.{◌≡◌, refl}
+use Rattle.indexmap.specs.IndexMap.{with_value_at}
 use Rattle.replay_services.specs.Listeners.{with_poll}
 use Rattle.replay_services.proofs.ListenerLemmas.{written}
 use Rattle.replay_services.proofs.listener.Listener.add_poll.Goals as goal
 
 pub returns : goal.returns
-returns c = written c.args.by.now (λ h g. g ≡ with_poll h) c.args.self.now c.know.new.self.heard (c.get_mut.follows.lender c.add_poll.new.self) c.in-Some.heard.now c.add_poll.new.self
-    (record { alloc = c.know.new.self.alloc; heard = c.get_mut.follows.lender c.add_poll.new.self })
-    c.in_ok-know.ensures.same refl c.in-Some.ensures.value c.add_poll.ensures (c.get_mut.follows.holds c.add_poll.new.self)
+returns c =
+    let old = c.know.new.self in
+    let place = c.in_ok-place.place in
+    written c.args.by.now place (λ h g. g ≡ with_poll h) c.args.self.now old (record { alloc = old.alloc; heard = with_value_at old.heard place c.add_poll.new.self }) c.in-Some.heard.now c.add_poll.new.self
+    c.in_ok-place.ensures.same c.in_ok-place.ensures.at c.in-Some.ensures.unique c.in-Some.ensures.value refl c.add_poll.ensures
