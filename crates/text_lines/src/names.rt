@@ -27,8 +27,32 @@ fn name_in_parts(alloc: Global, parts: &[&[u8]]) -> Result<Option<ActivityName>,
     name_under_main(alloc, &parts[1..])
 }
 
-// The name of the activity that these creations lead to.
+// The name of the activity that these creations lead to. One of few numbers is made without
+// memory; with many, a name for each beginning would take too long.
 fn name_under_main(alloc: Global, parts: &[&[u8]]) -> Result<Option<ActivityName>, AllocError>
+    ensures { IfOk result (λ o. o ≡ under_main (all_found index_in (map (λ p. p.now) parts.now))) }
+{
+    if parts.len() < 4 {
+        short_under_main(alloc, parts)
+    } else {
+        long_under_main(alloc, parts)
+    }
+}
+
+fn short_under_main(alloc: Global, parts: &[&[u8]]) -> Result<Option<ActivityName>, AllocError>
+    ensures { IfOk result (λ o. o ≡ under_main (all_found index_in (map (λ p. p.now) parts.now))) }
+{
+    let mut name = ActivityName::main(alloc)?;
+    for part in parts {
+        match index_of(part) {
+            Some(number) => name = name.created(alloc, number)?,
+            None => return Ok(None),
+        }
+    }
+    Ok(Some(name))
+}
+
+fn long_under_main(alloc: Global, parts: &[&[u8]]) -> Result<Option<ActivityName>, AllocError>
     ensures { IfOk result (λ o. o ≡ under_main (all_found index_in (map (λ p. p.now) parts.now))) }
 {
     let mut path = Vec::new(alloc);
