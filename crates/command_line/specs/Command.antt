@@ -36,15 +36,16 @@ with_more a =
 -- and behind those the options of further tasks
 abbrev pub with_tasks : App → App
 with_tasks a =
-    with_rule (with_rule (with_rule a (flag_rule (codes "determinate"))) (flag_rule (codes "journal")))
-    (option_rule (codes "same"))
+    with_rule (with_rule (with_rule (with_rule a (flag_rule (codes "determinate"))) (flag_rule (codes "journal")))
+    (option_rule (codes "same"))) (option_rule (codes "trace"))
 
 abbrev pub command : App
 command = on_top (λ s. record s {
   rules = file_rule ∷ flag_rule (codes "check") ∷ option_rule (codes "budget")
       ∷ option_rule (codes "replay") ∷ option_rule (codes "make") ∷ option_rule (codes "state")
       ∷ option_rule (codes "workers") ∷ option_rule (codes "strategy") ∷ option_rule (codes "update")
-      ∷ flag_rule (codes "determinate") ∷ flag_rule (codes "journal") ∷ option_rule (codes "same") ∷ [];
+      ∷ flag_rule (codes "determinate") ∷ flag_rule (codes "journal") ∷ option_rule (codes "same")
+      ∷ option_rule (codes "trace") ∷ [];
 }) bare_command
 
 -- the command takes the words
@@ -69,6 +70,7 @@ pub record TextsShape : Type 0 where
   pub journal : Bool
   pub replay : Option Text
   pub same : Option Text
+  pub trace : Option Text
   pub make : Option Text
   pub state : Option Text
   pub settings : SettingTexts
@@ -95,6 +97,7 @@ texts_in rows = record {
   journal = says_true (first_of (codes "journal") rows);
   replay = first_of (codes "replay") rows;
   same = first_of (codes "same") rows;
+  trace = first_of (codes "trace") rows;
   make = first_of (codes "make") rows;
   state = first_of (codes "state") rows;
   settings = given_in rows;

@@ -4,7 +4,7 @@ use Rattle.clap.specs.Walk.{Text}
 use Rattle.update_policy.specs.declared.strategy.Strategy.{Strategy}
 use Rattle.update_policy.specs.declared.strategy.Strategy.TheVariants.{Lazy, Forward, Message}
 use Rattle.command_line.specs.Settings.{SettingsShape, usual}
-use Rattle.command_line.specs.Task.{TaskShape, Runs, Checks, Rules, Journals, Replays, Compares, Makes, task_of}
+use Rattle.command_line.specs.Task.{TaskShape, Runs, Checks, Rules, Journals, Replays, Compares, Traces, Makes, task_of}
 
 abbrev pub Asks : List Text → TaskShape → Type 0
 Asks words task = task_of words ≡ Some task
@@ -45,6 +45,9 @@ pub record AcceptedLines : Type 0 where
   pub hyphen_behind : Asks (one ∷ codes "--replay=-r" ∷ []) (Replays one (codes "-r") None)
   pub same : Asks (one ∷ codes "--replay=one.report" ∷ codes "--same=two.report" ∷ [])
       (Compares one (codes "one.report") (codes "two.report"))
+  pub trace : Asks (one ∷ codes "--trace=one.trace" ∷ []) (Traces one (codes "one.trace") usual.budget None)
+  pub trace_all : Asks (one ∷ codes "--budget=5" ∷ codes "--trace" ∷ codes "one.trace" ∷ codes "--state=2" ∷ [])
+      (Traces one (codes "one.trace") 5 (Some 2))
   pub state : Asks (one ∷ codes "--state=0" ∷ []) (Runs one usual (Some 0))
   pub state_budget : Asks (codes "--state" ∷ codes "4" ∷ one ∷ codes "--budget=5" ∷ [])
       (Runs one (with_budget 5) (Some 4))
@@ -91,6 +94,16 @@ pub record RefusedCombinations : Type 0 where
   pub same_state : IsRefused (one ∷ codes "--replay=one.report" ∷ codes "--same=two.report" ∷ codes "--state=1" ∷ [])
   pub same_check : IsRefused (one ∷ codes "--check" ∷ codes "--same=two.report" ∷ [])
   pub same_make : IsRefused (codes "--make=3" ∷ codes "--same=two.report" ∷ [])
+  pub trace_alone : IsRefused (codes "--trace=one.trace" ∷ [])
+  pub trace_check : IsRefused (one ∷ codes "--check" ∷ codes "--trace=one.trace" ∷ [])
+  pub trace_replay : IsRefused (one ∷ codes "--replay=one.report" ∷ codes "--trace=one.trace" ∷ [])
+  pub trace_same : IsRefused (one ∷ codes "--same=two.report" ∷ codes "--trace=one.trace" ∷ [])
+  pub trace_determinate : IsRefused (one ∷ codes "--determinate" ∷ codes "--trace=one.trace" ∷ [])
+  pub trace_journal : IsRefused (one ∷ codes "--journal" ∷ codes "--trace=one.trace" ∷ [])
+  pub trace_make : IsRefused (codes "--make=3" ∷ codes "--trace=one.trace" ∷ [])
+  pub trace_workers : IsRefused (one ∷ codes "--trace=one.trace" ∷ codes "--workers=4" ∷ [])
+  pub trace_strategy : IsRefused (one ∷ codes "--trace=one.trace" ∷ codes "--strategy=lazy" ∷ [])
+  pub trace_update : IsRefused (one ∷ codes "--trace=one.trace" ∷ codes "--update=go=lazy" ∷ [])
   pub state_alone : IsRefused (codes "--state=1" ∷ [])
   pub check_state : IsRefused (codes "--check" ∷ one ∷ codes "--state=1" ∷ [])
   pub make_state : IsRefused (codes "--make=3" ∷ codes "--state=1" ∷ [])

@@ -5,8 +5,8 @@ use Rattle.clap.specs.Walk.{Text}
 use Rattle.update_policy.specs.Plans.{plan_shape}
 use Rattle.command_line.specs.Command.{SettingTexts, TextsShape}
 use Rattle.command_line.specs.Settings.{SettingsShape}
-use Rattle.command_line.specs.Wanted.{CompanionsShape, WantedShape, Run, Check, Rule, Journal, Replay, Compare, Make}
-use Rattle.command_line.specs.Task.{TaskShape, Runs, Checks, Rules, Journals, Replays, Compares, Makes}
+use Rattle.command_line.specs.Wanted.{CompanionsShape, WantedShape, Run, Check, Rule, Journal, Replay, Compare, Trace, Make}
+use Rattle.command_line.specs.Task.{TaskShape, Runs, Checks, Rules, Journals, Replays, Compares, Traces, Makes}
 use Rattle.command_line.specs.declared.command.Given.{Given}
 use Rattle.command_line.specs.declared.command.Texts.{Texts}
 use Rattle.command_line.specs.declared.settings.Settings.{Settings}
@@ -35,6 +35,7 @@ texts_shape t = record {
   journal = t.journal;
   replay = text_behind t.replay;
   same = text_behind t.same;
+  trace = text_behind t.trace;
   make = text_behind t.make;
   state = text_behind t.state;
   settings = given_shape t.settings;
@@ -50,6 +51,7 @@ task_shape (task.Rule file settings) = Rules file.now (settings_shape settings)
 task_shape (task.Journal file settings) = Journals file.now (settings_shape settings)
 task_shape (task.Replay file report depth) = Replays file.now report.now depth
 task_shape (task.Compare file report other) = Compares file.now report.now other.now
+task_shape (task.Trace file trace budget depth) = Traces file.now trace.now budget depth
 task_shape (task.Make pairs settings) = Makes pairs (settings_shape settings)
 
 abbrev pub wanted_shape : Wanted → WantedShape
@@ -59,6 +61,7 @@ wanted_shape wanted.Rule = Rule
 wanted_shape wanted.Journal = Journal
 wanted_shape (wanted.Replay report) = Replay report.now
 wanted_shape (wanted.Compare report other) = Compare report.now other.now
+wanted_shape (wanted.Trace trace) = Trace trace.now
 wanted_shape (wanted.Make pairs) = Make pairs.now
 
 abbrev pub companions_shape : Companions → CompanionsShape

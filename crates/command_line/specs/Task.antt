@@ -2,11 +2,11 @@
 use Rattle.std.specs.Prelude.{◌≤◌, ℕ, if◌then◌else◌, ⊤}
 use Rattle.std.specs.Prelude.{List, Option, Some, None, option_map, option_and_then}
 use Rattle.clap.specs.Walk.{Text}
-use Rattle.asp_model.specs.declared.limits.TheConstants.{MOST_DEPTH, MOST_PAIRS}
+use Rattle.asp_model.specs.declared.limits.TheConstants.{MOST_DEPTH, MOST_PAIRS, MOST_REDUCTIONS}
 use Rattle.command_line.specs.Command.{SettingTexts, TextsShape, is_taken, texts_of}
 use Rattle.command_line.specs.Numbers.{number_in}
-use Rattle.command_line.specs.Settings.{IsSettings, SettingsShape, settings_of}
-use Rattle.command_line.specs.Wanted.{WantedShape, Run, Check, Rule, Journal, Replay, Compare, Make}
+use Rattle.command_line.specs.Settings.{IsSettings, SettingsShape, budget_of, settings_of}
+use Rattle.command_line.specs.Wanted.{WantedShape, Run, Check, Rule, Journal, Replay, Compare, Trace, Make}
 use Rattle.command_line.specs.Wanted.{companions_of, stand, wanted_in}
 
 -- a depth is that of the states that the report shows; with none it shows no state
@@ -17,6 +17,7 @@ pub data TaskShape : Type 0 where
   Journals : (file : Text) (settings : SettingsShape) → TaskShape
   Replays : (file report : Text) (depth : Option ℕ) → TaskShape
   Compares : (file report other : Text) → TaskShape
+  Traces : (file trace : Text) (budget : ℕ) (depth : Option ℕ) → TaskShape
   Makes : (pairs : ℕ) (settings : SettingsShape) → TaskShape
 
 -- a depth is at most 4
@@ -24,12 +25,13 @@ abbrev pub IsDepth : Option ℕ → Type 0
 IsDepth None = ⊤
 IsDepth (Some depth) = depth ≤ MOST_DEPTH
 
--- the settings are such, the pairs are 1 to the most, and a depth is one
+-- the settings are such, pairs and a budget are 1 to the most, and a depth is one
 abbrev pub IsWithin : TaskShape → Type 0
 IsWithin (Runs file settings depth) = IsSettings settings × IsDepth depth
 IsWithin (Rules file settings) = IsSettings settings
 IsWithin (Journals file settings) = IsSettings settings
 IsWithin (Replays file report depth) = IsDepth depth
+IsWithin (Traces file trace budget depth) = ((1 ≤ budget) × (budget ≤ MOST_REDUCTIONS)) × IsDepth depth
 IsWithin (Makes pairs settings) = ((1 ≤ pairs) × (pairs ≤ MOST_PAIRS)) × IsSettings settings
 IsWithin task = ⊤
 
@@ -51,6 +53,10 @@ journaling file given = option_map (Journals file) (settings_of given)
 abbrev pub replaying : Text → Text → Option Text → Option TaskShape
 replaying file report state = option_map (Replays file report) (depth_of state)
 
+abbrev pub tracing : Text → Text → SettingTexts → Option Text → Option TaskShape
+tracing file trace given state =
+    option_and_then (λ n. option_map (Traces file trace n) (depth_of state)) (budget_of given.budget)
+
 abbrev pub making : Text → SettingTexts → Option TaskShape
 making pairs given =
     option_and_then (λ n. option_map (Makes n) (settings_of given)) (number_in 1 MOST_PAIRS pairs)
@@ -63,6 +69,7 @@ task_by Rule (Some file) t = ruling file t.settings
 task_by Journal (Some file) t = journaling file t.settings
 task_by (Replay report) (Some file) t = replaying file report t.state
 task_by (Compare report other) (Some file) t = Some (Compares file report other)
+task_by (Trace trace) (Some file) t = tracing file trace t.settings t.state
 task_by (Make pairs) None t = making pairs t.settings
 task_by wanted file t = None
 

@@ -16,6 +16,8 @@ pub data WantedShape : Type 0 where
   Replay : (report : Text) → WantedShape
   -- two reports of it, as services see them
   Compare : (report other : Text) → WantedShape
+  -- whether a trace is one of it, and how it ends
+  Trace : (trace : Text) → WantedShape
   Make : (pairs : Text) → WantedShape
 
 -- with one option more, where it is given: it asks for something in place of a run, and no two of them stand together
@@ -41,6 +43,7 @@ wanted_in t =
     let asked = and_asks asked (flag_asks t.determinate Rule) in
     let asked = and_asks asked (flag_asks t.journal Journal) in
     let asked = and_asks asked (replay_asks t.replay t.same) in
+    let asked = and_asks asked (option_map Trace t.trace) in
     and_asks asked (option_map Make t.make)
 
 -- what may stand beside what is asked for
@@ -57,6 +60,7 @@ companions_of Rule = record { racing = true; budget = true; state = false }
 companions_of Journal = record { racing = true; budget = true; state = false }
 companions_of (Replay report) = record { racing = false; budget = false; state = true }
 companions_of (Compare report other) = record { racing = false; budget = false; state = false }
+companions_of (Trace trace) = record { racing = false; budget = true; state = true }
 companions_of (Make pairs) = record { racing = true; budget = true; state = false }
 
 -- workers or a strategy are given

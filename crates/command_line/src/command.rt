@@ -30,6 +30,7 @@ pub struct Texts<'a> {
     pub journal: bool,
     pub replay: Option<&'a str>,
     pub same: Option<&'a str>,
+    pub trace: Option<&'a str>,
     pub make: Option<&'a str>,
     pub state: Option<&'a str>,
     pub settings: Given<'a>,
@@ -94,7 +95,8 @@ fn with_tasks<'a>(alloc: Global, command: Command<'a>) -> Result<Command<'a>, Al
 {
     let command = with_flag(alloc, command, "determinate")?;
     let command = with_flag(alloc, command, "journal")?;
-    with_option(alloc, command, "same")
+    let command = with_option(alloc, command, "same")?;
+    with_option(alloc, command, "trace")
 }
 
 // The program's name.
@@ -154,6 +156,7 @@ fn texts_found<'a>(matches: &ArgMatches<'a>) -> Texts<'a>
         journal: is_true(text_of(matches, "journal")),
         replay: text_of(matches, "replay"),
         same: text_of(matches, "same"),
+        trace: text_of(matches, "trace"),
         make: text_of(matches, "make"),
         state: text_of(matches, "state"),
         settings: given_found(matches),

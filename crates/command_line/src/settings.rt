@@ -71,7 +71,8 @@ fn workers_in(text: Option<&str>) -> Result<u32, WordsError>
     Ok(workers as u32)
 }
 
-fn budget_in(text: Option<&str>) -> Result<u64, WordsError>
+/// The budget of this text.
+pub fn budget_in(text: Option<&str>) -> Result<u64, WordsError>
     ensures ok { IfOk result (λ n. budget_of (text_behind text.entry) ≡ Some n) }
     ensures usage { IfErr result (λ _. budget_of (text_behind text.entry) ≡ None) }
     ensures within { IfOk result (λ n. (1 ≤ n) × (n ≤ MOST_BUDGET)) }

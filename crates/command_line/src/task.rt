@@ -13,6 +13,7 @@ ghost use Rattle.command_line.specs.Task.{
   task_by as task_given,
   task_in,
   task_of,
+  tracing,
 };
 ghost use Rattle.command_line.specs.Shapes.{given_shape, task_shape, text_behind, texts_shape, wanted_shape};
 ghost use Rattle.command_line.specs.declared.error.WordsError.TheVariants as errors;
@@ -20,7 +21,7 @@ ghost use Rattle.command_line.specs.declared.error.WordsError.TheVariants as err
 use crate::command::{Given, Texts, read_texts};
 use crate::error::WordsError;
 use crate::number::number_in;
-use crate::settings::{Settings, settings_in};
+use crate::settings::{Settings, budget_in, settings_in};
 use crate::wanted::{Wanted, companions_of, stand, wanted_in};
 use asp_model::{MOST_DEPTH, MOST_PAIRS};
 use std::alloc::Global;
@@ -73,6 +74,17 @@ pub enum Task<'a> {
         report: &'a str,
         /// The second report's file.
         other: &'a str,
+    },
+    /// Go through a trace of it again, and write the report of its end.
+    Trace {
+        /// The program's file.
+        file: &'a str,
+        /// The trace's file.
+        trace: &'a str,
+        /// The most reductions that the traced run could take.
+        budget: u64,
+        /// How deep the report shows states, if it shows any.
+        depth: Option<u32>,
     },
     /// Run the generated program of so many pairs.
     Make {
@@ -131,6 +143,7 @@ fn task_by<'a>(alloc: Global, wanted: Wanted<'a>, texts: &Texts<'a>) -> Result<T
             report,
             other,
         }),
+        (Wanted::Trace(name), Some(file)) => trace(file, name, &texts.settings, texts.state),
         (Wanted::Make(pairs), None) => make(alloc, pairs, &texts.settings),
         _ => Err(WordsError::Usage),
     }
@@ -190,6 +203,28 @@ fn replay<'a>(file: &'a str, report: &'a str, state: Option<&str>) -> Result<Tas
     Ok(Task::Replay {
         file,
         report,
+        depth,
+    })
+}
+
+fn trace<'a>(
+    file: &'a str,
+    trace: &'a str,
+    given: &Given<'_>,
+    state: Option<&str>,
+) -> Result<Task<'a>, WordsError>
+    ensures ok { let asked = tracing file.entry.now trace.entry.now (given_shape given.now) in
+        IfOk result (λ t. asked (text_behind state.entry) ≡ Some (task_shape t)) }
+    ensures usage { let asked = tracing file.entry.now trace.entry.now (given_shape given.now) in
+        IfErr result (λ _. asked (text_behind state.entry) ≡ None) }
+    ensures within { IfOk result (λ t. IsWithin (task_shape t)) }
+{
+    let budget = budget_in(given.budget)?;
+    let depth = depth_in(state)?;
+    Ok(Task::Trace {
+        file,
+        trace,
+        budget,
         depth,
     })
 }

@@ -4,6 +4,7 @@ ghost use Rattle.std.specs.Prelude.{◌≡◌, option_map};
 ghost use Rattle.command_line.specs.Shapes.{companions_shape, given_shape, text_behind, texts_shape, wanted_shape};
 ghost use Rattle.command_line.specs.Wanted.{
   Make,
+  Trace,
   and_asks as and_asks_shape,
   companions_of as companions_wanted,
   flag_asks as flag_asks_shape,
@@ -31,6 +32,8 @@ pub enum Wanted<'a> {
     Replay(&'a str),
     /// That the reports in two files are compared, as services see them.
     Compare(&'a str, &'a str),
+    /// That the trace in a file is gone through again.
+    Trace(&'a str),
     /// That it is the generated program of so many pairs.
     Make(&'a str),
 }
@@ -78,6 +81,15 @@ fn replay_asks<'a>(report: Option<&'a str>, other: Option<&'a str>) -> Option<Wa
     }
 }
 
+fn trace_asks<'a>(trace: Option<&'a str>) -> Option<Wanted<'a>>
+    ensures { option_map wanted_shape result ≡ option_map Trace (text_behind trace.entry) }
+{
+    match trace {
+        Some(trace) => Some(Wanted::Trace(trace)),
+        None => None,
+    }
+}
+
 fn make_asks<'a>(pairs: Option<&'a str>) -> Option<Wanted<'a>>
     ensures { option_map wanted_shape result ≡ option_map Make (text_behind pairs.entry) }
 {
@@ -95,6 +107,7 @@ pub fn wanted_in<'a>(texts: &Texts<'a>) -> Option<Wanted<'a>>
     let asked = and_asks(asked, flag_asks(texts.determinate, Wanted::Rule));
     let asked = and_asks(asked, flag_asks(texts.journal, Wanted::Journal));
     let asked = and_asks(asked, replay_asks(texts.replay, texts.same));
+    let asked = and_asks(asked, trace_asks(texts.trace));
     and_asks(asked, make_asks(texts.make))
 }
 
@@ -132,6 +145,11 @@ pub fn companions_of(wanted: Wanted<'_>) -> Companions
             racing: false,
             budget: false,
             state: false,
+        },
+        Wanted::Trace(_) => Companions {
+            racing: false,
+            budget: true,
+            state: true,
         },
         Wanted::Make(_) => Companions {
             racing: true,
