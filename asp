@@ -58,7 +58,7 @@ words=() data=() copies=()
 for word; do
     file=$word copy=$room/copy${#words[@]}
     [[ -e $word ]] || file=${word#*=}
-    if ! { head -c 20000000 <"$file" >"$copy"; } 2>/dev/null; then
+    if ! { head -c 268435457 <"$file" >"$copy"; } 2>/dev/null; then
         is_taken "$file" && give_up "the file $file cannot be read"
         words+=("$word")
     elif [[ /$file/ == //* || /$file/ == */../* || $file == *=* ]] || is_taken "$file"; then

@@ -1,11 +1,17 @@
--- Two calls that ended, and what a comparison says.
-use Rattle.std.proofs.Common.{◌≡◌, ◌∙◌, List, [], ◌∷◌, ℕ, Bool, true, false, Option, refl, ap, sym, subst, inl, inr}
+-- Two calls that ended, what a comparison says, and traces of journals.
+use Rattle.std.proofs.Common.{◌≡◌, ◌∙◌, List, [], ◌∷◌, ℕ, Bool, true, false, Option, Some, refl, ap, sym, subst, inl, inr}
 use Rattle.std.specs.Prelude.{◌↔◌, nat_eq}
+use Rattle.asp_model.specs.History.{EntryShape, program_history}
+use Rattle.asp_model.specs.Outcome.{exit_status, outcome_of}
 use Rattle.asp_model.specs.Term.{Tree}
 use Rattle.asp_model.specs.Marked.{plain}
 use Rattle.asp_model.specs.Step.{ListsShape}
+use Rattle.def_journals.specs.Journals.{RunShape, run_of}
+use Rattle.law_chases.proofs.FutureLemmas.{some_is}
+use Rattle.trace_text.specs.Traces as Trace
+use Rattle.trace_text.specs.Traces.{read_trace}
 use Rattle.command_line.specs.Settings.{SettingsShape}
-use Rattle.command_line.specs.Task.{Runs, Compares}
+use Rattle.command_line.specs.Task.{Runs, Journals, Compares, Traces}
 use Rattle.law_outcomes.specs.Outcomes.{IsEndReport}
 use Rattle.law_outcomes.proofs.ReportLaws.{end_reports_agree, narrow_reports_are_all}
 use Rattle.law_services.specs.Services.{AreServedAlike, IsServedAlike}
@@ -14,8 +20,8 @@ use Rattle.asp_model.specs.Names.{Name}
 use Rattle.asp_model.specs.Replay.{CountsShape}
 use Rattle.asp_top.specs.Seen.{Outside}
 use Rattle.asp_top.specs.Comparisons.{Said, Same, Differ, Unended, IsSo, ShowAlike, text_said}
-use Rattle.asp_top.specs.Correct.{Answers, end_of}
-use Rattle.asp_top.specs.Ended.{IsEnded, ComparisonsAreExact, EndedRunsPrintTheSame, OneSenderPrintsTheSame}
+use Rattle.asp_top.specs.Correct.{Answers, end_of, report_at}
+use Rattle.asp_top.specs.Ended.{IsEnded, ComparisonsAreExact, EndedRunsPrintTheSame, JournalsAreAccepted, OneSenderPrintsTheSame}
 use Rattle.asp_top.proofs.StatusLemmas.{stuck_at}
 
 -- the report of a run that has ended
@@ -73,3 +79,23 @@ module _ (program : Tree) (lists : ListsShape) (counts : CountsShape) (others : 
 pub comparisons_are_exact : ComparisonsAreExact
 comparisons_are_exact o file name other text status a =
     exactly (plain a.0.program) a.0.first.lists a.0.first.counts a.0.second.lists a.0.second.counts a.1 text a.2 a.3
+
+-- Traces of journals
+
+same_run : (program other : Tree) (budget : ℕ) (es fs : List EntryShape) (r s : RunShape) → other ≡ program → fs ≡ es → run_of (program_history program budget es) ≡ Some r → run_of (program_history other budget fs) ≡ Some s → s ≡ r
+same_run program other budget es fs r s p e h g = some_is (sym g ∙ (λ i. run_of (program_history (p i) budget (e i))) ∙ h)
+
+pub journals_are_accepted : JournalsAreAccepted
+journals_are_accepted o file settings text status a = (
+  record { entries = a.1.0.entries; reads = a.1.0.read; journal = a.1.0.lawful.journal },
+  λ p other name depth report code b program bytes.
+      let mine = a.1.0 in
+      let its = b.4 in
+      let read : Trace.Reads its.entries ≡ Trace.Reads mine.entries = sym its.old.reads ∙ ap read_trace bytes ∙ mine.read in
+      let entries : its.entries ≡ mine.entries = cc in
+      let run : its.lawful.journal.run ≡ mine.lawful.journal.run =
+      same_run (plain a.0.program) (plain b.0.program) settings.budget mine.entries its.entries mine.lawful.journal.run its.lawful.journal.run program entries mine.lawful.journal.lawful its.lawful.journal.lawful in (
+        b.1.0 ∙ sym (its.lawful.reports depth) ∙ ap (λ (s : RunShape). report_at depth s.configuration) run ∙ mine.lawful.reports depth,
+        b.1.1 ∙ ap exit_status (sym its.lawful.outcome ∙ ap (λ (s : RunShape). outcome_of s.configuration) run ∙ mine.lawful.outcome) ∙ sym a.1.1,
+      ),
+)

@@ -1,7 +1,9 @@
 -- Which status is to come.
-use Rattle.std.proofs.Common.{◌≡◌, ℕ, ◌<◌, ◌≤◌, List, Option, Some, None, Ok, Err, length, sym, ap, subst, ◌∙◌, ◌⊎◌, inl, inr, arith}
-use Rattle.asp_model.specs.declared.limits.TheConstants.{MOST_PROGRAM_BYTES, MOST_REPORT_BYTES}
+use Rattle.std.proofs.Common.{◌≡◌, ℕ, ◌+◌, ◌<◌, ◌≤◌, List, Option, Some, None, Ok, Err, length, refl, sym, ap, subst, ◌∙◌, ◌⊎◌, inl, inr, arith}
+use Rattle.asp_model.specs.declared.limits.TheConstants.{MOST_PROGRAM_BYTES, MOST_REPORT_BYTES, MOST_TRACE_BYTES}
+use Rattle.asp_model.specs.History.{EntryShape}
 use Rattle.asp_model.specs.Marked.{Marked, plain}
+use Rattle.asp_model.specs.Term.{Tree}
 use Rattle.asp_model.specs.Step.{ListsShape}
 use Rattle.asp_model.specs.Replay.{CountsShape, Fits}
 use Rattle.asp_model.specs.ReadReport.{read_report, Reads, BadLine}
@@ -9,14 +11,20 @@ use Rattle.syntax_grammar.specs.Programs.{IsProgramText}
 use Rattle.asp_check.specs.Faults.{IsChecked}
 use Rattle.asp_edge.specs.Causes.{IsContent}
 use Rattle.asp_edge.specs.declared.edge.ReadError.TheVariants.{TooLong}
-use Rattle.command_line.specs.Task.{TaskShape, Runs, Checks, Rules, Journals, Replays, Compares, Makes, task_of}
+use Rattle.trace_text.specs.Traces as Trace
+use Rattle.trace_text.specs.Traces.{read_trace}
+use Rattle.trace_check.specs.declared.error.TraceStop.{TraceStop}
+use Rattle.trace_check.specs.declared.error.TraceStop.TheVariants as checked
+use Rattle.trace_check.specs.Checks.{IsStop, IsUnfinished, IsUnlawfulAt}
+use Rattle.trace_check.proofs.CheckLemmas.{ended_are_accepted}
+use Rattle.command_line.specs.Task.{TaskShape, Runs, Checks, Rules, Journals, Replays, Compares, Traces, Makes, task_of}
 use Rattle.asp_top.specs.Seen.{Call, Outside, SomeReadFails, IsLong, IsLongContent}
-use Rattle.asp_top.specs.Programs.{IsFile, IsText, IsProgramOf, HasProgram, HasReport, NamesProgram, place_of}
+use Rattle.asp_top.specs.Programs.{IsFile, IsText, IsProgramOf, HasProgram, HasReport, HasTrace, NamesProgram, place_of}
 use Rattle.asp_top.specs.Correct.{Answers, IsReported}
-use Rattle.asp_top.specs.Refusals.{Refusal, Usage, Unread, LongProgram, NoProgram, Unchecked, LongReport, NoReport, Diverges, NoMemory, status_of_refusal}
-use Rattle.asp_top.specs.Endings.{Ends, Written, Refused, Unheard, Unwritten, IsCause, OfWords, OfMemory, OfTask, HoldsFor, IsUnread, OfProgram, OfReport}
+use Rattle.asp_top.specs.Refusals.{Refusal, Usage, Unread, LongProgram, NoProgram, Unchecked, LongReport, NoReport, Diverges, LongTrace, NoTrace, Unlawful, Unfinished, NoMemory, status_of_refusal}
+use Rattle.asp_top.specs.Endings.{Ends, Written, Refused, Unheard, Unwritten, IsCause, OfWords, OfMemory, OfTask, HoldsFor, IsUnread, OfProgram, OfReport, OfTrace}
 use Rattle.asp_top.specs.Statuses.{CouldNot}
-use Rattle.asp_top.specs.Expected.{Has, HasText, MayReplayAt, MayAnswer, AsksUnfit, Completes, RefusesProgram, RefusesPrograms, IsUsageEnd}
+use Rattle.asp_top.specs.Expected.{Has, HasShort, HasText, IsTraceOf, MayReplayAt, MayAnswer, AsksUnfit, Completes, RefusesProgram, RefusesPrograms, IsUsageEnd}
 use Rattle.asp_top.proofs.AskLemmas.{one_answer}
 use Rattle.asp_top.proofs.StatusLemmas.{answers_reported, same_task}
 
@@ -24,6 +32,7 @@ use Rattle.asp_top.proofs.StatusLemmas.{answers_reported, same_task}
 pub unread_for : (o : Outside) (task : TaskShape) (name : List ℕ) → IsUnread o task name → SomeReadFails o
 unread_for o task name (OfProgram n fails) = (0, name, fails)
 unread_for o task name (OfReport which program comes fails) = (place_of which, name, fails)
+unread_for o task name (OfTrace budget program comes fails) = (1, name, fails)
 
 -- What the source has is one text
 
@@ -47,6 +56,7 @@ same_text o (Rules file settings) bytes other e f = same_file o 0 file MOST_PROG
 same_text o (Journals file settings) bytes other e f = same_file o 0 file MOST_PROGRAM_BYTES bytes other e.0 f
 same_text o (Replays file name depth) bytes other e f = same_file o 0 file MOST_PROGRAM_BYTES bytes other e.0 f
 same_text o (Compares file name other) bytes found e f = same_file o 0 file MOST_PROGRAM_BYTES bytes found e.0 f
+same_text o (Traces file name budget depth) bytes other e f = same_file o 0 file MOST_PROGRAM_BYTES bytes other e.0 f
 same_text o (Makes pairs settings) bytes other e f = f ∙ sym e
 
 pub has_named : (o : Outside) (place : ℕ) (file name bytes : List ℕ) → file ≡ name → Has o place file bytes → Has o place name bytes
@@ -62,6 +72,7 @@ program_fits o (Rules file settings) bytes name e n l = too_long o 0 name bytes 
 program_fits o (Journals file settings) bytes name e n l = too_long o 0 name bytes MOST_PROGRAM_BYTES (has_named o 0 file name bytes n e.0) e.1 l
 program_fits o (Replays file report depth) bytes name e n l = too_long o 0 name bytes MOST_PROGRAM_BYTES (has_named o 0 file name bytes n e.0) e.1 l
 program_fits o (Compares file report other) bytes name e n l = too_long o 0 name bytes MOST_PROGRAM_BYTES (has_named o 0 file name bytes n e.0) e.1 l
+program_fits o (Traces file trace budget depth) bytes name e n l = too_long o 0 name bytes MOST_PROGRAM_BYTES (has_named o 0 file name bytes n e.0) e.1 l
 program_fits o (Makes pairs settings) bytes name e n l = n
 
 one_reading : (program : Marked) (lists others : ListsShape) (counts more : CountsShape) → Reads lists counts ≡ Reads others more → Fits (plain program) lists counts → Fits (plain program) others more
@@ -87,6 +98,37 @@ module _ (o : Outside) (place : ℕ) (name : List ℕ) (program : Marked) (m : M
       let e : Reads m.2.lists m.2.counts ≡ Reads lists counts = sym m.2.reads ∙ ap read_report (sym same) ∙ r.reads in
       unfit (one_reading program m.2.lists lists m.2.counts counts e m.2.fits)
 
+-- a trace of the program that has ended, and is short enough, is refused for nothing
+module _ (o : Outside) (name : List ℕ) (program : Tree) (budget : ℕ) (bytes : List ℕ) (had : HasShort o 1 name MOST_TRACE_BYTES bytes) (of : IsTraceOf program budget bytes) where
+  pub trace_is_short : IsLong o 1 name MOST_TRACE_BYTES → ⊥
+  trace_is_short l = too_long o 1 name bytes MOST_TRACE_BYTES had.0 had.1 l
+
+  pub trace_reads : (other : List ℕ) (line : ℕ) → IsFile o 1 name MOST_TRACE_BYTES other → read_trace other ≡ Trace.BadLine line → ⊥
+  trace_reads other line f e =
+      let same : other ≡ bytes = same_file o 1 name MOST_TRACE_BYTES bytes other had.0 f in
+      let no : Trace.Reads of.entries ≡ Trace.BadLine line = sym of.reads ∙ ap read_trace (sym same) ∙ e in
+      absurd cc
+
+  same_entries : (entries : List EntryShape) → HasTrace o 1 name entries → of.entries ≡ entries
+  same_entries entries h =
+      let same : h.bytes ≡ bytes = same_file o 1 name MOST_TRACE_BYTES bytes h.bytes had.0 h.file in
+      let e : Trace.Reads of.entries ≡ Trace.Reads entries = sym of.reads ∙ ap read_trace (sym same) ∙ h.reads in cc
+
+  stopped : (s : TraceStop) → IsStop program budget of.entries s → s ≡ checked.Memory
+  stopped s h = ended_are_accepted program budget of.entries s of.journal h
+
+  pub trace_is_lawful : (entries : List EntryShape) (number : ℕ) → HasTrace o 1 name entries → IsUnlawfulAt program budget entries number → ⊥
+  trace_is_lawful entries number h u =
+      let mine = subst (λ (es : List EntryShape). IsUnlawfulAt program budget es number) (sym (same_entries entries h)) u in
+      let no : checked.Unlawful (number + 1) ≡ checked.Memory = stopped (checked.Unlawful (number + 1)) (number, refl, mine) in
+      absurd cc
+
+  pub trace_has_ended : (entries : List EntryShape) → HasTrace o 1 name entries → IsUnfinished program budget entries → ⊥
+  trace_has_ended entries h u =
+      let mine = subst (λ (es : List EntryShape). IsUnfinished program budget es) (sym (same_entries entries h)) u in
+      let no : checked.Unfinished ≡ checked.Memory = stopped checked.Unfinished mine in
+      absurd cc
+
 module _ (c : Call) (m : MayAnswer c) where
   reads_as : (other : List ℕ) → IsText c.outside m.task other → IsProgramText other m.program
   reads_as other t = subst (λ (l : List ℕ). IsProgramText l m.program) (sym (same_text c.outside m.task m.bytes other m.had t)) m.is.is_read
@@ -98,6 +140,7 @@ module _ (c : Call) (m : MayAnswer c) where
   nothing_holds Usage status h e = absurd h
   nothing_holds (Unread name) status (OfProgram n fails) e = absurd (m.read (0, name, fails))
   nothing_holds (Unread name) status (OfReport which program comes fails) e = absurd (m.read (place_of which, name, fails))
+  nothing_holds (Unread name) status (OfTrace budget program comes fails) e = absurd (m.read (1, name, fails))
   nothing_holds LongProgram status h e = absurd (program_fits c.outside m.task m.bytes h.name m.had h.named h.long)
   nothing_holds (NoProgram fault) status h e = absurd (h.2.none m.program (reads_as h.0 h.1))
   nothing_holds (Unchecked fault) status h e = absurd (h.2.none m.program (reads_as h.0 h.1) m.is.checked)
@@ -106,6 +149,16 @@ module _ (c : Call) (m : MayAnswer c) where
   nothing_holds (Diverges which activity) status h e =
       absurd (report_replays c.outside (place_of which) h.name m.program (m.replays which h.name h.comes.named) h.lists h.counts h.old
       (subst (λ (p : Marked). Fits (plain p) h.lists h.counts → ⊥) (same_program h.program h.comes.given) h.unfit))
+  nothing_holds LongTrace status h e = let t = m.traces h.name h.budget h.comes.named in absurd (trace_is_short c.outside h.name (plain m.program) h.budget t.0 t.1 t.2 h.long)
+  nothing_holds (NoTrace line) status h e = let t = m.traces h.name h.budget h.comes.named in absurd (trace_reads c.outside h.name (plain m.program) h.budget t.0 t.1 t.2 h.bytes line h.file h.reads)
+  nothing_holds (Unlawful entry) status h e =
+      let t = m.traces h.name h.budget h.comes.named in
+      absurd (trace_is_lawful c.outside h.name (plain m.program) h.budget t.0 t.1 t.2 h.entries h.number h.old
+      (subst (λ (p : Marked). IsUnlawfulAt (plain p) h.budget h.entries h.number) (same_program h.program h.comes.given) h.unlawful))
+  nothing_holds Unfinished status h e =
+      let t = m.traces h.name h.budget h.comes.named in
+      absurd (trace_has_ended c.outside h.name (plain m.program) h.budget t.0 t.1 t.2 h.entries h.old
+      (subst (λ (p : Marked). IsUnfinished (plain p) h.budget h.entries) (same_program h.program h.comes.given) h.unfinished))
   nothing_holds NoMemory status h e = e
 
   refused_only : (r : Refusal) (status : ℕ) → IsCause c r → status ≡ status_of_refusal r → status ≡ 8
@@ -145,6 +198,7 @@ given_in o (Rules file settings) text status a = (a.0.program, a.0.given)
 given_in o (Journals file settings) text status a = (a.0.program, a.0.given)
 given_in o (Replays file name depth) text status a = (a.0.program, a.0.given)
 given_in o (Compares file name other) text status a = (a.0.program, a.0.given)
+given_in o (Traces file name budget depth) text status a = (a.0.program, a.0.given)
 given_in o (Makes pairs settings) text status a = (a.0.program, a.0.given)
 
 -- a file whose bytes are too long, or no checked program, is none
@@ -166,6 +220,7 @@ module _ (c : Call) (a : AsksUnfit c) where
   never_has (Journals file settings) n program h = not_given c.outside file a.bytes h.bytes program (has_named c.outside 0 a.name file a.bytes (sym n) a.had) a.unfit h.text h.is
   never_has (Replays file report depth) n program h = not_given c.outside file a.bytes h.bytes program (has_named c.outside 0 a.name file a.bytes (sym n) a.had) a.unfit h.text h.is
   never_has (Compares file report other) n program h = not_given c.outside file a.bytes h.bytes program (has_named c.outside 0 a.name file a.bytes (sym n) a.had) a.unfit h.text h.is
+  never_has (Traces file trace budget depth) n program h = not_given c.outside file a.bytes h.bytes program (has_named c.outside 0 a.name file a.bytes (sym n) a.had) a.unfit h.text h.is
   never_has (Makes pairs settings) n program h = n
 
   unfit_end : (r : Refusal) (status : ℕ) → HoldsFor c.outside a.task r → status ≡ status_of_refusal r → RefusesProgram c status ⊎ CouldNot c status
@@ -177,6 +232,10 @@ module _ (c : Call) (a : AsksUnfit c) where
   unfit_end (LongReport which) status h e = absurd (never_has a.task a.named h.program h.comes.given)
   unfit_end (NoReport which line) status h e = absurd (never_has a.task a.named h.program h.comes.given)
   unfit_end (Diverges which activity) status h e = absurd (never_has a.task a.named h.program h.comes.given)
+  unfit_end LongTrace status h e = absurd (never_has a.task a.named h.program h.comes.given)
+  unfit_end (NoTrace line) status h e = absurd (never_has a.task a.named h.program h.comes.given)
+  unfit_end (Unlawful entry) status h e = absurd (never_has a.task a.named h.program h.comes.given)
+  unfit_end Unfinished status h e = absurd (never_has a.task a.named h.program h.comes.given)
   unfit_end NoMemory status h e = inr (inr (inr e))
 
   unfit_refused : (r : Refusal) (status : ℕ) → IsCause c r → status ≡ status_of_refusal r → RefusesProgram c status ⊎ CouldNot c status

@@ -10,4 +10,5 @@ pub mod StatusLemmas
 pub mod CauseLemmas
 pub mod ExpectedLemmas
 pub mod RefusedLemmas
+pub mod TracedLemmas
 pub mod EndedLemmas

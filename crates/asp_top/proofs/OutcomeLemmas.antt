@@ -1,7 +1,8 @@
 -- What a run and a replay have written, from the end of the run and the outcome of the replay.
 use Rattle.std.specs.Prelude.{map, string_bytes}
 use Rattle.std.specs.List.{concat}
-use Rattle.std.proofs.Common.{◌≡◌, ℕ, List, Option, None, ◌++◌, sym, ap, subst, ◌∙◌, arith}
+use Rattle.std.proofs.Common.{◌≡◌, ◌≤◌, ℕ, List, Option, None, ◌++◌, sym, ap, subst, ◌∙◌, arith}
+use Rattle.asp_model.specs.declared.limits.TheConstants.{MOST_REDUCTIONS}
 use Rattle.asp_model.specs.Configuration.{Configuration}
 use Rattle.asp_model.specs.Term.{Tree}
 use Rattle.asp_model.specs.Marked.{Marked, plain}
@@ -29,19 +30,20 @@ use Rattle.run_traces.specs.Traced.{IsTracedRun}
 use Rattle.asp_model.specs.History.{EntryShape}
 use Rattle.trace_text.specs.Traces as Trace
 use Rattle.trace_text.specs.Traces.{read_trace, trace_of}
+use Rattle.trace_check.specs.Checks.{IsCheckedEnd}
 use Rattle.load_gen.specs.Generated.{generated}
 use Rattle.command_line.specs.Settings.{IsSettings, SettingsShape}
-use Rattle.command_line.specs.Task.{Runs, Rules, Journals, Replays, Compares, Makes}
+use Rattle.command_line.specs.Task.{Runs, Rules, Journals, Replays, Compares, Traces, Makes}
 use Rattle.asp_top.specs.Seen.{Outside}
-use Rattle.asp_top.specs.Programs.{IsProgramOf, IsInFile, HasReplay}
+use Rattle.asp_top.specs.Programs.{IsProgramOf, IsInFile, HasReplay, HasTrace}
 use Rattle.asp_top.specs.Comparisons.{Said, IsSo, status_said, text_said}
 use Rattle.asp_top.specs.Correct.{Answers, IsWithin}
 use Rattle.asp_top.specs.Stops.{program_in}
 use Rattle.asp_top.proofs.RulingLemmas.{only_end}
 
--- what a run says of the replay under the lists and counts that its end shows
+-- what the end of a run says of the replay under the lists and counts that it shows
 
-module _ (c : Checked) (settings : SettingsShape) (end : RunEnd) (h : IsEndOfRun (tree_of c.program.root) settings.budget end) where
+module _ (c : Checked) (budget : ℕ) (end : RunEnd) (h : IsEndOfRun (tree_of c.program.root) budget end) where
   abbrev program : Tree
   program = tree_of c.program.root
 
@@ -61,26 +63,16 @@ module _ (c : Checked) (settings : SettingsShape) (end : RunEnd) (h : IsEndOfRun
   same_report : (depth : Option ℕ) → report_to depth (whole_outcome_of ended) ≡ report_to depth (whole_outcome_of replayed)
   same_report depth = ap text_of (sym (h.replayed.reports depth))
 
-  reads : (depth : Option ℕ) (bytes : List ℕ) → IsProgramOf bytes (program_in c) → IsSettings settings → read_report (report_to depth (whole_outcome_of replayed)) ≡ Reads lists counts
-  reads depth bytes is s =
-      replay_reports_are_read depth program lists counts (program_texts_are_printable bytes (program_in c) is.is_read) h.replayed.fits (omega (arith, h.budgeted.within, s.budget))
+  reads : (depth : Option ℕ) (bytes : List ℕ) → IsProgramOf bytes (program_in c) → budget ≤ MOST_REDUCTIONS → read_report (report_to depth (whole_outcome_of replayed)) ≡ Reads lists counts
+  reads depth bytes is small =
+      replay_reports_are_read depth program lists counts (program_texts_are_printable bytes (program_in c) is.is_read) h.replayed.fits (omega (arith, h.budgeted.within, small))
 
-  within : IsWithin settings.budget counts replayed
+  within : IsWithin budget counts replayed
   within = (h.budgeted.within, λ (v : verdict_of replayed ≡ Budget). h.budgeted.spent (sym (ap (λ (x : OutcomeShape). x.verdict) h.replayed.outcome) ∙ v))
 
   -- so does its outcome
   same_outcome : outcome_shape end.outcome ≡ outcome_of replayed
   same_outcome = h.outcome ∙ sym h.replayed.outcome
-
-  pub run_is : (o : Outside) (file : List ℕ) (depth : Option ℕ) (text : List ℕ) (status : ℕ) → IsInFile o file (program_in c) → IsSettings settings
-      → text ≡ report_to depth (whole_outcome_of ended) → status ≡ exit_status (outcome_shape end.outcome) → Answers o (Runs file settings depth) text status
-  run_is o file depth text status given s e is =
-      let told : text ≡ report_to depth (whole_outcome_of replayed) = e ∙ same_report depth in (
-        record { program = program_in c; given = given; lists = lists; counts = counts; fits = h.replayed.fits },
-        (told, is ∙ ap exit_status same_outcome),
-        ap read_report told ∙ reads depth given.bytes given.is s,
-        within,
-      )
 
   -- and the ruling on it
   same_reported : reported (whole_outcome_of ended) ≡ reported (whole_outcome_of replayed)
@@ -89,24 +81,63 @@ module _ (c : Checked) (settings : SettingsShape) (end : RunEnd) (h : IsEndOfRun
   same_ruled : ruled_report (whole_outcome_of ended) ≡ ruled_report (whole_outcome_of replayed)
   same_ruled = λ i. text_of (sym (h.replayed.reports None) i ++ ruling_lines (ruled (same_reported i)))
 
+-- what a run has written
+
+module _ (c : Checked) (settings : SettingsShape) (end : RunEnd) (h : IsEndOfRun (tree_of c.program.root) settings.budget end) where
+  abbrev now : Configuration
+  now = h.run.configuration
+
+  abbrev again : Configuration
+  again = replayed c settings.budget end h
+
+  abbrev reads_so : (depth : Option ℕ) (bytes : List ℕ) → IsProgramOf bytes (program_in c) → IsSettings settings → read_report (report_to depth (whole_outcome_of again)) ≡ Reads (lists_in (outcome_of now)) (counts_in (outcome_of now))
+  reads_so depth bytes is s = reads c settings.budget end h depth bytes is s.budget
+
+  pub run_is : (o : Outside) (file : List ℕ) (depth : Option ℕ) (text : List ℕ) (status : ℕ) → IsInFile o file (program_in c) → IsSettings settings
+      → text ≡ report_to depth (whole_outcome_of now) → status ≡ exit_status (outcome_shape end.outcome) → Answers o (Runs file settings depth) text status
+  run_is o file depth text status given s e is =
+      let told : text ≡ report_to depth (whole_outcome_of again) = e ∙ same_report c settings.budget end h depth in (
+        record { program = program_in c; given = given; lists = lists_in (outcome_of now); counts = counts_in (outcome_of now); fits = h.replayed.fits },
+        (told, is ∙ ap exit_status (same_outcome c settings.budget end h)),
+        ap read_report told ∙ reads_so depth given.bytes given.is s,
+        within c settings.budget end h,
+      )
+
   pub ruled_is : (o : Outside) (file : List ℕ) (text : List ℕ) (status : ℕ) → IsInFile o file (program_in c) → IsSettings settings
-      → text ≡ ruled_report (whole_outcome_of ended) → status ≡ exit_status (outcome_shape end.outcome) → Answers o (Rules file settings) text status
+      → text ≡ ruled_report (whole_outcome_of now) → status ≡ exit_status (outcome_shape end.outcome) → Answers o (Rules file settings) text status
   ruled_is o file text status given s e is =
-      let told : text ≡ ruled_report (whole_outcome_of replayed) = e ∙ same_ruled in (
+      let lists = lists_in (outcome_of now) in
+      let counts = counts_in (outcome_of now) in
+      let told : text ≡ ruled_report (whole_outcome_of again) = e ∙ same_ruled c settings.budget end h in (
         record { program = program_in c; given = given; lists = lists; counts = counts; fits = h.replayed.fits },
-        (told, is ∙ ap exit_status same_outcome),
-        ap read_report told ∙ rulings_are_passed_over (whole_outcome_of replayed) lists counts (reads None given.bytes given.is s),
-        within,
-        only_end program lists counts (programs_have_no_places given.bytes (program_in c) given.is.is_read),
+        (told, is ∙ ap exit_status (same_outcome c settings.budget end h)),
+        ap read_report told ∙ rulings_are_passed_over (whole_outcome_of again) lists counts (reads_so None given.bytes given.is s),
+        within c settings.budget end h,
+        only_end (tree_of c.program.root) lists counts (programs_have_no_places given.bytes (program_in c) given.is.is_read),
       )
 
   pub made_is : (o : Outside) (pairs : ℕ) (bytes : List ℕ) (text : List ℕ) (status : ℕ) → bytes ≡ generated pairs → IsProgramOf bytes (program_in c)
       → text ≡ summary_of pairs (outcome_shape end.outcome) → status ≡ exit_status (outcome_shape end.outcome) → Answers o (Makes pairs settings) text status
   made_is o pairs bytes text status made is e s = (
-    record { program = program_in c; given = record { bytes = bytes; text = made; is = is }; lists = lists; counts = counts; fits = h.replayed.fits },
-    (e ∙ ap (summary_of pairs) same_outcome, s ∙ ap exit_status same_outcome),
-    within,
+    record { program = program_in c; given = record { bytes = bytes; text = made; is = is }; lists = lists_in (outcome_of now); counts = counts_in (outcome_of now); fits = h.replayed.fits },
+    (e ∙ ap (summary_of pairs) (same_outcome c settings.budget end h), s ∙ ap exit_status (same_outcome c settings.budget end h)),
+    within c settings.budget end h,
   )
+
+-- what is written of a trace that was checked
+pub trace_is : (o : Outside) (file name : List ℕ) (budget : ℕ) (depth : Option ℕ) (c : Checked) (entries : List EntryShape) (end : RunEnd) (text : List ℕ) (status : ℕ) → IsInFile o file (program_in c) → budget ≤ MOST_REDUCTIONS
+    → HasTrace o 1 name entries → (h : IsCheckedEnd (tree_of c.program.root) budget entries end) → text ≡ report_to depth (whole_outcome_of h.ended.run.configuration) → status ≡ exit_status (outcome_shape end.outcome)
+    → Answers o (Traces file name budget depth) text status
+trace_is o file name budget depth c entries end text status given small old h e is =
+    let ran : IsEndOfRun (tree_of c.program.root) budget end = record { journal = entries; run = h.ended.run; lawful = h.ended.lawful; end = h.end; outcome = h.outcome; replayed = h.replayed; budgeted = h.budgeted } in
+    let now : Configuration = h.ended.run.configuration in
+    let told : text ≡ report_to depth (whole_outcome_of (replayed c budget end ran)) = e ∙ same_report c budget end ran depth in (
+      record { program = program_in c; given = given; lists = lists_in (outcome_of now); counts = counts_in (outcome_of now); fits = h.replayed.fits },
+      (told, is ∙ ap exit_status (same_outcome c budget end ran)),
+      ap read_report told ∙ reads c budget end ran depth given.bytes given.is small,
+      within c budget end ran,
+      record { entries = entries; old = old; lawful = record { journal = h.ended; agrees = h.replayed.agrees; outcome = sym h.replayed.outcome; reports = same_report c budget end ran } },
+    )
 
 -- equal texts are read alike
 read_alike : (text other : List ℕ) (entries : List EntryShape) → text ≡ other → read_trace other ≡ Trace.Reads entries → read_trace text ≡ Trace.Reads entries
@@ -122,11 +153,9 @@ journal_is o file c settings traced text status h given e is =
       (
         record {
           entries = h.journal;
-          journal = h.ended;
+          lawful = record { journal = h.ended; agrees = h.replayed.agrees; outcome = sym h.replayed.outcome; reports = λ depth. ap text_of (sym (h.replayed.reports depth)) };
           written = e ∙ h.text;
           read = read_alike text (trace_of h.journal) h.journal (e ∙ h.text) h.read;
-          agrees = h.replayed.agrees;
-          outcome = sym h.replayed.outcome;
         },
         is ∙ ap exit_status (h.outcome ∙ sym h.replayed.outcome),
       ),

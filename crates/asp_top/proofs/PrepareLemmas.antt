@@ -29,7 +29,7 @@ use Rattle.asp_top.specs.declared.stop.Stop.{Stop}
 use Rattle.asp_top.specs.declared.stop.Which.{Which}
 use Rattle.asp_top.specs.declared.stop.Which.TheVariants.{First, Second}
 use Rattle.asp_top.specs.Seen.{Outside, bytes_of, outside_between}
-use Rattle.asp_top.specs.Refusals.{Refusal, Usage, Unread, LongProgram, NoProgram, Unchecked, LongReport, NoReport, Diverges, NoMemory}
+use Rattle.asp_top.specs.Refusals.{Refusal, Usage, Unread, LongProgram, NoProgram, Unchecked, LongReport, NoReport, Diverges, LongTrace, NoTrace, Unlawful, Unfinished, NoMemory}
 use Rattle.asp_top.specs.Programs.{IsFile, IsInFile, HasReplay, HasReport, AsksInTurn, place_of}
 use Rattle.asp_top.specs.Endings.{ComesTo, HasBadLine, HasDivergence, HasLongReport, HoldsFor, OfReport, OfTask}
 use Rattle.asp_top.specs.Stops.{AsksOnce, RefusedAt, StopsTask, StopsWords, log_stop, replay_stop}
@@ -51,6 +51,10 @@ made_stops o pairs settings bytes e (Unchecked fault) h = (bytes, e, h)
 made_stops o pairs settings bytes e (LongReport which) h = absurd h
 made_stops o pairs settings bytes e (NoReport which line) h = absurd h
 made_stops o pairs settings bytes e (Diverges which activity) h = absurd h
+made_stops o pairs settings bytes e LongTrace h = absurd h
+made_stops o pairs settings bytes e (NoTrace line) h = absurd h
+made_stops o pairs settings bytes e (Unlawful entry) h = absurd h
+made_stops o pairs settings bytes e Unfinished h = absurd h
 made_stops o pairs settings bytes e NoMemory h = tt
 
 -- reports
@@ -77,6 +81,10 @@ report_stops o place which name program (Unchecked fault) h = h
 report_stops o place which name program (LongReport one) h = h
 report_stops o place which name program (NoReport one line) h = h
 report_stops o place which name program (Diverges one activity) h = absurd h
+report_stops o place which name program LongTrace h = h
+report_stops o place which name program (NoTrace line) h = h
+report_stops o place which name program (Unlawful entry) h = h
+report_stops o place which name program Unfinished h = h
 report_stops o place which name program NoMemory h = h
 
 replay_stops : (o : Outside) (which : Which) (name : List ℕ) (program : Marked) (lists : ListsShape) (counts : CountsShape) → HasReport o 0 name lists counts → (s : ReplayStop) → IsStop (plain program) lists counts s
@@ -145,6 +153,10 @@ module _ {S : Type 0} (told : S → SourceTells) (first middle last : S) (file :
       h.0,
       record { lists = h.1.lists; counts = h.1.counts; old = report_later place name h.1.lists h.1.counts h.1.old; least = h.1.least; unfit = h.1.unfit },
     )
+    refused_later place which name program later LongTrace h = absurd h
+    refused_later place which name program later (NoTrace line) h = absurd h
+    refused_later place which name program later (Unlawful entry) h = absurd h
+    refused_later place which name program later Unfinished h = absurd h
     refused_later place which name program later NoMemory h = tt
 
 -- why there is nothing of one of the reports of a task
@@ -163,6 +175,10 @@ refused_there o task which name program comes (NoReport one line) h =
 refused_there o task which name program comes (Diverges one activity) h =
     subst (λ (w : Which). HasDivergence o task w activity) (sym h.0)
     (record { program = program; name = name; comes = comes; lists = h.1.lists; counts = h.1.counts; old = h.1.old; least = h.1.least; unfit = h.1.unfit })
+refused_there o task which name program comes LongTrace h = absurd h
+refused_there o task which name program comes (NoTrace line) h = absurd h
+refused_there o task which name program comes (Unlawful entry) h = absurd h
+refused_there o task which name program comes Unfinished h = absurd h
 refused_there o task which name program comes NoMemory h = tt
 
 pub replay_refused : (o : Outside) (file report : List ℕ) (depth : Option ℕ) (program : Marked) → IsInFile o file program

@@ -3,13 +3,13 @@ use Rattle.std.proofs.Common.{◌≡◌, ℕ, ◌<◌, ◌≤◌, List, Some, No
 use Rattle.asp_model.specs.declared.limits.TheConstants.{MOST_REPORT_BYTES}
 use Rattle.asp_model.specs.Marked.{Marked}
 use Rattle.asp_model.specs.ReadReport.{read_report}
-use Rattle.command_line.specs.Task.{TaskShape, Runs, Checks, Rules, Journals, Replays, Compares, Makes, task_of}
+use Rattle.command_line.specs.Task.{TaskShape, Runs, Checks, Rules, Journals, Replays, Compares, Traces, Makes, task_of}
 use Rattle.asp_top.specs.declared.stop.Which.{Which}
 use Rattle.asp_top.specs.declared.stop.Which.TheVariants.{First, Second}
 use Rattle.asp_top.specs.Seen.{Call, Outside, IsLong, IsUntouched, Takes}
-use Rattle.asp_top.specs.Programs.{IsFile, HasProgram, HasReplay, NamesReport, place_of}
+use Rattle.asp_top.specs.Programs.{IsFile, HasProgram, HasReplay, NamesReport, NamesTrace, place_of}
 use Rattle.asp_top.specs.Correct.{Answers}
-use Rattle.asp_top.specs.Refusals.{Refusal, Usage, Unread, LongProgram, NoProgram, Unchecked, LongReport, NoReport, Diverges, NoMemory, status_of_refusal, message_of}
+use Rattle.asp_top.specs.Refusals.{Refusal, Usage, Unread, LongProgram, NoProgram, Unchecked, LongReport, NoReport, Diverges, LongTrace, NoTrace, Unlawful, Unfinished, NoMemory, status_of_refusal, message_of}
 use Rattle.asp_top.specs.Endings.{Ends, Written, Refused, Unheard, Unwritten, IsCause, OfWords, OfMemory, OfTask, ComesTo, HoldsFor, IsBehind}
 use Rattle.asp_top.specs.Statuses.{CouldNot}
 use Rattle.asp_top.specs.Expected.{Has, AsksNoReplay, IsOfFirst, IsRefusedBefore, IsRefusedFor, RefusesReport, RefusesProgram, RefusesReports}
@@ -26,7 +26,19 @@ one_name (Replays file report depth) First name other h g = sym h ∙ g
 one_name (Replays file report depth) Second name other h g = absurd h
 one_name (Compares file report second) First name other h g = sym h ∙ g
 one_name (Compares file report second) Second name other h g = sym h ∙ g
+one_name (Traces file trace budget depth) which name other h g = absurd h
 one_name (Makes pairs settings) which name other h g = absurd h
+
+-- a task that names a report names no trace
+pub no_trace : (task : TaskShape) (which : Which) (name other : List ℕ) (budget : ℕ) → NamesReport task which name → NamesTrace task other budget → ⊥
+no_trace (Runs file settings depth) which name other budget h g = h
+no_trace (Checks file) which name other budget h g = h
+no_trace (Rules file settings) which name other budget h g = h
+no_trace (Journals file settings) which name other budget h g = h
+no_trace (Replays file report depth) which name other budget h g = g
+no_trace (Compares file report second) which name other budget h g = g
+no_trace (Traces file trace most depth) which name other budget h g = h
+no_trace (Makes pairs settings) which name other budget h g = h
 
 -- where a task is answered, each report that it names fits its program
 replays_at : (o : Outside) (task : TaskShape) (text : List ℕ) (status : ℕ) → Answers o task text status → (which : Which) (name : List ℕ) → NamesReport task which name
@@ -43,6 +55,7 @@ replays_at o (Replays file report depth) text status a First name n = (
 replays_at o (Replays file report depth) text status a Second name n = absurd n
 replays_at o (Compares file report other) text status a First name n = (a.0.program, a.0.given, subst (λ (l : List ℕ). HasReplay o 1 l a.0.program) n a.0.first)
 replays_at o (Compares file report other) text status a Second name n = (a.0.program, a.0.given, subst (λ (l : List ℕ). HasReplay o 2 l a.0.program) n a.0.second)
+replays_at o (Traces file trace budget depth) text status a which name n = absurd n
 replays_at o (Makes pairs settings) text status a which name n = absurd n
 
 -- the one of two reports that is meant is this one, comes before it, or behind it
@@ -123,6 +136,10 @@ module _ (c : Call) (a : AsksNoReplay c) where
       let file = subst (λ (w : Which). IsFile c.outside (place_of w) h.name MOST_REPORT_BYTES h.old.bytes) s h.old.file in
       (s, h.lists, h.counts, ap read_report (sym (told_as h.name h.old.bytes named file)) ∙ h.old.reads, h.least) in
       refused_by (Diverges one activity) h.program h.comes.given (caused_by (λ w. Diverges w activity) one h.name h.program h.comes h tt this (turn a.which one)) u t status e
+  no_replay_end LongTrace status h u t e = absurd (no_trace a.task a.which a.name h.name h.budget a.named h.comes.named)
+  no_replay_end (NoTrace line) status h u t e = absurd (no_trace a.task a.which a.name h.name h.budget a.named h.comes.named)
+  no_replay_end (Unlawful entry) status h u t e = absurd (no_trace a.task a.which a.name h.name h.budget a.named h.comes.named)
+  no_replay_end Unfinished status h u t e = absurd (no_trace a.task a.which a.name h.name h.budget a.named h.comes.named)
   no_replay_end NoMemory status h u t e = inr (inr (inr (inr e)))
 
   no_replay_refused : (r : Refusal) (status : ℕ) → IsCause c r → IsUntouched c.out → Takes c.err (message_of r) → status ≡ status_of_refusal r → End status

@@ -5,11 +5,11 @@ use Rattle.std.specs.List.{list_any}
 use Rattle.asp_model.specs.Configuration.{Configuration}
 use Rattle.asp_model.specs.Status.{VerdictShape, End, Blocked, Budget, IsStuck, is_awaiting, is_running, statuses_of, verdict_of}
 use Rattle.asp_model.specs.Outcome.{ActivityReportShape, outcome_of, exit_status, is_faulted}
-use Rattle.command_line.specs.Task.{TaskShape, Runs, Checks, Rules, Journals, Replays, Compares, Makes, task_of}
+use Rattle.command_line.specs.Task.{TaskShape, Runs, Checks, Rules, Journals, Replays, Compares, Traces, Makes, task_of}
 use Rattle.asp_top.specs.Comparisons.{Said, Same, Differ, Unended, status_said}
 use Rattle.asp_top.specs.Seen.{Call, Outside, IsUntouched, Takes}
 use Rattle.asp_top.specs.Correct.{Answers, IsReported, IsSaid, ReplaysOf, Reports, end_of}
-use Rattle.asp_top.specs.Refusals.{Refusal, Usage, Unread, LongProgram, NoProgram, Unchecked, LongReport, NoReport, Diverges, NoMemory, status_of_refusal}
+use Rattle.asp_top.specs.Refusals.{Refusal, Usage, Unread, LongProgram, NoProgram, Unchecked, LongReport, NoReport, Diverges, LongTrace, NoTrace, Unlawful, Unfinished, NoMemory, status_of_refusal}
 use Rattle.asp_top.specs.Endings.{IsAnswer, Ends, Written, Refused, Unheard, Unwritten}
 use Rattle.asp_top.specs.Ended.{IsEnded}
 use Rattle.asp_top.specs.Statuses.{IsEnd, IsBlocked, GoesOn, OfAnswers, HasEnded, HasBlocked, HasSpent, Says, SaysEnd, SaysBlocked, SaysBudget, AreEnded}
@@ -165,6 +165,7 @@ answers_reported o (Rules file settings) text status a = reported_at (end_of a.0
 answers_reported o (Journals file settings) text status a = reported_at (end_of a.0) status a.1.1 (stops (end_of a.0))
 answers_reported o (Replays file name depth) text status a = reported_at (end_of a.0) status a.1.1 (stops (end_of a.0))
 answers_reported o (Compares file name other) text status a = said_reported a.1 status a.4
+answers_reported o (Traces file name budget depth) text status a = reported_at (end_of a.0) status a.1.1 (stops (end_of a.0))
 answers_reported o (Makes pairs settings) text status a = reported_at (end_of a.0) status a.1.1 (stops (end_of a.0))
 
 has_ended : (o : Outside) (task : TaskShape) (text : List ℕ) (status : ℕ) (a : Answers o task text status) → IsLow status → HasEnded o task text status a
@@ -175,6 +176,7 @@ has_ended o (Journals file settings) text status a h = end_at (end_of a.0) statu
 has_ended o (Replays file name depth) text status a h = end_at (end_of a.0) status a.1.1 h (stops (end_of a.0))
 has_ended o (Compares file name other) text status a h =
     let low = said_low a.1 status a.4 h in (low, said_stuck a.0 a.1 status a.2 a.4 low)
+has_ended o (Traces file name budget depth) text status a h = end_at (end_of a.0) status a.1.1 h (stops (end_of a.0))
 has_ended o (Makes pairs settings) text status a h = end_at (end_of a.0) status a.1.1 h (stops (end_of a.0))
 
 has_blocked : (o : Outside) (task : TaskShape) (text : List ℕ) (status : ℕ) (a : Answers o task text status) → status ≡ 4 → HasBlocked o task text status a
@@ -184,6 +186,7 @@ has_blocked o (Rules file settings) text status a h = blocked_at (end_of a.0) st
 has_blocked o (Journals file settings) text status a h = blocked_at (end_of a.0) status a.1.1 h (stops (end_of a.0))
 has_blocked o (Replays file name depth) text status a h = blocked_at (end_of a.0) status a.1.1 h (stops (end_of a.0))
 has_blocked o (Compares file name other) text status a h = not_four a.1 status a.4 h
+has_blocked o (Traces file name budget depth) text status a h = blocked_at (end_of a.0) status a.1.1 h (stops (end_of a.0))
 has_blocked o (Makes pairs settings) text status a h = blocked_at (end_of a.0) status a.1.1 h (stops (end_of a.0))
 
 has_spent : (o : Outside) (task : TaskShape) (text : List ℕ) (status : ℕ) (a : Answers o task text status) → status ≡ 5 → HasSpent o task text status a
@@ -193,6 +196,7 @@ has_spent o (Rules file settings) text status a h = let g = going_at (end_of a.0
 has_spent o (Journals file settings) text status a h = let g = going_at (end_of a.0) status a.1.1 h (stops (end_of a.0)) in (g, a.2.1 g.verdict)
 has_spent o (Replays file name depth) text status a h = going_at (end_of a.0) status a.1.1 h (stops (end_of a.0))
 has_spent o (Compares file name other) text status a h = said_going a.0 a.1 status a.2 a.4 h
+has_spent o (Traces file name budget depth) text status a h = let g = going_at (end_of a.0) status a.1.1 h (stops (end_of a.0)) in (g, a.3.1 g.verdict)
 has_spent o (Makes pairs settings) text status a h = let g = going_at (end_of a.0) status a.1.1 h (stops (end_of a.0)) in (g, a.2.1 g.verdict)
 
 -- Endings with the status of an answer
@@ -219,6 +223,10 @@ not_refused (Unchecked fault) n e h = no_report n 3 e h refl
 not_refused (LongReport which) n e h = no_report n 9 e h refl
 not_refused (NoReport which line) n e h = no_report n 9 e h refl
 not_refused (Diverges which activity) n e h = no_report n 9 e h refl
+not_refused LongTrace n e h = no_report n 10 e h refl
+not_refused (NoTrace line) n e h = no_report n 10 e h refl
+not_refused (Unlawful entry) n e h = no_report n 10 e h refl
+not_refused Unfinished n e h = no_report n 10 e h refl
 not_refused NoMemory n e h = no_report n 8 e h refl
 
 record WasWritten (c : Call) (status : ℕ) : Type 0 where

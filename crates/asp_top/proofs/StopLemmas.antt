@@ -18,7 +18,7 @@ use Rattle.asp_check.specs.declared.fault.CheckFault.{CheckFault}
 use Rattle.asp_check.specs.Faults.{IsChecked, IsFirstFault}
 use Rattle.asp_top.specs.declared.stop.Stop.{Stop}
 use Rattle.asp_top.specs.Seen.{Sight, Outside}
-use Rattle.asp_top.specs.Refusals.{Refusal, Usage, Unread, LongProgram, NoProgram, Unchecked, LongReport, NoReport, Diverges, NoMemory, status_of_refusal, message_of}
+use Rattle.asp_top.specs.Refusals.{Refusal, Usage, Unread, LongProgram, NoProgram, Unchecked, LongReport, NoReport, Diverges, LongTrace, NoTrace, Unlawful, Unfinished, NoMemory, status_of_refusal, message_of}
 use Rattle.command_line.specs.Task.{TaskShape}
 use Rattle.asp_top.specs.Programs.{IsFile, IsText, IsProgramOf, NamesProgram}
 use Rattle.asp_top.specs.Endings.{HoldsFor, OfProgram}
@@ -76,6 +76,10 @@ refused_in_file o name bytes (Unchecked fault) f h = (bytes, f, h)
 refused_in_file o name bytes (LongReport which) f h = absurd h
 refused_in_file o name bytes (NoReport which line) f h = absurd h
 refused_in_file o name bytes (Diverges which activity) f h = absurd h
+refused_in_file o name bytes LongTrace f h = absurd h
+refused_in_file o name bytes (NoTrace line) f h = absurd h
+refused_in_file o name bytes (Unlawful entry) f h = absurd h
+refused_in_file o name bytes Unfinished f h = absurd h
 refused_in_file o name bytes NoMemory f h = tt
 
 pub stops_in_file : (o : Outside) (name bytes : List ℕ) (r : Result Checked Stop) → IsFile o 0 name MOST_PROGRAM_BYTES bytes → IfErr r (StopsAt bytes) → IfErr r (StopsInFile o name)
@@ -92,6 +96,10 @@ no_program o task file named text (Unchecked fault) h = (h.0, text h.0 h.1, h.2)
 no_program o task file named text (LongReport which) h = absurd h
 no_program o task file named text (NoReport which line) h = absurd h
 no_program o task file named text (Diverges which activity) h = absurd h
+no_program o task file named text LongTrace h = absurd h
+no_program o task file named text (NoTrace line) h = absurd h
+no_program o task file named text (Unlawful entry) h = absurd h
+no_program o task file named text Unfinished h = absurd h
 no_program o task file named text NoMemory h = tt
 
 pub if_named : {S E : Type 0} (f : S → List ℕ) (r : Result S E) (a b : List ℕ) → a ≡ b → IfOk r (λ s. f s ≡ a) → IfOk r (λ s. f s ≡ b)

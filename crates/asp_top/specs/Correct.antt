@@ -19,9 +19,9 @@ use Rattle.run_report.specs.Summary.{summary_of}
 use Rattle.law_traces.specs.Standings.{IsEndedJournal}
 use Rattle.trace_text.specs.Traces as Trace
 use Rattle.trace_text.specs.Traces.{read_trace, trace_of}
-use Rattle.command_line.specs.Task.{TaskShape, Runs, Checks, Rules, Journals, Replays, Compares, Makes, task_of}
+use Rattle.command_line.specs.Task.{TaskShape, Runs, Checks, Rules, Journals, Replays, Compares, Traces, Makes, task_of}
 use Rattle.asp_top.specs.Seen.{Call, Outside, IsUntouched, Takes}
-use Rattle.asp_top.specs.Programs.{HasProgram, HasReplay, HasReport}
+use Rattle.asp_top.specs.Programs.{HasProgram, HasReplay, HasReport, HasTrace}
 use Rattle.asp_top.specs.Rulings.{IsOnlyEnd}
 use Rattle.asp_top.specs.Comparisons.{Said, IsSo, status_said, text_said}
 
@@ -53,15 +53,26 @@ Tells told c text status = (text ≡ told c) × (status ≡ exit_status (outcome
 abbrev pub IsWithin : ℕ → CountsShape → Configuration → Type 0
 IsWithin budget counts c = (total counts ≤ budget) × (verdict_of c ≡ Budget → total counts ≡ budget)
 
--- the text is the trace of a lawful journal of the program, from the budget, and is read as that; its run has ended, and
--- agrees with this configuration
-pub record IsTrace (program : Tree) (budget : ℕ) (c : Configuration) (text : List ℕ) : Type 0 where
-  pub entries : List EntryShape
+-- the entries are a lawful journal of the program, from the budget, whose run has ended; that agrees with this
+-- configuration, and has its outcome and its report, at every depth
+pub record IsJournalTo (program : Tree) (budget : ℕ) (entries : List EntryShape) (c : Configuration) : Type 0 where
   pub journal : IsEndedJournal program budget entries
-  pub written : text ≡ trace_of entries
-  pub read : read_trace text ≡ Trace.Reads entries
   pub agrees : Agrees journal.run.configuration c
   pub outcome : outcome_of journal.run.configuration ≡ outcome_of c
+  pub reports : (depth : Option ℕ) → report_at depth journal.run.configuration ≡ report_at depth c
+
+-- the text is the trace of such a journal, and is read as that
+pub record IsTrace (program : Tree) (budget : ℕ) (c : Configuration) (text : List ℕ) : Type 0 where
+  pub entries : List EntryShape
+  pub lawful : IsJournalTo program budget entries c
+  pub written : text ≡ trace_of entries
+  pub read : read_trace text ≡ Trace.Reads entries
+
+-- the file of this name is the trace of such a journal
+pub record IsTraced (o : Outside) (name : List ℕ) (program : Tree) (budget : ℕ) (c : Configuration) : Type 0 where
+  pub entries : List EntryShape
+  pub old : HasTrace o 1 name entries
+  pub lawful : IsJournalTo program budget entries c
 
 -- two reports that fit the program in a file, read one after the other
 pub record ReplaysOf (o : Outside) (file name other : List ℕ) : Type 0 where
@@ -96,6 +107,10 @@ Answers o (Replays file name depth) report status = (r : ReplayOf o (Replays fil
 -- `asp FILE --replay REPORT --same OTHER`: what services could tell of the replays under those that both files read as
 Answers o (Compares file name other) text status = (r : ReplaysOf o file name other)
     × (said : Said) × IsSaid r said × (text ≡ text_said said) × (status ≡ status_said said)
+-- `asp FILE --trace T`: the report, at the depth asked for, of the journal in the file T, which is lawful and has ended
+Answers o (Traces file name budget depth) report status = (r : ReplayOf o (Traces file name budget depth))
+    × Tells (report_at depth) (end_of r) report status × (read_report report ≡ Reads r.lists r.counts)
+    × IsWithin budget r.counts (end_of r) × IsTraced o name (plain r.program) budget (end_of r)
 -- `asp --make N`: the summary of a replay of the generated program
 Answers o (Makes pairs settings) summary status = (r : ReplayOf o (Makes pairs settings))
     × Tells (λ c. summary_of pairs (outcome_of c)) (end_of r) summary status × IsWithin settings.budget r.counts (end_of r)

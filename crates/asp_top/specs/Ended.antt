@@ -5,10 +5,11 @@ use Rattle.law_steps.specs.Joins.{AreNarrow}
 use Rattle.command_line.specs.Settings.{SettingsShape}
 use Rattle.law_services.specs.Services.{AreServedAlike}
 use Rattle.replay_services.specs.Compares.{AreStuck}
-use Rattle.command_line.specs.Task.{Runs, Compares}
+use Rattle.command_line.specs.Task.{Runs, Journals, Compares, Traces}
 use Rattle.asp_top.specs.Seen.{Outside}
 use Rattle.asp_top.specs.Comparisons.{Same, ShowAlike, text_said}
-use Rattle.asp_top.specs.Correct.{Answers}
+use Rattle.asp_top.specs.Correct.{Answers, end_of, report_at}
+use Rattle.asp_top.specs.Expected.{IsTraceOf}
 
 -- the run has ended: nobody can go on
 abbrev pub IsEnded : ℕ → Type 0
@@ -45,3 +46,14 @@ ComparisonsAreExact = (o : Outside) (file name other text : List ℕ) (status : 
     ((text ≡ text_said Same) ↔ (AreStuck program lists counts others other_counts
     × AreServedAlike program lists counts others other_counts))
     × (text ≡ text_said Same → ShowAlike program lists counts others other_counts)
+
+-- what `--journal` writes is all that `--trace` asks of a trace, under the same budget, and from it a call with
+-- `--trace` writes the report of this run, at every depth, with its status
+abbrev pub JournalsAreAccepted : Type 0
+JournalsAreAccepted = (o : Outside) (file : List ℕ) (settings : SettingsShape) (text : List ℕ) (status : ℕ)
+    → (a : Answers o (Journals file settings) text status)
+    → IsTraceOf (plain a.0.program) settings.budget text
+    × ((p : Outside) (other name : List ℕ) (depth : Option ℕ) (report : List ℕ) (code : ℕ)
+    → (b : Answers p (Traces other name settings.budget depth) report code)
+    → plain b.0.program ≡ plain a.0.program → b.4.old.bytes ≡ text
+    → (report ≡ report_at depth (end_of a.0)) × (code ≡ status))

@@ -1,6 +1,7 @@
 -- How a call ends, case by case: read `Ends` first.
-use Rattle.std.specs.Prelude.{◌≡◌, ◌⊎◌, ℕ, List, Some, None}
-use Rattle.asp_model.specs.declared.limits.TheConstants.{MOST_PROGRAM_BYTES, MOST_REPORT_BYTES}
+use Rattle.std.specs.Prelude.{◌≡◌, ◌⊎◌, ℕ, ◌+◌, List, Some, None}
+use Rattle.asp_model.specs.declared.limits.TheConstants.{MOST_PROGRAM_BYTES, MOST_REPORT_BYTES, MOST_TRACE_BYTES}
+use Rattle.asp_model.specs.History.{EntryShape}
 use Rattle.asp_model.specs.Names.{Name}
 use Rattle.asp_model.specs.Marked.{Marked, plain}
 use Rattle.asp_model.specs.Step.{ListsShape}
@@ -12,13 +13,18 @@ use Rattle.asp_syntax.specs.Faults.{FirstFault}
 use Rattle.syntax_grammar.specs.Programs.{IsProgramText}
 use Rattle.asp_check.specs.declared.fault.CheckFault.{CheckFault}
 use Rattle.asp_check.specs.Faults.{IsChecked, IsFirstFault}
+use Rattle.trace_text.specs.Traces as Trace
+use Rattle.trace_text.specs.Traces.{read_trace}
+use Rattle.trace_check.specs.Checks.{IsUnfinished, IsUnlawfulAt}
 use Rattle.command_line.specs.Task.{TaskShape, task_of}
 use Rattle.asp_top.specs.declared.stop.Which.{Which}
 use Rattle.asp_top.specs.declared.stop.Which.TheVariants.{First, Second}
 use Rattle.asp_top.specs.Seen.{Call, Outside, ReadFails, IsLong, IsUntouched, Takes, TakesFront}
-use Rattle.asp_top.specs.Refusals.{Refusal, Usage, Unread, LongProgram, NoProgram, Unchecked, LongReport, NoReport, Diverges, NoMemory, status_of_refusal, message_of, write_message}
-use Rattle.asp_top.specs.Programs.{IsFile, IsText, HasProgram, HasReplay, HasReport}
-use Rattle.asp_top.specs.Programs.{NamesProgram, NamesReport, place_of}
+use Rattle.asp_top.specs.Refusals.{Refusal, Usage, Unread, LongProgram, NoProgram, Unchecked, NoMemory}
+use Rattle.asp_top.specs.Refusals.{LongReport, NoReport, Diverges, LongTrace, NoTrace, Unlawful, Unfinished}
+use Rattle.asp_top.specs.Refusals.{status_of_refusal, message_of, write_message}
+use Rattle.asp_top.specs.Programs.{IsFile, IsText, HasProgram, HasReplay, HasReport, HasTrace}
+use Rattle.asp_top.specs.Programs.{NamesProgram, NamesReport, NamesTrace, place_of}
 use Rattle.asp_top.specs.Correct.{Answers}
 
 -- the bytes are no program, and this is their first fault
@@ -77,11 +83,59 @@ pub record HasDivergence (o : Outside) (task : TaskShape) (which : Which) (activ
   pub least : IsLeastDiverging (plain program) lists counts activity
   pub unfit : Fits (plain program) lists counts → ⊥
 
--- a file could not be read: the program's, or a report to which the task comes
+-- the task has a program, and comes to a trace of it, from this budget
+pub record ComesToTrace (o : Outside) (task : TaskShape) (name : List ℕ) (budget : ℕ) (program : Marked)
+    : Type 0 where
+  pub given : HasProgram o task program
+  pub named : NamesTrace task name budget
+
+-- the trace is too long
+pub record HasLongTrace (o : Outside) (task : TaskShape) : Type 0 where
+  pub program : Marked
+  pub name : List ℕ
+  pub budget : ℕ
+  pub comes : ComesToTrace o task name budget program
+  pub long : IsLong o 1 name MOST_TRACE_BYTES
+
+-- it is no trace: this is the first line that cannot stand in its place
+pub record HasNoTrace (o : Outside) (task : TaskShape) (line : ℕ) : Type 0 where
+  pub program : Marked
+  pub name : List ℕ
+  pub budget : ℕ
+  pub comes : ComesToTrace o task name budget program
+  pub bytes : List ℕ
+  pub file : IsFile o 1 name MOST_TRACE_BYTES bytes
+  pub reads : read_trace bytes ≡ Trace.BadLine line
+
+-- it is a trace, and this entry, by its number from 1, is the first that is not lawful behind those before it
+pub record HasUnlawful (o : Outside) (task : TaskShape) (entry : ℕ) : Type 0 where
+  pub program : Marked
+  pub name : List ℕ
+  pub budget : ℕ
+  pub comes : ComesToTrace o task name budget program
+  pub entries : List EntryShape
+  pub old : HasTrace o 1 name entries
+  pub number : ℕ
+  pub is : entry ≡ number + 1
+  pub unlawful : IsUnlawfulAt (plain program) budget entries number
+
+-- its entries are a lawful journal, whose run has not ended
+pub record HasUnfinished (o : Outside) (task : TaskShape) : Type 0 where
+  pub program : Marked
+  pub name : List ℕ
+  pub budget : ℕ
+  pub comes : ComesToTrace o task name budget program
+  pub entries : List EntryShape
+  pub old : HasTrace o 1 name entries
+  pub unfinished : IsUnfinished (plain program) budget entries
+
+-- a file could not be read: the program's, or a report or a trace to which the task comes
 pub data IsUnread (o : Outside) (task : TaskShape) (name : List ℕ) : Type 0 where
   OfProgram : NamesProgram task name → ReadFails o 0 name → IsUnread o task name
   OfReport : (which : Which) (program : Marked) → ComesTo o task which name program
       → ReadFails o (place_of which) name → IsUnread o task name
+  OfTrace : (budget : ℕ) (program : Marked) → ComesToTrace o task name budget program
+      → ReadFails o 1 name → IsUnread o task name
 
 -- the cause of a refusal of a task
 abbrev pub HoldsFor : Outside → TaskShape → Refusal → Type 0
@@ -95,6 +149,10 @@ HoldsFor o task (Unchecked fault) =
 HoldsFor o task (LongReport which) = HasLongReport o task which
 HoldsFor o task (NoReport which line) = HasBadLine o task which line
 HoldsFor o task (Diverges which activity) = HasDivergence o task which activity
+HoldsFor o task LongTrace = HasLongTrace o task
+HoldsFor o task (NoTrace line) = HasNoTrace o task line
+HoldsFor o task (Unlawful entry) = HasUnlawful o task entry
+HoldsFor o task Unfinished = HasUnfinished o task
 HoldsFor o task NoMemory = Unit {0}
 
 -- the cause of a refusal: the words ask for nothing, memory ran out, or it is one of the task

@@ -1,19 +1,26 @@
 -- Which status is to come: all of it follows from `Ends`.
-use Rattle.std.specs.Prelude.{◌≡◌, ◌⊎◌, ℕ, ◌≤◌, ◌<◌, List, length, Option, Some, Ok}
-use Rattle.asp_model.specs.declared.limits.TheConstants.{MOST_PROGRAM_BYTES, MOST_REPORT_BYTES}
+use Rattle.std.specs.Prelude.{◌≡◌, ◌⊎◌, ℕ, ◌+◌, ◌≤◌, ◌<◌, List, length, Option, Some, Ok}
+use Rattle.asp_model.specs.declared.limits.TheConstants.{MOST_PROGRAM_BYTES, MOST_REPORT_BYTES, MOST_TRACE_BYTES}
+use Rattle.asp_model.specs.History.{EntryShape}
 use Rattle.asp_model.specs.Marked.{Marked, plain}
+use Rattle.asp_model.specs.Term.{Tree}
 use Rattle.asp_model.specs.Step.{ListsShape}
 use Rattle.asp_model.specs.Replay.{CountsShape, Fits, IsLeastDiverging}
 use Rattle.asp_model.specs.ReadReport.{read_report, Reads, BadLine}
 use Rattle.syntax_grammar.specs.Programs.{IsProgramText}
 use Rattle.asp_check.specs.Faults.{IsChecked}
 use Rattle.load_gen.specs.Generated.{generated}
-use Rattle.command_line.specs.Task.{TaskShape, Runs, Checks, Rules, Journals, Replays, Compares, Makes, task_of}
+use Rattle.law_traces.specs.Standings.{IsEndedJournal}
+use Rattle.trace_text.specs.Traces as Trace
+use Rattle.trace_text.specs.Traces.{read_trace}
+use Rattle.trace_check.specs.Checks.{IsUnfinished, IsUnlawfulAt}
+use Rattle.command_line.specs.Task.{TaskShape, Runs, Checks, Rules, Journals, Replays, Compares, Traces, Makes, task_of}
 use Rattle.asp_top.specs.declared.stop.Which.{Which}
 use Rattle.asp_top.specs.declared.stop.Which.TheVariants.{First, Second}
 use Rattle.asp_top.specs.Seen.{Call, Outside, Gave, SomeReadFails, IsUntouched, Takes, Fails}
 use Rattle.asp_top.specs.Refusals.{Refusal, LongReport, NoReport, Diverges, message_of}
-use Rattle.asp_top.specs.Programs.{IsProgramOf, HasProgram, NamesProgram, NamesReport, place_of}
+use Rattle.asp_top.specs.Refusals.{LongTrace, NoTrace, Unlawful, Unfinished}
+use Rattle.asp_top.specs.Programs.{IsProgramOf, HasProgram, NamesProgram, NamesReport, NamesTrace, place_of}
 use Rattle.asp_top.specs.Correct.{IsReported}
 use Rattle.asp_top.specs.Endings.{HoldsFor}
 use Rattle.asp_top.specs.Statuses.{CouldNot, IsUnfit}
@@ -34,6 +41,7 @@ HasText o (Rules file settings) bytes = HasShort o 0 file MOST_PROGRAM_BYTES byt
 HasText o (Journals file settings) bytes = HasShort o 0 file MOST_PROGRAM_BYTES bytes
 HasText o (Replays file name depth) bytes = HasShort o 0 file MOST_PROGRAM_BYTES bytes
 HasText o (Compares file name other) bytes = HasShort o 0 file MOST_PROGRAM_BYTES bytes
+HasText o (Traces file trace budget depth) bytes = HasShort o 0 file MOST_PROGRAM_BYTES bytes
 HasText o (Makes pairs settings) bytes = bytes ≡ generated pairs
 
 -- a report in these bytes reads as logs and counts that fit the program
@@ -53,8 +61,19 @@ abbrev pub MayReplay : Outside → TaskShape → Marked → Type 0
 MayReplay o task program =
     (which : Which) (name : List ℕ) → NamesReport task which name → MayReplayAt o (place_of which) name program
 
--- the words ask for a task, the source has its files, and they are short enough, a checked program and reports
--- that fit it; no read fails, and no sink
+-- these bytes are the trace of a lawful journal of the program, from the budget, whose run has ended
+pub record IsTraceOf (program : Tree) (budget : ℕ) (bytes : List ℕ) : Type 0 where
+  pub entries : List EntryShape
+  pub reads : read_trace bytes ≡ Trace.Reads entries
+  pub journal : IsEndedJournal program budget entries
+
+-- the source has such a trace where one is named, and it is short enough
+abbrev pub MayTrace : Outside → TaskShape → Marked → Type 0
+MayTrace o task program = (name : List ℕ) (budget : ℕ) → NamesTrace task name budget
+    → (bytes : List ℕ) × HasShort o 1 name MOST_TRACE_BYTES bytes × IsTraceOf (plain program) budget bytes
+
+-- the words ask for a task, the source has its files, and they are short enough, a checked program, reports
+-- that fit it and traces of it that have ended; no read fails, and no sink
 pub record MayAnswer (c : Call) : Type 0 where
   pub task : TaskShape
   pub asked : task_of c.words ≡ Some task
@@ -63,6 +82,7 @@ pub record MayAnswer (c : Call) : Type 0 where
   pub program : Marked
   pub is : IsProgramOf bytes program
   pub replays : MayReplay c.outside task program
+  pub traces : MayTrace c.outside task program
   pub read : SomeReadFails c.outside → ⊥
   pub out_takes : Fails c.out → ⊥
   pub err_takes : Fails c.err → ⊥
@@ -123,6 +143,40 @@ pub record RefusesReport (c : Call) (a : AsksNoReplay c) (status : ℕ) : Type 0
   pub untouched : IsUntouched c.out
   pub answered : status ≡ 9
 
+-- the words name a trace, and the source has it, and it is too long, or none of the program in the file that has ended
+pub record AsksNoTrace (c : Call) : Type 0 where
+  pub task : TaskShape
+  pub asked : task_of c.words ≡ Some task
+  pub name : List ℕ
+  pub budget : ℕ
+  pub named : NamesTrace task name budget
+  pub trace : List ℕ
+  pub had : Has c.outside 1 name trace
+  pub unfit : (MOST_TRACE_BYTES < length trace) ⊎ ((program : Marked)
+      → HasProgram c.outside task program → IsTraceOf (plain program) budget trace → ⊥)
+
+-- why a trace, in these bytes, is refused for a program and a budget: it is too long; or it is not of its form, by its
+-- first bad line; or an entry is not lawful, by the first such; or its run has not ended
+abbrev pub IsUntracedFor : Tree → ℕ → List ℕ → Refusal → Type 0
+IsUntracedFor program budget trace LongTrace = MOST_TRACE_BYTES < length trace
+IsUntracedFor program budget trace (NoTrace line) = read_trace trace ≡ Trace.BadLine line
+IsUntracedFor program budget trace (Unlawful entry) = (entries : List EntryShape)
+    × (read_trace trace ≡ Trace.Reads entries) × (number : ℕ) × (entry ≡ number + 1)
+    × IsUnlawfulAt program budget entries number
+IsUntracedFor program budget trace Unfinished = (entries : List EntryShape)
+    × (read_trace trace ≡ Trace.Reads entries) × IsUnfinished program budget entries
+IsUntracedFor program budget trace r = ⊥
+
+-- the trace is refused for the program in the file, and one message tells why
+pub record RefusesTrace (c : Call) (a : AsksNoTrace c) (status : ℕ) : Type 0 where
+  pub program : Marked
+  pub given : HasProgram c.outside a.task program
+  pub refusal : Refusal
+  pub cause : IsUntracedFor (plain program) a.budget a.trace refusal
+  pub told : Takes c.err (message_of refusal)
+  pub untouched : IsUntouched c.out
+  pub answered : status ≡ 10
+
 -- what a good call gets
 abbrev pub Completes : Call → ℕ → Type 0
 Completes c status = MayAnswer c → IsReported status ⊎ (status ≡ 8)
@@ -139,6 +193,11 @@ RefusesPrograms c status = AsksUnfit c → RefusesProgram c status ⊎ CouldNot 
 abbrev pub RefusesReports : Call → ℕ → Type 0
 RefusesReports c status =
     (a : AsksNoReplay c) → RefusesReport c a status ⊎ RefusesProgram c status ⊎ CouldNot c status
+
+-- what a trace gets that is none of the program in the file, unless there is none
+abbrev pub RefusesTraces : Call → ℕ → Type 0
+RefusesTraces c status =
+    (a : AsksNoTrace c) → RefusesTrace c a status ⊎ RefusesProgram c status ⊎ CouldNot c status
 
 -- the words are refused, unless that cannot be told
 abbrev pub IsUsageEnd : ℕ → Type 0

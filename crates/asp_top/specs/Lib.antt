@@ -12,3 +12,4 @@ pub mod Ended
 pub mod Stops
 pub mod Ready
 pub mod Replayed
+pub mod Traced

@@ -1,6 +1,7 @@
 -- The files that a task names, and the program that it asks for.
 use Rattle.std.specs.Prelude.{◌≡◌, ℕ, ◌≤◌, List, [], ◌∷◌, length, Option, Some, None, Ok, is_ok, false}
-use Rattle.asp_model.specs.declared.limits.TheConstants.{MOST_PROGRAM_BYTES, MOST_REPORT_BYTES}
+use Rattle.asp_model.specs.declared.limits.TheConstants.{MOST_PROGRAM_BYTES, MOST_REPORT_BYTES, MOST_TRACE_BYTES}
+use Rattle.asp_model.specs.History.{EntryShape}
 use Rattle.asp_model.specs.Marked.{Marked, plain}
 use Rattle.asp_model.specs.Step.{ListsShape}
 use Rattle.asp_model.specs.Replay.{CountsShape, Fits}
@@ -10,7 +11,9 @@ use Rattle.asp_check.specs.Faults.{IsChecked}
 use Rattle.asp_edge.specs.Told.{Asks}
 use Rattle.asp_edge.specs.Causes.{IsContent}
 use Rattle.load_gen.specs.Generated.{generated}
-use Rattle.command_line.specs.Task.{TaskShape, Runs, Checks, Rules, Journals, Replays, Compares, Makes, task_of}
+use Rattle.trace_text.specs.Traces as Trace
+use Rattle.trace_text.specs.Traces.{read_trace}
+use Rattle.command_line.specs.Task.{TaskShape, Runs, Checks, Rules, Journals, Replays, Compares, Traces, Makes, task_of}
 use Rattle.asp_top.specs.declared.stop.Which.{Which}
 use Rattle.asp_top.specs.declared.stop.Which.TheVariants.{First, Second}
 use Rattle.asp_top.specs.Seen.{Outside, Asked, Gave}
@@ -30,6 +33,7 @@ IsText o (Rules file settings) bytes = IsFile o 0 file MOST_PROGRAM_BYTES bytes
 IsText o (Journals file settings) bytes = IsFile o 0 file MOST_PROGRAM_BYTES bytes
 IsText o (Replays file report depth) bytes = IsFile o 0 file MOST_PROGRAM_BYTES bytes
 IsText o (Compares file report other) bytes = IsFile o 0 file MOST_PROGRAM_BYTES bytes
+IsText o (Traces file trace budget depth) bytes = IsFile o 0 file MOST_PROGRAM_BYTES bytes
 IsText o (Makes pairs settings) bytes = bytes ≡ generated pairs
 
 -- the bytes are this program and no other, and it is checked
@@ -67,6 +71,12 @@ pub record HasReplay (o : Outside) (place : ℕ) (name : List ℕ) (program : Ma
   pub old : HasReport o place name lists counts
   pub fits : Fits (plain program) lists counts
 
+-- the file of this name, which was asked for at this place, is short enough, and a trace of these entries
+pub record HasTrace (o : Outside) (place : ℕ) (name : List ℕ) (entries : List EntryShape) : Type 0 where
+  pub bytes : List ℕ
+  pub file : IsFile o place name MOST_TRACE_BYTES bytes
+  pub reads : read_trace bytes ≡ Trace.Reads entries
+
 -- Which files are asked for
 
 -- the task names a file for its program
@@ -77,6 +87,7 @@ NamesProgram (Rules file settings) name = file ≡ name
 NamesProgram (Journals file settings) name = file ≡ name
 NamesProgram (Replays file report depth) name = file ≡ name
 NamesProgram (Compares file report other) name = file ≡ name
+NamesProgram (Traces file trace budget depth) name = file ≡ name
 NamesProgram (Makes pairs settings) name = ⊥
 
 -- the task names this for one of its reports
@@ -86,7 +97,12 @@ NamesReport (Compares file report other) First name = report ≡ name
 NamesReport (Compares file report other) Second name = other ≡ name
 NamesReport task which name = ⊥
 
--- where that is asked for
+-- and this for a trace of its program, from this budget
+abbrev pub NamesTrace : TaskShape → List ℕ → ℕ → Type 0
+NamesTrace (Traces file trace budget depth) name most = (trace ≡ name) × (budget ≡ most)
+NamesTrace task name most = ⊥
+
+-- where a report is asked for
 abbrev pub place_of : Which → ℕ
 place_of First = 1
 place_of Second = 2
@@ -99,6 +115,7 @@ files_of (Rules file settings) = file ∷ []
 files_of (Journals file settings) = file ∷ []
 files_of (Replays file report depth) = file ∷ report ∷ []
 files_of (Compares file report other) = file ∷ report ∷ other ∷ []
+files_of (Traces file trace budget depth) = file ∷ trace ∷ []
 files_of (Makes pairs settings) = []
 
 abbrev pub files_in : Option TaskShape → List (List ℕ)
@@ -117,6 +134,6 @@ pub record AsksInTurn (o : Outside) (names : List (List ℕ)) : Type 0 where
   pub asked : Asked o asks
   pub turn : InTurn names asks
 
--- nothing was asked in the call but the files that the words name, in turn: the program's, and then the reports
+-- nothing was asked in the call but the files that the words name, in turn: the program's, then reports or a trace
 abbrev pub ReadsFiles : List (List ℕ) → Outside → Type 0
 ReadsFiles words o = AsksInTurn o (files_in (task_of words))

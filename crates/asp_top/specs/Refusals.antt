@@ -1,5 +1,5 @@
 -- Why a call writes no text, with the status and the message of each refusal.
-use Rattle.std.specs.Prelude.{ℕ, List, ◌++◌, codes}
+use Rattle.std.specs.Prelude.{ℕ, ◌+◌, List, ◌++◌, codes}
 use Rattle.std.specs.Fmt.{decimal}
 use Rattle.asp_model.specs.Names.{Name}
 use Rattle.asp_model.specs.Report.{name_text, with_feed}
@@ -23,6 +23,12 @@ pub data Refusal : Type 0 where
   -- by its first line that cannot stand in its place
   NoReport : (which : Which) (line : ℕ) → Refusal
   Diverges : (which : Which) (activity : Name) → Refusal
+  LongTrace : Refusal
+  -- the trace, by its first line that cannot stand in its place
+  NoTrace : (line : ℕ) → Refusal
+  -- by the number, from 1, of its first entry that is not lawful
+  Unlawful : (entry : ℕ) → Refusal
+  Unfinished : Refusal
   NoMemory : Refusal
 
 abbrev pub status_of_refusal : Refusal → ℕ
@@ -34,6 +40,10 @@ status_of_refusal (Unchecked fault) = 3
 status_of_refusal (LongReport which) = 9
 status_of_refusal (NoReport which line) = 9
 status_of_refusal (Diverges which activity) = 9
+status_of_refusal LongTrace = 10
+status_of_refusal (NoTrace line) = 10
+status_of_refusal (Unlawful entry) = 10
+status_of_refusal Unfinished = 10
 status_of_refusal NoMemory = 8
 
 abbrev pub kind_text : SyntaxKind → List ℕ
@@ -60,7 +70,7 @@ abbrev pub option_text : Which → List ℕ
 option_text First = codes "replay"
 option_text Second = codes "same"
 
--- why a report is refused, by its option
+-- why a report or a trace is refused, by its option
 
 abbrev pub long_line : List ℕ → List ℕ
 long_line option = with_feed (codes "asp: " ++ option ++ codes ": longer than 16777216 bytes")
@@ -84,6 +94,11 @@ message_of (Unchecked fault) = fault_line (check_text fault.kind) fault.at
 message_of (LongReport which) = long_line (option_text which)
 message_of (NoReport which line) = bad_line (option_text which) line
 message_of (Diverges which activity) = diverging_line (option_text which) activity
+message_of LongTrace = with_feed (codes "asp: trace: longer than 67108864 bytes")
+message_of (NoTrace line) = bad_line (codes "trace") line
+-- an entry stands in the line behind its number
+message_of (Unlawful entry) = bad_line (codes "trace") (entry + 1)
+message_of Unfinished = with_feed (codes "asp: trace: unfinished")
 message_of NoMemory = with_feed (codes "asp: no memory")
 
 abbrev pub write_message : List ℕ

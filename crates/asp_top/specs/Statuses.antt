@@ -8,10 +8,11 @@ use Rattle.asp_model.specs.Status.{End, Blocked, Budget, IsStuck, is_awaiting, s
 use Rattle.asp_model.specs.Replay.{total}
 use Rattle.asp_syntax.specs.declared.error.SyntaxFault.{SyntaxFault}
 use Rattle.asp_check.specs.declared.fault.CheckFault.{CheckFault}
-use Rattle.command_line.specs.Task.{TaskShape, Runs, Checks, Rules, Journals, Replays, Compares, Makes, task_of}
+use Rattle.command_line.specs.Task.{TaskShape, Runs, Checks, Rules, Journals, Replays, Compares, Traces, Makes, task_of}
 use Rattle.asp_top.specs.declared.stop.Which.{Which}
 use Rattle.asp_top.specs.Seen.{Call, Outside, SomeReadFails, Takes, Fails}
 use Rattle.asp_top.specs.Refusals.{LongProgram, NoProgram, Unchecked, LongReport, NoReport, Diverges}
+use Rattle.asp_top.specs.Refusals.{LongTrace, NoTrace, Unlawful, Unfinished}
 use Rattle.replay_services.specs.Compares.{AreStuck}
 use Rattle.asp_top.specs.Comparisons.{Unended}
 use Rattle.asp_top.specs.Correct.{Answers, IsSaid, ReplaysOf, end_of}
@@ -53,6 +54,7 @@ HasEnded o (Rules file settings) text status a = IsEnd (end_of a.0)
 HasEnded o (Journals file settings) text status a = IsEnd (end_of a.0)
 HasEnded o (Replays file name depth) text status a = IsEnd (end_of a.0)
 HasEnded o (Compares file name other) text status a = (status ≡ 0) × AreEnded a.0
+HasEnded o (Traces file name budget depth) text status a = IsEnd (end_of a.0)
 HasEnded o (Makes pairs settings) text status a = IsEnd (end_of a.0)
 
 -- what status 4 says of it
@@ -63,9 +65,10 @@ HasBlocked o (Rules file settings) text status a = IsBlocked (end_of a.0)
 HasBlocked o (Journals file settings) text status a = IsBlocked (end_of a.0)
 HasBlocked o (Replays file name depth) text status a = IsBlocked (end_of a.0)
 HasBlocked o (Compares file name other) text status a = ⊥
+HasBlocked o (Traces file name budget depth) text status a = IsBlocked (end_of a.0)
 HasBlocked o (Makes pairs settings) text status a = IsBlocked (end_of a.0)
 
--- what status 5 says of it: a run has spent its budget, and of two replays one can go on
+-- what status 5 says of it: a run, traced or not, has spent its budget, and of two replays one can go on
 abbrev pub HasSpent : OfAnswers
 HasSpent o (Runs file settings depth) text status a = GoesOn (end_of a.0) × (total a.0.counts ≡ settings.budget)
 HasSpent o (Checks file) text status a = ⊥
@@ -73,6 +76,7 @@ HasSpent o (Rules file settings) text status a = GoesOn (end_of a.0) × (total a
 HasSpent o (Journals file settings) text status a = GoesOn (end_of a.0) × (total a.0.counts ≡ settings.budget)
 HasSpent o (Replays file name depth) text status a = GoesOn (end_of a.0)
 HasSpent o (Compares file name other) text status a = IsSaid a.0 Unended
+HasSpent o (Traces file name budget depth) text status a = GoesOn (end_of a.0) × (total a.0.counts ≡ budget)
 HasSpent o (Makes pairs settings) text status a = GoesOn (end_of a.0) × (total a.0.counts ≡ settings.budget)
 
 -- a text was written of which this holds
@@ -104,6 +108,11 @@ IsUnfit c = IsCause c LongProgram ⊎ ((fault : SyntaxFault) × IsCause c (NoPro
 abbrev pub IsNotReplayed : Call → Type 0
 IsNotReplayed c = (which : Which) × (IsCause c (LongReport which) ⊎ ((line : ℕ) × IsCause c (NoReport which line))
     ⊎ ((activity : Name) × IsCause c (Diverges which activity)))
+
+-- the trace is too long, none, not lawful, or unfinished
+abbrev pub IsNotTraced : Call → Type 0
+IsNotTraced c = IsCause c LongTrace ⊎ ((line : ℕ) × IsCause c (NoTrace line))
+    ⊎ ((entry : ℕ) × IsCause c (Unlawful entry)) ⊎ IsCause c Unfinished
 
 -- a read failed, a sink failed, or memory ran out
 abbrev pub CouldNot : Call → ℕ → Type 0

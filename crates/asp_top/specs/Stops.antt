@@ -19,6 +19,10 @@ use Rattle.sender_log.specs.declared.error.LogError.{LogError}
 use Rattle.sender_log.specs.declared.error.LogError.TheVariants as log
 use Rattle.replay_one.specs.declared.replays.ReplayStop.{ReplayStop}
 use Rattle.replay_one.specs.declared.replays.ReplayStop.TheVariants as replays
+use Rattle.trace_text.specs.declared.error.TraceError.{TraceError}
+use Rattle.trace_text.specs.declared.error.TraceError.TheVariants as trace
+use Rattle.trace_check.specs.declared.error.TraceStop.{TraceStop}
+use Rattle.trace_check.specs.declared.error.TraceStop.TheVariants as checked
 use Rattle.command_line.specs.declared.error.WordsError.{WordsError}
 use Rattle.command_line.specs.declared.error.WordsError.TheVariants as words
 use Rattle.command_line.specs.Task.{TaskShape}
@@ -27,7 +31,8 @@ use Rattle.asp_top.specs.declared.stop.Stop.TheVariants as stops
 use Rattle.asp_top.specs.declared.stop.Which.{Which}
 use Rattle.asp_top.specs.Seen.{Outside, Asked, ReadFails, IsLong, bytes_of}
 use Rattle.asp_top.specs.Programs.{IsFile, IsInFile}
-use Rattle.asp_top.specs.Refusals.{Refusal, Usage, Unread, LongProgram, NoProgram, Unchecked, LongReport, NoReport, Diverges, NoMemory}
+use Rattle.asp_top.specs.Refusals.{Refusal, Usage, Unread, LongProgram, NoProgram, Unchecked, NoMemory}
+use Rattle.asp_top.specs.Refusals.{LongReport, NoReport, Diverges, LongTrace, NoTrace, Unlawful, Unfinished}
 use Rattle.asp_top.specs.Endings.{IsFaultyText, IsUncheckedText, Holds, HoldsFor}
 
 abbrev pub refusal_of : Stop → Refusal
@@ -39,6 +44,10 @@ refusal_of (stops.Check fault) = Unchecked fault
 refusal_of (stops.LongReport which) = LongReport which
 refusal_of (stops.BadLine which line) = NoReport which line
 refusal_of (stops.Diverged which activity) = Diverges which activity
+refusal_of stops.LongTrace = LongTrace
+refusal_of (stops.NoTrace line) = NoTrace line
+refusal_of (stops.Unlawful entry) = Unlawful entry
+refusal_of stops.Unfinished = Unfinished
 refusal_of stops.Memory = NoMemory
 
 -- the stops that errors are
@@ -62,6 +71,15 @@ log_stop which log.Memory = stops.Memory
 abbrev pub replay_stop : Which → ReplayStop → Stop
 replay_stop which (replays.Diverged activity) = stops.Diverged which activity
 replay_stop which replays.Memory = stops.Memory
+
+abbrev pub trace_stop : TraceError → Stop
+trace_stop (trace.BadLine line) = stops.NoTrace line
+trace_stop trace.Memory = stops.Memory
+
+abbrev pub checked_stop : TraceStop → Stop
+checked_stop (checked.Unlawful entry) = stops.Unlawful entry
+checked_stop checked.Unfinished = stops.Unfinished
+checked_stop checked.Memory = stops.Memory
 
 -- the checked program that the code holds
 abbrev pub program_in : Checked → Marked

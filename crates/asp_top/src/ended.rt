@@ -1,6 +1,6 @@
 //! What two calls say of each other.
 
-ghost use Rattle.asp_top.specs.Ended.{ComparisonsAreExact, EndedRunsPrintTheSame, OneSenderPrintsTheSame};
+ghost use Rattle.asp_top.specs.Ended.{ComparisonsAreExact, EndedRunsPrintTheSame, JournalsAreAccepted, OneSenderPrintsTheSame};
 
 /// Two runs of one program that have ended, whose reports show states to one depth and read as
 /// equal logs, print equal bytes.
@@ -18,4 +18,10 @@ pub fn one_sender_prints_the_same()
 /// can tell, and then the two reports are equal at every depth but for the lines of logs.
 pub fn comparisons_are_exact()
     ensures { ComparisonsAreExact }
+{}
+
+/// What `--journal` writes is all that `--trace` asks of a trace, under the same budget, and it gives
+/// the report of the run, at every depth, with its status.
+pub fn journals_are_accepted()
+    ensures { JournalsAreAccepted }
 {}

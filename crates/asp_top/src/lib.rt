@@ -9,9 +9,13 @@ mod programs;
 mod reports;
 mod stop;
 mod top;
+mod traces;
 mod writing;
 
-pub use ended::{comparisons_are_exact, ended_runs_print_the_same, one_sender_prints_the_same};
+pub use ended::{
+    comparisons_are_exact, ended_runs_print_the_same, journals_are_accepted,
+    one_sender_prints_the_same,
+};
 pub use prepare::{Prepared, report_for};
 pub use programs::program_of;
 pub use stop::{Stop, Which};

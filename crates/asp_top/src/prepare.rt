@@ -11,7 +11,7 @@ ghost use Rattle.run_ends.specs.Ends.{IsEndOf};
 ghost use Rattle.run_report.specs.Rulings.{ruled_report};
 ghost use Rattle.run_report.specs.Summary.{summary_of};
 ghost use Rattle.run_traces.specs.Traced.{IsTracedRun};
-ghost use Rattle.command_line.specs.Task.{Runs, Checks, Rules, Journals, Replays, Compares, Makes, IsWithin};
+ghost use Rattle.command_line.specs.Task.{Runs, Checks, Rules, Journals, Replays, Compares, Traces, Makes, IsWithin};
 ghost use Rattle.command_line.specs.Settings.{IsSettings};
 ghost use Rattle.command_line.specs.Shapes.{settings_shape, task_shape};
 ghost use Rattle.asp_top.specs.Seen.{Outside, bytes_of, outside};
@@ -24,9 +24,10 @@ use crate::letting_go::let_go;
 use crate::programs::{checked_in, program_of};
 use crate::reports::end_in;
 use crate::stop::Stop;
+use crate::traces::traced_in;
 use asp_check::Checked;
 use asp_edge::Source;
-use asp_model::{MOST_PAIRS, Outcome, Word, exit_number};
+use asp_model::{MOST_PAIRS, MOST_REDUCTIONS, Outcome, Word, exit_number};
 use command_line::{Settings, Task, read_words};
 use load_gen::make;
 use run_ends::RunEnd;
@@ -313,6 +314,28 @@ fn prepare_compare<'a, S: Source>(
     compared
 }
 
+fn prepare_trace<'a, S: Source>(
+    alloc: Global,
+    file: &'a str,
+    trace: &'a str,
+    budget: u64,
+    depth: Option<u32>,
+    source: &mut S,
+) -> Result<Prepared, Stop<'a>>
+    requires within { budget ≤ MOST_REDUCTIONS }
+    ensures answer { let task = Traces file.entry.now trace.entry.now budget depth in
+        IfOk result (IsReady (outside S.told source) task) }
+    ensures stop { let task = Traces file.entry.now trace.entry.now budget depth in
+        IfErr result (StopsTask (outside S.told source) task) }
+    ensures reads { let task = Traces file.entry.now trace.entry.now budget depth in
+        AsksInTurn (outside S.told source) (files_of task) }
+{
+    let checked = program_of(alloc, file, source)?;
+    let ended = traced_in(alloc, &checked, trace, budget, source);
+    drop(checked);
+    Ok(report_for(alloc, &ended?, depth)?)
+}
+
 fn prepare_made<'a, R: Threads + Wait + Sync, G: Gate>(
     rt: &R,
     alloc: Global,
@@ -373,13 +396,19 @@ fn prepare_task<'a, R: Threads + Wait + Sync, S: Source, G: Gate>(
             report,
             other,
         } => prepare_compare(alloc, file, report, other, source),
+        Task::Trace {
+            file,
+            trace,
+            budget,
+            depth,
+        } => prepare_trace(alloc, file, trace, budget, depth, source),
         Task::Make { pairs, settings } => prepare_made(rt, alloc, pairs, settings, policies, gate),
     }
 }
 
 /// What the words ask for, ready to be written. The words come first, then the program's file, its
-/// reading and its check, and the run, or each report's file and its replay; the first refusal in
-/// this order ends the work.
+/// reading and its check, and the run, or each report's file and its replay, or the trace's file
+/// and its run; the first refusal in this order ends the work.
 pub fn prepare<'a, R: Threads + Wait + Sync, S: Source, G: Gate>(
     rt: &R,
     alloc: Global,

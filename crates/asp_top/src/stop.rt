@@ -1,7 +1,7 @@
 //! Why there is nothing to write.
 
 ghost use Rattle.std.specs.Prelude.{◌≡◌};
-ghost use Rattle.asp_top.specs.Stops.{words_stop, syntax_stop, check_stop, log_stop, replay_stop};
+ghost use Rattle.asp_top.specs.Stops.{words_stop, syntax_stop, check_stop, checked_stop, log_stop, replay_stop, trace_stop};
 ghost use Rattle.asp_top.specs.declared.stop.Stop.TheVariants as stops;
 
 use asp_check::{CheckError, CheckFault};
@@ -11,6 +11,8 @@ use command_line::WordsError;
 use replay_one::ReplayStop;
 use sender_log::LogError;
 use std::alloc::AllocError;
+use trace_check::TraceStop;
+use trace_text::TraceError;
 
 /// Which of the reports that are replayed.
 #[derive(Clone, Copy)]
@@ -40,6 +42,14 @@ pub enum Stop<'a> {
     BadLine(Which, u64),
     /// The report does not fit the program, and this is the least activity that shows it.
     Diverged(Which, ActivityName),
+    /// There are more bytes than a trace may have.
+    LongTrace,
+    /// The line of this number is the first one of a trace that cannot stand in its place.
+    NoTrace(u64),
+    /// The entry of this number, from 1, is the first one of a trace that is not lawful.
+    Unlawful(u64),
+    /// The run of a trace has not ended.
+    Unfinished,
     Memory,
 }
 
@@ -102,6 +112,29 @@ impl From<CheckError> for Stop<'_> {
         match error {
             CheckError::Fault(fault) => Stop::Check(fault),
             CheckError::Memory => Stop::Memory,
+        }
+    }
+}
+
+impl From<TraceError> for Stop<'_> {
+    ghost from_gives = { λ e s. s ≡ trace_stop e };
+
+    fn from(error: TraceError) -> Self {
+        match error {
+            TraceError::BadLine { line } => Stop::NoTrace(line),
+            TraceError::Memory => Stop::Memory,
+        }
+    }
+}
+
+impl From<TraceStop> for Stop<'_> {
+    ghost from_gives = { λ e s. s ≡ checked_stop e };
+
+    fn from(stop: TraceStop) -> Self {
+        match stop {
+            TraceStop::Unlawful { entry } => Stop::Unlawful(entry),
+            TraceStop::Unfinished => Stop::Unfinished,
+            TraceStop::Memory => Stop::Memory,
         }
     }
 }

@@ -2,7 +2,7 @@
 
 ghost use Rattle.std.specs.Prelude.{◌≡◌, ◌≤◌, string_bytes, IfOk, IfErr, OnOk, OnErr};
 ghost use Rattle.asp_top.specs.Seen.{Fails, Takes, TakesSome, sight};
-ghost use Rattle.asp_top.specs.Refusals.{kind_text as text_of_kind, check_text as text_of_check, option_text as text_of_option, bad_line, diverging_line, fault_line, long_line, message_of, NoMemory, Unread};
+ghost use Rattle.asp_top.specs.Refusals.{kind_text as text_of_kind, check_text as text_of_check, option_text as text_of_option, bad_line, diverging_line, fault_line, long_line, message_of, NoMemory, NoTrace, Unlawful, Unread};
 ghost use Rattle.asp_top.specs.Stops.{refusal_of};
 ghost use Rattle.asp_top.specs.Ready.{Told, ToldOf, ToldRefusal, WrittenOf, text_of_all};
 
@@ -18,6 +18,10 @@ use std::alloc::{AllocError, Global};
 const USAGE: &[u8] = b"asp: usage: asp FILE [OPTION ..], or asp --make N [OPTION ..]\n";
 
 const LONG_PROGRAM: &[u8] = b"asp: program: longer than 1048576 bytes\n";
+
+const LONG_TRACE: &[u8] = b"asp: trace: longer than 67108864 bytes\n";
+
+const UNFINISHED: &[u8] = b"asp: trace: unfinished\n";
 
 const CANNOT_WRITE: &[u8] = b"asp: cannot write\n";
 
@@ -92,6 +96,20 @@ fn diverges_message(alloc: Global, option: &str, name: &ActivityName) -> Result<
     Ok(text)
 }
 
+fn trace_message(alloc: Global, line: u64) -> Result<String, AllocError>
+    ensures { IfOk result (λ s. string_bytes s ≡ message_of (NoTrace line)) }
+{
+    format!(in alloc; "asp: trace: line {line}\n")
+}
+
+// An entry stands in the line behind its number.
+fn unlawful_message(alloc: Global, entry: u64) -> Result<String, AllocError>
+    ensures { IfOk result (λ s. string_bytes s ≡ message_of (Unlawful entry)) }
+{
+    let line = u128::from(entry) + 1;
+    format!(in alloc; "asp: trace: line {line}\n")
+}
+
 // Writes a message, and answers the status, or 7 where the sink failed.
 fn tell<E: Sink>(err: &mut E, message: &[u8], status: u8) -> u8
     ensures { Told (sight E.told err) message.now status result }
@@ -141,6 +159,10 @@ pub fn refuse<E: Sink>(alloc: Global, stop: &Stop<'_>, err: &mut E) -> u8
             let message = diverges_message(alloc, option_text(*which), activity);
             tell_made(err, message, 9)
         }
+        Stop::LongTrace => tell(err, LONG_TRACE, 10),
+        Stop::NoTrace(line) => tell_made(err, trace_message(alloc, *line), 10),
+        Stop::Unlawful(entry) => tell_made(err, unlawful_message(alloc, *entry), 10),
+        Stop::Unfinished => tell(err, UNFINISHED, 10),
         Stop::Memory => tell(err, NO_MEMORY, 8),
     }
 }

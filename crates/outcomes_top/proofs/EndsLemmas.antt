@@ -8,7 +8,7 @@ use Rattle.asp_top.specs.declared.prepare.Prepared.{Prepared}
 use Rattle.asp_top.specs.Ready.{WrittenOf, text_in}
 use Rattle.asp_top.specs.Ended.{IsEnded}
 use Rattle.asp_top.specs.Programs.{IsInFile}
-use Rattle.asp_top.specs.Refusals.{Diverges, LongProgram, LongReport, NoMemory, NoProgram, NoReport, Refusal, Unchecked, Unread, Usage, message_of, status_of_refusal}
+use Rattle.asp_top.specs.Refusals.{Diverges, LongProgram, LongReport, LongTrace, NoMemory, NoProgram, NoReport, NoTrace, Refusal, Unchecked, Unfinished, Unlawful, Unread, Usage, message_of, status_of_refusal}
 use Rattle.asp_top.specs.Seen.{Call, IsUntouched, Outside, Takes}
 use Rattle.asp_top.specs.Stops.{refusal_of}
 use Rattle.outcomes_top.specs.declared.halt.Halt.{Halt}
@@ -59,6 +59,9 @@ not_eight status h e = not_at status 8 h e (λ p. omega (arith, p)) (λ p. omega
 not_nine : {A : Type 0} (status : ℕ) → IsEnded status → status ≡ 9 → A
 not_nine status h e = not_at status 9 h e (λ p. omega (arith, p)) (λ p. omega (arith, p)) (λ p. omega (arith, p))
 
+not_ten : {A : Type 0} (status : ℕ) → IsEnded status → status ≡ 10 → A
+not_ten status h e = not_at status 10 h e (λ p. omega (arith, p)) (λ p. omega (arith, p)) (λ p. omega (arith, p))
+
 not_refused : {A : Type 0} (status : ℕ) (r : Refusal) → IsEnded status → status ≡ status_of_refusal r → A
 not_refused status Usage h e = not_two status h e
 not_refused status (Unread name) h e = not_six status h e
@@ -68,6 +71,10 @@ not_refused status (Unchecked fault) h e = not_three status h e
 not_refused status (LongReport which) h e = not_nine status h e
 not_refused status (NoReport which line) h e = not_nine status h e
 not_refused status (Diverges which activity) h e = not_nine status h e
+not_refused status LongTrace h e = not_ten status h e
+not_refused status (NoTrace line) h e = not_ten status h e
+not_refused status (Unlawful entry) h e = not_ten status h e
+not_refused status Unfinished h e = not_ten status h e
 not_refused status NoMemory h e = not_eight status h e
 
 not_caused : {A : Type 0} (words : List (List ℕ)) (o : Outside) (message : List ℕ) (status : ℕ) → IsEnded status → IsCause words o message status → A

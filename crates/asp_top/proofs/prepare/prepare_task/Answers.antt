@@ -72,3 +72,13 @@ pub returns-in-Compare-clause-reads : goal.returns-in-Compare-clause-reads
 returns-in-Compare-clause-reads g c =
     let o = outside_between g.S.Source.told c.args.source.now c.prepare_compare.new.source in
     subst (λ (t : Task). AsksInTurn o (files_of (task_shape t))) (sym c.in-Compare.is) c.prepare_compare.ensures.reads
+
+pub returns-in-Trace-clause-answer : goal.returns-in-Trace-clause-answer
+returns-in-Trace-clause-answer g c =
+    let o = outside_between g.S.Source.told c.args.source.now c.prepare_trace.new.source in
+    subst (λ (t : Task). IfOk c.prepare_trace.result (IsReady o (task_shape t))) (sym c.in-Trace.is) c.prepare_trace.ensures.answer
+
+pub returns-in-Trace-clause-reads : goal.returns-in-Trace-clause-reads
+returns-in-Trace-clause-reads g c =
+    let o = outside_between g.S.Source.told c.args.source.now c.prepare_trace.new.source in
+    subst (λ (t : Task). AsksInTurn o (files_of (task_shape t))) (sym c.in-Trace.is) c.prepare_trace.ensures.reads

@@ -2,7 +2,7 @@ use Rattle.std.proofs.Common.{ℕ, List, sym, ap, subst, inl}
 use Rattle.std.specs.Prelude.{string_bytes}
 use Rattle.asp_top.specs.declared.stop.Stop.{Stop}
 use Rattle.asp_top.specs.Seen.{sight_between}
-use Rattle.asp_top.specs.Refusals.{Unread, NoProgram, Unchecked, LongReport, NoReport, Diverges, bad_line, diverging_line, fault_line, long_line, message_of}
+use Rattle.asp_top.specs.Refusals.{Unread, NoProgram, Unchecked, LongReport, NoReport, Diverges, NoTrace, Unlawful, bad_line, diverging_line, fault_line, long_line, message_of}
 use Rattle.asp_top.specs.Stops.{refusal_of}
 use Rattle.asp_top.specs.Ready.{ToldOf}
 use Rattle.asp_top.proofs.StopLemmas.{if_named, made_told}
@@ -67,3 +67,27 @@ returns-in-Diverged g c =
     let made = if_named string_bytes c.diverges_message-message.result (diverging_line option.result.now activity) (message_of (Diverges which activity)) (ap (λ (k : List ℕ). diverging_line k activity) option.ensures) c.diverges_message-message.ensures in
     subst (λ (stop : Stop). ToldOf (refusal_of stop) s c.tell_made-in-Diverged.result) (sym c.in-Diverged.is)
     (made_told string_bytes (Diverges which activity) c.diverges_message-message.result s c.tell_made-in-Diverged.result made c.tell_made-in-Diverged.ensures.made c.tell_made-in-Diverged.ensures.no_memory)
+
+pub returns-in-LongTrace : goal.returns-in-LongTrace
+returns-in-LongTrace g c =
+    let s = sight_between g.E.Sink.told c.args.err.now c.tell-in-LongTrace.new.err in
+    subst (λ (stop : Stop). ToldOf (refusal_of stop) s c.tell-in-LongTrace.result) (sym c.in-LongTrace.is) (inl c.tell-in-LongTrace.ensures)
+
+pub returns-in-NoTrace : goal.returns-in-NoTrace
+returns-in-NoTrace g c =
+    let s = sight_between g.E.Sink.told c.args.err.now c.tell_made-in-NoTrace.new.err in
+    let line = c.in-NoTrace.line in
+    subst (λ (stop : Stop). ToldOf (refusal_of stop) s c.tell_made-in-NoTrace.result) (sym c.in-NoTrace.is)
+    (made_told string_bytes (NoTrace line) c.trace_message.result s c.tell_made-in-NoTrace.result c.trace_message.ensures c.tell_made-in-NoTrace.ensures.made c.tell_made-in-NoTrace.ensures.no_memory)
+
+pub returns-in-Unlawful : goal.returns-in-Unlawful
+returns-in-Unlawful g c =
+    let s = sight_between g.E.Sink.told c.args.err.now c.tell_made-in-Unlawful.new.err in
+    let entry = c.in-Unlawful.entry in
+    subst (λ (stop : Stop). ToldOf (refusal_of stop) s c.tell_made-in-Unlawful.result) (sym c.in-Unlawful.is)
+    (made_told string_bytes (Unlawful entry) c.unlawful_message.result s c.tell_made-in-Unlawful.result c.unlawful_message.ensures c.tell_made-in-Unlawful.ensures.made c.tell_made-in-Unlawful.ensures.no_memory)
+
+pub returns-in-Unfinished : goal.returns-in-Unfinished
+returns-in-Unfinished g c =
+    let s = sight_between g.E.Sink.told c.args.err.now c.tell-in-Unfinished.new.err in
+    subst (λ (stop : Stop). ToldOf (refusal_of stop) s c.tell-in-Unfinished.result) (sym c.in-Unfinished.is) (inl c.tell-in-Unfinished.ensures)
