@@ -3,3 +3,4 @@ pub mod ListenLemmas
 pub mod WaitLemmas
 pub mod OnceLemmas
 pub mod EndLemmas
+pub mod BookLemmas

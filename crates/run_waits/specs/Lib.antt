@@ -1,3 +1,5 @@
 -- in reading order
 pub mod Targets
+pub mod Books
+pub mod Kept
 pub mod Explains

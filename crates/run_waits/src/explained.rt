@@ -9,9 +9,13 @@ ghost use Rattle.asp_model.specs.Shapes.{counts_shape, lists_shape, outcome_shap
 ghost use Rattle.asp_model.specs.Status.{IsStuck};
 ghost use Rattle.replay_one.specs.Correct.{IsStop};
 ghost use Rattle.replay_one.specs.Listed.{AreReplayable};
+ghost use Rattle.replay_one.specs.Notes.{replay_notes};
 ghost use Rattle.wait_circles.specs.Whys.{IsToldWhy, names_of};
+ghost use Rattle.run_waits.specs.Books.{KeepsBooks};
 ghost use Rattle.run_waits.specs.Explains.{IsExplained};
 
+use crate::books::Books;
+use crate::kept::Kept;
 use crate::receipts::Receipts;
 use crate::waits::waits_in;
 use asp_check::Checked;
@@ -26,6 +30,8 @@ use wait_circles::{End, Ways, Why, ways_of, why_of};
 pub struct Explained {
     pub end: RunEnd,
     pub receipts: Receipts,
+    /// What each activity has of the requests that came to it.
+    pub books: Books,
     /// Whom each activity waits for.
     pub next: Vec<Option<usize>>,
     /// Where these waits lead.
@@ -49,16 +55,21 @@ pub fn explain_run(
     ensures explained { let last = replay_of (tree_of program.now.program.root)
         (lists_shape lists.now) (counts_shape counts.now) in
         IfOk result (IsExplained last) }
+    ensures books { let noted = replay_notes (tree_of program.now.program.root)
+        (lists_shape lists.now) (counts_shape counts.now) in
+        IfOk result (λ x. KeepsBooks x.books noted) }
     ensures diverged { IfErr result (IsStop (tree_of program.now.program.root)
         (lists_shape lists.now) (counts_shape counts.now)) }
 {
-    let mut receipts = Receipts::new(alloc);
-    let end = replay_noting(alloc, program, lists, counts, &mut receipts)?;
+    let mut kept = Kept::new(alloc);
+    let end = replay_noting(alloc, program, lists, counts, &mut kept)?;
+    let Kept { receipts, books } = kept;
     let next = waits_in(alloc, &end.outcome.activities, &end.futures, &receipts)?;
     let ways = ways_of(alloc, &next)?;
     Ok(Explained {
         end,
         receipts,
+        books,
         next,
         ways,
     })
