@@ -1,0 +1,231 @@
+//! What a line tells of one activity: where it stands, what it serves, and what it does.
+
+use crate::faults::{fault_text, push_operands};
+use crate::operands::Stopped;
+use crate::places::{byte_of, node_of, push_place, serve_of};
+use asp_model::{ActivityReport, Fault, FutureName, Label, Status};
+use code_table::{EMPTY_NUMBER, Kind, Node, SERVE_NUMBER};
+use run_ends::EndState;
+use run_waits::{Asked, Explained};
+use state_lines::push_name;
+use std::alloc::AllocError;
+use step_machine::node_at;
+
+/// A program's text and a run of it.
+#[derive(Clone, Copy)]
+pub struct Told<'a> {
+    pub file: &'a str,
+    pub bytes: &'a [u8],
+    pub run: &'a Explained,
+}
+
+// Labels, with commas between them.
+fn push_labels(text: &mut String, labels: &[Label]) -> Result<(), AllocError> {
+    let mut between = "";
+    for label in labels {
+        text.push_str(between)?;
+        text.push_str(label.text.as_str())?;
+        between = ", ";
+    }
+    Ok(())
+}
+
+/// Adds a label to a text.
+pub fn push_label(text: &mut String, label: &Label) -> Result<(), AllocError> {
+    text.push_str("`")?;
+    text.push_str(label.text.as_str())?;
+    text.push_str("`")
+}
+
+/// Adds a request to a text: its label, and who asked.
+pub fn push_asked(text: &mut String, asked: &Asked) -> Result<(), AllocError> {
+    push_label(text, &asked.label)?;
+    text.push_str(" of ")?;
+    push_name(text, &asked.future.by)
+}
+
+impl Told<'_> {
+    fn nodes(&self) -> &[Node] {
+        self.run.end.code.nodes()
+    }
+
+    fn activity(&self, number: usize) -> Option<&ActivityReport> {
+        self.run.end.outcome.activities.get(number)
+    }
+
+    /// Adds the name of an activity, by its number.
+    pub fn push_one(&self, text: &mut String, number: usize) -> Result<(), AllocError> {
+        match self.activity(number) {
+            Some(activity) => push_name(text, &activity.name),
+            None => Ok(()),
+        }
+    }
+
+    // The node at which an activity stands, by numbers.
+    fn node_number(&self, number: usize) -> Option<usize> {
+        let state = self.run.end.state(number)?;
+        node_of(self.nodes(), state)
+    }
+
+    /// An activity stands at the `serve` that every activity begins with that has no method of its own
+    /// to begin with.
+    pub fn is_idle(&self, number: usize) -> bool {
+        self.node_number(number) == Some(SERVE_NUMBER)
+    }
+
+    // Where it stands in the text.
+    fn push_at(&self, text: &mut String, number: usize) -> Result<(), AllocError> {
+        let Some(node) = self.node_number(number) else {
+            return Ok(());
+        };
+        if node <= EMPTY_NUMBER {
+            return Ok(());
+        }
+        match byte_of(self.nodes(), node) {
+            Some(at) => {
+                text.push_str(" at ")?;
+                push_place(text, self.file, self.bytes, at)
+            }
+            None => Ok(()),
+        }
+    }
+
+    // Which request it serves.
+    fn push_service(&self, text: &mut String, activity: &ActivityReport) -> Result<(), AllocError> {
+        let Some(book) = self.run.books.book(&activity.name) else {
+            return Ok(());
+        };
+        match book.serving.last() {
+            Some(asked) => {
+                text.push_str(", serving ")?;
+                push_asked(text, asked)
+            }
+            None => Ok(()),
+        }
+    }
+
+    /// Adds a whole line on an activity: who, where in the text, in which service, and what it does.
+    pub fn push_line(&self, text: &mut String, number: usize) -> Result<(), AllocError> {
+        let Some(activity) = self.activity(number) else {
+            return Ok(());
+        };
+        text.push_str("  ")?;
+        push_name(text, &activity.name)?;
+        self.push_at(text, number)?;
+        self.push_service(text, activity)?;
+        if matches!(activity.status, Status::Running) {
+            return Ok(());
+        }
+        text.push_str(": ")?;
+        self.push_deed(text, number, activity)
+    }
+
+    // What it does.
+    fn push_deed(
+        &self,
+        text: &mut String,
+        number: usize,
+        activity: &ActivityReport,
+    ) -> Result<(), AllocError> {
+        match &activity.status {
+            Status::Done => text.push_str("has ended"),
+            Status::Serving => self.push_standing(text, number, activity),
+            Status::Running => text.push_str("can go on"),
+            Status::Awaits(future) => self.push_awaited(text, future),
+            Status::Faulted(fault) => self.push_fault(text, number, *fault),
+        }
+    }
+
+    // The request whose answer is awaited.
+    fn push_awaited(&self, text: &mut String, future: &FutureName) -> Result<(), AllocError> {
+        match self.run.receipts.target(future) {
+            Some(target) => {
+                text.push_str("waits for ")?;
+                push_name(text, &target.to)?;
+                text.push_str(" to answer ")?;
+                push_label(text, &target.label)
+            }
+            None => text.push_str("waits for an answer"),
+        }
+    }
+
+    // The `serve` at which it stands, and what it answered before.
+    fn push_standing(
+        &self,
+        text: &mut String,
+        number: usize,
+        activity: &ActivityReport,
+    ) -> Result<(), AllocError> {
+        text.push_str("waits for a request")?;
+        self.push_served(text, number)?;
+        let Some(book) = self.run.books.book(&activity.name) else {
+            return Ok(());
+        };
+        match &book.answered {
+            Some(asked) => {
+                text.push_str("; it answered ")?;
+                push_asked(text, asked)?;
+                text.push_str(" last")
+            }
+            None => Ok(()),
+        }
+    }
+
+    // The labels of a `serve`.
+    fn push_served(&self, text: &mut String, number: usize) -> Result<(), AllocError> {
+        let Some(number) = self.node_number(number) else {
+            return Ok(());
+        };
+        let Some(node) = node_at(self.nodes(), number) else {
+            return Ok(());
+        };
+        match &node.kind {
+            Kind::Serve(labels) => {
+                text.push_str(", `serve(")?;
+                push_labels(text, labels)?;
+                text.push_str(")`")
+            }
+            _ => Ok(()),
+        }
+    }
+
+    // The fault, and the operands of its node.
+    fn push_fault(&self, text: &mut String, number: usize, fault: Fault) -> Result<(), AllocError> {
+        text.push_str(fault_text(fault))?;
+        let Some(state) = self.run.end.state(number) else {
+            return Ok(());
+        };
+        let nodes = self.nodes();
+        let Some(at) = node_of(nodes, state) else {
+            return self.push_call(text, state);
+        };
+        match node_at(nodes, at) {
+            Some(node) => push_operands(text, Stopped { nodes, state, node }),
+            None => Ok(()),
+        }
+    }
+
+    // The call that a service began with.
+    fn push_call(&self, text: &mut String, state: &EndState) -> Result<(), AllocError> {
+        text.push_str(" (")?;
+        push_label(text, &state.machine.asked)?;
+        text.push_str(")")?;
+        match serve_of(state) {
+            Some(node) => self.push_serve(text, node),
+            None => Ok(()),
+        }
+    }
+    // Where the `serve` of a service stands.
+    fn push_serve(&self, text: &mut String, node: usize) -> Result<(), AllocError> {
+        if node <= EMPTY_NUMBER {
+            return Ok(());
+        }
+        match byte_of(self.nodes(), node) {
+            Some(at) => {
+                text.push_str(", served at ")?;
+                push_place(text, self.file, self.bytes, at)
+            }
+            None => Ok(()),
+        }
+    }
+}

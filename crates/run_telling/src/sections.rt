@@ -1,0 +1,264 @@
+//! The sections of what is told. Each tells its first lines, and how many more there are.
+
+use crate::counts::one_more;
+use crate::lines::{Told, push_asked};
+use asp_model::{ActivityReport, Label, Status};
+use code_table::{Kind, MethodCode, Node};
+use state_lines::push_name;
+use std::alloc::{AllocError, Global};
+use wait_circles::{Circle, Why};
+
+// So many lines of a section are told.
+const MOST_LINES: u64 = 20;
+
+/// The section that tells of an activity.
+#[derive(Clone, Copy, PartialEq, Eq)]
+pub enum Section {
+    Faulted,
+    /// It waits, and others for it, in a circle.
+    Circle,
+    Waiting,
+    Running,
+    /// It is at a `serve` of its own, or in the middle of a service.
+    Serving,
+    Idle,
+    Ended,
+}
+
+fn title_of(section: Section) -> &'static str {
+    match section {
+        Section::Faulted => "stopped at a fault",
+        Section::Circle => "in a circle",
+        Section::Waiting => "waiting for an answer",
+        Section::Running => "can go on",
+        Section::Serving => "waiting for a request",
+        Section::Idle => "idle",
+        Section::Ended => "ended",
+    }
+}
+
+// How many more lines there would be.
+fn push_more(text: &mut String, count: u64) -> Result<(), AllocError> {
+    if count > MOST_LINES {
+        let more = count.saturating_sub(MOST_LINES);
+        write!(text, "  and {more} more\n")?;
+    }
+    Ok(())
+}
+
+// The title of a section before its first line.
+fn push_title(text: &mut String, count: u64, title: &str) -> Result<(), AllocError> {
+    if count == 0 {
+        text.push_str(title)?;
+        text.push_str(":\n")?;
+    }
+    Ok(())
+}
+
+// Those of a circle are told there.
+fn mark(sections: &mut [Section], circle: &Circle) {
+    mark_one(sections, circle.first);
+    for number in &circle.others {
+        mark_one(sections, *number);
+    }
+}
+
+fn mark_one(sections: &mut [Section], number: usize) {
+    if number < sections.len() {
+        sections[number] = Section::Circle;
+    }
+}
+
+impl Told<'_> {
+    fn section_of(&self, number: usize, activity: &ActivityReport) -> Section {
+        match &activity.status {
+            Status::Faulted(_) => Section::Faulted,
+            Status::Awaits(_) => Section::Waiting,
+            Status::Running => Section::Running,
+            Status::Done => Section::Ended,
+            Status::Serving => {
+                if self.is_idle(number) {
+                    Section::Idle
+                } else {
+                    Section::Serving
+                }
+            }
+        }
+    }
+
+    /// The section of each activity.
+    pub fn sections(&self, alloc: Global) -> Result<Vec<Section>, AllocError> {
+        let mut sections = Vec::new(alloc);
+        let mut number: usize = 0;
+        for activity in &self.run.end.outcome.activities {
+            sections.push(self.section_of(number, activity))?;
+            number = number.saturating_add(1);
+        }
+        for circle in &self.run.ways.circles {
+            mark(&mut sections, circle);
+        }
+        Ok(sections)
+    }
+
+    /// Adds a section.
+    pub fn push_section(
+        &self,
+        text: &mut String,
+        sections: &[Section],
+        section: Section,
+    ) -> Result<(), AllocError> {
+        let mut count = 0;
+        for number in 0..sections.len() {
+            if sections[number] != section {
+                continue;
+            }
+            push_title(text, count, title_of(section))?;
+            if count < MOST_LINES {
+                self.push_line(text, number)?;
+                self.push_end(text, number)?;
+                text.push_str("\n")?;
+            }
+            count = one_more(count);
+        }
+        push_more(text, count)
+    }
+
+    /// Adds the circles: in each, every activity waits for the next.
+    pub fn push_circles(&self, text: &mut String) -> Result<(), AllocError> {
+        let mut count = 0;
+        for circle in &self.run.ways.circles {
+            if count < MOST_LINES {
+                self.push_circle(text, circle)?;
+            }
+            count = one_more(count);
+        }
+        push_more(text, count)
+    }
+
+    fn push_circle(&self, text: &mut String, circle: &Circle) -> Result<(), AllocError> {
+        let size = circle.others.len().saturating_add(1);
+        write!(
+            text,
+            "circle of {size}, each waits for the next, and the last for the first:\n"
+        )?;
+        self.push_line(text, circle.first)?;
+        text.push_str("\n")?;
+        let mut count = 1;
+        for number in &circle.others {
+            if count < MOST_LINES {
+                self.push_line(text, *number)?;
+                text.push_str("\n")?;
+            }
+            count = one_more(count);
+        }
+        push_more(text, count)
+    }
+
+    // Where the waits of one lead who is in no circle.
+    fn push_end(&self, text: &mut String, number: usize) -> Result<(), AllocError> {
+        match self.run.why(number) {
+            Some(Why::Round(circle)) => match self.run.ways.circles.get(circle) {
+                Some(circle) => self.push_last(text, circle.first, " is in a circle"),
+                None => Ok(()),
+            },
+            Some(Why::Ended(last)) if last != number => {
+                self.push_last(text, last, " has ended, and serves no more")
+            }
+            Some(Why::Faulted(last)) if last != number => {
+                self.push_last(text, last, " stopped at a fault")
+            }
+            Some(Why::Unserved(last)) if last != number => {
+                self.push_last(text, last, " waits for another request")
+            }
+            Some(Why::Values(last)) if last != number => {
+                self.push_last(text, last, " waits for a future that leads back to itself")
+            }
+            Some(Why::Values(_)) => text.push_str(
+                "; the answer is there, and is a future that leads back to itself",
+            ),
+            Some(_) | None => Ok(()),
+        }
+    }
+
+    fn push_last(&self, text: &mut String, last: usize, is: &str) -> Result<(), AllocError> {
+        text.push_str("; ")?;
+        self.push_one(text, last)?;
+        text.push_str(is)
+    }
+
+    /// Adds the requests that nobody serves.
+    pub fn push_pending(&self, text: &mut String, title: &str) -> Result<(), AllocError> {
+        let mut count = 0;
+        for activity in &self.run.end.outcome.activities {
+            count = self.push_pending_of(text, title, activity, count)?;
+        }
+        push_more(text, count)
+    }
+
+    // Adds those of one activity behind so many others, and answers how many there are with them.
+    fn push_pending_of(
+        &self,
+        text: &mut String,
+        title: &str,
+        activity: &ActivityReport,
+        count: u64,
+    ) -> Result<u64, AllocError> {
+        let Some(book) = self.run.books.book(&activity.name) else {
+            return Ok(count);
+        };
+        let mut count = count;
+        for asked in book.pending.iter() {
+            push_title(text, count, title)?;
+            if count < MOST_LINES {
+                text.push_str("  ")?;
+                push_name(text, &activity.name)?;
+                text.push_str(" has ")?;
+                push_asked(text, asked)?;
+                self.push_unknown(text, &asked.label)?;
+                text.push_str("\n")?;
+            }
+            count = one_more(count);
+        }
+        Ok(count)
+    }
+
+    // That no object has a method of this name.
+    fn push_unknown(&self, text: &mut String, label: &Label) -> Result<(), AllocError> {
+        if has_method(self.run.end.code.nodes(), label) {
+            return Ok(());
+        }
+        text.push_str("; no object has a method of that name")
+    }
+}
+
+// Some object has a method of this name.
+fn has_method(nodes: &[Node], label: &Label) -> bool {
+    for node in nodes {
+        if let Kind::Make(class) = &node.kind {
+            if is_among(&class.methods, label) {
+                return true;
+            }
+        }
+    }
+    false
+}
+
+fn is_among(methods: &[MethodCode], label: &Label) -> bool {
+    for method in methods {
+        if method.label.text.as_str() == label.text.as_str() {
+            return true;
+        }
+    }
+    false
+}
+
+/// How many activities a section has.
+pub fn count_of(sections: &[Section], section: Section) -> u64 {
+    let mut count = 0;
+    for one in sections {
+        if *one == section {
+            count = one_more(count);
+        }
+    }
+    count
+}

@@ -1,0 +1,51 @@
+//! The whole text.
+
+use crate::counts::counts_of;
+use crate::heading::push_heading;
+use crate::lines::Told;
+use crate::sections::{Section, count_of};
+use asp_model::Verdict;
+use run_waits::Explained;
+use std::alloc::{AllocError, Global};
+
+/// Tells why a run of the program in a file stands as it does.
+pub fn tell_run(
+    alloc: Global,
+    file: &str,
+    bytes: &[u8],
+    run: &Explained,
+) -> Result<String, AllocError> {
+    let told = Told { file, bytes, run };
+    let counts = counts_of(run);
+    let verdict = run.end.outcome.verdict;
+    let mut text = String::new(alloc);
+    push_heading(&mut text, verdict, counts)?;
+    let sections = told.sections(alloc)?;
+    if matches!(verdict, Verdict::End) {
+        told.push_pending(&mut text, "never served")?;
+    }
+    told.push_section(&mut text, &sections, Section::Faulted)?;
+    told.push_circles(&mut text)?;
+    told.push_section(&mut text, &sections, Section::Waiting)?;
+    told.push_section(&mut text, &sections, Section::Running)?;
+    told.push_section(&mut text, &sections, Section::Serving)?;
+    if !matches!(verdict, Verdict::End) {
+        told.push_pending(&mut text, pending_title(verdict))?;
+    }
+    push_rest(&mut text, &sections)?;
+    Ok(text)
+}
+
+fn pending_title(verdict: Verdict) -> &'static str {
+    match verdict {
+        Verdict::Budget => "not served yet",
+        Verdict::End | Verdict::Blocked => "never served",
+    }
+}
+
+// How many have nothing to do.
+fn push_rest(text: &mut String, sections: &[Section]) -> Result<(), AllocError> {
+    let idle = count_of(sections, Section::Idle);
+    let ended = count_of(sections, Section::Ended);
+    write!(text, "idle: {idle}, ended: {ended}\n")
+}
