@@ -3,28 +3,32 @@ use Rattle.std.proofs.Common.{◌≡◌, ◌⊎◌, ℕ, List, Result, Ok, Err, 
 use Rattle.asp_explain.specs.declared.answer.Answer.{Answer}
 use Rattle.asp_explain.specs.declared.stop.Stop.{Stop}
 use Rattle.asp_explain.specs.declared.stop.Stop.TheVariants as stops
-use Rattle.asp_explain.specs.Words.{StopsFor, file_of}
+use Rattle.asp_explain.specs.Words.{TaskShape, task_of}
+use Rattle.asp_explain.specs.Shapes.{StopsFor}
 use Rattle.asp_explain.specs.Refusals.{NoMemory, Refusal, refusal_of}
 use Rattle.asp_explain.specs.Seen.{Call, IsUnasked, IsUntouched, Outside}
-use Rattle.asp_explain.specs.Endings.{Answers, Ends, IsCause, OfFile, OfMemory, OfNamed, OfWords, Refused, StopsAt, Tells, Unheard, Unwritten, Written}
+use Rattle.asp_explain.specs.Endings.{Answers, Ends, IsCause, OfMemory, OfNamed, OfTask, OfWords, Refused, StopsTask, Tells, Unheard, Unwritten, Written}
 use Rattle.asp_explain.specs.Written.{IsToldOf, IsWritten}
 
 module _ (words : List (List ℕ)) (o : Outside) where
-  -- what is told of the file that the words name
-  pub answers_file : (file : List ℕ) (r : Result Answer Stop) → file_of words ≡ Some file → IfOk r (λ a. Tells o file a.text.items a.status) → IfOk r (λ a. Answers words o a.text.items a.status)
-  answers_file file (Ok a) n h = OfFile file n h
-  answers_file file (Err s) n h = tt
+  -- what is told for the words' task
+  pub answers_task : (task : TaskShape) (r : Result Answer Stop) → task_of words ≡ Some task → IfOk r (λ a. Tells o task a.text.items a.status) → IfOk r (λ a. Answers words o a.text.items a.status)
+  answers_task task (Ok a) n h = OfTask task n h
+  answers_task task (Err s) n h = tt
 
-  -- why nothing is told of it
-  pub stops_file : (file : List ℕ) (r : Result Answer Stop) → file_of words ≡ Some file → IfErr r (λ s. StopsAt o file (refusal_of s)) → IfErr r (λ s. IsCause words o (refusal_of s))
-  stops_file file (Ok a) n h = tt
-  stops_file file (Err s) n h = OfNamed file n h
+  -- why nothing is told for it
+  pub stops_task : (task : TaskShape) (r : Result Answer Stop) → task_of words ≡ Some task → IfErr r (λ s. StopsTask o task (refusal_of s)) → IfErr r (λ s. IsCause words o (refusal_of s))
+  stops_task task (Ok a) n h = tt
+  stops_task task (Err s) n h = OfNamed task n h
 
   -- the words are refused
   pub stops_words : (s : Stop) → IsUnasked o → StopsFor words s → IsCause words o (refusal_of s)
   stops_words stops.Usage u h = OfWords refl h u
   stops_words (stops.Unread name) u h = absurd h
   stops_words stops.TooLong u h = absurd h
+  stops_words (stops.LongReport which) u h = absurd h
+  stops_words (stops.BadLine which line) u h = absurd h
+  stops_words (stops.Diverged which activity) u h = absurd h
   stops_words stops.Memory u h = OfMemory refl
 
 ends_refused : (c : Call) (status : ℕ) (r : Refusal) → IsCause c.words c.outside r → IsUntouched c.out → IsToldOf r c.err status → Ends c status

@@ -1,44 +1,75 @@
 -- How a call ends: read `Ends` first.
-use Rattle.std.specs.Prelude.{◌≡◌, ◌⊎◌, ℕ, ◌<◌, ◌≤◌, List, length, Option, Some, false, Ok, Err}
-use Rattle.asp_model.specs.declared.limits.TheConstants.{MOST_PROGRAM_BYTES}
-use Rattle.asp_edge.specs.declared.edge.ReadError.TheVariants as read
-use Rattle.explain.specs.declared.findings.Fault.{Fault}
-use Rattle.explain.specs.Told.{IsTold}
-use Rattle.asp_explain.specs.Words.{NamesNone, file_of, is_taken}
-use Rattle.asp_explain.specs.Refusals.{Refusal, Usage, Unread, TooLong, NoMemory}
-use Rattle.asp_explain.specs.Refusals.{message_of, status_of, status_of_refusal, write_message}
-use Rattle.asp_explain.specs.Seen.{AskedOnce, Call, Fails, IsUnasked, IsUntouched, Outside, Takes, TakesFront}
+use Rattle.std.specs.Prelude.{◌≡◌, ◌⊎◌, ℕ, List, Some, false}
+use Rattle.asp_model.specs.Marked.{Marked, plain}
+use Rattle.asp_model.specs.Replay.{CountsShape, Fits, replay}
+use Rattle.asp_model.specs.Step.{ListsShape}
+use Rattle.asp_model.specs.Term.{Tree}
+use Rattle.replay_one.specs.Notes.{replay_notes}
+use Rattle.run_waits.specs.declared.explained.Explained.{Explained}
+use Rattle.run_waits.specs.Books.{KeepsBooks}
+use Rattle.run_waits.specs.Explains.{IsExplained}
+use Rattle.asp_explain.specs.declared.stop.Which.TheVariants.{First}
+use Rattle.asp_explain.specs.Words.{AskNothing, File, Run, TaskShape, is_taken, task_of}
+use Rattle.asp_explain.specs.Refusals.{NoMemory, Refusal, Usage, message_of, status_of_refusal, write_message}
+use Rattle.asp_explain.specs.Seen.{Call, IsUnasked, IsUntouched, Outside, Takes, TakesFront}
+use Rattle.asp_explain.specs.Given.{AreGiven, StopsAtFile, StopsLoading, StopsReplay, TellsFault, TellsFile}
 
--- the text tells the first fault of the bytes of a file, or that they have none, and the status says which
-pub record IsToldWith (file bytes text : List ℕ) (status : ℕ) : Type 0 where
-  pub fault : Option Fault
-  pub told : IsTold file bytes fault text
-  pub status_is : status ≡ status_of fault
+-- Why a run stands as it does
 
--- it tells those of the bytes that the source handed out under the file's name
-pub record Tells (o : Outside) (file text : List ℕ) (status : ℕ) : Type 0 where
-  pub bytes : List ℕ
-  pub given : AskedOnce o file (Ok bytes)
-  pub within : length bytes ≤ MOST_PROGRAM_BYTES
-  pub told : IsToldWith file bytes text status
+-- the logs and counts fit the program, and what is told is read from the end of its replay
+pub record IsRunTold (program : Tree) (lists : ListsShape) (counts : CountsShape) (status : ℕ) : Type 0 where
+  pub fits : Fits program lists counts
+  pub explained : Explained
+  pub is : IsExplained (replay program lists counts) explained
+  pub books : KeepsBooks explained.books (replay_notes program lists counts)
+  pub status_is : status ≡ 0
 
--- what is written where nothing is refused: what there is to tell of the file that the words name, or the help
+-- those of the report that the source handed out, of the program that it handed out
+pub record TellsRun (o : Outside) (file report : List ℕ) (status : ℕ) : Type 0 where
+  pub program : Marked
+  pub lists : ListsShape
+  pub counts : CountsShape
+  pub given : AreGiven o file report program lists counts
+  pub told : IsRunTold (plain program) lists counts status
+
+-- or the program has a fault
+abbrev pub TellsOfRun : Outside → (file report text : List ℕ) → ℕ → Type 0
+TellsOfRun o file report text status = TellsFault o file text status ⊎ TellsRun o file report status
+
+-- the replay of a program and a report stops
+pub record StopsThere (o : Outside) (file report : List ℕ) (r : Refusal) : Type 0 where
+  pub program : Marked
+  pub lists : ListsShape
+  pub counts : CountsShape
+  pub given : AreGiven o file report program lists counts
+  pub stops : StopsReplay (plain program) lists counts First r
+
+-- why nothing is told of a run
+abbrev pub StopsRun : Outside → (file report : List ℕ) → Refusal → Type 0
+StopsRun o file report r = StopsLoading o file report r ⊎ StopsThere o file report r
+
+-- A call
+
+-- what is told for a task
+abbrev pub Tells : Outside → TaskShape → List ℕ → ℕ → Type 0
+Tells o (File file) text status = TellsFile o file text status
+Tells o (Run file report) text status = TellsOfRun o file report text status
+
+-- why nothing is told for it
+abbrev pub StopsTask : Outside → TaskShape → Refusal → Type 0
+StopsTask o (File file) r = StopsAtFile o file r
+StopsTask o (Run file report) r = StopsRun o file report r
+
+-- what is written where nothing is refused: what the words' task asks for, or the help
 pub data Answers (words : List (List ℕ)) (o : Outside) (text : List ℕ) (status : ℕ) : Type 0 where
-  OfFile : (file : List ℕ) → file_of words ≡ Some file → Tells o file text status → Answers words o text status
+  OfTask : (task : TaskShape) → task_of words ≡ Some task → Tells o task text status → Answers words o text status
   OfHelp : is_taken words ≡ false → IsUnasked o → status ≡ 0 → Answers words o text status
 
--- why nothing is told of a file
-abbrev pub StopsAt : Outside → List ℕ → Refusal → Type 0
-StopsAt o file Usage = ⊥
-StopsAt o file (Unread name) = (name ≡ file) × AskedOnce o file (Err read.Failed) × Fails o
-StopsAt o file TooLong = (taken : ℕ) × AskedOnce o file (Err (read.TooLong taken)) × (MOST_PROGRAM_BYTES < taken)
-StopsAt o file NoMemory = Unit {0}
-
--- the cause of a refusal: the words name no file, memory ran out, or it is one of the file that they name
+-- the cause of a refusal: the words ask for nothing, memory ran out, or it is one of their task
 pub data IsCause (words : List (List ℕ)) (o : Outside) (r : Refusal) : Type 0 where
-  OfWords : r ≡ Usage → NamesNone words → IsUnasked o → IsCause words o r
+  OfWords : r ≡ Usage → AskNothing words → IsUnasked o → IsCause words o r
   OfMemory : r ≡ NoMemory → IsCause words o r
-  OfNamed : (file : List ℕ) → file_of words ≡ Some file → StopsAt o file r → IsCause words o r
+  OfNamed : (task : TaskShape) → task_of words ≡ Some task → StopsTask o task r → IsCause words o r
 
 -- how the call ends: the status, and what `out` and `err` took
 pub data Ends (c : Call) (status : ℕ) : Type 0 where

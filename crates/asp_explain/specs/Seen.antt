@@ -1,12 +1,11 @@
 -- What a call saw of the outside: what its source and its sinks tell, before it and behind it.
-use Rattle.std.specs.Prelude.{◌≡◌, ℕ, List, [], ◌∷◌, ◌++◌, map, Result, string_bytes}
+use Rattle.std.specs.Prelude.{◌≡◌, ℕ, List, ◌++◌, map, string_bytes}
 use Rattle.std.specs.Borrow.{MutBor}
 use Rattle.std.specs.declared.alloc.Global.{Global}
 use Rattle.std.specs.declared.string.String.{String}
 use denote.Triple.Both.{Both}
-use Rattle.asp_edge.specs.Told.{SourceTells, SinkTells}
+use Rattle.asp_edge.specs.Told.{Asks, SourceTells, SinkTells}
 use Rattle.asp_edge.specs.Causes.{Rose, Took, TookFront}
-use Rattle.asp_edge.specs.declared.edge.ReadError.{ReadError}
 
 -- what a source tells, before the call and behind it
 pub record Outside : Type 0 where
@@ -55,9 +54,9 @@ saw source_told out_told err_told words source out err = record {
   err = sight err_told err;
 }
 
--- in the call the source was asked for this name alone, once, with this answer
-abbrev pub AskedOnce : Outside → List ℕ → Result (List ℕ) ReadError → Type 0
-AskedOnce o name answer = o.now.asked ≡ o.before.asked ++ (name, answer) ∷ []
+-- in the call the source was asked for these names, with these answers, and for nothing else
+abbrev pub Asked : Outside → Asks → Type 0
+Asked o asks = o.now.asked ≡ o.before.asked ++ asks
 
 -- it was asked for nothing
 abbrev pub IsUnasked : Outside → Type 0

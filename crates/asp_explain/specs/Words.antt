@@ -1,18 +1,16 @@
--- The command in the terms of clap, and the file that it finds in words.
+-- The command in the terms of clap, and what words ask for.
 use Rattle.std.specs.Prelude.{◌≡◌, ◌⊎◌, List, Option, Some, None, Bool, true, false, codes}
 use Rattle.clap.specs.Walk.{Row, Rule, Text, first_of}
 use Rattle.clap.specs.Simple.{App, matches_of, new_app, new_rule, on_top, with_rule}
 use Rattle.clap.specs.Takes.{takes}
-use Rattle.asp_explain.specs.declared.stop.Stop.{Stop}
-use Rattle.asp_explain.specs.declared.stop.Stop.TheVariants as stops
-use Rattle.asp_explain.specs.declared.words.Wanted.{Wanted}
-use Rattle.asp_explain.specs.declared.words.Wanted.TheVariants.{File, Help}
-use Rattle.asp_explain.specs.declared.words.Refused.{Refused}
-use Rattle.asp_explain.specs.declared.words.Refused.TheVariants as refused
 
 -- FILE, which has to be there
 abbrev pub file_rule : Rule
 file_rule = record (new_rule (codes "FILE")) { required = true }
+
+-- REPORT, which may be left out
+abbrev pub report_rule : Rule
+report_rule = new_rule (codes "REPORT")
 
 abbrev pub named_command : App
 named_command = new_app (codes "asp-explain")
@@ -21,8 +19,11 @@ named_command = new_app (codes "asp-explain")
 abbrev pub bare_command : App
 bare_command = on_top (λ s. record s { no_binary_name = true; disable_version_flag = true }) named_command
 
+abbrev pub with_files : App → App
+with_files a = with_rule (with_rule a file_rule) report_rule
+
 abbrev pub command : App
-command = with_rule bare_command file_rule
+command = with_files bare_command
 
 -- the command takes the words
 unfoldable pub is_taken : List Text → Bool
@@ -32,31 +33,37 @@ is_taken words = takes command words
 unfoldable pub rows_given : List Text → List Row
 rows_given words = matches_of command words
 
-abbrev pub file_in : List Row → Option Text
-file_in rows = first_of (codes "FILE") rows
+-- the texts of the command's words
+pub record TextsShape : Type 0 where
+  pub file : Option Text
+  pub report : Option Text
 
--- the file that the words name
-abbrev pub file_of : List Text → Option Text
-file_of words = file_in (rows_given words)
+abbrev pub texts_in : List Row → TextsShape
+texts_in rows = record {
+  file = first_of (codes "FILE") rows;
+  report = first_of (codes "REPORT") rows;
+}
 
--- the words name this file, or are none that name one and a text is the help
-abbrev pub IsWanted : List Text → Wanted → Type 0
-IsWanted words (File name) = file_of words ≡ Some name.now
-IsWanted words (Help text) = is_taken words ≡ false
+-- What is asked for
 
--- the words name no file
-abbrev pub NamesNone : List Text → Type 0
-NamesNone words = (is_taken words ≡ false) ⊎ (file_of words ≡ None)
+pub data TaskShape : Type 0 where
+  -- what is wrong with the program in a file
+  File : (file : Text) → TaskShape
+  -- why the run of it stands as it does that a report shows
+  Run : (file report : Text) → TaskShape
 
--- the words name no file, or memory ran out
-abbrev pub StopsFor : List Text → Stop → Type 0
-StopsFor words stops.Usage = NamesNone words
-StopsFor words (stops.Unread name) = ⊥
-StopsFor words stops.TooLong = ⊥
-StopsFor words stops.Memory = Unit {0}
+abbrev pub task_by : Option Text → Option Text → Option TaskShape
+task_by None report = None
+task_by (Some file) None = Some (File file)
+task_by (Some file) (Some report) = Some (Run file report)
 
--- the words are refused for what they are, and not for want of memory
-abbrev pub IsRefusedFor : List Text → Refused → Type 0
-IsRefusedFor words refused.Memory = Unit {0}
-IsRefusedFor words refused.Usage = is_taken words ≡ false
-IsRefusedFor words (refused.Help text) = is_taken words ≡ false
+abbrev pub task_in : TextsShape → Option TaskShape
+task_in t = task_by t.file t.report
+
+-- what the command finds in the words is a task
+unfoldable pub task_of : List Text → Option TaskShape
+task_of words = task_in (texts_in (rows_given words))
+
+-- the words ask for no task
+abbrev pub AskNothing : List Text → Type 0
+AskNothing words = (is_taken words ≡ false) ⊎ (task_of words ≡ None)

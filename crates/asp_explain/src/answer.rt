@@ -3,12 +3,15 @@
 ghost use Rattle.std.specs.Prelude.{◌≡◌, IfOk, IfErr};
 ghost use Rattle.asp_explain.specs.Refusals.{refusal_of, status_of as status_of_fault};
 ghost use Rattle.asp_explain.specs.Seen.{bytes_of, outside};
-ghost use Rattle.asp_explain.specs.Endings.{Answers, IsCause, IsToldWith, StopsAt, Tells};
+ghost use Rattle.asp_explain.specs.Shapes.{task_shape};
+ghost use Rattle.asp_explain.specs.Given.{IsToldWith, StopsAtFile, TellsFile};
+ghost use Rattle.asp_explain.specs.Endings.{Answers, IsCause, StopsTask, Tells};
 
+use crate::loading::bytes_in;
+use crate::of_run::of_run;
 use crate::stop::Stop;
-use crate::words::{Wanted, read_words};
-use asp_edge::{ReadError, Source};
-use asp_model::MOST_PROGRAM_BYTES;
+use crate::task::{Task, Wanted, read_words};
+use asp_edge::Source;
 use explain::{Fault, tell};
 use std::alloc::{AllocError, Global};
 
@@ -31,28 +34,37 @@ pub fn answer_of<'a, S: Source>(
         (outside S.told source) (refusal_of s)) }
 {
     match read_words(alloc, words) {
-        Ok(Wanted::File(file)) => of_file(alloc, file, source),
+        Ok(Wanted::Told(task)) => of_task(alloc, task, source),
         Ok(Wanted::Help(text)) => Ok(of_help(alloc, &text)?),
         Err(stop) => Err(stop),
     }
 }
 
-fn of_file<'a, S: Source>(alloc: Global, file: &'a str, source: &mut S) -> Result<Answer, Stop<'a>>
-    ensures answer { IfOk result
-        (λ a. Tells (outside S.told source) file.entry.now a.text.items a.status) }
-    ensures stop { IfErr result
-        (λ s. StopsAt (outside S.told source) file.entry.now (refusal_of s)) }
+// What a task asks to be told.
+fn of_task<'a, S: Source>(alloc: Global, task: Task<'a>, source: &mut S) -> Result<Answer, Stop<'a>>
+    ensures answer { IfOk result (λ a. Tells (outside S.told source)
+        (task_shape task.entry) a.text.items a.status) }
+    ensures stop { IfErr result (λ s. StopsTask (outside S.told source)
+        (task_shape task.entry) (refusal_of s)) }
 {
-    match source.read(file, MOST_PROGRAM_BYTES) {
-        Ok(bytes) => Ok(told(alloc, file, &bytes)?),
-        Err(ReadError::Failed) => Err(Stop::Unread(file)),
-        Err(ReadError::TooLong { taken: _ }) => Err(Stop::TooLong),
-        Err(ReadError::Memory) => Err(Stop::Memory),
+    match task {
+        Task::File { file } => of_file(alloc, file, source),
+        Task::Run { file, report } => of_run(alloc, file, report, source),
     }
 }
 
-// What there is to tell of these bytes.
-fn told(alloc: Global, file: &str, bytes: &[u8]) -> Result<Answer, AllocError>
+fn of_file<'a, S: Source>(alloc: Global, file: &'a str, source: &mut S) -> Result<Answer, Stop<'a>>
+    ensures answer { IfOk result
+        (λ a. TellsFile (outside S.told source) file.entry.now a.text.items a.status) }
+    ensures stop { IfErr result
+        (λ s. StopsAtFile (outside S.told source) file.entry.now (refusal_of s)) }
+{
+    let bytes = bytes_in(file, source)?;
+    Ok(told(alloc, file, &bytes)?)
+}
+
+/// What there is to tell of these bytes.
+pub fn told(alloc: Global, file: &str, bytes: &[u8]) -> Result<Answer, AllocError>
     ensures { IfOk result (λ a. IsToldWith file.now bytes.now a.text.items a.status) }
 {
     let told = tell(alloc, file, bytes)?;
@@ -68,6 +80,16 @@ fn status_of(fault: &Option<Fault>) -> u8
     match fault {
         Some(_) => 3,
         None => 0,
+    }
+}
+
+/// A text that tells something.
+pub fn answer_with(text: String) -> Answer
+    ensures status { result.status ≡ 0 }
+{
+    Answer {
+        status: 0,
+        text: text.into_bytes(),
     }
 }
 

@@ -2,9 +2,12 @@
 #![tactic(auto)]
 
 mod answer;
+mod command;
+mod loading;
+mod of_run;
 mod stop;
+mod task;
 mod top;
-mod words;
 mod writing;
 
 use crate::top::run_explain;

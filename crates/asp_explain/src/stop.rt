@@ -1,9 +1,22 @@
 //! Why there is nothing to tell.
 
 ghost use Rattle.std.specs.Prelude.{◌≡◌};
+ghost use Rattle.asp_explain.specs.Refusals.{log_stop, replay_stop};
 ghost use Rattle.asp_explain.specs.declared.stop.Stop.TheVariants as stops;
 
+use asp_model::ActivityName;
+use replay_one::ReplayStop;
+use sender_log::LogError;
 use std::alloc::AllocError;
+
+/// Which of the reports.
+#[derive(Clone, Copy)]
+pub enum Which {
+    /// REPORT.
+    First,
+    /// That of `--other`.
+    Second,
+}
 
 /// Why there is nothing to tell.
 #[derive(Drop)]
@@ -14,7 +27,35 @@ pub enum Stop<'a> {
     Unread(&'a str),
     /// There are more bytes than a program may have.
     TooLong,
+    /// There are more bytes than a report may have.
+    LongReport(Which),
+    /// The line of this number is the first one of a report that cannot stand in its place.
+    BadLine(Which, u64),
+    /// The report does not fit the program, and this is the least activity that shows it.
+    Diverged(Which, ActivityName),
     Memory,
+}
+
+impl Stop<'_> {
+    /// What an error in one of the reports stops at.
+    pub fn of_log(which: Which, error: LogError) -> Self
+        ensures { result ≡ log_stop which error }
+    {
+        match error {
+            LogError::BadLine { line } => Stop::BadLine(which, line),
+            LogError::Memory => Stop::Memory,
+        }
+    }
+
+    /// What a stop of its replay stops at.
+    pub fn of_replay(which: Which, stop: ReplayStop) -> Self
+        ensures { result ≡ replay_stop which stop }
+    {
+        match stop {
+            ReplayStop::Diverged { activity } => Stop::Diverged(which, activity),
+            ReplayStop::Memory => Stop::Memory,
+        }
+    }
 }
 
 impl From<AllocError> for Stop<'_> {

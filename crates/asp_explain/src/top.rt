@@ -8,9 +8,9 @@ use crate::writing::{refuse, write_answer};
 use asp_edge::{Sink, Source};
 use std::alloc::Global;
 
-/// Tells what is wrong with the program in the file that the words name, by one write: its first
-/// fault, or its warnings and that it has no fault. Status 0 says that it has none, and 3 that it
-/// has one.
+/// Tells what the words ask for, by one write: what is wrong with the program in a file, or why the
+/// run stands as it does that a report of it shows. Status 0 says that the program has no fault, and
+/// 3 that it has one.
 pub fn run_explain<S: Source, O: Sink, E: Sink>(
     alloc: Global,
     words: &[String],

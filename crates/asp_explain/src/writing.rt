@@ -1,16 +1,18 @@
 //! What is written: messages, and a text that is ready.
 
-ghost use Rattle.std.specs.Prelude.{◌≡◌, ◌⊎◌, IfOk, string_bytes};
-ghost use Rattle.asp_explain.specs.Refusals.{NoMemory, Unread, message_of, refusal_of};
+ghost use Rattle.std.specs.Prelude.{◌≡◌, ◌⊎◌, IfErr, IfOk, string_bytes};
+ghost use Rattle.asp_explain.specs.Refusals.{NoMemory, Unread, bad_line, diverging_line, long_line, message_of, refusal_of, report_text as text_of_report};
 ghost use Rattle.asp_explain.specs.Seen.{sight};
 ghost use Rattle.asp_explain.specs.Written.{IsToldBy, IsToldOf, IsWritten};
 
 use crate::answer::Answer;
-use crate::stop::Stop;
+use crate::stop::{Stop, Which};
 use asp_edge::{Sink, WriteFailed};
+use asp_model::ActivityName;
+use state_lines::push_name;
 use std::alloc::{AllocError, Global};
 
-const USAGE: &[u8] = b"asp-explain: usage: asp-explain FILE\n";
+const USAGE: &[u8] = b"asp-explain: usage: asp-explain FILE [REPORT]\n";
 
 const TOO_LONG: &[u8] = b"asp-explain: program: longer than 1048576 bytes\n";
 
@@ -34,13 +36,44 @@ fn tell<E: Sink>(err: &mut E, message: &[u8], status: u8) -> u8
     }
 }
 
-// Tells that a file could not be read, or that there is no memory for the message.
-fn tell_unread<E: Sink>(alloc: Global, name: &str, err: &mut E) -> u8
-    ensures { IsToldOf (Unread name.now) (sight E.told err) result
-        ⊎ IsToldOf NoMemory (sight E.told err) result }
+// What messages call a report.
+fn report_text(which: Which) -> &'static str
+    ensures { result.now ≡ text_of_report which }
 {
-    match unread_message(alloc, name) {
-        Ok(text) => tell(err, text.as_bytes(), 6),
+    match which {
+        Which::First => "report",
+        Which::Second => "other",
+    }
+}
+
+fn long_message(alloc: Global, report: &str) -> Result<String, AllocError>
+    ensures { IfOk result (λ s. string_bytes s ≡ long_line report.now) }
+{
+    format!(in alloc; "asp-explain: {report}: longer than 16777216 bytes\n")
+}
+
+fn bad_line_message(alloc: Global, report: &str, line: u64) -> Result<String, AllocError>
+    ensures { IfOk result (λ s. string_bytes s ≡ bad_line report.now line) }
+{
+    format!(in alloc; "asp-explain: {report}: line {line}\n")
+}
+
+fn diverges_message(alloc: Global, report: &str, name: &ActivityName) -> Result<String, AllocError>
+    ensures { IfOk result (λ s. string_bytes s ≡ diverging_line report.now name.now) }
+{
+    let mut text = format!(in alloc; "asp-explain: {report}: ")?;
+    push_name(&mut text, name)?;
+    text.push_str(" diverges\n")?;
+    Ok(text)
+}
+
+// Writes a message, if it could be made.
+fn tell_made<E: Sink>(err: &mut E, message: Result<String, AllocError>, status: u8) -> u8
+    ensures made { IfOk message (λ s. IsToldBy (sight E.told err) (string_bytes s) status result) }
+    ensures no_memory { IfErr message (λ _. IsToldOf NoMemory (sight E.told err) result) }
+{
+    match message {
+        Ok(text) => tell(err, text.as_bytes(), status),
         Err(AllocError) => tell(err, NO_MEMORY, 8),
     }
 }
@@ -52,8 +85,20 @@ pub fn refuse<E: Sink>(alloc: Global, stop: &Stop<'_>, err: &mut E) -> u8
 {
     match stop {
         Stop::Usage => tell(err, USAGE, 2),
-        Stop::Unread(name) => tell_unread(alloc, name, err),
+        Stop::Unread(name) => tell_made(err, unread_message(alloc, name), 6),
         Stop::TooLong => tell(err, TOO_LONG, 3),
+        Stop::LongReport(which) => {
+            let message = long_message(alloc, report_text(*which));
+            tell_made(err, message, 9)
+        }
+        Stop::BadLine(which, line) => {
+            let message = bad_line_message(alloc, report_text(*which), *line);
+            tell_made(err, message, 9)
+        }
+        Stop::Diverged(which, activity) => {
+            let message = diverges_message(alloc, report_text(*which), activity);
+            tell_made(err, message, 9)
+        }
         Stop::Memory => tell(err, NO_MEMORY, 8),
     }
 }

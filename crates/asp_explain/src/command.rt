@@ -1,27 +1,25 @@
-//! The words, by `clap`: a file, or a wish for help.
+//! The command as `clap` reads it, and the texts that it finds in the words.
 
 ghost use Rattle.std.specs.Prelude.{◌≡◌, IfOk, IfErr, false, map, option_map, string_bytes};
 ghost use Rattle.clap.specs.Values.{kind_of};
-ghost use Rattle.clap.specs.Words.{app_of, found_of, rows_of, rule_of, with_rule};
+ghost use Rattle.clap.specs.Words.{app_of, first_of, found_of, rows_of, rule_of, with_rule};
 ghost use Rattle.clap.specs.declared.error.kind.ErrorKind.TheVariants.{OutOfMemory};
-ghost use Rattle.asp_explain.specs.Words.{IsRefusedFor, IsWanted, StopsFor, bare_command, command as the_command, file_in, file_rule, named_command, rows_given};
-ghost use Rattle.asp_explain.specs.declared.words.Refused.TheVariants as refused;
+ghost use Rattle.asp_explain.specs.Words.{bare_command, command as the_command, file_rule, named_command, report_rule, rows_given, texts_in, with_files as with_both_files};
+ghost use Rattle.asp_explain.specs.Shapes.{IsRefusedFor, text_behind, texts_shape};
+ghost use Rattle.asp_explain.specs.declared.command.Refused.TheVariants as refused;
 
-use crate::stop::Stop;
 use clap::error::{Error, ErrorKind};
 use clap::{Arg, ArgMatches, Command};
 use std::alloc::{AllocError, Global};
 
-/// What the words ask for.
+/// The texts that the words give.
 #[derive(Drop)]
-pub enum Wanted<'a> {
-    /// What there is to tell of the file of this name.
-    File(&'a str),
-    /// This text on the program's use.
-    Help(String),
+pub struct Texts<'a> {
+    pub file: Option<&'a str>,
+    pub report: Option<&'a str>,
 }
 
-/// Why words have no matches.
+/// Why words have no texts.
 #[derive(Drop)]
 pub enum Refused {
     Usage,
@@ -38,30 +36,8 @@ impl From<AllocError> for Refused {
     }
 }
 
-/// What the words, without the program's name, ask for.
-pub fn read_words<'a>(alloc: Global, words: &'a [String]) -> Result<Wanted<'a>, Stop<'a>>
-    ensures wanted { IfOk result (IsWanted (map string_bytes words.entry.now)) }
-    ensures stop { IfErr result (StopsFor (map string_bytes words.entry.now)) }
-{
-    match matches(alloc, words) {
-        Ok(matches) => match file_among(&matches) {
-            Some(file) => Ok(Wanted::File(file)),
-            None => Err(Stop::Usage),
-        },
-        Err(Refused::Help(text)) => Ok(Wanted::Help(text)),
-        Err(Refused::Usage) => Err(Stop::Usage),
-        Err(Refused::Memory) => Err(Stop::Memory),
-    }
-}
-
-fn file_among<'a>(matches: &ArgMatches<'a>) -> Option<&'a str>
-    ensures { option_map (λ s. s.now) result ≡ file_in (rows_of (found_of matches.now)) }
-{
-    matches.get_str("FILE")
-}
-
-// What the command finds in the words.
-fn matches<'a>(alloc: Global, words: &'a [String]) -> Result<ArgMatches<'a>, Refused>
+/// What the command finds in the words.
+pub fn matches<'a>(alloc: Global, words: &'a [String]) -> Result<ArgMatches<'a>, Refused>
     ensures rows { IfOk result
         (λ m. rows_of (found_of m) ≡ rows_given (map string_bytes words.entry.now)) }
     ensures refused { IfErr result (IsRefusedFor (map string_bytes words.entry.now)) }
@@ -94,13 +70,23 @@ fn help(alloc: Global, error: &Error) -> Refused {
 fn command<'a>(alloc: Global) -> Result<Command<'a>, AllocError>
     ensures { IfOk result (λ c. app_of c ≡ the_command) }
 {
-    with_file(alloc, bare(alloc))
+    with_files(alloc, bare(alloc))
 }
 
-fn with_file<'a>(alloc: Global, command: Command<'a>) -> Result<Command<'a>, AllocError>
-    ensures { IfOk result (λ c. app_of c ≡ with_rule (app_of command.entry) file_rule) }
+fn with_files<'a>(alloc: Global, command: Command<'a>) -> Result<Command<'a>, AllocError>
+    ensures { IfOk result (λ c. app_of c ≡ with_both_files (app_of command.entry)) }
 {
-    command.arg(file(alloc))
+    let command = with_arg(command, file(alloc))?;
+    with_arg(command, report(alloc))
+}
+
+// An argument that is not global.
+fn with_arg<'a>(command: Command<'a>, arg: Arg<'a>) -> Result<Command<'a>, AllocError>
+    requires local { arg.global ≡ false }
+    ensures { IfOk result
+        (λ c. app_of c ≡ with_rule (app_of command.entry) (rule_of arg.entry)) }
+{
+    command.arg(arg)
 }
 
 fn bare<'a>(alloc: Global) -> Command<'a>
@@ -114,7 +100,7 @@ fn named<'a>(alloc: Global) -> Command<'a>
     ensures { app_of result ≡ named_command }
 {
     Command::new(alloc, "asp-explain").about(
-        "Tells what is wrong with a program: its first fault, or its warnings",
+        "Tells what is wrong with a program, or why the run that a report shows stands as it does",
     )
 }
 
@@ -123,4 +109,27 @@ fn file<'a>(alloc: Global) -> Arg<'a>
     ensures local { result.global ≡ false }
 {
     Arg::new(alloc, "FILE").required(true).help("The program")
+}
+
+fn report<'a>(alloc: Global) -> Arg<'a>
+    ensures rule { rule_of result ≡ report_rule }
+    ensures local { result.global ≡ false }
+{
+    Arg::new(alloc, "REPORT").help("A report of it")
+}
+
+/// The texts among what the command found.
+pub fn texts_found<'a>(matches: &ArgMatches<'a>) -> Texts<'a>
+    ensures texts { texts_shape result ≡ texts_in (rows_of (found_of matches.now)) }
+{
+    Texts {
+        file: text_of(matches, "FILE"),
+        report: text_of(matches, "REPORT"),
+    }
+}
+
+fn text_of<'a>(matches: &ArgMatches<'a>, id: &str) -> Option<&'a str>
+    ensures { text_behind result ≡ first_of id.now (rows_of (found_of matches.now)) }
+{
+    matches.get_str(id)
 }

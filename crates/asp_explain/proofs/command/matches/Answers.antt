@@ -2,10 +2,11 @@ use Rattle.std.proofs.Common.{◌∙◌, ◌≡◌, Bool, List, ap, refl, true, 
 use Rattle.clap.specs.Walk.{Text}
 use Rattle.clap.specs.Simple.{App, HasMatchesOf, app_of, is_simple}
 use Rattle.clap.specs.Takes.{takes}
-use Rattle.asp_explain.specs.declared.words.Refused.{Refused}
-use Rattle.asp_explain.specs.declared.words.Refused.TheVariants as refused
-use Rattle.asp_explain.specs.Words.{IsRefusedFor, command, is_taken, rows_given}
-use Rattle.asp_explain.proofs.words.matches.Goals as goal
+use Rattle.asp_explain.specs.declared.command.Refused.{Refused}
+use Rattle.asp_explain.specs.declared.command.Refused.TheVariants as refused
+use Rattle.asp_explain.specs.Words.{command, is_taken, rows_given}
+use Rattle.asp_explain.specs.Shapes.{IsRefusedFor}
+use Rattle.asp_explain.proofs.command.matches.Goals as goal
 
 is_simple_command : is_simple command ≡ true
 is_simple_command = refl
