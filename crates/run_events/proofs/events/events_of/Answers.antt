@@ -1,0 +1,22 @@
+use Rattle.std.proofs.Common.{[], ◌∷◌, sym, subst}
+use Rattle.run_events.specs.Correct.{all_events}
+use Rattle.asp_model.specs.Shapes.{counts_shape, lists_shape, tree_of}
+use Rattle.run_events.specs.Correct.{IsShown}
+use Rattle.run_events.specs.Kept.{wish_note}
+use Rattle.run_events.proofs.HeardLemmas.{same_wish}
+use Rattle.run_events.proofs.events.events_of.Goals as goal
+
+pub returns-clause-events : goal.returns-clause-events
+returns-clause-events c =
+    let program = tree_of c.args.program.now.program.root in
+    let lists = lists_shape c.args.lists.now in
+    let counts = counts_shape c.args.counts.now in
+    let l = c.replay_noting.new.notes in
+    let told = c.in_ok-end.ensures.told (wish_note c.args.wish ∷ []) c.new-listener.ensures.none in
+    let same = same_wish c.args.wish l.page.wish told.2.wish in
+    record {
+      names = told.0;
+      whole = told.1;
+      shown = subst (λ w. IsShown w l.page.all (all_events program lists counts told.0) l.page.events.items) (sym same)
+          (record { events = told.2.page.events; all = told.2.page.all });
+    }

@@ -1,0 +1,60 @@
+//! A listener that keeps the events that are asked for.
+
+ghost use Rattle.std.specs.Prelude.{◌≡◌, ◌∷◌, []};
+ghost use Rattle.run_events.specs.Kept.{Tells, wish_note};
+
+use crate::books::Books;
+use crate::event::{RunEvent, what_of};
+use crate::page::{Page, Wish};
+use replay_one::{Note, Notes};
+use std::alloc::{AllocError, Global};
+
+/// The events that are asked for, and the requests that are not answered.
+#[derive(Drop)]
+pub struct Listener {
+    alloc: Global,
+    pub page: Page,
+    books: Books,
+}
+
+impl Listener {
+    /// Nothing was told.
+    pub fn new(alloc: Global, wish: Wish) -> Listener
+        ensures none { Tells result (wish_note wish ∷ []) }
+    {
+        Listener {
+            alloc,
+            page: Page::new(alloc, wish),
+            books: Books::new(alloc),
+        }
+    }
+}
+
+impl Notes for Listener {
+    ghost use Rattle.run_events.specs.Kept.{Tells};
+
+    ghost tells = { Tells };
+
+    fn listens(&self) -> bool {
+        true
+    }
+
+    fn hears_lines(&self) -> bool {
+        true
+    }
+
+    fn note(&mut self, note: Note) -> Result<(), AllocError> {
+        self.books.tell(note)?;
+        match what_of(self.alloc, note.event, self.books.book(note.by))? {
+            Some(what) => {
+                let by = note.by.copy(self.alloc)?;
+                self.page.add(RunEvent {
+                    by,
+                    count: note.count,
+                    what,
+                })
+            }
+            None => Ok(()),
+        }
+    }
+}
