@@ -1,0 +1,4 @@
+-- in reading order
+pub mod Orders
+pub mod Differences
+pub mod Kept
