@@ -1,0 +1,4 @@
+pub mod ChainLemmas
+pub mod TurnLemmas
+pub mod SearchLemmas
+pub mod CutLemmas
