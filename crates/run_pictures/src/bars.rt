@@ -1,13 +1,15 @@
 //! The bars of services.
 
-use crate::layout::{lane_at, place_at};
-use crate::run::{Event, Mark, Run};
+use crate::layout::{lane_at, last_of, place_at};
+use crate::run::{Event, Mark, Rest, Run};
 use crate::text::escaped;
 use std::alloc::{AllocError, Global};
 
 // A service that has begun.
 #[derive(Drop)]
 struct Open {
+    // Its place among all bars.
+    number: usize,
     lane: usize,
     from: u64,
     label: String,
@@ -56,9 +58,18 @@ fn take_newest(opens: &mut Vec<Open>, lane: usize) -> Option<Open> {
     }
 }
 
+// The bar of a service takes its place among all bars.
+fn close(alloc: Global, bars: &mut [String], open: &Open, to: u64) -> Result<(), AllocError> {
+    let bar = bar(alloc, open, to)?;
+    if open.number < bars.len() {
+        bars[open.number] = bar;
+    }
+    Ok(())
+}
+
 fn follow(
     alloc: Global,
-    out: &mut String,
+    bars: &mut Vec<String>,
     opens: &mut Vec<Open>,
     event: &Event,
     at: u64,
@@ -68,7 +79,10 @@ fn follow(
         Mark::Serves(label) => {
             let depth = depth_of(opens, lane);
             let label = escaped(alloc, label)?;
+            let number = bars.len();
+            bars.push(String::new(alloc))?;
             opens.push(Open {
+                number,
                 lane,
                 from: at,
                 label,
@@ -77,24 +91,44 @@ fn follow(
             Ok(())
         }
         Mark::Answers => match take_newest(opens, lane) {
-            Some(open) => out.push_str(&bar(alloc, &open, at)?),
+            Some(open) => close(alloc, bars, &open, at),
             None => Ok(()),
         },
         _ => Ok(()),
     }
 }
 
-/// The bars of all services: each from where it begins to its answer, or to the end of the run.
+// Where a service stops that does not end: at a fault, or where the run does.
+fn stop_of(run: &Run, places: &[u64], lane: usize) -> u64 {
+    let end = place_at(places, run.events.len());
+    match run.lanes.get(lane) {
+        Some(found) => match found.rest {
+            Rest::Failed => last_of(run, places, lane).saturating_add(10),
+            Rest::Done | Rest::Idle | Rest::Running | Rest::Awaits(_) => end,
+        },
+        None => end,
+    }
+}
+
+/// The bars of all services, as they begin: each up to its answer, or to the end of the run.
 pub fn bars_of(alloc: Global, run: &Run, places: &[u64]) -> Result<String, AllocError> {
-    let mut out = String::new(alloc);
+    let mut bars = Vec::new(alloc);
     let mut opens = Vec::new(alloc);
     for number in 0..run.events.len() {
         let at = place_at(places, number);
-        follow(alloc, &mut out, &mut opens, &run.events[number], at)?;
+        follow(alloc, &mut bars, &mut opens, &run.events[number], at)?;
     }
-    let end = place_at(places, run.events.len());
     for open in &opens {
-        out.push_str(&bar(alloc, open, end)?)?;
+        let stop = stop_of(run, places, open.lane);
+        close(alloc, &mut bars, open, stop)?;
+    }
+    joined(alloc, &bars)
+}
+
+fn joined(alloc: Global, bars: &[String]) -> Result<String, AllocError> {
+    let mut out = String::new(alloc);
+    for bar in bars {
+        out.push_str(bar)?;
     }
     Ok(out)
 }

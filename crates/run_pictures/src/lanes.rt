@@ -76,30 +76,56 @@ fn lane_of(
     let y = lane_at(number);
     let begin = begin_of(run, places, number);
     let last = last_of(run, places, number);
-    let end = place_at(places, run.events.len());
     let mut out = line(alloc, "line", y, begin, last)?;
+    let name = escaped(alloc, &lane.name)?;
+    let text_top = y.saturating_add(4);
+    out.push_str(&format!(in alloc;
+        "<text class=\"name\" x=\"80\" y=\"{text_top}\">{name}</text>\n"
+    )?)?;
+    Ok(out)
+}
+
+/// The lines of all activities up to their last events, with their names.
+pub fn lanes_of(alloc: Global, run: &Run, places: &[u64]) -> Result<String, AllocError> {
+    let mut out = String::new(alloc);
+    for number in 0..run.lanes.len() {
+        out.push_str(&lane_of(alloc, run, places, number, &run.lanes[number])?)?;
+    }
+    Ok(out)
+}
+
+fn end_of(
+    alloc: Global,
+    run: &Run,
+    places: &[u64],
+    number: usize,
+    lane: &Lane,
+) -> Result<String, AllocError> {
+    let y = lane_at(number);
+    let last = last_of(run, places, number);
+    let end = place_at(places, run.events.len());
     let circle = is_in_circle(&run.lanes, number);
+    let mut out = String::new(alloc);
     let class = rest_class(lane.rest, circle);
     if class != "" {
         out.push_str(&line(alloc, class, y, last, end)?)?;
     }
-    let name = escaped(alloc, &lane.name)?;
     let text = end_text(alloc, run, lane)?;
     let text_top = y.saturating_add(4);
     let right = end.saturating_add(46);
     let bad = if circle { "bad" } else { "end" };
     out.push_str(&format!(in alloc;
-        "<text class=\"name\" x=\"80\" y=\"{text_top}\">{name}</text>\n<text class=\"{bad}\" x=\"{right}\" y=\"{text_top}\">{text}</text>\n"
+        "<text class=\"{bad}\" x=\"{right}\" y=\"{text_top}\">{text}</text>\n"
     )?)?;
     out.push_str(&circle_of(alloc, lane.rest, circle, number, end)?)?;
     Ok(out)
 }
 
-/// The lines of all activities, with their names and ends.
-pub fn lanes_of(alloc: Global, run: &Run, places: &[u64]) -> Result<String, AllocError> {
+/// How the lines of all activities end.
+pub fn ends_of(alloc: Global, run: &Run, places: &[u64]) -> Result<String, AllocError> {
     let mut out = String::new(alloc);
     for number in 0..run.lanes.len() {
-        out.push_str(&lane_of(alloc, run, places, number, &run.lanes[number])?)?;
+        out.push_str(&end_of(alloc, run, places, number, &run.lanes[number])?)?;
     }
     Ok(out)
 }

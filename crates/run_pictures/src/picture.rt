@@ -1,11 +1,11 @@
 //! The whole picture.
 
 use crate::bars::bars_of;
-use crate::lanes::lanes_of;
+use crate::lanes::{ends_of, lanes_of};
 use crate::layout::{LANE, lane_at, place_at, places_of};
 use crate::marks::marks_of;
 use crate::run::Run;
-use crate::text::escaped;
+use crate::text::whole;
 use std::alloc::{AllocError, Global};
 
 /// A picture has no more lines.
@@ -27,7 +27,7 @@ pub fn picture_of(alloc: Global, run: &Run) -> Result<String, AllocError> {
     let end = place_at(&places, run.events.len());
     let width = end.saturating_add(170);
     let height = lane_at(run.lanes.len()).saturating_add(LANE / 2);
-    let title = escaped(alloc, &run.title)?;
+    let title = whole(alloc, &run.title)?;
     let mut out = format!(in alloc;
         "<svg xmlns=\"http://www.w3.org/2000/svg\" width=\"{width}\" height=\"{height}\" viewBox=\"0 0 {width} {height}\">\n"
     )?;
@@ -37,6 +37,7 @@ pub fn picture_of(alloc: Global, run: &Run) -> Result<String, AllocError> {
     )?)?;
     out.push_str(&lanes_of(alloc, run, &places)?)?;
     out.push_str(&bars_of(alloc, run, &places)?)?;
+    out.push_str(&ends_of(alloc, run, &places)?)?;
     out.push_str(&marks_of(alloc, run, &places)?)?;
     out.push_str("</svg>\n")?;
     Ok(out)

@@ -25,6 +25,15 @@ pub fn shown_len(text: &str) -> u64 {
     text.chars().take(MOST_SHOWN + 1).count() as u64
 }
 
+/// The text as XML has it.
+pub fn whole(alloc: Global, text: &str) -> Result<String, AllocError> {
+    let mut out = String::new(alloc);
+    for c in text.chars() {
+        push_escaped(&mut out, c)?;
+    }
+    Ok(out)
+}
+
 /// The text as XML has it, cut off where it is long.
 pub fn escaped(alloc: Global, text: &str) -> Result<String, AllocError> {
     let mut out = String::new(alloc);
