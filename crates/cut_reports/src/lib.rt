@@ -1,0 +1,6 @@
+//! The report of a run that is cut back.
+#![tactic(auto)]
+
+mod reports;
+
+pub use reports::{CutReportStop, cut_report};
