@@ -1,5 +1,4 @@
 -- in reading order
-pub mod Positions
 pub mod Remarks
 pub mod Texts
 pub mod Found

@@ -4,7 +4,7 @@ use Rattle.std.specs.Prelude.{List, [], ◌++◌, map, Option, Some, None, codes
 use Rattle.std.specs.Fmt.{decimal}
 use Rattle.explain.specs.declared.remark.Severity.{Severity}
 use Rattle.explain.specs.declared.remark.Severity.TheVariants.{Error, Warning, Note}
-use Rattle.explain.specs.declared.position.Position.{Position}
+use Rattle.text_places.specs.declared.position.Position.{Position}
 
 abbrev pub severity_text : Severity → List ℕ
 severity_text Error = codes "error"

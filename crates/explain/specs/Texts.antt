@@ -1,7 +1,7 @@
 -- The whole text of a remark on a file.
 use Rattle.std.specs.Prelude.{ℕ, List, ◌++◌, option_map, string_bytes}
 use Rattle.explain.specs.declared.remark.Remark.{Remark}
-use Rattle.explain.specs.Positions.{lead, position_at, tail}
+use Rattle.text_places.specs.Positions.{lead, position_at, tail}
 use Rattle.explain.specs.Remarks.{cure_line, excerpt, heading, severity_text}
 
 -- the place and the sentence; the line, as far as 80 bytes before the place and 80 from it on, with the caret; the cure

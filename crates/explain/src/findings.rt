@@ -13,10 +13,10 @@ use crate::cures::{check_cure, syntax_cure};
 use crate::other::{faulty, other_place};
 use crate::remark::{Remark, Severity};
 use crate::sentences::{check_sentence, other_sentence, syntax_sentence};
-use crate::uses::{LabelUse, Role, uses_of};
+use crate::uses::{LabelUse, Role, uses_in};
 use crate::warnings::warnings_of;
 use asp_check::{CheckError, CheckFault, CheckKind, Checked, check};
-use asp_model::Program;
+use asp_model::{Program, Term};
 use asp_syntax::{SyntaxError, SyntaxFault, read_program};
 use std::alloc::{AllocError, Global};
 
@@ -125,7 +125,10 @@ fn of_unchecked(alloc: Global, bytes: &[u8], fault: CheckFault) -> Result<Findin
     ensures first { IfOk result (λ f. IsShownFirst f.fault f.remarks.items) }
 {
     match read_program(alloc, bytes) {
-        Ok(program) => of_check(alloc, bytes, &program, fault),
+        Ok(program) => {
+            let root = Box::new(alloc, program.root)?;
+            of_check(alloc, bytes, &*root, fault)
+        }
         Err(SyntaxError::Fault(_)) => unreachable!(),
         Err(SyntaxError::Memory) => Err(AllocError),
     }
@@ -134,14 +137,14 @@ fn of_unchecked(alloc: Global, bytes: &[u8], fault: CheckFault) -> Result<Findin
 fn of_check(
     alloc: Global,
     bytes: &[u8],
-    program: &Program,
+    root: &Term,
     fault: CheckFault,
 ) -> Result<Findings, AllocError>
     requires fault { IsCheckFault bytes.now fault }
     ensures found { IfOk result (λ f. IsFound bytes.now f.fault) }
     ensures first { IfOk result (λ f. IsShownFirst f.fault f.remarks.items) }
 {
-    let uses = uses_of(alloc, program)?;
+    let uses = uses_in(alloc, root)?;
     let name = name_at(bytes, fault.at);
     let sentence = check_sentence(alloc, fault.kind, name, faulty(&uses, fault))?;
     let cure = check_cure(fault.kind, name, is_field(&uses, name));

@@ -7,7 +7,6 @@ mod cures;
 mod findings;
 mod nearest;
 mod other;
-mod position;
 mod remark;
 mod sentences;
 mod shown;
@@ -16,7 +15,7 @@ mod uses;
 mod warnings;
 
 pub use findings::{Fault, Findings, explain};
-pub use position::{Position, position_of};
 pub use remark::{Remark, Severity};
 pub use shown::text_of;
 pub use telling::{Told, tell};
+pub use text_places::{Position, position_of};

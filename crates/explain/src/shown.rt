@@ -2,13 +2,13 @@
 
 ghost use Rattle.std.specs.Prelude.{◌≡◌, ◌≤◌, ◌++◌, length, map, IfOk, OnOk, option_map, string_bytes};
 ghost use Rattle.std.specs.List.{position_or_len};
-ghost use Rattle.explain.specs.Positions.{is_feed, lead as lead_of, tail as tail_of};
+ghost use Rattle.text_places.specs.Positions.{is_feed, lead as lead_of, tail as tail_of};
 ghost use Rattle.explain.specs.Remarks.{blank as blank_below, cure_line, excerpt, heading as heading_of, severity_text as text_of_severity, shown as shown_byte};
 ghost use Rattle.explain.specs.Texts.{text_of as whole_text};
 
-use crate::position::{Position, position_of, spot_of};
 use crate::remark::{Remark, Severity};
 use std::alloc::{AllocError, Global};
+use text_places::{Position, position_of, spot_of};
 
 // What is shown of a line, before the place and from it on.
 const LEAD: usize = 80;

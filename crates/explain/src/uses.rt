@@ -60,8 +60,13 @@ impl<'a> Places<'a> {
 
 /// The labels of a program, in text order.
 pub fn uses_of<'a>(alloc: Global, program: &'a Program) -> Result<Vec<LabelUse<'a>>, AllocError> {
+    uses_in(alloc, &program.root)
+}
+
+/// The labels of a term, in text order.
+pub fn uses_in<'a>(alloc: Global, root: &'a Term) -> Result<Vec<LabelUse<'a>>, AllocError> {
     let mut uses = Vec::new(alloc);
-    visit(&mut uses, &program.root)?;
+    visit(&mut uses, root)?;
     Ok(uses)
 }
 
@@ -80,6 +85,22 @@ fn add<'a>(
         count,
     })?;
     Ok(())
+}
+
+// The label of a call, or of the method that an activity begins with.
+fn add_called<'a>(
+    uses: &mut Vec<LabelUse<'a>>,
+    label: &'a Label,
+    mark: &'a Mark,
+    count: usize,
+) -> Result<(), AllocError> {
+    add(
+        uses,
+        Role::Called,
+        &label.text,
+        Places::of(mark).next(),
+        count,
+    )
 }
 
 // The labels of a `serve` or a `pending`.
@@ -152,20 +173,19 @@ fn visit<'a>(uses: &mut Vec<LabelUse<'a>>, term: &'a Term) -> Result<(), AllocEr
         }
         Term::Call(receiver, label, arguments, mark) => {
             visit(uses, receiver)?;
-            let at = Places::of(mark).next();
-            add(uses, Role::Called, &label.text, at, arguments.len())?;
+            add_called(uses, label, mark, arguments.len())?;
             visit_all(uses, arguments)
         }
         Term::Active(object, service, mark) => {
             visit(uses, object)?;
             match service {
-                Some(label) => add(uses, Role::Called, &label.text, Places::of(mark).next(), 0),
+                Some(label) => add_called(uses, label, mark, 0),
                 None => Ok(()),
             }
         }
         Term::Scatter(a, label, b, mark) => {
             visit(uses, a)?;
-            add(uses, Role::Called, &label.text, Places::of(mark).next(), 1)?;
+            add_called(uses, label, mark, 1)?;
             visit(uses, b)
         }
         Term::Steps(terms, _) | Term::Group(terms, _) => visit_all(uses, terms),

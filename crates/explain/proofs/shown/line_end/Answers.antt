@@ -1,6 +1,6 @@
 use Rattle.std.proofs.Common.{arith, ap, sym}
 use Rattle.std.proofs.lemmas.List.Sums.{position_or_len_is}
-use Rattle.explain.specs.Positions.{is_feed}
+use Rattle.text_places.specs.Positions.{is_feed}
 use Rattle.explain.proofs.shown.line_end.Goals as goal
 
 pub returns-else-bytes-end-ne10 : goal.returns-else-bytes-end-ne10

@@ -1,5 +1,5 @@
 use Rattle.std.proofs.Common.{◌≡◌, ◌≤◌, ◌<◌, ◌-◌, ℕ, length, get_or, false}
-use Rattle.explain.specs.Positions.{is_feed}
+use Rattle.text_places.specs.Positions.{is_feed}
 use Rattle.explain.proofs.shown.line_end.Given as goal
 
 abbrev pub invariant-loop-end : goal.invariant-loop-end

@@ -1,7 +1,7 @@
 -- Where a byte of a text stands, as people count: lines end at a line feed, and columns count bytes.
 use Rattle.std.specs.Prelude.{ℕ, ◌+◌, ◌-◌, min, nat_eq, Bool, not, List, length, take, drop, count_by}
 use Rattle.std.specs.List.{position_or_len, suffix_len}
-use Rattle.explain.specs.declared.position.Position.{Position}
+use Rattle.text_places.specs.declared.position.Position.{Position}
 
 -- a line feed
 abbrev pub is_feed : ℕ → Bool

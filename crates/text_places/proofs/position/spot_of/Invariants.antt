@@ -1,8 +1,8 @@
 use Rattle.std.proofs.Common.{◌≡◌, ◌+◌, take}
 use Rattle.std.specs.Prelude.{count_by}
 use Rattle.std.specs.List.{suffix_len}
-use Rattle.explain.specs.Positions.{is_feed, is_other}
-use Rattle.explain.proofs.position.spot_of.Given as goal
+use Rattle.text_places.specs.Positions.{is_feed, is_other}
+use Rattle.text_places.proofs.position.spot_of.Given as goal
 
 abbrev pub invariant-loop-i : goal.invariant-loop-i
 invariant-loop-i l = record {

@@ -1,7 +1,7 @@
 //! Where a byte of a text stands.
 
 ghost use Rattle.std.specs.Prelude.{◌≡◌, ◌+◌, ◌≤◌, length, min};
-ghost use Rattle.explain.specs.Positions.{indent, line_number, position_at};
+ghost use Rattle.text_places.specs.Positions.{indent, line_number, position_at};
 
 /// A place of a text as people count: lines and columns from 1, columns in bytes.
 #[derive(Clone, Copy, Debug, PartialEq, Eq)]
