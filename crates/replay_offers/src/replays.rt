@@ -2,20 +2,22 @@
 
 ghost use Rattle.std.specs.Prelude.{◌≡◌, ◌≤◌, true, IfOk};
 ghost use Rattle.asp_model.specs.declared.limits.TheConstants.{MOST_REDUCTIONS};
-ghost use Rattle.asp_model.specs.Configuration.{start as start_of};
+ghost use Rattle.asp_model.specs.Configuration.{Configuration, start as start_of};
 ghost use Rattle.asp_model.specs.Outcome.{outcome_of};
-ghost use Rattle.asp_model.specs.Replay.{replay as replay_of, total};
+ghost use Rattle.asp_model.specs.Replay.{lists_of, replay as replay_of, total};
 ghost use Rattle.asp_model.specs.Shapes.{counts_shape, lists_shape, outcome_shape, tree_of, verdict_shape};
 ghost use Rattle.asp_model.specs.Status.{Budget};
+ghost use Rattle.asp_model.specs.Term.{Tree};
 ghost use Rattle.law_schedules.specs.Divergence.{AreInOrder};
 ghost use Rattle.def_paths.specs.Outcomes.{whole_outcome_of};
 ghost use Rattle.outcome_search.specs.Ends.{IsEnd, IsReplayableEnd, run_logs};
 ghost use Rattle.run_ends.specs.Ends.{IsEndOf};
-ghost use Rattle.replay_population.specs.Reached.{IsReachedPopulation};
+ghost use Rattle.replay_population.specs.Reached.{IsReachedBySome, IsReachedPopulation};
 ghost use Rattle.replay_one.specs.Bounds.{IsAscending};
 ghost use Rattle.replay_one.specs.Round.{IsInOrder, IsRunAt};
 ghost use Rattle.replay_offers.specs.Programs.{tree_in};
-ghost use Rattle.replay_offers.specs.Replays.{IsFreeRun, IsHeld};
+ghost use Rattle.replay_one.specs.declared.bounds.Bounds.TheVariants as bounds;
+ghost use Rattle.replay_offers.specs.Replays.{IsFreePopulation, IsFreeRun, IsHeld};
 
 use crate::entries::entries_at;
 use crate::logs::{even_counts, total_of};
@@ -25,6 +27,7 @@ use code_compiler::compile;
 use code_table::Code;
 use outcome_search::EndedRun;
 use replay_one::{Bounds, Machine, NoNotes, are_replayable, counts_in, lists_in};
+use replay_population::Population;
 use run_ends::RunEnd;
 use std::alloc::{AllocError, Global};
 use std::marker::Model;
@@ -63,6 +66,38 @@ fn has_ended(verdict: Verdict) -> bool
         Verdict::End | Verdict::Blocked => true,
         Verdict::Budget => false,
     }
+}
+
+// What a population shows.
+fn shown_by(alloc: Global, population: Population) -> Result<Outcome, AllocError>
+    requires reached { IsReachedBySome population }
+    ensures outcome { (program : Tree) (c : Configuration) →
+        IsReachedPopulation population program c →
+        IfOk result (λ o. outcome_shape o ≡ outcome_of c) }
+{
+    let end = population.end(alloc)?;
+    Ok(end.outcome)
+}
+
+// The logs of a population.
+fn logs_of(alloc: Global, population: Population) -> Result<Lists, AllocError>
+    requires reached { IsReachedBySome population }
+    ensures lists { (program : Tree) (c : Configuration) →
+        IsReachedPopulation population program c →
+        IfOk result (λ l. lists_shape l ≡ lists_of c) }
+{
+    lists_in(alloc, &shown_by(alloc, population)?)
+}
+
+// The logs of a population, and what could be entered next in this one.
+fn held_in(alloc: Global, population: Population, to: &ActivityName) -> Result<Held, AllocError>
+    requires reached { IsReachedBySome population }
+    ensures held { (program : Tree) (c : Configuration) →
+        IsReachedPopulation population program c → IfOk result (IsHeld c to.now) }
+{
+    let entries = entries_at(alloc, &population, to)?;
+    let lists = logs_of(alloc, population)?;
+    Ok(Held { lists, entries })
 }
 
 impl Replays {
@@ -117,10 +152,7 @@ impl Replays {
             IfOk result (IsHeld c to.now) }
     {
         let machine = self.rest(alloc, lists, counts)?;
-        let entries = entries_at(alloc, &machine.population, to)?;
-        let end = machine.population.end(alloc)?;
-        let lists = lists_in(alloc, &end.outcome)?;
-        Ok(Held { lists, entries })
+        held_in(alloc, machine.population, to)
     }
 
     /// The end of a run, with the states of its activities.
@@ -144,6 +176,25 @@ impl Replays {
     {
         let bounds = Bounds::Listed(lists, counts);
         let mut machine = self.start(alloc, &bounds)?;
+        self.go_on(alloc, &mut machine, lists, counts)?;
+        shown_by(alloc, machine.population)
+    }
+
+    // Such a run, from a machine at the start.
+    fn go_on(
+        &self,
+        alloc: Global,
+        machine: &mut Machine,
+        lists: &Lists,
+        counts: &Counts,
+    ) -> Result<(), AllocError>
+        requires ordered { AreInOrder (lists_shape lists.now) (counts_shape counts.now) }
+        requires start { IsRunAt (bounds.Listed lists counts)
+            machine.old (tree_in self.now) (start_of (tree_in self.now)) }
+        requires order { IsInOrder machine.old }
+        ensures run { IfOk result (λ _. IsFreePopulation (tree_in self.now) machine.new.population) }
+    {
+        let bounds = Bounds::Listed(lists, counts);
         machine.run(alloc, &bounds, self.budget, &mut NoNotes)?;
         machine.rouse(alloc)?;
         machine.run(
@@ -151,9 +202,7 @@ impl Replays {
             &Bounds::Budget(self.budget),
             self.budget,
             &mut NoNotes,
-        )?;
-        let end = machine.population.end(alloc)?;
-        Ok(end.outcome)
+        )
     }
 
     /// What a run left, if it ended within the budget.

@@ -1,16 +1,17 @@
-use Rattle.std.proofs.Common.{◌∙◌, List, ℕ, None, Some, map, sym}
+use Rattle.std.proofs.Common.{◌≡◌, ◌∙◌, List, map, sym}
+use Rattle.std.proofs.lemmas.Result.{IfOk-weaker}
 use Rattle.std.specs.Global.{Vec}
 use Rattle.asp_model.specs.declared.outcome.Reception.{Reception}
+use Rattle.asp_model.specs.declared.outcome.Outcome.{Outcome}
 use Rattle.asp_model.specs.Names.{Name}
+use Rattle.asp_model.specs.Outcome.{outcome_of}
+use Rattle.asp_model.specs.Shapes.{outcome_shape}
 use Rattle.asp_model.specs.Term.{Tree}
-use Rattle.asp_model.specs.Configuration.{Configuration, start}
-use Rattle.asp_model.specs.Replay.{CountsShape, count_in, steps_from}
-use Rattle.asp_model.specs.Shapes.{counts_shape, lists_shape}
+use Rattle.asp_model.specs.Replay.{CountsShape}
 use Rattle.replay_one.specs.Rows.{list_shape}
 use Rattle.replay_one.proofs.DifferenceLemmas.{in_order, names_of_lists}
-use Rattle.replay_one.specs.declared.bounds.Bounds.TheVariants as bounds
-use Rattle.replay_offers.proofs.RunLemmas.{free_both}
 use Rattle.replay_offers.specs.Programs.{tree_in}
+use Rattle.replay_offers.specs.Replays.{IsFreeRun}
 use Rattle.replay_offers.proofs.replays.Replays.run_on.Goals as goal
 
 pub start-requires : goal.start-requires
@@ -19,37 +20,14 @@ start-requires c =
     let cs : CountsShape = c.args.counts.now.entries.items in
     record { ascending = (in_order ls (map list_shape ls) (sym (names_of_lists ls)) c.requires.ordered.ascending, in_order cs (map list_shape ls) (sym c.requires.ordered.names) c.requires.ordered.ascending, sym (names_of_lists ls) ∙ c.requires.ordered.names) }
 
-pub run-requires-clause-ascending : goal.run-requires-clause-ascending
-run-requires-clause-ascending c =
-    let ls : List (Name × Vec Reception) = c.args.lists.now.entries.items in
-    let cs : CountsShape = c.args.counts.now.entries.items in
-    (in_order ls (map list_shape ls) (sym (names_of_lists ls)) c.requires.ordered.ascending, in_order cs (map list_shape ls) (sym c.requires.ordered.names) c.requires.ordered.ascending, sym (names_of_lists ls) ∙ c.requires.ordered.names)
-
-pub run-requires-clause-running : goal.run-requires-clause-running
-run-requires-clause-running c = ((tree_in c.args.self.now), start (tree_in c.args.self.now), c.in_ok-machine.ensures.start)
-
-pub run-requires-2-clause-running : goal.run-requires-2-clause-running
-run-requires-2-clause-running c =
-    let t : Tree = tree_in c.args.self.now in
-    let d : Configuration = steps_from c.self.inside.budget (Some (lists_shape c.args.lists.now)) (count_in (counts_shape c.args.counts.now)) (start t) in
-    (t, d, c.in_ok-rouse.ensures.runs (bounds.Budget c.self.inside.budget) t d (c.in_ok-run.ensures.runs t (start t) c.in_ok-machine.ensures.start) tt)
-
-pub run-requires-2-clause-order : goal.run-requires-2-clause-order
-run-requires-2-clause-order c = c.in_ok-rouse.ensures.order c.in_ok-run.ensures.order
-
-pub end-requires : goal.end-requires
-end-requires c =
-    let t : Tree = tree_in c.args.self.now in
-    let n : ℕ = c.self.inside.budget in
-    let d : Configuration = steps_from n (Some (lists_shape c.args.lists.now)) (count_in (counts_shape c.args.counts.now)) (start t) in
-    record { reached = (t, steps_from n None (λ m. n) d, c.in_ok-run-2.ensures.runs t d (c.in_ok-rouse.ensures.runs (bounds.Budget n) t d (c.in_ok-run.ensures.runs t (start t) c.in_ok-machine.ensures.start) tt)) }
+pub shown_by-requires : goal.shown_by-requires
+shown_by-requires c =
+    let free = c.in_ok-go_on.ensures.run in
+    record { reached = (tree_in c.args.self.now, free.end, free.reached) }
 
 pub returns : goal.returns
 returns c =
     let t : Tree = tree_in c.args.self.now in
-    let n : ℕ = c.self.inside.budget in
-    let d : Configuration = steps_from n (Some (lists_shape c.args.lists.now)) (count_in (counts_shape c.args.counts.now)) (start t) in
-    let e : Configuration = steps_from n None (λ m. n) d in
-    let free = free_both t (Some (lists_shape c.args.lists.now)) (count_in (counts_shape c.args.counts.now)) (λ m. n) n n in
-    let ran = c.in_ok-run-2.ensures.runs t d (c.in_ok-rouse.ensures.runs (bounds.Budget n) t d (c.in_ok-run.ensures.runs t (start t) c.in_ok-machine.ensures.start) tt) in
-    record { run = record { names = free.0; end = e; run = free.1; outcome = c.in_ok-end.ensures.outcome t e ran } }
+    let free = c.in_ok-go_on.ensures.run in
+    let shown = c.shown_by.ensures.outcome t free.end free.reached in
+    record { run = IfOk-weaker c.shown_by.result (λ (o : Outcome). outcome_shape o ≡ outcome_of free.end) (λ (o : Outcome). IsFreeRun t (outcome_shape o)) (λ o p. record { names = free.names; end = free.end; run = free.run; outcome = p }) shown }
