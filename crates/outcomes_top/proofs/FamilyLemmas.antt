@@ -1,7 +1,9 @@
 -- One end more in a survey, and what one end is among others.
-use Rattle.std.proofs.Common.{◌≡◌, ℕ, zero, suc, ◌+◌, ◌≤◌, ◌<◌, List, [], ◌∷◌, ◌++◌, map, length, take, Option, Some, None, Result, Ok, Err, IfOk, IfErr, refl, sym, ap, subst, ◌∙◌, inl, inr, arith}
-use Rattle.std.specs.Prelude.{max, slice_get}
+use Rattle.std.proofs.Common.{◌≡◌, ℕ, zero, suc, ◌+◌, ◌≤◌, ◌<◌, ◌-◌, Bool, true, false, List, [], ◌∷◌, ◌++◌, map, length, take, Option, Some, None, Result, Ok, Err, IfOk, IfErr, refl, sym, ap, subst, ◌∙◌, inl, inr, arith}
+use Rattle.std.specs.Prelude.{cond, max, nat_lt, option_map, slice_get}
+use Rattle.law_chases.proofs.FutureLemmas.{some_is}
 use Rattle.std.proofs.Math.Nat.{le-max_left, le-max_right, zero-add}
+use Rattle.std.proofs.lemmas.Bool.{ltb-true, ltb-false}
 use Rattle.std.proofs.lemmas.List.{map-append, length-append, take_all}
 use Rattle.asp_model.specs.Names.{Text}
 use Rattle.asp_model.specs.Term.{Tree}
@@ -20,8 +22,12 @@ use Rattle.asp_top.specs.declared.stop.Stop.TheVariants as stops
 use Rattle.asp_top.specs.Ready.{text_in}
 use Rattle.outcomes_top.specs.declared.halt.Halt.{Halt}
 use Rattle.outcomes_top.specs.declared.halt.Halt.TheVariants as halts
-use Rattle.outcomes_top.specs.Correct.{Found, IsFirstOf, TellsAll, TellsOne}
-use Rattle.outcomes_top.specs.Surveys.{HaltsAt, IsOneMore, IsReportOf, IsSurvey}
+use Rattle.outcomes_words.specs.Words.{TaskShape}
+use Rattle.outcomes_words.specs.declared.task.Choice.{Choice}
+use Rattle.outcomes_words.specs.declared.task.Choice.TheVariants as choices
+use Rattle.outcomes_top.specs.Correct.{Found, IsChoice, IsFirstOf, Tells, TellsAll, TellsOne, outcomes_of}
+use Rattle.outcomes_top.specs.Endings.{HaveFewer}
+use Rattle.outcomes_top.specs.Surveys.{AreChosen, HaltsAt, HaltsOne, IsOneMore, IsReportOf, IsSurvey, TellsOf, place_in}
 
 greatest_more : (m : ℕ) (xs : List ℕ) (y : ℕ) → greatest_from m (xs ++ y ∷ []) ≡ max (greatest_from m xs) y
 greatest_more m [] y = refl
@@ -114,16 +120,85 @@ first_within n (p ∷ os) (suc k) o h at = first_within n os k o h.2 at
 
 -- What is told
 
-pub all_of : {E : Type 0} (depth : Option ℕ) (program : Tree) (f : Found program) (r : Result Prepared E) (text : List ℕ) (status : ℕ) → IfOk r (λ p. text_in p ≡ text) → IfOk r (λ p. p.status ≡ status)
-    → text ≡ text_of_family depth program f.whole f.ends → status ≡ status_of_family program f.whole f.ends → IfOk r (λ p. TellsAll depth program (text_in p) p.status)
-all_of depth program f (Ok p) text status t s e g = (f, t ∙ e, s ∙ g)
-all_of depth program f (Err x) text status t s e g = tt
+pub all_of : {E : Type 0} (depth : Option ℕ) (program : Tree) (whole : Bool) (ends : List RunLogs) (r : Result Prepared E) (text : List ℕ) (status : ℕ) → IfOk r (λ p. text_in p ≡ text) → IfOk r (λ p. p.status ≡ status)
+    → text ≡ text_of_family depth program whole ends → status ≡ status_of_family program whole ends → IfOk r (λ p. TellsAll depth program whole ends (text_in p) p.status)
+all_of depth program whole ends (Ok p) text status t s e g = (t ∙ e, s ∙ g)
+all_of depth program whole ends (Err x) text status t s e g = tt
 
-pub one_of : {E : Type 0} (depth : Option ℕ) (program : Tree) (number : ℕ) (f : Found program) (x : RunLogs) (r : Result Prepared E) → IsFirstOf depth program f number x
-    → IfOk r (λ p. IsReportOf depth (end_of program x) (text_in p) p.status) → IfOk r (λ p. TellsOne depth program number (text_in p) p.status)
-one_of depth program number f x (Ok p) first h = (f, x, first, h.0, h.1)
-one_of depth program number f x (Err e) first h = tt
+pub one_of : {E : Type 0} (depth : Option ℕ) (program : Tree) (ends : List RunLogs) (choice : Choice) (x : RunLogs) (r : Result Prepared E) → IsChoice depth program ends choice x
+    → IfOk r (λ p. IsReportOf depth (end_of program x) (text_in p) p.status) → IfOk r (λ p. TellsOne depth program ends choice (text_in p) p.status)
+one_of depth program ends choice x (Ok p) chosen h = (x, chosen, h.0, h.1)
+one_of depth program ends choice x (Err e) chosen h = tt
 
-pub halts_memory : (depth : Option ℕ) (program : Tree) (report : Option ℕ) (r : Result Prepared Halt) → IfErr r (λ h. h ≡ halts.Stop stops.Memory) → IfErr r (HaltsAt depth program report)
-halts_memory depth program report (Ok p) h = tt
-halts_memory depth program report (Err s) h = subst (HaltsAt depth program report) (sym h) refl
+pub halts_memory : (depth : Option ℕ) (program : Tree) (ends : List RunLogs) (choice : Choice) (r : Result Prepared Halt) → IfErr r (λ h. h ≡ halts.Stop stops.Memory) → IfErr r (HaltsOne depth program ends choice)
+halts_memory depth program ends choice (Ok p) h = tt
+halts_memory depth program ends choice (Err s) h = subst (HaltsOne depth program ends choice) (sym h) refl
+
+-- The end that is chosen
+
+below : (b : Bool) (i n : ℕ) → nat_lt i n ≡ b → (k : ℕ) → cond b (Some i) None ≡ Some k → (i ≡ k) × (k < n)
+below true i n e k h = let same : i ≡ k = some_is h in (same, subst (λ (j : ℕ). j < n) same (ltb-true i n e))
+below false i n e k h = absurd cc
+
+past : (b : Bool) (i n : ℕ) → nat_lt i n ≡ b → cond b (Some i) None ≡ None → n ≤ i
+past true i n e h = absurd cc
+past false i n e h = ltb-false i n e
+
+pub place_within : (os : List Outcome) (n : ℕ) (choice : Choice) (k : ℕ) → AreWithin n os → place_in os n choice ≡ Some k → k < n
+place_within os n (choices.Outcome number) k w h = by (slice_get os (number - 1)) refl h
+  where
+    by : (x : Option Outcome) → slice_get os (number - 1) ≡ x → option_map (λ o. o.first) x ≡ Some k → k < n
+    by None e h = absurd cc
+    by (Some o) e h = subst (λ (j : ℕ). j < n) (some_is h) (first_within n os (number - 1) o w e)
+place_within os n (choices.End number) k w h = (below (nat_lt (number - 1) n) (number - 1) n refl k h).1
+
+pub choice_at : (depth : Option ℕ) (program : Tree) (ends : List RunLogs) (choice : Choice) (k : ℕ) (x : RunLogs) → place_in (outcomes_of depth program ends) (length ends) choice ≡ Some k
+    → slice_get ends k ≡ Some x → IsChoice depth program ends choice x
+choice_at depth program ends (choices.Outcome number) k x h at = by (slice_get (outcomes_of depth program ends) (number - 1)) refl h
+  where
+    by : (y : Option Outcome) → slice_get (outcomes_of depth program ends) (number - 1) ≡ y → option_map (λ o. o.first) y ≡ Some k → IsFirstOf depth program ends number x
+    by None e h = absurd cc
+    by (Some o) e h = record { outcome = o; there = e; first = subst (λ (j : ℕ). slice_get ends j ≡ Some x) (sym (some_is h)) at }
+choice_at depth program ends (choices.End number) k x h at =
+    subst (λ (j : ℕ). slice_get ends j ≡ Some x) (sym (below (nat_lt (number - 1) (length ends)) (number - 1) (length ends) refl k h).0) at
+
+pub fewer_at : (depth : Option ℕ) (program : Tree) (ends : List RunLogs) (choice : Choice) → place_in (outcomes_of depth program ends) (length ends) choice ≡ None → HaveFewer depth program ends choice
+fewer_at depth program ends (choices.Outcome number) h = by (slice_get (outcomes_of depth program ends) (number - 1)) refl h
+  where
+    by : (y : Option Outcome) → slice_get (outcomes_of depth program ends) (number - 1) ≡ y → option_map (λ o. o.first) y ≡ None → length (outcomes_of depth program ends) ≤ number - 1
+    by None e h = none_past (outcomes_of depth program ends) (number - 1) e
+    by (Some o) e h = absurd cc
+fewer_at depth program ends (choices.End number) h = past (nat_lt (number - 1) (length ends)) (number - 1) (length ends) refl h
+
+-- What is told of a program
+
+pub tells_all : {E : Type 0} (task : TaskShape) (program : Tree) (given : List RunLogs) (f : Found program) (r : Result Prepared E) → AreChosen task.given given f.ends → task.choice ≡ None
+    → IfOk r (λ p. TellsAll task.depth program f.whole f.ends (text_in p) p.status) → IfOk r (λ p. TellsOf task program given (text_in p) p.status)
+tells_all task program given f (Ok p) chosen e h = (f, chosen, subst (λ (o : Option Choice). Tells task.depth program f.whole f.ends o (text_in p) p.status) (sym e) h)
+tells_all task program given f (Err x) chosen e h = tt
+
+pub tells_one : {E : Type 0} (task : TaskShape) (program : Tree) (given : List RunLogs) (f : Found program) (choice : Choice) (r : Result Prepared E) → AreChosen task.given given f.ends → task.choice ≡ Some choice
+    → IfOk r (λ p. TellsOne task.depth program f.ends choice (text_in p) p.status) → IfOk r (λ p. TellsOf task program given (text_in p) p.status)
+tells_one task program given f choice (Ok p) chosen e h = (f, chosen, subst (λ (o : Option Choice). Tells task.depth program f.whole f.ends o (text_in p) p.status) (sym e) h)
+tells_one task program given f choice (Err x) chosen e h = tt
+
+halt_one : (task : TaskShape) (program : Tree) (given : List RunLogs) (f : Found program) (choice : Choice) (h : Halt) → AreChosen task.given given f.ends → task.choice ≡ Some choice → HaltsOne task.depth program f.ends choice h → HaltsAt task program given h
+halt_one task program given f choice halts.Usage chosen e h = absurd h
+halt_one task program given f choice (halts.Stop s) chosen e h = h
+halt_one task program given f choice (halts.Given name fault) chosen e h = absurd h
+halt_one task program given f choice (halts.Missing other) chosen e h =
+    (e ∙ ap (λ (k : Choice). Some k) (sym h.0), f, chosen, subst (HaveFewer task.depth program f.ends) (sym h.0) h.1)
+
+pub halts_one : (task : TaskShape) (program : Tree) (given : List RunLogs) (f : Found program) (choice : Choice) (r : Result Prepared Halt) → AreChosen task.given given f.ends → task.choice ≡ Some choice
+    → IfErr r (HaltsOne task.depth program f.ends choice) → IfErr r (HaltsAt task program given)
+halts_one task program given f choice (Ok p) chosen e h = tt
+halts_one task program given f choice (Err x) chosen e h = halt_one task program given f choice x chosen e h
+
+-- Which ends are told
+
+pub chosen_given : (names : List Text) (given ends : List RunLogs) → ends ≡ given → AreChosen names given ends
+chosen_given [] given ends e = tt
+chosen_given (name ∷ names) given ends e = e
+
+pub chosen_none : (names : List Text) (given ends : List RunLogs) → names ≡ [] → AreChosen names given ends
+chosen_none names given ends e = subst (λ (l : List Text). AreChosen l given ends) (sym e) tt

@@ -28,8 +28,15 @@ not_budget : (b : Bool) → cond b Blocked End ≡ Budget → ⊥
 not_budget true q = cc
 not_budget false q = cc
 
-free_verdict : (c : Configuration) → verdict_of c ≡ Budget → IsStuck c → ⊥
+pub free_verdict : (c : Configuration) → verdict_of c ≡ Budget → IsStuck c → ⊥
 free_verdict c q h = not_budget (list_any is_awaiting (statuses_of c)) (sym (ap (λ (b : Bool). cond b Budget (cond (list_any is_awaiting (statuses_of c)) Blocked End)) h) ∙ q)
+
+-- a run that cannot go on is stuck
+pub stuck_unless : (c : Configuration) → (verdict_of c ≡ Budget → ⊥) → IsStuck c
+stuck_unless c h = elim (list_any is_running (statuses_of c)) as (λ b. list_any is_running (statuses_of c) ≡ b → b ≡ false) [
+  | true ↦ λ r. absurd (h (ap (λ (b : Bool). cond b Budget (cond (list_any is_awaiting (statuses_of c)) Blocked End)) r))
+  | false ↦ λ r. refl
+] refl
 
 five : (v : VerdictShape) (activities : List ActivityReportShape) → v ≡ Budget → exit_status (record { verdict = v; activities = activities }) ≡ 5
 five End activities e = absurd cc

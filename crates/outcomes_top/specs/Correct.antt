@@ -1,4 +1,4 @@
--- The main theorem: what is written.
+-- What is told, and the main theorem: `Completes` is the clause `complete`, and `Answers` what is written for a task.
 use Rattle.std.specs.Prelude.{◌≡◌, ◌-◌, ℕ, Bool, true, List, Option, Some, None, slice_get}
 use Rattle.asp_model.specs.Marked.{Marked, plain}
 use Rattle.asp_model.specs.Term.{Tree}
@@ -10,47 +10,58 @@ use Rattle.asp_top.specs.Seen.{Call, IsUntouched, Outside, Takes}
 use Rattle.law_families.specs.Families.{IsComplete, RunLogs}
 use Rattle.outcomes_text.specs.Outcomes.{Outcome, outcomes_among}
 use Rattle.outcomes_words.specs.Words.{TaskShape, is_taken, task_of}
+use Rattle.outcomes_words.specs.declared.task.Choice.{Choice}
+use Rattle.outcomes_words.specs.declared.task.Choice.TheVariants as choices
 use Rattle.outcomes_top.specs.Families.{IsFamily, end_of, seen_of, status_of_family, text_of_family, worst_of}
+use Rattle.outcomes_top.specs.Given.{AreShown}
 
--- ends of a program that were found, and whether they are all
+-- ends of a program that were found or given, and whether they are all
 pub record Found (program : Tree) : Type 0 where
   pub whole : Bool
   pub ends : List RunLogs
   pub family : IsFamily program whole ends
 
-abbrev pub outcomes_of : Option ℕ → (program : Tree) → Found program → List Outcome
-outcomes_of depth program f = outcomes_among (seen_of depth program f.ends)
+abbrev pub outcomes_of : Option ℕ → Tree → List RunLogs → List Outcome
+outcomes_of depth program ends = outcomes_among (seen_of depth program ends)
 
 -- the first end of an outcome, by its number from 1
-pub record IsFirstOf (depth : Option ℕ) (program : Tree) (f : Found program) (number : ℕ) (x : RunLogs) : Type 0 where
+pub record IsFirstOf (depth : Option ℕ) (program : Tree) (ends : List RunLogs) (number : ℕ) (x : RunLogs) : Type 0 where
   pub outcome : Outcome
-  pub there : slice_get (outcomes_of depth program f) (number - 1) ≡ Some outcome
-  pub first : slice_get f.ends outcome.first ≡ Some x
+  pub there : slice_get (outcomes_of depth program ends) (number - 1) ≡ Some outcome
+  pub first : slice_get ends outcome.first ≡ Some x
 
--- without `--report`: the text that tells the outcomes of the ends that were found
-abbrev pub TellsAll : Option ℕ → Tree → List ℕ → ℕ → Type 0
-TellsAll depth program text status = (f : Found program)
-    × (text ≡ text_of_family depth program f.whole f.ends) × (status ≡ status_of_family program f.whole f.ends)
+-- without `--report` and `--end`: the text that tells the outcomes of the ends
+abbrev pub TellsAll : Option ℕ → Tree → Bool → List RunLogs → List ℕ → ℕ → Type 0
+TellsAll depth program whole ends text status =
+    (text ≡ text_of_family depth program whole ends) × (status ≡ status_of_family program whole ends)
 
--- with it: the report of the first end of that outcome, which is its replay's
-abbrev pub TellsOne : Option ℕ → Tree → ℕ → List ℕ → ℕ → Type 0
-TellsOne depth program number text status = (f : Found program) × (x : RunLogs) × IsFirstOf depth program f number x
+-- the end that is chosen: the first one of an outcome, or one by its own number from 1
+abbrev pub IsChoice : Option ℕ → Tree → List RunLogs → Choice → RunLogs → Type 0
+IsChoice depth program ends (choices.Outcome number) x = IsFirstOf depth program ends number x
+IsChoice depth program ends (choices.End number) x = slice_get ends (number - 1) ≡ Some x
+
+-- with `--report` or `--end`: the report of that end, which is its replay's
+abbrev pub TellsOne : Option ℕ → Tree → List RunLogs → Choice → List ℕ → ℕ → Type 0
+TellsOne depth program ends choice text status = (x : RunLogs) × IsChoice depth program ends choice x
     × (text ≡ report_at depth (end_of program x)) × (status ≡ exit_status (outcome_of (end_of program x)))
 
-abbrev pub Tells : Option ℕ → Tree → Option ℕ → List ℕ → ℕ → Type 0
-Tells depth program None text status = TellsAll depth program text status
-Tells depth program (Some number) text status = TellsOne depth program number text status
+abbrev pub Tells : Option ℕ → Tree → Bool → List RunLogs → Option Choice → List ℕ → ℕ → Type 0
+Tells depth program whole ends None text status = TellsAll depth program whole ends text status
+Tells depth program whole ends (Some choice) text status = TellsOne depth program ends choice text status
 
--- what a call writes for its task: of the program in the file
+-- what a call writes for its task: of the program in the file, and of the ends that were found, or whose reports are in
+-- the files that `--check-ends` names
 abbrev pub Answers : Outside → TaskShape → List ℕ → ℕ → Type 0
 Answers o task text status = (program : Marked) × IsInFile o task.file program
-    × Tells task.depth (plain program) task.report text status
+    × (f : Found (plain program)) × AreShown o (plain program) task.given f.ends
+    × Tells task.depth (plain program) f.whole f.ends task.choice text status
 
--- the ends that were found are all that the program has, and the text that tells them was written
+-- the ends that were found or given are all that the program has, and the text that tells them was written
 pub record IsWhole (c : Call) (task : TaskShape) (status : ℕ) : Type 0 where
   pub program : Marked
   pub given : IsInFile c.outside task.file program
   pub ends : List RunLogs
+  pub shown : AreShown c.outside (plain program) task.given ends
   pub complete : IsComplete (plain program) ends
   pub status_is : status ≡ worst_of (plain program) ends
   pub written : Takes c.out (text_of_family task.depth (plain program) true ends)
@@ -58,5 +69,5 @@ pub record IsWhole (c : Call) (task : TaskShape) (status : ℕ) : Type 0 where
 
 -- with 0, 1 or 4, where the words ask for no report and no help
 abbrev pub Completes : Call → ℕ → Type 0
-Completes c status = (task : TaskShape) → is_taken c.words ≡ true → task_of c.words ≡ Some task → task.report ≡ None
+Completes c status = (task : TaskShape) → is_taken c.words ≡ true → task_of c.words ≡ Some task → task.choice ≡ None
     → IsEnded status → IsWhole c task status

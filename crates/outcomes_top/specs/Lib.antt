@@ -1,5 +1,6 @@
 -- in reading order
 pub mod Families
+pub mod Given
 pub mod Correct
 pub mod Endings
 pub mod Joined

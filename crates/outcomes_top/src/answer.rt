@@ -1,8 +1,8 @@
 //! What a call tells, up to the writing.
 
-ghost use Rattle.std.specs.Prelude.{◌≡◌, ◌≤◌, ℕ, Option, IfOk, IfErr, Some, length, map, string_bytes, true, ◌-◌};
-ghost use Rattle.asp_model.specs.declared.limits.TheConstants.{MOST_REDUCTIONS};
+ghost use Rattle.std.specs.Prelude.{◌≡◌, ◌≤◌, ◌∷◌, ℕ, Option, IfOk, IfErr, length, map, string_bytes, true, ◌-◌};
 ghost use Rattle.asp_model.specs.Shapes.{tree_of};
+ghost use Rattle.asp_top.specs.Programs.{AsksInTurn};
 ghost use Rattle.asp_top.specs.Ready.{text_in};
 ghost use Rattle.asp_top.specs.Seen.{bytes_of, outside};
 ghost use Rattle.outcome_search.specs.Ends.{AreReplayableEnds, IsReplayableEnd, run_logs};
@@ -10,21 +10,22 @@ ghost use Rattle.outcome_search.specs.declared.runs.Stop.TheVariants as endings;
 ghost use Rattle.replay_offers.specs.Programs.{tree_in};
 ghost use Rattle.outcomes_words.specs.Shapes.{task_shape};
 ghost use Rattle.outcomes_words.specs.Words.{IsWithin};
-ghost use Rattle.outcomes_top.specs.Correct.{Answers, Tells, TellsAll, TellsOne};
-ghost use Rattle.outcomes_top.specs.Endings.{IsAnswer};
+ghost use Rattle.outcomes_top.specs.Correct.{Answers, TellsAll, TellsOne};
+ghost use Rattle.outcomes_top.specs.Endings.{IsAnswer, ReadsFiles};
 ghost use Rattle.asp_top.specs.declared.stop.Stop.TheVariants as stops;
 ghost use Rattle.outcomes_top.specs.declared.halt.Halt.TheVariants as halts;
 ghost use Rattle.outcomes_top.specs.Families.{IsFamily, end_of, status_with};
-ghost use Rattle.outcomes_top.specs.Surveys.{Halts, HaltsAt, HaltsFor, IsReportOf, IsSurvey};
+ghost use Rattle.outcomes_top.specs.Surveys.{AreChosen, Halts, HaltsAt, HaltsFor, HaltsOne, IsReportOf, IsSurvey, TellsOf, place_in, some_below};
 
+use crate::given::ends_in;
 use crate::halt::Halt;
 use crate::survey::{Survey, end_at, survey_of};
 use asp_check::Checked;
 use asp_edge::Source;
 use asp_top::{Prepared, Stop, program_of, report_for};
-use outcome_search::{EndedRun, Stop as Ending, all_ends};
+use outcome_search::{EndedRun, Stop as Ending, all_ends, check_ends};
 use outcomes_text::tell;
-use outcomes_words::{Task, Wanted, WordsRefused, read_words};
+use outcomes_words::{Choice, Task, Wanted, WordsRefused, read_words};
 use replay_offers::Replays;
 use std::alloc::{AllocError, Global};
 
@@ -37,6 +38,7 @@ pub struct Family {
 }
 
 /// What the words ask to be told.
+#[tactic(auto, using(crate::proofs::ReadLemmas::none_read))]
 pub fn answer_of<'a, S: Source>(
     alloc: Global,
     words: &'a [String],
@@ -45,6 +47,7 @@ pub fn answer_of<'a, S: Source>(
     ensures answer { IfOk result (λ p. IsAnswer (bytes_of words.entry.now)
         (outside S.told source) (text_in p) p.status) }
     ensures halt { IfErr result (Halts (bytes_of words.entry.now) (outside S.told source)) }
+    ensures reads { ReadsFiles (bytes_of words.entry.now) (outside S.told source) }
 {
     match read_words(alloc, words) {
         Ok(Wanted::Outcomes(task)) => of_task(alloc, &task, source),
@@ -79,24 +82,36 @@ fn of_task<'a, S: Source>(
     ensures answer { IfOk result (λ p. Answers (outside S.told source)
         (task_shape task.now) (text_in p) p.status) }
     ensures halt { IfErr result (HaltsFor (outside S.told source) (task_shape task.now)) }
+    ensures reads { let shape = task_shape task.now in
+        AsksInTurn (outside S.told source) (shape.file ∷ shape.given) }
 {
     let checked = program_of(alloc, task.file, source)?;
-    of_program(alloc, &checked, task)
+    let given = ends_in(alloc, &checked, &task.given, source)?;
+    of_program(alloc, &checked, task, given)
 }
 
-// What there is to tell of a program.
-fn of_program<'a>(alloc: Global, program: &Checked, task: &Task<'_>) -> Result<Prepared, Halt<'a>>
+// What there is to tell of a program, and of given ends of it where files are named for them.
+fn of_program<'a>(
+    alloc: Global,
+    program: &Checked,
+    task: &Task<'_>,
+    given: Vec<EndedRun>,
+) -> Result<Prepared, Halt<'a>>
     requires within { IsWithin (task_shape task.now) }
+    requires given { let tree = tree_of program.now.program.root in
+        AreReplayableEnds tree (map run_logs given.items) }
     ensures answer { let tree = tree_of program.now.program.root in
-        IfOk result (λ p. Tells task.now.depth tree task.now.report (text_in p) p.status) }
+        let given = map run_logs given.items in
+        IfOk result (λ p. TellsOf (task_shape task.now) tree given (text_in p) p.status) }
     ensures halt { let tree = tree_of program.now.program.root in
-        IfErr result (HaltsAt task.now.depth tree task.now.report) }
+        let given = map run_logs given.items in
+        IfErr result (HaltsAt (task_shape task.now) tree given) }
 {
-    let family = family_of(alloc, program, task.budget, task.most as usize)?;
+    let family = family_of(alloc, program, task, given)?;
     let survey = survey_of(alloc, &family.runs, &family.ends, task.depth)?;
-    match task.report {
+    match task.choice {
         None => Ok(all(alloc, &family, &survey)?),
-        Some(number) => one(alloc, &family, &survey, number, task.depth),
+        Some(choice) => one(alloc, &family, &survey, choice, task.depth),
     }
 }
 
@@ -110,22 +125,61 @@ fn is_whole(stop: &Ending) -> bool
     }
 }
 
-// The ends of a program, found within a budget for each.
+// The ends that are told: those given, or those that a search finds.
 fn family_of(
     alloc: Global,
     program: &Checked,
-    budget: u64,
-    most: usize,
+    task: &Task<'_>,
+    given: Vec<EndedRun>,
 ) -> Result<Family, AllocError>
-    requires within { budget ≤ MOST_REDUCTIONS }
+    requires within { IsWithin (task_shape task.now) }
+    requires given { let tree = tree_of program.now.program.root in
+        AreReplayableEnds tree (map run_logs given.items) }
     ensures tree { IfOk result (λ f. tree_in f.runs ≡ tree_of program.now.program.root) }
     ensures ends { IfOk result
         (λ f. AreReplayableEnds (tree_in f.runs) (map run_logs f.ends.items)) }
     ensures family { IfOk result
         (λ f. IsFamily (tree_in f.runs) f.whole (map run_logs f.ends.items)) }
+    ensures chosen { let given = map run_logs given.items in IfOk result
+        (λ f. AreChosen (task_shape task.now).given given (map run_logs f.ends.items)) }
 {
-    let mut runs = Replays::new(alloc, program, budget)?;
+    let runs = Replays::new(alloc, program, task.budget)?;
+    if task.given.is_empty() {
+        sought(alloc, runs, task.most as usize)
+    } else {
+        checked(alloc, runs, given)
+    }
+}
+
+// The ends that a search finds.
+fn sought(alloc: Global, runs: Replays, most: usize) -> Result<Family, AllocError>
+    ensures tree { IfOk result (λ f. tree_in f.runs ≡ tree_in runs) }
+    ensures ends { IfOk result
+        (λ f. AreReplayableEnds (tree_in f.runs) (map run_logs f.ends.items)) }
+    ensures family { IfOk result
+        (λ f. IsFamily (tree_in f.runs) f.whole (map run_logs f.ends.items)) }
+{
+    let mut runs = runs;
     let found = all_ends(alloc, &mut runs, most)?;
+    Ok(Family {
+        runs,
+        whole: is_whole(&found.stop),
+        ends: found.ends,
+    })
+}
+
+// Given ends, and whether they are all.
+fn checked(alloc: Global, runs: Replays, given: Vec<EndedRun>) -> Result<Family, AllocError>
+    requires given { AreReplayableEnds (tree_in runs) (map run_logs given.items) }
+    ensures tree { IfOk result (λ f. tree_in f.runs ≡ tree_in runs) }
+    ensures ends { IfOk result
+        (λ f. AreReplayableEnds (tree_in f.runs) (map run_logs f.ends.items)) }
+    ensures family { IfOk result
+        (λ f. IsFamily (tree_in f.runs) f.whole (map run_logs f.ends.items)) }
+    ensures same { IfOk result (λ f. map run_logs f.ends.items ≡ map run_logs given.items) }
+{
+    let mut runs = runs;
+    let found = check_ends(alloc, &mut runs, given)?;
     Ok(Family {
         runs,
         whole: is_whole(&found.stop),
@@ -147,11 +201,11 @@ fn status_for(whole: bool, worst: u8) -> u8
 
 // All outcomes.
 fn all(alloc: Global, family: &Family, survey: &Survey) -> Result<Prepared, AllocError>
-    requires family { let ends = map run_logs family.now.ends.items in
-        IsFamily (tree_in family.now.runs) family.now.whole ends }
     ensures all { (depth : Option ℕ) →
-        IsSurvey depth (tree_in family.now.runs) (map run_logs family.now.ends.items) survey.now →
-        IfOk result (λ p. TellsAll depth (tree_in family.now.runs) (text_in p) p.status) }
+        let ends = map run_logs family.now.ends.items in
+        IsSurvey depth (tree_in family.now.runs) ends survey.now →
+        IfOk result (λ p. TellsAll
+        depth (tree_in family.now.runs) family.now.whole ends (text_in p) p.status) }
 {
     let ends = count(&family.ends);
     let text = tell(alloc, family.whole, ends, survey.longest, &survey.tally)?;
@@ -185,27 +239,45 @@ fn report_of<'a>(
     Ok(report_for(alloc, &run, depth)?)
 }
 
-// The report of the first end of an outcome.
+// The place of the end that is chosen, if there are so many.
+fn place_chosen(ends: &[EndedRun], survey: &Survey, choice: Choice) -> Option<usize>
+    ensures place { result ≡ place_in survey.now.tally (length ends.now) choice }
+{
+    match choice {
+        Choice::Outcome(number) => {
+            let (_, share) = survey.tally.get(place_of(number))?;
+            Some(share.first)
+        }
+        Choice::End(number) => place_below(place_of(number), ends.len()),
+    }
+}
+
+fn place_below(place: usize, count: usize) -> Option<usize>
+    ensures { result ≡ some_below place count }
+{
+    if place < count { Some(place) } else { None }
+}
+
+// The report of the end that is chosen.
 fn one<'a>(
     alloc: Global,
     family: &Family,
     survey: &Survey,
-    number: u64,
+    choice: Choice,
     depth: Option<u32>,
 ) -> Result<Prepared, Halt<'a>>
-    requires family { let ends = map run_logs family.now.ends.items in
-        IsFamily (tree_in family.now.runs) family.now.whole ends }
     requires ends { AreReplayableEnds (tree_in family.now.runs)
         (map run_logs family.now.ends.items) }
     requires survey { let ends = map run_logs family.now.ends.items in
         IsSurvey depth (tree_in family.now.runs) ends survey.now }
-    ensures answer { IfOk result
-        (λ p. TellsOne depth (tree_in family.now.runs) number (text_in p) p.status) }
-    ensures halt { IfErr result (HaltsAt depth (tree_in family.now.runs) (Some number)) }
+    ensures answer { let ends = map run_logs family.now.ends.items in IfOk result
+        (λ p. TellsOne depth (tree_in family.now.runs) ends choice (text_in p) p.status) }
+    ensures halt { let ends = map run_logs family.now.ends.items in
+        IfErr result (HaltsOne depth (tree_in family.now.runs) ends choice) }
 {
-    let Some((_, share)) = survey.tally.get(place_of(number)) else {
-        return Err(Halt::NoOutcome(number));
+    let Some(place) = place_chosen(&family.ends, survey, choice) else {
+        return Err(Halt::Missing(choice));
     };
-    let end = end_at(&family.ends, share.first);
+    let end = end_at(&family.ends, place);
     report_of(alloc, &family.runs, end, depth)
 }

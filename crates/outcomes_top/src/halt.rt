@@ -4,8 +4,25 @@ ghost use Rattle.std.specs.Prelude.{◌≡◌};
 ghost use Rattle.asp_top.specs.declared.stop.Stop.TheVariants as stops;
 ghost use Rattle.outcomes_top.specs.declared.halt.Halt.TheVariants as halts;
 
+use asp_model::ActivityName;
 use asp_top::Stop;
+use outcomes_words::Choice;
 use std::alloc::AllocError;
+
+/// Why the file of a given report is refused.
+#[derive(Drop)]
+pub enum Fault {
+    /// The source failed at it.
+    Unread,
+    /// There are more bytes than a report may have.
+    Long,
+    /// The line of this number is the first one of a report that cannot stand in its place.
+    Line(u64),
+    /// The report does not fit the program, and this is the least activity that shows it.
+    Diverges(ActivityName),
+    /// The replay can go on.
+    GoesOn,
+}
 
 /// Why nothing is told.
 #[derive(Drop)]
@@ -14,8 +31,10 @@ pub enum Halt<'a> {
     Usage,
     /// There is no checked program in the file, or memory ran out.
     Stop(Stop<'a>),
-    /// There is no outcome of this number.
-    NoOutcome(u64),
+    /// The given report in the file of this name is refused.
+    Given(&'a str, Fault),
+    /// There is no outcome, or no end, of this number.
+    Missing(Choice),
 }
 
 impl<'a> From<Stop<'a>> for Halt<'a> {

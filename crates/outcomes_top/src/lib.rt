@@ -2,6 +2,7 @@
 #![tactic(auto)]
 
 mod answer;
+mod given;
 mod halt;
 mod joined;
 mod survey;

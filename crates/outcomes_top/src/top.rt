@@ -1,8 +1,8 @@
 //! The call.
 
-ghost use Rattle.asp_top.specs.Seen.{saw};
+ghost use Rattle.asp_top.specs.Seen.{bytes_of, outside, saw};
 ghost use Rattle.outcomes_top.specs.Correct.{Completes};
-ghost use Rattle.outcomes_top.specs.Endings.{Ends};
+ghost use Rattle.outcomes_top.specs.Endings.{Ends, ReadsFiles};
 
 use crate::answer::answer_of;
 use crate::writing::halt;
@@ -12,7 +12,10 @@ use std::alloc::Global;
 
 /// Tells the outcomes of the program in the file that the words name: of its ends, found one by
 /// one until they are all or the search is cut off, what a user sees, and how many look so. With
-/// `--report K` it writes the report of the first end of that outcome.
+/// `--check-ends FILE ..` it looks for none: the ends are those whose reports are in these files,
+/// and it checks whether they are all. With `--report K` it writes the report of the first end of
+/// that outcome. The words come first, then the program's file, its reading and its check, each
+/// given report's file and its replay, and the ends; the first refusal in this order ends the call.
 pub fn run_outcomes<S: Source, O: Sink, E: Sink>(
     alloc: Global,
     words: &[String],
@@ -22,6 +25,9 @@ pub fn run_outcomes<S: Source, O: Sink, E: Sink>(
 ) -> u8
     // How the call ends: the status, what the source handed out, and what `out` and `err` took.
     ensures ends { Ends (saw S.told O.told E.told words.now source out err) result }
+
+    // Which files are read.
+    ensures reads { ReadsFiles (bytes_of words.now) (outside S.told source) }
 
     // The main theorem: with 0, 1 or 4 the ends that are told are all that the program has.
     ensures complete { Completes (saw S.told O.told E.told words.now source out err) result }

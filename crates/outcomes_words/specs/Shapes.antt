@@ -1,5 +1,5 @@
 -- What the code holds, as texts and tasks.
-use Rattle.std.specs.Prelude.{◌≡◌, List, Option, Some, option_map, false}
+use Rattle.std.specs.Prelude.{◌≡◌, List, Option, Some, option_map, map, false}
 use Rattle.std.specs.Borrow.{Bor}
 use Rattle.clap.specs.Walk.{Text}
 use Rattle.outcomes_words.specs.declared.command.Texts.{Texts}
@@ -15,6 +15,9 @@ use Rattle.outcomes_words.specs.Words.{AskNothing, IsWithin, TaskShape, TextsSha
 abbrev pub text_behind : Option (Bor Text) → Option Text
 text_behind = option_map (λ s. s.now)
 
+abbrev pub texts_behind : List (Bor Text) → List Text
+texts_behind = map (λ s. s.now)
+
 abbrev pub texts_shape : Texts → TextsShape
 texts_shape t = record {
   file = text_behind t.file;
@@ -22,10 +25,19 @@ texts_shape t = record {
   ends = text_behind t.ends;
   state = text_behind t.state;
   report = text_behind t.report;
+  end = text_behind t.end;
+  given = texts_behind t.given.items;
 }
 
 abbrev pub task_shape : Task → TaskShape
-task_shape t = record { file = t.file.now; budget = t.budget; most = t.most; depth = t.depth; report = t.report }
+task_shape t = record {
+  file = t.file.now;
+  budget = t.budget;
+  most = t.most;
+  depth = t.depth;
+  choice = t.choice;
+  given = texts_behind t.given.items;
+}
 
 -- the words ask for this task; or the command does not take them, and the text is the help
 abbrev pub IsWanted : List Text → Wanted → Type 0

@@ -4,4 +4,4 @@
 mod command;
 mod task;
 
-pub use task::{Task, Wanted, WordsRefused, read_words};
+pub use task::{Choice, Task, Wanted, WordsRefused, read_words};

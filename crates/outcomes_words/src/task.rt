@@ -2,11 +2,10 @@
 
 ghost use Rattle.std.specs.Prelude.{◌≡◌, ◌≤◌, IfOk, IfErr, IfSome, map, option_map, string_bytes};
 ghost use Rattle.asp_model.specs.declared.limits.TheConstants.{MOST_DEPTH as MOST_DEEP};
-ghost use Rattle.outcomes_words.specs.declared.task.TheConstants.{MOST_ENDS as MOST_FOUND};
 ghost use Rattle.outcomes_words.specs.Shapes.{IsUnwanted, IsWanted, IsWantedWithin, task_shape, text_behind, texts_shape};
-ghost use Rattle.outcomes_words.specs.Words.{IsWithin, number_if, number_or as number_or_usual, task_in as task_within};
+ghost use Rattle.outcomes_words.specs.Words.{IsWithin, are_at_odds as are_texts_at_odds, choice_of, number_if, number_or as number_or_usual, task_in as task_within};
 
-use crate::command::{Refused, Texts, matches, texts_found};
+use crate::command::{Refused, Texts, read_texts};
 use asp_model::{MOST_DEPTH, MOST_REDUCTIONS};
 use command_line::number_in;
 use std::alloc::Global;
@@ -18,7 +17,16 @@ const USUAL_ENDS: u64 = 10_000;
 
 const USUAL_BUDGET: u64 = 1_000_000;
 
-/// The outcomes of a program, or the report of one of them.
+/// Whose report is asked for, by its number from 1.
+#[derive(Clone, Copy)]
+pub enum Choice {
+    /// That of the first end of an outcome.
+    Outcome(u64),
+    /// That of an end.
+    End(u64),
+}
+
+/// The outcomes of a program, or the report of one of them or of one end.
 #[derive(Drop)]
 pub struct Task<'a> {
     /// The program's file.
@@ -29,8 +37,10 @@ pub struct Task<'a> {
     pub most: u64,
     /// How deep states are shown, if they are.
     pub depth: Option<u32>,
-    /// The outcome whose report is asked for, by its number from 1.
-    pub report: Option<u64>,
+    /// The outcome or the end whose report is asked for.
+    pub choice: Option<Choice>,
+    /// The files whose reports are checked to be all ends; where there is none, ends are looked for.
+    pub given: Vec<&'a str>,
 }
 
 /// What the words ask for.
@@ -55,8 +65,8 @@ pub fn read_words<'a>(alloc: Global, words: &'a [String]) -> Result<Wanted<'a>, 
     ensures refused { IfErr result (IsUnwanted (map string_bytes words.entry.now)) }
     ensures within { IfOk result IsWantedWithin }
 {
-    match matches(alloc, words) {
-        Ok(matches) => match task_in(&texts_found(&matches)) {
+    match read_texts(alloc, words) {
+        Ok(texts) => match task_in(texts) {
             Some(task) => Ok(Wanted::Outcomes(task)),
             None => Err(WordsRefused::Usage),
         },
@@ -66,22 +76,33 @@ pub fn read_words<'a>(alloc: Global, words: &'a [String]) -> Result<Wanted<'a>, 
     }
 }
 
+// Whether a search is bounded where none is asked for.
+fn are_at_odds(texts: &Texts<'_>) -> bool
+    ensures { result ≡ are_texts_at_odds (texts_shape texts.now) }
+{
+    !texts.given.is_empty() && (texts.budget.is_some() || texts.ends.is_some())
+}
+
 // The task, where the numbers are within bounds.
-fn task_in<'a>(texts: &Texts<'a>) -> Option<Task<'a>>
-    ensures task { option_map task_shape result ≡ task_within (texts_shape texts.now) }
+fn task_in<'a>(texts: Texts<'a>) -> Option<Task<'a>>
+    ensures task { option_map task_shape result ≡ task_within (texts_shape texts.entry) }
     ensures within { IfSome result (λ t. IsWithin (task_shape t)) }
 {
+    if are_at_odds(&texts) {
+        return None;
+    }
     let file = texts.file?;
     let budget = number_or(texts.budget, 1, MOST_REDUCTIONS, USUAL_BUDGET)?;
     let most = number_or(texts.ends, 1, MOST_ENDS, USUAL_ENDS)?;
     let depth = depth_in(texts.state)?;
-    let report = report_in(texts.report)?;
+    let choice = choice_in(texts.report, texts.end)?;
     Some(Task {
         file,
         budget,
         most,
         depth,
-        report,
+        choice,
+        given: texts.given,
     })
 }
 
@@ -106,11 +127,13 @@ fn depth_in(text: Option<&str>) -> Option<Option<u32>>
     Some(Some(depth as u32))
 }
 
-fn report_in(text: Option<&str>) -> Option<Option<u64>>
-    ensures report { result ≡ number_if 1 MOST_FOUND (text_behind text.entry) }
+fn choice_in(report: Option<&str>, end: Option<&str>) -> Option<Option<Choice>>
+    ensures choice { result ≡ choice_of (text_behind report.entry) (text_behind end.entry) }
 {
-    let Some(text) = text else {
-        return Some(None);
-    };
-    Some(Some(number_in(text, 1, MOST_ENDS)?))
+    match (report, end) {
+        (None, None) => Some(None),
+        (Some(text), None) => Some(Some(Choice::Outcome(number_in(text, 1, MOST_ENDS)?))),
+        (None, Some(text)) => Some(Some(Choice::End(number_in(text, 1, MOST_ENDS)?))),
+        (Some(_), Some(_)) => None,
+    }
 }

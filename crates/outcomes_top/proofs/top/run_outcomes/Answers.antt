@@ -13,7 +13,7 @@ returns-in-Ok g c =
       err = sight_between g.E.Sink.told c.args.err.now c.write_prepared.new.err;
     } in
     let ends : Ends call c.write_prepared.result = ends_written call c.write_prepared.result c.in-Ok.prepared c.in-Ok.ensures.answer c.write_prepared.ensures in
-    record { ends = ends; complete = ends_complete call c.write_prepared.result ends }
+    record { ends = ends; reads = c.in-Ok.ensures.reads; complete = ends_complete call c.write_prepared.result ends }
 
 pub returns-in-Err : goal.returns-in-Err
 returns-in-Err g c =
@@ -24,4 +24,4 @@ returns-in-Err g c =
       err = sight_between g.E.Sink.told c.args.err.now c.halt.new.err;
     } in
     let ends : Ends call c.halt.result = ends_halted call c.halt.result c.in-Err.stop c.in-Err.ensures.halt refl c.halt.ensures in
-    record { ends = ends; complete = ends_complete call c.halt.result ends }
+    record { ends = ends; reads = c.in-Err.ensures.reads; complete = ends_complete call c.halt.result ends }

@@ -1,7 +1,7 @@
 use Rattle.std.proofs.Common.{List, ℕ, ◌∙◌, subst, inl}
 use Rattle.asp_top.specs.Seen.{sight_between}
 use Rattle.outcomes_top.specs.Surveys.{IsToldBy}
-use Rattle.outcomes_top.proofs.writing.say_no_outcome.Goals as goal
+use Rattle.outcomes_top.proofs.writing.say_missing.Goals as goal
 
 pub returns-in-Ok : goal.returns-in-Ok
 returns-in-Ok g c =
