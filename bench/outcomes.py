@@ -1,13 +1,17 @@
 #!/usr/bin/env python3
 """Tells what asp-outcomes finds, and holds racing runs of asp to it.
 
-    bench/outcomes.py [--runs N] [--generated N] [--most N]
+    bench/outcomes.py [--runs N] [--most N] [--cases] [--generated N] [--few N] [--generated-runs N]
 
-It takes the programs that `rt ci` built, or those that ASP and OUTCOMES name. For each program of the table, and
-for each example, it prints the ends, the outcomes and the seconds. Where the ends are complete and at most as many
-as --most (500), the report of each outcome has to be replayed by asp to its own bytes, and each of --runs racing
-runs (200), by 1 to 64 workers and under each strategy, has to print one of the outcomes. With --generated the same
-goes for so many programs of bench/programs.py. It ends with 1 if anything failed.
+It takes the programs that `rt ci` built, or those that ASP and OUTCOMES name. Of each program of the table it prints
+the ends, the outcomes and the seconds, and the ends and the outcomes have to be those that are known. It does so for
+each example, with --cases for each program of cases/, and with --generated for so many programs of
+bench/programs.py that have at most --few ends (200).
+
+Of a program whose ends are complete and at most --most (500): the report of each end has to be replayed by asp to
+its own bytes, and to be one of the outcomes; all these reports have to be complete by --check-ends, with the same
+text, and cut off without one of them; and each of --runs racing runs (200), by 1 to 64 workers and under each
+strategy, has to print the report of one of the ends. It ends with 1 if anything failed.
 """
 import argparse
 import glob
@@ -31,30 +35,69 @@ THINKER = ("let thinker = [; dine(self, left, right) = left.take() + 0; right.ta
            "right.put(); echo(\"ate\")] in\n")
 
 
+def made(letter, term, many):
+    """So many activities, by a letter and a number."""
+    return "".join(f"let {letter}{i} = active({term}) in " for i in range(many)) + "\n"
+
+
 def philosophers(many, polite=False):
     """So many philosophers, who all take the left fork first, but for the last one where they are polite."""
-    text = FORK + THINKER
-    text += "".join(f"let f{i} = active(fork, run) in " for i in range(many)) + "\n"
-    text += "".join(f"let t{i} = active(thinker) in " for i in range(many)) + "\n"
     calls = [f"t{i}.dine(f{i}, f{(i + 1) % many})" for i in range(many)]
     if polite:
         calls[-1] = f"t{many - 1}.dine(f0, f{many - 1})"
-    return text + "; ".join(calls)
+    return FORK + THINKER + made("f", "fork, run", many) + made("t", "thinker", many) + "; ".join(calls)
 
 
 def clients(many):
     """So many clients of one counter."""
     text = "let c = active([n = 0; put(s, v) = s.n := s.n + v; 0]) in let w = [; go(s, v) = c.put(v)] in\n"
-    text += "".join(f"let w{i} = active(w) in " for i in range(many))
-    return text + "; ".join(f"w{i}.go({i + 1})" for i in range(many))
+    return text + made("w", "w", many) + "; ".join(f"w{i}.go({i + 1})" for i in range(many))
 
 
+def own_counters(many):
+    """So many clients, each with a counter of its own, which it asks three times."""
+    text = "let counter = [n = 0; put(s, v) = s.n := s.n + v; 0] in\n"
+    text += "let w = [; go(s, c) = c.put(1); c.put(2); c.put(3)] in\n"
+    return text + made("c", "counter", many) + made("w", "w", many) + "; ".join(f"w{i}.go(c{i})" for i in range(many))
+
+
+def accounts():
+    """Two accounts, each with two customers who pay in."""
+    text = "let account = [sum = 0; pay(s, v) = s.sum := s.sum + v; print(s.sum)] in\n"
+    text += "let w = [; go(s, c, v) = c.pay(v)] in\n"
+    calls = [f"w{i}.go(c{i // 2}, {i + 1})" for i in range(4)]
+    return text + made("c", "account", 2) + made("w", "w", 4) + "; ".join(calls)
+
+
+def pairs(many):
+    """The program that `asp --make` runs."""
+    return (f"let c = active([sum = 0; run(s) = s.many({many}); serve(total), many(s, k) = if (k == 0) {{ 0 }} else "
+            "{ serve(add); s.many(k - 1) }, add(s, v) = s.sum := s.sum + v; 0, total(s) = s.sum], run) in\n"
+            "let m = [; pairs(s, k) = if (k == 0) { 0 } else { let b = active([; twice(t, v) = v * 2]) in "
+            "let f = active([; go(t, v) = c.add(b.twice(v))]) in f.go(k); s.pairs(k - 1) }] in\n"
+            f"m.pairs({many});\nprint(c.total())\n")
+
+
+LOCKS = """let lock = [; run(self) = repeat(self.turn()), turn(self) = serve(take); serve(put), take(self) = 0, put(self) = 0] in
+let a = active(lock, run) in let b = active(lock, run) in
+let mode = active([swap = 0; set(self) = self.swap := 1, get(self) = self.swap]) in
+let one = active([; go(self) = a.take() + 0; b.take() + 0; a.put(); b.put(); echo("one")]) in
+let two = active([; go(self) = let s = mode.get() in if (s == 1) { b.take() + 0; a.take() + 0 } else { a.take() + 0; b.take() + 0 }; a.put(); b.put(); echo("two")]) in
+let admin = active([; work(self, n) = if (n == 0) { mode.set() } else { self.work(n - 1) }]) in
+one.go(); two.go(); admin.work(5)
+"""
+
+# a program, and how many ends and outcomes it has
 TABLE = {
-    "philosophers 3": philosophers(3),
-    "philosophers 4": philosophers(4),
-    "philosophers 5": philosophers(5),
-    "polite philosophers 4": philosophers(4, polite=True),
-    "6 clients, one counter": clients(6),
+    "philosophers 3": (philosophers(3), 37, 2),
+    "philosophers 4": (philosophers(4), 185, 2),
+    "philosophers 5": (philosophers(5), 841, 2),
+    "polite philosophers 4": (philosophers(4, polite=True), 208, 1),
+    "8 clients, own counters": (own_counters(8), 1, 1),
+    "6 clients, one counter": (clients(6), 720, 1),
+    "two accounts, 2 customers each": (accounts(), 4, 4),
+    "rare deadlock": (LOCKS, 15, 2),
+    "asp --make 4": (pairs(4), 120, 1),
 }
 
 
@@ -83,57 +126,129 @@ def outcomes_in(text):
     return parts
 
 
-def check(name, file, runs, most, room):
-    """Tells what is found of one program, and returns what failed."""
-    text, status, seconds = told([file], OUTCOMES)
-    lines = text.split("\n")
-    ends, parts = int(lines[2].split(" ")[1]), outcomes_in(text)
-    print(f"{name}: {lines[1]}, {ends} ends, {len(parts)} outcomes, status {status}, {seconds:.2f} s", flush=True)
-    failed = []
-    if lines[1] != "complete" or ends > most:
-        return failed
-    for number in range(1, len(parts) + 1):
-        report, one, _ = told([file, "--report", str(number)], OUTCOMES)
-        kept = os.path.join(room, "report")
+def replayed(name, file, ends, parts, room):
+    """The report of each end by its file, each of which is replayed; and what failed."""
+    reports, failed = {}, []
+    for number in range(1, ends + 1):
+        report, one, _ = told([file, "--end", str(number)], OUTCOMES)
+        kept = os.path.join(room, f"end{number}")
         with open(kept, "w", encoding="utf-8") as it:
             it.write(report)
-        again, other, _ = told([file, "--replay", kept], ASP)
-        if (again, other) != (report, one) or seen(report)[:-1] != parts[number - 1]:
-            failed.append(f"{name}: the report of outcome {number} is not replayed to its own bytes")
-    chance = random.Random(name)
-    for _ in range(runs):
-        words = [file, "--workers", str(chance.choice([1, 2, 4, 8, 64])), "--strategy",
-                 chance.choice(["lazy", "forward", "message"])]
-        report, _, _ = told(words, ASP)
+        reports[kept] = report
+        if told([file, "--replay", kept], ASP)[:2] != (report, one):
+            failed.append(f"{name}: the report of end {number} is not replayed to its own bytes")
         if seen(report)[:-1] not in parts:
-            failed.append(f"{name}: {' '.join(words[1:])} printed what is none of the outcomes")
+            failed.append(f"{name}: the report of end {number} is none of the outcomes")
+    return reports, failed
+
+
+def family(name, file, text, status, files):
+    """Whether all these reports are checked to be all, and cut off without one of them: what failed."""
+    failed = []
+    if told([file, "--check-ends", *files], OUTCOMES)[:2] != (text, status):
+        failed.append(f"{name}: --check-ends does not find all reports to be all")
+    if len(files) > 1:
+        gone = random.Random(name).randrange(len(files))
+        again, other, _ = told([file, "--check-ends", *files[:gone], *files[gone + 1:]], OUTCOMES)
+        if again.split("\n")[1:3] != ["cut off", f"ends {len(files) - 1}"] or other != 5:
+            failed.append(f"{name}: --check-ends does not miss the report of end {gone + 1}")
     return failed
 
 
+def raced(name, file, reports, runs):
+    """Racing runs, each of which has to print one of these reports: what failed, and how many of them were met."""
+    failed, met, chance = [], set(), random.Random(name)
+    for _ in range(runs):
+        words = [file, "--workers", str(chance.randint(1, 64)), "--strategy",
+                 chance.choice(["lazy", "forward", "message"])]
+        report, _, _ = told(words, ASP)
+        met.add(report)
+        if report not in reports:
+            failed.append(f"{name}: {' '.join(words[1:])} printed what is none of the ends")
+    return failed, len(met)
+
+
+def check(name, file, runs, most, room, known=None):
+    """Tells what is found of one program, and returns how many ends it has, if they are all, and what failed."""
+    text, status, seconds = told([file], OUTCOMES)
+    lines = text.split("\n")
+    ends, parts = int(lines[2].split(" ")[1]), outcomes_in(text)
+    line = f"{name}: {lines[1]}, {ends} ends, {len(parts)} outcomes, status {status}, {seconds:.2f} s"
+    failed = []
+    if known is not None and (lines[1], ends, len(parts)) != ("complete", *known):
+        failed.append(f"{name}: there are {known[0]} ends and {known[1]} outcomes")
+    if lines[1] == "complete" and ends <= most:
+        reports, more = replayed(name, file, ends, parts, room)
+        failed += more + family(name, file, text, status, list(reports))
+        more, met = raced(name, file, set(reports.values()), runs)
+        failed += more
+        line += f", {met} ends met by {runs} runs"
+    print(line, flush=True)
+    return ends if lines[1] == "complete" else None, failed
+
+
+def cases():
+    """The programs of the transcripts, by their file and number."""
+    for file in sorted(glob.glob(f"{HERE}/cases/*.txt")):
+        with open(file, encoding="utf-8") as it:
+            lines = it.read().split("\n")
+        held, number = [], 0
+        for line in [*lines, ""]:
+            if line.startswith("< ") or line == "<":
+                held.append(line[2:])
+            elif held:
+                number += 1
+                yield f"{os.path.basename(file)} {number}", "\n".join(held)
+                held = []
+
+
+def is_checked(file):
+    """asp finds no error in the program, and it is short enough to be searched."""
+    return os.path.getsize(file) < 20_000 and told([file, "--check"], ASP)[1] == 0
+
+
 def main():
-    """Checks the table, the examples and the generated programs that are asked for."""
+    """Checks the table, the examples, and the cases and generated programs that are asked for."""
     asked = argparse.ArgumentParser(description=__doc__, formatter_class=argparse.RawDescriptionHelpFormatter)
     asked.add_argument("--runs", type=int, default=200)
-    asked.add_argument("--generated", type=int, default=0)
     asked.add_argument("--most", type=int, default=500)
+    asked.add_argument("--cases", action="store_true")
+    asked.add_argument("--generated", type=int, default=0)
+    asked.add_argument("--few", type=int, default=200)
+    asked.add_argument("--generated-runs", type=int, default=200)
     given = asked.parse_args()
     failed = []
     with tempfile.TemporaryDirectory() as room:
-        texts = dict(TABLE)
-        for seed in range(given.generated):
-            texts[f"generated {seed}"] = programs.Maker(seed, 10).program()
-        for name, text in texts.items():
-            file = os.path.join(room, "program.asp")
+        file = os.path.join(room, "program.asp")
+
+        def tried(name, text, runs, most, known=None):
             with open(file, "w", encoding="utf-8") as it:
                 it.write(text)
+            if not is_checked(file):
+                return None
             try:
-                failed += check(name, file, given.runs, given.most, room)
+                ends, more = check(name, file, runs, most, room, known)
             except subprocess.TimeoutExpired:
                 print(f"{name}: not told in {MOST_SECONDS} s", flush=True)
-        for file in sorted(glob.glob(f"{HERE}/examples/*.asp")):
-            failed += check(os.path.basename(file), file, given.runs, given.most, room)
-    for it in failed:
-        print("FAILED", it)
+                return None
+            for it in more:
+                print("FAILED", it, flush=True)
+            failed.extend(more)
+            return ends
+
+        for name, (text, *known) in TABLE.items():
+            tried(name, text, given.runs, given.most, known)
+        for example in sorted(glob.glob(f"{HERE}/examples/*.asp")):
+            with open(example, encoding="utf-8") as it:
+                tried(os.path.basename(example), it.read(), given.runs, given.most)
+        if given.cases:
+            for name, text in cases():
+                tried(name, text, given.runs, given.most)
+        done = seed = 0
+        while done < given.generated:
+            ends = tried(f"generated {seed}", programs.Maker(seed, 10).program(), given.generated_runs, given.few)
+            seed += 1
+            done += ends is not None and ends <= given.few
     print(f"{len(failed)} failed")
     return 1 if failed else 0
 
