@@ -10,9 +10,9 @@ use Rattle.replay_one.specs.declared.notes.Note.{Note}
 use Rattle.replay_one.specs.Listening.{IsEvent, IsNote}
 use Rattle.run_events.specs.declared.listener.Listener.{Listener}
 use Rattle.run_events.specs.declared.page.Wish.{Wish}
-use Rattle.run_events.specs.Books.{BookShape, IsNoted, KeepsBooks, book_at, book_in, owner}
+use Rattle.run_waits.specs.Books.{BookShape, IsNoted, KeepsBooks, book_at, book_in, owner}
 use Rattle.run_events.specs.Events.{WhatShape, Creates, Sends, Answers, Prints, Fails, events_after, events_by, events_from, events_in, what_of}
-use Rattle.run_events.proofs.BookLemmas.{noted_kept}
+use Rattle.run_waits.proofs.BookLemmas.{noted_kept}
 use Rattle.run_events.specs.Kept.{IsHeard, IsPage, Tells, event_told, wish_event, wish_note}
 
 -- an event tells what it is told as

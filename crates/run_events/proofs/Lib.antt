@@ -1,2 +1,1 @@
-pub mod BookLemmas
 pub mod HeardLemmas

@@ -13,7 +13,7 @@ use Rattle.run_events.specs.declared.event.What.TheVariants as what
 use Rattle.run_events.specs.declared.listener.Listener.{Listener}
 use Rattle.run_events.specs.declared.page.Page.{Page}
 use Rattle.run_events.specs.declared.page.Wish.{Wish}
-use Rattle.run_events.specs.Books.{KeepsBooks, request_of}
+use Rattle.run_waits.specs.Books.{KeepsBooks, request_of}
 use Rattle.run_events.specs.Events.{RunEventShape, WhatShape, Creates, Sends, Serves, Answers, Polls, Prints, Fails, concerns, events_in, page}
 
 -- Events

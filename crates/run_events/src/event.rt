@@ -4,13 +4,13 @@ ghost use Rattle.std.specs.Prelude.{◌≡◌, IfOk, option_map};
 ghost use Rattle.std.specs.Option.{option_copied};
 ghost use Rattle.asp_model.specs.Shapes.{future_shape, line_shape};
 ghost use Rattle.serve_rules.specs.Labels.{label_text};
-ghost use Rattle.run_events.specs.Books.{newest, or_blank, request_of};
+ghost use Rattle.run_waits.specs.Books.{newest, or_blank, request_of};
 ghost use Rattle.run_events.specs.Events.{what_of as told_of};
 ghost use Rattle.run_events.specs.Kept.{event_told, what_shape};
 
-use crate::book::{Asked, Book};
 use asp_model::{ActivityName, Fault, FutureName, Label, Line};
 use replay_one::Event;
+use run_waits::{Asked, Book};
 use std::alloc::{AllocError, Global};
 
 /// What an activity does.
@@ -37,17 +37,15 @@ pub struct RunEvent {
     pub what: What,
 }
 
-impl Asked {
-    /// A request with this label and this future.
-    pub fn of(alloc: Global, label: &Label, future: &FutureName) -> Result<Asked, AllocError>
-        ensures asked { IfOk result
-            (λ a. request_of a ≡ (label.now.text, future_shape future.now)) }
-    {
-        Ok(Asked {
-            label: label.copy(alloc)?,
-            future: future.copy(alloc)?,
-        })
-    }
+// A request with this label and this future.
+fn asked_of(alloc: Global, label: &Label, future: &FutureName) -> Result<Asked, AllocError>
+    ensures asked { IfOk result
+        (λ a. request_of a ≡ (label.now.text, future_shape future.now)) }
+{
+    Ok(Asked {
+        label: label.copy(alloc)?,
+        future: future.copy(alloc)?,
+    })
 }
 
 /// What an event tells, of one whose requests these are after it.
@@ -59,7 +57,7 @@ pub fn what_of(alloc: Global, event: Event, book: Option<&Book>) -> Result<Optio
         Event::Made(made) => Ok(Some(What::Creates(made.copy(alloc)?))),
         Event::Sent(to, label, future) => {
             let to = to.copy(alloc)?;
-            Ok(Some(What::Sends(to, Asked::of(alloc, label, future)?)))
+            Ok(Some(What::Sends(to, asked_of(alloc, label, future)?)))
         }
         Event::Served(_) => Ok(Some(What::Serves(newest_of(alloc, book)?))),
         Event::Answered(future) => {
@@ -82,7 +80,7 @@ fn newest_of(alloc: Global, book: Option<&Book>) -> Result<Option<Asked>, AllocE
         return Ok(None);
     };
     match book.serving.last() {
-        Some(asked) => Ok(Some(Asked::of(alloc, &asked.label, &asked.future)?)),
+        Some(asked) => Ok(Some(asked_of(alloc, &asked.label, &asked.future)?)),
         None => Ok(None),
     }
 }

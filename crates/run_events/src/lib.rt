@@ -2,16 +2,12 @@
 //! prints and stops at a fault.
 #![tactic(auto)]
 
-mod book;
-mod books;
 mod event;
 mod events;
 mod listener;
 mod page;
 mod text;
 
-pub use book::{Asked, Book};
-pub use books::Books;
 pub use event::{RunEvent, What};
 pub use events::{EventsRun, events_of};
 pub use page::Wish;

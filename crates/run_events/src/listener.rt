@@ -1,12 +1,12 @@
 //! A listener that keeps the events that are asked for.
 
-ghost use Rattle.std.specs.Prelude.{◌≡◌, ◌∷◌, []};
+ghost use Rattle.std.specs.Prelude.{◌∷◌, []};
 ghost use Rattle.run_events.specs.Kept.{Tells, wish_note};
 
-use crate::books::Books;
 use crate::event::{RunEvent, what_of};
 use crate::page::{Page, Wish};
 use replay_one::{Note, Notes};
+use run_waits::Books;
 use std::alloc::{AllocError, Global};
 
 /// The events that are asked for, and the requests that are not answered.

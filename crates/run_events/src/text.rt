@@ -1,9 +1,9 @@
 //! Events as people read them.
 
-use crate::book::Asked;
 use crate::event::{RunEvent, What};
 use crate::events::EventsRun;
 use asp_model::{Fault, FutureName, Label, Line};
+use run_waits::Asked;
 use state_lines::{push_future, push_name};
 use std::alloc::{AllocError, Global};
 
@@ -29,7 +29,10 @@ fn push_heading(text: &mut String, from: u64, run: &EventsRun) -> Result<(), All
         return write!(text, "no events from {from} on, of {all}\n");
     }
     let last = from.saturating_add(count - 1);
-    write!(text, "events {from} to {last} of {all}\n")
+    write!(
+        text,
+        "events {from} to {last} of {all}, each after so many reductions of its activity\n"
+    )
 }
 
 // Who does what, after how many of its reductions.
@@ -72,10 +75,16 @@ fn push_what(text: &mut String, what: &What) -> Result<(), AllocError> {
     }
 }
 
+// A label, and a space behind it.
+fn push_label(text: &mut String, label: &Label) -> Result<(), AllocError> {
+    text.push_str("`")?;
+    text.push_str(label.text.as_str())?;
+    text.push_str("` ")
+}
+
 // A request: its label, and its future, which is named by who asks.
 fn push_asked(text: &mut String, asked: &Asked) -> Result<(), AllocError> {
-    text.push_str(asked.label.text.as_str())?;
-    text.push_str(" ")?;
+    push_label(text, &asked.label)?;
     push_future(text, &asked.future)
 }
 
@@ -92,8 +101,7 @@ fn push_answered(
     future: &FutureName,
 ) -> Result<(), AllocError> {
     if let Some(label) = label {
-        text.push_str(label.text.as_str())?;
-        text.push_str(" ")?;
+        push_label(text, label)?;
     }
     push_future(text, future)
 }

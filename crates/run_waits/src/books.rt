@@ -2,6 +2,7 @@
 
 ghost use Rattle.std.specs.Prelude.{◌≡◌, IsSome, OnOk};
 ghost use Rattle.std.specs.BTreeMap.{get};
+ghost use Rattle.std.specs.Option.{option_copied};
 ghost use Rattle.asp_model.specs.Names.{Name, name_cmp};
 ghost use Rattle.replay_one.specs.Listening.{IsEvent, IsNote};
 ghost use Rattle.replay_one.specs.Notes.{EventShape, NoteShape};
@@ -42,7 +43,9 @@ impl Books {
     }
 
     /// What an activity has of its requests, if anything was told of it.
-    pub fn book(&self, name: &ActivityName) -> Option<&Book> {
+    pub fn book(&self, name: &ActivityName) -> Option<&Book>
+        ensures book { or_blank (option_copied result) ≡ book_at self.now name.now }
+    {
         self.books.get(name)
     }
 

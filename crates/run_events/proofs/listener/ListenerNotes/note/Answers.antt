@@ -4,7 +4,7 @@ use Rattle.std.proofs.lemmas.List.{append-nil}
 use Rattle.std.proofs.lemmas.Result.{on_ok_weaker}
 use Rattle.run_events.specs.declared.event.RunEvent.{RunEvent}
 use Rattle.run_events.specs.declared.listener.Listener.{Listener}
-use Rattle.run_events.specs.Books.{or_blank}
+use Rattle.run_waits.specs.Books.{or_blank}
 use Rattle.run_events.specs.Events.{event_by, events_in}
 use Rattle.run_events.specs.Kept.{IsPage, event_shape, what_shape}
 use Rattle.run_events.proofs.HeardLemmas.{heard_note, ok_both, tells_if, tells_more}
