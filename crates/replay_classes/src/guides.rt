@@ -35,7 +35,8 @@ pub fn next_place(guide: &[Sending], by: &ActivityName, to: &ActivityName) -> Op
     None
 }
 
-/// What was sent in a run, but for what comes from a place on in one of its logs.
+/// What was sent in a run. Behind one that nobody sends, at a place of one of its logs, nothing of
+/// that log is next.
 pub fn cut_guide(
     alloc: Global,
     end: &FoundEnd,
@@ -44,15 +45,24 @@ pub fn cut_guide(
     place: usize,
 ) -> Result<Vec<Sending>, AllocError> {
     let mut guide = Vec::new(alloc);
-    let mut kept: usize = 0;
+    let mut before: usize = 0;
     for sending in &end.sendings {
-        let here = is_to(sending, to, class);
-        if !here || kept < place {
-            guide.push(copy_of(alloc, sending)?)?;
+        if is_to(sending, to, class) {
+            if before == place {
+                guide.push(sending_of_nobody(alloc, to, class)?)?;
+            }
+            before = before.saturating_add(1);
         }
-        if here {
-            kept = kept.saturating_add(1);
-        }
+        guide.push(copy_of(alloc, sending)?)?;
     }
     Ok(guide)
+}
+
+// No activity has the name without numbers.
+fn sending_of_nobody(alloc: Global, to: &ActivityName, class: u32) -> Result<Sending, AllocError> {
+    Ok(Sending {
+        by: ActivityName::of_path(Vec::new(alloc)),
+        to: to.copy(alloc)?,
+        class,
+    })
 }
