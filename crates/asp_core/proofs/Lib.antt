@@ -1,5 +1,4 @@
 -- in reading order
-pub mod VerdictLemmas
 pub mod EndOfRunLemmas
 pub mod OutLemmas
 pub mod DueLemmas

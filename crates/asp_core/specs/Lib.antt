@@ -1,5 +1,4 @@
 -- in reading order
-pub mod Verdicts
 pub mod Gathering
 pub mod EndOfRun
 pub mod Runs

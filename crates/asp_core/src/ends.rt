@@ -28,7 +28,7 @@ impl<P: UpdatePolicy + Drop> Core<P> {
         if self.spent {
             return None;
         }
-        crate::verdicts::verdict(&self.state, self.edges.next_due().is_some())
+        core_state::verdict(&self.state, self.edges.next_due().is_some())
     }
 
     /// The end of the run, with the states of its activities.

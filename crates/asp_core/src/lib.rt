@@ -11,9 +11,7 @@ mod ends;
 mod finishing;
 mod gathering;
 mod lends;
-mod verdicts;
 
 pub use cores::Core;
 pub use finishing::{end_of_run, finish, run};
 pub use gathering::end;
-pub use verdicts::verdict;

@@ -21,3 +21,4 @@ pub mod NeedLemmas
 pub mod EdgeLemmas
 pub mod TargetLemmas
 pub mod DueLemmas
+pub mod VerdictLemmas

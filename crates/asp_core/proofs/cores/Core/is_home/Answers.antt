@@ -1,6 +1,6 @@
 use Rattle.std.proofs.Common.{◌∙◌, sym}
 use Rattle.law_chases.proofs.FutureLemmas.{none_true}
-use Rattle.asp_core.proofs.VerdictLemmas.{none_away, some_away}
+use Rattle.core_state.proofs.VerdictLemmas.{none_away, some_away}
 use Rattle.asp_core.specs.Cores.{code_of, history_of}
 use Rattle.asp_core.proofs.HomeLemmas.{false_not, true_not}
 use Rattle.asp_core.proofs.cores.Core.is_home.Goals as goal

@@ -35,8 +35,7 @@ use Rattle.core_state.specs.declared.state.CoreState.{CoreState}
 use Rattle.core_state.specs.Cores.{IsAway, IsCore, IsSeated}
 use Rattle.core_state.specs.Lending.{IsNextReady}
 use Rattle.core_state.proofs.ListLemmas.{got_within, name_within}
-use Rattle.core_state.specs.Verdicts.{IsVerdictOf}
-use Rattle.asp_core.specs.Verdicts.{GoesOn, IsStill}
+use Rattle.core_state.specs.Verdicts.{GoesOn, IsStill, IsVerdictOf}
 
 -- Who is out
 

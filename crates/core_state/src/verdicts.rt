@@ -5,10 +5,11 @@ ghost use Rattle.asp_model.specs.History.{HistoryShape};
 ghost use Rattle.def_journals.specs.Journals.{RunShape};
 ghost use Rattle.code_table.specs.declared.code.Node.{Node as NodeShape};
 ghost use Rattle.core_state.specs.Cores.{IsCore, IsSomeCore};
-ghost use Rattle.asp_core.specs.Verdicts.{GoesOn, IsToldVerdict};
+ghost use Rattle.core_state.specs.Verdicts.{GoesOn, IsToldVerdict};
 
+use crate::ends::verdict_at_rest;
+use crate::state::CoreState;
 use asp_model::Verdict;
-use core_state::{CoreState, verdict_at_rest};
 
 /// Whether somebody is out, a value is needed, or somebody may be lent.
 fn goes_on(state: &CoreState) -> bool

@@ -1,8 +1,8 @@
 use Rattle.std.proofs.Common.{◌∙◌, Some, ap}
 use Rattle.asp_model.specs.Shapes.{verdict_shape}
-use Rattle.asp_core.specs.Verdicts.{IsStill}
-use Rattle.asp_core.proofs.VerdictLemmas.{goes_told, rest_told, still_told}
-use Rattle.asp_core.proofs.verdicts.verdict.Goals as goal
+use Rattle.core_state.specs.Verdicts.{IsStill}
+use Rattle.core_state.proofs.VerdictLemmas.{goes_told, rest_told, still_told}
+use Rattle.core_state.proofs.verdicts.verdict.Goals as goal
 
 pub returns-then-goes_on : goal.returns-then-goes_on
 returns-then-goes_on c = record { verdict = λ h code s core holders answers due. goes_told h code c.args.state.now s core holders answers (c.if-goes_on.ensures.goes_on h code s core) }

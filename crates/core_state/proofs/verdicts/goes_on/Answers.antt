@@ -1,7 +1,7 @@
 use Rattle.std.proofs.Common.{◌∙◌, sym, subst}
-use Rattle.asp_core.specs.Verdicts.{GoesOn}
-use Rattle.asp_core.proofs.VerdictLemmas.{away_on, none_away, ready_on}
-use Rattle.asp_core.proofs.verdicts.goes_on.Goals as goal
+use Rattle.core_state.specs.Verdicts.{GoesOn}
+use Rattle.core_state.proofs.VerdictLemmas.{away_on, none_away, ready_on}
+use Rattle.core_state.proofs.verdicts.goes_on.Goals as goal
 
 pub returns-then-is_any_out : goal.returns-then-is_any_out
 returns-then-is_any_out c = record { goes_on = λ h code s core. away_on h code c.args.state.now s core (sym c.is_any_out.ensures.out ∙ c.if-is_any_out.true) }
