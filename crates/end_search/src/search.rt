@@ -47,6 +47,9 @@ pub trait Ends {
     /// An end.
     fn first(&self, alloc: Global) -> Result<Result<Self::End, Self::Halt>, AllocError>
         ensures end { IfOk result (λ r. IfOk r (ended self.now)) };
+
+    /// Is told from time to time how many ends were found, and how many of them are done.
+    fn told(&self, _ends: usize, _done: usize) {}
 }
 
 /// How a search ended.
@@ -149,6 +152,7 @@ fn close_all<S: Ends>(
         if done >= ends.len() {
             return Ok(Stop::Complete);
         }
+        runs.told(ends.len(), done);
         let offers = match runs.offers(alloc, &ends[done])? {
             Ok(offers) => offers,
             Err(halt) => return Ok(Stop::Halts(halt)),
