@@ -9,5 +9,5 @@ mod offers;
 
 pub use ends::{FoundEnd, Offer, Sending};
 pub use laws::closed_is_complete;
-pub use logs::{ClassLog, begin_with};
+pub use logs::{ClassLog, begin_with, is_from, is_of, log_at};
 pub use offers::{Cuts, all_offers};

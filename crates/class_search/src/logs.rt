@@ -27,8 +27,9 @@ fn is_same(reception: &Reception, other: &Reception) -> bool
     }
 }
 
-fn is_from(reception: &Reception, name: &ActivityName) -> bool
-    ensures { result ≡ same_shape (From name.now) (reception_shape reception.now) }
+/// Whether it is an entry of this sender.
+pub fn is_from(reception: &Reception, name: &ActivityName) -> bool
+    ensures from { result ≡ same_shape (From name.now) (reception_shape reception.now) }
 {
     match reception {
         Reception::From(sender) => name == sender,
@@ -53,14 +54,14 @@ fn begins(log: &[Reception], other: &[Reception]) -> bool
 }
 
 /// Whether it is the log of a class of an activity.
-fn is_of(log: &ClassLog, to: &ActivityName, class: u32) -> bool
-    ensures { result ≡ is_log log.now to.now class }
+pub fn is_of(log: &ClassLog, to: &ActivityName, class: u32) -> bool
+    ensures of { result ≡ is_log log.now to.now class }
 {
     *to == log.to && class == log.class
 }
 
 /// The log of a class of an activity.
-fn log_at<'a>(logs: &'a [ClassLog], to: &ActivityName, class: u32) -> &'a [Reception]
+pub fn log_at<'a>(logs: &'a [ClassLog], to: &ActivityName, class: u32) -> &'a [Reception]
     ensures log { map reception_shape result.now ≡ logs_of logs.now to.now class }
 {
     for log in logs {

@@ -11,9 +11,8 @@ ghost use Rattle.end_search.specs.Found.{AreAll};
 ghost use Rattle.replay_classes.specs.Cuts.{IsNotNext};
 ghost use Rattle.replay_classes.specs.Sendings.{IsAmong, entry_of, logs_from};
 
-use crate::logs::{is_from, log_at};
 use crate::sendings::{copies_of, copy_of, is_to, rows_of};
-use class_search::{ClassLog, Offer, Sending, begin_with};
+use class_search::{ClassLog, Offer, Sending, begin_with, is_from, log_at};
 use std::alloc::{AllocError, Global};
 
 /// Whether logs lie within those of an end, one of which is cut at a place.

@@ -14,14 +14,14 @@ use crate::classes::Classes;
 use crate::cuts::{is_inside, none_is_next, offers_of};
 use crate::ends::{Halt, found_end};
 use crate::guides::cut_guide;
-use crate::logs::{is_before, log_at};
+use crate::logs::is_before;
 use crate::probes::{probe, senders};
 use crate::sendings::{copies_of, rows_of};
 use crate::walks::walk_by;
 use asp_check::Checked;
 use asp_model::{Lists, MOST_REDUCTIONS, Services};
-use class_search::{ClassLog, Cuts, FoundEnd, Offer, all_offers, begin_with};
-use end_search::{Ends, Found as FoundEnds, Stop as EndStop, all_ends};
+use class_search::{ClassLog, Cuts, FoundEnd, Offer, all_offers, begin_with, log_at};
+use end_search::{Ends, Found as FoundEnds, Progress, ProgressBox, Stop as EndStop, all_ends};
 use outcome_search::{EndedRun, Found, Stop};
 use replay_offers::Replays;
 use replay_one::lists_in;
@@ -36,6 +36,7 @@ pub struct ClassRuns<'a> {
     pub program: &'a Checked,
     pub budget: u64,
     pub classes: &'a Classes,
+    pub progress: &'a ProgressBox,
 }
 
 impl ClassRuns<'_> {
@@ -129,6 +130,10 @@ impl Ends for ClassRuns<'_> {
         let entries = Vec::new(alloc);
         self.end_under(alloc, Lists { entries })
     }
+
+    fn told(&self, ends: usize, done: usize) {
+        self.progress.told(ends, done)
+    }
 }
 
 /// The runs of ends.
@@ -172,6 +177,7 @@ fn search<'a>(
     budget: u64,
     most: usize,
     classes: &'a Classes,
+    progress: &'a ProgressBox,
 ) -> Result<Told, AllocError>
     ensures told { IfOk result (IsTold (tree_of program.now.program.root) most) }
 {
@@ -179,6 +185,7 @@ fn search<'a>(
         program,
         budget,
         classes,
+        progress,
     };
     let FoundEnds { ends, stop } = all_ends(alloc, &runs, most)?;
     match stop {
@@ -197,6 +204,7 @@ pub fn ends_by_classes(
     program: &Checked,
     budget: u64,
     most: usize,
+    progress: &ProgressBox,
 ) -> Result<Option<Found>, AllocError>
     ensures found { let tree = tree_of program.now.program.root in
         IfOk result (λ o. IfSome o (λ f. AreFound tree most (map run_logs f.ends.items))) }
@@ -207,7 +215,7 @@ pub fn ends_by_classes(
 {
     let mut classes = Classes::new(alloc);
     for _try in 0..MOST_TRIES {
-        match search(alloc, program, budget, most, &classes)? {
+        match search(alloc, program, budget, most, &classes, progress)? {
             Told::Found(found) => return Ok(Some(found)),
             Told::Learns(services) => classes.learn(alloc, &services)?,
             Told::Untold => return Ok(None),

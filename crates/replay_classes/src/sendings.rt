@@ -6,9 +6,8 @@ ghost use Rattle.asp_model.specs.Shapes.{reception_shape};
 ghost use Rattle.class_search.specs.Logs.{logs_of};
 ghost use Rattle.replay_classes.specs.Sendings.{has_log, is_to as is_sent_to, logs_from};
 
-use crate::logs::is_of;
 use asp_model::{ActivityName, Reception};
-use class_search::{ClassLog, Sending};
+use class_search::{ClassLog, Sending, is_of};
 use std::alloc::{AllocError, Global};
 
 /// Whether it was sent to an activity with a label of a class.

@@ -9,7 +9,7 @@ use Rattle.replay_classes.proofs.CompleteLemmas.{complete_runs, found_runs}
 use Rattle.replay_classes.proofs.search.search.Goals as goal
 
 pub returns-in-Complete : goal.returns-in-Complete
-returns-in-Complete c =
+returns-in-Complete g c =
     let K = class_in c.args.classes.now in
     let t = tree_of c.args.program.now.program.root in
     let es : List FoundEnd = c.in_ok-ends.field-0.ends.items in
@@ -19,13 +19,13 @@ returns-in-Complete c =
     record { told = c.with_runs.ensures.told t c.args.most (found_runs K t c.args.most es found) (complete_runs K t es some found.ends closed) }
 
 pub returns-in-Most : goal.returns-in-Most
-returns-in-Most c =
+returns-in-Most g c =
     let K = class_in c.args.classes.now in
     let t = tree_of c.args.program.now.program.root in
     record { told = c.with_runs-in-Most.ensures.told t c.args.most (found_runs K t c.args.most c.in_ok-ends.field-0.ends.items c.in_ok-ends.ensures.found) tt }
 
 pub returns-in-Halts-Unended : goal.returns-in-Halts-Unended
-returns-in-Halts-Unended c =
+returns-in-Halts-Unended g c =
     let K = class_in c.args.classes.now in
     let t = tree_of c.args.program.now.program.root in
     record { told = c.with_runs-in-Halts-Unended.ensures.told t c.args.most (found_runs K t c.args.most c.in_ok-ends.field-0.ends.items c.in_ok-ends.ensures.found) tt }

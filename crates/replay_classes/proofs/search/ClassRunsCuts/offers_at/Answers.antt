@@ -20,7 +20,7 @@ use Rattle.replay_classes.proofs.CutLemmas.{cut_offers}
 use Rattle.replay_classes.proofs.search.ClassRunsCuts.offers_at.Goals as goal
 
 pub returns-then-not-is_before : goal.returns-then-not-is_before
-returns-then-not-is_before c = record {
+returns-then-not-is_before g c = record {
   all = λ entry b.
       let cut = c.args.log.now in
       let same = c.log_at.ensures.log ∙ ap (λ (ls : List ClassLog). logs_of ls cut.to cut.class) c.deref.ensures.value in
@@ -28,7 +28,7 @@ returns-then-not-is_before c = record {
 }
 
 pub probe-requires : goal.probe-requires
-probe-requires c =
+probe-requires g c =
     let t = tree_of c.args.self.now.program.now.program.root in
     let f = c.in_ok-walk.ensures.walk.0 in
     let w = c.in_ok-walk.ensures.walk.1 in
@@ -44,7 +44,7 @@ probe-requires c =
     }
 
 pub returns : goal.returns
-returns c =
+returns g c =
     let K = class_in c.args.self.now.classes.now in
     let t = tree_of c.args.self.now.program.now.program.root in
     let f = c.in_ok-walk.ensures.walk.0 in

@@ -5,7 +5,7 @@ use Rattle.class_search.proofs.LogLemmas.{begun_inside, inside_begun}
 use Rattle.replay_classes.proofs.search.ClassRunsEnds.begins.Goals as goal
 
 pub returns : goal.returns
-returns c =
+returns g c =
     let end : List ClassLog = c.args.end.now.logs.items in
     let offer : List ClassLog = c.args.offer.now.logs.items in
     let left : List ClassLog = c.deref.result.now in

@@ -8,7 +8,7 @@ use Rattle.replay_classes.specs.Classes.{class_in}
 use Rattle.replay_classes.proofs.search.ClassRunsEnds.end_from.Goals as goal
 
 pub returns-in-Ok : goal.returns-in-Ok
-returns-in-Ok c =
+returns-in-Ok g c =
     let K = class_in c.args.self.now.classes.now in
     let t = tree_of c.args.self.now.program.now.program.root in
     record {
