@@ -27,6 +27,7 @@ texts_shape t = record {
   report = text_behind t.report;
   end = text_behind t.end;
   given = texts_behind t.given.items;
+  whole_orders = t.whole_orders;
 }
 
 abbrev pub task_shape : Task → TaskShape
@@ -37,6 +38,7 @@ task_shape t = record {
   depth = t.depth;
   choice = t.choice;
   given = texts_behind t.given.items;
+  whole_orders = t.whole_orders;
 }
 
 -- the words ask for this task; or the command does not take them, and the text is the help

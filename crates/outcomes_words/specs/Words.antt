@@ -7,6 +7,7 @@ use Rattle.clap.specs.declared.builder.action.ArgAction.TheVariants.{Append}
 use Rattle.clap.specs.Simple.{App, matches_of, new_app, new_rule, on_top, with_rule}
 use Rattle.clap.specs.Takes.{takes}
 use Rattle.asp_model.specs.declared.limits.TheConstants.{MOST_REDUCTIONS, MOST_DEPTH}
+use Rattle.command_line.specs.Command.{flag_rule, says_true}
 use Rattle.command_line.specs.Numbers.{number_in}
 use Rattle.outcomes_words.specs.declared.task.TheConstants.{MOST_ENDS}
 use Rattle.outcomes_words.specs.declared.task.Choice.{Choice}
@@ -40,7 +41,9 @@ with_options a =
     (option_rule (codes "state"))) (option_rule (codes "report"))
 
 abbrev pub with_ends : App → App
-with_ends a = with_rule (with_rule a (option_rule (codes "end"))) (many_rule (codes "check-ends"))
+with_ends a =
+    with_rule (with_rule (with_rule a (option_rule (codes "end"))) (many_rule (codes "check-ends")))
+    (flag_rule (codes "whole-orders"))
 
 abbrev pub command : App
 command = with_ends (with_options (with_rule bare_command file_rule))
@@ -66,6 +69,8 @@ pub record TaskShape : Type 0 where
   pub choice : Option Choice
   -- the files whose reports are checked to be all ends; where there is none, ends are looked for
   pub given : List Text
+  -- ends are told apart by each order of receptions, and not by classes of labels alone
+  pub whole_orders : Bool
 
 -- a number within bounds, and the usual one where there is no text
 abbrev pub number_or : (least most usual : ℕ) → Option Text → Option ℕ
@@ -85,10 +90,17 @@ choice_of None (Some text) = option_map (λ n. Some (choices.End n)) (number_in 
 choice_of (Some text) (Some other) = None
 
 abbrev pub task_with : Option Text → (budget most : Option ℕ) → (depth : Option (Option ℕ))
-    → (choice : Option (Option Choice)) → (given : List Text) → Option TaskShape
-task_with (Some file) (Some budget) (Some most) (Some depth) (Some choice) given =
-    Some (record { file = file; budget = budget; most = most; depth = depth; choice = choice; given = given })
-task_with file budget most depth choice given = None
+    → (choice : Option (Option Choice)) → (given : List Text) → (whole_orders : Bool) → Option TaskShape
+task_with (Some file) (Some budget) (Some most) (Some depth) (Some choice) given whole_orders = Some (record {
+  file = file;
+  budget = budget;
+  most = most;
+  depth = depth;
+  choice = choice;
+  given = given;
+  whole_orders = whole_orders;
+})
+task_with file budget most depth choice given whole_orders = None
 
 -- the texts of the command's words
 pub record TextsShape : Type 0 where
@@ -99,6 +111,7 @@ pub record TextsShape : Type 0 where
   pub report : Option Text
   pub end : Option Text
   pub given : List Text
+  pub whole_orders : Bool
 
 abbrev pub texts_in : List Row → TextsShape
 texts_in rows = record {
@@ -109,6 +122,7 @@ texts_in rows = record {
   report = first_of (codes "report") rows;
   end = first_of (codes "end") rows;
   given = unwrap_or (all_of (codes "check-ends") rows) [];
+  whole_orders = says_true (first_of (codes "whole-orders") rows);
 }
 
 -- the words bound a search, and ask for none
@@ -121,7 +135,7 @@ task_in t = cond (are_at_odds t) None (task_with t.file
     (number_or 1 MOST_ENDS 10000 t.ends)
     (number_if 0 MOST_DEPTH t.state)
     (choice_of t.report t.end)
-    t.given)
+    t.given t.whole_orders)
 
 -- no more reductions than a run may take, no more ends than may be found, and no depth beyond the deepest
 pub record IsWithin (t : TaskShape) : Type 0 where

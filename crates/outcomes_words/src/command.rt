@@ -4,7 +4,8 @@ ghost use Rattle.std.specs.Prelude.{◌≡◌, [], IfOk, IfErr, false, map, opti
 ghost use Rattle.clap.specs.Values.{kind_of};
 ghost use Rattle.clap.specs.Words.{all_of, app_of, first_of, found_of, rows_of, rule_of, with_rule};
 ghost use Rattle.clap.specs.declared.error.kind.ErrorKind.TheVariants.{OutOfMemory};
-ghost use Rattle.outcomes_words.specs.Shapes.{IsRefusedFor, texts_behind, texts_shape};
+ghost use Rattle.command_line.specs.Command.{flag_rule, says_true};
+ghost use Rattle.outcomes_words.specs.Shapes.{IsRefusedFor, text_behind, texts_behind, texts_shape};
 ghost use Rattle.outcomes_words.specs.Words.{bare_command, command as the_command, file_rule, many_rule, named_command, option_rule, rows_given, texts_in, with_ends as with_the_ends, with_options};
 ghost use Rattle.outcomes_words.specs.declared.command.Refused.TheVariants as refused;
 
@@ -22,6 +23,7 @@ pub struct Texts<'a> {
     pub report: Option<&'a str>,
     pub end: Option<&'a str>,
     pub given: Vec<&'a str>,
+    pub whole_orders: bool,
 }
 
 /// Why words have no texts.
@@ -109,7 +111,9 @@ fn with_ends<'a>(alloc: Global, command: Command<'a>) -> Result<Command<'a>, All
 {
     let command = with_option(alloc, command, "end", "Write the report of this end alone")?;
     let help = "Look for no ends, but check whether these reports are all";
-    with_many(alloc, command, "check-ends", help)
+    let command = with_many(alloc, command, "check-ends", help)?;
+    let help = "Tell ends apart by each order of receptions";
+    with_flag(alloc, command, "whole-orders", help)
 }
 
 fn with_file<'a>(alloc: Global, command: Command<'a>) -> Result<Command<'a>, AllocError>
@@ -140,6 +144,18 @@ fn with_many<'a>(
         (λ c. app_of c ≡ with_rule (app_of command.entry) (many_rule name.entry.now)) }
 {
     command.arg(many(alloc, name, help))
+}
+
+fn with_flag<'a>(
+    alloc: Global,
+    command: Command<'a>,
+    name: &'a str,
+    help: &'a str,
+) -> Result<Command<'a>, AllocError>
+    ensures { IfOk result
+        (λ c. app_of c ≡ with_rule (app_of command.entry) (flag_rule name.entry.now)) }
+{
+    command.arg(option(alloc, name, help).action(ArgAction::SetTrue))
 }
 
 fn bare<'a>(alloc: Global) -> Command<'a>
@@ -195,7 +211,18 @@ fn texts_found<'a>(alloc: Global, matches: &ArgMatches<'a>) -> Result<Texts<'a>,
         report: text_of(matches, "report"),
         end: text_of(matches, "end"),
         given: texts_of(alloc, matches, "check-ends")?,
+        whole_orders: is_true(text_of(matches, "whole-orders")),
     })
+}
+
+// The flag was given.
+fn is_true(text: Option<&str>) -> bool
+    ensures { result ≡ says_true (text_behind text.entry) }
+{
+    match text {
+        Some(text) => text == "true",
+        None => false,
+    }
 }
 
 fn text_of<'a>(matches: &ArgMatches<'a>, id: &str) -> Option<&'a str>

@@ -41,6 +41,8 @@ pub struct Task<'a> {
     pub choice: Option<Choice>,
     /// The files whose reports are checked to be all ends; where there is none, ends are looked for.
     pub given: Vec<&'a str>,
+    /// Ends are told apart by each order of receptions, and not by classes of labels alone.
+    pub whole_orders: bool,
 }
 
 /// What the words ask for.
@@ -103,6 +105,7 @@ fn task_in<'a>(texts: Texts<'a>) -> Option<Task<'a>>
         depth,
         choice,
         given: texts.given,
+        whole_orders: texts.whole_orders,
     })
 }
 
