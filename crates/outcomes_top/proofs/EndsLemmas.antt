@@ -4,7 +4,7 @@ use Rattle.asp_model.specs.Marked.{Marked, plain}
 use Rattle.asp_model.specs.Term.{Tree}
 use Rattle.law_chases.proofs.FutureLemmas.{some_is, true_false}
 use Rattle.asp_model.specs.Names.{Text}
-use Rattle.law_families.specs.Families.{IsComplete, RunLogs}
+use Rattle.law_families.specs.Families.{RunLogs}
 use Rattle.asp_top.specs.declared.prepare.Prepared.{Prepared}
 use Rattle.asp_top.specs.Ready.{WrittenOf, text_in}
 use Rattle.asp_top.specs.Ended.{IsEnded}
@@ -18,11 +18,11 @@ use Rattle.outcomes_top.specs.declared.halt.Fault.{Fault}
 use Rattle.outcomes_top.specs.declared.halt.Fault.TheVariants as faults
 use Rattle.outcomes_top.specs.Given.{AreShown, ShowEnds, status_of_fault}
 use Rattle.outcomes_top.specs.Endings.{Ends, IsAnswer, IsCause, OfFile, OfGiven, OfHelp, OfMemory, OfChoice, OfTask, OfWords, Refused, Unheard, Unwritten, Written}
-use Rattle.outcomes_top.specs.Correct.{Answers, Completes, Found, IsWhole, Tells, TellsAll}
-use Rattle.outcomes_top.specs.Families.{status_of_family, text_of_family}
+use Rattle.outcomes_top.specs.Correct.{Answers, AreAsked, Completes, Found, IsWhole, Tells, TellsAll}
+use Rattle.outcomes_top.specs.Families.{AreAll, status_of_family, text_of_family}
 use Rattle.outcomes_words.specs.Words.{TaskShape, is_taken, task_of}
 use Rattle.outcomes_words.specs.declared.task.Choice.{Choice}
-use Rattle.outcomes_top.specs.Surveys.{AreChosen, Halts, HaltsAmong, HaltsAt, HaltsFor, HaltsWith, IsToldBy, IsToldOf, TellsOf, message_for, status_for}
+use Rattle.outcomes_top.specs.Surveys.{AreChosen, Halts, HaltsAmong, HaltsAt, HaltsFor, HaltsWith, IsChosen, IsToldBy, IsToldOf, TellsOf, message_for, status_for}
 
 ends_told : (c : Call) (result : ℕ) (message : List ℕ) (status : ℕ) → IsCause c.words c.outside message status → IsUntouched c.out → IsToldBy c.err message status result → Ends c result
 ends_told c result message status h u (inl t) = Refused message (subst (IsCause c.words c.outside message) (sym t.0) h) u t.1
@@ -96,17 +96,19 @@ not_caused words o message status h (OfFile task a r c m e) = not_refused status
 not_caused words o message status h (OfGiven task a program g name fault r m e) = not_fault status fault h e
 not_caused words o message status h (OfChoice task a program g choice r f m e) = not_two status h e
 
-whole_told : (c : Call) (task : TaskShape) (text : List ℕ) (status : ℕ) (program : Marked) → IsInFile c.outside task.file program → (f : Found (plain program)) → AreShown c.outside (plain program) task.given f.ends
+whole_told : (c : Call) (task : TaskShape) (text : List ℕ) (status : ℕ) (program : Marked) → IsInFile c.outside task.file program → (f : Found (plain program)) → AreAsked c.outside task (plain program) f
     → text ≡ text_of_family task.depth (plain program) f.whole f.ends → status ≡ status_of_family (plain program) f.whole f.ends
     → IsEnded status → Takes c.out text → IsUntouched c.err → IsWhole c task status
-whole_told c task text status program given f shown told is ended takes untouched = by f.whole f.family.complete told is
+whole_told c task text status program given f asked told is ended takes untouched = by f.whole f.family.complete told is
   where
-    by : (b : Bool) → (b ≡ true → IsComplete (plain program) f.ends) → text ≡ text_of_family task.depth (plain program) b f.ends → status ≡ status_of_family (plain program) b f.ends → IsWhole c task status
+    by : (b : Bool) → (b ≡ true → AreAll f.by_classes (plain program) f.ends) → text ≡ text_of_family task.depth (plain program) b f.ends → status ≡ status_of_family (plain program) b f.ends → IsWhole c task status
     by true complete told is = record {
       program = program;
       given = given;
       ends = f.ends;
-      shown = shown;
+      shown = asked.shown;
+      by_classes = f.by_classes;
+      orders = asked.orders;
       complete = complete refl;
       status_is = is;
       written = subst (Takes c.out) told takes;
@@ -136,11 +138,17 @@ shown_chosen : (o : Outside) (program : Tree) (names : List Text) (given ends : 
 shown_chosen o program [] given ends e h = tt
 shown_chosen o program (name ∷ names) given ends e h = subst (ShowEnds o 1 program (name ∷ names)) (sym e) h
 
+asked_chosen : (o : Outside) (task : TaskShape) (program : Tree) (given : List RunLogs) (f : Found program) → IsChosen task program given f → ShowEnds o 1 program task.given given → AreAsked o task program f
+asked_chosen o task program given f chosen shown = record {
+  shown = shown_chosen o program task.given given f.ends chosen.ends shown;
+  orders = chosen.orders;
+}
+
 halt_with : (o : Outside) (task : TaskShape) (program : Tree) (given : List RunLogs) (h : Halt) → ShowEnds o 1 program task.given given → HaltsAt task program given h → HaltsWith o task program h
 halt_with o task program given halts.Usage shown h = absurd h
 halt_with o task program given (halts.Stop s) shown h = h
 halt_with o task program given (halts.Given name fault) shown h = absurd h
-halt_with o task program given (halts.Missing n) shown h = (h.0, (h.1, shown_chosen o program task.given given h.1.ends h.2 shown, h.3))
+halt_with o task program given (halts.Missing n) shown h = (h.0, (h.1, asked_chosen o task program given h.1 h.2 shown, h.3))
 
 halt_given : (o : Outside) (task : TaskShape) (program : Tree) (h : Halt) → HaltsAmong o 1 program task.given h → HaltsWith o task program h
 halt_given o task program halts.Usage h = absurd h
@@ -150,7 +158,7 @@ halt_given o task program (halts.Missing n) h = absurd h
 
 pub answers_of : (o : Outside) (task : TaskShape) (r : Result Prepared Halt) (program : Marked) (given : List RunLogs) → IsInFile o task.file program → ShowEnds o 1 (plain program) task.given given
     → IfOk r (λ p. TellsOf task (plain program) given (text_in p) p.status) → IfOk r (λ p. Answers o task (text_in p) p.status)
-answers_of o task (Ok p) program given file shown h = (program, file, h.0, shown_chosen o (plain program) task.given given h.0.ends h.1 shown, h.2)
+answers_of o task (Ok p) program given file shown h = (program, file, h.0, asked_chosen o task (plain program) given h.0 h.1 shown, h.2)
 answers_of o task (Err s) program given file shown h = tt
 
 pub halts_of : (o : Outside) (task : TaskShape) (r : Result Prepared Halt) (program : Marked) (given : List RunLogs) → IsInFile o task.file program → ShowEnds o 1 (plain program) task.given given

@@ -27,7 +27,7 @@ use Rattle.outcomes_words.specs.declared.task.Choice.{Choice}
 use Rattle.outcomes_words.specs.declared.task.Choice.TheVariants as choices
 use Rattle.outcomes_top.specs.Correct.{Found, IsChoice, IsFirstOf, Tells, TellsAll, TellsOne, outcomes_of}
 use Rattle.outcomes_top.specs.Endings.{HaveFewer}
-use Rattle.outcomes_top.specs.Surveys.{AreChosen, HaltsAt, HaltsOne, IsOneMore, IsReportOf, IsSurvey, TellsOf, place_in}
+use Rattle.outcomes_top.specs.Surveys.{HaltsAt, HaltsOne, IsChosen, IsOneMore, IsReportOf, IsSurvey, TellsOf, place_in}
 
 greatest_more : (m : ℕ) (xs : List ℕ) (y : ℕ) → greatest_from m (xs ++ y ∷ []) ≡ max (greatest_from m xs) y
 greatest_more m [] y = refl
@@ -172,33 +172,24 @@ fewer_at depth program ends (choices.End number) h = past (nat_lt (number - 1) (
 
 -- What is told of a program
 
-pub tells_all : {E : Type 0} (task : TaskShape) (program : Tree) (given : List RunLogs) (f : Found program) (r : Result Prepared E) → AreChosen task.given given f.ends → task.choice ≡ None
+pub tells_all : {E : Type 0} (task : TaskShape) (program : Tree) (given : List RunLogs) (f : Found program) (r : Result Prepared E) → IsChosen task program given f → task.choice ≡ None
     → IfOk r (λ p. TellsAll task.depth program f.whole f.ends (text_in p) p.status) → IfOk r (λ p. TellsOf task program given (text_in p) p.status)
 tells_all task program given f (Ok p) chosen e h = (f, chosen, subst (λ (o : Option Choice). Tells task.depth program f.whole f.ends o (text_in p) p.status) (sym e) h)
 tells_all task program given f (Err x) chosen e h = tt
 
-pub tells_one : {E : Type 0} (task : TaskShape) (program : Tree) (given : List RunLogs) (f : Found program) (choice : Choice) (r : Result Prepared E) → AreChosen task.given given f.ends → task.choice ≡ Some choice
+pub tells_one : {E : Type 0} (task : TaskShape) (program : Tree) (given : List RunLogs) (f : Found program) (choice : Choice) (r : Result Prepared E) → IsChosen task program given f → task.choice ≡ Some choice
     → IfOk r (λ p. TellsOne task.depth program f.ends choice (text_in p) p.status) → IfOk r (λ p. TellsOf task program given (text_in p) p.status)
 tells_one task program given f choice (Ok p) chosen e h = (f, chosen, subst (λ (o : Option Choice). Tells task.depth program f.whole f.ends o (text_in p) p.status) (sym e) h)
 tells_one task program given f choice (Err x) chosen e h = tt
 
-halt_one : (task : TaskShape) (program : Tree) (given : List RunLogs) (f : Found program) (choice : Choice) (h : Halt) → AreChosen task.given given f.ends → task.choice ≡ Some choice → HaltsOne task.depth program f.ends choice h → HaltsAt task program given h
+halt_one : (task : TaskShape) (program : Tree) (given : List RunLogs) (f : Found program) (choice : Choice) (h : Halt) → IsChosen task program given f → task.choice ≡ Some choice → HaltsOne task.depth program f.ends choice h → HaltsAt task program given h
 halt_one task program given f choice halts.Usage chosen e h = absurd h
 halt_one task program given f choice (halts.Stop s) chosen e h = h
 halt_one task program given f choice (halts.Given name fault) chosen e h = absurd h
 halt_one task program given f choice (halts.Missing other) chosen e h =
     (e ∙ ap (λ (k : Choice). Some k) (sym h.0), f, chosen, subst (HaveFewer task.depth program f.ends) (sym h.0) h.1)
 
-pub halts_one : (task : TaskShape) (program : Tree) (given : List RunLogs) (f : Found program) (choice : Choice) (r : Result Prepared Halt) → AreChosen task.given given f.ends → task.choice ≡ Some choice
+pub halts_one : (task : TaskShape) (program : Tree) (given : List RunLogs) (f : Found program) (choice : Choice) (r : Result Prepared Halt) → IsChosen task program given f → task.choice ≡ Some choice
     → IfErr r (HaltsOne task.depth program f.ends choice) → IfErr r (HaltsAt task program given)
 halts_one task program given f choice (Ok p) chosen e h = tt
 halts_one task program given f choice (Err x) chosen e h = halt_one task program given f choice x chosen e h
-
--- Which ends are told
-
-pub chosen_given : (names : List Text) (given ends : List RunLogs) → ends ≡ given → AreChosen names given ends
-chosen_given [] given ends e = tt
-chosen_given (name ∷ names) given ends e = e
-
-pub chosen_none : (names : List Text) (given ends : List RunLogs) → names ≡ [] → AreChosen names given ends
-chosen_none names given ends e = subst (λ (l : List Text). AreChosen l given ends) (sym e) tt

@@ -1,5 +1,5 @@
 -- What a complete family says of a run by `asp`.
-use Rattle.std.proofs.Common.{◌≡◌, ℕ, Bool, true, false, List, inl, inr, refl, sym, ap, subst, ◌∙◌, arith}
+use Rattle.std.proofs.Common.{◌≡◌, ◌<◌, ℕ, Bool, true, false, List, Option, inl, inr, refl, sym, ap, subst, ◌∙◌, arith}
 use Rattle.std.specs.Prelude.{cond}
 use Rattle.std.specs.List.{list_any}
 use Rattle.asp_model.specs.Term.{Tree}
@@ -7,10 +7,20 @@ use Rattle.asp_model.specs.Configuration.{Configuration}
 use Rattle.asp_model.specs.Outcome.{ActivityReportShape, exit_status, is_faulted, outcome_of}
 use Rattle.asp_model.specs.Replay.{Fits, replay, total}
 use Rattle.asp_model.specs.Status.{Blocked, Budget, End, IsStuck, VerdictShape, is_awaiting, is_running, statuses_of, verdict_of}
+use Rattle.asp_model.specs.Marked.{plain}
+use Rattle.command_line.specs.Settings.{SettingsShape}
+use Rattle.command_line.specs.Task.{Runs}
+use Rattle.def_paths.specs.Outcomes.{whole_outcome_of}
+use Rattle.law_families.specs.Complete.{IsWithinLongest}
+use Rattle.law_families.specs.Families.{Has, IsComplete, RunLogs}
 use Rattle.law_families.proofs.FamilyLaws.{fitting_are_within}
-use Rattle.asp_top.specs.Correct.{end_of, report_at}
+use Rattle.replay_classes.proofs.CompleteLemmas.{fitting_are_alike}
+use Rattle.asp_top.specs.Correct.{Answers, end_of, report_at}
 use Rattle.asp_top.specs.Ended.{IsEnded}
-use Rattle.outcomes_top.specs.Joined.{EndedRunsAreFound, SpentRunsAreShort}
+use Rattle.asp_top.specs.Seen.{Outside}
+use Rattle.outcomes_top.specs.Families.{AreAll, longest_of}
+use Rattle.outcomes_top.specs.Joined.{EndedRunsAreAlike, EndedRunsAreFound, LooksAs, SpentRunsAreShort}
+use Rattle.outcomes_top.proofs.AlikeLemmas.{look_alike}
 use Rattle.outcomes_top.proofs.FamilyLemmas.{is_within_longest}
 
 -- status 5 is that of a run which can go on
@@ -55,19 +65,47 @@ stuck_at c status e h = elim (list_any is_running (statuses_of c)) as (λ b. lis
   | false ↦ λ r. refl
 ] refl
 
+-- what a run of the program leaves: its logs and counts fit, and its report is that of their replay
+module _ (o : Outside) (file : List ℕ) (settings : SettingsShape) (depth : Option ℕ) (report : List ℕ) (status : ℕ) (program : Tree)
+    (a : Answers o (Runs file settings depth) report status) (same : plain a.0.program ≡ program) where
+  abbrev left : Configuration
+  left = replay program a.0.lists a.0.counts
+
+  fits : Fits program a.0.lists a.0.counts
+  fits = subst (λ (t : Tree). Fits t a.0.lists a.0.counts) same a.0.fits
+
+  written : report ≡ report_at depth left
+  written = a.1.0 ∙ ap (λ (t : Tree). report_at depth (replay t a.0.lists a.0.counts)) same
+
+  stuck : IsEnded status → IsStuck left
+  stuck ended = subst (λ (t : Tree). IsStuck (replay t a.0.lists a.0.counts)) same (stuck_at (end_of a.0) status a.1.1 ended)
+
+  pub found : (ends : List RunLogs) → IsEnded status → IsComplete program ends → (x : RunLogs) × Has ends x × (report ≡ report_at depth (replay program x.0 x.1))
+  found ends ended complete = ((a.0.lists, a.0.counts), (fitting_are_within program ends a.0.lists a.0.counts complete fits).1 (stuck ended), written)
+
+  pub alike : (by_classes : Bool) (ends : List RunLogs) → IsEnded status → AreAll by_classes program ends → (x : RunLogs) × Has ends x × LooksAs depth (replay program x.0 x.1) report
+  alike false ends ended complete = let x = found ends ended complete in (x.0, x.1, record { other = replay program x.0.0 x.0.1; is = x.2; seen = refl })
+  alike true ends ended complete =
+      let x = (fitting_are_alike program ends a.0.lists a.0.counts complete fits).1 (stuck ended) in
+      (x.0, x.1, record { other = left; is = written; seen = look_alike depth (whole_outcome_of left) (whole_outcome_of (replay program x.0.0 x.0.1)) x.2 })
+
+  within : (by_classes : Bool) (ends : List RunLogs) → AreAll by_classes program ends → IsWithinLongest ends program a.0.lists a.0.counts
+  within false ends complete = (fitting_are_within program ends a.0.lists a.0.counts complete fits).0
+  within true ends complete = (fitting_are_alike program ends a.0.lists a.0.counts complete fits).0
+
+  pub short : (by_classes : Bool) (ends : List RunLogs) → status ≡ 5 → AreAll by_classes program ends → settings.budget < longest_of ends
+  short by_classes ends five complete =
+      let verdict : verdict_of (end_of a.0) ≡ Budget = spent_verdict status (verdict_of (end_of a.0)) (outcome_of (end_of a.0)).activities five a.1.1 in
+      let free : IsStuck left → ⊥ = subst (λ (t : Tree). IsStuck (replay t a.0.lists a.0.counts) → ⊥) same (free_verdict (end_of a.0) verdict) in
+      let w : IsWithinLongest ends program a.0.lists a.0.counts = within by_classes ends complete in
+      let spent : total a.0.counts ≡ settings.budget = a.3.1 verdict in
+      omega (arith, spent, w.3 free, is_within_longest 0 ends w.0 w.1)
+
 pub ended_runs_are_found : EndedRunsAreFound
-ended_runs_are_found o file settings depth report status program ends a ended same complete =
-    let r = a.0 in
-    let fits : Fits program r.lists r.counts = subst (λ (t : Tree). Fits t r.lists r.counts) same r.fits in
-    let stuck : IsStuck (replay program r.lists r.counts) = subst (λ (t : Tree). IsStuck (replay t r.lists r.counts)) same (stuck_at (end_of r) status a.1.1 ended) in
-    ((r.lists, r.counts), (fitting_are_within program ends r.lists r.counts complete fits).1 stuck, a.1.0 ∙ ap (λ (t : Tree). report_at depth (replay t r.lists r.counts)) same)
+ended_runs_are_found o file settings depth report status program ends a ended same complete = found o file settings depth report status program a same ends ended complete
+
+pub ended_runs_are_alike : EndedRunsAreAlike
+ended_runs_are_alike o file settings depth report status program by_classes ends a ended same complete = alike o file settings depth report status program a same by_classes ends ended complete
 
 pub spent_runs_are_short : SpentRunsAreShort
-spent_runs_are_short o file settings depth report program ends a same complete =
-    let r = a.0 in
-    let verdict : verdict_of (end_of r) ≡ Budget = spent_verdict 5 (verdict_of (end_of r)) (outcome_of (end_of r)).activities refl a.1.1 in
-    let fits : Fits program r.lists r.counts = subst (λ (t : Tree). Fits t r.lists r.counts) same r.fits in
-    let free : IsStuck (replay program r.lists r.counts) → ⊥ = subst (λ (t : Tree). IsStuck (replay t r.lists r.counts) → ⊥) same (free_verdict (end_of r) verdict) in
-    let within = (fitting_are_within program ends r.lists r.counts complete fits).0 in
-    let spent : total r.counts ≡ settings.budget = a.3.1 verdict in
-    omega (arith, spent, within.3 free, is_within_longest 0 ends within.0 within.1)
+spent_runs_are_short o file settings depth report program by_classes ends a same complete = short o file settings depth report 5 program a same by_classes ends refl complete

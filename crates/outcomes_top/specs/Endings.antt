@@ -14,8 +14,8 @@ use Rattle.outcomes_words.specs.Words.{AskNothing, TaskShape, is_taken, task_of}
 use Rattle.outcomes_words.specs.declared.task.Choice.{Choice}
 use Rattle.outcomes_words.specs.declared.task.Choice.TheVariants as choices
 use Rattle.outcomes_top.specs.declared.halt.Fault.{Fault}
-use Rattle.outcomes_top.specs.Correct.{Answers, Found, outcomes_of}
-use Rattle.outcomes_top.specs.Given.{AreShown, RefusedAmong, message_of_fault, status_of_fault}
+use Rattle.outcomes_top.specs.Correct.{Answers, AreAsked, Found, outcomes_of}
+use Rattle.outcomes_top.specs.Given.{RefusedAmong, message_of_fault, status_of_fault}
 
 abbrev pub usage_line : List ℕ
 usage_line = with_feed (codes "asp-outcomes: usage: asp-outcomes FILE [OPTION ..]")
@@ -32,7 +32,7 @@ HaveFewer depth program ends (choices.End number) = length ends ≤ number - 1
 -- so it is of some ends of the program, that were found or given
 abbrev pub HasFewer : Outside → TaskShape → Tree → Choice → Type 0
 HasFewer o task program choice =
-    (f : Found program) × AreShown o program task.given f.ends × HaveFewer task.depth program f.ends choice
+    (f : Found program) × AreAsked o task program f × HaveFewer task.depth program f.ends choice
 
 -- why nothing is told, with the message and the status of it: the words ask for nothing, memory ran out, the
 -- file is no checked program or cannot be read, one of the given reports is refused, or there is no outcome or

@@ -9,6 +9,7 @@ use Rattle.def_paths.specs.Outcomes.{whole_outcome_of}
 use Rattle.law_families.specs.Families.{Has, IsComplete, IsEndedRun, RunLogs}
 use Rattle.outcomes_text.specs.Outcomes.{text_seen}
 use Rattle.outcomes_text.specs.Told.{outcomes_text}
+use Rattle.replay_classes.specs.Complete.{IsCompleteByClasses}
 
 -- the end of the replay under logs and counts
 abbrev pub end_of : Tree → RunLogs → Configuration
@@ -34,10 +35,16 @@ longest_of ends = greatest (map (λ x. total x.1) ends)
 abbrev pub worst_of : Tree → List RunLogs → ℕ
 worst_of program ends = greatest (map (λ x. exit_status (outcome_of (end_of program x))) ends)
 
+-- the ends are all that the program has: each of its runs leads to one of them, or, by classes of labels, to one that
+-- is alike but for its logs
+abbrev pub AreAll : (by_classes : Bool) → Tree → List RunLogs → Type 0
+AreAll false program ends = IsComplete program ends
+AreAll true program ends = IsCompleteByClasses program ends
+
 -- ended runs of the program, and all there are where it is said so
-pub record IsFamily (program : Tree) (whole : Bool) (ends : List RunLogs) : Type 0 where
+pub record IsFamily (program : Tree) (by_classes whole : Bool) (ends : List RunLogs) : Type 0 where
   pub ended : (x : RunLogs) → Has ends x → IsEndedRun program x
-  pub complete : whole ≡ true → IsComplete program ends
+  pub complete : whole ≡ true → AreAll by_classes program ends
 
 -- the text that tells their outcomes
 abbrev pub text_of_family : Option ℕ → Tree → Bool → List RunLogs → List ℕ

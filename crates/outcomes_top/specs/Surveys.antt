@@ -1,6 +1,6 @@
 -- What a survey of ends has counted, and what was told: for private functions alone.
 use Rattle.std.specs.Prelude.{◌≡◌, ◌⊎◌, ◌+◌, ◌-◌, ℕ, List, [], ◌∷◌, Option, Some, None, true}
-use Rattle.std.specs.Prelude.{cond, is_ok, length, max, nat_lt, option_map, slice_get}
+use Rattle.std.specs.Prelude.{cond, is_ok, length, map, max, nat_lt, option_map, slice_get}
 use Rattle.asp_model.specs.Term.{Tree}
 use Rattle.asp_model.specs.Outcome.{exit_status, outcome_of}
 use Rattle.asp_model.specs.Names.{Text}
@@ -25,10 +25,13 @@ use Rattle.outcomes_text.specs.Tallies.{AreWithin}
 use Rattle.outcomes_top.specs.declared.halt.Halt.{Halt}
 use Rattle.outcomes_top.specs.declared.halt.Halt.TheVariants as halts
 use Rattle.outcomes_top.specs.declared.survey.Survey.{Survey}
-use Rattle.outcomes_top.specs.Correct.{Found, Tells}
+use Rattle.outcomes_top.specs.Correct.{AreInOrders, Found, Tells}
 use Rattle.outcomes_top.specs.Endings.{HasFewer, HaveFewer, IsCause, missing_line, usage_line}
 use Rattle.outcomes_top.specs.Given.{IsNoEnd, IsRefused, RefusedAmong, message_of_fault, status_of_fault}
-use Rattle.outcomes_top.specs.Families.{end_of, longest_of, seen_of, worst_of}
+use Rattle.outcome_search.specs.Ends.{AreReplayableEnds, run_logs}
+use Rattle.replay_offers.specs.Programs.{tree_in}
+use Rattle.outcomes_top.specs.declared.family.Family.{Family}
+use Rattle.outcomes_top.specs.Families.{IsFamily, end_of, longest_of, seen_of, worst_of}
 
 -- it is one of these ends
 pub record IsSurvey (depth : Option ℕ) (program : Tree) (ends : List RunLogs) (s : Survey) : Type 0 where
@@ -36,6 +39,12 @@ pub record IsSurvey (depth : Option ℕ) (program : Tree) (ends : List RunLogs) 
   pub within : AreWithin (length ends) s.tally
   pub longest : s.longest ≡ longest_of ends
   pub worst : s.worst ≡ worst_of program ends
+
+-- they are ended runs of the program that can be replayed, and all there are where it is said so
+pub record IsFamilyOf (program : Tree) (f : Family) : Type 0 where
+  pub tree : tree_in f.runs ≡ program
+  pub ends : AreReplayableEnds program (map run_logs f.ends.items)
+  pub family : IsFamily program f.by_classes f.whole (map run_logs f.ends.items)
 
 -- it has one end more, of this number
 pub record IsOneMore (depth : Option ℕ) (program : Tree) (number : ℕ) (x : RunLogs) (old new : Survey) : Type 0 where
@@ -76,9 +85,14 @@ abbrev pub AreChosen : List Text → List RunLogs → List RunLogs → Type 0
 AreChosen [] given ends = Unit {0}
 AreChosen (name ∷ names) given ends = ends ≡ given
 
--- of the ends that were found, or given where files are named for them
+-- they are found as the task asks, or given where it names files for them
+pub record IsChosen (task : TaskShape) (program : Tree) (given : List RunLogs) (f : Found program) : Type 0 where
+  pub ends : AreChosen task.given given f.ends
+  pub orders : AreInOrders task f.by_classes
+
+-- of such ends
 abbrev pub TellsOf : TaskShape → Tree → List RunLogs → List ℕ → ℕ → Type 0
-TellsOf task program given text status = (f : Found program) × AreChosen task.given given f.ends
+TellsOf task program given text status = (f : Found program) × IsChosen task program given f
     × Tells task.depth program f.whole f.ends task.choice text status
 
 -- Why nothing is told
@@ -112,7 +126,7 @@ HaltsAt task program given halts.Usage = ⊥
 HaltsAt task program given (halts.Stop s) = refusal_of s ≡ NoMemory
 HaltsAt task program given (halts.Given name fault) = ⊥
 HaltsAt task program given (halts.Missing choice) = (task.choice ≡ Some choice)
-    × (f : Found program) × AreChosen task.given given f.ends × HaveFewer task.depth program f.ends choice
+    × (f : Found program) × IsChosen task program given f × HaveFewer task.depth program f.ends choice
 
 -- of logs and counts that the file of this name has: they are no end of the program, or memory ran out
 abbrev pub HaltsReplay : Tree → ListsShape → CountsShape → Text → Halt → Type 0

@@ -1,12 +1,11 @@
 //! What a call tells, up to the writing.
 
-ghost use Rattle.std.specs.Prelude.{◌≡◌, ◌≤◌, ◌∷◌, ℕ, Option, IfOk, IfErr, length, map, string_bytes, true, ◌-◌};
+ghost use Rattle.std.specs.Prelude.{◌≡◌, ◌∷◌, ℕ, Option, IfOk, IfErr, length, map, string_bytes, ◌-◌};
 ghost use Rattle.asp_model.specs.Shapes.{tree_of};
 ghost use Rattle.asp_top.specs.Programs.{AsksInTurn};
 ghost use Rattle.asp_top.specs.Ready.{text_in};
 ghost use Rattle.asp_top.specs.Seen.{bytes_of, outside};
 ghost use Rattle.outcome_search.specs.Ends.{AreReplayableEnds, IsReplayableEnd, run_logs};
-ghost use Rattle.outcome_search.specs.declared.runs.Stop.TheVariants as endings;
 ghost use Rattle.replay_offers.specs.Programs.{tree_in};
 ghost use Rattle.outcomes_words.specs.Shapes.{task_shape};
 ghost use Rattle.outcomes_words.specs.Words.{IsWithin};
@@ -14,28 +13,22 @@ ghost use Rattle.outcomes_top.specs.Correct.{Answers, TellsAll, TellsOne};
 ghost use Rattle.outcomes_top.specs.Endings.{IsAnswer, ReadsFiles};
 ghost use Rattle.asp_top.specs.declared.stop.Stop.TheVariants as stops;
 ghost use Rattle.outcomes_top.specs.declared.halt.Halt.TheVariants as halts;
-ghost use Rattle.outcomes_top.specs.Families.{IsFamily, end_of, status_with};
-ghost use Rattle.outcomes_top.specs.Surveys.{AreChosen, Halts, HaltsAt, HaltsFor, HaltsOne, IsReportOf, IsSurvey, TellsOf, place_in, some_below};
+ghost use Rattle.outcomes_top.specs.Families.{end_of, status_with};
+ghost use Rattle.outcomes_top.specs.Surveys.{Halts, HaltsAt, HaltsFor, HaltsOne, IsReportOf, IsSurvey, TellsOf, place_in, some_below};
 
+use crate::family::{Family, family_of};
 use crate::given::ends_in;
 use crate::halt::Halt;
 use crate::survey::{Survey, end_at, survey_of};
 use asp_check::Checked;
 use asp_edge::Source;
 use asp_top::{Prepared, Stop, program_of, report_for};
-use outcome_search::{EndedRun, Stop as Ending, all_ends, check_ends};
+use end_search::ProgressBox;
+use outcome_search::EndedRun;
 use outcomes_text::tell;
 use outcomes_words::{Choice, Task, Wanted, WordsRefused, read_words};
 use replay_offers::Replays;
 use std::alloc::{AllocError, Global};
-
-/// The ends of a program.
-#[derive(Drop)]
-pub struct Family {
-    pub runs: Replays,
-    pub whole: bool,
-    pub ends: Vec<EndedRun>,
-}
 
 /// What the words ask to be told.
 #[tactic(auto, using(crate::proofs::ReadLemmas::none_read))]
@@ -43,6 +36,7 @@ pub fn answer_of<'a, S: Source>(
     alloc: Global,
     words: &'a [String],
     source: &mut S,
+    progress: &ProgressBox,
 ) -> Result<Prepared, Halt<'a>>
     ensures answer { IfOk result (λ p. IsAnswer (bytes_of words.entry.now)
         (outside S.told source) (text_in p) p.status) }
@@ -50,7 +44,7 @@ pub fn answer_of<'a, S: Source>(
     ensures reads { ReadsFiles (bytes_of words.entry.now) (outside S.told source) }
 {
     match read_words(alloc, words) {
-        Ok(Wanted::Outcomes(task)) => of_task(alloc, &task, source),
+        Ok(Wanted::Outcomes(task)) => of_task(alloc, &task, source, progress),
         Ok(Wanted::Help(text)) => Ok(of_help(alloc, text)?),
         Err(WordsRefused::Usage) => Err(Halt::Usage),
         Err(WordsRefused::Memory) => Err(Halt::Stop(Stop::Memory)),
@@ -77,6 +71,7 @@ fn of_task<'a, S: Source>(
     alloc: Global,
     task: &Task<'a>,
     source: &mut S,
+    progress: &ProgressBox,
 ) -> Result<Prepared, Halt<'a>>
     requires within { IsWithin (task_shape task.now) }
     ensures answer { IfOk result (λ p. Answers (outside S.told source)
@@ -87,7 +82,7 @@ fn of_task<'a, S: Source>(
 {
     let checked = program_of(alloc, task.file, source)?;
     let given = ends_in(alloc, &checked, &task.given, source)?;
-    of_program(alloc, &checked, task, given)
+    of_program(alloc, &checked, task, given, progress)
 }
 
 // What there is to tell of a program, and of given ends of it where files are named for them.
@@ -96,6 +91,7 @@ fn of_program<'a>(
     program: &Checked,
     task: &Task<'_>,
     given: Vec<EndedRun>,
+    progress: &ProgressBox,
 ) -> Result<Prepared, Halt<'a>>
     requires within { IsWithin (task_shape task.now) }
     requires given { let tree = tree_of program.now.program.root in
@@ -107,84 +103,12 @@ fn of_program<'a>(
         let given = map run_logs given.items in
         IfErr result (HaltsAt (task_shape task.now) tree given) }
 {
-    let family = family_of(alloc, program, task, given)?;
+    let family = family_of(alloc, program, task, given, progress)?;
     let survey = survey_of(alloc, &family.runs, &family.ends, task.depth)?;
     match task.choice {
         None => Ok(all(alloc, &family, &survey)?),
         Some(choice) => one(alloc, &family, &survey, choice, task.depth),
     }
-}
-
-// Whether a search found all.
-fn is_whole(stop: &Ending) -> bool
-    ensures whole { result ≡ true → stop.now ≡ endings.Complete }
-{
-    match stop {
-        Ending::Complete => true,
-        Ending::Most | Ending::Unended(_) => false,
-    }
-}
-
-// The ends that are told: those given, or those that a search finds.
-fn family_of(
-    alloc: Global,
-    program: &Checked,
-    task: &Task<'_>,
-    given: Vec<EndedRun>,
-) -> Result<Family, AllocError>
-    requires within { IsWithin (task_shape task.now) }
-    requires given { let tree = tree_of program.now.program.root in
-        AreReplayableEnds tree (map run_logs given.items) }
-    ensures tree { IfOk result (λ f. tree_in f.runs ≡ tree_of program.now.program.root) }
-    ensures ends { IfOk result
-        (λ f. AreReplayableEnds (tree_in f.runs) (map run_logs f.ends.items)) }
-    ensures family { IfOk result
-        (λ f. IsFamily (tree_in f.runs) f.whole (map run_logs f.ends.items)) }
-    ensures chosen { let given = map run_logs given.items in IfOk result
-        (λ f. AreChosen (task_shape task.now).given given (map run_logs f.ends.items)) }
-{
-    let runs = Replays::new(alloc, program, task.budget)?;
-    if task.given.is_empty() {
-        sought(alloc, runs, task.most as usize)
-    } else {
-        checked(alloc, runs, given)
-    }
-}
-
-// The ends that a search finds.
-fn sought(alloc: Global, runs: Replays, most: usize) -> Result<Family, AllocError>
-    ensures tree { IfOk result (λ f. tree_in f.runs ≡ tree_in runs) }
-    ensures ends { IfOk result
-        (λ f. AreReplayableEnds (tree_in f.runs) (map run_logs f.ends.items)) }
-    ensures family { IfOk result
-        (λ f. IsFamily (tree_in f.runs) f.whole (map run_logs f.ends.items)) }
-{
-    let mut runs = runs;
-    let found = all_ends(alloc, &mut runs, most)?;
-    Ok(Family {
-        runs,
-        whole: is_whole(&found.stop),
-        ends: found.ends,
-    })
-}
-
-// Given ends, and whether they are all.
-fn checked(alloc: Global, runs: Replays, given: Vec<EndedRun>) -> Result<Family, AllocError>
-    requires given { AreReplayableEnds (tree_in runs) (map run_logs given.items) }
-    ensures tree { IfOk result (λ f. tree_in f.runs ≡ tree_in runs) }
-    ensures ends { IfOk result
-        (λ f. AreReplayableEnds (tree_in f.runs) (map run_logs f.ends.items)) }
-    ensures family { IfOk result
-        (λ f. IsFamily (tree_in f.runs) f.whole (map run_logs f.ends.items)) }
-    ensures same { IfOk result (λ f. map run_logs f.ends.items ≡ map run_logs given.items) }
-{
-    let mut runs = runs;
-    let found = check_ends(alloc, &mut runs, given)?;
-    Ok(Family {
-        runs,
-        whole: is_whole(&found.stop),
-        ends: found.ends,
-    })
 }
 
 fn count(ends: &[EndedRun]) -> usize

@@ -1,7 +1,6 @@
 //! The given reports, which are checked to be all ends.
 
 ghost use Rattle.std.specs.Prelude.{◌≡◌, ◌≤◌, [], ◌∷◌, ◌++◌, IfOk, IfErr, OnOk, map, true, false};
-ghost use Rattle.asp_model.specs.Replay.{Fits};
 ghost use Rattle.asp_model.specs.Shapes.{counts_shape, lists_shape, tree_of, verdict_shape};
 ghost use Rattle.asp_model.specs.Status.{Budget};
 ghost use Rattle.asp_model.specs.Term.{Tree};

@@ -2,12 +2,14 @@
 #![tactic(auto)]
 
 mod answer;
+mod family;
 mod given;
 mod halt;
 mod joined;
 mod survey;
+mod told;
 mod top;
 mod writing;
 
-pub use joined::{ended_runs_are_found, spent_runs_are_short};
+pub use joined::{ended_runs_are_alike, ended_runs_are_found, spent_runs_are_short};
 pub use top::run_outcomes;
