@@ -4,14 +4,17 @@
     bench/outcomes.py [--runs N] [--most N] [--cases] [--generated N] [--few N] [--generated-runs N]
 
 It takes the programs that `rt ci` built, or those that ASP and OUTCOMES name. Of each program of the table it prints
-the ends, the outcomes and the seconds, and the ends and the outcomes have to be those that are known. It does so for
-each example, with --cases for each program of cases/, and with --generated for so many programs of
-bench/programs.py that have at most --few ends (200).
+the ends by whole orders and by classes of labels, the outcomes and the seconds, and these numbers have to be those
+that are known. It does so for each example, with --cases for each program of cases/, and with --generated for so many
+programs of bench/programs.py that have at most --few ends (200) by whole orders; every second of these has no poll.
 
-Of a program whose ends are complete and at most --most (500): the report of each end has to be replayed by asp to
-its own bytes, and to be one of the outcomes; all these reports have to be complete by --check-ends, with the same
-text, and cut off without one of them; and each of --runs racing runs (200), by 1 to 64 workers and under each
-strategy, has to print the report of one of the ends. It ends with 1 if anything failed.
+If the ends are complete both ways, both have to have the same outcomes, the same longest run and the same status. If
+they are complete by whole orders and at most --most (500): the report of each end has to be replayed by asp to its own
+bytes, and to be one of the outcomes; all these reports have to be complete by --check-ends, with the same text, and
+cut off without one of them; and each of --runs racing runs (200), by 1 to 64 workers and under each strategy, has to
+print the report of one of the ends. If they are complete by classes and at most --most: the report of each end has to
+be replayed by asp to its own bytes, and each racing run has to look as one of the outcomes. It ends with 1 if
+anything failed.
 """
 import argparse
 import glob
@@ -87,17 +90,17 @@ let admin = active([; work(self, n) = if (n == 0) { mode.set() } else { self.wor
 one.go(); two.go(); admin.work(5)
 """
 
-# a program, and how many ends and outcomes it has
+# a program, and how many ends it has by whole orders, and by classes, and how many outcomes
 TABLE = {
-    "philosophers 3": (philosophers(3), 37, 2),
-    "philosophers 4": (philosophers(4), 185, 2),
-    "philosophers 5": (philosophers(5), 841, 2),
-    "polite philosophers 4": (philosophers(4, polite=True), 208, 1),
-    "8 clients, own counters": (own_counters(8), 1, 1),
-    "6 clients, one counter": (clients(6), 720, 1),
-    "two accounts, 2 customers each": (accounts(), 4, 4),
-    "rare deadlock": (LOCKS, 15, 2),
-    "asp --make 4": (pairs(4), 120, 1),
+    "philosophers 3": (philosophers(3), 37, 7, 2),
+    "philosophers 4": (philosophers(4), 185, 15, 2),
+    "philosophers 5": (philosophers(5), 841, 31, 2),
+    "polite philosophers 4": (philosophers(4, polite=True), 208, 14, 1),
+    "8 clients, own counters": (own_counters(8), 1, 1, 1),
+    "6 clients, one counter": (clients(6), 720, 720, 1),
+    "two accounts, 2 customers each": (accounts(), 4, 4, 4),
+    "rare deadlock": (LOCKS, 15, 5, 2),
+    "asp --make 4": (pairs(4), 120, 24, 1),
 }
 
 
@@ -126,26 +129,44 @@ def outcomes_in(text):
     return parts
 
 
-def replayed(name, file, ends, parts, room):
+class Told:
+    """What asp-outcomes tells of a file with some words; not whole if it takes too long."""
+
+    def __init__(self, file, words=()):
+        try:
+            self.text, self.status, self.seconds = told([file, *words], OUTCOMES)
+        except subprocess.TimeoutExpired:
+            self.text, self.status, self.seconds = "outcomes 1\nnot told\nends 0\nlongest 0\n", 5, MOST_SECONDS
+        lines = self.text.split("\n")
+        self.whole = lines[1] == "complete"
+        self.ends, self.longest = int(lines[2].split(" ")[1]), lines[3]
+        self.parts = outcomes_in(self.text)
+
+    def line(self):
+        """The ends and the seconds, and whether the ends are all."""
+        return f"{self.ends} ends{'' if self.whole else ' and more'} in {self.seconds:.2f} s"
+
+
+def replayed(name, file, it, words, room):
     """The report of each end by its file, each of which is replayed; and what failed."""
     reports, failed = {}, []
-    for number in range(1, ends + 1):
-        report, one, _ = told([file, "--end", str(number)], OUTCOMES)
+    for number in range(1, it.ends + 1):
+        report, one, _ = told([file, "--end", str(number), *words], OUTCOMES)
         kept = os.path.join(room, f"end{number}")
-        with open(kept, "w", encoding="utf-8") as it:
-            it.write(report)
+        with open(kept, "w", encoding="utf-8") as out:
+            out.write(report)
         reports[kept] = report
         if told([file, "--replay", kept], ASP)[:2] != (report, one):
-            failed.append(f"{name}: the report of end {number} is not replayed to its own bytes")
-        if seen(report)[:-1] not in parts:
-            failed.append(f"{name}: the report of end {number} is none of the outcomes")
+            failed.append(f"{name}: the report of end {number} is not replayed to its own bytes {words}")
+        if seen(report)[:-1] not in it.parts:
+            failed.append(f"{name}: the report of end {number} is none of the outcomes {words}")
     return reports, failed
 
 
-def family(name, file, text, status, files):
+def family(name, file, it, files):
     """Whether all these reports are checked to be all, and cut off without one of them: what failed."""
     failed = []
-    if told([file, "--check-ends", *files], OUTCOMES)[:2] != (text, status):
+    if told([file, "--check-ends", *files], OUTCOMES)[:2] != (it.text, it.status):
         failed.append(f"{name}: --check-ends does not find all reports to be all")
     if len(files) > 1:
         gone = random.Random(name).randrange(len(files))
@@ -155,36 +176,56 @@ def family(name, file, text, status, files):
     return failed
 
 
-def raced(name, file, reports, runs):
-    """Racing runs, each of which has to print one of these reports: what failed, and how many of them were met."""
+def raced(name, file, reports, parts, runs):
+    """Racing runs, each of which has to print one of these reports, if there are some, and to look as one of these
+    outcomes: what failed, and how many reports were met."""
     failed, met, chance = [], set(), random.Random(name)
     for _ in range(runs):
         words = [file, "--workers", str(chance.randint(1, 64)), "--strategy",
                  chance.choice(["lazy", "forward", "message"])]
         report, _, _ = told(words, ASP)
         met.add(report)
-        if report not in reports:
+        if reports and report not in reports:
             failed.append(f"{name}: {' '.join(words[1:])} printed what is none of the ends")
+        if seen(report)[:-1] not in parts:
+            failed.append(f"{name}: {' '.join(words[1:])} printed what is none of the outcomes")
     return failed, len(met)
+
+
+def differ(name, orders, classes):
+    """In what two complete searches of one program differ, that ought to be the same."""
+    failed = []
+    if sorted(orders.parts) != sorted(classes.parts):
+        failed.append(f"{name}: by classes there are other outcomes")
+    if (orders.longest, orders.status) != (classes.longest, classes.status):
+        failed.append(f"{name}: by classes the longest run or the status is another one")
+    if orders.ends < classes.ends:
+        failed.append(f"{name}: by classes there are more ends")
+    return failed
 
 
 def check(name, file, runs, most, room, known=None):
     """Tells what is found of one program, and returns how many ends it has, if they are all, and what failed."""
-    text, status, seconds = told([file], OUTCOMES)
-    lines = text.split("\n")
-    ends, parts = int(lines[2].split(" ")[1]), outcomes_in(text)
-    line = f"{name}: {lines[1]}, {ends} ends, {len(parts)} outcomes, status {status}, {seconds:.2f} s"
+    classes, orders = Told(file), Told(file, ["--whole-orders"])
+    line = (f"{name}: {orders.line()}, by classes {classes.line()}, {len(classes.parts)} outcomes, "
+            f"status {classes.status}")
     failed = []
-    if known is not None and (lines[1], ends, len(parts)) != ("complete", *known):
-        failed.append(f"{name}: there are {known[0]} ends and {known[1]} outcomes")
-    if lines[1] == "complete" and ends <= most:
-        reports, more = replayed(name, file, ends, parts, room)
-        failed += more + family(name, file, text, status, list(reports))
-        more, met = raced(name, file, set(reports.values()), runs)
+    if known is not None and (orders.ends, classes.ends, len(classes.parts)) != known:
+        failed.append(f"{name}: known are {known[0]} ends, {known[1]} by classes, and {known[2]} outcomes")
+    if orders.whole and classes.whole:
+        failed += differ(name, orders, classes)
+    reports, is_few = {}, classes.whole and classes.ends <= most
+    if is_few:
+        failed += replayed(name, file, classes, [], room)[1]
+    if orders.whole and orders.ends <= most:
+        reports, more = replayed(name, file, orders, ["--whole-orders"], room)
+        failed += more + family(name, file, orders, list(reports))
+    if reports or is_few:
+        more, met = raced(name, file, set(reports.values()), classes.parts if is_few else orders.parts, runs)
         failed += more
         line += f", {met} ends met by {runs} runs"
     print(line, flush=True)
-    return ends if lines[1] == "complete" else None, failed
+    return orders.ends if orders.whole else None, failed
 
 
 def cases():
@@ -229,7 +270,7 @@ def main():
             try:
                 ends, more = check(name, file, runs, most, room, known)
             except subprocess.TimeoutExpired:
-                print(f"{name}: not told in {MOST_SECONDS} s", flush=True)
+                print(f"{name}: not done, {MOST_SECONDS} s were over", flush=True)
                 return None
             for it in more:
                 print("FAILED", it, flush=True)
@@ -237,7 +278,7 @@ def main():
             return ends
 
         for name, (text, *known) in TABLE.items():
-            tried(name, text, given.runs, given.most, known)
+            tried(name, text, given.runs, given.most, tuple(known))
         for example in sorted(glob.glob(f"{HERE}/examples/*.asp")):
             with open(example, encoding="utf-8") as it:
                 tried(os.path.basename(example), it.read(), given.runs, given.most)
@@ -246,7 +287,7 @@ def main():
                 tried(name, text, given.runs, given.most)
         done = seed = 0
         while done < given.generated:
-            ends = tried(f"generated {seed}", programs.Maker(seed, 10).program(), given.generated_runs, given.few)
+            ends = tried(f"generated {seed}", programs.make(seed, 10, seed % 2 == 0), given.generated_runs, given.few)
             seed += 1
             done += ends is not None and ends <= given.few
     print(f"{len(failed)} failed")
