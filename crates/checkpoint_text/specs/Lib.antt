@@ -2,4 +2,6 @@
 pub mod Items
 pub mod Lines
 pub mod Reading
+pub mod Writable
+pub mod Laws
 pub mod Rows

@@ -1,11 +1,11 @@
 -- Reading a checkpoint: line by line, and in a line item by item.
-use Rattle.std.specs.Prelude.{ℕ, ℤ, pos, negsuc, zero, suc, ◌^◌, ◌+◌, Bool, true, false, List, [], ◌∷◌, ◌++◌, Option, Some, None, map, codes}
+use Rattle.std.specs.Prelude.{ℕ, ℤ, pos, negsuc, zero, suc, ◌^◌, ◌+◌, nat_lt, Bool, true, false, List, [], ◌∷◌, ◌++◌, Option, Some, None, length, map, codes}
 use Rattle.asp_model.specs.Names.{Name, FutureShape, Text, same_text}
-use Rattle.asp_model.specs.Term.{SignShape, Add, Subtract, Multiply, Divide, Remainder, Less, Equal, MethodHead, Head, Loc, Hole, Var, Number, Make, Get, Put, Call, Clone, Active, Serve, Let, Steps, If, Repeat, Operate, Print, Echo, Group, Scatter, Size, Member, WaitAll, Pending, Tree, Trees, node, none, more, trees, leaf, one, two, loc}
+use Rattle.asp_model.specs.Term.{SignShape, Add, Subtract, Multiply, Divide, Remainder, Less, Equal, MethodHead, Head, Loc, Hole, Var, Number, Make, Get, Put, Call, Clone, Active, Serve, Let, Steps, If, Repeat, Operate, Print, Echo, Group, Scatter, Size, Member, WaitAll, Pending, Tree, Trees, node, none, more, trees, leaf, one, two, loc, locs_then}
 use Rattle.asp_model.specs.Store.{MethodShape, Field, CellShape, Object, Reference, Future}
 use Rattle.asp_model.specs.Store as cells
 use Rattle.asp_model.specs.Parcel.{ParcelShape}
-use Rattle.asp_model.specs.Split.{Context, plug}
+use Rattle.asp_model.specs.Split.{Context, Split, Splits, reduced_count, split, plug}
 use Rattle.asp_model.specs.Contraction.{LineShape, NumberLine, TextLine}
 use Rattle.asp_model.specs.Configuration.{RequestShape, ServiceShape, ReceptionShape, From, Poll}
 use Rattle.asp_model.specs.ReportLines.{parts}
@@ -171,14 +171,22 @@ abbrev pub term_to : ℕ → Reader Tree
 term_to zero ws = None
 term_to (suc depth) ws = variant (kinds (term_to depth)) ws
 
-abbrev pub term : Reader Tree
+-- as deep as a checkpoint may have one
+unfoldable pub term : Reader Tree
 term = term_to 25000
+
+-- the hole stands where a term is reduced in place
+abbrev pub only_context : Context → Option Context
+only_context c = elim (nat_lt (length c.before) (reduced_count c.head (locs_then c.before (more (loc 0) c.behind)))) [
+  | true ↦ Some c
+  | false ↦ None
+]
 
 -- locations, then a hole, then terms
 abbrev pub context_below : Head → List ℕ → Trees → Option Context
 context_below h before none = None
 context_below h before (more (node (Loc n) us) ts) = context_below h (before ++ n ∷ []) ts
-context_below h before (more (node Hole us) ts) = Some (record { head = h; before = before; behind = ts })
+context_below h before (more (node Hole us) ts) = only_context (record { head = h; before = before; behind = ts })
 context_below h before (more (node k us) ts) = None
 
 abbrev pub context_of : Tree → Option Context
@@ -200,14 +208,25 @@ if_some (Some r) = elim r.0 [ None ↦ None | Some x ↦ Some (x, r.1) ]
 abbrev pub some_of : {X Y : Type 0} → Reader X → (X → Option Y) → Reader Y
 some_of p f ws = if_some (reads p f ws)
 
-abbrev pub plugged_by : Tree → Option (List Context) → Option Tree
-plugged_by t None = None
-plugged_by t (Some cs) = Some (plug cs t)
+-- a redex, in contexts
+abbrev pub plugged_by : Split → Tree → Option (List Context) → Option Tree
+plugged_by (Splits [] r) t (Some cs) = Some (plug cs t)
+plugged_by s t cs = None
 
--- a redex or a location in its contexts
+-- a location alone
+abbrev pub standing_alone : ℕ → List Tree → Option Tree
+standing_alone n [] = Some (loc n)
+standing_alone n (t ∷ ts) = None
+
+-- by the node of the first term, and the terms behind it
+abbrev pub running_by : Head → Trees → List Tree → Option Tree
+running_by (Loc n) us ts = standing_alone n ts
+running_by h us ts = plugged_by (split (node h us)) (node h us) (contexts_of ts)
+
+-- a location alone, or a redex in its contexts
 abbrev pub running_of : List Tree → Option Tree
 running_of [] = None
-running_of (t ∷ ts) = plugged_by t (contexts_of ts)
+running_of (node h us ∷ ts) = running_by h us ts
 
 abbrev pub running : Reader Tree
 running = some_of (list_of term) running_of

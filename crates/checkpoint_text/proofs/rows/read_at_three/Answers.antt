@@ -1,7 +1,8 @@
 use Rattle.std.proofs.Common.{refl}
 use Rattle.std.specs.Fmt.{digits}
+use Rattle.checkpoint_text.specs.Reading.{term}
 use Rattle.checkpoint_text.proofs.rows.read_at_three.Goals as goal
 
 pub returns : goal.returns
-unfolding digits
+unfolding digits term
 returns c = refl
