@@ -15,6 +15,7 @@ mod uses;
 mod warnings;
 
 pub use findings::{Fault, Findings, explain};
+pub use nearest::Nearest;
 pub use remark::{Remark, Severity};
 pub use shown::text_of;
 pub use telling::{Told, tell};

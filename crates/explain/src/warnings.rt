@@ -1,6 +1,6 @@
 //! Labels that are called or served, and that no object of the program has.
 
-use crate::nearest::nearest;
+use crate::nearest::Nearest;
 use crate::remark::{Remark, Severity};
 use crate::uses::{LabelUse, Role, uses_of};
 use asp_model::Program;
@@ -60,7 +60,7 @@ fn warning(
     place: &LabelUse<'_>,
 ) -> Result<Remark, AllocError> {
     let label = place.label;
-    let sentence = match nearest(uses, label) {
+    let sentence = match nearest_method(uses, label) {
         Some(meant) => {
             format!(in alloc; "no object has a method `{label}`: is `{meant}` meant?")?
         }
@@ -72,6 +72,16 @@ fn warning(
         sentence,
         cure: consequence(place.role),
     })
+}
+
+fn nearest_method<'a>(uses: &[LabelUse<'a>], label: &str) -> Option<&'a str> {
+    let mut nearest = Nearest::to(label);
+    for known in uses {
+        if known.role == Role::Method {
+            nearest.offer(known.label);
+        }
+    }
+    nearest.found()
 }
 
 // What comes of it.

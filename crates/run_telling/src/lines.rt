@@ -2,7 +2,7 @@
 
 use crate::faults::{fault_text, push_operands};
 use crate::operands::Stopped;
-use crate::places::{byte_of, node_of, push_place, serve_of};
+use crate::places::{byte_of, node_of, push_place};
 use asp_model::{ActivityReport, Fault, FutureName, Label, Status};
 use code_table::{EMPTY_NUMBER, Kind, Node, SERVE_NUMBER};
 use run_ends::EndState;
@@ -209,23 +209,6 @@ impl Told<'_> {
     fn push_call(&self, text: &mut String, state: &EndState) -> Result<(), AllocError> {
         text.push_str(" (")?;
         push_label(text, &state.machine.asked)?;
-        text.push_str(")")?;
-        match serve_of(state) {
-            Some(node) => self.push_serve(text, node),
-            None => Ok(()),
-        }
-    }
-    // Where the `serve` of a service stands.
-    fn push_serve(&self, text: &mut String, node: usize) -> Result<(), AllocError> {
-        if node <= EMPTY_NUMBER {
-            return Ok(());
-        }
-        match byte_of(self.nodes(), node) {
-            Some(at) => {
-                text.push_str(", served at ")?;
-                push_place(text, self.file, self.bytes, at)
-            }
-            None => Ok(()),
-        }
+        text.push_str(")")
     }
 }

@@ -4,7 +4,7 @@ use code_table::{Child, Node};
 use explain::{Position, position_of};
 use run_ends::EndState;
 use std::alloc::AllocError;
-use step_machine::{Focus, Form, in_place_count, next_child, node_at};
+use step_machine::{Focus, in_place_count, next_child, node_at};
 
 // The node below a node at which a machine stopped, where its redex needs no frame.
 fn inner(nodes: &[Node], number: usize, from: usize, done: usize) -> usize {
@@ -28,18 +28,6 @@ pub fn node_of(nodes: &[Node], state: &EndState) -> Option<usize> {
         Focus::Calls { number, .. } | Focus::Called { number, .. } => Some(number),
         Focus::Place(_) | Focus::Asked(_) => None,
     }
-}
-
-/// The `serve` whose service goes on, by the number of its node.
-pub fn serve_of(state: &EndState) -> Option<usize> {
-    let frames = &state.machine.frames;
-    let mut found = None;
-    for frame in frames {
-        if matches!(frame.form, Form::Service) {
-            found = Some(frame.node);
-        }
-    }
-    found
 }
 
 /// The byte of the text where a node stood.

@@ -4,6 +4,7 @@ use crate::counts::one_more;
 use crate::lines::{Told, push_asked};
 use asp_model::{ActivityReport, Label, Status};
 use code_table::{Kind, MethodCode, Node};
+use explain::Nearest;
 use state_lines::push_name;
 use std::alloc::{AllocError, Global};
 use wait_circles::{Circle, Why};
@@ -224,10 +225,12 @@ impl Told<'_> {
 
     // That no object has a method of this name.
     fn push_unknown(&self, text: &mut String, label: &Label) -> Result<(), AllocError> {
-        if has_method(self.run.end.code.nodes(), label) {
+        let nodes = self.run.end.code.nodes();
+        if has_method(nodes, label) {
             return Ok(());
         }
-        text.push_str("; no object has a method of that name")
+        text.push_str("; no object has a method of that name")?;
+        push_meant(text, nodes, label)
     }
 }
 
@@ -241,6 +244,26 @@ fn has_method(nodes: &[Node], label: &Label) -> bool {
         }
     }
     false
+}
+
+// Which label may be meant.
+fn push_meant(text: &mut String, nodes: &[Node], label: &Label) -> Result<(), AllocError> {
+    let mut nearest = Nearest::to(label.text.as_str());
+    for node in nodes {
+        if let Kind::Make(class) = &node.kind {
+            offer_methods(&mut nearest, &class.methods);
+        }
+    }
+    match nearest.found() {
+        Some(meant) => write!(text, ": is `{meant}` meant?"),
+        None => Ok(()),
+    }
+}
+
+fn offer_methods<'a>(nearest: &mut Nearest<'_, 'a>, methods: &'a [MethodCode]) {
+    for method in methods {
+        nearest.offer(method.label.text.as_str());
+    }
 }
 
 fn is_among(methods: &[MethodCode], label: &Label) -> bool {
