@@ -3,7 +3,7 @@ use Rattle.std.proofs.Common.{◌≡◌, ◌⊎◌, ℕ, List, Result, Ok, Err, 
 use Rattle.asp_explain.specs.declared.answer.Answer.{Answer}
 use Rattle.asp_explain.specs.declared.stop.Stop.{Stop}
 use Rattle.asp_explain.specs.declared.stop.Stop.TheVariants as stops
-use Rattle.asp_explain.specs.Words.{TaskShape, task_of}
+use Rattle.asp_explain.specs.Tasks.{TaskShape, task_of}
 use Rattle.asp_explain.specs.Shapes.{StopsFor}
 use Rattle.asp_explain.specs.Refusals.{NoMemory, Refusal, refusal_of}
 use Rattle.asp_explain.specs.Seen.{Call, IsUnasked, IsUntouched, Outside}
@@ -29,6 +29,9 @@ module _ (words : List (List ℕ)) (o : Outside) where
   stops_words (stops.LongReport which) u h = absurd h
   stops_words (stops.BadLine which line) u h = absurd h
   stops_words (stops.Diverged which activity) u h = absurd h
+  stops_words (stops.NoActivity name) u h = absurd h
+  stops_words (stops.NoCount activity count) u h = absurd h
+  stops_words stops.LargePicture u h = absurd h
   stops_words stops.Memory u h = OfMemory refl
 
 ends_refused : (c : Call) (status : ℕ) (r : Refusal) → IsCause c.words c.outside r → IsUntouched c.out → IsToldOf r c.err status → Ends c status

@@ -1,7 +1,7 @@
 -- What was read, in one read and in two, and why it was not.
-use Rattle.std.proofs.Common.{◌≡◌, ◌⊎◌, ℕ, ◌≤◌, List, [], ◌∷◌, ◌++◌, Result, Ok, Err, Option, Some, None, IfOk, IfErr, refl, sym, ap, subst, ◌∙◌, append_assoc, arith, inl, inr}
+use Rattle.std.proofs.Common.{◌≡◌, ℕ, ◌≤◌, List, [], ◌∷◌, ◌++◌, Ok, Option, Some, None, refl, sym, ap, subst, ◌∙◌, append_assoc, arith, inl, inr}
 use Rattle.asp_model.specs.declared.term.Program.{Program}
-use Rattle.asp_model.specs.Marked.{Marked, plain}
+use Rattle.asp_model.specs.Marked.{Marked}
 use Rattle.asp_model.specs.Replay.{CountsShape}
 use Rattle.asp_model.specs.Shapes.{marked_of}
 use Rattle.asp_model.specs.Step.{ListsShape}
@@ -20,11 +20,15 @@ use Rattle.sender_log.specs.declared.error.LogError.{LogError}
 use Rattle.sender_log.specs.declared.error.LogError.TheVariants as log
 use Rattle.asp_model.specs.ReadReport.{read_report}
 use Rattle.syntax_grammar.specs.Programs.{IsProgramText}
+use Rattle.run_cuts.specs.declared.cuts.CutStop.TheVariants as run
+use Rattle.cut_reports.specs.Reports.{IsReportStop}
+use Rattle.cut_reports.specs.declared.reports.CutReportStop.{CutReportStop}
+use Rattle.cut_reports.specs.declared.reports.CutReportStop.TheVariants as cuts
 use Rattle.asp_explain.specs.declared.stop.Stop.{Stop}
 use Rattle.asp_explain.specs.declared.stop.Which.{Which}
-use Rattle.asp_explain.specs.Refusals.{Diverges, LongReport, NoMemory, NoReport, Refusal, TooLong, Unread, Usage, log_stop, refusal_of, replay_stop, status_of}
-use Rattle.asp_explain.specs.Seen.{Asked, Fails, Outside, outside_between}
-use Rattle.asp_explain.specs.Given.{HasFault, IsProgramOf, IsToldWith, StopsAtReport, StopsReplay, program_in}
+use Rattle.asp_explain.specs.Refusals.{Diverges, LargePicture, LongReport, NoActivity, NoCount, NoMemory, NoReport, Refusal, TooLong, Unread, Usage, cut_refusal, log_stop, refusal_of, replay_stop, status_of}
+use Rattle.asp_explain.specs.Seen.{Asked, Outside, outside_between}
+use Rattle.asp_explain.specs.Given.{HasFault, IsProgramOf, IsToldWith, StopsAtReport, StopsCut, StopsReplay, program_in}
 
 -- The program
 
@@ -51,6 +55,13 @@ pub replay_stops : (program : Tree) (lists : ListsShape) (counts : CountsShape) 
 replay_stops program lists counts which (replays.Diverged activity) h = (refl, h.0, h.1)
 replay_stops program lists counts which replays.Memory h = tt
 
+pub cut_stops : (program : Tree) (lists : ListsShape) (counts : CountsShape) (activity : List ℕ) (k : ℕ) (s : CutReportStop) → IsReportStop program lists counts activity k s → StopsCut program lists counts activity k (cut_refusal activity k s)
+cut_stops program lists counts activity k cuts.NoName h = (refl, refl, inl h)
+cut_stops program lists counts activity k (cuts.NoCut run.Beyond) h = (refl, refl, inr h)
+cut_stops program lists counts activity k (cuts.NoCut (run.Diverged m)) h = (refl, h.2.0, h.2.1)
+cut_stops program lists counts activity k (cuts.NoCut run.Memory) h = tt
+cut_stops program lists counts activity k cuts.Memory h = tt
+
 -- Two reads
 
 -- a count that rose after it had not fallen
@@ -69,4 +80,7 @@ module _ {S : Type 0} (told : S → SourceTells) (first middle last : S) where
   report_stops asks which name (LongReport one) h later s = (s.0, s.1, asked_then asks _ h s.2, s.3)
   report_stops asks which name (NoReport one line) h later s = (s.0, s.1, asked_then asks _ h s.2, s.3)
   report_stops asks which name (Diverges one activity) h later s = absurd s
+  report_stops asks which name (NoActivity other) h later s = absurd s
+  report_stops asks which name (NoCount activity k) h later s = absurd s
+  report_stops asks which name LargePicture h later s = absurd s
   report_stops asks which name NoMemory h later s = tt

@@ -1,3 +1,4 @@
 pub mod EndsLemmas
+pub mod EventLemmas
 pub mod GivenLemmas
 pub mod TellLemmas

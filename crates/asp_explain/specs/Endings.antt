@@ -1,64 +1,33 @@
 -- How a call ends: read `Ends` first.
 use Rattle.std.specs.Prelude.{◌≡◌, ◌⊎◌, ℕ, List, Some, false}
-use Rattle.asp_model.specs.Marked.{Marked, plain}
-use Rattle.asp_model.specs.Replay.{CountsShape, Fits, replay}
-use Rattle.asp_model.specs.Step.{ListsShape}
-use Rattle.asp_model.specs.Term.{Tree}
-use Rattle.replay_one.specs.Notes.{replay_notes}
-use Rattle.run_waits.specs.declared.explained.Explained.{Explained}
-use Rattle.run_waits.specs.Books.{KeepsBooks}
-use Rattle.run_waits.specs.Explains.{IsExplained}
-use Rattle.asp_explain.specs.declared.stop.Which.TheVariants.{First}
-use Rattle.asp_explain.specs.Words.{AskNothing, File, Run, TaskShape, is_taken, task_of}
+use Rattle.asp_explain.specs.Words.{is_taken}
+use Rattle.asp_explain.specs.Tasks.{AskNothing, Events, File, Other, Picture, Run, TaskShape, Until, task_of}
 use Rattle.asp_explain.specs.Refusals.{NoMemory, Refusal, Usage, message_of, status_of_refusal, write_message}
 use Rattle.asp_explain.specs.Seen.{Call, IsUnasked, IsUntouched, Outside, Takes, TakesFront}
-use Rattle.asp_explain.specs.Given.{AreGiven, StopsAtFile, StopsLoading, StopsReplay, TellsFault, TellsFile}
-
--- Why a run stands as it does
-
--- the logs and counts fit the program, and what is told is read from the end of its replay
-pub record IsRunTold (program : Tree) (lists : ListsShape) (counts : CountsShape) (status : ℕ) : Type 0 where
-  pub fits : Fits program lists counts
-  pub explained : Explained
-  pub is : IsExplained (replay program lists counts) explained
-  pub books : KeepsBooks explained.books (replay_notes program lists counts)
-  pub status_is : status ≡ 0
-
--- those of the report that the source handed out, of the program that it handed out
-pub record TellsRun (o : Outside) (file report : List ℕ) (status : ℕ) : Type 0 where
-  pub program : Marked
-  pub lists : ListsShape
-  pub counts : CountsShape
-  pub given : AreGiven o file report program lists counts
-  pub told : IsRunTold (plain program) lists counts status
-
--- or the program has a fault
-abbrev pub TellsOfRun : Outside → (file report text : List ℕ) → ℕ → Type 0
-TellsOfRun o file report text status = TellsFault o file text status ⊎ TellsRun o file report status
-
--- the replay of a program and a report stops
-pub record StopsThere (o : Outside) (file report : List ℕ) (r : Refusal) : Type 0 where
-  pub program : Marked
-  pub lists : ListsShape
-  pub counts : CountsShape
-  pub given : AreGiven o file report program lists counts
-  pub stops : StopsReplay (plain program) lists counts First r
-
--- why nothing is told of a run
-abbrev pub StopsRun : Outside → (file report : List ℕ) → Refusal → Type 0
-StopsRun o file report r = StopsLoading o file report r ⊎ StopsThere o file report r
-
--- A call
+use Rattle.asp_explain.specs.Given.{StopsAtFile, TellsFile}
+use Rattle.asp_explain.specs.OfRun.{StopsRun, TellsOfRun}
+use Rattle.asp_explain.specs.OfEvents.{StopsEvents, TellsOfEvents}
+use Rattle.asp_explain.specs.OfPicture.{StopsPicture}
+use Rattle.asp_explain.specs.OfOther.{StopsOther, TellsOfOther}
+use Rattle.asp_explain.specs.OfUntil.{StopsUntil, TellsUntil}
 
 -- what is told for a task
 abbrev pub Tells : Outside → TaskShape → List ℕ → ℕ → Type 0
 Tells o (File file) text status = TellsFile o file text status
 Tells o (Run file report) text status = TellsOfRun o file report text status
+Tells o (Events file report page) text status = TellsOfEvents o file report page text status
+Tells o (Other file report other picture) text status = TellsOfOther o file report other text status
+Tells o (Picture file report page) text status = TellsOfEvents o file report page text status
+Tells o (Until file report activity k) text status = TellsUntil o file report activity k text status
 
 -- why nothing is told for it
 abbrev pub StopsTask : Outside → TaskShape → Refusal → Type 0
 StopsTask o (File file) r = StopsAtFile o file r
 StopsTask o (Run file report) r = StopsRun o file report r
+StopsTask o (Events file report page) r = StopsEvents o file report page r
+StopsTask o (Other file report other picture) r = StopsOther o file report other picture r
+StopsTask o (Picture file report page) r = StopsPicture o file report page r
+StopsTask o (Until file report activity k) r = StopsUntil o file report activity k r
 
 -- what is written where nothing is refused: what the words' task asks for, or the help
 pub data Answers (words : List (List ℕ)) (o : Outside) (text : List ℕ) (status : ℕ) : Type 0 where

@@ -1,9 +1,12 @@
 -- What a call is given to tell of: the program in a file, and a report of it.
-use Rattle.std.specs.Prelude.{◌≡◌, ◌⊎◌, ◌<◌, ◌≤◌, ℕ, List, [], ◌∷◌, ◌++◌, length, Option, Ok, Err}
+use Rattle.std.specs.Prelude.{◌≡◌, ◌⊎◌, ◌<◌, ℕ, List, [], ◌∷◌, ◌++◌, Option, Some, None, Ok, Err}
 use Rattle.asp_model.specs.declared.limits.TheConstants.{MOST_PROGRAM_BYTES, MOST_REPORT_BYTES}
 use Rattle.asp_model.specs.declared.outcome.Counts.{Counts}
 use Rattle.asp_model.specs.declared.outcome.Lists.{Lists}
-use Rattle.asp_model.specs.Marked.{Marked, plain}
+use Rattle.asp_model.specs.Marked.{Marked}
+use Rattle.asp_model.specs.Names.{Name}
+use Rattle.asp_model.specs.ReportLines.{name_of}
+use Rattle.run_cuts.specs.Cuts.{IsBeyond}
 use Rattle.asp_model.specs.ReadReport.{BadLine, Reads, read_report}
 use Rattle.asp_model.specs.Replay.{CountsShape, Fits, IsLeastDiverging}
 use Rattle.asp_model.specs.Shapes.{counts_shape, lists_shape, marked_of}
@@ -17,13 +20,12 @@ use Rattle.syntax_grammar.specs.Programs.{IsProgramText}
 use Rattle.explain.specs.declared.findings.Fault.{Fault}
 use Rattle.explain.specs.Told.{IsTold}
 use Rattle.replay_one.specs.Listed.{AreReplayable}
-use Rattle.asp_explain.specs.declared.answer.Answer.{Answer}
 use Rattle.asp_explain.specs.declared.loading.Given.{Given}
 use Rattle.asp_explain.specs.declared.loading.Loaded.{Loaded}
 use Rattle.asp_explain.specs.declared.loading.Loaded.TheVariants as loaded
 use Rattle.asp_explain.specs.declared.stop.Which.{Which}
 use Rattle.asp_explain.specs.declared.stop.Which.TheVariants.{First}
-use Rattle.asp_explain.specs.Refusals.{Refusal, Usage, Unread, TooLong, LongReport, NoReport, Diverges, NoMemory, status_of}
+use Rattle.asp_explain.specs.Refusals.{Refusal, Unread, TooLong, LongReport, NoReport, Diverges, NoCount, NoMemory, status_of}
 use Rattle.asp_explain.specs.Seen.{Asked, Fails, Outside}
 
 -- The program
@@ -87,6 +89,15 @@ StopsReplay program lists counts which (Diverges one activity) = (one ≡ which)
     × IsLeastDiverging program lists counts activity × (Fits program lists counts → ⊥)
 StopsReplay program lists counts which NoMemory = Unit {0}
 StopsReplay program lists counts which r = ⊥
+
+-- why its report is not cut back
+abbrev pub StopsCut : Tree → ListsShape → CountsShape → List ℕ → ℕ → Refusal → Type 0
+StopsCut program lists counts activity k (Diverges one m) = (one ≡ First)
+    × IsLeastDiverging program lists counts m × (Fits program lists counts → ⊥)
+StopsCut program lists counts activity k (NoCount name count) = (name ≡ activity) × (count ≡ k)
+    × ((name_of activity ≡ None) ⊎ ((n : Name) × (name_of activity ≡ Some n) × IsBeyond lists counts n k))
+StopsCut program lists counts activity k NoMemory = Unit {0}
+StopsCut program lists counts activity k r = ⊥
 
 -- A program and a report
 

@@ -8,6 +8,9 @@ use Rattle.sender_log.specs.declared.error.LogError.{LogError}
 use Rattle.sender_log.specs.declared.error.LogError.TheVariants as log
 use Rattle.replay_one.specs.declared.replays.ReplayStop.{ReplayStop}
 use Rattle.replay_one.specs.declared.replays.ReplayStop.TheVariants as replays
+use Rattle.run_cuts.specs.declared.cuts.CutStop.TheVariants as run
+use Rattle.cut_reports.specs.declared.reports.CutReportStop.{CutReportStop}
+use Rattle.cut_reports.specs.declared.reports.CutReportStop.TheVariants as cuts
 use Rattle.asp_explain.specs.declared.stop.Which.{Which}
 use Rattle.asp_explain.specs.declared.stop.Which.TheVariants.{First, Second}
 use Rattle.asp_explain.specs.declared.stop.Stop.{Stop}
@@ -22,6 +25,11 @@ pub data Refusal : Type 0 where
   -- by its first line that cannot stand in its place
   NoReport : (which : Which) (line : ℕ) → Refusal
   Diverges : (which : Which) (activity : Name) → Refusal
+  -- the run has no activity of this name
+  NoActivity : (name : List ℕ) → Refusal
+  -- there is no such activity in the report, or it has made fewer reductions
+  NoCount : (activity : List ℕ) (count : ℕ) → Refusal
+  LargePicture : Refusal
   NoMemory : Refusal
 
 abbrev pub refusal_of : Stop → Refusal
@@ -31,6 +39,9 @@ refusal_of stops.TooLong = TooLong
 refusal_of (stops.LongReport which) = LongReport which
 refusal_of (stops.BadLine which line) = NoReport which line
 refusal_of (stops.Diverged which activity) = Diverges which activity
+refusal_of (stops.NoActivity name) = NoActivity name.now
+refusal_of (stops.NoCount activity count) = NoCount activity.now count
+refusal_of stops.LargePicture = LargePicture
 refusal_of stops.Memory = NoMemory
 
 abbrev pub log_stop : Which → LogError → Stop
@@ -41,6 +52,13 @@ abbrev pub replay_stop : Which → ReplayStop → Stop
 replay_stop which (replays.Diverged activity) = stops.Diverged which activity
 replay_stop which replays.Memory = stops.Memory
 
+abbrev pub cut_refusal : List ℕ → ℕ → CutReportStop → Refusal
+cut_refusal activity k cuts.NoName = NoCount activity k
+cut_refusal activity k (cuts.NoCut run.Beyond) = NoCount activity k
+cut_refusal activity k (cuts.NoCut (run.Diverged m)) = Diverges First m
+cut_refusal activity k (cuts.NoCut run.Memory) = NoMemory
+cut_refusal activity k cuts.Memory = NoMemory
+
 abbrev pub status_of_refusal : Refusal → ℕ
 status_of_refusal Usage = 2
 status_of_refusal (Unread name) = 6
@@ -48,6 +66,9 @@ status_of_refusal TooLong = 3
 status_of_refusal (LongReport which) = 9
 status_of_refusal (NoReport which line) = 9
 status_of_refusal (Diverges which activity) = 9
+status_of_refusal (NoActivity name) = 2
+status_of_refusal (NoCount activity k) = 2
+status_of_refusal LargePicture = 2
 status_of_refusal NoMemory = 8
 
 -- what messages call a report
@@ -68,12 +89,17 @@ diverging_line report activity =
     codes "asp-explain: " ++ report ++ codes ": " ++ name_text activity ++ codes " diverges\n"
 
 abbrev pub message_of : Refusal → List ℕ
-message_of Usage = codes "asp-explain: usage: asp-explain FILE [REPORT]\n"
+message_of Usage = codes "asp-explain: usage: asp-explain FILE [REPORT [OPTION ..]]\n"
 message_of (Unread name) = codes "asp-explain: cannot read " ++ name ++ codes "\n"
 message_of TooLong = codes "asp-explain: program: longer than 1048576 bytes\n"
 message_of (LongReport which) = long_line (report_text which)
 message_of (NoReport which line) = bad_line (report_text which) line
 message_of (Diverges which activity) = diverging_line (report_text which) activity
+message_of (NoActivity name) = codes "asp-explain: no activity " ++ name ++ codes "\n"
+message_of (NoCount activity k) =
+    codes "asp-explain: report: no " ++ decimal k ++ codes " reductions of " ++ activity ++ codes "\n"
+message_of LargePicture = codes
+    "asp-explain: a picture has at most 60 activities and 2000 events: ask for fewer by --events --from N --most N\n"
 message_of NoMemory = codes "asp-explain: no memory\n"
 
 abbrev pub write_message : List ℕ

@@ -1,6 +1,6 @@
 //! What a call tells, up to the writing.
 
-ghost use Rattle.std.specs.Prelude.{◌≡◌, IfOk, IfErr};
+ghost use Rattle.std.specs.Prelude.{◌≡◌, IfOk, IfErr, string_bytes};
 ghost use Rattle.asp_explain.specs.Refusals.{refusal_of, status_of as status_of_fault};
 ghost use Rattle.asp_explain.specs.Seen.{bytes_of, outside};
 ghost use Rattle.asp_explain.specs.Shapes.{task_shape};
@@ -8,7 +8,11 @@ ghost use Rattle.asp_explain.specs.Given.{IsToldWith, StopsAtFile, TellsFile};
 ghost use Rattle.asp_explain.specs.Endings.{Answers, IsCause, StopsTask, Tells};
 
 use crate::loading::bytes_in;
+use crate::of_events::of_events;
+use crate::of_other::of_other;
+use crate::of_picture::of_picture;
 use crate::of_run::of_run;
+use crate::of_until::of_until;
 use crate::stop::Stop;
 use crate::task::{Task, Wanted, read_words};
 use asp_edge::Source;
@@ -50,6 +54,20 @@ fn of_task<'a, S: Source>(alloc: Global, task: Task<'a>, source: &mut S) -> Resu
     match task {
         Task::File { file } => of_file(alloc, file, source),
         Task::Run { file, report } => of_run(alloc, file, report, source),
+        Task::Events { file, report, page } => of_events(alloc, file, report, page, source),
+        Task::Other {
+            file,
+            report,
+            other,
+            picture,
+        } => of_other(alloc, file, report, other, picture, source),
+        Task::Picture { file, report, page } => of_picture(alloc, file, report, page, source),
+        Task::Until {
+            file,
+            report,
+            activity,
+            count,
+        } => of_until(alloc, file, report, activity, count, source),
     }
 }
 
@@ -86,6 +104,7 @@ fn status_of(fault: &Option<Fault>) -> u8
 /// A text that tells something.
 pub fn answer_with(text: String) -> Answer
     ensures status { result.status ≡ 0 }
+    ensures text { result.text.items ≡ string_bytes text }
 {
     Answer {
         status: 0,

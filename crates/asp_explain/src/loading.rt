@@ -1,10 +1,9 @@
 //! What is read for a task: the program in a file, and reports of it.
 
-ghost use Rattle.std.specs.Prelude.{◌≡◌, ◌≤◌, ◌∷◌, [], IfErr, IfNone, IfOk, IfSome, Ok as Gave};
-ghost use Rattle.asp_model.specs.Shapes.{counts_shape, lists_shape};
+ghost use Rattle.std.specs.Prelude.{◌≤◌, ◌∷◌, [], IfErr, IfNone, IfOk, IfSome, Ok as Gave};
 ghost use Rattle.asp_explain.specs.Refusals.{refusal_of};
 ghost use Rattle.asp_explain.specs.Seen.{Asked, outside};
-ghost use Rattle.asp_explain.specs.Given.{HasFault, IsGiven, IsLoaded, IsProgramOf, IsReportIn, StopsAtFile, StopsAtReport, StopsLoading, program_in};
+ghost use Rattle.asp_explain.specs.Given.{HasFault, IsLoaded, IsProgramOf, IsReportIn, StopsAtFile, StopsAtReport, StopsLoading, program_in};
 
 use crate::answer::{Answer, told};
 use crate::stop::{Stop, Which};
@@ -79,6 +78,7 @@ pub fn lists_of<'a, S: Source>(
     ensures log { IfOk result (IsReportIn (outside S.told source) name.entry.now) }
     ensures stop { IfErr result (λ s. StopsAtReport (outside S.told source) []
         which name.entry.now (refusal_of s)) }
+    ensures later { (S.told source.old).faults ≤ (S.told source.new).faults }
 {
     match source.read(name, MOST_REPORT_BYTES) {
         Ok(bytes) => match read_report(alloc, &bytes) {
@@ -103,6 +103,7 @@ pub fn load<'a, S: Source>(
         (IsLoaded (outside S.told source) file.entry.now report.entry.now) }
     ensures stop { IfErr result (λ s. StopsLoading (outside S.told source)
         file.entry.now report.entry.now (refusal_of s)) }
+    ensures later { (S.told source.old).faults ≤ (S.told source.new).faults }
 {
     let bytes = bytes_in(file, source)?;
     match checked_in(alloc, &bytes)? {

@@ -4,7 +4,12 @@
 mod answer;
 mod command;
 mod loading;
+mod of_events;
+mod of_other;
+mod of_picture;
 mod of_run;
+mod of_until;
+mod page;
 mod stop;
 mod task;
 mod top;

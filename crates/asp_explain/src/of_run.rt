@@ -1,12 +1,12 @@
 //! Why a run stands as it does.
 
-ghost use Rattle.std.specs.Prelude.{◌≡◌, IfErr, IfOk};
+ghost use Rattle.std.specs.Prelude.{IfErr, IfOk};
 ghost use Rattle.asp_model.specs.Shapes.{counts_shape, lists_shape, tree_of};
 ghost use Rattle.replay_one.specs.Listed.{AreReplayable};
 ghost use Rattle.asp_explain.specs.Refusals.{refusal_of};
 ghost use Rattle.asp_explain.specs.Seen.{outside};
 ghost use Rattle.asp_explain.specs.Given.{StopsReplay};
-ghost use Rattle.asp_explain.specs.Endings.{IsRunTold, StopsRun, TellsOfRun};
+ghost use Rattle.asp_explain.specs.OfRun.{IsRunTold, StopsRun, TellsOfRun};
 ghost use Rattle.asp_explain.specs.declared.stop.Which.TheVariants.{First};
 
 use crate::answer::{Answer, answer_with};

@@ -1,11 +1,13 @@
 //! Why there is nothing to tell.
 
 ghost use Rattle.std.specs.Prelude.{◌≡◌};
-ghost use Rattle.asp_explain.specs.Refusals.{log_stop, replay_stop};
+ghost use Rattle.asp_explain.specs.Refusals.{cut_refusal, log_stop, refusal_of, replay_stop};
 ghost use Rattle.asp_explain.specs.declared.stop.Stop.TheVariants as stops;
 
 use asp_model::ActivityName;
+use cut_reports::CutReportStop;
 use replay_one::ReplayStop;
+use run_cuts::CutStop;
 use sender_log::LogError;
 use std::alloc::AllocError;
 
@@ -33,6 +35,12 @@ pub enum Stop<'a> {
     BadLine(Which, u64),
     /// The report does not fit the program, and this is the least activity that shows it.
     Diverged(Which, ActivityName),
+    /// The run has no activity of this name.
+    NoActivity(&'a str),
+    /// The report has no activity of this name, or it has made fewer reductions than these.
+    NoCount(&'a str, u64),
+    /// The run is larger than what is drawn.
+    LargePicture,
     Memory,
 }
 
@@ -54,6 +62,23 @@ impl Stop<'_> {
         match stop {
             ReplayStop::Diverged { activity } => Stop::Diverged(which, activity),
             ReplayStop::Memory => Stop::Memory,
+        }
+    }
+}
+
+impl<'a> Stop<'a> {
+    /// What a report that is not cut back stops at.
+    pub fn of_cut(activity: &'a str, count: u64, stop: CutReportStop) -> Self
+        ensures { refusal_of result ≡ cut_refusal activity.entry.now count stop }
+    {
+        match stop {
+            CutReportStop::NoName => Stop::NoCount(activity, count),
+            CutReportStop::NoCut(CutStop::Beyond) => Stop::NoCount(activity, count),
+            CutReportStop::NoCut(CutStop::Diverged { activity }) => {
+                Stop::Diverged(Which::First, activity)
+            }
+            CutReportStop::NoCut(CutStop::Memory) => Stop::Memory,
+            CutReportStop::Memory => Stop::Memory,
         }
     }
 }

@@ -1,7 +1,7 @@
 //! What is written: messages, and a text that is ready.
 
 ghost use Rattle.std.specs.Prelude.{◌≡◌, ◌⊎◌, IfErr, IfOk, string_bytes};
-ghost use Rattle.asp_explain.specs.Refusals.{NoMemory, Unread, bad_line, diverging_line, long_line, message_of, refusal_of, report_text as text_of_report};
+ghost use Rattle.asp_explain.specs.Refusals.{NoActivity, NoCount, NoMemory, Unread, bad_line, diverging_line, long_line, message_of, refusal_of, report_text as text_of_report};
 ghost use Rattle.asp_explain.specs.Seen.{sight};
 ghost use Rattle.asp_explain.specs.Written.{IsToldBy, IsToldOf, IsWritten};
 
@@ -12,9 +12,12 @@ use asp_model::ActivityName;
 use state_lines::push_name;
 use std::alloc::{AllocError, Global};
 
-const USAGE: &[u8] = b"asp-explain: usage: asp-explain FILE [REPORT]\n";
+const USAGE: &[u8] = b"asp-explain: usage: asp-explain FILE [REPORT [OPTION ..]]\n";
 
 const TOO_LONG: &[u8] = b"asp-explain: program: longer than 1048576 bytes\n";
+
+const LARGE_PICTURE: &[u8] =
+    b"asp-explain: a picture has at most 60 activities and 2000 events: ask for fewer by --events --from N --most N\n";
 
 const CANNOT_WRITE: &[u8] = b"asp-explain: cannot write\n";
 
@@ -24,6 +27,12 @@ fn unread_message(alloc: Global, name: &str) -> Result<String, AllocError>
     ensures { IfOk result (λ s. string_bytes s ≡ message_of (Unread name.now)) }
 {
     format!(in alloc; "asp-explain: cannot read {name}\n")
+}
+
+fn no_activity_message(alloc: Global, name: &str) -> Result<String, AllocError>
+    ensures { IfOk result (λ s. string_bytes s ≡ message_of (NoActivity name.now)) }
+{
+    format!(in alloc; "asp-explain: no activity {name}\n")
 }
 
 // Writes a message, and answers the status, or 7 where the sink failed.
@@ -67,6 +76,12 @@ fn diverges_message(alloc: Global, report: &str, name: &ActivityName) -> Result<
     Ok(text)
 }
 
+fn count_message(alloc: Global, activity: &str, count: u64) -> Result<String, AllocError>
+    ensures { IfOk result (λ s. string_bytes s ≡ message_of (NoCount activity.now count)) }
+{
+    format!(in alloc; "asp-explain: report: no {count} reductions of {activity}\n")
+}
+
 // Writes a message, if it could be made.
 fn tell_made<E: Sink>(err: &mut E, message: Result<String, AllocError>, status: u8) -> u8
     ensures made { IfOk message (λ s. IsToldBy (sight E.told err) (string_bytes s) status result) }
@@ -99,6 +114,11 @@ pub fn refuse<E: Sink>(alloc: Global, stop: &Stop<'_>, err: &mut E) -> u8
             let message = diverges_message(alloc, report_text(*which), activity);
             tell_made(err, message, 9)
         }
+        Stop::NoActivity(name) => tell_made(err, no_activity_message(alloc, name), 2),
+        Stop::NoCount(activity, count) => {
+            tell_made(err, count_message(alloc, activity, *count), 2)
+        }
+        Stop::LargePicture => tell(err, LARGE_PICTURE, 2),
         Stop::Memory => tell(err, NO_MEMORY, 8),
     }
 }

@@ -1,4 +1,4 @@
-use Rattle.std.proofs.Common.{refl, subst, sym}
+use Rattle.std.proofs.Common.{subst, sym}
 use Rattle.asp_model.specs.Shapes.{counts_shape, lists_shape, tree_of}
 use Rattle.asp_explain.specs.declared.stop.Stop.{Stop}
 use Rattle.asp_explain.specs.declared.stop.Which.TheVariants.{First}

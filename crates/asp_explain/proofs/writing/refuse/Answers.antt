@@ -1,7 +1,7 @@
 use Rattle.std.proofs.Common.{◌⊎◌, ℕ, List, sym, ap, subst, inl}
 use Rattle.std.specs.Prelude.{string_bytes}
 use Rattle.asp_explain.specs.declared.stop.Stop.{Stop}
-use Rattle.asp_explain.specs.Refusals.{Diverges, LongReport, NoMemory, NoReport, Unread, bad_line, diverging_line, long_line, message_of, refusal_of}
+use Rattle.asp_explain.specs.Refusals.{Diverges, LongReport, NoActivity, NoCount, NoMemory, NoReport, Unread, bad_line, diverging_line, long_line, message_of, refusal_of}
 use Rattle.asp_explain.specs.Seen.{Sight, sight_between}
 use Rattle.asp_explain.specs.Written.{IsToldOf}
 use Rattle.asp_explain.proofs.TellLemmas.{if_named, made_told}
@@ -53,3 +53,25 @@ returns-in-Diverged g c =
     let made = if_named string_bytes c.diverges_message-message.result (diverging_line report.result.now activity) (message_of (Diverges which activity)) (ap (λ (k : List ℕ). diverging_line k activity) report.ensures) c.diverges_message-message.ensures in
     subst (IsTold s c.tell_made-in-Diverged.result) (sym c.in-Diverged.is)
     (made_told string_bytes (Diverges which activity) c.diverges_message-message.result s c.tell_made-in-Diverged.result made c.tell_made-in-Diverged.ensures.made c.tell_made-in-Diverged.ensures.no_memory)
+
+pub returns-in-NoActivity : goal.returns-in-NoActivity
+returns-in-NoActivity g c =
+    let s = sight_between g.E.Sink.told c.args.err.now c.tell_made-in-NoActivity.new.err in
+    subst (IsTold s c.tell_made-in-NoActivity.result) (sym c.in-NoActivity.is)
+    (made_told string_bytes (NoActivity c.in-NoActivity.name.now) c.no_activity_message.result s c.tell_made-in-NoActivity.result c.no_activity_message.ensures c.tell_made-in-NoActivity.ensures.made c.tell_made-in-NoActivity.ensures.no_memory)
+
+pub returns-in-NoCount : goal.returns-in-NoCount
+returns-in-NoCount g c =
+    let s = sight_between g.E.Sink.told c.args.err.now c.tell_made-in-NoCount.new.err in
+    subst (IsTold s c.tell_made-in-NoCount.result) (sym c.in-NoCount.is)
+    (made_told string_bytes (NoCount c.in-NoCount.activity.now c.in-NoCount.count) c.count_message.result s c.tell_made-in-NoCount.result c.count_message.ensures c.tell_made-in-NoCount.ensures.made c.tell_made-in-NoCount.ensures.no_memory)
+
+pub returns-in-LargePicture : goal.returns-in-LargePicture
+returns-in-LargePicture g c =
+    let s = sight_between g.E.Sink.told c.args.err.now c.tell-in-LargePicture.new.err in
+    subst (IsTold s c.tell-in-LargePicture.result) (sym c.in-LargePicture.is) (inl c.tell-in-LargePicture.ensures)
+
+pub returns-in-Memory : goal.returns-in-Memory
+returns-in-Memory g c =
+    let s = sight_between g.E.Sink.told c.args.err.now c.tell-in-Memory.new.err in
+    subst (IsTold s c.tell-in-Memory.result) (sym c.in-Memory.is) (inl c.tell-in-Memory.ensures)
