@@ -27,7 +27,7 @@ node_fixed (Var x) ts is = absurd is
 node_fixed h ts is = refl
 
 leaf_fixed : (ts : List Tree) (l : Leaf) → AllFixed ts → put_in [] (leaf_tree ts l) ≡ leaf_tree ts l
-leaf_fixed ts (leaves.Own x k) a = refl
+leaf_fixed ts (leaves.Own k x) a = refl
 leaf_fixed ts (leaves.Kept k) a = a k
 
 captured_fixed : (ts : List Tree) (cs : List Capture) → AllFixed ts → AllFixed (captured_trees ts cs)

@@ -21,7 +21,7 @@ use Rattle.code_compiler.proofs.MarkLemmas.{only_marks}
 -- The program
 
 no_leaf : (l : Leaf) → LeafFits [] [] l → ⊥
-no_leaf (leaves.Own x k) h = cc
+no_leaf (leaves.Own k x) h = cc
 no_leaf (leaves.Kept k) h = let below : k < 0 = h.0 in omega (arith, below)
 
 rooted : (ms : List Node) (t : Tree) (c : Child) → tree [] (piece_of (pieces ms) c) ≡ t → Fits [] [] 0 (piece_of (pieces ms) c) → EndsTable (length ms) (c ∷ []) → IsRoot ms t

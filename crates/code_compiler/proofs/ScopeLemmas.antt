@@ -20,7 +20,7 @@ at_variable zero (x ∷ xs) h = refl
 at_variable (suc k) (x ∷ xs) h = let less : k < length xs = omega (arith, h) in at_variable k xs less
 
 leaf_variable : (xs : List Text) (scope : Environment) (l : Leaf) → LeafFits xs scope l → leaf_tree (variables xs) l ≡ leaf (Var (leaf_name xs l))
-leaf_variable xs scope (leaves.Own x k) h = refl
+leaf_variable xs scope (leaves.Own k x) h = refl
 leaf_variable xs scope (leaves.Kept k) h = at_variable k xs h.0
 
 pub leaf_is : (x : Text) (xs : List Text) (scope : Environment) (l : Leaf) → LeafFits xs scope l → x ≡ leaf_name xs l → leaf_tree (variables xs) l ≡ leaf (Var x)

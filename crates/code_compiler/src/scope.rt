@@ -28,7 +28,7 @@ pub fn leaf_of(alloc: Global, scope: &Scope, name: &Word) -> Result<Leaf, AllocE
     ensures name { IfOk result (λ l. name.now ≡ leaf_name scope.now.captured.now l) }
 {
     match slot_of(scope.bound, name) {
-        Some(slot) => Ok(Leaf::Own(name.copy(alloc)?, slot)),
+        Some(slot) => Ok(Leaf::Own(slot, name.copy(alloc)?)),
         None => Ok(Leaf::Kept(captured_slot(scope.captured, name))),
     }
 }

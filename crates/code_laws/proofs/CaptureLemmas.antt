@@ -62,7 +62,7 @@ kept_in (x ∷ xs) (t ∷ ts) inner e (suc k) h lt f = let less : k < length xs 
 
 pub leaf_in : (xs : List Text) (ts : List Tree) (scope : Environment) (e : Environment) (l : Leaf) → AreCaptured xs ts → LeafFits xs scope l
     → put_in (without (names scope) e) (leaf_tree ts l) ≡ leaf_tree (map (put_in e) ts) l
-leaf_in xs ts scope e (leaves.Own x k) h r = ap (variable_or x) (look_without x (names scope) true (found_named x scope k r) e)
+leaf_in xs ts scope e (leaves.Own k x) h r = ap (variable_or x) (look_without x (names scope) true (found_named x scope k r) e)
 leaf_in xs ts scope e (leaves.Kept k) h r = kept_in xs ts (names scope) e k h r.0 r.1
 
 leaves_in : (xs : List Text) (ts : List Tree) (scope : Environment) (e : Environment) (cs : List Capture) → AreCaptured xs ts → CapturesFit xs scope cs
@@ -77,7 +77,7 @@ at_captured (x ∷ xs) (t ∷ ts) zero lt h = h.0
 at_captured (x ∷ xs) (t ∷ ts) (suc k) lt h = let less : k < length xs = omega (arith, lt) in at_captured xs ts k less h.1
 
 leaf_captured : (xs : List Text) (ts : List Tree) (scope : Environment) (l : Leaf) → AreCaptured xs ts → LeafFits xs scope l → IsCaptured (leaf_name xs l) (leaf_tree ts l)
-leaf_captured xs ts scope (leaves.Own x k) h r = inr refl
+leaf_captured xs ts scope (leaves.Own k x) h r = inr refl
 leaf_captured xs ts scope (leaves.Kept k) h r = at_captured xs ts k r.0 h
 
 -- what a method captures where its object stands

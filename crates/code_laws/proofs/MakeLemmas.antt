@@ -30,7 +30,7 @@ kept_at (n ∷ ns) (suc c) (suc k) lt le = let a : k < c = omega (arith, lt) in 
 -- a variable stands for the place in its slot
 pub leaf_here : (l : Leaf) (xs : List Text) (scope : Environment) (ns : List ℕ) → length xs ≤ length ns → LeafFits xs scope l
     → put_in (placed ns scope) (leaf_tree (map loc (take (length xs) ns)) l) ≡ loc (leaf_place ns l)
-leaf_here (leaves.Own x k) xs scope ns le f = ap (variable_or x) (located x ns scope ∙ ap (in_slot ns) f)
+leaf_here (leaves.Own k x) xs scope ns le f = ap (variable_or x) (located x ns scope ∙ ap (in_slot ns) f)
 leaf_here (leaves.Kept k) xs scope ns le f = ap (put_in (placed ns scope)) (kept_at ns (length xs) k f.0 le)
 
 pub leaves_here : (cs : List Capture) (xs : List Text) (scope : Environment) (ns : List ℕ) → length xs ≤ length ns → CapturesFit xs scope cs

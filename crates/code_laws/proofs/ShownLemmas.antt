@@ -67,7 +67,7 @@ or_hole (suc k) (t ∷ ts) = or_hole k ts
 -- Bodies over what they captured
 
 leaf_over : (xs : List Text) (scope : Environment) (us : List Tree) (l : Leaf) → Over (length us) scope → LeafFits xs scope l → shown_leaf us l ≡ leaf_tree us l
-leaf_over xs scope us (leaves.Own x k) o f = or_past (leaf (Var x)) k us (found_over x (length us) scope k o f)
+leaf_over xs scope us (leaves.Own k x) o f = or_past (leaf (Var x)) k us (found_over x (length us) scope k o f)
 leaf_over xs scope us (leaves.Kept k) o f = or_hole k us
 
 leaves_over : (xs : List Text) (scope : Environment) (us : List Tree) (cs : List Capture) → Over (length us) scope → CapturesFit xs scope cs → shown_captures us cs ≡ captured_trees us cs
@@ -132,7 +132,7 @@ own_in x k ns scope inner u o f =
 
 leaf_put : (xs : List Text) (ns : List ℕ) (scope inner : Environment) (l : Leaf) → length xs ≤ length ns → Under (length ns) scope → Over (length ns) inner → LeafFits xs (inner ++ scope) l
     → put_in (without (names inner) (placed ns scope)) (leaf_tree (map loc (take (length xs) ns)) l) ≡ shown_leaf (map loc ns) l
-leaf_put xs ns scope inner (leaves.Own x k) low u o f = own_in x k ns scope inner u o f
+leaf_put xs ns scope inner (leaves.Own k x) low u o f = own_in x k ns scope inner u o f
 leaf_put xs ns scope inner (leaves.Kept k) low u o f =
     let less : k < length xs = f.0 in
     let within : k < length ns = omega (arith, less, low) in

@@ -6,7 +6,7 @@ use Rattle.code_table.specs.declared.code.Capture.{Capture}
 use Rattle.code_table.specs.declared.code.MethodCode.{MethodCode}
 
 abbrev pub slot : Leaf → ℕ
-slot (leaves.Own x k) = k
+slot (leaves.Own k x) = k
 slot (leaves.Kept k) = k
 
 -- the place that a variable stands for

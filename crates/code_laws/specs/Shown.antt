@@ -14,7 +14,7 @@ tree_or d zero (t ∷ ts) = t
 tree_or d (suc k) (t ∷ ts) = tree_or d k ts
 
 abbrev pub shown_leaf : List Tree → Leaf → Tree
-shown_leaf ts (leaves.Own x k) = tree_or (leaf (Var x)) k ts
+shown_leaf ts (leaves.Own k x) = tree_or (leaf (Var x)) k ts
 shown_leaf ts (leaves.Kept k) = tree_or (leaf Hole) k ts
 
 abbrev pub shown_captures : List Tree → List Capture → List Tree

@@ -24,7 +24,7 @@ pub fn seen_in<'a>(kept: &[Seen<'a>], leaf: &'a Leaf) -> Seen<'a>
     ensures seen { seen_tree result ≡ shown_leaf (map seen_tree kept.now) leaf.now }
 {
     match leaf {
-        Leaf::Own(name, slot) => match kept.get(*slot) {
+        Leaf::Own(slot, name) => match kept.get(*slot) {
             Some(seen) => *seen,
             None => Seen::Name(name),
         },

@@ -28,7 +28,7 @@ abbrev pub inside : List Tree → ℕ → List ℕ
 inside ts k = locations (at_slot k ts)
 
 leaf_inside : (ts : List Tree) (l : Leaf) → locations (leaf_tree ts l) ≡ flat_map (inside ts) (leaf_use l)
-leaf_inside ts (leaves.Own x k) = refl
+leaf_inside ts (leaves.Own k x) = refl
 leaf_inside ts (leaves.Kept k) = sym (append-nil (inside ts k))
 
 hole_inside : (k : ℕ) → inside [] k ≡ []
@@ -85,7 +85,7 @@ under_append c [] ys h g = g
 under_append c (x ∷ xs) ys h g = (h.0, under_append c xs ys h.1 g)
 
 leaf_under : (xs : List Text) (scope : Environment) (l : Leaf) → LeafFits xs scope l → AllUnder (length xs) (leaf_use l)
-leaf_under xs scope (leaves.Own x k) h = tt
+leaf_under xs scope (leaves.Own k x) h = tt
 leaf_under xs scope (leaves.Kept k) h = (h.0, tt)
 
 at_under : (xs : List Text) (scope : Environment) (cs : List Capture) (k : ℕ) → CapturesFit xs scope cs → AllUnder (length xs) (use_at cs k)

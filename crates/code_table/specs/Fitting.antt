@@ -32,12 +32,12 @@ abbrev pub text_at : ℕ → List Text → Text
 text_at k xs = get_or xs k []
 
 abbrev pub leaf_name : List Text → Leaf → Text
-leaf_name xs (leaves.Own x k) = x
+leaf_name xs (leaves.Own k x) = x
 leaf_name xs (leaves.Kept k) = text_at k xs
 
 -- an own variable has its slot; a captured one has no name that is bound here
 abbrev pub LeafFits : List Text → Environment → Leaf → Type 0
-LeafFits xs scope (leaves.Own x k) = location_of x scope ≡ Some k
+LeafFits xs scope (leaves.Own k x) = location_of x scope ≡ Some k
 LeafFits xs scope (leaves.Kept k) = (k < length xs) × (has_text (text_at k xs) (names scope) ≡ false)
 
 abbrev pub CapturesFit : List Text → Environment → List Capture → Type 0

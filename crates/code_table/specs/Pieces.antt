@@ -36,7 +36,7 @@ at_slot zero (t ∷ ts) = t
 at_slot (suc k) (t ∷ ts) = at_slot k ts
 
 abbrev pub leaf_tree : List Tree → Leaf → Tree
-leaf_tree ts (leaves.Own x k) = leaf (Var x)
+leaf_tree ts (leaves.Own k x) = leaf (Var x)
 leaf_tree ts (leaves.Kept k) = at_slot k ts
 
 -- what a method captures, where these stand for what was captured round its object

@@ -10,7 +10,7 @@ use Rattle.code_table.specs.Pieces.{Piece, variable, piece, object, Pieces, noth
 use Rattle.code_table.specs.Fitting.{Fits}
 
 abbrev pub leaf_use : Leaf → List ℕ
-leaf_use (leaves.Own x k) = []
+leaf_use (leaves.Own k x) = []
 leaf_use (leaves.Kept k) = k ∷ []
 
 -- what a method's slot holds of what was captured round its object

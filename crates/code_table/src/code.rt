@@ -10,8 +10,8 @@ use asp_model::{Label, Sign, Word};
 /// method captured; behind it stand the object, the arguments and what `let` has bound.
 #[derive(Drop)]
 pub enum Leaf {
-    /// A name of the method's own, and its slot.
-    Own(Word, usize),
+    /// The slot of a name of the method's own, and the name.
+    Own(usize, Word),
     /// What the method captured at this slot.
     Kept(usize),
 }

@@ -35,7 +35,7 @@ module _ (f : ℕ → ℕ) where
   slot_moved (t ∷ ts) (suc k) = slot_moved ts k
 
   leaf_moved : (ts : List Tree) (l : Leaf) → moved f (leaf_tree ts l) ≡ leaf_tree (all_moved ts) l
-  leaf_moved ts (leaves.Own x k) = refl
+  leaf_moved ts (leaves.Own k x) = refl
   leaf_moved ts (leaves.Kept k) = slot_moved ts k
 
   captured_moved : (ts : List Tree) (cs : List Capture) → all_moved (captured_trees ts cs) ≡ captured_trees (all_moved ts) cs

@@ -34,7 +34,7 @@ held_or d zero (n ∷ ns) e = refl
 held_or d (suc k) (n ∷ ns) e = held_or d k ns e
 
 pub leaf_found : (ns : List ℕ) (l : Leaf) → locations (shown_leaf (map loc ns) l) ≡ option_to_list (leaf_held ns l)
-leaf_found ns (leaves.Own x k) = held_or (leaf (Var x)) k ns refl
+leaf_found ns (leaves.Own k x) = held_or (leaf (Var x)) k ns refl
 leaf_found ns (leaves.Kept k) = held_or (leaf Hole) k ns refl
 
 -- The bodies of methods

@@ -24,7 +24,7 @@ fn place_of(places: &[usize], leaf: &Leaf) -> Option<usize>
     ensures { result ≡ leaf_held places.now leaf.now }
 {
     let slot = match leaf {
-        Leaf::Own(_, slot) => *slot,
+        Leaf::Own(slot, _) => *slot,
         Leaf::Kept(slot) => *slot,
     };
     places.get(slot).copied()

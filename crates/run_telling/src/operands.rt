@@ -31,7 +31,7 @@ impl Stopped<'_> {
     // The place of an operand that is a variable.
     fn place_of(&self, leaf: &Leaf) -> Option<usize> {
         let slot = match leaf {
-            Leaf::Own(_, slot) => *slot,
+            Leaf::Own(slot, _) => *slot,
             Leaf::Kept(slot) => *slot,
         };
         let at = self.state.machine.base.checked_add(slot)?;

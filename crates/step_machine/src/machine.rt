@@ -120,7 +120,7 @@ impl Machine {
             (view_of self.new ≡ passed_view leaf.now (view_of self.old)) }
     {
         let slot = match leaf {
-            Leaf::Own(_, slot) => *slot,
+            Leaf::Own(slot, _) => *slot,
             Leaf::Kept(slot) => *slot,
         };
         let at = self.base.checked_add(slot).ok_or(AllocError)?;

@@ -68,7 +68,7 @@ impl Machine {
             (λ p. p ≡ leaf_place (drop self.now.base self.now.env.items) leaf.now) }
     {
         let slot = match leaf {
-            Leaf::Own(_, slot) => *slot,
+            Leaf::Own(slot, _) => *slot,
             Leaf::Kept(slot) => *slot,
         };
         match self.base.checked_add(slot) {
