@@ -19,8 +19,7 @@ ghost use Rattle.activity_step.specs.Advances.{IsAdvance, Stands};
 
 use crate::advance::Advance;
 use crate::state::State;
-use asp_model::Label;
-use code_table::{Code, Place};
+use code_table::{Code, KeyedLabel, Place};
 use object_store::Store;
 use std::alloc::{AllocError, Global};
 use step_machine::{Machine, Spread};
@@ -42,11 +41,11 @@ pub fn first_and_others(operands: &[Place]) -> Option<(Place, &[Place])>
 pub fn call_of<'a>(
     code: &'a Code,
     store: &'a Store,
-    label: &Label,
+    label: &KeyedLabel,
     operands: &[Place],
 ) -> Result<Callee<'a>, AllocError>
     ensures called { IfOk result
-        (IsCalled code.now store.now.cells label.now.text operands.now) }
+        (IsCalled code.now store.now.cells label.now.label.text operands.now) }
 {
     let Some((at, arguments)) = first_and_others(operands) else {
         return Err(AllocError);
@@ -66,7 +65,7 @@ fn asked_of<'a>(
     count: usize,
 ) -> Result<Callee<'a>, AllocError>
     ensures called { let ops = last count machine.now.operands.items in
-        IfOk result (IsCalled code.now store.now.cells machine.now.asked.text ops) }
+        IfOk result (IsCalled code.now store.now.cells machine.now.asked.label.text ops) }
 {
     let operands = machine.last_operands(count);
     let callee = call_of(code, store, &machine.asked, operands)?;
@@ -80,14 +79,14 @@ impl State {
         &mut self,
         alloc: Global,
         code: &Code,
-        label: &Label,
+        label: &KeyedLabel,
         number: usize,
         count: usize,
         go: bool,
     ) -> Result<Advance, AllocError>
         ensures advance { (t : Tree) (vs : List ServiceShape) (s : StoreShape) (ls : List LineShape) →
             Stands code.now self.old t vs s ls →
-            IsAtCall code.now (view_of self.old.machine) number count label.now.text t vs →
+            IsAtCall code.now (view_of self.old.machine) number count label.now.label.text t vs →
             IfOk result (IsAdvance code.now self.new t vs s ls go) }
     {
         let operands = self.machine.last_operands(count);

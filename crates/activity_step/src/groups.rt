@@ -1,13 +1,13 @@
 //! Calls of the members of groups.
 
 ghost use Rattle.std.specs.Prelude.{◌≡◌, IfOk, List, ℕ};
-ghost use Rattle.asp_model.specs.declared.word.Label.{Label as LabelShape};
 ghost use Rattle.asp_model.specs.Configuration.{ServiceShape};
 ghost use Rattle.asp_model.specs.Contraction.{LineShape};
 ghost use Rattle.asp_model.specs.Store.{Store as StoreShape};
 ghost use Rattle.asp_model.specs.Term.{Tree};
 ghost use Rattle.code_table.specs.declared.code.Kind.TheVariants as kind;
 ghost use Rattle.code_table.specs.declared.code.Node.{Node as NodeShape};
+ghost use Rattle.code_table.specs.declared.keys.KeyedLabel.{KeyedLabel as KeyedShape};
 ghost use Rattle.step_machine.specs.declared.frames.Focus.TheVariants as focus;
 ghost use Rattle.step_machine.specs.Rows.{AtNode};
 ghost use Rattle.step_machine.specs.Standing.{view_of};
@@ -31,8 +31,8 @@ impl State {
         count: usize,
         go: bool,
     ) -> Result<Advance, AllocError>
-        ensures advance { (k : List NodeShape) (from : ℕ) (n : NodeShape) (l : LabelShape) (t : Tree)
-            (vs : List ServiceShape) (s : StoreShape) (ls : List LineShape) →
+        ensures advance { (k : List NodeShape) (from : ℕ) (n : NodeShape) (l : KeyedShape)
+            (t : Tree) (vs : List ServiceShape) (s : StoreShape) (ls : List LineShape) →
             Stands k self.old t vs s ls → AtNode k (view_of self.old.machine) number from count n →
             n.kind ≡ kind.Scatter l → IfOk result (IsAdvance k self.new t vs s ls go) }
     {

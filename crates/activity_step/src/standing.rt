@@ -41,9 +41,13 @@ fn redex_of<'a>(kind: &'a Kind, operands: &'a [Place]) -> Option<Redex<'a>>
     ensures shown { IfSome result (IsShown kind.now operands.now) }
 {
     match (kind, operands) {
-        (Kind::Get(label), [at]) => Some(Redex::Get(*at, label)),
-        (Kind::Put(label), [at, to]) => Some(Redex::Put(*at, label, *to)),
-        (Kind::Call(label), [at, arguments @ ..]) => Some(Redex::Call(*at, label, arguments)),
+        (Kind::Get(label), [at]) => Some(Redex::Get(*at, &label.label)),
+        (Kind::Put(label), [at, to]) => Some(Redex::Put(*at, &label.label, *to)),
+        (Kind::Call(label), [at, arguments @ ..]) => Some(Redex::Call(
+            *at,
+            &label.label,
+            arguments,
+        )),
         (Kind::Clone, [at]) => Some(Redex::Clone(*at)),
         (Kind::Active(label), [at]) => Some(Redex::Active(*at, label.as_ref())),
         (Kind::Serve(labels), []) => Some(Redex::Serve(labels)),
@@ -51,7 +55,7 @@ fn redex_of<'a>(kind: &'a Kind, operands: &'a [Place]) -> Option<Redex<'a>>
         (Kind::If, [at]) => Some(Redex::If(*at)),
         (Kind::Operate(sign), [first, second]) => Some(Redex::Operate(*sign, *first, *second)),
         (Kind::Print, [at]) => Some(Redex::Print(*at)),
-        (Kind::Scatter(label), [at, other]) => Some(Redex::Scatter(*at, label, *other)),
+        (Kind::Scatter(label), [at, other]) => Some(Redex::Scatter(*at, &label.label, *other)),
         (Kind::Size, [at]) => Some(Redex::Size(*at)),
         (Kind::Member, [at, number]) => Some(Redex::Member(*at, *number)),
         (Kind::WaitAll, [at]) => Some(Redex::WaitAll(*at)),
@@ -99,7 +103,7 @@ fn asked_redex<'a>(machine: &'a Machine, count: usize) -> Result<Redex<'a>, Allo
     let Some((at, arguments)) = first_and_others(machine.last_operands(count)) else {
         return Err(AllocError);
     };
-    Ok(Redex::Call(at, &machine.asked, arguments))
+    Ok(Redex::Call(at, &machine.asked.label, arguments))
 }
 
 /// A group of calls that all have their results: it contracts, whatever these are.
@@ -141,7 +145,7 @@ fn called_redex<'a>(
     let Some((at, arguments)) = first_and_others(machine.last_operands(count)) else {
         return Err(AllocError);
     };
-    Ok(Redex::Call(at, label, arguments))
+    Ok(Redex::Call(at, &label.label, arguments))
 }
 
 impl Activity {

@@ -23,7 +23,7 @@ ghost use Rattle.activity_step.specs.Standings.{code_of};
 use crate::activity::Activity;
 use crate::state::State;
 use asp_model::{Label, Word};
-use code_table::{Cell, Code, EMPTY_NUMBER, Object, Parcel, SERVICE_NUMBER};
+use code_table::{Cell, Code, EMPTY_NUMBER, KeyedLabel, Object, Parcel, SERVICE_NUMBER};
 use deep_copy::unpack_alone;
 use object_store::Store;
 use std::alloc::{AllocError, Global};
@@ -39,9 +39,9 @@ fn machine_at(alloc: Global, number: usize) -> Machine
         env: Vec::new(alloc),
         operands: Vec::new(alloc),
         futures: Vec::new(alloc),
-        asked: Label {
+        asked: KeyedLabel::new(Label {
             text: Word::new(String::new(alloc)),
-        },
+        }),
         base: 0,
         focus: Focus::Node {
             number,

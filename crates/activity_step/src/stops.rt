@@ -19,18 +19,23 @@ use crate::advance::Advance;
 use crate::calls::call_of;
 use crate::reducing::node_in;
 use crate::state::State;
-use asp_model::Label;
-use code_table::{Code, Kind, Place};
+use code_table::{Code, KeyedLabel, Kind, Place};
 use step_machine::{Focus, in_place_count};
 use step_rows::{Callee, Creation, active_row};
 
 impl State {
     /// A request.
     #[inline(always)]
-    fn stop_call(&self, code: &Code, label: &Label, number: usize, count: usize) -> Option<Advance>
+    fn stop_call(
+        &self,
+        code: &Code,
+        label: &KeyedLabel,
+        number: usize,
+        count: usize,
+    ) -> Option<Advance>
         ensures stop { (t : Tree) (vs : List ServiceShape) (s : StoreShape) (ls : List LineShape) →
             Stands code.now self.now t vs s ls →
-            IsAtCall code.now (view_of self.now.machine) number count label.now.text t vs →
+            IsAtCall code.now (view_of self.now.machine) number count label.now.label.text t vs →
             IfSome result (IsStop code.now self.now t vs s ls) }
     {
         let operands = self.machine.last_operands(count);

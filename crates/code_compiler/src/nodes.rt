@@ -18,7 +18,7 @@ ghost use Rattle.code_table.specs.Parts.{field_label};
 
 use crate::scope::{Scope, leaf_of};
 use asp_model::{Label, Mark, Term, Word};
-use code_table::{Child, Kind, Leaf, Node};
+use code_table::{Child, KeyedLabel, Kind, Leaf, Node};
 use std::alloc::{AllocError, Global};
 
 /// Puts a node behind the others, and its number behind the children.
@@ -73,6 +73,13 @@ pub fn push_use(uses: &mut Vec<usize>, leaf: &Leaf) -> Result<(), AllocError>
     }
 }
 
+/// An equal label, with its key.
+fn keyed(alloc: Global, label: &Label) -> Result<KeyedLabel, AllocError>
+    ensures label { IfOk result (λ k. k.label.text ≡ label.now.text) }
+{
+    Ok(KeyedLabel::new(label.copy(alloc)?))
+}
+
 /// What the node of a term does. It is no variable, binds no name and makes no object.
 #[tactic(auto, using(code_table::proofs::TermTrees::trees_are))]
 pub fn kind_of(alloc: Global, term: &Term) -> Result<Kind, AllocError>
@@ -82,9 +89,9 @@ pub fn kind_of(alloc: Global, term: &Term) -> Result<Kind, AllocError>
 {
     match term {
         Term::Number(n, _) => Ok(Kind::Number(*n)),
-        Term::Get(_, label, _) => Ok(Kind::Get(label.copy(alloc)?)),
-        Term::Put(_, label, _, _) => Ok(Kind::Put(label.copy(alloc)?)),
-        Term::Call(_, label, _, _) => Ok(Kind::Call(label.copy(alloc)?)),
+        Term::Get(_, label, _) => Ok(Kind::Get(keyed(alloc, label)?)),
+        Term::Put(_, label, _, _) => Ok(Kind::Put(keyed(alloc, label)?)),
+        Term::Call(_, label, _, _) => Ok(Kind::Call(keyed(alloc, label)?)),
         Term::Clone(_, _) => Ok(Kind::Clone),
         Term::Active(_, service, _) => Ok(Kind::Active(copy_service(alloc, service)?)),
         Term::Serve(labels, _) => Ok(Kind::Serve(copy_labels(alloc, labels)?)),
@@ -95,7 +102,7 @@ pub fn kind_of(alloc: Global, term: &Term) -> Result<Kind, AllocError>
         Term::Print(_, _) => Ok(Kind::Print),
         Term::Echo(text, _) => Ok(Kind::Echo(text.copy(alloc)?)),
         Term::Group(_, _) => Ok(Kind::Group),
-        Term::Scatter(_, label, _, _) => Ok(Kind::Scatter(label.copy(alloc)?)),
+        Term::Scatter(_, label, _, _) => Ok(Kind::Scatter(keyed(alloc, label)?)),
         Term::Size(_, _) => Ok(Kind::Size),
         Term::Member(_, _, _) => Ok(Kind::Member),
         Term::WaitAll(_, _) => Ok(Kind::WaitAll),

@@ -32,7 +32,7 @@ pub fn taken_by(focus: Focus) -> usize
 pub fn focus_term(alloc: Global, code: &Code, machine: &Machine) -> Result<Term, DecodeError>
     ensures inner { let ns = drop machine.now.base machine.now.env.items in
         let own = last (taken machine.now.focus) machine.now.operands.items in
-        (t : Tree) → IsFocus code.now machine.now.asked.text ns own machine.now.focus t →
+        (t : Tree) → IsFocus code.now machine.now.asked.label.text ns own machine.now.focus t →
         IfOk result (λ r. tree_of r ≡ t) }
 {
     match machine.focus {
@@ -47,7 +47,7 @@ pub fn focus_term(alloc: Global, code: &Code, machine: &Machine) -> Result<Term,
         Focus::Place(place) => Ok(location(alloc, place)),
         Focus::Asked(count) => {
             let own = last_of(&machine.operands, count);
-            call_of(alloc, &machine.asked, own)
+            call_of(alloc, &machine.asked.label, own)
         }
         Focus::Calls {
             spread,

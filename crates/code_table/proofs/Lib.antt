@@ -3,6 +3,7 @@ pub mod TermTrees
 pub mod TableLemmas
 pub mod GrowthLemmas
 pub mod LookupLemmas
+pub mod KeyLemmas
 pub mod NumberLemmas
 pub mod UsesLemmas
 pub mod CodedLemmas

@@ -1,5 +1,6 @@
 -- in reading order
 pub mod Numbers
+pub mod Keys
 pub mod Operands
 pub mod Pieces
 pub mod Fitting

@@ -4,6 +4,7 @@ ghost use Rattle.std.specs.Prelude.{◌≡◌, length};
 ghost use Rattle.code_table.specs.Operands.{operand_count};
 
 use crate::class::Class;
+use crate::keys::KeyedLabel;
 use asp_model::{Label, Sign, Word};
 
 /// A variable of a body, by its slot in the body's environment. The environment begins with what the
@@ -54,9 +55,9 @@ pub enum Kind {
     Number(i64),
     /// An object. The terms below it are its fields'; its methods stand in the class.
     Make(Box<Class>),
-    Get(Label),
-    Put(Label),
-    Call(Label),
+    Get(KeyedLabel),
+    Put(KeyedLabel),
+    Call(KeyedLabel),
     Clone,
     Active(Option<Label>),
     Serve(Vec<Label>),
@@ -68,7 +69,7 @@ pub enum Kind {
     Print,
     Echo(Word),
     Group,
-    Scatter(Label),
+    Scatter(KeyedLabel),
     Size,
     Member,
     WaitAll,

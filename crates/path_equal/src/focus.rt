@@ -18,7 +18,7 @@ use step_machine::{Focus, Machine, Spread};
 pub fn past_focus(code: &Code, machine: &Machine, start: Search) -> Search
     ensures searched { let ns = drop machine.now.base machine.now.env.items in
         let own = last (taken machine.now.focus) machine.now.operands.items in
-        (t : Tree) → IsFocus code.now machine.now.asked.text ns own machine.now.focus t →
+        (t : Tree) → IsFocus code.now machine.now.asked.label.text ns own machine.now.focus t →
         result ≡ searched (locations t) start }
 {
     match machine.focus {

@@ -208,7 +208,7 @@ impl Told<'_> {
     // The call that a service began with.
     fn push_call(&self, text: &mut String, state: &EndState) -> Result<(), AllocError> {
         text.push_str(" (")?;
-        push_label(text, &state.machine.asked)?;
+        push_label(text, &state.machine.asked.label)?;
         text.push_str(")")
     }
 }

@@ -1,7 +1,7 @@
 -- A call on a group, and a `scatter`, as they become groups of calls.
 use Rattle.std.proofs.Common.{◌≡◌, ℕ, ◌+◌, ◌≤◌, true, false, List, [], ◌∷◌, ◌++◌, length, take, reverse, refl, sym, ap, subst, ◌∙◌, arith, length-append, append_assoc}
 use Rattle.std.proofs.lemmas.List.{append-nil}
-use Rattle.asp_model.specs.declared.word.Label.{Label}
+use Rattle.code_table.specs.declared.keys.KeyedLabel.{KeyedLabel}
 use Rattle.asp_model.specs.Names.{Text}
 use Rattle.asp_model.specs.Term.{Call, Group, Scatter, Tree, Trees, none, node}
 use Rattle.asp_model.specs.Split.{Context, Splits, plug}
@@ -64,14 +64,14 @@ stand_spread k v vs s number n ns os b enough whole beside =
     }
 
 -- a node that calls
-pub at_call : (k : List Node) (v : View) (number from n : ℕ) (x : Node) (l : Label) (t : Tree) (vs : List ServiceShape) → Standing k v t vs → AtNode k v number from n x → x.kind ≡ kind.Call l → IsAtCall k v number n l.text t vs
+pub at_call : (k : List Node) (v : View) (number from n : ℕ) (x : Node) (l : KeyedLabel) (t : Tree) (vs : List ServiceShape) → Standing k v t vs → AtNode k v number from n x → x.kind ≡ kind.Call l → IsAtCall k v number n l.label.text t vs
 at_call k v number from n x l t vs h at is =
     let f : Found k v number from n t vs = found k v number from n t vs h at.focus at.full in
     let simple : is_simple x.kind ≡ true = ap is_simple is in
-    let head_is : kind_head x.kind ≡ Call l.text = ap kind_head is in
+    let head_is : kind_head x.kind ≡ Call l.label.text = ap kind_head is in
     let us : Pieces = pieces_of (pieces k) x.children.items in
-    let piece0 : piece_at (pieces k) number ≡ piece (Call l.text) us = at.node ∙ simple_from 0 (pieces k) x.kind us simple ∙ ap (λ hd. piece hd us) head_is in
-    let piece1 : piece_from k number from ≡ piece (Call l.text) us = ap (later from) at.node ∙ simple_from from (pieces k) x.kind us simple ∙ ap (λ hd. piece hd us) head_is in
+    let piece0 : piece_at (pieces k) number ≡ piece (Call l.label.text) us = at.node ∙ simple_from 0 (pieces k) x.kind us simple ∙ ap (λ hd. piece hd us) head_is in
+    let piece1 : piece_from k number from ≡ piece (Call l.label.text) us = ap (later from) at.node ∙ simple_from from (pieces k) x.kind us simple ∙ ap (λ hd. piece hd us) head_is in
     record {
       below = f.below;
       low = f.low;
@@ -98,11 +98,11 @@ group_call k v number n i ks ns l t vs s a operands_are cell_is =
     }
 
 -- a `scatter` of two groups of one size becomes a call of each member with a member of the other
-pub scatters : (k : List Node) (v : View) (number from n : ℕ) (ns ks : List ℕ) (x : Node) (q : Label) (t : Tree) (vs : List ServiceShape) (s : Store) → Standing k v t vs → AtNode k v number from n x → x.kind ≡ kind.Scatter q
-    → length ns ≡ length ks → contract s (record { head = Scatter q.text; places = last n v.operands; behind = none }) ≡ sizes_compared s (scattered q.text ns ks)
+pub scatters : (k : List Node) (v : View) (number from n : ℕ) (ns ks : List ℕ) (x : Node) (q : KeyedLabel) (t : Tree) (vs : List ServiceShape) (s : Store) → Standing k v t vs → AtNode k v number from n x → x.kind ≡ kind.Scatter q
+    → length ns ≡ length ks → contract s (record { head = Scatter q.label.text; places = last n v.operands; behind = none }) ≡ sizes_compared s (scattered q.label.text ns ks)
     → Contracts k t vs s s [] (spread_view spread.Own number n ns ks v)
 scatters k v number from n ns ks x q t vs s h at is same row_is =
-    let l : Text = q.text in
+    let l : Text = q.label.text in
     let simple : is_simple x.kind ≡ true = ap is_simple is in
     let head_is : kind_head x.kind ≡ Scatter l = ap kind_head is in
     let f : Found k v number from n t vs = found k v number from n t vs h at.focus at.full in

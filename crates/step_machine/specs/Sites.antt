@@ -48,7 +48,7 @@ pub record GivesTwo (k : List Node) (t : Tree) (vs : List ServiceShape) (v : Vie
 -- the redex of the next term below the node, and the one behind it if that is known
 abbrev pub IsNested : List Node → Tree → List ServiceShape → View → (number from done : ℕ) → Nested → Type 0
 IsNested k t vs v number from done (nested.Number z) = Gives k t vs v number from done (number_redex z)
-IsNested k t vs v number from done (nested.Get l p) = Gives k t vs v number from done (places_redex (Get l.now.text) (p ∷ []))
+IsNested k t vs v number from done (nested.Get l p) = Gives k t vs v number from done (places_redex (Get l.now.label.text) (p ∷ []))
 IsNested k t vs v number from done (nested.Operate s p q) = Gives k t vs v number from done (places_redex (Operate (sign_shape s)) (p ∷ q ∷ []))
 IsNested k t vs v number from done (nested.OperateNumber s p z) = GivesTwo k t vs v number from done z (λ q. places_redex (Operate (sign_shape s)) (p ∷ q ∷ []))
 

@@ -29,7 +29,7 @@ pub record View : Type 0 where
   pub focus : Focus
 
 abbrev pub view_of : Machine → View
-view_of m = record { frames = m.frames.items; env = m.env.items; operands = m.operands.items; futures = map (option_map held_future) m.futures.items; asked = m.asked.text; base = m.base; focus = m.focus }
+view_of m = record { frames = m.frames.items; env = m.env.items; operands = m.operands.items; futures = map (option_map held_future) m.futures.items; asked = m.asked.label.text; base = m.base; focus = m.focus }
 
 -- a node whose first terms lie on the operands
 pub record IsBegun (k : List Node) (ns operands : List ℕ) (number from : ℕ) (t : Tree) : Type 0 where

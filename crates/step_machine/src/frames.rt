@@ -1,6 +1,7 @@
 //! Frames, and what a machine looks at.
 
-use asp_model::{Label, Sign};
+use asp_model::Sign;
+use code_table::KeyedLabel;
 
 /// The arguments of the calls that a call on a group, or a `scatter`, becomes.
 #[derive(Clone, Copy)]
@@ -71,7 +72,7 @@ pub enum Focus {
 pub enum Nested<'a> {
     Number(i64),
     /// A field of the object at a place.
-    Get(&'a Label, usize),
+    Get(&'a KeyedLabel, usize),
     Operate(Sign, usize, usize),
     /// A sign over a place and a number, which becomes a place first.
     OperateNumber(Sign, usize, i64),

@@ -37,8 +37,7 @@ ghost use Rattle.step_machine.specs.Views.{
 
 use crate::frames::{Focus, Form, Frame};
 use crate::nodes::{in_place_count, next_child, node_at};
-use asp_model::Label;
-use code_table::{Child, Future, Leaf, Node};
+use code_table::{Child, Future, KeyedLabel, Leaf, Node};
 use std::alloc::AllocError;
 use std::sync::Arc;
 
@@ -53,7 +52,7 @@ pub struct Machine {
     /// The futures of the services that are suspended, the newest last.
     pub futures: Vec<Option<Arc<Future>>>,
     /// The label of the call that the service began with.
-    pub asked: Label,
+    pub asked: KeyedLabel,
     /// Where the environment begins.
     pub base: usize,
     pub focus: Focus,

@@ -10,8 +10,7 @@ ghost use Rattle.step_machine.specs.Calls.{called_label};
 ghost use Rattle.step_machine.specs.Sequences.{child_number, later};
 ghost use Rattle.step_machine.specs.Sites.{IsNumber};
 
-use asp_model::Label;
-use code_table::{Child, Kind, Node};
+use code_table::{Child, KeyedLabel, Kind, Node};
 
 /// The node with a number.
 #[inline(always)]
@@ -98,9 +97,9 @@ pub fn number_at(nodes: &[Node], number: usize) -> Option<i64>
 }
 
 /// The label of the calls that a node stands for: of a call, or of a `scatter`.
-pub fn call_label<'a>(node: &'a Node) -> Option<&'a Label>
+pub fn call_label<'a>(node: &'a Node) -> Option<&'a KeyedLabel>
     ensures label { (ps : List Piece) → IfSome result
-        (λ l. called_label (node_piece ps node.now) ≡ l.now.text) }
+        (λ l. called_label (node_piece ps node.now) ≡ l.now.label.text) }
 {
     match &node.kind {
         Kind::Call(label) => Some(label),

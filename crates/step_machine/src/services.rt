@@ -20,7 +20,7 @@ ghost use Rattle.step_machine.specs.Standing.{Standing, view_of};
 use crate::frames::{Focus, Form, Frame};
 use crate::machine::Machine;
 use asp_model::Label;
-use code_table::{Future, Node};
+use code_table::{Future, KeyedLabel, Node};
 use std::alloc::AllocError;
 use std::sync::Arc;
 
@@ -53,7 +53,7 @@ impl Machine {
         let count = arguments.len().checked_add(1).ok_or(AllocError)?;
         self.operands.push(receiver)?;
         self.operands.extend_from_slice(arguments)?;
-        self.asked = label;
+        self.asked = KeyedLabel::new(label);
         self.focus = Focus::Asked(count);
         Ok(())
     }

@@ -19,8 +19,8 @@ ghost use Rattle.step_machine.specs.Views.{IsDeeper};
 use crate::frames::{Focus, Nested, Site};
 use crate::machine::Machine;
 use crate::nodes::{child_at, in_place_count, next_child, node_at, number_at};
-use asp_model::{Label, Sign};
-use code_table::{Child, Kind, Node};
+use asp_model::Sign;
+use code_table::{Child, KeyedLabel, Kind, Node};
 use std::alloc::AllocError;
 
 impl Machine {
@@ -63,7 +63,7 @@ impl Machine {
 
     /// A field of a variable.
     #[inline(always)]
-    fn nested_get<'a>(&self, node: &Node, label: &'a Label) -> Option<Nested<'a>>
+    fn nested_get<'a>(&self, node: &Node, label: &'a KeyedLabel) -> Option<Nested<'a>>
         ensures redex { (k : List NodeShape) →
             let ns = drop self.now.base self.now.env.items in
             node.now.kind ≡ kind.Get label.now →

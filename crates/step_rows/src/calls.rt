@@ -5,8 +5,8 @@ ghost use Rattle.code_table.specs.Cells.{Object as object_with, coded};
 ghost use Rattle.step_rows.specs.Decisions.{IsCallee};
 
 use crate::decision::Decision;
-use asp_model::{ActivityName, Fault, Label};
-use code_table::{Cell, Code, MethodCode, Object, Place};
+use asp_model::{ActivityName, Fault};
+use code_table::{Cell, Code, KeyedLabel, MethodCode, Object, Place};
 use std::alloc::AllocError;
 
 /// What a call leads to.
@@ -40,17 +40,17 @@ fn captured_in<'a>(method: &MethodCode, places: &'a [Place]) -> Option<&'a [Plac
 fn method_in<'a>(
     code: &'a Code,
     object: &'a Object,
-    label: &Label,
+    label: &KeyedLabel,
     at: Place,
     arguments: &[Place],
 ) -> Result<Callee<'a>, AllocError>
     ensures callee { let c = object_with object.now.class object.now.places.items in
-        IfOk result (IsCallee code.now c label.now.text at arguments.now) }
+        IfOk result (IsCallee code.now c label.now.label.text at arguments.now) }
 {
     let Some(class) = code.class(object.class) else {
         return Ok(Callee::Other(Decision::Faults(Fault::NoMethod)));
     };
-    let Some(number) = class.method(label) else {
+    let Some(number) = class.method_keyed(label) else {
         return Ok(Callee::Other(Decision::Faults(Fault::NoMethod)));
     };
     let Some(method) = class.methods.get(number) else {
@@ -70,12 +70,12 @@ fn method_in<'a>(
 pub fn callee_of<'a>(
     code: &'a Code,
     cell: &'a Cell,
-    label: &Label,
+    label: &KeyedLabel,
     at: Place,
     arguments: &[Place],
 ) -> Result<Callee<'a>, AllocError>
     ensures callee { IfOk result
-        (IsCallee code.now (coded cell.now) label.now.text at arguments.now) }
+        (IsCallee code.now (coded cell.now) label.now.label.text at arguments.now) }
 {
     match cell {
         Cell::Object(object) => method_in(code, object, label, at, arguments),

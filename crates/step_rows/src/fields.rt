@@ -8,21 +8,22 @@ ghost use Rattle.code_table.specs.Shapes.{cell_of, cell_shape, class_object, sto
 ghost use Rattle.step_rows.specs.Decisions.{decided, read};
 
 use crate::decision::Decision;
-use asp_model::{Fault, Label};
-use code_table::{Cell, Code, Object, Place};
+use asp_model::Fault;
+use code_table::{Cell, Code, KeyedLabel, Object, Place};
 use std::alloc::AllocError;
 
 /// The place of a field of an object.
 #[inline(always)]
-fn get_in(code: &Code, object: &Object, label: &Label) -> Result<Decision, AllocError>
-    ensures row { (s : CodedStore) → IfOk result (λ d. get_row (store_of code.now s) label.now.text
+fn get_in(code: &Code, object: &Object, label: &KeyedLabel) -> Result<Decision, AllocError>
+    ensures row { let l = label.now.label.text in
+        (s : CodedStore) → IfOk result (λ d. get_row (store_of code.now s) l
         (class_object code.now object.now.places.items (class_at code.now object.now.class))
         ≡ decided code.now s d) }
 {
     let Some(class) = code.class(object.class) else {
         return Ok(Decision::Faults(Fault::NoField));
     };
-    let Some(field) = class.field(label) else {
+    let Some(field) = class.field_keyed(label) else {
         return Ok(Decision::Faults(Fault::NoField));
     };
     let Some(place) = object.places.get(field) else {
@@ -33,9 +34,15 @@ fn get_in(code: &Code, object: &Object, label: &Label) -> Result<Decision, Alloc
 
 /// An access to a field.
 #[inline(always)]
-pub fn get(code: &Code, cell: &Cell, label: &Label, place: Place) -> Result<Decision, AllocError>
-    ensures row { (s : CodedStore) → IfOk result
-        (λ d. read place (get_row (store_of code.now s) label.now.text) (cell_shape code.now cell.now)
+pub fn get(
+    code: &Code,
+    cell: &Cell,
+    label: &KeyedLabel,
+    place: Place,
+) -> Result<Decision, AllocError>
+    ensures row { let l = label.now.label.text in
+        (s : CodedStore) → IfOk result
+        (λ d. read place (get_row (store_of code.now s) l) (cell_shape code.now cell.now)
         ≡ decided code.now s d) }
 {
     match cell {
@@ -52,19 +59,19 @@ pub fn get(code: &Code, cell: &Cell, label: &Label, place: Place) -> Result<Deci
 fn put_in(
     code: &Code,
     object: &Object,
-    label: &Label,
+    label: &KeyedLabel,
     at: Place,
     to: Place,
 ) -> Result<Decision, AllocError>
     ensures row { (s : CodedStore) → cell_at s at ≡ object_with object.now.class object.now.places.items →
-        IfOk result (λ d. put_row (store_of code.now s) label.now.text at to
+        IfOk result (λ d. put_row (store_of code.now s) label.now.label.text at to
         (class_object code.now object.now.places.items (class_at code.now object.now.class))
         ≡ decided code.now s d) }
 {
     let Some(class) = code.class(object.class) else {
         return Ok(Decision::Faults(Fault::NoField));
     };
-    let Some(field) = class.field(label) else {
+    let Some(field) = class.field_keyed(label) else {
         return Ok(Decision::Faults(Fault::NoField));
     };
     if field >= object.places.len() {
@@ -82,12 +89,12 @@ fn put_in(
 pub fn put(
     code: &Code,
     cell: &Cell,
-    label: &Label,
+    label: &KeyedLabel,
     at: Place,
     to: Place,
 ) -> Result<Decision, AllocError>
     ensures row { (s : CodedStore) → cell_at s at ≡ coded cell.now → IfOk result
-        (λ d. read at (put_row (store_of code.now s) label.now.text at to)
+        (λ d. read at (put_row (store_of code.now s) label.now.label.text at to)
         (cell_shape code.now cell.now) ≡ decided code.now s d) }
 {
     match cell {

@@ -24,8 +24,8 @@ use crate::decision::Decision;
 use crate::fields::{get, put};
 use crate::numbers::operate;
 use crate::seen::{Seen, sight_of};
-use asp_model::{Fault, Label, Sign};
-use code_table::{Cell, Code, Place};
+use asp_model::{Fault, Sign};
+use code_table::{Cell, Code, KeyedLabel, Place};
 use object_store::Store;
 use std::alloc::AllocError;
 
@@ -56,10 +56,11 @@ pub fn one_operand<'a>(store: &'a Store, operands: &[Place]) -> Option<Operand<'
 pub fn get_row(
     code: &Code,
     store: &Store,
-    label: &Label,
+    label: &KeyedLabel,
     operands: &[Place],
 ) -> Result<Decision, AllocError>
-    ensures row { let s = store.now.cells in let r = value_redex (GetHead label.now.text) operands.now in
+    ensures row { let s = store.now.cells in
+        let r = value_redex (GetHead label.now.label.text) operands.now in
         IfOk result (λ d. contract (store_of code.now s) r ≡ decided code.now s d) }
 {
     let Some(x) = one_operand(store, operands) else {
@@ -73,10 +74,11 @@ pub fn get_row(
 pub fn put_row(
     code: &Code,
     store: &Store,
-    label: &Label,
+    label: &KeyedLabel,
     operands: &[Place],
 ) -> Result<Decision, AllocError>
-    ensures row { let s = store.now.cells in let r = value_redex (PutHead label.now.text) operands.now in
+    ensures row { let s = store.now.cells in
+        let r = value_redex (PutHead label.now.label.text) operands.now in
         IfOk result (λ d. contract (store_of code.now s) r ≡ decided code.now s d) }
 {
     let Some((at, to)) = two(operands) else {

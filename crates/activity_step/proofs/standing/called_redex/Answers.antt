@@ -9,6 +9,6 @@ pub returns : goal.returns
 returns c = record {
   redex = λ a h at.
       let k = c.args.code.now in
-      let label : called_label (piece_at (pieces k) c.args.number) ≡ c.in-Some-call_label.label.now.text = ap called_label c.in-Some.ensures.piece ∙ c.in-Some-call_label.ensures.label (pieces k) in
-      called_at k (view_of c.args.machine.now) c.args.number c.args.count c.in-Some-first_and_others.at c.in-Some-first_and_others.arguments c.in-Some-call_label.label a h at label (sym c.last_operands.ensures.operands ∙ c.in-Some-first_and_others.ensures.first);
+      let label : called_label (piece_at (pieces k) c.args.number) ≡ c.in-Some-call_label.label.now.label.text = ap called_label c.in-Some.ensures.piece ∙ c.in-Some-call_label.ensures.label (pieces k) in
+      called_at k (view_of c.args.machine.now) c.args.number c.args.count c.in-Some-first_and_others.at c.in-Some-first_and_others.arguments _ a h at label (sym c.last_operands.ensures.operands ∙ c.in-Some-first_and_others.ensures.first);
 }

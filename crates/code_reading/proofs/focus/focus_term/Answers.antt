@@ -22,7 +22,7 @@ returns-else-number-nodes c = record {
       let ops : List ℕ = c.args.machine.now.operands.items in
       let own : List ℕ = last c.in-Node.done ops in
       let begun : IsBegun c.args.code.now ns own c.in-Node.number c.in-Node.from t =
-      subst (λ (f : Focus). IsFocus c.args.code.now c.args.machine.now.asked.text ns (last (taken f) ops) f t) c.in-Node.is stands in
+      subst (λ (f : Focus). IsFocus c.args.code.now c.args.machine.now.asked.label.text ns (last (taken f) ops) f t) c.in-Node.is stands in
       let p : Piece = nodes.later c.in-Node.from (piece_at (pieces c.args.code.now) c.in-Node.number) in
       let places_are : c.behind-places.result.now ≡ ns = c.behind-places.ensures.places ∙ ap (drop c.args.machine.now.base) c.deref.ensures.value in
       let own_is : c.last_of-own.result.now ≡ own = c.last_of-own.ensures.places ∙ ap (last c.in-Node.done) c.deref-in-Node.ensures.value in
@@ -38,11 +38,11 @@ returns-in-Asked c = record {
       let ns : List ℕ = drop c.args.machine.now.base c.args.machine.now.env.items in
       let ops : List ℕ = c.args.machine.now.operands.items in
       let own : List ℕ = last c.in-Asked.count ops in
-      let is : IsFocus c.args.code.now c.args.machine.now.asked.text ns own (focus.Asked c.in-Asked.count) t =
-      subst (λ (f : Focus). IsFocus c.args.code.now c.args.machine.now.asked.text ns (last (taken f) ops) f t) c.in-Asked.is stands in
+      let is : IsFocus c.args.code.now c.args.machine.now.asked.label.text ns own (focus.Asked c.in-Asked.count) t =
+      subst (λ (f : Focus). IsFocus c.args.code.now c.args.machine.now.asked.label.text ns (last (taken f) ops) f t) c.in-Asked.is stands in
       let own_is : c.last_of-own-in-Asked.result.now ≡ own = c.last_of-own-in-Asked.ensures.places ∙ ap (last c.in-Asked.count) c.deref-in-Asked.ensures.value in
-      if_ok c.call_of.result (λ (r : Term). tree_of r ≡ node (Call c.args.machine.now.asked.text) (trees (map loc c.last_of-own-in-Asked.result.now))) (λ (r : Term). tree_of r ≡ t)
-      (λ r h. h ∙ ap (λ (l : List ℕ). node (Call c.args.machine.now.asked.text) (trees (map loc l))) own_is ∙ ap (node (Call c.args.machine.now.asked.text)) (locs_alone own) ∙ sym is)
+      if_ok c.call_of.result (λ (r : Term). tree_of r ≡ node (Call c.args.machine.now.asked.label.text) (trees (map loc c.last_of-own-in-Asked.result.now))) (λ (r : Term). tree_of r ≡ t)
+      (λ r h. h ∙ ap (λ (l : List ℕ). node (Call c.args.machine.now.asked.label.text) (trees (map loc l))) own_is ∙ ap (node (Call c.args.machine.now.asked.label.text)) (locs_alone own) ∙ sym is)
       c.call_of.ensures.call;
 }
 
@@ -52,8 +52,8 @@ returns-in-Calls c = record {
       let ns : List ℕ = drop c.args.machine.now.base c.args.machine.now.env.items in
       let ops : List ℕ = c.args.machine.now.operands.items in
       let own : List ℕ = last c.in-Calls.done ops in
-      let is : IsFocus c.args.code.now c.args.machine.now.asked.text ns own (focus.Calls c.in-Calls.spread c.in-Calls.number c.in-Calls.members c.in-Calls.done) t =
-      subst (λ (f : Focus). IsFocus c.args.code.now c.args.machine.now.asked.text ns (last (taken f) ops) f t) c.in-Calls.is stands in
+      let is : IsFocus c.args.code.now c.args.machine.now.asked.label.text ns own (focus.Calls c.in-Calls.spread c.in-Calls.number c.in-Calls.members c.in-Calls.done) t =
+      subst (λ (f : Focus). IsFocus c.args.code.now c.args.machine.now.asked.label.text ns (last (taken f) ops) f t) c.in-Calls.is stands in
       let own_is : c.last_of-own-in-Calls.result.now ≡ own = c.last_of-own-in-Calls.ensures.places ∙ ap (last c.in-Calls.done) c.deref-in-Calls.ensures.value in
       c.dealt_term.ensures.term t (subst (λ (l : List ℕ). IsDealt c.args.code.now c.in-Calls.spread l c.in-Calls.number c.in-Calls.members t) (sym own_is) is);
 }
@@ -64,8 +64,8 @@ returns-in-Called c = record {
       let ns : List ℕ = drop c.args.machine.now.base c.args.machine.now.env.items in
       let ops : List ℕ = c.args.machine.now.operands.items in
       let own : List ℕ = last c.in-Called.count ops in
-      let is : IsFocus c.args.code.now c.args.machine.now.asked.text ns own (focus.Called c.in-Called.number c.in-Called.count) t =
-      subst (λ (f : Focus). IsFocus c.args.code.now c.args.machine.now.asked.text ns (last (taken f) ops) f t) c.in-Called.is stands in
+      let is : IsFocus c.args.code.now c.args.machine.now.asked.label.text ns own (focus.Called c.in-Called.number c.in-Called.count) t =
+      subst (λ (f : Focus). IsFocus c.args.code.now c.args.machine.now.asked.label.text ns (last (taken f) ops) f t) c.in-Called.is stands in
       let own_is : c.last_of-own-in-Called.result.now ≡ own = c.last_of-own-in-Called.ensures.places ∙ ap (last c.in-Called.count) c.deref-in-Called.ensures.value in
       c.called_term.ensures.term t (subst (λ (l : List ℕ). IsCalled c.args.code.now l c.in-Called.number t) (sym own_is) is);
 }

@@ -13,8 +13,8 @@ returns-in-Asked c = record {
   searched = λ t h.
       let m = c.args.machine.now in
       let own : List ℕ = last c.in-Asked.count m.operands.items in
-      let is : t ≡ node (Call m.asked.text) (locs_then own none) =
-      subst (λ (f : Focus). IsFocus c.args.code.now m.asked.text (drop m.base m.env.items) (last (taken f) m.operands.items) f t) c.in-Asked.is h in
+      let is : t ≡ node (Call m.asked.label.text) (locs_then own none) =
+      subst (λ (f : Focus). IsFocus c.args.code.now m.asked.label.text (drop m.base m.env.items) (last (taken f) m.operands.items) f t) c.in-Asked.is h in
       c.past.ensures.searched
       ∙ ap (λ (xs : List ℕ). searched xs c.args.start) (c.last_of.ensures.places ∙ ap (last c.in-Asked.count) c.deref-in-Asked.ensures.value ∙ sym (ap locations is ∙ places_found own));
 }
@@ -25,7 +25,7 @@ returns-in-Called c = record {
       let m = c.args.machine.now in
       let own : List ℕ = last c.in-Called.count m.operands.items in
       let called : IsCalled c.args.code.now own c.in-Called.number t =
-      subst (λ (f : Focus). IsFocus c.args.code.now m.asked.text (drop m.base m.env.items) (last (taken f) m.operands.items) f t) c.in-Called.is h in
+      subst (λ (f : Focus). IsFocus c.args.code.now m.asked.label.text (drop m.base m.env.items) (last (taken f) m.operands.items) f t) c.in-Called.is h in
       c.past-in-Called.ensures.searched
       ∙ ap (λ (xs : List ℕ). searched xs c.args.start) (c.last_of-in-Called.ensures.places ∙ ap (last c.in-Called.count) c.deref-in-Called.ensures.value ∙ sym (ap locations called.is ∙ places_found own));
 }

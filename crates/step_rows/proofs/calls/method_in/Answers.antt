@@ -20,13 +20,13 @@ returns-in_default-method c = record {
   callee = λ s.
       let k : List Node = c.args.code.now in
       let ns : List ℕ = c.args.object.now.places.items in
-      let l : Text = c.args.label.now.text in
+      let l : Text = c.args.label.now.label.text in
       let x : Class = c.in-Some.class.now in
       let S : Store = store_of k s in
       let i : ℕ = c.args.at in
       let ks : List ℕ = c.args.arguments.now in
       let here : class_at k c.args.object.now.class ≡ Some x = sym c.class.ensures.class ∙ ap seen_class c.in-Some.is in
-      let none : method_number l x ≡ None = sym c.method.ensures.number ∙ c.in_default-method.is in
+      let none : method_number l x ≡ None = sym c.method_keyed.ensures.number ∙ c.in_default-method.is in
       ap (λ (o : Option Class). read i (call_row S l i ks) (class_object k ns o)) here
       ∙ ap (method_found S i ks) (lookup.method_missing l (pieces k) x (drop (length x.fields.items) ns) none);
 }
@@ -36,14 +36,14 @@ returns-then-arguments-len c = record {
   callee = λ s.
       let k : List Node = c.args.code.now in
       let ns : List ℕ = c.args.object.now.places.items in
-      let l : Text = c.args.label.now.text in
+      let l : Text = c.args.label.now.label.text in
       let x : Class = c.in-Some.class.now in
       let S : Store = store_of k s in
       let i : ℕ = c.args.at in
       let ks : List ℕ = c.args.arguments.now in
       let here : class_at k c.args.object.now.class ≡ Some x = sym c.class.ensures.class ∙ ap seen_class c.in-Some.is in
       let j : ℕ = c.in-Some-method.number in
-      let is : method_number l x ≡ Some j = sym c.method.ensures.number ∙ c.in-Some-method.is in
+      let is : method_number l x ≡ Some j = sym c.method_keyed.ensures.number ∙ c.in-Some-method.is in
       let look = c.in-Some-get.ensures.lookup.3 in
       let m : MethodCode = c.in-Some-get.method.now in
       let m_is : m ≡ get_or x.methods.items j m = subst (λ (ms : List MethodCode). m ≡ get_or ms j m) c.deref.ensures.value (look.1 m) in
@@ -58,12 +58,12 @@ pub returns : goal.returns
 returns c =
     let k : List Node = c.args.code.now in
     let ns : List ℕ = c.args.object.now.places.items in
-    let l : Text = c.args.label.now.text in
+    let l : Text = c.args.label.now.label.text in
     let x : Class = c.in-Some.class.now in
     let ks : List ℕ = c.args.arguments.now in
     let here : class_at k c.args.object.now.class ≡ Some x = sym c.class.ensures.class ∙ ap seen_class c.in-Some.is in
     let j : ℕ = c.in-Some-method.number in
-    let is : method_number l x ≡ Some j = sym c.method.ensures.number ∙ c.in-Some-method.is in
+    let is : method_number l x ≡ Some j = sym c.method_keyed.ensures.number ∙ c.in-Some-method.is in
     let look = c.in-Some-get.ensures.lookup.3 in
     let m : MethodCode = c.in-Some-get.method.now in
     let lt : j < length x.methods.items = subst (λ (ms : List MethodCode). j < length ms) c.deref.ensures.value look.0 in

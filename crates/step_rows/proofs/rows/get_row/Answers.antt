@@ -13,7 +13,7 @@ pub returns : goal.returns
 returns c =
     let k : List Node = c.args.code.now in
     let s = c.args.store.now.cells in
-    let l = c.args.label.now.text in
+    let l = c.args.label.now.label.text in
     let x = c.in-Some.x in
     record {
       row = subst (λ (e : Contraction). IfOk c.get.result (λ d. e ≡ decided k s d))

@@ -13,7 +13,7 @@ pub returns : goal.returns
 returns c =
     let k : List Node = c.args.code.now in
     let s = c.args.store.now.cells in
-    let l = c.args.label.now.text in
+    let l = c.args.label.now.label.text in
     let i : ℕ = c.in-Some.at in
     let j : ℕ = c.in-Some.to in
     let cell = c.in-Some-look.cell.now in

@@ -22,13 +22,13 @@ returns-in_ok-enter_body-in-Method c = record {
       let v : View = view_of a.machine in
       let q = a.store.cells in
       let ops : List ℕ = last c.args.count a.machine.operands.items in
-      let called : IsCalled k q c.args.label.now.text ops c.in_ok-callee.callee = subst (λ (l : List ℕ). IsCalled k q c.args.label.now.text l c.in_ok-callee.callee) c.last_operands-operands.ensures.operands c.in_ok-callee.ensures.called in
+      let called : IsCalled k q c.args.label.now.label.text ops c.in_ok-callee.callee = subst (λ (l : List ℕ). IsCalled k q c.args.label.now.label.text l c.in_ok-callee.callee) c.last_operands-operands.ensures.operands c.in_ok-callee.ensures.called in
       let m = c.in-Method.method in
       let cs = c.in-Method.captured in
-      let w : IsCalled k q c.args.label.now.text ops (callee.Method m cs) = subst (IsCalled k q c.args.label.now.text ops) c.in-Method.is called in
+      let w : IsCalled k q c.args.label.now.label.text ops (callee.Method m cs) = subst (IsCalled k q c.args.label.now.label.text ops) c.in-Method.is called in
       let yes0 : c.args.go ≡ true = search (rules, c.if-go.true) in
       contracted k a (record { machine = c.enter_body.new.self; store = a.store; lines = a.lines }) t vs s ls c.args.go (called_view c.args.count cs.now m.now.body v) h yes0
-      (method_contracts k v c.args.number c.args.count c.args.label.now.text t vs q m cs at w) c.in_ok-enter_body-in-Method.ensures.view refl refl;
+      (method_contracts k v c.args.number c.args.count c.args.label.now.label.text t vs q m cs at w) c.in_ok-enter_body-in-Method.ensures.view refl refl;
 }
 
 pub returns-else-go : goal.returns-else-go
@@ -39,13 +39,13 @@ returns-else-go c = record {
       let v : View = view_of a.machine in
       let q = a.store.cells in
       let ops : List ℕ = last c.args.count a.machine.operands.items in
-      let called : IsCalled k q c.args.label.now.text ops c.in_ok-callee.callee = subst (λ (l : List ℕ). IsCalled k q c.args.label.now.text l c.in_ok-callee.callee) c.last_operands-operands.ensures.operands c.in_ok-callee.ensures.called in
+      let called : IsCalled k q c.args.label.now.label.text ops c.in_ok-callee.callee = subst (λ (l : List ℕ). IsCalled k q c.args.label.now.label.text l c.in_ok-callee.callee) c.last_operands-operands.ensures.operands c.in_ok-callee.ensures.called in
       let m = c.in-Method.method in
       let cs = c.in-Method.captured in
-      let w : IsCalled k q c.args.label.now.text ops (callee.Method m cs) = subst (IsCalled k q c.args.label.now.text ops) c.in-Method.is called in
+      let w : IsCalled k q c.args.label.now.label.text ops (callee.Method m cs) = subst (IsCalled k q c.args.label.now.label.text ops) c.in-Method.is called in
       let no0 : c.args.go ≡ false = search (rules, c.if-go.false) in
       could_contract k a t vs s ls c.args.go (called_view c.args.count cs.now m.now.body v) h no0
-      (method_contracts k v c.args.number c.args.count c.args.label.now.text t vs q m cs at w);
+      (method_contracts k v c.args.number c.args.count c.args.label.now.label.text t vs q m cs at w);
 }
 
 pub returns-in-Activity : goal.returns-in-Activity
@@ -56,9 +56,9 @@ returns-in-Activity c = record {
       let v : View = view_of a.machine in
       let q = a.store.cells in
       let ops : List ℕ = last c.args.count a.machine.operands.items in
-      let called : IsCalled k q c.args.label.now.text ops c.in_ok-callee.callee = subst (λ (l : List ℕ). IsCalled k q c.args.label.now.text l c.in_ok-callee.callee) c.last_operands-operands.ensures.operands c.in_ok-callee.ensures.called in
-      let w : IsCalled k q c.args.label.now.text ops (callee.Activity c.in-Activity.field-0) = subst (IsCalled k q c.args.label.now.text ops) c.in-Activity.is called in
-      stopped k a t vs s ls c.args.go c.args.count (value_redex (Call c.args.label.now.text) ops) advance.Sends h (call_redex k v c.args.number c.args.count c.args.label.now.text t vs at) (sends k q c.args.label.now.text ops c.in-Activity.field-0 w);
+      let called : IsCalled k q c.args.label.now.label.text ops c.in_ok-callee.callee = subst (λ (l : List ℕ). IsCalled k q c.args.label.now.label.text l c.in_ok-callee.callee) c.last_operands-operands.ensures.operands c.in_ok-callee.ensures.called in
+      let w : IsCalled k q c.args.label.now.label.text ops (callee.Activity c.in-Activity.field-0) = subst (IsCalled k q c.args.label.now.label.text ops) c.in-Activity.is called in
+      stopped k a t vs s ls c.args.go c.args.count (value_redex (Call c.args.label.now.label.text) ops) advance.Sends h (call_redex k v c.args.number c.args.count c.args.label.now.label.text t vs at) (sends k q c.args.label.now.label.text ops c.in-Activity.field-0 w);
 }
 
 pub returns-in-Other : goal.returns-in-Other
@@ -69,9 +69,9 @@ returns-in-Other c = record {
       let v : View = view_of a.machine in
       let q = a.store.cells in
       let ops : List ℕ = last c.args.count a.machine.operands.items in
-      let called : IsCalled k q c.args.label.now.text ops c.in_ok-callee.callee = subst (λ (l : List ℕ). IsCalled k q c.args.label.now.text l c.in_ok-callee.callee) c.last_operands-operands.ensures.operands c.in_ok-callee.ensures.called in
-      let w : IsCalled k q c.args.label.now.text ops (callee.Other c.in-Other.decision) = subst (IsCalled k q c.args.label.now.text ops) c.in-Other.is called in
-      c.decided_advance.ensures.advance k t vs s ls (value_redex (Call c.args.label.now.text) ops) h (call_redex k v c.args.number c.args.count c.args.label.now.text t vs at) (other_contracts k q c.args.label.now.text ops c.in-Other.decision w);
+      let called : IsCalled k q c.args.label.now.label.text ops c.in_ok-callee.callee = subst (λ (l : List ℕ). IsCalled k q c.args.label.now.label.text l c.in_ok-callee.callee) c.last_operands-operands.ensures.operands c.in_ok-callee.ensures.called in
+      let w : IsCalled k q c.args.label.now.label.text ops (callee.Other c.in-Other.decision) = subst (IsCalled k q c.args.label.now.label.text ops) c.in-Other.is called in
+      c.decided_advance.ensures.advance k t vs s ls (value_redex (Call c.args.label.now.label.text) ops) h (call_redex k v c.args.number c.args.count c.args.label.now.label.text t vs at) (other_contracts k q c.args.label.now.label.text ops c.in-Other.decision w);
 }
 
 pub returns-in_ok-spread-in-Members : goal.returns-in_ok-spread-in-Members
@@ -82,12 +82,12 @@ returns-in_ok-spread-in-Members c = record {
       let v : View = view_of a.machine in
       let q = a.store.cells in
       let ops : List ℕ = last c.args.count a.machine.operands.items in
-      let called : IsCalled k q c.args.label.now.text ops c.in_ok-callee.callee = subst (λ (l : List ℕ). IsCalled k q c.args.label.now.text l c.in_ok-callee.callee) c.last_operands-operands.ensures.operands c.in_ok-callee.ensures.called in
+      let called : IsCalled k q c.args.label.now.label.text ops c.in_ok-callee.callee = subst (λ (l : List ℕ). IsCalled k q c.args.label.now.label.text l c.in_ok-callee.callee) c.last_operands-operands.ensures.operands c.in_ok-callee.ensures.called in
       let ns = c.in-Members.members in
-      let w : IsCalled k q c.args.label.now.text ops (callee.Members ns) = subst (IsCalled k q c.args.label.now.text ops) c.in-Members.is called in
+      let w : IsCalled k q c.args.label.now.label.text ops (callee.Members ns) = subst (IsCalled k q c.args.label.now.label.text ops) c.in-Members.is called in
       let yes0 : c.args.go ≡ true = search (rules, c.if-go-2.true) in
       contracted k a (record { machine = c.spread.new.self; store = a.store; lines = a.lines }) t vs s ls c.args.go (spread_view spread.Same c.args.number c.args.count ns.now [] v) h yes0
-      (members_contract k v c.args.number c.args.count c.args.label.now.text t vs q ns at w) c.in_ok-spread-in-Members.ensures.view refl refl;
+      (members_contract k v c.args.number c.args.count c.args.label.now.label.text t vs q ns at w) c.in_ok-spread-in-Members.ensures.view refl refl;
 }
 
 pub returns-else-go-2 : goal.returns-else-go-2
@@ -98,10 +98,10 @@ returns-else-go-2 c = record {
       let v : View = view_of a.machine in
       let q = a.store.cells in
       let ops : List ℕ = last c.args.count a.machine.operands.items in
-      let called : IsCalled k q c.args.label.now.text ops c.in_ok-callee.callee = subst (λ (l : List ℕ). IsCalled k q c.args.label.now.text l c.in_ok-callee.callee) c.last_operands-operands.ensures.operands c.in_ok-callee.ensures.called in
+      let called : IsCalled k q c.args.label.now.label.text ops c.in_ok-callee.callee = subst (λ (l : List ℕ). IsCalled k q c.args.label.now.label.text l c.in_ok-callee.callee) c.last_operands-operands.ensures.operands c.in_ok-callee.ensures.called in
       let ns = c.in-Members.members in
-      let w : IsCalled k q c.args.label.now.text ops (callee.Members ns) = subst (IsCalled k q c.args.label.now.text ops) c.in-Members.is called in
+      let w : IsCalled k q c.args.label.now.label.text ops (callee.Members ns) = subst (IsCalled k q c.args.label.now.label.text ops) c.in-Members.is called in
       let no0 : c.args.go ≡ false = search (rules, c.if-go-2.false) in
       could_contract k a t vs s ls c.args.go (spread_view spread.Same c.args.number c.args.count ns.now [] v) h no0
-      (members_contract k v c.args.number c.args.count c.args.label.now.text t vs q ns at w);
+      (members_contract k v c.args.number c.args.count c.args.label.now.label.text t vs q ns at w);
 }

@@ -12,7 +12,7 @@ returns c = record {
   advance = λ t vs s ls h at.
       let k = c.args.code.now in
       let v : View = view_of c.args.self.now.machine in
-      let label : called_label (piece_at (pieces k) c.args.number) ≡ c.in-Some-call_label.label.now.text = ap called_label c.in-Some.ensures.piece ∙ c.in-Some-call_label.ensures.label (pieces k) in
-      let here : IsAtCall k v c.args.number c.args.count c.in-Some-call_label.label.now.text t vs = subst (λ (l : Text). IsAtCall k v c.args.number c.args.count l t vs) label (called k v c.args.number c.args.count t vs h.machine at) in
+      let label : called_label (piece_at (pieces k) c.args.number) ≡ c.in-Some-call_label.label.now.label.text = ap called_label c.in-Some.ensures.piece ∙ c.in-Some-call_label.ensures.label (pieces k) in
+      let here : IsAtCall k v c.args.number c.args.count c.in-Some-call_label.label.now.label.text t vs = subst (λ (l : Text). IsAtCall k v c.args.number c.args.count l t vs) label (called k v c.args.number c.args.count t vs h.machine at) in
       c.call_advance.ensures.advance t vs s ls h here;
 }

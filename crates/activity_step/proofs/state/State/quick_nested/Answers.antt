@@ -27,7 +27,7 @@ returns-in_ok-decision-in-Get-clause-taken c = λ t vs s ls h at.
     let k : List Node = c.args.code.now in
     let v : View = view_of c.args.self.now.machine in
     let next : Nested = nested.Get c.in-Get.label c.in-Get.at in
-    c.nested_decided.ensures.taken k (places_redex (Get c.in-Get.label.now.text) (c.in-Get.at ∷ [])) t vs s ls h
+    c.nested_decided.ensures.taken k (places_redex (Get c.in-Get.label.now.label.text) (c.in-Get.at ∷ [])) t vs s ls h
     (as_told k t vs v c.args.number c.args.from c.args.done c.args.redex next c.in-Get.is at) c.in_ok-decision-in-Get.ensures.row
 
 pub returns-in_ok-decision-in-Operate-clause-taken : goal.returns-in_ok-decision-in-Operate-clause-taken

@@ -24,11 +24,11 @@ returns-in_ok-spread-in-Members c = record {
       let v : View = view_of a.machine in
       let q = a.store.cells in
       let ops : List ℕ = last c.args.count a.machine.operands.items in
-      let row0 = c.in_ok-scattering.ensures.row k l.text in
-      let row1 : IsScattering k q l.text (contract (store_of k q) (value_redex (Scatter l.text) ops)) c.in_ok-scattering.scattering =
-      subst (λ (ns : List ℕ). IsScattering k q l.text (contract (store_of k q) (value_redex (Scatter l.text) ns)) c.in_ok-scattering.scattering) c.last_operands-operands.ensures.operands row0 in
-      let w : IsScattering k q l.text (contract (store_of k q) (value_redex (Scatter l.text) ops)) (scattering.Members c.in-Members.members c.in-Members.others) =
-      subst (IsScattering k q l.text (contract (store_of k q) (value_redex (Scatter l.text) ops))) c.in-Members.is row1 in
+      let row0 = c.in_ok-scattering.ensures.row k l.label.text in
+      let row1 : IsScattering k q l.label.text (contract (store_of k q) (value_redex (Scatter l.label.text) ops)) c.in_ok-scattering.scattering =
+      subst (λ (ns : List ℕ). IsScattering k q l.label.text (contract (store_of k q) (value_redex (Scatter l.label.text) ns)) c.in_ok-scattering.scattering) c.last_operands-operands.ensures.operands row0 in
+      let w : IsScattering k q l.label.text (contract (store_of k q) (value_redex (Scatter l.label.text) ops)) (scattering.Members c.in-Members.members c.in-Members.others) =
+      subst (IsScattering k q l.label.text (contract (store_of k q) (value_redex (Scatter l.label.text) ops))) c.in-Members.is row1 in
       let yes0 : c.args.go ≡ true = search (rules, c.if-go.true) in
       contracted k a (record { machine = c.spread.new.self; store = a.store; lines = a.lines }) t vs s ls c.args.go (spread_view spread.Own c.args.number c.args.count c.in-Members.members.now c.in-Members.others.now v) h yes0
       (scatters k v c.args.number from c.args.count c.in-Members.members.now c.in-Members.others.now n l t vs (store_of k q) h.machine at is w.0 w.1) c.in_ok-spread-in-Members.ensures.view refl refl;
@@ -41,11 +41,11 @@ returns-else-go c = record {
       let v : View = view_of a.machine in
       let q = a.store.cells in
       let ops : List ℕ = last c.args.count a.machine.operands.items in
-      let row0 = c.in_ok-scattering.ensures.row k l.text in
-      let row1 : IsScattering k q l.text (contract (store_of k q) (value_redex (Scatter l.text) ops)) c.in_ok-scattering.scattering =
-      subst (λ (ns : List ℕ). IsScattering k q l.text (contract (store_of k q) (value_redex (Scatter l.text) ns)) c.in_ok-scattering.scattering) c.last_operands-operands.ensures.operands row0 in
-      let w : IsScattering k q l.text (contract (store_of k q) (value_redex (Scatter l.text) ops)) (scattering.Members c.in-Members.members c.in-Members.others) =
-      subst (IsScattering k q l.text (contract (store_of k q) (value_redex (Scatter l.text) ops))) c.in-Members.is row1 in
+      let row0 = c.in_ok-scattering.ensures.row k l.label.text in
+      let row1 : IsScattering k q l.label.text (contract (store_of k q) (value_redex (Scatter l.label.text) ops)) c.in_ok-scattering.scattering =
+      subst (λ (ns : List ℕ). IsScattering k q l.label.text (contract (store_of k q) (value_redex (Scatter l.label.text) ns)) c.in_ok-scattering.scattering) c.last_operands-operands.ensures.operands row0 in
+      let w : IsScattering k q l.label.text (contract (store_of k q) (value_redex (Scatter l.label.text) ops)) (scattering.Members c.in-Members.members c.in-Members.others) =
+      subst (IsScattering k q l.label.text (contract (store_of k q) (value_redex (Scatter l.label.text) ops))) c.in-Members.is row1 in
       let no0 : c.args.go ≡ false = search (rules, c.if-go.false) in
       could_contract k a t vs s ls c.args.go (spread_view spread.Own c.args.number c.args.count c.in-Members.members.now c.in-Members.others.now v) h no0
       (scatters k v c.args.number from c.args.count c.in-Members.members.now c.in-Members.others.now n l t vs (store_of k q) h.machine at is w.0 w.1);
@@ -58,12 +58,12 @@ returns-in-Other c = record {
       let v : View = view_of a.machine in
       let q = a.store.cells in
       let ops : List ℕ = last c.args.count a.machine.operands.items in
-      let row0 = c.in_ok-scattering.ensures.row k l.text in
-      let row1 : IsScattering k q l.text (contract (store_of k q) (value_redex (Scatter l.text) ops)) c.in_ok-scattering.scattering =
-      subst (λ (ns : List ℕ). IsScattering k q l.text (contract (store_of k q) (value_redex (Scatter l.text) ns)) c.in_ok-scattering.scattering) c.last_operands-operands.ensures.operands row0 in
-      let w : IsScattering k q l.text (contract (store_of k q) (value_redex (Scatter l.text) ops)) (scattering.Other c.in-Other.decision) =
-      subst (IsScattering k q l.text (contract (store_of k q) (value_redex (Scatter l.text) ops))) c.in-Other.is row1 in
-      let here : IsAtRedex k v t vs c.args.count (value_redex (Scatter l.text) ops) =
+      let row0 = c.in_ok-scattering.ensures.row k l.label.text in
+      let row1 : IsScattering k q l.label.text (contract (store_of k q) (value_redex (Scatter l.label.text) ops)) c.in_ok-scattering.scattering =
+      subst (λ (ns : List ℕ). IsScattering k q l.label.text (contract (store_of k q) (value_redex (Scatter l.label.text) ns)) c.in_ok-scattering.scattering) c.last_operands-operands.ensures.operands row0 in
+      let w : IsScattering k q l.label.text (contract (store_of k q) (value_redex (Scatter l.label.text) ops)) (scattering.Other c.in-Other.decision) =
+      subst (IsScattering k q l.label.text (contract (store_of k q) (value_redex (Scatter l.label.text) ops))) c.in-Other.is row1 in
+      let here : IsAtRedex k v t vs c.args.count (value_redex (Scatter l.label.text) ops) =
       subst (λ (x : Kind). IsAtRedex k v t vs c.args.count (value_redex (kind_head x) ops)) is (value_row k v c.args.number from c.args.count n t vs h.machine at.focus at.full at.node (ap is_simple is)) in
-      c.decided_advance.ensures.advance k t vs s ls (value_redex (Scatter l.text) ops) h here w;
+      c.decided_advance.ensures.advance k t vs s ls (value_redex (Scatter l.label.text) ops) h here w;
 }

@@ -19,7 +19,7 @@ returns-in-Activity c = record {
       let v : View = view_of a.machine in
       let q = a.store.cells in
       let ops : List ℕ = last c.args.count a.machine.operands.items in
-      let called : IsCalled k q c.args.label.now.text ops c.in-Ok.callee = subst (λ (l : List ℕ). IsCalled k q c.args.label.now.text l c.in-Ok.callee) c.last_operands-operands.ensures.operands c.in-Ok.ensures.called in
-      let w : IsCalled k q c.args.label.now.text ops (callee.Activity c.in-Activity.field-0) = subst (IsCalled k q c.args.label.now.text ops) c.in-Activity.is called in
-      stopped k a t vs s ls false c.args.count (value_redex (Call c.args.label.now.text) ops) advance.Sends h (call_redex k v c.args.number c.args.count c.args.label.now.text t vs at) (sends k q c.args.label.now.text ops c.in-Activity.field-0 w);
+      let called : IsCalled k q c.args.label.now.label.text ops c.in-Ok.callee = subst (λ (l : List ℕ). IsCalled k q c.args.label.now.label.text l c.in-Ok.callee) c.last_operands-operands.ensures.operands c.in-Ok.ensures.called in
+      let w : IsCalled k q c.args.label.now.label.text ops (callee.Activity c.in-Activity.field-0) = subst (IsCalled k q c.args.label.now.label.text ops) c.in-Activity.is called in
+      stopped k a t vs s ls false c.args.count (value_redex (Call c.args.label.now.label.text) ops) advance.Sends h (call_redex k v c.args.number c.args.count c.args.label.now.label.text t vs at) (sends k q c.args.label.now.label.text ops c.in-Activity.field-0 w);
 }
