@@ -17,7 +17,7 @@ ghost use Rattle.step_rows.specs.Decisions.{decided, value_redex};
 ghost use Rattle.step_machine.specs.declared.frames.Focus.TheVariants as focus;
 ghost use Rattle.step_machine.specs.Rows.{AtNode, IsAtRedex};
 ghost use Rattle.step_machine.specs.declared.frames.Nested.TheVariants as nested;
-ghost use Rattle.step_machine.specs.Sites.{Gives, IsNested, number_redex};
+ghost use Rattle.step_machine.specs.Sites.{Gives, IsNested, IsNodeAt, number_redex};
 ghost use Rattle.step_machine.specs.Stacks.{last, piece_from};
 ghost use Rattle.step_machine.specs.Standing.{view_of};
 ghost use Rattle.activity_step.specs.declared.state.State.{State as StateShape};
@@ -26,7 +26,6 @@ ghost use Rattle.activity_step.specs.Advances.{AreTaken, IsAdvance, IsTaken, Red
 use crate::activity::is_reduction;
 use crate::advance::{Advance, stop_of};
 use crate::performing::{add_number, perform};
-use crate::reducing::node_in;
 use crate::state::State;
 use asp_model::Sign;
 use code_table::{Cell, Class, Code, Kind, Node, Place};
@@ -155,6 +154,7 @@ impl State {
         &mut self,
         alloc: Global,
         code: &Code,
+        node: &Node,
         number: usize,
         from: usize,
         count: usize,
@@ -162,12 +162,9 @@ impl State {
         ensures taken { (t : Tree) (vs : List ServiceShape) (s : StoreShape) (ls : List LineShape) →
             Stands code.now self.old t vs s ls →
             self.old.machine.focus ≡ focus.Node number from count →
-            count ≡ in_place (piece_from code.now number from) →
+            count ≡ in_place (piece_from code.now number from) → IsNodeAt code.now number node.now →
             IfOk result (IsTaken code.now self.new t vs s ls) }
     {
-        let Some(node) = node_in(code, number) else {
-            return Err(AllocError);
-        };
         match &node.kind {
             Kind::Make(class) => self.quick_make(alloc, class, number, count),
             Kind::Call(label) => taken(self.call_advance(alloc, code, label, number, count, true)),
@@ -289,8 +286,13 @@ impl State {
     {
         let site = self.machine.reach(code.nodes())?;
         match site {
-            Site::Redex { number, from, done } => {
-                let taken = self.quick_redex(alloc, code, number, from, done)?;
+            Site::Redex {
+                node,
+                number,
+                from,
+                done,
+            } => {
+                let taken = self.quick_redex(alloc, code, node, number, from, done)?;
                 Ok(count_of(taken))
             }
             Site::Nested {

@@ -17,10 +17,3 @@ later (suc k) p = p
 abbrev pub child_number : Kind → (from done : ℕ) → ℕ
 child_number kind.Steps from done = from + done
 child_number k from done = done
-
--- all children are reduced in place, however many there are
-abbrev pub IsWhole : Kind → Type 0
-IsWhole (kind.Make k) = Unit {0}
-IsWhole (kind.Call l) = Unit {0}
-IsWhole kind.Group = Unit {0}
-IsWhole k = ⊥

@@ -8,6 +8,7 @@ use Rattle.code_table.specs.declared.code.Child.{Child}
 use Rattle.code_table.specs.declared.code.Kind.TheVariants as kind
 use Rattle.code_table.specs.declared.code.Leaf.{Leaf}
 use Rattle.code_table.specs.declared.code.Node.{Node}
+use Rattle.code_table.specs.Classes.{class_at, class_of}
 use Rattle.code_table.specs.Pieces.{Piece, variable}
 use Rattle.code_table.specs.Tables.{node_piece, piece_at, pieces, pieces_of}
 use Rattle.code_laws.specs.Nodes.{nth}
@@ -81,8 +82,14 @@ IsRedexOf k ns n (nested.OperateNumber s p z) = (n.kind ≡ kind.Operate s) × I
 
 -- Where it stands
 
+-- the node with this number
+pub record IsNodeAt (k : List Node) (number : ℕ) (n : Node) : Type 0 where
+  pub piece : piece_at (pieces k) number ≡ node_piece (pieces k) n
+  pub class : class_at k number ≡ class_of n.kind
+
 abbrev pub IsSite : List Node → Tree → List ServiceShape → View → Site → Type 0
-IsSite k t vs v (site.Redex number from done) = Settled k t vs v × (v.focus ≡ focus.Node number from done)
+IsSite k t vs v (site.Redex n number from done) =
+    Settled k t vs v × (v.focus ≡ focus.Node number from done) × IsNodeAt k number n.now
 IsSite k t vs v (site.Nested number from done r) = Standing k v t vs × IsNested k t vs v number from done r
 IsSite k t vs v site.Other = Standing k v t vs
 

@@ -1,7 +1,7 @@
 //! Frames, and what a machine looks at.
 
 use asp_model::Sign;
-use code_table::KeyedLabel;
+use code_table::{KeyedLabel, Node};
 
 /// The arguments of the calls that a call on a group, or a `scatter`, becomes.
 #[derive(Clone, Copy)]
@@ -83,6 +83,7 @@ pub enum Nested<'a> {
 pub enum Site<'a> {
     /// That of the node that it looks at.
     Redex {
+        node: &'a Node,
         number: usize,
         from: usize,
         done: usize,

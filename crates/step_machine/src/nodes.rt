@@ -32,12 +32,12 @@ pub fn node_at<'a>(nodes: &'a [Node], number: usize) -> Option<&'a Node>
 pub fn in_place_count(node: &Node, from: usize) -> usize
     ensures count { (ps : List Piece) → result ≡ in_place (later from (node_piece ps node.now)) }
 {
-    match &node.kind {
-        Kind::Number(_) | Kind::Serve(_) | Kind::Pending(_) | Kind::Echo(_) => 0,
-        Kind::Make(_) | Kind::Call(_) | Kind::Group => node.children.len(),
-        Kind::Put(_) | Kind::Operate(_) | Kind::Scatter(_) | Kind::Member => 2,
-        Kind::Repeat => from.min(1),
-        _ => 1,
+    if from == 0 {
+        return node.operands;
+    }
+    match node.kind {
+        Kind::Repeat => 1,
+        _ => node.operands,
     }
 }
 
@@ -46,6 +46,9 @@ pub fn in_place_count(node: &Node, from: usize) -> usize
 fn child_number(kind: &Kind, from: usize, done: usize) -> Option<usize>
     ensures number { IfSome result (λ i. i ≡ child_number kind.now from done) }
 {
+    if from == 0 {
+        return Some(done);
+    }
     match kind {
         Kind::Steps => from.checked_add(done),
         _ => Some(done),

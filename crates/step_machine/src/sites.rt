@@ -140,7 +140,7 @@ impl Machine {
         requires sound { IsSound nodes.now }
         ensures site { (t : Tree) (vs : List ServiceShape) → let k = nodes.now in
             let old = view_of self.old in
-            Standing k (record old { focus = focus.Node number from done }) t vs →
+            Standing k old t vs → old.focus ≡ focus.Node number from done →
             done < in_place (piece_from k number from) →
             nth done (parts (piece_from k number from)) ≡ piece_at (pieces k) inner →
             IfOk result (IsSite k t vs (view_of self.new)) }
@@ -151,15 +151,12 @@ impl Machine {
             return Err(AllocError);
         };
         match self.nested(nodes, node) {
-            Some(redex) => {
-                self.look_at(Focus::Node { number, from, done });
-                Ok(Site::Nested {
-                    number,
-                    from,
-                    done,
-                    redex,
-                })
-            }
+            Some(redex) => Ok(Site::Nested {
+                number,
+                from,
+                done,
+                redex,
+            }),
             None => {
                 self.enter(number, from, done, inner)?;
                 Ok(Site::Other)
@@ -197,9 +194,14 @@ impl Machine {
                 Child::Node(inner) => return self.meet(nodes, number, from, done, *inner),
             }
             done += 1;
+            self.look_at(Focus::Node { number, from, done });
         }
-        self.look_at(Focus::Node { number, from, done });
-        Ok(Site::Redex { number, from, done })
+        Ok(Site::Redex {
+            node,
+            number,
+            from,
+            done,
+        })
     }
 
     /// Goes down to where the next contraction stands.

@@ -1,14 +1,12 @@
-use Rattle.std.proofs.Common.{rules, ◌≡◌, length, sym, subst, ◌∙◌, inl, inr}
-use Rattle.code_table.specs.declared.code.Node.{Node}
-use Rattle.step_machine.specs.Sequences.{IsWhole}
-use Rattle.step_machine.proofs.SequenceLemmas.{whole_count}
+use Rattle.std.proofs.Common.{rules, arith}
+use Rattle.step_machine.proofs.SequenceLemmas.{operands_all, operands_left, rolled_count}
 use Rattle.step_machine.proofs.nodes.in_place_count.Goals as goal
 
-pub returns-in-Make : goal.returns-in-Make
-returns-in-Make c = record {
-  count = λ ps.
-      let n : Node = c.args.node.now in
-      let size : c.len.result ≡ length n.children.items = search (rules, c.len.ensures) in
-      let whole : IsWhole n.kind = elim c.in-Make.is [ inl x ↦ subst IsWhole (sym x.1) tt | inr (inl x) ↦ subst IsWhole (sym x.1) tt | inr (inr x) ↦ subst IsWhole (sym x) tt ] in
-      size ∙ sym (whole_count c.args.from ps n whole);
-}
+pub returns-then-from-eq0 : goal.returns-then-from-eq0
+returns-then-from-eq0 c = record { count = λ ps. operands_all c.args.from ps c.args.node.now (search (rules, c.if-from-eq0.true)) }
+
+pub returns-in-Repeat : goal.returns-in-Repeat
+returns-in-Repeat c = record { count = λ ps. rolled_count c.args.from ps c.args.node.now (λ e. omega (arith, c.if-from-eq0.false, e)) c.in-Repeat.is }
+
+pub returns-in_default : goal.returns-in_default
+returns-in_default c = record { count = λ ps. operands_left c.args.from ps c.args.node.now c.in_default.not-Repeat }

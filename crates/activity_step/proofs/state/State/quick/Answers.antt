@@ -19,10 +19,11 @@ returns-in_ok-taken-in-Redex-clause-taken c = λ t vs s ls h.
     let k : List Node = c.args.code.now in
     let a = c.args.self.now in
     let new : View = view_of c.reach.new.self in
-    let at : IsSite k t vs new (site.Redex c.in-Redex.number c.in-Redex.from c.in-Redex.done) = found k c.nodes.result.now (view_of a.machine) new t vs c.in_ok-site.site (site.Redex c.in-Redex.number c.in-Redex.from c.in-Redex.done) c.nodes.ensures.nodes c.in-Redex.is h.machine c.in_ok-site.ensures.site in
+    let next : Site = site.Redex c.in-Redex.node c.in-Redex.number c.in-Redex.from c.in-Redex.done in
+    let at : IsSite k t vs new next = found k c.nodes.result.now (view_of a.machine) new t vs c.in_ok-site.site next c.nodes.ensures.nodes c.in-Redex.is h.machine c.in_ok-site.ensures.site in
     let x : State = record { machine = c.reach.new.self; store = a.store; lines = a.lines } in
     let here : Stands k x t vs s ls = record { machine = at.0.standing; store = h.store; lines = h.lines } in
-    c.count_of.ensures.taken k c.quick_redex.new.self t vs s ls (c.in_ok-taken-in-Redex.ensures.taken t vs s ls here at.1 (subst (IsSettledAt k new.frames) at.1 at.0.settled))
+    c.count_of.ensures.taken k c.quick_redex.new.self t vs s ls (c.in_ok-taken-in-Redex.ensures.taken t vs s ls here at.1 (subst (IsSettledAt k new.frames) at.1 at.0.settled) at.2)
 
 pub returns-in-Nested-clause-taken : goal.returns-in-Nested-clause-taken
 returns-in-Nested-clause-taken c = λ t vs s ls h.

@@ -10,7 +10,7 @@ use Rattle.step_machine.proofs.machine.Machine.reach_down.Goals as goal
 
 other_stands : (k : List Node) (t : Tree) (vs : List ServiceShape) (v : View) (s : Site) → is_found s ≡ false → IsSite k t vs v s → Standing k v t vs
 other_stands k t vs v site.Other e h = h
-other_stands k t vs v (site.Redex number from done) e h = absurd (search (rules, e))
+other_stands k t vs v (site.Redex n number from done) e h = absurd (search (rules, e))
 other_stands k t vs v (site.Nested number from done r) e h = absurd (search (rules, e))
 
 pub returns-then-has_found : goal.returns-then-has_found
