@@ -1,11 +1,12 @@
 -- Runs of contractions.
-use Rattle.std.proofs.Common.{◌≡◌, ◌≤◌, ◌+◌, ◌++◌, ℕ, zero, suc, Bool, true, false, List, [], ◌∷◌, length, map, reverse, refl, sym, ap, subst, ◌∙◌, arith}
+use Rattle.std.proofs.Common.{◌≡◌, ◌≤◌, ◌+◌, ◌-◌, ◌++◌, ℕ, zero, suc, Bool, true, false, List, [], ◌∷◌, length, map, reverse, refl, sym, ap, subst, ◌∙◌, arith}
 use Rattle.std.proofs.lemmas.Bool.{false≢true}
 use Rattle.std.specs.Arc.{arc_value}
 use Rattle.std.specs.Prelude.{Err, IfOk, Ok, OnOk, Result}
 use Rattle.asp_model.specs.Split.{Context, Redex, Splits, split, plug}
 use Rattle.asp_model.specs.Term.{Tree, loc}
 use Rattle.asp_model.specs.Store.{Store}
+use Rattle.asp_model.specs.Contraction.{LineShape}
 use Rattle.asp_model.specs.Shapes.{line_shape}
 use Rattle.code_table.specs.Cells.{held_future}
 use Rattle.std.specs.Option.{option_map}
@@ -25,7 +26,7 @@ use Rattle.activity_step.specs.declared.advance.Advance.{Advance}
 use Rattle.activity_step.specs.declared.advance.Advance.TheVariants as advance
 use Rattle.activity_step.specs.Local.{IsLocalStep, LocalRun}
 use Rattle.activity_step.specs.Advances.{AreTaken, Contracted, Stands, Reduced, Told, IsAdvance}
-use Rattle.activity_step.specs.Activities.{StandsFor, IsToldAt, IsNext, IsRunning, IsStepped, IsStopped, IsAfter, IsUsed, IsRun, reduces, with_new_cell}
+use Rattle.activity_step.specs.Activities.{StandsFor, IsToldAt, IsHalted, IsNext, IsRunning, IsStepped, IsStopped, IsAfter, IsUsed, IsRun, reduces, with_new_cell}
 
 -- one run behind another
 pub goes_on : (n m : ℕ) (a b c : model.Activity) → LocalRun n a b → LocalRun m b c → LocalRun (n + m) a c
@@ -34,6 +35,16 @@ goes_on (suc n) m a b c r q =
     let same : suc (n + m) ≡ suc n + m = omega arith in
     let all : LocalRun (suc (n + m)) a c = (r.0, r.1, goes_on n m r.0 b c r.2 q) in
     subst (λ (i : ℕ). LocalRun i a c) same all
+
+-- more contractions behind others
+pub more_taken : (k : List Node) (x y : State) (n m : ℕ) (t : Tree) (vs : List ServiceShape) (s : Store) (ls : List LineShape) → AreTaken k x t vs s ls n
+    → ((u : Tree) (q : Store) (added : List LineShape) → Stands k x u vs q added → AreTaken k y u vs q added m) → AreTaken k y t vs s ls (n + m)
+more_taken k x y zero m t vs s ls h f = let same : m ≡ 0 + m = omega arith in subst (AreTaken k y t vs s ls) same (f t s ls h)
+more_taken k x y (suc n) m t vs s ls h f =
+    let same : suc (n + m) ≡ suc n + m = omega arith in
+    let one : Contracted t s = h.0 in
+    let all : AreTaken k y t vs s ls (suc (n + m)) = (one, more_taken k x y n m (plug one.contexts one.becomes) vs one.store (ls ++ one.added) h.1 f) in
+    subst (AreTaken k y t vs s ls) same all
 
 -- the contractions of a state are a run of its activity
 pub taken_run : (x : Activity) (y : State) (c n : ℕ) (a : model.Activity) → option_map held_future x.present ≡ a.present → x.active ≡ a.active → c ≡ a.reductions + n
@@ -121,16 +132,19 @@ reduced_advance k y a true advance.Serves t g e = absurd (false≢true e)
 reduced_advance k y a true advance.Polls t g e = absurd (false≢true e)
 reduced_advance k y a false r t g e = absurd (false≢true g)
 
--- a step is one contraction, or a stop
-pub next_of : (x : Activity) (a : model.Activity) (r : Advance) → IsAfter x a true r → IsNext x a 1 r
-next_of x a advance.Reduces h = record { here = h.next; run = (h.next, h.step, refl); stands = h.stands }
-next_of x a (advance.Rests p) h = h
-next_of x a (advance.Faults f) h = h
-next_of x a (advance.Needs p) h = h
-next_of x a (advance.Creates p) h = h
-next_of x a advance.Sends h = h
-next_of x a advance.Serves h = h
-next_of x a advance.Polls h = h
+halted : (x : Activity) (a b : model.Activity) (n : ℕ) (r : Advance) → LocalRun n a b → IsStopped x b r → IsHalted x a (n + 1 - 1) r
+halted x a b n r run h = let same : n ≡ n + 1 - 1 = omega arith in record { here = b; run = subst (λ (i : ℕ). LocalRun i a b) same run; stopped = h }
+
+-- behind some contractions, a step is one more, or a stop
+pub next_of : (x : Activity) (a b : model.Activity) (n : ℕ) (r : Advance) → LocalRun n a b → IsAfter x b true r → IsNext x a (n + 1) r
+next_of x a b n advance.Reduces run h = record { here = h.next; run = goes_on n 1 a b h.next run (h.next, h.step, refl); stands = h.stands }
+next_of x a b n (advance.Rests p) run h = halted x a b n (advance.Rests p) run h
+next_of x a b n (advance.Faults f) run h = halted x a b n (advance.Faults f) run h
+next_of x a b n (advance.Needs p) run h = halted x a b n (advance.Needs p) run h
+next_of x a b n (advance.Creates p) run h = halted x a b n (advance.Creates p) run h
+next_of x a b n advance.Sends run h = halted x a b n advance.Sends run h
+next_of x a b n advance.Serves run h = halted x a b n advance.Serves run h
+next_of x a b n advance.Polls run h = halted x a b n advance.Polls run h
 
 pub next_taken : (x : Activity) (a : model.Activity) (n : ℕ) (r : Advance) → IsNext x a n r → reduces r ≡ true → IsRunning x a n
 next_taken x a n advance.Reduces h e = h
@@ -143,15 +157,15 @@ next_taken x a n advance.Serves h e = absurd (false≢true e)
 next_taken x a n advance.Polls h e = absurd (false≢true e)
 
 -- a run that stops before all contractions were taken
-pub stopped_run : (x : Activity) (a b : model.Activity) (n most m : ℕ) (r : Advance) → LocalRun n a b → n ≤ most → IsNext x b m r → reduces r ≡ false → IsRun x a most r
+pub stopped_run : (x : Activity) (a b : model.Activity) (n most m : ℕ) (r : Advance) → LocalRun n a b → n + (m - 1) ≤ most → IsNext x b m r → reduces r ≡ false → IsRun x a most r
 stopped_run x a b n most m advance.Reduces run le h e = absurd (false≢true (sym e))
-stopped_run x a b n most m (advance.Rests p) run le h e = record { count = n; end = b; run = run; within = le; stands = h.stands; stop = h.stop; used = tt }
-stopped_run x a b n most m (advance.Faults f) run le h e = record { count = n; end = b; run = run; within = le; stands = h.stands; stop = h.stop; used = tt }
-stopped_run x a b n most m (advance.Needs p) run le h e = record { count = n; end = b; run = run; within = le; stands = h.stands; stop = h.stop; used = tt }
-stopped_run x a b n most m (advance.Creates p) run le h e = record { count = n; end = b; run = run; within = le; stands = h.stands; stop = h.stop; used = tt }
-stopped_run x a b n most m advance.Sends run le h e = record { count = n; end = b; run = run; within = le; stands = h.stands; stop = h.stop; used = tt }
-stopped_run x a b n most m advance.Serves run le h e = record { count = n; end = b; run = run; within = le; stands = h.stands; stop = h.stop; used = tt }
-stopped_run x a b n most m advance.Polls run le h e = record { count = n; end = b; run = run; within = le; stands = h.stands; stop = h.stop; used = tt }
+stopped_run x a b n most m (advance.Rests p) run le h e = record { count = n + (m - 1); end = h.here; run = goes_on n (m - 1) a b h.here run h.run; within = le; stands = h.stopped.stands; stop = h.stopped.stop; used = tt }
+stopped_run x a b n most m (advance.Faults f) run le h e = record { count = n + (m - 1); end = h.here; run = goes_on n (m - 1) a b h.here run h.run; within = le; stands = h.stopped.stands; stop = h.stopped.stop; used = tt }
+stopped_run x a b n most m (advance.Needs p) run le h e = record { count = n + (m - 1); end = h.here; run = goes_on n (m - 1) a b h.here run h.run; within = le; stands = h.stopped.stands; stop = h.stopped.stop; used = tt }
+stopped_run x a b n most m (advance.Creates p) run le h e = record { count = n + (m - 1); end = h.here; run = goes_on n (m - 1) a b h.here run h.run; within = le; stands = h.stopped.stands; stop = h.stopped.stop; used = tt }
+stopped_run x a b n most m advance.Sends run le h e = record { count = n + (m - 1); end = h.here; run = goes_on n (m - 1) a b h.here run h.run; within = le; stands = h.stopped.stands; stop = h.stopped.stop; used = tt }
+stopped_run x a b n most m advance.Serves run le h e = record { count = n + (m - 1); end = h.here; run = goes_on n (m - 1) a b h.here run h.run; within = le; stands = h.stopped.stands; stop = h.stopped.stop; used = tt }
+stopped_run x a b n most m advance.Polls run le h e = record { count = n + (m - 1); end = h.here; run = goes_on n (m - 1) a b h.here run h.run; within = le; stands = h.stopped.stands; stop = h.stopped.stop; used = tt }
 
 all_used : (n : ℕ) (r : Advance) → IsUsed n n r
 all_used n advance.Reduces = refl

@@ -1,5 +1,5 @@
 -- The activity of a configuration that an activity stands for, and where it stops.
-use Rattle.std.specs.Prelude.{◌≡◌, ◌≤◌, ℕ, suc, Bool, true, false, List, [], ◌∷◌, ◌++◌, length, reverse}
+use Rattle.std.specs.Prelude.{◌≡◌, ◌≤◌, ◌-◌, ℕ, suc, Bool, true, false, List, [], ◌∷◌, ◌++◌, length, reverse}
 use Rattle.asp_model.specs.Term.{loc}
 use Rattle.asp_model.specs.Store.{CellShape}
 use Rattle.std.specs.Arc.{arc_value}
@@ -71,10 +71,16 @@ pub record IsRunning (x : Activity) (a : model.Activity) (count : ℕ) : Type 0 
   pub run : LocalRun count a here
   pub stands : StandsFor x here
 
--- it took so many contractions, or stands as before, and where it stops is told
+-- it took so many contractions, and where it stops then is told
+pub record IsHalted (x : Activity) (a : model.Activity) (count : ℕ) (r : Advance) : Type 0 where
+  pub here : model.Activity
+  pub run : LocalRun count a here
+  pub stopped : IsStopped x here r
+
+-- it took so many contractions, or all of them but the last one, before which it stops
 abbrev pub IsNext : Activity → model.Activity → ℕ → Advance → Type 0
 IsNext x a n advance.Reduces = IsRunning x a n
-IsNext x a n r = IsStopped x a r
+IsNext x a n r = IsHalted x a (n - 1) r
 
 abbrev pub reduces : Advance → Bool
 reduces advance.Reduces = true

@@ -177,31 +177,33 @@ impl Activity {
     fn quick(&mut self, alloc: Global, left: u64) -> Result<u64, AllocError>
         ensures taken { (a : ActivityShape) → StandsFor self.old a →
             IfOk result (IsRunning self.new a) }
-        ensures within { 0 < left → IfOk result (λ n. n ≤ left) }
+        ensures within { IfOk result (λ n. n ≤ left) }
         ensures code { code_of self.new ≡ code_of self.old }
     {
-        let taken = self.state.quick(alloc, &self.code, left)?;
+        let taken = self.state.quick_all(alloc, &self.code, left)?;
         let count = self.count.checked_add(taken).ok_or(AllocError)?;
         self.count = count;
         Ok(taken)
     }
 
-    /// The next contractions, no more than are left, or what the redex comes to. What a call that is not
-    /// inlined answers is kept apart, so that the answer itself needs no memory.
+    /// The next contractions, no more than are left, and what the redex behind them comes to, which
+    /// counts as one. What a call answers that is not inlined is kept apart: so the answer itself
+    /// needs no memory.
     #[inline(always)]
     fn take_next(&mut self, alloc: Global, left: u64) -> Result<(u64, Advance), AllocError>
+        requires some { 0 < left }
         ensures next { (a : ActivityShape) → StandsFor self.old a →
             IfOk result (λ x. IsNext self.new a x.0 x.1) }
         ensures some { IfOk result (λ x. 0 < x.0) }
-        ensures within { 0 < left → IfOk result (λ x. x.0 ≤ left) }
+        ensures within { IfOk result (λ x. x.0 ≤ left) }
         ensures code { code_of self.new ≡ code_of self.old }
     {
         let taken = self.quick(alloc, left)?;
-        if taken > 0 {
+        if taken >= left {
             return Ok((taken, Advance::Reduces));
         }
         let advance = self.take(alloc, true)?;
-        Ok((1, advance))
+        Ok((taken + 1, advance))
     }
 
     /// Takes the contractions before its stop, at most so many.

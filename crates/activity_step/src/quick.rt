@@ -278,7 +278,7 @@ impl State {
 
     /// Takes the next contractions where they are of a kind that runs most, no more than are left.
     #[inline(always)]
-    pub fn quick(&mut self, alloc: Global, code: &Code, left: u64) -> Result<u64, AllocError>
+    fn quick(&mut self, alloc: Global, code: &Code, left: u64) -> Result<u64, AllocError>
         ensures taken { (t : Tree) (vs : List ServiceShape) (s : StoreShape) (ls : List LineShape) →
             Stands code.now self.old t vs s ls →
             IfOk result (AreTaken code.now self.new t vs s ls) }
@@ -306,5 +306,24 @@ impl State {
                 Ok(count_of(taken))
             }
         }
+    }
+
+    /// Takes contractions as long as they are of a kind that runs most, at most so many.
+    #[inline(always)]
+    pub fn quick_all(&mut self, alloc: Global, code: &Code, most: u64) -> Result<u64, AllocError>
+        ensures taken { (t : Tree) (vs : List ServiceShape) (s : StoreShape) (ls : List LineShape) →
+            Stands code.now self.old t vs s ls →
+            IfOk result (AreTaken code.now self.new t vs s ls) }
+        ensures within { IfOk result (λ n. n ≤ most) }
+    {
+        let mut left = most;
+        while left > 0 {
+            let taken = self.quick(alloc, code, left)?;
+            if taken == 0 {
+                return Ok(most.saturating_sub(left));
+            }
+            left -= taken;
+        }
+        Ok(most)
     }
 }

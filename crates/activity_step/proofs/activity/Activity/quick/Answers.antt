@@ -23,7 +23,7 @@ returns-clause-taken c = λ a h.
     let k : List Node = arc_value x.code in
     let same : c.deref.result.now ≡ k = c.deref.ensures in
     let n : ℕ = c.in_ok-taken.taken in
-    let t : AreTaken k c.quick.new.self a.term (reverse a.services) a.store a.lines n = taken_by k c.deref.result.now x.state c.quick.new.self n a same c.in_ok-taken.ensures.taken h.state in
+    let t : AreTaken k c.quick_all.new.self a.term (reverse a.services) a.store a.lines n = taken_by k c.deref.result.now x.state c.quick_all.new.self n a same c.in_ok-taken.ensures.taken h.state in
     let plus : c.in_ok-count.count ≡ x.count + n = search (rules, c.in_ok-count.ensures, c.checked_add.ensures) in
     let counted : c.in_ok-count.count ≡ a.reductions + n = omega (arith, plus, h.count) in
-    taken_run x c.quick.new.self c.in_ok-count.count n a h.present h.active counted t
+    taken_run x c.quick_all.new.self c.in_ok-count.count n a h.present h.active counted t

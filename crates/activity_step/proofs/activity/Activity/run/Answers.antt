@@ -8,7 +8,8 @@ pub returns-then-not-is_reduction-clause-run : goal.returns-then-not-is_reductio
 returns-then-not-is_reduction-clause-run c =
     λ a h.
     let w : IsRunning c.loop-left.self a (c.args.most - c.loop-left.left) = c.loop-left.invariant.1 a h in
-    let le : c.args.most - c.loop-left.left ≤ c.args.most = omega arith in
+    let within : c.in_ok-taken.taken ≤ c.loop-left.left = c.in_ok-taken.ensures.within in
+    let le : c.args.most - c.loop-left.left + (c.in_ok-taken.taken - 1) ≤ c.args.most = omega (arith, within, c.loop-left.invariant.0) in
     stopped_run c.take_next.new.self a w.here (c.args.most - c.loop-left.left) c.args.most c.in_ok-taken.taken c.in_ok-taken.advance w.run le (c.in_ok-taken.ensures.next w.here w.stands) (sym c.if-not-is_reduction.ensures.reduces)
 
 pub loop-left-init : goal.loop-left-init
@@ -23,7 +24,7 @@ loop-left-init c = (
 pub loop-left-preserved : goal.loop-left-preserved
 loop-left-preserved c =
     let n : ℕ = c.in_ok-taken.taken in
-    let within : n ≤ c.loop-left.left = c.in_ok-taken.ensures.within c.loop-left-test.true in (
+    let within : n ≤ c.loop-left.left = c.in_ok-taken.ensures.within in (
       omega (arith, c.loop-left.invariant.0),
       λ a h.
           let w : IsRunning c.loop-left.self a (c.args.most - c.loop-left.left) = c.loop-left.invariant.1 a h in
