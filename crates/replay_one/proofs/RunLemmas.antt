@@ -27,7 +27,6 @@ use Rattle.law_schedules.specs.Schedules.{IsFilledBy, IsScheduled, RestsIn}
 use Rattle.law_schedules.proofs.LeastLemmas.{least_steps, notes_leave, resters_leave}
 use Rattle.law_schedules.specs.Watches.{IsWatched, IsWatchedAt, Watches}
 use Rattle.law_schedules.proofs.WokenLemmas.{called_are_scheduled}
-use Rattle.serve_rules.specs.Labels.{HaveSame}
 use Rattle.replay_one.specs.declared.bounds.Bounds.{Bounds}
 use Rattle.replay_population.specs.declared.population.Population.{Population}
 use Rattle.replay_one.specs.declared.round.Machine.{Machine}
@@ -209,10 +208,10 @@ module _ (b : Bounds) (program : Tree) (c : Configuration) (n : Name) (p : Popul
       ready_by m = ap (λ r. r m) k.ready
 
   -- a server rests
-  pub serves_round : (mid new : Seen) (labels : List Text) → IsRunWith b p old program c → IsTaken old n mid → IsWatching mid n new → ((l : Text) → asks_in new n l ≡ has_text l labels) → ((a : Activity) → IsAt c n a → HaveSame labels (labels_wanted a))
+  pub serves_round : (mid new : Seen) (labels : List Text) → IsRunWith b p old program c → IsTaken old n mid → IsWatching mid n new → ((l : Text) → asks_in new n l ≡ has_text l labels) → ((a : Activity) → IsAt c n a → labels ≡ labels_wanted a)
       → RestsIn (lists_within b) (count_within b) c n → status_of c n ≡ Serving → IsRunWith b p new program c
   serves_round mid new labels h t k asks wanted rests st = quiet_round mid new h t k rests (ap is_awaiting st) (record {
-    serving = λ a l is below s has. asks l ∙ wanted a is l ∙ has;
+    serving = λ a l is below s has. asks l ∙ ap (has_text l) (wanted a is) ∙ has;
     sending = λ a e x is below intends sent. none_true (ap is_running (sym st ∙ ap status_of_intent intends));
   })
 

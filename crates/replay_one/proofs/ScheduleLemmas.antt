@@ -9,11 +9,12 @@ use Rattle.std.specs.BTreeMap.{BTreeMap, is_at}
 use Rattle.std.specs.Ordering.{is_eq}
 use Rattle.std.specs.declared.cmp.Ordering.{Ordering}
 use Rattle.asp_model.specs.declared.name.FutureName.{FutureName}
+use Rattle.asp_model.specs.declared.services.Labels.{Labels}
 use Rattle.asp_model.specs.contracts.name.FutureNameOrd.TheImpl as ordering
 use Rattle.asp_model.specs.Names.{Name, FutureShape, Text}
 use Rattle.asp_model.specs.Term.{has_text}
 use Rattle.asp_model.specs.Order.{same_future_same}
-use Rattle.asp_model.specs.Shapes.{future_shape}
+use Rattle.asp_model.specs.Shapes.{future_shape, labels_shape}
 use Rattle.def_journals.specs.Journals.{number_of}
 use Rattle.law_chases.proofs.FutureLemmas.{true_false}
 use Rattle.replay_one.specs.declared.schedule.Schedule.{Schedule}
@@ -200,7 +201,7 @@ watching ns old new n k w has h = record {
 pub watch_ready : (old new : Schedule) (k : ℕ) (w : Watch) → IsWatch old k w new → new.ready ≡ old.ready
 watch_ready old new k w h = ap (λ (s : Schedule). s.ready) h.same
 
-pub serves_now : (ns : List Name) (old new : Schedule) (n : Name) (k : ℕ) (labels : List Text) (l : Text) → number_of n ns ≡ Some k → IsWatch old k (watch.Asks labels) new → asks_in (seen ns new) n l ≡ has_text l labels
+pub serves_now : (ns : List Name) (old new : Schedule) (n : Name) (k : ℕ) (labels : Labels) (l : Text) → number_of n ns ≡ Some k → IsWatch old k (watch.Asks labels) new → asks_in (seen ns new) n l ≡ has_text l (labels_shape labels)
 serves_now ns old new n k labels l has h = told_at (number_of n ns) k (λ j. asks_at new.watches.items j l) has ∙ ap (is_asked l) h.here
 
 pub holds_now : (ns : List Name) (old new : Schedule) (n m : Name) (k to : ℕ) → number_of n ns ≡ Some k → number_of m ns ≡ Some to → IsWatch old k (watch.Holds to) new → sends_in (seen ns new) n m ≡ true

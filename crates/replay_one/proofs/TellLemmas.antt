@@ -1,18 +1,16 @@
 -- What a listener is told of a step, and of where the activities stand.
-use Rattle.std.proofs.Common.{◌≡◌, ◌<◌, ◌||◌, ◌+◌, ◌++◌, ◌∷◌, [], ℕ, true, false, List, Option, Some, None, get_or, map, drop, length, slice_get, slice_index_or, take, refl, sym, ap, subst, ◌∙◌}
+use Rattle.std.proofs.Common.{◌≡◌, ◌<◌, ◌+◌, ◌++◌, ◌∷◌, [], ℕ, true, false, List, Option, Some, None, get_or, map, drop, length, slice_get, slice_index_or, take, refl, sym, ap, subst, ◌∙◌}
 use Rattle.std.proofs.lemmas.List.{append_assoc, append-nil, drop-map, map-append, take_more}
 use Rattle.std.proofs.lemmas.Option.{slice_get-get_or, slice_get_within}
 use Rattle.std.specs.FinMap.{find}
-use Rattle.std.proofs.lemmas.Slice.Eq.{bytes_eq-Decides}
-use Rattle.asp_model.specs.Names.{Name, Text, name_cmp, same_text}
-use Rattle.asp_model.specs.Term.{has_text}
+use Rattle.asp_model.specs.Names.{Name, Text, name_cmp}
 use Rattle.asp_model.specs.Configuration.{Activity, Configuration}
 use Rattle.asp_model.specs.declared.outcome.Line.{Line}
 use Rattle.asp_model.specs.Intent.{Acts, Effect, StatusShape}
 use Rattle.asp_model.specs.Shapes.{line_shape}
 use Rattle.asp_model.specs.Status.{status_of}
 use Rattle.def_journals.specs.Journals.{number_of}
-use Rattle.law_chases.proofs.FutureLemmas.{some_is, true_false}
+use Rattle.law_chases.proofs.FutureLemmas.{some_is}
 use Rattle.law_chases.proofs.MapLemmas.{find_same}
 use Rattle.law_steps.proofs.NameLemmas.{name_same, name_total}
 use Rattle.step_activity.specs.declared.act.Given.{Given}
@@ -22,18 +20,8 @@ use Rattle.replay_population.specs.Population.{IsPopulation, with_activity, with
 use Rattle.replay_population.proofs.PopulationLemmas.{absent_nowhere}
 use Rattle.replay_population.proofs.RosterLemmas.{number_named}
 use Rattle.law_steps.specs.Waking.{labels_wanted}
-use Rattle.serve_rules.specs.Labels.{HaveSame}
-use Rattle.replay_one.specs.Notes.{NoteShape, HasNames, Printed, Served, faulted_by, given_by, has_some, noted_as, notes_of, place_of, places_by, places_in, printed_by, served_by, standing}
-
-text_tied : (l : Text) → same_text l l ≡ true
-text_tied l = (bytes_eq-Decides l l).1 refl
-
--- sets with the same labels both have some, or none
-pub same_some : (xs ys : List Text) → HaveSame xs ys → has_some xs ≡ has_some ys
-same_some [] [] h = refl
-same_some [] (y ∷ ys) h = absurd (true_false (has_text y (y ∷ ys)) (ap (λ b. b || has_text y ys) (text_tied y)) (sym (h y)))
-same_some (x ∷ xs) [] h = absurd (true_false (has_text x (x ∷ xs)) (ap (λ b. b || has_text x xs) (text_tied x)) (h x))
-same_some (x ∷ xs) (y ∷ ys) h = refl
+use Rattle.serve_rules.specs.Labels.{has_some}
+use Rattle.replay_one.specs.Notes.{NoteShape, HasNames, Printed, Served, faulted_by, given_by, noted_as, notes_of, place_of, places_by, places_in, printed_by, served_by, standing}
 
 -- no service
 pub none_served : (ls : List Text) → has_some ls ≡ false → served_by ls ≡ []
@@ -67,19 +55,23 @@ told_place tells xs c n a s is same t =
     let ps = places_by n a (labels_wanted a) in
     subst tells (append_assoc xs ps (faulted_by n a s) ∙ (λ i. xs ++ (ps ++ faulted_by n a (same i))) ∙ ap (λ ys. xs ++ ys) (sym (place_at c n a is))) t
 
--- a service, then what is given, and then what is printed
+-- what is given, and then what is printed
+pub told_given : (tells : List NoteShape → Type 0) (xs : List NoteShape) (n : Name) (a : Activity) (e : Effect)
+    → tells ((xs ++ map (noted_as n a.reductions) (given_by e)) ++ map (noted_as n a.reductions) (printed_by a e.own)) → tells (xs ++ map (noted_as n a.reductions) (given_by e ++ printed_by a e.own))
+told_given tells xs n a e t =
+    let f = noted_as n a.reductions in
+    let g = given_by e in
+    let p = printed_by a e.own in
+    subst tells (append_assoc xs (map f g) (map f p) ∙ ap (λ ys. xs ++ ys) (sym (map-append f g p))) t
+
+-- a service, and then the others
 pub told_step : (tells : List NoteShape → Type 0) (xs : List NoteShape) (n : Name) (a : Activity) (e : Effect)
-    → tells (((xs ++ map (noted_as n a.reductions) (served_by (labels_wanted a))) ++ map (noted_as n a.reductions) (given_by e)) ++ map (noted_as n a.reductions) (printed_by a e.own)) → tells (xs ++ notes_of n a (Acts e))
+    → tells ((xs ++ map (noted_as n a.reductions) (served_by (labels_wanted a))) ++ map (noted_as n a.reductions) (given_by e ++ printed_by a e.own)) → tells (xs ++ notes_of n a (Acts e))
 told_step tells xs n a e t =
     let f = noted_as n a.reductions in
     let s = served_by (labels_wanted a) in
-    let g = given_by e in
-    let p = printed_by a e.own in
-    subst tells
-    (append_assoc (xs ++ map f s) (map f g) (map f p)
-    ∙ append_assoc xs (map f s) (map f g ++ map f p)
-    ∙ ap (λ ys. xs ++ (map f s ++ ys)) (sym (map-append f g p))
-    ∙ ap (λ ys. xs ++ ys) (sym (map-append f s (g ++ p)))) t
+    let others = given_by e ++ printed_by a e.own in
+    subst tells (append_assoc xs (map f s) (map f others) ∙ ap (λ ys. xs ++ ys) (sym (map-append f s others))) t
 
 -- the lines behind those that an activity had
 pub lines_behind : (ls all : List Line) (k : ℕ) (a b : Activity) → ls ≡ drop k all → k ≡ length a.lines → map line_shape all ≡ b.lines → map Printed (map line_shape ls) ≡ printed_by a b

@@ -4,8 +4,8 @@ use Rattle.asp_model.specs.Names.{Name}
 use Rattle.asp_model.specs.Contraction.{LineShape}
 use Rattle.asp_model.specs.Configuration.{Activity, Configuration}
 use Rattle.asp_model.specs.Shapes.{fault_shape, future_shape, line_shape}
-use Rattle.law_steps.specs.Waking.{labels_wanted}
 use Rattle.serve_rules.specs.Labels.{HaveSame}
+use Rattle.serve_rules.specs.Wanted.{wanted_labels}
 use Rattle.replay_one.specs.declared.notes.Event.{Event}
 use Rattle.replay_one.specs.declared.notes.Event.TheVariants as event
 use Rattle.replay_one.specs.declared.notes.Note.{Note}
@@ -14,14 +14,14 @@ use Rattle.replay_one.specs.Notes.{EventShape, HasNames, NoteShape, noted_as, pl
 
 -- an event is told; its labels as a set
 abbrev pub IsEvent : Event → EventShape → Type 0
-IsEvent (event.Served labels) (Served ls) = HaveSame labels.now ls
+IsEvent (event.Served wanted) (Served ls) = HaveSame (wanted_labels wanted) ls
 IsEvent (event.Made made) (Made n) = made.now ≡ n
 IsEvent (event.Sent to label future) (Sent n l f) =
     (to.now ≡ n) × (label.now.text ≡ l) × (future_shape future.now ≡ f)
 IsEvent (event.Answered future) (Answered f) = future_shape future.now ≡ f
 IsEvent event.Polled Polled = Unit {0}
 IsEvent (event.Printed line) (Printed l) = line_shape line.now ≡ l
-IsEvent (event.Standing labels) (Standing ls) = HaveSame labels.now ls
+IsEvent (event.Standing wanted) (Standing ls) = HaveSame (wanted_labels wanted) ls
 IsEvent (event.Faulted fault) (Faulted f) = fault_shape fault ≡ f
 IsEvent e x = ⊥
 
@@ -34,7 +34,6 @@ pub record IsNote (told : Note) (x : NoteShape) : Type 0 where
 -- what is known of an activity before its step
 pub record IsBefore (b : Known) (a : Activity) : Type 0 where
   pub count : b.count ≡ a.reductions
-  pub wanted : HaveSame b.wanted (labels_wanted a)
   pub lines : b.lines ≡ length a.lines
 
 -- a listener that does not listen tells of anything

@@ -1,5 +1,5 @@
 -- What a run notes: what its steps ask of others and give to them, in the order of the steps.
-use Rattle.std.specs.Prelude.{◌≡◌, ℕ, zero, suc, nat_lt, Bool, true, false, List, [], ◌∷◌, ◌++◌, Option, Some, None, map, slice_get, length, drop}
+use Rattle.std.specs.Prelude.{◌≡◌, ℕ, zero, suc, nat_lt, true, false, List, [], ◌∷◌, ◌++◌, Option, Some, None, map, slice_get, length, drop}
 use Rattle.std.specs.FinMap.{find}
 use Rattle.asp_model.specs.Names.{Name, FutureShape, Text, name_cmp}
 use Rattle.asp_model.specs.Term.{Tree}
@@ -37,11 +37,6 @@ pub record NoteShape : Type 0 where
   pub event : EventShape
 
 -- One step
-
--- labels are asked for
-abbrev pub has_some : List Text → Bool
-has_some [] = false
-has_some (l ∷ ls) = true
 
 -- a service, where labels are asked for
 abbrev pub served_by : List Text → List EventShape

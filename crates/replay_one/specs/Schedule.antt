@@ -7,7 +7,7 @@ use Rattle.std.specs.Ordering.{is_lt}
 use Rattle.asp_model.specs.declared.name.FutureName.{FutureName}
 use Rattle.asp_model.specs.Names.{Name, FutureShape, Text, name_cmp, same_future}
 use Rattle.asp_model.specs.Term.{has_text}
-use Rattle.asp_model.specs.Shapes.{future_shape}
+use Rattle.asp_model.specs.Shapes.{future_shape, labels_shape}
 use Rattle.def_journals.specs.Journals.{number_of}
 use Rattle.law_schedules.specs.Watches.{Watches}
 use Rattle.replay_one.specs.declared.schedule.Watch.{Watch}
@@ -36,7 +36,7 @@ noted_at es f k = is_numbered_in k (numbers_at es f)
 abbrev pub is_asked : Text → Option Watch → Bool
 is_asked l None = false
 is_asked l (Some watch.Nothing) = false
-is_asked l (Some (watch.Asks labels)) = has_text l labels
+is_asked l (Some (watch.Asks labels)) = has_text l (labels_shape labels)
 is_asked l (Some (watch.Holds to)) = false
 
 abbrev pub asks_at : List Watch → ℕ → Text → Bool

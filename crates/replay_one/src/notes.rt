@@ -5,14 +5,14 @@ ghost use Rattle.replay_one.specs.Listening.{IsDeaf, IsDeafToLines, IsNote};
 ghost use Rattle.replay_one.specs.Notes.{NoteShape};
 
 use asp_model::{ActivityName, Fault, FutureName, Label, Line};
-use serve_rules::LabelSet;
+use serve_rules::Wanted;
 use std::alloc::AllocError;
 
 /// What an activity does that others see.
 #[derive(Clone, Copy)]
 pub enum Event<'a> {
     /// It serves a request that has one of these labels.
-    Served(&'a LabelSet),
+    Served(Wanted<'a>),
     Made(&'a ActivityName),
     /// A request with this label and this future comes to the activity of this name.
     Sent(&'a ActivityName, &'a Label, &'a FutureName),
@@ -22,7 +22,7 @@ pub enum Event<'a> {
     Polled,
     Printed(&'a Line),
     /// It stands at a `serve` with these labels when the run is over.
-    Standing(&'a LabelSet),
+    Standing(Wanted<'a>),
     /// It stands at this fault when the run is over.
     Faulted(Fault),
 }

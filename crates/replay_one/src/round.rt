@@ -233,8 +233,8 @@ impl Machine {
                 Ok(false)
             }
             Look::Serves => {
-                let wanted = self.population.wanted(alloc, number)?;
-                self.schedule.serve(number, wanted)?;
+                let wanted = self.population.wanted(number)?;
+                self.schedule.serve(alloc, number, wanted)?;
                 Ok(false)
             }
             Look::Holds(to) => {
@@ -242,7 +242,7 @@ impl Machine {
                 Ok(false)
             }
             Look::Steps(target) => {
-                let known = before(alloc, &self.population, number, notes)?;
+                let known = before(&self.population, number, notes)?;
                 let given = self.population.act(alloc, number)?;
                 tell(&self.population, number, known, &given, notes)?;
                 self.give(alloc, bounds, number, target, given)?;

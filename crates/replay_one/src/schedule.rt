@@ -17,6 +17,7 @@ ghost use Rattle.asp_model.specs.Shapes.{future_shape};
 ghost use Rattle.asp_model.specs.Term.{has_text};
 ghost use Rattle.def_journals.specs.Journals.{number_of};
 ghost use Rattle.replay_population.specs.Roster.{IsRoster};
+ghost use Rattle.serve_rules.specs.Wanted.{wanted_labels};
 ghost use Rattle.replay_one.specs.Ready.{Ascend};
 ghost use Rattle.replay_one.specs.Schedule.{
   HasPlace,
@@ -37,9 +38,9 @@ ghost use Rattle.replay_one.specs.Schedule.{
 };
 
 use crate::ready::{Least, Ready};
-use asp_model::{FutureName, Label};
+use asp_model::{FutureName, Label, Labels};
 use replay_population::Roster;
-use serve_rules::LabelSet;
+use serve_rules::Wanted;
 use std::alloc::{AllocError, Global};
 use std::collections::BTreeMap;
 
@@ -48,7 +49,7 @@ use std::collections::BTreeMap;
 pub enum Watch {
     Nothing,
     /// A request with one of these labels.
-    Asks(LabelSet),
+    Asks(Labels),
     /// Its turn in the log of the activity with this number.
     Holds(u32),
 }
@@ -134,13 +135,14 @@ impl Schedule {
     }
 
     /// A server is noted by the labels that it asks for.
-    pub fn serve(&mut self, number: u32, labels: LabelSet) -> Result<(), AllocError>
+    pub fn serve(&mut self, alloc: Global, number: u32, wanted: Wanted) -> Result<(), AllocError>
         ensures watching { (ns : List Name) (n : Name) → number_of n ns ≡ Some number →
             OnOk result (IsWatching (seen ns self.old) n (seen ns self.new)) }
         ensures asks { (ns : List Name) (n : Name) (l : Text) → number_of n ns ≡ Some number →
-            OnOk result (asks_in (seen ns self.new) n l ≡ has_text l labels) }
+            OnOk result (asks_in (seen ns self.new) n l ≡ has_text l (wanted_labels wanted.entry)) }
         ensures ready { OnOk result (self.new.ready ≡ self.old.ready) }
     {
+        let labels = wanted.copy(alloc)?;
         self.watch(number, Watch::Asks(labels))
     }
 
@@ -186,7 +188,7 @@ impl Schedule {
             return false;
         };
         match watch {
-            Watch::Asks(labels) => labels.has(label),
+            Watch::Asks(labels) => Wanted::Labels(&labels.items).has(label),
             Watch::Nothing | Watch::Holds(_) => false,
         }
     }

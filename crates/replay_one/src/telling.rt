@@ -3,33 +3,32 @@
 ghost use Rattle.std.specs.Prelude.{◌≡◌, ◌++◌, IfOk, List, OnOk, Some, drop, map};
 ghost use Rattle.asp_model.specs.Configuration as model;
 ghost use Rattle.asp_model.specs.Configuration.{Configuration};
-ghost use Rattle.asp_model.specs.Intent.{Acts, Effect};
+ghost use Rattle.asp_model.specs.Intent.{Effect};
 ghost use Rattle.asp_model.specs.Names.{Name};
 ghost use Rattle.def_journals.specs.Journals.{number_of};
 ghost use Rattle.law_steps.specs.Reached.{IsAt};
 ghost use Rattle.step_activity.specs.Effects.{IsGiven};
 ghost use Rattle.replay_population.specs.Population.{IsClosedBySome, IsKnown, IsPopulation};
 ghost use Rattle.law_steps.specs.Waking.{labels_wanted};
-ghost use Rattle.serve_rules.specs.Labels.{HaveSame};
+ghost use Rattle.serve_rules.specs.Wanted.{wanted_labels};
 ghost use Rattle.replay_population.specs.Reached.{IsReachedPopulation};
-ghost use Rattle.replay_one.specs.Listening.{AreToldPlaces, IsBefore, IsKnownBefore};
+ghost use Rattle.replay_one.specs.Listening.{AreToldPlaces, IsKnownBefore};
 ghost use Rattle.asp_model.specs.Shapes.{line_shape, status_shape};
-ghost use Rattle.replay_one.specs.Notes.{NoteShape, Printed, faulted_by, given_by, has_some, noted_as, notes_of, place_of, places_by, served_by};
+ghost use Rattle.replay_one.specs.Notes.{NoteShape, Printed, faulted_by, given_by, noted_as, place_of, places_by, printed_by, served_by};
 ghost use Rattle.asp_model.specs.Term.{Tree};
 
 use crate::notes::{Event, Note, Notes};
 use asp_model::{ActivityName, Line, Status};
 use replay_population::Population;
-use serve_rules::LabelSet;
+use serve_rules::Wanted;
 use std::alloc::{AllocError, Global};
 use step_activity::Given;
 
-/// What is known of an activity before it takes its step: how many reductions it took, which labels
-/// it asks for, and how many lines it printed.
-#[derive(Drop)]
+/// What is known of an activity before it takes its step: how many reductions it took, and how many
+/// lines it printed.
+#[derive(Clone, Copy)]
 pub struct Known {
     pub count: u64,
-    pub wanted: LabelSet,
     pub lines: usize,
 }
 
@@ -45,56 +44,54 @@ fn lines_of(population: &Population, number: u32) -> &[Line]
     }
 }
 
-/// What is known of an activity before its step, where somebody listens.
+/// What is known of an activity before its step, where somebody listens. It is told of the service
+/// that the step begins.
 pub fn before<N: Notes>(
-    alloc: Global,
     population: &Population,
     number: u32,
-    notes: &N,
+    notes: &mut N,
 ) -> Result<Option<Known>, AllocError>
     requires closed { IsClosedBySome population.now }
     requires known { IsKnown population.now number }
     ensures known { (c : Configuration) (a : model.Activity) (n : Name) →
         IsPopulation population.now c → number_of n population.now.roster ≡ Some number →
-        IsAt c n a → IfOk result (IsKnownBefore (N.tells notes.now) a) }
+        IsAt c n a → IfOk result (IsKnownBefore (N.tells notes.new) a) }
+    ensures told { (xs : List NoteShape) (c : Configuration) (a : model.Activity) (n : Name) →
+        N.tells notes.old xs → IsPopulation population.now c →
+        number_of n population.now.roster ≡ Some number → IsAt c n a →
+        let events = served_by (labels_wanted a) in
+        OnOk result (N.tells notes.new (xs ++ map (noted_as n a.reductions) events)) }
 {
     if !notes.listens() {
         return Ok(None);
     }
     let count = population.count(number);
-    let wanted = population.wanted(alloc, number)?;
     let lines = lines_of(population, number).len();
-    Ok(Some(Known {
-        count,
-        wanted,
-        lines,
-    }))
+    let wanted = population.wanted(number)?;
+    let by = population.roster.name(number);
+    tell_service(by, count, wanted, notes)?;
+    Ok(Some(Known { count, lines }))
 }
 
-/// Whether it asks for labels.
-fn asks(wanted: &LabelSet) -> bool
-    ensures asks { result ≡ has_some wanted.now }
-{
-    !wanted.labels().is_empty()
-}
-
-/// It is told of a service, where labels were asked for.
+/// It is told of a service, where labels are asked for.
 fn tell_service<N: Notes>(
     by: &ActivityName,
-    before: &Known,
+    count: u64,
+    wanted: Wanted,
     notes: &mut N,
 ) -> Result<(), AllocError>
     ensures told { (xs : List NoteShape) (a : model.Activity) → N.tells notes.old xs →
-        IsBefore before.now a → let events = served_by (labels_wanted a) in
+        count ≡ a.reductions → wanted_labels wanted.entry ≡ labels_wanted a →
+        let events = served_by (labels_wanted a) in
         OnOk result (N.tells notes.new (xs ++ map (noted_as by.now a.reductions) events)) }
 {
-    if !asks(&before.wanted) {
+    if !wanted.asks() {
         return Ok(());
     }
     notes.note(Note {
         by,
-        count: before.count,
-        event: Event::Served(&before.wanted),
+        count,
+        event: Event::Served(wanted),
     })
 }
 
@@ -154,7 +151,8 @@ fn tell_lines<N: Notes>(
     Ok(())
 }
 
-/// It is told of a step that the activity of a number took, where somebody listens.
+/// It is told of what a step of the activity of a number gave to others and printed, where somebody
+/// listens.
 pub fn tell<N: Notes>(
     population: &Population,
     number: u32,
@@ -167,13 +165,13 @@ pub fn tell<N: Notes>(
         (e : Effect) → N.tells notes.old xs → IsKnownBefore (N.tells notes.old) a before →
         IsPopulation population.now c → number_of n population.now.roster ≡ Some number →
         IsAt c n e.own → IsGiven n e given.now →
-        OnOk result (N.tells notes.new (xs ++ notes_of n a (Acts e))) }
+        let events = given_by e ++ printed_by a e.own in
+        OnOk result (N.tells notes.new (xs ++ map (noted_as n a.reductions) events)) }
 {
     let Some(before) = before else {
         return Ok(());
     };
     let by = population.roster.name(number);
-    tell_service(by, &before, notes)?;
     tell_given(by, before.count, given, notes)?;
     let lines = behind(lines_of(population, number), before.lines);
     tell_lines(by, before.count, lines, notes)
@@ -183,14 +181,14 @@ pub fn tell<N: Notes>(
 fn tell_serve<N: Notes>(
     by: &ActivityName,
     count: u64,
-    wanted: &LabelSet,
+    wanted: Wanted,
     notes: &mut N,
 ) -> Result<(), AllocError>
     ensures told { (xs : List NoteShape) (a : model.Activity) → N.tells notes.old xs →
-        count ≡ a.reductions → HaveSame wanted.now (labels_wanted a) →
+        count ≡ a.reductions → wanted_labels wanted.entry ≡ labels_wanted a →
         OnOk result (N.tells notes.new (xs ++ places_by by.now a (labels_wanted a))) }
 {
-    if !asks(wanted) {
+    if !wanted.asks() {
         return Ok(());
     }
     notes.note(Note {
@@ -243,10 +241,10 @@ fn tell_place<N: Notes>(
     };
     population.settle(number)?;
     let count = population.count(number);
-    let wanted = population.wanted(alloc, number)?;
+    let wanted = population.wanted(number)?;
     let status = population.status(alloc, number)?;
     let by = population.roster.name(number);
-    tell_serve(by, count, &wanted, notes)?;
+    tell_serve(by, count, wanted, notes)?;
     tell_fault(by, count, &status, notes)
 }
 

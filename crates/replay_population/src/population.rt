@@ -16,7 +16,7 @@ ghost use Rattle.request_queue.specs.Requests.{request_shape};
 ghost use Rattle.future_table.specs.Values.{values_of};
 ghost use Rattle.law_steps.specs.Reached.{IsAt, IsThere};
 ghost use Rattle.law_steps.specs.Waking.{labels_wanted};
-ghost use Rattle.serve_rules.specs.Labels.{HaveSame};
+ghost use Rattle.serve_rules.specs.Wanted.{wanted_labels};
 ghost use Rattle.step_activity.specs.Actors.{Stands, code_of, log_in};
 ghost use Rattle.step_activity.specs.Effects.{IsGiven};
 ghost use Rattle.replay_population.specs.Roster.{IsEntered, IsRoster};
@@ -27,7 +27,7 @@ use asp_model::ActivityName;
 use code_table::{Code, Future, Parcel};
 use future_table::FutureTable;
 use request_queue::Request;
-use serve_rules::LabelSet;
+use serve_rules::Wanted;
 use std::alloc::{AllocError, Global};
 use std::collections::BTreeMap;
 use std::mem;
@@ -202,17 +202,17 @@ impl Population {
         }
     }
 
-    /// The labels that an activity asks for where it stands.
-    pub fn wanted(&self, alloc: Global, number: u32) -> Result<LabelSet, AllocError>
+    /// The labels that an activity asks for where it stands, which has settled.
+    pub fn wanted(&self, number: u32) -> Result<Wanted<'_>, AllocError>
         requires closed { IsClosedBySome self.now }
         requires known { IsKnown self.now number }
         ensures wanted { (c : Configuration) (a : model.Activity) (n : Name) →
             IsPopulation self.now c → number_of n self.now.roster ≡ Some number → IsAt c n a →
-            IfOk result (λ s. HaveSame s (labels_wanted a)) }
+            IfOk result (λ w. wanted_labels w ≡ labels_wanted a) }
     {
         match self.get(number) {
-            Some(actor) => actor.wanted(alloc),
-            None => LabelSet::of_labels(alloc, &[]),
+            Some(actor) => actor.wanted(),
+            None => Ok(Wanted::Labels(&[])),
         }
     }
 

@@ -20,6 +20,8 @@ use Rattle.asp_model.specs.Names.{FutureShape, Name, Text, same_name}
 use Rattle.asp_model.specs.declared.word.Label.{Label}
 use Rattle.law_steps.proofs.NameLemmas.{name_case, name_itself, names_apart, names_tied}
 use Rattle.serve_rules.specs.Labels.{HaveSame}
+use Rattle.serve_rules.specs.Wanted.{wanted_labels}
+use Rattle.serve_rules.specs.declared.wanted.Wanted.{Wanted}
 use Rattle.replay_one.specs.Notes.{EventShape, NoteShape, Served, Made, Sent, Answered, Polled, Printed, Standing, Faulted}
 use Rattle.replay_one.specs.declared.notes.Event.TheVariants as event
 use Rattle.replay_one.specs.declared.notes.Note.{Note}
@@ -205,27 +207,27 @@ module _ (old new : Listener) (xs : List NoteShape) (x : NoteShape) where
   sent_as by to label f is (Printed z) at h change told = absurd h
   sent_as by to label f is (Faulted z) at h change told = absurd h
 
-  served_as : (by : Name) (labels : Bor (List Text)) → by ≡ x.by → (e : EventShape) → x.event ≡ e → IsEvent (event.Served labels) e → ChangesAt by (IsWithSet labels.now) old new → Tells old xs → Tells new (xs ++ x ∷ [])
-  served_as by labels is (Served ls) at h change told = about (Served ls) at
-      (asked_told old new xs x.by x.count (Served ls) labels.now ls (record { asks = refl; came = λ n. refl; quiet = refl }) h (subst (λ z. ChangesAt z (IsWithSet labels.now) old new) is change) told)
-  served_as by labels is (Sent t l g) at h change told = absurd h
-  served_as by labels is (Made n) at h change told = absurd h
-  served_as by labels is (Answered g) at h change told = absurd h
-  served_as by labels is Polled at h change told = absurd h
-  served_as by labels is (Standing ls) at h change told = absurd h
-  served_as by labels is (Printed z) at h change told = absurd h
-  served_as by labels is (Faulted z) at h change told = absurd h
+  served_as : (by : Name) (wanted : Wanted) → by ≡ x.by → (e : EventShape) → x.event ≡ e → IsEvent (event.Served wanted) e → ChangesAt by (IsWithSet (wanted_labels wanted)) old new → Tells old xs → Tells new (xs ++ x ∷ [])
+  served_as by wanted is (Served ls) at h change told = about (Served ls) at
+      (asked_told old new xs x.by x.count (Served ls) (wanted_labels wanted) ls (record { asks = refl; came = λ n. refl; quiet = refl }) h (subst (λ z. ChangesAt z (IsWithSet (wanted_labels wanted)) old new) is change) told)
+  served_as by wanted is (Sent t l g) at h change told = absurd h
+  served_as by wanted is (Made n) at h change told = absurd h
+  served_as by wanted is (Answered g) at h change told = absurd h
+  served_as by wanted is Polled at h change told = absurd h
+  served_as by wanted is (Standing ls) at h change told = absurd h
+  served_as by wanted is (Printed z) at h change told = absurd h
+  served_as by wanted is (Faulted z) at h change told = absurd h
 
-  standing_as : (by : Name) (labels : Bor (List Text)) → by ≡ x.by → (e : EventShape) → x.event ≡ e → IsEvent (event.Standing labels) e → ChangesAt by (IsWithSet labels.now) old new → Tells old xs → Tells new (xs ++ x ∷ [])
-  standing_as by labels is (Standing ls) at h change told = about (Standing ls) at
-      (asked_told old new xs x.by x.count (Standing ls) labels.now ls (record { asks = refl; came = λ n. refl; quiet = refl }) h (subst (λ z. ChangesAt z (IsWithSet labels.now) old new) is change) told)
-  standing_as by labels is (Sent t l g) at h change told = absurd h
-  standing_as by labels is (Made n) at h change told = absurd h
-  standing_as by labels is (Answered g) at h change told = absurd h
-  standing_as by labels is Polled at h change told = absurd h
-  standing_as by labels is (Served ls) at h change told = absurd h
-  standing_as by labels is (Printed z) at h change told = absurd h
-  standing_as by labels is (Faulted z) at h change told = absurd h
+  standing_as : (by : Name) (wanted : Wanted) → by ≡ x.by → (e : EventShape) → x.event ≡ e → IsEvent (event.Standing wanted) e → ChangesAt by (IsWithSet (wanted_labels wanted)) old new → Tells old xs → Tells new (xs ++ x ∷ [])
+  standing_as by wanted is (Standing ls) at h change told = about (Standing ls) at
+      (asked_told old new xs x.by x.count (Standing ls) (wanted_labels wanted) ls (record { asks = refl; came = λ n. refl; quiet = refl }) h (subst (λ z. ChangesAt z (IsWithSet (wanted_labels wanted)) old new) is change) told)
+  standing_as by wanted is (Sent t l g) at h change told = absurd h
+  standing_as by wanted is (Made n) at h change told = absurd h
+  standing_as by wanted is (Answered g) at h change told = absurd h
+  standing_as by wanted is Polled at h change told = absurd h
+  standing_as by wanted is (Served ls) at h change told = absurd h
+  standing_as by wanted is (Printed z) at h change told = absurd h
+  standing_as by wanted is (Faulted z) at h change told = absurd h
 
   polled_as : (by : Name) → by ≡ x.by → (e : EventShape) → x.event ≡ e → IsEvent event.Polled e → ChangesAt by (λ h g. g ≡ with_poll h) old new → Tells old xs → Tells new (xs ++ x ∷ [])
   polled_as by is Polled at h change told = about Polled at (polled_told old new xs x.by x.count (subst (λ z. ChangesAt z (λ h g. g ≡ with_poll h) old new) is change) told)
@@ -242,11 +244,11 @@ module _ (old new : Listener) (xs : List NoteShape) (x : NoteShape) (told : Note
       → ChangesAt to.now (λ h g. g ≡ with_arrival (arrived told.by.now label.now.text) h) old new → Tells old xs → Tells new (xs ++ x ∷ [])
   noted_sent to label f is change tells = sent_as old new xs x told.by.now to label f n.by x.event refl (subst (λ e. IsEvent e x.event) is n.event) change tells
 
-  pub noted_served : (labels : Bor (List Text)) → told.event ≡ event.Served labels → ChangesAt told.by.now (IsWithSet labels.now) old new → Tells old xs → Tells new (xs ++ x ∷ [])
-  noted_served labels is change tells = served_as old new xs x told.by.now labels n.by x.event refl (subst (λ e. IsEvent e x.event) is n.event) change tells
+  pub noted_served : (wanted : Wanted) → told.event ≡ event.Served wanted → ChangesAt told.by.now (IsWithSet (wanted_labels wanted)) old new → Tells old xs → Tells new (xs ++ x ∷ [])
+  noted_served wanted is change tells = served_as old new xs x told.by.now wanted n.by x.event refl (subst (λ e. IsEvent e x.event) is n.event) change tells
 
-  pub noted_standing : (labels : Bor (List Text)) → told.event ≡ event.Standing labels → ChangesAt told.by.now (IsWithSet labels.now) old new → Tells old xs → Tells new (xs ++ x ∷ [])
-  noted_standing labels is change tells = standing_as old new xs x told.by.now labels n.by x.event refl (subst (λ e. IsEvent e x.event) is n.event) change tells
+  pub noted_standing : (wanted : Wanted) → told.event ≡ event.Standing wanted → ChangesAt told.by.now (IsWithSet (wanted_labels wanted)) old new → Tells old xs → Tells new (xs ++ x ∷ [])
+  noted_standing wanted is change tells = standing_as old new xs x told.by.now wanted n.by x.event refl (subst (λ e. IsEvent e x.event) is n.event) change tells
 
   pub noted_polled : told.event ≡ event.Polled → ChangesAt told.by.now (λ h g. g ≡ with_poll h) old new → Tells old xs → Tells new (xs ++ x ∷ [])
   noted_polled is change tells = polled_as old new xs x told.by.now n.by x.event refl (subst (λ e. IsEvent e x.event) is n.event) change tells

@@ -1,17 +1,17 @@
 //! What is kept of one activity.
 
-ghost use Rattle.std.specs.Prelude.{◌≡◌, IfOk, List, OnOk, IsTrue, map};
+ghost use Rattle.std.specs.Prelude.{◌≡◌, OnOk, IsTrue, map};
 ghost use Rattle.std.specs.List.{Contains};
 ghost use Rattle.asp_model.specs.Shapes.{arrival_shape, labels_shape, service_entry_shape};
-ghost use Rattle.serve_rules.specs.Labels.{label_text};
+ghost use Rattle.serve_rules.specs.Wanted.{wanted_labels};
 ghost use Rattle.replay_services.specs.Listeners.{IsWithSet, entry_of, heard_shape, nothing, with_arrival, with_poll};
 
-use asp_model::{ActivityName, Arrival, Arrivals, Label, LabelLists, Labels, ServiceEntry};
-use serve_rules::LabelSet;
+use asp_model::{ActivityName, Arrival, Arrivals, LabelLists, Labels, ServiceEntry};
+use serve_rules::Wanted;
 use std::alloc::{AllocError, Global};
 
-/// The requests that came to an activity, the labels of its services, each set once, and whether it
-/// polled.
+/// The requests that came to an activity, the labels of its services, each list of them once, and
+/// whether it polled.
 #[derive(Drop)]
 pub struct Heard {
     pub arrivals: Vec<Arrival>,
@@ -62,48 +62,25 @@ impl Heard {
     }
 
     /// It stood at a `serve` with these labels.
-    pub fn add_set(&mut self, alloc: Global, labels: &LabelSet) -> Result<(), AllocError>
-        ensures { OnOk result (IsWithSet labels.now (heard_shape self.old) (heard_shape self.new)) }
+    pub fn add_set(&mut self, alloc: Global, wanted: Wanted) -> Result<(), AllocError>
+        ensures { let ls = wanted_labels wanted.entry in
+            OnOk result (IsWithSet ls (heard_shape self.old) (heard_shape self.new)) }
     {
-        if !has_set(&self.sets, labels) {
-            self.sets.push(copy_set(alloc, labels)?)?;
+        if !has_set(&self.sets, wanted) {
+            self.sets.push(wanted.copy(alloc)?)?;
         }
         Ok(())
     }
 }
 
-// One of the sets has these labels.
-fn has_set(sets: &[Labels], labels: &LabelSet) -> bool
-    ensures { IsTrue result → Contains (map labels_shape sets.now) labels.now }
+// One of the sets has these labels, in their order.
+fn has_set(sets: &[Labels], wanted: Wanted) -> bool
+    ensures { IsTrue result → Contains (map labels_shape sets.now) (wanted_labels wanted.entry) }
 {
     for set in sets {
-        if is_set(&set.items, labels) {
+        if wanted.are(set) {
             return true;
         }
     }
     false
-}
-
-// The labels are these, in order.
-fn is_set(items: &[Label], labels: &LabelSet) -> bool
-    ensures { IsTrue result → map label_text items.now ≡ labels.now }
-{
-    let mut place = 0;
-    for label in labels.labels() {
-        if place >= items.len() || items[place] != *label {
-            return false;
-        }
-        place += 1;
-    }
-    place == items.len()
-}
-
-fn copy_set(alloc: Global, labels: &LabelSet) -> Result<Labels, AllocError>
-    ensures { IfOk result (λ s. labels_shape s ≡ labels.now) }
-{
-    let mut items = Vec::with_capacity(alloc, labels.labels().len())?;
-    for label in labels.labels() {
-        items.push(label.copy(alloc)?)?;
-    }
-    Ok(Labels { items })
 }

@@ -1,19 +1,20 @@
 //! What is kept of a replay that is listened to.
 
-ghost use Rattle.std.specs.Prelude.{◌≡◌, ◌∷◌, ◌++◌, [], List, IfNone, IfOk, IfSome, IsSome, None, OnOk};
+ghost use Rattle.std.specs.Prelude.{◌≡◌, ◌∷◌, ◌++◌, [], List, IfNone, IfOk, IfSome, IsSome, IsTrue, None, OnOk};
 ghost use Rattle.indexmap.specs.IndexMap.{get, keys};
 ghost use Rattle.std.specs.List.Sorted.{IsSorted};
 ghost use Rattle.asp_model.specs.Names.{Name, name_cmp, same_name};
 ghost use Rattle.asp_model.specs.Shapes.{services_shape};
 ghost use Rattle.law_services.specs.Told.{NamesAscend, entry_at};
 ghost use Rattle.replay_one.specs.Notes.{NoteShape};
+ghost use Rattle.serve_rules.specs.Wanted.{wanted_labels};
 ghost use Rattle.replay_services.specs.Listeners.{ChangesAt, IsKeptAt, IsWithSet, arrived, entry_of, kept_at, kept_in, nothing, with_arrival, with_poll};
 
 use crate::heard::Heard;
 use asp_model::{ActivityName, Arrival, Label, Lists, Services};
 use indexmap::IndexMap;
 use replay_one::{Event, Note, Notes};
-use serve_rules::LabelSet;
+use serve_rules::Wanted;
 use std::alloc::{AllocError, Global};
 
 /// What is kept of each activity, in the order in which they were met.
@@ -21,6 +22,8 @@ use std::alloc::{AllocError, Global};
 pub struct Listener {
     alloc: Global,
     pub heard: IndexMap<ActivityName, Heard>,
+    // The place that was asked for last.
+    last: usize,
 }
 
 /// In the order of the names, as they mostly are.
@@ -60,7 +63,11 @@ impl Listener {
         for list in &lists.entries {
             heard.insert(list.0.copy(alloc)?, Heard::new(alloc))?;
         }
-        Ok(Listener { alloc, heard })
+        Ok(Listener {
+            alloc,
+            heard,
+            last: 0,
+        })
     }
 
     /// What was kept, by the names of the activities.
@@ -70,6 +77,32 @@ impl Listener {
             entry_at (services_shape s) n ≡ entry_of n (kept_at self n)) }
     {
         entries_of(alloc, in_order(self.heard)?)
+    }
+
+    // Whether what is kept at a place is of this activity.
+    fn is_at(&self, place: usize, name: &ActivityName) -> bool
+        ensures { IsTrue result → IsKeptAt self.now name.now place }
+    {
+        match self.heard.get_index(place) {
+            Some((key, _heard)) => key == name,
+            None => false,
+        }
+    }
+
+    // The place that was asked for last, or the one behind it, if that is of this activity: an
+    // activity mostly does several things, and sends to those that were created with it.
+    fn near(&self, name: &ActivityName) -> Option<usize>
+        ensures at { IfSome result (IsKeptAt self.now name.now) }
+    {
+        if self.is_at(self.last, name) {
+            return Some(self.last);
+        }
+        let next = self.last.saturating_add(1);
+        if self.is_at(next, name) {
+            Some(next)
+        } else {
+            None
+        }
     }
 
     // The place of what is kept of this activity, if there is one.
@@ -99,7 +132,12 @@ impl Listener {
         ensures at { IfOk result (IsKeptAt self.new name.now) }
         ensures same { OnOk result ((n : Name) → kept_at self.new n ≡ kept_at self.old n) }
     {
+        if let Some(place) = self.near(name) {
+            self.last = place;
+            return Ok(place);
+        }
         if let Some(place) = self.place_of(name) {
+            self.last = place;
             return Ok(place);
         }
         self.meet(name)?;
@@ -142,12 +180,13 @@ impl Listener {
         }
     }
 
-    fn add_set(&mut self, by: &ActivityName, labels: &LabelSet) -> Result<(), AllocError>
-        ensures { OnOk result (ChangesAt by.now (IsWithSet labels.now) self.old self.new) }
+    fn add_set(&mut self, by: &ActivityName, wanted: Wanted) -> Result<(), AllocError>
+        ensures { let ls = wanted_labels wanted.entry in
+            OnOk result (ChangesAt by.now (IsWithSet ls) self.old self.new) }
     {
         let place = self.know(by)?;
         match self.heard.get_index_mut(place) {
-            Some(heard) => heard.add_set(self.alloc, labels),
+            Some(heard) => heard.add_set(self.alloc, wanted),
             None => unreachable!(),
         }
     }
@@ -170,8 +209,8 @@ impl Notes for Listener {
     fn note(&mut self, note: Note) -> Result<(), AllocError> {
         match note.event {
             Event::Sent(to, label, _) => self.add_arrival(to, note.by, label),
-            Event::Served(labels) => self.add_set(note.by, labels),
-            Event::Standing(labels) => self.add_set(note.by, labels),
+            Event::Served(wanted) => self.add_set(note.by, wanted),
+            Event::Standing(wanted) => self.add_set(note.by, wanted),
             Event::Polled => self.add_poll(note.by),
             Event::Made(_) => Ok(()),
             Event::Answered(_) => Ok(()),

@@ -1,19 +1,16 @@
 -- The least number, label by label.
-use Rattle.std.proofs.Common.{◌≡◌, ◌≤◌, ◌<◌, ◌||◌, ℕ, zero, suc, get_or, is_some, length, Bool, true, false, cond, List, [], ◌∷◌, Option, Some, None, map, nat_lt, refl, sym, ap, subst, ◌∙◌, T, arith, inl, inr, ⊎_elim, ◌⊎◌}
+use Rattle.std.proofs.Common.{◌≡◌, ◌≤◌, ◌<◌, ◌||◌, ℕ, Bool, true, false, cond, List, [], ◌∷◌, Option, Some, None, map, nat_lt, refl, sym, ap, subst, ◌∙◌, T, arith, inl, inr, ⊎_elim, ◌⊎◌}
 use Rattle.std.proofs.lemmas.Bool.Decides.{nat_tests}
-use Rattle.std.specs.List.{AllByRecursion}
 use Rattle.std.specs.Map.{keys_of, lookup}
 use Rattle.std.specs.BTreeMap.{is_at}
 use Rattle.std.specs.BTreeSet.{BTreeSet}
 use Rattle.std.specs.Ordering.{is_eq}
-use Rattle.std.specs.Cmp.Lexicographic.{nat_list_eq_equiv, texts_ties}
+use Rattle.std.specs.Cmp.Lexicographic.{texts_ties}
 use Rattle.asp_model.specs.declared.word.Label.{Label}
 use Rattle.asp_model.specs.Names.{Text, same_text}
 use Rattle.asp_model.specs.Term.{has_text}
 use Rattle.request_queue.specs.declared.notes.Notes.{Notes}
-use Rattle.code_table.specs.Classes.{number_of}
 use Rattle.code_table.specs.declared.code.MethodCode.{MethodCode}
-use Rattle.code_table.proofs.LookupLemmas.{chosen, number_cons}
 use Rattle.serve_rules.specs.Labels.{label_text, method_text}
 use Rattle.request_queue.specs.Notes.{IsAsked, IsOldest, IsOldestWith, IsUpTo, earlier, has_number, is_noted, label_order, or_none}
 use Rattle.request_queue.proofs.NoteLemmas.{label_same}
@@ -61,9 +58,6 @@ tied l m = sym (texts_ties l.text m.text)
 pub text_same : (l m : Label) → same_text l.text m.text ≡ true → l ≡ m
 text_same l m e = label_same l m (tied l m ∙ e)
 
-itself : (l : Label) → same_text l.text l.text ≡ true
-itself l = nat_list_eq_equiv.refl l.text
-
 contradiction : {A : Type 0} (b : Bool) → b ≡ true → b ≡ false → A
 contradiction b p q = absurd (subst T (sym p ∙ q) tt)
 
@@ -104,21 +98,6 @@ all_looked asked w best s = record { found = s.found; least = λ l k a. ⊎_elim
 pub none_looked : (asked : List Text) (w : Notes) (rest : List Label) → ((l : Label) (k : ℕ) → IsAsked asked w l k → has_text l.text (map label_text rest) ≡ true) → SoFar asked w rest None
 none_looked asked w rest left = record { found = λ n e. absurd cc; least = λ l k a. inl (left l k a) }
 
-abbrev pub AreAsked : List Text → List Label → Type 0
-AreAsked asked = AllByRecursion (λ l. has_text l.text asked ≡ true)
-
--- the labels of a list are in it
-pub all_asked : (asked : List Text) (ls : List Label) → ((l : Label) → has_text l.text (map label_text ls) ≡ true → has_text l.text asked ≡ true) → AreAsked asked ls
-all_asked asked [] within = tt
-all_asked asked (l ∷ ls) within = (
-  within l (ap (λ b. b || has_text l.text (map label_text ls)) (itself l)),
-  all_asked asked ls (λ m h. within m (by (same_text m.text l.text) (has_text m.text (map label_text ls)) h)),
-)
-  where
-    by : (b c : Bool) → c ≡ true → (b || c) ≡ true
-    by true c h = refl
-    by false c h = h
-
 -- a label with a number is pending
 pub is_pending : (l : Label) (k : ℕ) (es : List (Label × BTreeSet ℕ)) → has_number k (or_none (lookup (is_at (label_order l)) es)) ≡ true → has_text l.text (map label_text (keys_of es)) ≡ true
 is_pending l k [] h = h
@@ -131,28 +110,9 @@ is_pending l k (e ∷ es) h = by (is_eq (label_order l e.0)) refl h (is_pending 
 
 -- Lists that are looked at in order
 
-pub has_item : {A : Type 0} (name : A → Text) (xs : List A) (i : ℕ) (x : A) → i < length xs → x ≡ get_or xs i x → has_text (name x) (map name xs) ≡ true
-has_item name [] i x lt at = absurd (omega (arith, lt))
-has_item name (y ∷ ys) zero x lt at = ap (λ (z : Text). same_text (name x) z || has_text (name x) (map name ys)) (sym (ap name at)) ∙ ap (λ b. b || has_text (name x) (map name ys)) (nat_list_eq_equiv.refl (name x))
-has_item name (y ∷ ys) (suc i) x lt at = let less : i < length ys = omega (arith, lt) in by (same_text (name x) (name y)) (has_text (name x) (map name ys)) (has_item name ys i x less at)
-  where
-    by : (b c : Bool) → c ≡ true → (b || c) ≡ true
-    by true c h = refl
-    by false c h = h
-
 abbrev pub method_label : MethodCode → Label
 method_label m = m.label
 
 pub method_texts : (ms : List MethodCode) → map label_text (map method_label ms) ≡ map method_text ms
 method_texts [] = refl
 method_texts (m ∷ ms) = ap (λ (ls : List Text). method_text m ∷ ls) (method_texts ms)
-
-number_or : (b : Bool) (o : Option ℕ) → is_some (chosen b o) ≡ (b || is_some o)
-number_or true o = refl
-number_or false None = refl
-number_or false (Some n) = refl
-
--- a text has a number where it is there
-pub number_has : (l : Text) (xs : List Text) → is_some (number_of l xs) ≡ has_text l xs
-number_has l [] = refl
-number_has l (x ∷ xs) = ap is_some (number_cons l x xs) ∙ number_or (same_text l x) (number_of l xs) ∙ ap (λ b. same_text l x || b) (number_has l xs)

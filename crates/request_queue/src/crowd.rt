@@ -14,17 +14,14 @@ ghost use Rattle.std.specs.Prelude.{
   OnOk,
   Some,
   length,
-  map,
 };
 ghost use Rattle.std.specs.Option.{option_map};
-ghost use Rattle.serve_rules.specs.Labels.{class_labels, label_text};
+ghost use Rattle.serve_rules.specs.Wanted.{wanted_labels};
 ghost use Rattle.request_queue.specs.Pending.{but, oldest, request_at, waiting};
 
 use crate::notes::Notes;
 use crate::request::Request;
-use asp_model::Label;
-use code_table::Class;
-use serve_rules::LabelSet;
+use serve_rules::Wanted;
 use std::alloc::{AllocError, Global};
 use std::collections::BTreeMap;
 use std::marker::Model;
@@ -109,29 +106,11 @@ impl Crowd {
 
     /// The number of the oldest request with one of the labels.
     #[inline(never)]
-    pub fn first_of(&self, labels: &LabelSet) -> Option<u64>
-        ensures oldest { let found = oldest labels.now (waiting self.now) in
+    pub fn first_of(&self, wanted: Wanted) -> Option<u64>
+        ensures oldest { let found = oldest (wanted_labels wanted.entry) (waiting self.now) in
             result ≡ option_map (λ x. x.0) found }
     {
-        self.notes.oldest(labels)
-    }
-
-    /// The number of the oldest request with one of these labels. No set of them is made.
-    #[inline(never)]
-    pub fn first_labelled(&self, labels: &[Label]) -> Option<u64>
-        ensures oldest { let found = oldest (map label_text labels.now) (waiting self.now) in
-            result ≡ option_map (λ x. x.0) found }
-    {
-        self.notes.oldest_of(labels)
-    }
-
-    /// The number of the oldest request for a method of a class.
-    #[inline(never)]
-    pub fn first_method(&self, class: &Class) -> Option<u64>
-        ensures oldest { let found = oldest (class_labels class.now) (waiting self.now) in
-            result ≡ option_map (λ x. x.0) found }
-    {
-        self.notes.oldest_method(class)
+        self.notes.oldest(wanted)
     }
 
     /// Removes the request of a number, and returns it.

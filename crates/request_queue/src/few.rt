@@ -11,20 +11,16 @@ ghost use Rattle.std.specs.Prelude.{
   OnOk,
   get_or,
   length,
-  map,
 };
 ghost use Rattle.std.specs.List.{remove as removed};
 ghost use Rattle.std.specs.Option.{option_map};
 ghost use Rattle.std.specs.Vec.{vec_len};
-ghost use Rattle.serve_rules.specs.Labels.{class_labels, label_text};
+ghost use Rattle.serve_rules.specs.Wanted.{wanted_labels};
 ghost use Rattle.request_queue.specs.Few.{place, told};
 ghost use Rattle.request_queue.specs.Pending.{but, oldest, request_at};
 
-use crate::notes::{has_method, is_one_of};
 use crate::request::Request;
-use asp_model::Label;
-use code_table::Class;
-use serve_rules::LabelSet;
+use serve_rules::Wanted;
 use std::alloc::{AllocError, Global};
 use std::marker::Model;
 
@@ -85,37 +81,12 @@ impl Few {
     }
 
     /// The number of the oldest request with one of the labels.
-    pub fn first_of(&self, labels: &LabelSet) -> Option<u64>
-        ensures oldest { result ≡ option_map (λ x. x.0) (oldest labels.now (told self.now)) }
-    {
-        for arrival in &self.arrivals {
-            if labels.has(&arrival.request.label) {
-                return Some(arrival.number);
-            }
-        }
-        None
-    }
-
-    /// The number of the oldest request with one of these labels.
-    pub fn first_labelled(&self, labels: &[Label]) -> Option<u64>
-        ensures oldest { let found = oldest (map label_text labels.now) (told self.now) in
+    pub fn first_of(&self, wanted: Wanted) -> Option<u64>
+        ensures oldest { let found = oldest (wanted_labels wanted.entry) (told self.now) in
             result ≡ option_map (λ x. x.0) found }
     {
         for arrival in &self.arrivals {
-            if is_one_of(&arrival.request.label, labels) {
-                return Some(arrival.number);
-            }
-        }
-        None
-    }
-
-    /// The number of the oldest request for a method of a class.
-    pub fn first_method(&self, class: &Class) -> Option<u64>
-        ensures oldest { let found = oldest (class_labels class.now) (told self.now) in
-            result ≡ option_map (λ x. x.0) found }
-    {
-        for arrival in &self.arrivals {
-            if has_method(class, &arrival.request.label) {
+            if wanted.has(&arrival.request.label) {
                 return Some(arrival.number);
             }
         }

@@ -15,8 +15,8 @@ ghost use Rattle.std.specs.Prelude.{
 };
 ghost use Rattle.std.specs.BTreeMap.{get};
 ghost use Rattle.asp_model.specs.declared.word.Label.{Label};
-ghost use Rattle.asp_model.specs.Term.{has_text};
 ghost use Rattle.serve_rules.specs.Labels.{class_labels, label_text};
+ghost use Rattle.serve_rules.specs.Wanted.{wanted_labels};
 ghost use Rattle.request_queue.specs.Notes.{
   AreAlike,
   Changes,
@@ -31,7 +31,7 @@ ghost use Rattle.request_queue.specs.Notes.{
 
 use asp_model::Label;
 use code_table::Class;
-use serve_rules::LabelSet;
+use serve_rules::Wanted;
 use std::alloc::{AllocError, Global};
 use std::collections::{BTreeMap, BTreeSet};
 
@@ -113,42 +113,18 @@ impl Notes {
         }
     }
 
-    /// The least number that one of the labels has. As many labels are looked up as the set has, or as
-    /// are pending, whichever are fewer.
-    pub fn oldest(&self, labels: &LabelSet) -> Option<u64>
-        ensures oldest { IsOldest labels.now self.now result }
+    /// The least number that one of the labels has.
+    pub fn oldest(&self, wanted: Wanted) -> Option<u64>
+        ensures oldest { IsOldest (wanted_labels wanted.entry) self.now result }
     {
-        if labels.labels().len() < self.numbers.len() {
-            self.oldest_asked(labels)
-        } else {
-            self.oldest_pending(labels)
+        match wanted {
+            Wanted::Labels(labels) => self.oldest_of(labels),
+            Wanted::Methods(class) => self.oldest_method(class),
         }
-    }
-
-    fn oldest_asked(&self, labels: &LabelSet) -> Option<u64>
-        ensures oldest { IsOldest labels.now self.now result }
-    {
-        let mut best = None;
-        for label in labels.labels() {
-            best = earlier(best, self.oldest_with(label));
-        }
-        best
-    }
-
-    fn oldest_pending(&self, labels: &LabelSet) -> Option<u64>
-        ensures oldest { IsOldest labels.now self.now result }
-    {
-        let mut best = None;
-        for label in self.numbers.keys() {
-            if labels.has(label) {
-                best = earlier(best, self.oldest_with(label));
-            }
-        }
-        best
     }
 
     /// The least number that one of these labels has. Each is looked up.
-    pub fn oldest_of(&self, labels: &[Label]) -> Option<u64>
+    fn oldest_of(&self, labels: &[Label]) -> Option<u64>
         ensures oldest { IsOldest (map label_text labels.now) self.now result }
     {
         let mut best = None;
@@ -160,7 +136,7 @@ impl Notes {
 
     /// The least number that a method's label has. As many labels are looked up as the class has, or as
     /// are pending, whichever are fewer.
-    pub fn oldest_method(&self, class: &Class) -> Option<u64>
+    fn oldest_method(&self, class: &Class) -> Option<u64>
         ensures oldest { IsOldest (class_labels class.now) self.now result }
     {
         if class.methods.len() < self.numbers.len() {
@@ -185,7 +161,7 @@ impl Notes {
     {
         let mut best = None;
         for label in self.numbers.keys() {
-            if has_method(class, label) {
+            if Wanted::Methods(class).has(label) {
                 best = earlier(best, self.oldest_with(label));
             }
         }
@@ -200,25 +176,6 @@ impl Notes {
             None => None,
         }
     }
-}
-
-/// Whether a class has a method with this label.
-pub fn has_method(class: &Class, label: &Label) -> bool
-    ensures member { result ≡ has_text label.now.text (class_labels class.now) }
-{
-    class.method(label).is_some()
-}
-
-/// Whether a label is one of these.
-pub fn is_one_of(label: &Label, labels: &[Label]) -> bool
-    ensures member { result ≡ has_text label.now.text (map label_text labels.now) }
-{
-    for other in labels {
-        if label.text == other.text {
-            return true;
-        }
-    }
-    false
 }
 
 fn first(numbers: &BTreeSet<u64>) -> Option<u64>

@@ -11,19 +11,16 @@ ghost use Rattle.std.specs.Prelude.{
   OnOk,
   Some,
   length,
-  map,
 };
 ghost use Rattle.std.specs.Option.{option_map};
-ghost use Rattle.serve_rules.specs.Labels.{class_labels, label_text};
+ghost use Rattle.serve_rules.specs.Wanted.{wanted_labels};
 ghost use Rattle.request_queue.specs.Led.{arrived_of, behind};
 ghost use Rattle.request_queue.specs.Pending.{but, oldest, request_at, waiting};
 
 use crate::crowd::{Crowd, MOST_ARRIVALS};
 use crate::few::Few;
 use crate::request::Request;
-use asp_model::Label;
-use code_table::Class;
-use serve_rules::LabelSet;
+use serve_rules::Wanted;
 use std::alloc::{AllocError, Global};
 use std::marker::Model;
 
@@ -116,38 +113,14 @@ impl Queue {
         }
     }
 
-    /// The number of the oldest request with one of the labels.
-    pub fn first_of(&self, labels: &LabelSet) -> Option<u64>
-        ensures oldest { let found = oldest labels.now (waiting self.now) in
+    /// The number of the oldest request with one of the labels. It takes no memory.
+    pub fn first_of(&self, wanted: Wanted) -> Option<u64>
+        ensures oldest { let found = oldest (wanted_labels wanted.entry) (waiting self.now) in
             result ≡ option_map (λ x. x.0) found }
     {
-        match (self.few.first_of(labels), &self.others) {
+        match (self.few.first_of(wanted), &self.others) {
             (Some(number), _) => Some(number),
-            (None, Some(crowd)) => crowd.first_of(labels),
-            (None, None) => None,
-        }
-    }
-
-    /// The number of the oldest request with one of these labels. No set of them is made.
-    pub fn first_labelled(&self, labels: &[Label]) -> Option<u64>
-        ensures oldest { let found = oldest (map label_text labels.now) (waiting self.now) in
-            result ≡ option_map (λ x. x.0) found }
-    {
-        match (self.few.first_labelled(labels), &self.others) {
-            (Some(number), _) => Some(number),
-            (None, Some(crowd)) => crowd.first_labelled(labels),
-            (None, None) => None,
-        }
-    }
-
-    /// The number of the oldest request for a method of a class.
-    pub fn first_method(&self, class: &Class) -> Option<u64>
-        ensures oldest { let found = oldest (class_labels class.now) (waiting self.now) in
-            result ≡ option_map (λ x. x.0) found }
-    {
-        match (self.few.first_method(class), &self.others) {
-            (Some(number), _) => Some(number),
-            (None, Some(crowd)) => crowd.first_method(class),
+            (None, Some(crowd)) => crowd.first_of(wanted),
             (None, None) => None,
         }
     }

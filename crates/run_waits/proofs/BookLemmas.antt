@@ -21,6 +21,8 @@ use Rattle.asp_model.specs.declared.name.FutureName.{FutureName}
 use Rattle.asp_model.specs.declared.word.Label.{Label}
 use Rattle.asp_model.specs.Shapes.{future_shape}
 use Rattle.serve_rules.specs.Labels.{HaveSame}
+use Rattle.serve_rules.specs.Wanted.{wanted_labels}
+use Rattle.serve_rules.specs.declared.wanted.Wanted.{Wanted}
 use Rattle.replay_one.specs.declared.notes.Event.{Event}
 use Rattle.replay_one.specs.declared.notes.Event.TheVariants as event
 use Rattle.replay_one.specs.Listening.{IsDeafToLines, IsEvent}
@@ -126,15 +128,15 @@ tell_sent to label future (Printed l) b h = absurd h
 tell_sent to label future (Standing ls) b h = absurd h
 tell_sent to label future (Faulted f) b h = absurd h
 
-pub tell_served : (labels : Bor (List Text)) (x : EventShape) (b : BookShape) → IsEvent (event.Served labels) x → book_served labels.now b ≡ book_by x b
-tell_served labels (Served ls) b h = same_served labels.now ls b h
-tell_served labels (Sent m l f) b h = absurd h
-tell_served labels (Made m) b h = absurd h
-tell_served labels (Answered f) b h = absurd h
-tell_served labels Polled b h = absurd h
-tell_served labels (Printed l) b h = absurd h
-tell_served labels (Standing ls) b h = absurd h
-tell_served labels (Faulted f) b h = absurd h
+pub tell_served : (wanted : Wanted) (x : EventShape) (b : BookShape) → IsEvent (event.Served wanted) x → book_served (wanted_labels wanted) b ≡ book_by x b
+tell_served wanted (Served ls) b h = same_served (wanted_labels wanted) ls b h
+tell_served wanted (Sent m l f) b h = absurd h
+tell_served wanted (Made m) b h = absurd h
+tell_served wanted (Answered f) b h = absurd h
+tell_served wanted Polled b h = absurd h
+tell_served wanted (Printed l) b h = absurd h
+tell_served wanted (Standing ls) b h = absurd h
+tell_served wanted (Faulted f) b h = absurd h
 
 pub tell_answered : (future : Bor FutureName) (x : EventShape) (b : BookShape) → IsEvent (event.Answered future) x → book_answered b ≡ book_by x b
 tell_answered future (Answered f) b h = refl

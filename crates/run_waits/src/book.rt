@@ -5,11 +5,12 @@ ghost use Rattle.std.specs.VecDeque.{deque_len};
 ghost use Rattle.asp_model.specs.Shapes.{future_shape};
 ghost use Rattle.replay_one.specs.Listening.{IsEvent};
 ghost use Rattle.replay_one.specs.Notes.{EventShape};
+ghost use Rattle.serve_rules.specs.Wanted.{wanted_labels};
 ghost use Rattle.run_waits.specs.Books.{HasNone, IsOldestAt, blank, book_answered, book_by, book_of, book_received, book_served, book_taken, request_of};
 
 use asp_model::{FutureName, Label};
 use replay_one::Event;
-use serve_rules::LabelSet;
+use serve_rules::Wanted;
 use std::alloc::{AllocError, Global};
 use std::collections::VecDeque;
 
@@ -61,16 +62,16 @@ impl Book {
     }
 
     // The place of the oldest request with one of these labels.
-    fn oldest(&self, labels: &LabelSet) -> Option<usize>
+    fn oldest(&self, wanted: Wanted) -> Option<usize>
         ensures within { IfSome result (λ k. k < deque_len self.now.pending) }
         ensures found { let pending = map request_of self.now.pending.items in
-            IfSome result (IsOldestAt labels.now pending) }
+            IfSome result (IsOldestAt (wanted_labels wanted.entry) pending) }
         ensures none { let pending = map request_of self.now.pending.items in
-            IfNone result (HasNone labels.now pending) }
+            IfNone result (HasNone (wanted_labels wanted.entry) pending) }
     {
         let mut at = 0;
         while at < self.pending.len() {
-            if labels.has(&self.pending[at].label) {
+            if wanted.has(&self.pending[at].label) {
                 return Some(at);
             }
             at += 1;
@@ -79,10 +80,11 @@ impl Book {
     }
 
     // The oldest request with one of these labels is served.
-    fn serve(&mut self, labels: &LabelSet) -> Result<(), AllocError>
-        ensures { OnOk result (book_of self.new ≡ book_served labels.now (book_of self.old)) }
+    fn serve(&mut self, wanted: Wanted) -> Result<(), AllocError>
+        ensures { OnOk result (book_of self.new
+            ≡ book_served (wanted_labels wanted.entry) (book_of self.old)) }
     {
-        match self.oldest(labels) {
+        match self.oldest(wanted) {
             Some(at) => self.take(at),
             None => Ok(()),
         }
@@ -116,7 +118,7 @@ impl Book {
     {
         match event {
             Event::Sent(_, label, future) => self.receive(alloc, label, future),
-            Event::Served(labels) => self.serve(labels),
+            Event::Served(wanted) => self.serve(wanted),
             Event::Answered(_) => {
                 self.answer();
                 Ok(())

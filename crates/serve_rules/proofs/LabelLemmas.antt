@@ -1,59 +1,24 @@
--- Sets of labels have what was put into them.
-use Rattle.std.proofs.Common.{◌≡◌, ◌||◌, ◌<◌, ◌+◌, ℕ, Bool, true, false, cond, List, [], ◌∷◌, ◌++◌, length, map, take, drop, get_or, refl, sym, ap, ◌∙◌}
+-- Labels that are asked for, walked in their order.
+use Rattle.std.proofs.Common.{◌≡◌, ◌||◌, ◌<◌, ◌+◌, ℕ, zero, suc, Bool, true, false, List, [], ◌∷◌, ◌++◌, Option, Some, None, is_some, length, map, take, drop, get_or, refl, sym, ap, ◌∙◌, arith}
 use Rattle.std.proofs.lemmas.List.{take_more}
-use Rattle.std.specs.List.{list_any}
-use Rattle.std.specs.BTreeMap.{is_at}
-use Rattle.std.specs.declared.cmp.Ordering.{Ordering}
-use Rattle.std.specs.Ordering.{is_eq}
-use Rattle.std.specs.Cmp.Lexicographic.{nat_list_eq_equiv, texts_ties}
-use Rattle.asp_model.specs.declared.word.Label.{Label}
-use Rattle.asp_model.specs.contracts.word.LabelOrd.TheImpl as ordering
+use Rattle.std.proofs.lemmas.Slice.Eq.{bytes_eq-Decides}
+use Rattle.std.specs.Cmp.Lexicographic.{nat_list_eq_equiv}
 use Rattle.asp_model.specs.Names.{Text, same_text}
 use Rattle.asp_model.specs.Store.{MethodShape}
 use Rattle.asp_model.specs.Term.{has_text}
+use Rattle.code_table.specs.Classes.{number_of}
 use Rattle.code_table.specs.Pieces.{Piece}
 use Rattle.code_table.specs.Tables.{seen_methods}
 use Rattle.code_table.specs.declared.code.MethodCode.{MethodCode}
-use Rattle.serve_rules.specs.Labels.{HaveSame, LabelsAreOfObjects, label_text, method_text, labelled}
+use Rattle.code_table.proofs.LookupLemmas.{chosen, number_cons}
+use Rattle.serve_rules.specs.Labels.{LabelsAreOfObjects, method_text}
 
-abbrev pub label_order : Label → Label → Ordering
-label_order = ordering.ghosts.cmp
+-- Texts that are equal
 
--- labels tie where their texts are one
-pub tied : (l m : Label) → is_eq (label_order l m) ≡ same_text l.text m.text
-tied l m = sym (texts_ties l.text m.text)
+pub one_text : (x y : Text) → same_text x y ≡ true → x ≡ y
+one_text x y e = (bytes_eq-Decides x y).0 e
 
--- a set has a label where it has its text
-pub any_is : (l : Label) (ks : List Label) → list_any (is_at (label_order l)) ks ≡ has_text l.text (map label_text ks)
-any_is l [] = refl
-any_is l (k ∷ ks) = λ i. tied l k i || any_is l ks i
-
--- one more text at the end
-has_more : (x y : Text) (xs : List Text) → has_text x (xs ++ y ∷ []) ≡ cond (same_text x y) true (has_text x xs)
-has_more x y [] = by (same_text x y)
-  where
-    by : (b : Bool) → (b || false) ≡ cond b true false
-    by true = refl
-    by false = refl
-has_more x y (z ∷ xs) = ap (λ b. same_text x z || b) (has_more x y xs) ∙ by (same_text x z) (same_text x y) (has_text x xs)
-  where
-    by : (a b c : Bool) → (a || cond b true c) ≡ cond b true (a || c)
-    by true true c = refl
-    by true false c = refl
-    by false true c = refl
-    by false false c = refl
-
--- what a set has with one more label
-pub put_in : (before after : List Label) (key : Label) (xs : List Text) → HaveSame (map label_text before) xs
-    → ((l : Label) → list_any (is_at (label_order l)) after ≡ cond (is_eq (label_order key l)) true (list_any (is_at (label_order l)) before)) → HaveSame (map label_text after) (xs ++ key.text ∷ [])
-put_in before after key xs same updates x =
-    let l : Label = labelled x in
-    sym (any_is l after) ∙ updates l
-    ∙ (λ i. cond (tied key l i) true (any_is l before i))
-    ∙ (λ i. cond (nat_list_eq_equiv.symm key.text x i) true (same x i))
-    ∙ sym (has_more x key.text xs)
-
-abbrev map_more : {A : Type 0} → (A → Text) → List A → A → Type 0
+abbrev pub map_more : {A : Type 0} → (A → Text) → List A → A → Type 0
 map_more f xs x = map f (xs ++ x ∷ []) ≡ map f xs ++ f x ∷ []
 
 mapped : {A : Type 0} (f : A → Text) (xs : List A) (x : A) → map_more f xs x
@@ -61,8 +26,34 @@ mapped f [] x = refl
 mapped f (y ∷ xs) x = ap (λ ys. f y ∷ ys) (mapped f xs x)
 
 -- the texts of one item more
-pub taken_more : {A : Type 0} (f : A → Text) (xs : List A) (i : ℕ) (d : A) → i < length xs → map f (take (i + 1) xs) ≡ map f (take i xs) ++ f (get_or xs i d) ∷ []
-taken_more f xs i d lt = ap (map f) (take_more xs i d lt) ∙ mapped f (take i xs) (get_or xs i d)
+taken_more : {A : Type 0} (f : A → Text) (xs : List A) (i : ℕ) (x : A) → i < length xs → x ≡ get_or xs i x → map f (take (i + 1) xs) ≡ map f (take i xs) ++ f x ∷ []
+taken_more f xs i x lt at = ap (map f) (take_more xs i x lt) ∙ mapped f (take i xs) (get_or xs i x) ∙ ap (λ y. map f (take i xs) ++ f y ∷ []) (sym at)
+
+-- two lists that are alike so far have one text more in common
+pub alike_more : {A B : Type 0} (f : A → Text) (g : B → Text) (xs : List A) (ys : List B) (i : ℕ) (x : A) (y : B) → i < length xs → x ≡ get_or xs i x → i < length ys → y ≡ get_or ys i y → same_text (f x) (g y) ≡ true
+    → map g (take i ys) ≡ map f (take i xs) → map g (take (i + 1) ys) ≡ map f (take (i + 1) xs)
+alike_more f g xs ys i x y lx ax ly ay e h = taken_more g ys i y ly ay ∙ (λ j. h j ++ sym (one_text (f x) (g y) e) j ∷ []) ∙ sym (taken_more f xs i x lx ax)
+
+-- Lists that are looked at in order
+
+pub has_item : {A : Type 0} (name : A → Text) (xs : List A) (i : ℕ) (x : A) → i < length xs → x ≡ get_or xs i x → has_text (name x) (map name xs) ≡ true
+has_item name [] i x lt at = absurd (omega (arith, lt))
+has_item name (y ∷ ys) zero x lt at = ap (λ (z : Text). same_text (name x) z || has_text (name x) (map name ys)) (sym (ap name at)) ∙ ap (λ b. b || has_text (name x) (map name ys)) (nat_list_eq_equiv.refl (name x))
+has_item name (y ∷ ys) (suc i) x lt at = let less : i < length ys = omega (arith, lt) in by (same_text (name x) (name y)) (has_text (name x) (map name ys)) (has_item name ys i x less at)
+  where
+    by : (b c : Bool) → c ≡ true → (b || c) ≡ true
+    by true c h = refl
+    by false c h = h
+
+number_or : (b : Bool) (o : Option ℕ) → is_some (chosen b o) ≡ (b || is_some o)
+number_or true o = refl
+number_or false None = refl
+number_or false (Some n) = refl
+
+-- a text has a number where it is there
+pub number_has : (l : Text) (xs : List Text) → is_some (number_of l xs) ≡ has_text l xs
+number_has l [] = refl
+number_has l (x ∷ xs) = ap is_some (number_cons l x xs) ∙ number_or (same_text l x) (number_of l xs) ∙ ap (λ b. same_text l x || b) (number_has l xs)
 
 -- the methods of an object have the labels of its class
 methods_seen : (ps : List Piece) (ms : List MethodCode) (ns : List ℕ) → map (λ (m : MethodShape). m.head.label) (seen_methods ps ms ns) ≡ map method_text ms

@@ -1,5 +1,5 @@
 -- Labels as texts, and when two lists of them have the same.
-use Rattle.std.specs.Prelude.{◌≡◌, ℕ, List, map}
+use Rattle.std.specs.Prelude.{◌≡◌, ℕ, Bool, true, false, List, [], ◌∷◌, map}
 use Rattle.asp_model.specs.Names.{Text}
 use Rattle.asp_model.specs.Term.{has_text}
 use Rattle.asp_model.specs.declared.word.Label.{Label}
@@ -16,6 +16,11 @@ label_text l = l.text
 abbrev pub HaveSame : List Text → List Text → Type 0
 HaveSame xs ys = (l : Text) → has_text l xs ≡ has_text l ys
 
+-- there are some
+abbrev pub has_some : List Text → Bool
+has_some [] = false
+has_some (l ∷ ls) = true
+
 abbrev pub method_text : MethodCode → Text
 method_text m = m.label.text
 
@@ -26,6 +31,3 @@ class_labels k = map method_text k.methods.items
 -- they are those of each object of the class, whatever its places
 abbrev pub LabelsAreOfObjects : Type 0
 LabelsAreOfObjects = (ps : List Piece) (k : Class) (ns : List ℕ) → method_labels (object_of ps k ns) ≡ class_labels k
-
-abbrev pub labelled : Text → Label
-labelled l = record { text = l }

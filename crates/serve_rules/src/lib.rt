@@ -1,8 +1,8 @@
-//! Sets of labels: what a `serve` asks for.
+//! The labels that a `serve` asks for.
 #![tactic(auto)]
 
-mod labels;
 mod laws;
+mod wanted;
 
-pub use labels::LabelSet;
 pub use laws::labels_are_of_objects;
+pub use wanted::Wanted;

@@ -23,23 +23,12 @@ use Rattle.request_queue.specs.declared.request.Request.{Request}
 use Rattle.request_queue.specs.Pending.{but, oldest, pending_of, request_at}
 use Rattle.request_queue.specs.Requests.{request_shape}
 use Rattle.request_queue.proofs.PendingLemmas.{arrivals_wait, matches_are_pending, served_leave}
-use Rattle.serve_rules.specs.Labels.{HaveSame}
 
 abbrev pub Entries : Type 0
 Entries = List (ℕ × Request)
 
 abbrev pub numbered : ℕ × Request → Numbered
 numbered e = (e.0, request_shape e.1)
-
--- Labels
-
-abbrev either : Bool → Option Numbered → Option Numbered → Option Numbered
-either b x y = elim b [ true ↦ x | false ↦ y ]
-
--- sets with the same labels have the same match
-pub same_match : (xs ys : List Text) → HaveSame xs ys → (es : List Numbered) → oldest xs es ≡ oldest ys es
-same_match xs ys h [] = refl
-same_match xs ys h (e ∷ es) = (λ i. either (h (label_of e.1) i) (Some e) (same_match xs ys h es i))
 
 -- Numbers
 
@@ -80,6 +69,9 @@ pub pending_below : (n : ℕ) (served : List ℕ) (rs : List RequestShape) (x : 
 pending_below n served rs x e = found_below n (length rs) x (pending_of served 0 rs) (subst (λ (m : ℕ). AreBetween 0 m (pending_of served 0 rs)) (zero-add (length rs)) (pending_between served 0 rs)) e
 
 -- The match
+
+abbrev either : Bool → Option Numbered → Option Numbered → Option Numbered
+either b x y = elim b [ true ↦ x | false ↦ y ]
 
 record Found (k : ℕ) (x : Numbered) (xs : List Numbered) : Type 0 where
   at : lookup (is_at (nat_cmp x.0)) xs ≡ Some x.1
@@ -209,13 +201,8 @@ pub no_match : (es : Entries) (labels : List Text) (served : List ℕ) (rs : Lis
 no_match [] labels served rs e p = ap number_of (match_is [] labels served rs p)
 no_match (x ∷ es) labels served rs e p = absurd (omega (arith, e))
 
-pub match_told : (es : Entries) (wanted labels : List Text) (served : List ℕ) (rs : List RequestShape) (o : Option ℕ) → HaveSame wanted labels → map numbered es ≡ pending_of served 0 rs → o ≡ number_of (oldest wanted (map numbered es)) → o ≡ number_of (oldest_match labels served 0 rs)
-match_told es wanted labels served rs o same p e = e ∙ ap number_of (same_match wanted labels same (map numbered es) ∙ match_is es labels served rs p)
-
--- no label asks for none
-pub none_asked : (es : List Numbered) → None ≡ number_of (oldest [] es)
-none_asked [] = refl
-none_asked (e ∷ es) = none_asked es
+pub match_told : (es : Entries) (labels : List Text) (served : List ℕ) (rs : List RequestShape) (o : Option ℕ) → map numbered es ≡ pending_of served 0 rs → o ≡ number_of (oldest labels (map numbered es)) → o ≡ number_of (oldest_match labels served 0 rs)
+match_told es labels served rs o p e = e ∙ ap number_of (match_is es labels served rs p)
 
 pub is_none : (o : Option Numbered) → None ≡ number_of o → o ≡ None
 is_none None e = refl

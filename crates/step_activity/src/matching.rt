@@ -10,8 +10,8 @@ ghost use Rattle.law_steps.specs.Waking.{labels_wanted};
 ghost use Rattle.code_table.specs.Cells.{coded};
 ghost use Rattle.code_table.specs.Shapes.{cell_shape};
 ghost use Rattle.code_table.specs.Classes.{seen_class};
-ghost use Rattle.request_queue.specs.Pending.{oldest, waiting};
-ghost use Rattle.serve_rules.specs.Labels.{HaveSame, label_text};
+ghost use Rattle.serve_rules.specs.Labels.{label_text};
+ghost use Rattle.serve_rules.specs.Wanted.{wanted_labels};
 ghost use Rattle.step_activity.specs.Actors.{IsClosedFor, Stands};
 ghost use Rattle.step_activity.specs.Asking.{asked_for, class_in};
 
@@ -19,8 +19,7 @@ use crate::actor::Actor;
 use activity_step::Standing;
 use asp_model::Label;
 use code_table::{Cell, Class, Code};
-use request_queue::Queue;
-use serve_rules::LabelSet;
+use serve_rules::Wanted;
 use std::alloc::{AllocError, Global};
 use step_rows::Redex;
 
@@ -36,8 +35,7 @@ impl Actor {
         if self.queue.len() == 0 {
             return Ok(None);
         }
-        let active = self.activity.store().cell(self.activity.active());
-        Ok(oldest_for(&self.queue, self.activity.code(), active, labels))
+        Ok(self.queue.first_of(self.served_by(labels)))
     }
 
     /// Whether a pending request has one of these labels. It takes no memory.
@@ -55,91 +53,61 @@ impl Actor {
 
     /// The labels that the activity asks for where it stands, once it has settled: those of a
     /// `serve`, and none elsewhere.
-    pub fn wanted(&self, alloc: Global) -> Result<LabelSet, AllocError>
+    pub fn wanted(&self) -> Result<Wanted<'_>, AllocError>
         requires closed { IsClosedFor self.now }
         ensures labels { (a : model.Activity) (rs : List RequestShape) → Stands self.now a rs →
-            IfOk result (λ s. HaveSame s (labels_wanted a)) }
+            IfOk result (λ w. wanted_labels w ≡ labels_wanted a) }
     {
         match self.activity.standing()? {
-            Standing::Place(_place) => LabelSet::of_labels(alloc, &[]),
-            Standing::Redex(redex) => self.asked_by(alloc, redex),
+            Standing::Place(_place) => Ok(Wanted::Labels(&[])),
+            Standing::Redex(redex) => Ok(self.asked_by(redex)),
         }
     }
 
     /// The labels that a redex asks for.
-    fn asked_by(&self, alloc: Global, redex: Redex) -> Result<LabelSet, AllocError>
+    fn asked_by<'a>(&'a self, redex: Redex<'a>) -> Wanted<'a>
         requires closed { IsClosedFor self.now }
         ensures labels { (a : model.Activity) (rs : List RequestShape) → Stands self.now a rs →
-            let active = cell_in a.store a.active in
-            IfOk result (λ s. HaveSame s (asked_for redex.entry active)) }
+            wanted_labels result ≡ asked_for redex.entry (cell_in a.store a.active) }
     {
         match redex {
-            Redex::Serve(labels) => self.served_by(alloc, labels),
-            _ => LabelSet::of_labels(alloc, &[]),
+            Redex::Serve(labels) => self.served_by(labels),
+            _ => Wanted::Labels(&[]),
         }
     }
 
     /// The labels that a `serve` with these labels asks for.
-    fn served_by(&self, alloc: Global, labels: &[Label]) -> Result<LabelSet, AllocError>
+    fn served_by<'a>(&'a self, labels: &'a [Label]) -> Wanted<'a>
         requires closed { IsClosedFor self.now }
         ensures labels { (a : model.Activity) (rs : List RequestShape) → Stands self.now a rs →
-            let wanted = labels_served (map label_text labels.now) (cell_in a.store a.active) in
-            IfOk result (λ s. HaveSame s wanted) }
+            let active = cell_in a.store a.active in
+            wanted_labels result ≡ labels_served (map label_text labels.now) active }
     {
         let active = self.activity.store().cell(self.activity.active());
-        label_set(alloc, self.activity.code(), active, labels)
-    }
-}
-
-/// The number of the oldest request that a `serve` asks for.
-fn oldest_for(queue: &Queue, code: &Code, active: &Cell, labels: &[Label]) -> Option<u64>
-    ensures oldest { let active = cell_shape code.now active.now in
-        let wanted = labels_served (map label_text labels.now) active in
-        result ≡ option_map (λ x. x.0) (oldest wanted (waiting queue.now)) }
-{
-    if labels.is_empty() {
-        oldest_method(queue, code, active)
-    } else {
-        queue.first_labelled(labels)
-    }
-}
-
-/// The number of the oldest request for a method of an object.
-fn oldest_method(queue: &Queue, code: &Code, active: &Cell) -> Option<u64>
-    ensures oldest { let wanted = method_labels (cell_shape code.now active.now) in
-        result ≡ option_map (λ x. x.0) (oldest wanted (waiting queue.now)) }
-{
-    match class_of(code, active) {
-        Some(class) => queue.first_method(class),
-        None => None,
+        labels_of(self.activity.code(), active, labels)
     }
 }
 
 /// The labels that a `serve` asks for: with none written, those of the active object's methods.
-fn label_set(
-    alloc: Global,
-    code: &Code,
-    active: &Cell,
-    labels: &[Label],
-) -> Result<LabelSet, AllocError>
+fn labels_of<'a>(code: &'a Code, active: &Cell, labels: &'a [Label]) -> Wanted<'a>
     ensures labels { let active = cell_shape code.now active.now in
-        IfOk result (λ s. HaveSame s (labels_served (map label_text labels.now) active)) }
+        wanted_labels result ≡ labels_served (map label_text labels.now) active }
 {
     if labels.is_empty() {
-        methods_of(alloc, code, active)
+        methods_of(code, active)
     } else {
-        LabelSet::of_labels(alloc, labels)
+        Wanted::Labels(labels)
     }
 }
 
 /// The labels of an object's methods.
-fn methods_of(alloc: Global, code: &Code, active: &Cell) -> Result<LabelSet, AllocError>
+fn methods_of<'a>(code: &'a Code, active: &Cell) -> Wanted<'a>
     ensures labels { let active = cell_shape code.now active.now in
-        IfOk result (λ s. HaveSame s (method_labels active)) }
+        wanted_labels result ≡ method_labels active }
 {
     match class_of(code, active) {
-        Some(class) => LabelSet::of_class(alloc, class),
-        None => LabelSet::of_labels(alloc, &[]),
+        Some(class) => Wanted::Methods(class),
+        None => Wanted::Labels(&[]),
     }
 }
 

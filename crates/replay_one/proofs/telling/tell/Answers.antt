@@ -1,16 +1,14 @@
 use Rattle.std.proofs.Common.{◌≡◌, ◌∙◌, ◌++◌, ℕ, List, OnOk, map, sym, subst}
-use Rattle.asp_model.specs.Intent.{Acts}
 use Rattle.asp_model.specs.Names.{Name}
 use Rattle.asp_model.specs.Shapes.{line_shape}
 use Rattle.law_chases.proofs.FutureLemmas.{some_is}
-use Rattle.law_steps.specs.Waking.{labels_wanted}
 use Rattle.step_activity.specs.Effects.{IsGiven}
 use Rattle.replay_population.specs.declared.population.Population.{Population}
 use Rattle.replay_population.proofs.PopulationLemmas.{on_ok}
 use Rattle.replay_population.proofs.RosterLemmas.{number_named, number_within}
 use Rattle.replay_one.specs.Listening.{IsBefore, IsKnownBefore}
-use Rattle.replay_one.specs.Notes.{EventShape, Printed, given_by, noted_as, notes_of, printed_by, served_by}
-use Rattle.replay_one.proofs.TellLemmas.{lines_behind, told_step}
+use Rattle.replay_one.specs.Notes.{EventShape, Printed, given_by, noted_as, printed_by}
+use Rattle.replay_one.proofs.TellLemmas.{lines_behind, told_given}
 use Rattle.replay_one.proofs.telling.tell.Goals as goal
 
 pub name-by-requires : goal.name-by-requires
@@ -24,12 +22,10 @@ returns g c = record {
       let name : m ≡ n = some_is (sym c.name-by.ensures.name ∙ number_named p.roster n c.args.number has) in
       let b : IsBefore c.in-Some.before a = subst (IsKnownBefore (g.N.Notes.tells c.args.notes.now) a) c.in-Some.is known in
       let f = noted_as m a.reductions in
-      let ys = xs ++ map f (served_by (labels_wanted a)) in
-      let zs = ys ++ map f (given_by e) in
-      let served = c.in_ok-tell_service.ensures.told xs a t b in
-      let handed = subst (λ (j : ℕ). g.N.Notes.tells c.tell_given.new.notes (ys ++ map (noted_as m j) (given_by e))) b.count (c.in_ok-tell_given.ensures.told ys e served (subst (λ (w : Name). IsGiven w e c.args.given.now) (sym name) given)) in
+      let zs = xs ++ map f (given_by e) in
+      let handed = subst (λ (j : ℕ). g.N.Notes.tells c.tell_given.new.notes (xs ++ map (noted_as m j) (given_by e))) b.count (c.in_ok-tell_given.ensures.told xs e t (subst (λ (w : Name). IsGiven w e c.args.given.now) (sym name) given)) in
       let lines = lines_behind c.behind-lines.result.now c.lines_of.result.now c.in-Some.before.lines a e.own c.behind-lines.ensures b.lines (c.lines_of.ensures.lines k e.own n pop has at) in
       let printed = subst (λ (x : List EventShape). OnOk c.tell_lines.result (g.N.Notes.tells c.tell_lines.new.notes (zs ++ map f x))) lines (subst (λ (j : ℕ). OnOk c.tell_lines.result (g.N.Notes.tells c.tell_lines.new.notes (zs ++ map (noted_as m j) (map Printed (map line_shape c.behind-lines.result.now))))) b.count (c.tell_lines.ensures.told zs handed)) in
-      subst (λ (w : Name). OnOk c.tell_lines.result (g.N.Notes.tells c.tell_lines.new.notes (xs ++ notes_of w a (Acts e)))) name
-      (on_ok c.tell_lines.result _ _ (told_step (g.N.Notes.tells c.tell_lines.new.notes) xs m a e) printed);
+      subst (λ (w : Name). OnOk c.tell_lines.result (g.N.Notes.tells c.tell_lines.new.notes (xs ++ map (noted_as w a.reductions) (given_by e ++ printed_by a e.own)))) name
+      (on_ok c.tell_lines.result _ _ (told_given (g.N.Notes.tells c.tell_lines.new.notes) xs m a e) printed);
 }

@@ -1,8 +1,10 @@
 use Rattle.std.proofs.Common.{◌≡◌, ◌∙◌, ◌∷◌, [], true, false, refl, sym, ap, rules}
+use Rattle.asp_model.specs.Term.{has_text}
 use Rattle.law_steps.specs.Waking.{labels_wanted}
-use Rattle.replay_one.specs.Notes.{has_some, places_by, standing}
+use Rattle.serve_rules.specs.Labels.{has_some}
+use Rattle.replay_one.specs.Notes.{places_by, standing}
 use Rattle.replay_one.proofs.NoteLemmas.{told_quiet, told_same}
-use Rattle.replay_one.proofs.TellLemmas.{none_placed, same_some, some_placed}
+use Rattle.replay_one.proofs.TellLemmas.{none_placed, some_placed}
 use Rattle.replay_population.proofs.PopulationLemmas.{on_ok}
 use Rattle.replay_one.proofs.telling.tell_serve.Goals as goal
 
@@ -12,7 +14,7 @@ returns-then-not-asks g c = record {
       let n = c.args.by.now in
       let ls = labels_wanted a in
       let no : c.asks.result ≡ false = search rules in
-      let e : has_some ls ≡ false = sym (same_some c.args.wanted.now ls same) ∙ sym c.asks.ensures.asks ∙ no in
+      let e : has_some ls ≡ false = ap has_some (sym same) ∙ sym c.asks.ensures.asks ∙ no in
       told_quiet (g.N.Notes.tells c.args.notes.now) xs (places_by n a ls) (none_placed n a ls e) t;
 }
 
@@ -22,7 +24,7 @@ returns g c = record {
       let n = c.args.by.now in
       let ls = labels_wanted a in
       let yes : c.asks.result ≡ true = search rules in
-      let e : has_some ls ≡ true = sym (same_some c.args.wanted.now ls same) ∙ sym c.asks.ensures.asks ∙ yes in
+      let e : has_some ls ≡ true = ap has_some (sym same) ∙ sym c.asks.ensures.asks ∙ yes in
       on_ok c.note.result _ _ (told_same (g.N.Notes.tells c.note.new.self) xs (standing n a ∷ []) (places_by n a ls) (sym (some_placed n a ls e)))
-      (c.note.ensures.told xs (standing n a) t (record { by = refl; count = count; event = same }));
+      (c.note.ensures.told xs (standing n a) t (record { by = refl; count = count; event = λ l. ap (has_text l) same }));
 }

@@ -1,4 +1,4 @@
-use Rattle.std.proofs.Common.{◌≡◌, ◌++◌, Some, ◌∙◌, List, ap, slice_get, sym, subst}
+use Rattle.std.proofs.Common.{◌≡◌, ◌++◌, Some, ◌∙◌, List, ap, map, slice_get, sym, subst}
 use Rattle.std.proofs.lemmas.Option.{slice_get_within}
 use Rattle.asp_model.specs.declared.name.FutureName.{FutureName}
 use Rattle.asp_model.specs.Names.{Name}
@@ -12,9 +12,12 @@ use Rattle.replay_population.specs.declared.population.Population.{Population}
 use Rattle.replay_population.specs.Population.{IsPassing, with_activity, with_poll}
 use Rattle.replay_population.specs.Giving.{IsGiving}
 use Rattle.replay_one.specs.Schedule.{IsNoted, IsTaken, seen}
+use Rattle.law_steps.specs.Waking.{labels_wanted}
+use Rattle.serve_rules.specs.Wanted.{wanted_labels}
+use Rattle.replay_one.specs.Notes.{noted_as, served_by}
 use Rattle.replay_one.specs.Round.{CanStep, IsLook, IsRunWith, IsTargetOf, seen_in}
 use Rattle.replay_population.proofs.RosterLemmas.{number_named, number_within}
-use Rattle.replay_one.proofs.TellLemmas.{acted_at}
+use Rattle.replay_one.proofs.TellLemmas.{acted_at, told_step}
 use Rattle.replay_one.proofs.LookLemmas.{awaits_there}
 use Rattle.replay_one.proofs.ReadyLemmas.{ascend_on}
 use Rattle.replay_population.proofs.GivingLemmas.{reached_hand_on}
@@ -128,7 +131,7 @@ returns-in_ok-serve-in-Serves-clause-tried g c = λ program k n has h.
     let m : Machine = c.args.self.now in
     let ns : List Name = m.population.roster in
     let look = subst (IsLook (lists_within b) (count_within b) k ns n) c.in-Serves.is (c.in_ok-view.ensures.look program k n (but_reached b m n program k h) has) in
-    serves_round b program k n m.population h.before (seen_in m) (seen ns c.serve.new.self) c.in_ok-wanted-in-Serves.wanted h.run h.taken (c.in_ok-serve-in-Serves.ensures.watching ns n has) (λ l. c.in_ok-serve-in-Serves.ensures.asks ns n l has)
+    serves_round b program k n m.population h.before (seen_in m) (seen ns c.serve.new.self) (wanted_labels c.in_ok-wanted-in-Serves.wanted) h.run h.taken (c.in_ok-serve-in-Serves.ensures.watching ns n has) (λ l. c.in_ok-serve-in-Serves.ensures.asks ns n l has)
     (λ a is. c.in_ok-wanted-in-Serves.ensures.wanted k a n h.run.population has is) look.0 look.1
 
 pub returns-in_ok-hold-in-Holds-clause-tried : goal.returns-in_ok-hold-in-Holds-clause-tried
@@ -166,7 +169,10 @@ returns-in_ok-wake-in-Steps-clause-told g c = λ program k n xs has h t.
     let now = ap (number_of n) c.in_ok-given-in-Steps.ensures.roster ∙ has in
     let known = c.in_ok-known-in-Steps.ensures.known k x.activity n h.run.population has x.there in
     let last = with_poll n given (with_activity n x.effect.own k) in
-    let told = c.in_ok-tell-in-Steps.ensures.told xs last n x.activity x.effect t known acts.1.population now (acted_at n given k x.effect.own) acts.0 in
+    let served = c.in_ok-known-in-Steps.ensures.told xs k x.activity n t h.run.population has x.there in
+    let begun = xs ++ map (noted_as n x.activity.reductions) (served_by (labels_wanted x.activity)) in
+    let others = c.in_ok-tell-in-Steps.ensures.told begun last n x.activity x.effect served known acts.1.population now (acted_at n given k x.effect.own) acts.0 in
+    let told = told_step (g.N.Notes.tells c.tell.new.notes) xs n x.activity x.effect others in
     let next = returns-in_ok-wake-in-Steps-clause-tried g c program k n has h in
     subst (λ ys. g.N.Notes.tells c.tell.new.notes (xs ++ ys)) (sym (step_noted b program k n m x next.0 h next.1)) told
 

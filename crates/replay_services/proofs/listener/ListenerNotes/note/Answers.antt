@@ -9,12 +9,12 @@ returns-in-Sent c = record {
 
 pub returns-in-Served : goal.returns-in-Served
 returns-in-Served c = record {
-  told = λ xs x tells n. on_ok_weaker c.add_set.result (λ change. noted_served c.args.self.now c.add_set.new.self xs x c.args.note n c.in-Served.labels c.in-Served.is change tells) c.add_set.ensures;
+  told = λ xs x tells n. on_ok_weaker c.add_set.result (λ change. noted_served c.args.self.now c.add_set.new.self xs x c.args.note n c.in-Served.wanted c.in-Served.is change tells) c.add_set.ensures;
 }
 
 pub returns-in-Standing : goal.returns-in-Standing
 returns-in-Standing c = record {
-  told = λ xs x tells n. on_ok_weaker c.add_set-in-Standing.result (λ change. noted_standing c.args.self.now c.add_set-in-Standing.new.self xs x c.args.note n c.in-Standing.labels c.in-Standing.is change tells) c.add_set-in-Standing.ensures;
+  told = λ xs x tells n. on_ok_weaker c.add_set-in-Standing.result (λ change. noted_standing c.args.self.now c.add_set-in-Standing.new.self xs x c.args.note n c.in-Standing.wanted c.in-Standing.is change tells) c.add_set-in-Standing.ensures;
 }
 
 pub returns-in-Polled : goal.returns-in-Polled

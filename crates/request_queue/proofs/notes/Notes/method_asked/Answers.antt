@@ -5,7 +5,8 @@ use Rattle.asp_model.specs.Names.{Text}
 use Rattle.asp_model.specs.Term.{has_text}
 use Rattle.code_table.specs.declared.code.MethodCode.{MethodCode}
 use Rattle.serve_rules.specs.Labels.{class_labels, method_text}
-use Rattle.request_queue.proofs.OldestLemmas.{SoFar, all_looked, has_item, looked, method_label, method_texts, none_looked}
+use Rattle.serve_rules.proofs.LabelLemmas.{has_item}
+use Rattle.request_queue.proofs.OldestLemmas.{SoFar, all_looked, looked, method_label, method_texts, none_looked}
 use Rattle.request_queue.proofs.notes.Notes.method_asked.Goals as goal
 
 pub loop-method-init : goal.loop-method-init

@@ -3,7 +3,8 @@ use Rattle.std.proofs.lemmas.List.{drop_all, drop_more}
 use Rattle.asp_model.specs.declared.word.Label.{Label}
 use Rattle.asp_model.specs.Names.{Text}
 use Rattle.serve_rules.specs.Labels.{label_text}
-use Rattle.request_queue.proofs.OldestLemmas.{SoFar, all_looked, has_item, looked, none_looked}
+use Rattle.serve_rules.proofs.LabelLemmas.{has_item}
+use Rattle.request_queue.proofs.OldestLemmas.{SoFar, all_looked, looked, none_looked}
 use Rattle.request_queue.proofs.notes.Notes.oldest_of.Goals as goal
 
 pub loop-label-init : goal.loop-label-init

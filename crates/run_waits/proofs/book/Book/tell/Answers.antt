@@ -14,7 +14,7 @@ returns-in-Sent c = λ x h. on_ok_weaker c.receive.result
 
 pub returns-in-Served : goal.returns-in-Served
 returns-in-Served c = λ x h. on_ok_weaker c.serve.result
-    (λ r. r ∙ tell_served c.in-Served.labels x (book_of c.args.self.now) (subst (λ (e : Event). IsEvent e x) c.in-Served.is h))
+    (λ r. r ∙ tell_served c.in-Served.wanted x (book_of c.args.self.now) (subst (λ (e : Event). IsEvent e x) c.in-Served.is h))
     c.serve.ensures
 
 pub returns-in-Answered : goal.returns-in-Answered

@@ -1,4 +1,4 @@
-use Rattle.std.proofs.Common.{◌≡◌, IfOk, List, map, sym, ap, ◌∙◌, subst}
+use Rattle.std.proofs.Common.{◌≡◌, List, map, sym, ap, ◌∙◌}
 use Rattle.std.specs.Arc.{arc_value}
 use Rattle.asp_model.specs.Intent.{labels_served}
 use Rattle.asp_model.specs.Store.{CellShape, Store, cell}
@@ -7,7 +7,7 @@ use Rattle.code_table.specs.Cells.{CodedStore, cell_at, coded}
 use Rattle.code_table.specs.Shapes.{cell_shape}
 use Rattle.object_store.specs.View.{StoreView}
 use Rattle.code_table.specs.declared.code.Node.{Node}
-use Rattle.serve_rules.specs.Labels.{HaveSame, label_text}
+use Rattle.serve_rules.specs.Labels.{label_text}
 use Rattle.step_activity.specs.declared.actor.Actor.{Actor}
 use Rattle.step_activity.specs.Actors.{code_of}
 use Rattle.step_activity.proofs.actor.Actor.served_by.Goals as goal
@@ -24,5 +24,5 @@ returns c = record {
       let code : c.deref.result.now ≡ k = c.deref.ensures ∙ ap arc_value c.code.ensures.code in
       let seen : cell_shape c.deref.result.now c.cell-active.result.now ≡ cell a.store a.active =
       ap (λ (m : List Node). cell_shape m c.cell-active.result.now) code ∙ sym (cell_seen k cells a.active (coded c.cell-active.result.now) held) ∙ ap (λ (s : Store). cell s a.active) h.activity.state.store in
-      subst (λ (d : CellShape). IfOk c.label_set.result (λ s. HaveSame s (labels_served labels d))) seen c.label_set.ensures.labels;
+      c.labels_of.ensures.labels ∙ ap (λ (d : CellShape). labels_served labels d) seen;
 }

@@ -1,10 +1,11 @@
 use Rattle.std.proofs.Common.{rules, ◌≡◌, ◌<◌, ◌||◌, ◌∷◌, ◌∙◌, ◌+◌, ℕ, List, [], drop, get_or, length, map, sym, ap, arith}
 use Rattle.std.proofs.lemmas.List.{drop_all, drop_more}
 use Rattle.asp_model.specs.declared.word.Label.{Label}
+use Rattle.asp_model.specs.Names.{Text}
 use Rattle.asp_model.specs.Term.{has_text}
 use Rattle.serve_rules.specs.Labels.{label_text}
-use Rattle.request_queue.proofs.OldestLemmas.{has_item, text_same}
-use Rattle.request_queue.proofs.notes.is_one_of.Goals as goal
+use Rattle.serve_rules.proofs.LabelLemmas.{has_item, one_text}
+use Rattle.serve_rules.proofs.wanted.is_one_of.Goals as goal
 
 pub returns-then-eq : goal.returns-then-eq
 returns-then-eq c =
@@ -13,7 +14,7 @@ returns-then-eq c =
     let x : Label = c.other-item.result in
     let lt : i < length ls = c.loop-other-test.true in
     let at : x ≡ get_or ls i x = search rules in
-    record { member = sym (ap (λ (m : Label). has_text m.text (map label_text ls)) (text_same c.args.label.now x (sym c.eq.ensures ∙ c.if-eq.true)) ∙ has_item label_text ls i x lt at) }
+    record { member = sym (ap (λ (t : Text). has_text t (map label_text ls)) (one_text c.args.label.now.text x.text (sym c.eq.ensures ∙ c.if-eq.true)) ∙ has_item label_text ls i x lt at) }
 
 pub loop-other-preserved : goal.loop-other-preserved
 loop-other-preserved c =
