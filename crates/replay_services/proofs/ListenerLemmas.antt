@@ -8,8 +8,8 @@ use Rattle.std.specs.Cmp.{eq_by_cmp_equiv}
 use Rattle.std.specs.Cmp.Lexicographic.{nat_list_cmp_total}
 use Rattle.std.proofs.lemmas.Option.{slice_get-map}
 use Rattle.std.specs.List.{Contains}
-use Rattle.std.proofs.Common.{Bor, refl, sym, ap, subst, ◌∙◌, inl, inr, ⊎_elim, ◌⊎◌}
-use Rattle.std.proofs.lemmas.List.{append-nil}
+use Rattle.std.proofs.Common.{Bor, ◌<◌, ◌+◌, get_or, length, take, refl, sym, ap, subst, ◌∙◌, inl, inr, ⊎_elim, ◌⊎◌}
+use Rattle.std.proofs.lemmas.List.{append-nil, take_more}
 use Rattle.std.proofs.lemmas.List.Elements.{Contains-append_left, Contains-append_right, Contains-append_cases}
 use Rattle.std.proofs.lemmas.List.Folds.{list_any-append}
 use Rattle.std.proofs.lemmas.Grind.{flat_map-append}
@@ -48,6 +48,10 @@ known_same k old new h none empty updates n = by (same_name k n) refl
     by : (b : Bool) → same_name k n ≡ b → kept_in new n ≡ kept_in old n
     by true e = ap shape_or_nothing (updates n ∙ ap (λ b. cond b (Some h) (get same_name old n)) e) ∙ empty ∙ ap shape_or_nothing (sym none ∙ ap (get same_name old) (names_tied k n e))
     by false e = ap shape_or_nothing (updates n ∙ ap (λ b. cond b (Some h) (get same_name old n)) e)
+
+-- lists that are alike so far, with one more in common
+pub one_more_alike : (xs ys : List ℕ) (i : ℕ) → i < length xs → i < length ys → get_or xs i 0 ≡ get_or ys i 0 → take i xs ≡ take i ys → take (i + 1) xs ≡ take (i + 1) ys
+one_more_alike xs ys i lx ly e h = take_more xs i 0 lx ∙ (λ j. h j ++ e j ∷ []) ∙ sym (take_more ys i 0 ly)
 
 -- the key that is found is the name
 pub key_found : {S : Type 0} (n k : Name) (m : IndexMap Name Heard S) → get_key_by (same_name n) m ≡ Some k → k ≡ n

@@ -17,13 +17,17 @@ use replay_one::{Event, Note, Notes};
 use serve_rules::Wanted;
 use std::alloc::{AllocError, Global};
 
+// So many places are near to one, from the one before it on.
+const NEAR: usize = 5;
+
 /// What is kept of each activity, in the order in which they were met.
 #[derive(Drop)]
 pub struct Listener {
     alloc: Global,
     pub heard: IndexMap<ActivityName, Heard>,
-    // The place that was asked for last.
+    // The place that was asked for last, and the last one that is not near to it.
     last: usize,
+    before: usize,
 }
 
 /// In the order of the names, as they mostly are.
@@ -54,6 +58,27 @@ fn entries_of(alloc: Global, heard: IndexMap<ActivityName, Heard>) -> Result<Ser
     Ok(Services { entries })
 }
 
+// Whether two names are the same, number by number.
+fn is_same(name: &ActivityName, other: &ActivityName) -> bool
+    ensures { IsTrue result → name.now ≡ other.now }
+{
+    are_same(name.path(), other.path())
+}
+
+fn are_same(numbers: &[u32], others: &[u32]) -> bool
+    ensures { IsTrue result → numbers.now ≡ others.now }
+{
+    if numbers.len() != others.len() {
+        return false;
+    }
+    for place in 0..numbers.len() {
+        if numbers[place] != others[place] {
+            return false;
+        }
+    }
+    true
+}
+
 impl Listener {
     /// Nothing was told. The activities of these logs come first, in their order.
     pub fn new(alloc: Global, lists: &Lists) -> Result<Listener, AllocError>
@@ -67,6 +92,7 @@ impl Listener {
             alloc,
             heard,
             last: 0,
+            before: 0,
         })
     }
 
@@ -84,25 +110,24 @@ impl Listener {
         ensures { IsTrue result → IsKeptAt self.now name.now place }
     {
         match self.heard.get_index(place) {
-            Some((key, _heard)) => key == name,
+            Some((key, _heard)) => is_same(key, name),
             None => false,
         }
     }
 
-    // The place that was asked for last, or the one behind it, if that is of this activity: an
-    // activity mostly does several things, and sends to those that were created with it.
-    fn near(&self, name: &ActivityName) -> Option<usize>
+    // The place of what is kept of this activity, if that is near to another: activities mostly send
+    // to those that were created with them.
+    fn near(&self, place: usize, name: &ActivityName) -> Option<usize>
         ensures at { IfSome result (IsKeptAt self.now name.now) }
     {
-        if self.is_at(self.last, name) {
-            return Some(self.last);
+        let first = place.saturating_sub(1);
+        for more in 0..NEAR {
+            let here = first.saturating_add(more);
+            if self.is_at(here, name) {
+                return Some(here);
+            }
         }
-        let next = self.last.saturating_add(1);
-        if self.is_at(next, name) {
-            Some(next)
-        } else {
-            None
-        }
+        None
     }
 
     // The place of what is kept of this activity, if there is one.
@@ -127,17 +152,15 @@ impl Listener {
         Ok(())
     }
 
-    // The place of what is kept of this activity.
-    fn know(&mut self, name: &ActivityName) -> Result<usize, AllocError>
+    // The place of what is kept of this activity, which is not near to the last one.
+    fn find(&mut self, name: &ActivityName) -> Result<usize, AllocError>
         ensures at { IfOk result (IsKeptAt self.new name.now) }
         ensures same { OnOk result ((n : Name) → kept_at self.new n ≡ kept_at self.old n) }
     {
-        if let Some(place) = self.near(name) {
-            self.last = place;
+        if let Some(place) = self.near(self.before, name) {
             return Ok(place);
         }
         if let Some(place) = self.place_of(name) {
-            self.last = place;
             return Ok(place);
         }
         self.meet(name)?;
@@ -145,6 +168,21 @@ impl Listener {
             Some(place) => Ok(place),
             None => unreachable!(),
         }
+    }
+
+    // The place of what is kept of this activity.
+    fn know(&mut self, name: &ActivityName) -> Result<usize, AllocError>
+        ensures at { IfOk result (IsKeptAt self.new name.now) }
+        ensures same { OnOk result ((n : Name) → kept_at self.new n ≡ kept_at self.old n) }
+    {
+        if let Some(place) = self.near(self.last, name) {
+            self.last = place;
+            return Ok(place);
+        }
+        let place = self.find(name)?;
+        self.before = self.last;
+        self.last = place;
+        Ok(place)
     }
 
     fn add_arrival(
