@@ -1,4 +1,5 @@
 pub mod EntryLemmas
+pub mod NumberLemmas
 pub mod ReadyLemmas
 pub mod ScheduleLemmas
 pub mod LookLemmas

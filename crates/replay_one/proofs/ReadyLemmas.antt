@@ -1,22 +1,21 @@
 -- Who is ready, and who of them is least.
 use Rattle.std.proofs.Common.{◌≡◌, ◌≢◌, ◌⊎◌, ◌<◌, ◌≤◌, ◌&&◌, ◌||◌, ◌∷◌, [], nat_lt, ℕ, zero, suc, Bool, true, false, not, cond, T, map, List, Option, Some, None, get_or, length, slice_get, refl, sym, ap, subst, ◌∙◌, inl, inr, ⊎_elim, arith}
 use Rattle.std.proofs.lemmas.Bool.{cases_lt, false≢true, false_from_ne_true, ltb-true, ltb-false}
-use Rattle.std.proofs.lemmas.Cmp.{nat_cmp_total, tied_itself}
-use Rattle.std.specs.Cmp.{nat_cmp_is}
+use Rattle.std.proofs.lemmas.Cmp.{tied_itself}
 use Rattle.std.specs.List.{list_any}
 use Rattle.std.specs.BTreeMap.{is_at}
 use Rattle.std.specs.BTreeSet as sets
 use Rattle.std.specs.BTreeSet.{BTreeSet}
-use Rattle.std.specs.FinMap.{is_sorted, nat_cmp-IsAntisymmetric}
+use Rattle.std.specs.FinMap.{is_sorted}
 use Rattle.std.specs.FinMap.Entries.{below_all}
 use Rattle.law_steps.proofs.EntryLemmas.{first_of_both, second_of_both}
 use Rattle.law_schedules.proofs.LeastLemmas.{true_of}
-use Rattle.std.specs.Ordering.{is_eq, is_lt, is_gt, nat_cmp, ordering_reverse}
+use Rattle.std.specs.Ordering.{is_eq, is_lt, is_gt, ordering_reverse}
 use Rattle.std.specs.declared.cmp.Ordering.{Ordering}
 use Rattle.std.specs.declared.cmp.Ordering.TheVariants.{Less, Equal, Greater}
 use Rattle.std.proofs.lemmas.Option.{slice_get-get_or, slice_get_within}
 use Rattle.asp_model.specs.Names.{Name, main_name, name_cmp}
-use Rattle.asp_model.specs.Order.{equal_order, name_cmp_same, same_name_same}
+use Rattle.asp_model.specs.Order.{name_cmp_same, same_name_same}
 use Rattle.def_journals.specs.Journals.{number_of}
 use Rattle.law_chases.proofs.FutureLemmas.{no_some, some_is, true_false}
 use Rattle.law_schedules.proofs.RowLemmas.{less_both}
@@ -25,23 +24,12 @@ use Rattle.replay_population.specs.Roster.{IsRoster, Leads}
 use Rattle.replay_population.proofs.RosterLemmas.{number_named, one_name, other_number}
 use Rattle.replay_population.proofs.ColumnLemmas.{number_case}
 use Rattle.replay_one.specs.declared.ready.Ready.{Ready}
-use Rattle.replay_one.specs.Ready.{Ascend, IsAdded, IsLeastLeft, IsLesser, IsNumberFirst, has_key, is_marked, is_named, is_ready}
+use Rattle.replay_one.specs.declared.numbers.Numbers.{Numbers}
+use Rattle.replay_one.specs.Numbers.{IsLeastOf, IsLeastTaken, IsTooIn, holds}
+use Rattle.replay_one.specs.Ready.{Ascend, IsAdded, IsLeastLeft, IsLesser, IsNumberFirst, is_marked, is_named, is_ready}
+use Rattle.replay_one.proofs.NumberLemmas.{either, neither, or_left, or_right}
 
 -- Tests
-
-or_left : (a b : Bool) → a ≡ true → (a || b) ≡ true
-or_left a b e = ap (λ c. c || b) e
-
-or_right : (a b : Bool) → b ≡ true → (a || b) ≡ true
-or_right true b e = refl
-or_right false b e = e
-
-either : (a b : Bool) → (a || b) ≡ true → (a ≡ true) ⊎ (b ≡ true)
-either true b e = inl refl
-either false b e = inr e
-
-neither : (a b : Bool) → a ≡ false → b ≡ false → (a || b) ≡ false
-neither a b e f = (λ i. e i || f i)
 
 both : (a b : Bool) → a ≡ true → b ≡ true → (a && b) ≡ true
 both a b e f = (λ i. e i && f i)
@@ -68,37 +56,17 @@ is_below k l lt = elim (nat_lt k l) as (λ b. nat_lt k l ≡ b → b ≡ true) [
 not_below : (k l : ℕ) → l ≤ k → nat_lt k l ≡ false
 not_below k l le = false_from_ne_true (nat_lt k l) (λ h. absurd (omega (arith, le, ltb-true k l h)))
 
-key_apart : (k i : ℕ) → k ≢ i → is_at (nat_cmp k) i ≡ false
-key_apart k i d = elim (is_eq (nat_cmp k i)) as (λ b. is_eq (nat_cmp k i) ≡ b → b ≡ false) [ true ↦ λ e. absurd (d (nat_cmp-IsAntisymmetric k i (equal_order (nat_cmp k i) e))) | false ↦ λ e. refl ] refl
-
-key_itself : (k : ℕ) → is_at (nat_cmp k) k ≡ true
-key_itself k = ap is_eq (tied_itself nat_cmp_total k)
-
--- from a lower bound
-lowest : (k i : ℕ) → is_gt (nat_cmp k i) ≡ false → k ≤ i
-lowest k i not = ⊎_elim
-    (λ (less : i < k). absurd (true_false (is_gt (nat_cmp k i)) (ap is_gt (sym (nat_cmp_is k i Greater less))) not))
-    (λ le. le)
-    (cases_lt i k)
-
-pub lowest_of : (s : BTreeSet ℕ) (k : ℕ) → sets.IsLowerBound nat_cmp s k → (i : ℕ) → has_key i s.keys ≡ true → k ≤ i
-lowest_of s k low i has = lowest k i (low i has)
-
-none_has : (i : ℕ) (ks : List ℕ) → length ks ≡ 0 → has_key i ks ≡ false
-none_has i [] e = refl
-none_has i (k ∷ ks) e = absurd (omega (arith, e))
-
 none_named : (n : Name) (ks : List Name) → (0 < length ks → ⊥) → list_any (is_at (name_cmp n)) ks ≡ false
 none_named n [] h = refl
 none_named n (k ∷ ks) h = absurd (h (omega arith))
 
 -- who stands by its number has one below `ordered`
-marked_number : (r : Ready) (o : Option ℕ) → is_marked r o ≡ true → (k : ℕ) × (o ≡ Some k) × (k < r.ordered) × (has_key k r.numbers.keys ≡ true)
+marked_number : (r : Ready) (o : Option ℕ) → is_marked r o ≡ true → (k : ℕ) × (o ≡ Some k) × (k < r.ordered) × (holds r.numbers k ≡ true)
 marked_number r None e = absurd (false≢true e)
-marked_number r (Some k) e = (k, refl, ltb-true k r.ordered (first_of (nat_lt k r.ordered) (has_key k r.numbers.keys) e), second_of (nat_lt k r.ordered) (has_key k r.numbers.keys) e)
+marked_number r (Some k) e = (k, refl, ltb-true k r.ordered (first_of (nat_lt k r.ordered) (holds r.numbers k) e), second_of (nat_lt k r.ordered) (holds r.numbers k) e)
 
-marked_as : (r : Ready) (o : Option ℕ) (k : ℕ) → o ≡ Some k → k < r.ordered → has_key k r.numbers.keys ≡ true → is_marked r o ≡ true
-marked_as r o k e lt has = ap (is_marked r) e ∙ both (nat_lt k r.ordered) (has_key k r.numbers.keys) (is_below k r.ordered lt) has
+marked_as : (r : Ready) (o : Option ℕ) (k : ℕ) → o ≡ Some k → k < r.ordered → holds r.numbers k ≡ true → is_marked r o ≡ true
+marked_as r o k e lt has = ap (is_marked r) e ∙ both (nat_lt k r.ordered) (holds r.numbers k) (is_below k r.ordered lt) has
 
 -- Names
 
@@ -158,21 +126,17 @@ ascend_on o p ns ms sound leads same h = subst (λ q. Ascend q ms) (sym same) (r
 
 -- One is added
 
-pub added_number : (ns : List Name) (k : ℕ) (old new : Ready) → new.ordered ≡ old.ordered → new.others ≡ old.others → k < old.ordered → sets.Updates nat_cmp old.numbers new.numbers k true → IsAdded ns k old new
-added_number ns k old new ordered others lt u = record {
+pub added_number : (ns : List Name) (k : ℕ) (old new : Ready) → new.ordered ≡ old.ordered → new.others ≡ old.others → k < old.ordered → IsTooIn old.numbers k new.numbers → IsAdded ns k old new
+added_number ns k old new ordered others lt too = record {
   ordered = ordered;
   more = λ m ready. ⊎_elim
       (λ marked.
       let x = marked_number old (number_of m ns) marked in
-      or_left (is_marked new (number_of m ns)) (is_named new m) (marked_as new (number_of m ns) x.0 x.1 (omega (arith, x.2, ordered)) (u.0 x.0 ∙ kept (is_at (nat_cmp k) x.0) (has_key x.0 old.numbers.keys) x.3)))
+      or_left (is_marked new (number_of m ns)) (is_named new m) (marked_as new (number_of m ns) x.0 x.1 (omega (arith, x.2, ordered)) (too.1 x.0 x.3)))
       (λ named. or_right (is_marked new (number_of m ns)) (is_named new m) (ap (λ (s : BTreeSet Name). list_any (is_at (name_cmp m)) s.keys) others ∙ named))
       (either (is_marked old (number_of m ns)) (is_named old m) ready);
-  here = λ n has. or_left (is_marked new (number_of n ns)) (is_named new n) (marked_as new (number_of n ns) k has (omega (arith, lt, ordered)) (u.0 k ∙ ap (λ b. cond b true (has_key k old.numbers.keys)) (key_itself k)));
+  here = λ n has. or_left (is_marked new (number_of n ns)) (is_named new n) (marked_as new (number_of n ns) k has (omega (arith, lt, ordered)) too.0);
 }
-  where
-    kept : (b c : Bool) → c ≡ true → cond b true c ≡ true
-    kept true c e = refl
-    kept false c e = e
 
 pub added_name : (ns : List Name) (k : ℕ) (q : Name) (old new : Ready) → new.ordered ≡ old.ordered → new.numbers ≡ old.numbers → slice_get ns k ≡ Some q → sets.Updates name_cmp old.others new.others q true → IsAdded ns k old new
 added_name ns k q old new ordered numbers has u = record {
@@ -180,7 +144,7 @@ added_name ns k q old new ordered numbers has u = record {
   more = λ m ready. ⊎_elim
       (λ marked.
       let x = marked_number old (number_of m ns) marked in
-      or_left (is_marked new (number_of m ns)) (is_named new m) (marked_as new (number_of m ns) x.0 x.1 (omega (arith, x.2, ordered)) (ap (λ (s : BTreeSet ℕ). has_key x.0 s.keys) numbers ∙ x.3)))
+      or_left (is_marked new (number_of m ns)) (is_named new m) (marked_as new (number_of m ns) x.0 x.1 (omega (arith, x.2, ordered)) (ap (λ (s : Numbers). holds s x.0) numbers ∙ x.3)))
       (λ named. or_right (is_marked new (number_of m ns)) (is_named new m) (u.0 m ∙ kept (is_at (name_cmp q) m) (is_named old m) named))
       (either (is_marked old (number_of m ns)) (is_named old m) ready);
   here = λ n is. or_right (is_marked new (number_of n ns)) (is_named new n) (ap (is_named new) (some_is (sym (number_named ns n k is) ∙ has)) ∙ u.0 q ∙ ap (λ b. cond b true (is_named old q)) (name_itself q));
@@ -192,17 +156,14 @@ added_name ns k q old new ordered numbers has u = record {
 
 -- The least leaves
 
-popped : (ks rest : List ℕ) (f k : ℕ) → slice_get ks 0 ≡ Some f → ks ≡ k ∷ rest → k ≡ f
-popped ks rest f k first is = some_is (sym (ap (λ (xs : List ℕ). slice_get xs 0) is) ∙ first)
-
-still_key : (k i : ℕ) (s t : BTreeSet ℕ) → sets.Updates nat_cmp s t k false → k ≢ i → has_key i t.keys ≡ has_key i s.keys
-still_key k i s t u d = u.0 i ∙ ap (λ b. cond b false (has_key i s.keys)) (key_apart k i d)
-
 -- the first number
-pub number_taken : (ns : List Name) (old new : Ready) (k : ℕ) (rest : List ℕ) → IsRoster ns → Ascend old.ordered ns → IsNumberFirst ns old true → old.numbers.keys ≡ k ∷ rest → sets.IsLowerBound nat_cmp old.numbers k → sets.Updates nat_cmp old.numbers new.numbers k false → has_key k old.numbers.keys ≡ true → new ≡ record old { numbers = new.numbers } → k < old.ordered
+pub number_taken : (ns : List Name) (old new : Ready) (k : ℕ) → IsRoster ns → Ascend old.ordered ns → IsNumberFirst ns old true → IsLeastTaken old.numbers k new.numbers → new ≡ record old { numbers = new.numbers } → k < old.ordered
     → (n : Name) × (number_of n ns ≡ Some k) × IsLeastLeft ns old n new
-number_taken ns old new k rest sound ascend first is low u has same lt =
-    let here : k ≡ first.0 = popped old.numbers.keys rest first.0 k first.1 is in
+number_taken ns old new k sound ascend first taken same lt =
+    let least : IsLeastOf old.numbers k = taken.0 in
+    let above = least.1 first.0 first.1.0 in
+    let below = first.1.1 k least.0 in
+    let here : k ≡ first.0 = omega (arith, above, below) in
     let x = first.2 (omega (arith, lt, here)) in
     let q : Name = x.0 in
     let number : number_of q ns ≡ Some k = x.1 ∙ ap Some (sym here) in
@@ -211,13 +172,13 @@ number_taken ns old new k rest sound ascend first is low u has same lt =
       q,
       number,
       record {
-        ready = or_left (is_marked old (number_of q ns)) (is_named old q) (marked_as old (number_of q ns) k number lt has);
+        ready = or_left (is_marked old (number_of q ns)) (is_named old q) (marked_as old (number_of q ns) k number lt least.0);
         least = λ m ready. ⊎_elim
             (λ marked.
             let y = marked_number old (number_of m ns) marked in
             ⊎_elim
             (λ e. ap (λ (w : Name). is_lt (name_cmp w q)) (one_name ns m q k (y.1 ∙ ap Some e) number) ∙ not_itself q)
-            (λ d. not_less m q (ascend.rise k y.0 q m number y.1 (omega (arith, lowest_of old.numbers k low y.0 y.3, d)) y.2))
+            (λ d. let from = least.1 y.0 y.3 in not_less m q (ascend.rise k y.0 q m number y.1 (omega (arith, from, d)) y.2))
             (number_case y.0 k))
             (λ is. x.2 m is)
             (either (is_marked old (number_of m ns)) (is_named old m) ready);
@@ -227,12 +188,12 @@ number_taken ns old new k rest sound ascend first is low u has same lt =
   where
     marks : (m : Name) (o : Option ℕ) → ((j : ℕ) → number_of m ns ≡ Some j → j ≢ k) → number_of m ns ≡ o → new.ordered ≡ old.ordered → is_marked new o ≡ is_marked old o
     marks m None apart e ordered = refl
-    marks m (Some j) apart e ordered = (λ i. nat_lt j (ordered i) && still_key k j old.numbers new.numbers u (λ g. apart j e (sym g)) i)
+    marks m (Some j) apart e ordered = (λ i. nat_lt j (ordered i) && taken.1 j (apart j e) i)
 
 -- a number that no name has that ascends
-pub stale_taken : (ns : List Name) (old new : Ready) (k : ℕ) → sets.Updates nat_cmp old.numbers new.numbers k false → new ≡ record old { numbers = new.numbers } → old.ordered ≤ k
+pub stale_taken : (ns : List Name) (old new : Ready) (k : ℕ) → IsLeastTaken old.numbers k new.numbers → new ≡ record old { numbers = new.numbers } → old.ordered ≤ k
     → (m : Name) (i : ℕ) → number_of m ns ≡ Some i → is_ready ns new m ≡ is_ready ns old m
-stale_taken ns old new k u same le m i has = (λ j. marks (number_of m ns) j || ap (λ (r : Ready). is_named r m) same j)
+stale_taken ns old new k taken same le m i has = (λ j. marks (number_of m ns) j || ap (λ (r : Ready). is_named r m) same j)
   where
     ordered : new.ordered ≡ old.ordered
     ordered = ap (λ (r : Ready). r.ordered) same
@@ -242,8 +203,8 @@ stale_taken ns old new k u same le m i has = (λ j. marks (number_of m ns) j || 
     marks (Some j) = ⊎_elim
         (λ e.
         let none : nat_lt j old.ordered ≡ false = not_below j old.ordered (omega (arith, le, e)) in
-        off_left (nat_lt j new.ordered) (has_key j new.numbers.keys) (ap (nat_lt j) ordered ∙ none) ∙ sym (off_left (nat_lt j old.ordered) (has_key j old.numbers.keys) none))
-        (λ d. (λ i. nat_lt j (ordered i) && still_key k j old.numbers new.numbers u (λ g. d (sym g)) i))
+        off_left (nat_lt j new.ordered) (holds new.numbers j) (ap (nat_lt j) ordered ∙ none) ∙ sym (off_left (nat_lt j old.ordered) (holds old.numbers j) none))
+        (λ d. (λ i. nat_lt j (ordered i) && taken.1 j d i))
         (number_case j k)
 
 -- the first name
@@ -257,8 +218,8 @@ other_taken ns old new n ascend first has low u same = record {
   others = λ m d. (λ i. ap (λ (r : Ready). is_marked r (number_of m ns)) same i || (u.0 m ∙ ap (λ b. cond b false (is_named old m)) (tied n m d)) i);
 }
   where
-    by : (m : Name) → (y : (k : ℕ) × (number_of m ns ≡ Some k) × (k < old.ordered) × (has_key k old.numbers.keys ≡ true)) → IsNumberFirst ns old false → is_lt (name_cmp m n) ≡ false
-    by m y (inl none) = absurd (true_false (has_key y.0 old.numbers.keys) y.3 (none_has y.0 old.numbers.keys none))
+    by : (m : Name) → (y : (k : ℕ) × (number_of m ns ≡ Some k) × (k < old.ordered) × (holds old.numbers k ≡ true)) → IsNumberFirst ns old false → is_lt (name_cmp m n) ≡ false
+    by m y (inl none) = absurd (true_false (holds old.numbers y.0) y.3 (none y.0))
     by m y (inr x) =
         let f : Name = x.4.0 in
         let not = above f n (low f x.4.1) in
@@ -278,7 +239,7 @@ pub nobody_left : (ns : List Name) (old : Ready) → IsNumberFirst ns old false 
 nobody_left ns old first none m = neither (is_marked old (number_of m ns)) (is_named old m) (by first) (none_named m old.others.keys none)
   where
     by : IsNumberFirst ns old false → is_marked old (number_of m ns) ≡ false
-    by (inl empty) = false_from_ne_true (is_marked old (number_of m ns)) (λ e. let y = marked_number old (number_of m ns) e in true_false (has_key y.0 old.numbers.keys) y.3 (none_has y.0 old.numbers.keys empty))
+    by (inl empty) = false_from_ne_true (is_marked old (number_of m ns)) (λ e. let y = marked_number old (number_of m ns) e in true_false (holds old.numbers y.0) y.3 (empty y.0))
     by (inr x) = absurd (true_false (is_named old x.4.0) x.4.1 (none_named x.4.0 old.others.keys none))
 
 -- who is not less than one below is not less either
@@ -294,9 +255,9 @@ pub lesser_by : (r : Ready) (f q : Name) (b : Bool) → b ≡ is_lt (name_cmp f 
 lesser_by r f q true e has low = (f, has, sym e)
 lesser_by r f q false e has low = λ m named. none_lesser f m q (sym e) (above m f (low m named))
 
-pub first_by : (ns : List Name) (r : Ready) (k : ℕ) (q : Name) (b : Bool) → slice_get r.numbers.keys 0 ≡ Some k → number_of q ns ≡ Some k → sets.IsLowerBound nat_cmp r.numbers k → IsLesser r q b → IsNumberFirst ns r (not b)
-first_by ns r k q true first has low lesser = inr (k, q, has, lowest_of r.numbers k low, lesser)
-first_by ns r k q false first has low lesser = (k, first, λ lt. (q, has, lesser))
+pub first_by : (ns : List Name) (r : Ready) (k : ℕ) (q : Name) (b : Bool) → IsLeastOf r.numbers k → number_of q ns ≡ Some k → IsLesser r q b → IsNumberFirst ns r (not b)
+first_by ns r k q true least has lesser = inr (k, q, has, least.1, lesser)
+first_by ns r k q false least has lesser = (k, least, λ lt. (q, has, lesser))
 
 -- where more names have numbers
 pub ready_names : (ns ms : List Name) (r : Ready) (m : Name) → ((k : ℕ) → number_of m ns ≡ Some k → number_of m ms ≡ Some k) → is_ready ns r m ≡ true → is_ready ms r m ≡ true

@@ -1,5 +1,6 @@
 -- in reading order
 pub mod Bounds
+pub mod Numbers
 pub mod Ready
 pub mod Schedule
 pub mod Notes

@@ -1,13 +1,14 @@
 -- Who is ready, by numbers where names ascend, and else by names.
-use Rattle.std.specs.Prelude.{◌≡◌, ◌≢◌, ◌⊎◌, ◌<◌, ◌≤◌, ◌+◌, ◌&&◌, ◌||◌, nat_lt, ℕ, Bool, true, false, List, Option, Some, None, length, slice_get}
+use Rattle.std.specs.Prelude.{◌≡◌, ◌≢◌, ◌⊎◌, ◌<◌, ◌≤◌, ◌+◌, ◌&&◌, ◌||◌, nat_lt, ℕ, Bool, true, false, List, Option, Some, None, length}
 use Rattle.std.specs.List.{list_any}
 use Rattle.std.specs.BTreeMap.{is_at}
-use Rattle.std.specs.Ordering.{is_lt, nat_cmp}
+use Rattle.std.specs.Ordering.{is_lt}
 use Rattle.asp_model.specs.Names.{Name, name_cmp}
 use Rattle.def_journals.specs.Journals.{number_of}
 use Rattle.replay_one.specs.declared.ready.Least.{Least}
 use Rattle.replay_one.specs.declared.ready.Least.TheVariants as least
 use Rattle.replay_one.specs.declared.ready.Ready.{Ready}
+use Rattle.replay_one.specs.Numbers.{IsLeastOf, holds, how_many}
 
 -- the names of so many numbers ascend
 pub record Ascend (o : ℕ) (ns : List Name) : Type 0 where
@@ -15,13 +16,10 @@ pub record Ascend (o : ℕ) (ns : List Name) : Type 0 where
   pub rise : (j k : ℕ) (m n : Name) → number_of m ns ≡ Some j → number_of n ns ≡ Some k
       → j < k → k < o → is_lt (name_cmp m n) ≡ true
 
-abbrev pub has_key : ℕ → List ℕ → Bool
-has_key k = list_any (is_at (nat_cmp k))
-
 -- one stands by its number
 abbrev pub is_marked : Ready → Option ℕ → Bool
 is_marked r None = false
-is_marked r (Some k) = nat_lt k r.ordered && has_key k r.numbers.keys
+is_marked r (Some k) = nat_lt k r.ordered && holds r.numbers k
 
 -- one stands by its name
 abbrev pub is_named : Ready → Name → Bool
@@ -38,7 +36,7 @@ pub record IsAdded (ns : List Name) (k : ℕ) (old new : Ready) : Type 0 where
 
 -- how many stand there
 abbrev pub size : Ready → ℕ
-size r = length r.numbers.keys + length r.others.keys
+size r = how_many r.numbers + length r.others.keys
 
 -- none by its name is less than this name, or one is
 abbrev pub IsLesser : Ready → Name → Bool → Type 0
@@ -47,10 +45,10 @@ IsLesser r n false = (m : Name) → is_named r m ≡ true → is_lt (name_cmp m 
 
 -- the first of those by numbers goes before all by names, or one by its name goes before them
 abbrev pub IsNumberFirst : List Name → Ready → Bool → Type 0
-IsNumberFirst ns r true = (k : ℕ) × (slice_get r.numbers.keys 0 ≡ Some k)
+IsNumberFirst ns r true = (k : ℕ) × IsLeastOf r.numbers k
     × (k < r.ordered → (q : Name) × (number_of q ns ≡ Some k) × IsLesser r q false)
-IsNumberFirst ns r false = (length r.numbers.keys ≡ 0)
-    ⊎ ((k : ℕ) × (q : Name) × (number_of q ns ≡ Some k) × ((i : ℕ) → has_key i r.numbers.keys ≡ true → k ≤ i) × IsLesser r q true)
+IsNumberFirst ns r false = ((i : ℕ) → holds r.numbers i ≡ false)
+    ⊎ ((k : ℕ) × (q : Name) × (number_of q ns ≡ Some k) × ((i : ℕ) → holds r.numbers i ≡ true → k ≤ i) × IsLesser r q true)
 
 -- one of these names leaves, the least of those who were ready
 pub record IsLeastLeft (ns : List Name) (old : Ready) (n : Name) (new : Ready) : Type 0 where

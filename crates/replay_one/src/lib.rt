@@ -8,6 +8,7 @@ mod difference;
 mod listed;
 mod looks;
 mod notes;
+mod numbers;
 mod ready;
 mod receptions;
 mod replays;

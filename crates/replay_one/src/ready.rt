@@ -4,6 +4,7 @@ ghost use Rattle.std.specs.Prelude.{◌≡◌, ◌<◌, OnOk, false, length, tru
 ghost use Rattle.replay_population.specs.Roster.{IsRoster};
 ghost use Rattle.replay_one.specs.Ready.{Ascend, IsAdded, IsLeast, IsLesser, IsNumberFirst};
 
+use crate::numbers::Numbers;
 use asp_model::ActivityName;
 use replay_population::Roster;
 use std::alloc::{AllocError, Global};
@@ -14,7 +15,7 @@ use std::collections::BTreeSet;
 #[derive(Drop)]
 pub struct Ready {
     pub ordered: u32,
-    pub numbers: BTreeSet<u32>,
+    pub numbers: Numbers,
     pub others: BTreeSet<ActivityName>,
 }
 
@@ -34,7 +35,7 @@ impl Ready {
     {
         Ready {
             ordered,
-            numbers: BTreeSet::new(alloc),
+            numbers: Numbers::new(alloc),
             others: BTreeSet::new(alloc),
         }
     }
@@ -45,8 +46,7 @@ impl Ready {
         ensures added { OnOk result (IsAdded roster.now number self.old self.new) }
     {
         if number < self.ordered {
-            self.numbers.insert(number)?;
-            return Ok(());
+            return self.numbers.add(number);
         }
         self.others.insert(roster.name(number).copy(alloc)?)?;
         Ok(())
@@ -71,10 +71,10 @@ impl Ready {
         let Some(first) = self.numbers.first() else {
             return false;
         };
-        if *first >= self.ordered {
+        if first >= self.ordered {
             return true;
         }
-        !self.has_lesser(roster.name(*first))
+        !self.has_lesser(roster.name(first))
     }
 
     /// The first of those who stand by their numbers leaves.
@@ -85,7 +85,7 @@ impl Ready {
         ensures least { IsLeast roster.now self.old result self.new }
         ensures ordered { self.new.ordered ≡ self.old.ordered }
     {
-        match self.numbers.pop_first() {
+        match self.numbers.take_first() {
             Some(number) if number < self.ordered => Least::One(number),
             Some(_) => Least::Unknown,
             None => Least::Nobody,
