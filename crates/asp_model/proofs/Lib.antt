@@ -1,3 +1,4 @@
 -- in reading order
 pub mod Mapped
 pub mod HistoryLemmas
+pub mod NameLemmas

@@ -94,13 +94,27 @@ impl FutureName {
     }
 }
 
+// The order of two lists of numbers.
+fn compare_numbers(left: &[u32], right: &[u32]) -> Ordering
+    ensures order { result ≡ name_cmp left.now right.now }
+{
+    let mut i = 0;
+    while i < left.len() && i < right.len() {
+        if left[i] != right[i] {
+            return left[i].cmp(&right[i]);
+        }
+        i += 1;
+    }
+    left.len().cmp(&right.len())
+}
+
 impl PartialEq for ActivityName {
     ghost eq = { same_name };
 
     ghost laws = { partial_equiv_from_equiv (eq_by_cmp_equiv nat_list_cmp_total) };
 
     fn eq(&self, other: &ActivityName) -> bool {
-        self.path().cmp(other.path()) == Ordering::Equal
+        compare_numbers(self.path(), other.path()) == Ordering::Equal
     }
 }
 
@@ -139,6 +153,6 @@ impl Ord for ActivityName {
     ghost matches_eq = { Prim.search (comparing, rules) };
 
     fn cmp(&self, other: &ActivityName) -> Ordering {
-        self.path().cmp(other.path())
+        compare_numbers(self.path(), other.path())
     }
 }
