@@ -5,3 +5,4 @@ pub mod ComponentLemmas
 pub mod JoinedLemmas
 pub mod EndedLemmas
 pub mod FillingLemmas
+pub mod EntryLemmas

@@ -29,7 +29,7 @@ use Rattle.future_table.proofs.NumberLemmas.{here_or, named_number, same_one}
 abbrev pub name_total : IsTotalOrder by_name
 name_total = on_total future_shape future_total
 
-name_same : (f g : FutureName) → future_shape f ≡ future_shape g → f ≡ g
+pub name_same : (f g : FutureName) → future_shape f ≡ future_shape g → f ≡ g
 name_same f g e = λ i. record { by = (e i).by; index = (e i).index }
 
 name_tied : IsAntisymmetric by_name

@@ -1,4 +1,5 @@
 -- What contracts see of a table of futures, and of a chase.
+use denote.Ref.{Bor}
 use Rattle.std.specs.Prelude.{◌≡◌, List, [], ◌∷◌, Option, Some, None, map}
 use Rattle.std.specs.FinMap.{put}
 use Rattle.std.specs.declared.cmp.Ordering.{Ordering}
@@ -27,6 +28,13 @@ filled_of (f ∷ fs) (Some p ∷ ps) = put by_name f p (filled_of fs ps)
 
 abbrev pub values_of : List (FutureName × Parcel) → Values
 values_of = map (λ e. (future_shape e.0, parcel_shape e.1))
+
+-- entries whose values are lent
+abbrev pub lent_entries : List (FutureName × Bor Parcel) → List (FutureName × Parcel)
+lent_entries = map (λ e. (e.0, e.1.now))
+
+abbrev pub lent_values : List (FutureName × Bor Parcel) → Values
+lent_values es = values_of (lent_entries es)
 
 -- a chase without the value that it comes to
 pub data Told : Type 0 where

@@ -1,6 +1,6 @@
 //! The table of filled futures.
 
-ghost use Rattle.std.specs.Prelude.{◌≡◌, IfSome, None, OnErr, OnOk, [], length};
+ghost use Rattle.std.specs.Prelude.{◌≡◌, IfOk, IfSome, None, OnErr, OnOk, [], length};
 ghost use Rattle.std.specs.FinMap.{find, put};
 ghost use Rattle.std.specs.List.{Contains};
 ghost use Rattle.std.specs.Map.{values_of as parcels};
@@ -10,13 +10,14 @@ ghost use Rattle.asp_model.specs.Names.{future_cmp};
 ghost use Rattle.asp_model.specs.Shapes.{future_shape};
 ghost use Rattle.code_table.specs.Cells.{held_future};
 ghost use Rattle.code_table.specs.Shapes.{parcel_shape};
-ghost use Rattle.future_table.specs.Values.{StayOfCode, chase_shape, told, values_of};
+ghost use Rattle.future_table.specs.Values.{StayOfCode, chase_shape, lent_values, told, values_of};
 
 use crate::chase::Chase;
 use crate::walks::{self, Walks};
 use asp_model::FutureName;
 use code_table::{Future, Parcel};
 use std::alloc::{AllocError, Global};
+use std::collections::BTreeMap;
 use std::marker::Model;
 use std::sync::Arc;
 
@@ -75,6 +76,13 @@ impl FutureTable {
         ensures held { IfSome result (λ p. Contains (parcels self.now) p.now) }
     {
         walks::value(&self.walks, name)
+    }
+
+    /// The filled futures in ascending order, with their values.
+    pub fn entries(&self) -> Result<BTreeMap<FutureName, &Parcel>, AllocError>
+        ensures entries { IfOk result (λ m. lent_values m.entries ≡ values_of self.now) }
+    {
+        walks::entries(&self.walks)
     }
 
     /// Where the walk from a future ends.

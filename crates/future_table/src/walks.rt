@@ -11,7 +11,7 @@ ghost use Rattle.std.specs.Option.{option_copied, option_map};
 ghost use Rattle.future_table.specs.Components.{EndsWithin, end_told};
 ghost use Rattle.future_table.specs.Links.{link_at};
 ghost use Rattle.future_table.specs.Numbers.{number_of};
-ghost use Rattle.future_table.specs.Values.{StayOfCode, by_name, chase_shape, told};
+ghost use Rattle.future_table.specs.Values.{StayOfCode, by_name, chase_shape, lent_entries, told};
 ghost use Rattle.future_table.specs.Walks.{IsFilledWith, IsGoing, IsRoot, IsUnfilled, IsWhole, NumbersStay, filled_in, names_in, values_in};
 
 use crate::chase::Chase;
@@ -20,6 +20,7 @@ use crate::numbers::Numbers;
 use asp_model::FutureName;
 use code_table::{Cell, Parcel};
 use std::alloc::{AllocError, Global};
+use std::collections::BTreeMap;
 
 /// The futures that were met, by their numbers: the value of each, if it is filled, and its place in
 /// a component.
@@ -74,6 +75,23 @@ pub fn value<'a>(walks: &'a Walks, name: &FutureName) -> Option<&'a Parcel>
         None => None,
         Some(at) => walks.values[at].as_ref(),
     }
+}
+
+/// The filled futures in ascending order, with their values.
+pub fn entries(walks: &Walks) -> Result<BTreeMap<FutureName, &Parcel>, AllocError>
+    requires whole { IsWhole walks.now }
+    ensures entries { IfOk result (λ m. lent_entries m.entries ≡ filled_in walks.now) }
+{
+    let mut entries = BTreeMap::new(walks.alloc);
+    let mut left = walks.values.len();
+    while left > 0 {
+        left -= 1;
+        if let Some(value) = &walks.values[left] {
+            let name = walks.numbers.name(left).copy(walks.alloc)?;
+            entries.insert(name, value)?;
+        }
+    }
+    Ok(entries)
 }
 
 /// Where the walk from a future ends.
