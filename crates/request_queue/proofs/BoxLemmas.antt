@@ -1,15 +1,19 @@
 -- A map of requests in boxes is one of requests.
-use Rattle.std.proofs.Common.{◌≡◌, ℕ, Bool, true, false, cond, List, [], ◌∷◌, Option, Some, None, IsSome, refl, sym, ap, ◌∙◌}
+use denote.Ref.{Bor}
+use Rattle.std.proofs.Common.{◌≡◌, ◌++◌, ℕ, Bool, true, false, cond, List, [], ◌∷◌, Option, Some, None, IsSome, map, refl, sym, ap, ◌∙◌}
 use Rattle.std.specs.Option.{option_map}
 use Rattle.std.specs.Ordering.{nat_cmp, match_ordering}
 use Rattle.std.specs.declared.cmp.Ordering.{Ordering}
 use Rattle.std.specs.declared.cmp.Ordering.TheVariants.{Less, Equal, Greater}
 use Rattle.std.specs.declared.alloc.Global.{Global}
 use Rattle.std.specs.declared.boxed.Box.{Box}
-use Rattle.std.specs.Map.{keys_of, lookup, remove_entry}
+use Rattle.std.specs.Map.{keys_of, lookup, remove_entry, values_of}
 use Rattle.std.specs.BTreeMap.{insert_entry, is_at}
 use Rattle.request_queue.specs.declared.request.Request.{Request}
+use Rattle.asp_model.specs.Configuration.{RequestShape}
 use Rattle.request_queue.specs.Pending.{request_at}
+use Rattle.request_queue.specs.Requests.{lent_shapes, request_shape, shapes_of}
+use Rattle.request_queue.specs.Few.{told}
 use Rattle.request_queue.specs.Kept.{unboxed}
 
 abbrev Boxed : Type 0
@@ -60,3 +64,25 @@ updated_unboxed old new test o updates k = found_unboxed k new ∙ ap within (up
     by : (b : Bool) → within (cond b o (lookup (is_at (nat_cmp k)) old)) ≡ cond b (within o) (within (lookup (is_at (nat_cmp k)) old))
     by true = refl
     by false = refl
+
+-- The requests in order
+
+abbrev pub boxed_shapes : List (Box Request Global) → List RequestShape
+boxed_shapes = map (λ b. request_shape b.value)
+
+pub shapes_unboxed : (es : Boxed) → shapes_of (unboxed es) ≡ boxed_shapes (values_of es)
+shapes_unboxed [] = refl
+shapes_unboxed (e ∷ es) = ap (λ rs. request_shape e.1.value ∷ rs) (shapes_unboxed es)
+
+-- one more is lent
+pub lent_more : (xs : List (Bor Request)) (x : Bor Request) (bs : List (Box Request Global)) (b : Box Request Global) → x.now ≡ b.value → lent_shapes (xs ++ x ∷ []) ++ boxed_shapes bs ≡ lent_shapes xs ++ boxed_shapes (b ∷ bs)
+lent_more [] x bs b e = ap (λ r. request_shape r ∷ boxed_shapes bs) e
+lent_more (y ∷ xs) x bs b e = ap (λ rs. request_shape y.now ∷ rs) (lent_more xs x bs b e)
+
+pub shapes_append : (xs ys : List (ℕ × Request)) → shapes_of (xs ++ ys) ≡ shapes_of xs ++ shapes_of ys
+shapes_append [] ys = refl
+shapes_append (x ∷ xs) ys = ap (λ rs. request_shape x.1 ∷ rs) (shapes_append xs ys)
+
+pub shapes_waiting : (es : List (ℕ × Request)) → map (λ x. x.1) (told es) ≡ shapes_of es
+shapes_waiting [] = refl
+shapes_waiting (e ∷ es) = ap (λ rs. request_shape e.1 ∷ rs) (shapes_waiting es)

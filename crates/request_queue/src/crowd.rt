@@ -9,6 +9,7 @@ ghost use Rattle.std.specs.Prelude.{
   ◌^◌,
   ◌∷◌,
   [],
+  IfOk,
   IsSome,
   OnErr,
   OnOk,
@@ -18,6 +19,7 @@ ghost use Rattle.std.specs.Prelude.{
 ghost use Rattle.std.specs.Option.{option_map};
 ghost use Rattle.serve_rules.specs.Wanted.{wanted_labels};
 ghost use Rattle.request_queue.specs.Pending.{but, oldest, request_at, waiting};
+ghost use Rattle.request_queue.specs.Requests.{lent_shapes, shapes_of};
 
 use crate::notes::Notes;
 use crate::request::Request;
@@ -77,6 +79,18 @@ impl Crowd {
         ensures arrived { result ≡ self.now.arrived }
     {
         self.arrived
+    }
+
+    /// Puts the requests behind others, oldest first.
+    pub fn behind<'a>(&'a self, first: Vec<&'a Request>) -> Result<Vec<&'a Request>, AllocError>
+        ensures pending { IfOk result (λ v. lent_shapes v.items
+            ≡ lent_shapes first.entry.items ++ shapes_of self.now.pending) }
+    {
+        let mut pending = first;
+        for request in self.pending.values() {
+            pending.push(request)?;
+        }
+        Ok(pending)
     }
 
     /// Appends a request under the next number. It fails when as many have arrived as can be numbered,

@@ -7,6 +7,7 @@ ghost use Rattle.std.specs.Prelude.{
   ◌^◌,
   ◌∷◌,
   [],
+  IfOk,
   OnErr,
   OnOk,
   get_or,
@@ -18,6 +19,7 @@ ghost use Rattle.std.specs.Vec.{vec_len};
 ghost use Rattle.serve_rules.specs.Wanted.{wanted_labels};
 ghost use Rattle.request_queue.specs.Few.{place, told};
 ghost use Rattle.request_queue.specs.Pending.{but, oldest, request_at};
+ghost use Rattle.request_queue.specs.Requests.{lent_shapes, shapes_of};
 
 use crate::request::Request;
 use serve_rules::Wanted;
@@ -66,6 +68,18 @@ impl Few {
         ensures small { result < 2 ^ 63 }
     {
         self.arrivals.len()
+    }
+
+    /// The requests, oldest first.
+    pub fn pending(&self) -> Result<Vec<&Request>, AllocError>
+        ensures pending { IfOk result
+            (λ v. lent_shapes v.items ≡ shapes_of self.now) }
+    {
+        let mut pending = Vec::with_capacity(self.alloc, self.arrivals.len())?;
+        for arrival in &self.arrivals {
+            pending.push(&arrival.request)?;
+        }
+        Ok(pending)
     }
 
     /// Appends a request under a number.

@@ -6,16 +6,19 @@ ghost use Rattle.std.specs.Prelude.{
   ◌++◌,
   ◌∷◌,
   [],
+  IfOk,
   IsSome,
   OnErr,
   OnOk,
   Some,
   length,
+  map,
 };
 ghost use Rattle.std.specs.Option.{option_map};
 ghost use Rattle.serve_rules.specs.Wanted.{wanted_labels};
 ghost use Rattle.request_queue.specs.Led.{arrived_of, behind};
 ghost use Rattle.request_queue.specs.Pending.{but, oldest, request_at, waiting};
+ghost use Rattle.request_queue.specs.Requests.{lent_shapes};
 
 use crate::crowd::{Crowd, MOST_ARRIVALS};
 use crate::few::Few;
@@ -70,6 +73,18 @@ impl Queue {
         match &self.others {
             Some(crowd) => self.few.len() + crowd.len(),
             None => self.few.len(),
+        }
+    }
+
+    /// The pending requests, oldest first.
+    pub fn pending(&self) -> Result<Vec<&Request>, AllocError>
+        ensures pending { IfOk result
+            (λ v. lent_shapes v.items ≡ map (λ x. x.1) (waiting self.now)) }
+    {
+        let few = self.few.pending()?;
+        match &self.others {
+            Some(crowd) => crowd.behind(few),
+            None => Ok(few),
         }
     }
 
