@@ -15,8 +15,8 @@ use Rattle.code_table.specs.Shapes.{class_object, store_of}
 use Rattle.step_rows.specs.Decisions.{read}
 use Rattle.step_rows.proofs.calls.method_in.Goals as goal
 
-pub returns-in_default-method : goal.returns-in_default-method
-returns-in_default-method c = record {
+pub returns-in_default-method_keyed : goal.returns-in_default-method_keyed
+returns-in_default-method_keyed c = record {
   callee = λ s.
       let k : List Node = c.args.code.now in
       let ns : List ℕ = c.args.object.now.places.items in
@@ -26,7 +26,7 @@ returns-in_default-method c = record {
       let i : ℕ = c.args.at in
       let ks : List ℕ = c.args.arguments.now in
       let here : class_at k c.args.object.now.class ≡ Some x = sym c.class.ensures.class ∙ ap seen_class c.in-Some.is in
-      let none : method_number l x ≡ None = sym c.method_keyed.ensures.number ∙ c.in_default-method.is in
+      let none : method_number l x ≡ None = sym c.method_keyed.ensures.number ∙ c.in_default-method_keyed.is in
       ap (λ (o : Option Class). read i (call_row S l i ks) (class_object k ns o)) here
       ∙ ap (method_found S i ks) (lookup.method_missing l (pieces k) x (drop (length x.fields.items) ns) none);
 }
@@ -42,8 +42,8 @@ returns-then-arguments-len c = record {
       let i : ℕ = c.args.at in
       let ks : List ℕ = c.args.arguments.now in
       let here : class_at k c.args.object.now.class ≡ Some x = sym c.class.ensures.class ∙ ap seen_class c.in-Some.is in
-      let j : ℕ = c.in-Some-method.number in
-      let is : method_number l x ≡ Some j = sym c.method_keyed.ensures.number ∙ c.in-Some-method.is in
+      let j : ℕ = c.in-Some-method_keyed.number in
+      let is : method_number l x ≡ Some j = sym c.method_keyed.ensures.number ∙ c.in-Some-method_keyed.is in
       let look = c.in-Some-get.ensures.lookup.3 in
       let m : MethodCode = c.in-Some-get.method.now in
       let m_is : m ≡ get_or x.methods.items j m = subst (λ (ms : List MethodCode). m ≡ get_or ms j m) c.deref.ensures.value (look.1 m) in
@@ -62,8 +62,8 @@ returns c =
     let x : Class = c.in-Some.class.now in
     let ks : List ℕ = c.args.arguments.now in
     let here : class_at k c.args.object.now.class ≡ Some x = sym c.class.ensures.class ∙ ap seen_class c.in-Some.is in
-    let j : ℕ = c.in-Some-method.number in
-    let is : method_number l x ≡ Some j = sym c.method_keyed.ensures.number ∙ c.in-Some-method.is in
+    let j : ℕ = c.in-Some-method_keyed.number in
+    let is : method_number l x ≡ Some j = sym c.method_keyed.ensures.number ∙ c.in-Some-method_keyed.is in
     let look = c.in-Some-get.ensures.lookup.3 in
     let m : MethodCode = c.in-Some-get.method.now in
     let lt : j < length x.methods.items = subst (λ (ms : List MethodCode). j < length ms) c.deref.ensures.value look.0 in

@@ -13,7 +13,7 @@ pub returns-in-Object : goal.returns-in-Object
 returns-in-Object c = record {
   row = λ s.
       let k : List Node = c.args.code.now in
-      let l = c.args.label.now.text in
+      let l = c.args.label.now.label.text in
       let i : ℕ = c.args.place in
       let o : Object = c.in-Object.object.value in
       let same : c.deref.result.now ≡ o = c.deref.ensures in

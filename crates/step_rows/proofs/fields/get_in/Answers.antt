@@ -10,8 +10,8 @@ use Rattle.code_table.proofs.LookupLemmas as lookup
 use Rattle.code_table.specs.Shapes.{class_object, store_of}
 use Rattle.step_rows.proofs.fields.get_in.Goals as goal
 
-pub returns-in_default-field : goal.returns-in_default-field
-returns-in_default-field c = record {
+pub returns-in_default-field_keyed : goal.returns-in_default-field_keyed
+returns-in_default-field_keyed c = record {
   row = λ s.
       let k : List Node = c.args.code.now in
       let ns : List ℕ = c.args.object.now.places.items in
@@ -19,7 +19,7 @@ returns-in_default-field c = record {
       let x : Class = c.in-Some.class.now in
       let S : Store = store_of k s in
       let here : class_at k c.args.object.now.class ≡ Some x = sym c.class.ensures.class ∙ ap seen_class c.in-Some.is in
-      let none : field_number l x ≡ None = sym c.field_keyed.ensures.number ∙ c.in_default-field.is in
+      let none : field_number l x ≡ None = sym c.field_keyed.ensures.number ∙ c.in_default-field_keyed.is in
       ap (λ (o : Option Class). get_row S l (class_object k ns o)) here ∙ ap (contraction.field_found S) (lookup.field_missing l x ns none);
 }
 
@@ -32,8 +32,8 @@ returns c = record {
       let x : Class = c.in-Some.class.now in
       let S : Store = store_of k s in
       let here : class_at k c.args.object.now.class ≡ Some x = sym c.class.ensures.class ∙ ap seen_class c.in-Some.is in
-      let i : ℕ = c.in-Some-field.field in
-      let is : field_number l x ≡ Some i = sym c.field_keyed.ensures.number ∙ c.in-Some-field.is in
+      let i : ℕ = c.in-Some-field_keyed.field in
+      let is : field_number l x ≡ Some i = sym c.field_keyed.ensures.number ∙ c.in-Some-field_keyed.is in
       let look = c.in-Some-get.ensures.lookup.3 in
       let p : ℕ = c.in-Some-get.place.now in
       let lt : i < length ns = subst (λ (l : List ℕ). i < length l) c.deref.ensures.value look.0 in

@@ -13,8 +13,8 @@ use Rattle.code_table.proofs.CodedLemmas.{cell-store_of}
 use Rattle.object_store.proofs.FieldLemmas.{places_set}
 use Rattle.step_rows.proofs.fields.put_in.Goals as goal
 
-pub returns-in_default-field : goal.returns-in_default-field
-returns-in_default-field c = record {
+pub returns-in_default-field_keyed : goal.returns-in_default-field_keyed
+returns-in_default-field_keyed c = record {
   row = λ s h.
       let k : List Node = c.args.code.now in
       let ns : List ℕ = c.args.object.now.places.items in
@@ -23,7 +23,7 @@ returns-in_default-field c = record {
       let S : Store = store_of k s in
       let i : ℕ = c.args.at in
       let here : class_at k c.args.object.now.class ≡ Some x = sym c.class.ensures.class ∙ ap seen_class c.in-Some.is in
-      let none : field_number l x ≡ None = sym c.field_keyed.ensures.number ∙ c.in_default-field.is in
+      let none : field_number l x ≡ None = sym c.field_keyed.ensures.number ∙ c.in_default-field_keyed.is in
       let ms : List MethodShape = seen_methods (pieces k) x.methods.items (drop (length x.fields.items) ns) in
       ap (λ (o : Option Class). put_row S l i c.args.to (class_object k ns o)) here
       ∙ ap (contraction.field_set S i (Object (with_field l c.args.to (fields_at (labels_of x) ns)) ms)) (lookup.field_missing l x ns none);
@@ -38,9 +38,9 @@ returns c = record {
       let x : Class = c.in-Some.class.now in
       let S : Store = store_of k s in
       let i : ℕ = c.args.at in
-      let n : ℕ = c.in-Some-field.field in
+      let n : ℕ = c.in-Some-field_keyed.field in
       let here : class_at k c.args.object.now.class ≡ Some x = sym c.class.ensures.class ∙ ap seen_class c.in-Some.is in
-      let is : field_number l x ≡ Some n = sym c.field_keyed.ensures.number ∙ c.in-Some-field.is in
+      let is : field_number l x ≡ Some n = sym c.field_keyed.ensures.number ∙ c.in-Some-field_keyed.is in
       let size : c.len.result ≡ length ns = search (rules, c.len.ensures) in
       let lt : n < length ns = omega (arith, size, c.if-field-len.false) in
       let ms : List MethodShape = seen_methods (pieces k) x.methods.items (drop (length x.fields.items) ns) in
