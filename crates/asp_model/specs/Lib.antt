@@ -2,6 +2,7 @@
 pub mod Paths
 pub mod Names
 pub mod Order
+pub mod Hashed
 pub mod Term
 pub mod Split
 pub mod Store

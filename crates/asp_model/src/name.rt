@@ -8,6 +8,7 @@ ghost use Rattle.std.specs.Cmp.Rules.{comparing};
 ghost use Rattle.std.specs.Hash as fed;
 ghost use Rattle.std.specs.Ordering.{as_partial_cmp};
 ghost use Rattle.asp_model.specs.Order.{same_name_same};
+ghost use Rattle.asp_model.specs.Hashed.{future_number, mixed_with, name_number, same_number};
 ghost use Rattle.asp_model.specs.Names.{created_name, main_name, name_cmp, same_name};
 
 use crate::path::CreationPath;
@@ -31,7 +32,7 @@ impl Model for ActivityName {
 
 /// The name of a future: who sent the request, and the request's number among those that it sent,
 /// from 1.
-#[derive(Debug, PartialEq, Eq, PartialOrd, Ord, Hash, Drop)]
+#[derive(Debug, PartialEq, Eq, PartialOrd, Ord, Drop)]
 pub struct FutureName {
     pub by: ActivityName,
     pub index: u32,
@@ -94,6 +95,26 @@ impl FutureName {
     }
 }
 
+// One number for a list of numbers, which their hash is made of.
+fn number_of(numbers: &[u32]) -> u64
+    ensures number { result ≡ name_number numbers.now }
+{
+    let mut number = 0;
+    for part in numbers {
+        number = mixed_with(number, *part);
+    }
+    number
+}
+
+#[inline(always)]
+fn mixed_with(number: u64, part: u32) -> u64
+    ensures number { result ≡ mixed_with number part }
+{
+    number
+        .wrapping_mul(0x9e37_79b9_7f4a_7c15)
+        .wrapping_add(part as u64)
+}
+
 // The order of two lists of numbers.
 fn compare_numbers(left: &[u32], right: &[u32]) -> Ordering
     ensures order { result ≡ name_cmp left.now right.now }
@@ -106,6 +127,16 @@ fn compare_numbers(left: &[u32], right: &[u32]) -> Ordering
         i += 1;
     }
     left.len().cmp(&right.len())
+}
+
+impl Hash for FutureName {
+    ghost hash_input = { λ f. fed.u64 (future_number f.by f.index) };
+
+    ghost respects_eq = { λ f g e. ap fed.u64 (same_number f.by g.by f.index g.index e) };
+
+    fn hash<H: Hasher>(&self, state: &mut H) {
+        state.write_u64(mixed_with(number_of(self.by.path()), self.index));
+    }
 }
 
 impl PartialEq for ActivityName {
@@ -123,12 +154,12 @@ impl Eq for ActivityName {
 }
 
 impl Hash for ActivityName {
-    ghost hash_input = { fed.slice fed.u32 };
+    ghost hash_input = { λ n. fed.u64 (name_number n) };
 
-    ghost respects_eq = { λ x y e. ap (fed.slice fed.u32) (same_name_same x y e) };
+    ghost respects_eq = { λ x y e. ap (λ n. fed.u64 (name_number n)) (same_name_same x y e) };
 
     fn hash<H: Hasher>(&self, state: &mut H) {
-        self.path().hash(state);
+        state.write_u64(number_of(self.path()));
     }
 }
 
