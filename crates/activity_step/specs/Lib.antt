@@ -6,3 +6,4 @@ pub mod Activities
 pub mod Starting
 pub mod Shown
 pub mod Standings
+pub mod Places

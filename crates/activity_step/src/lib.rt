@@ -9,6 +9,7 @@ mod groups;
 mod objects;
 mod passing;
 mod performing;
+mod places;
 mod quick;
 mod reducing;
 mod services;
