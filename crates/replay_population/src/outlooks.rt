@@ -10,6 +10,7 @@ ghost use Rattle.asp_model.specs.Status.{status_of};
 ghost use Rattle.asp_model.specs.Step.{intent_in};
 ghost use Rattle.def_journals.specs.Journals.{number_of};
 ghost use Rattle.law_steps.specs.Reached.{IsAt};
+ghost use Rattle.activity_step.specs.Places.{IsPlaceOf};
 ghost use Rattle.step_activity.specs.Outlook.{IsOutlook};
 ghost use Rattle.step_activity.specs.Stances.{stance_of, stance_shape};
 ghost use Rattle.replay_population.specs.Population.{
@@ -34,6 +35,19 @@ impl Population {
         match self.get(number) {
             Some(actor) => actor.count(),
             None => 0,
+        }
+    }
+
+    /// The byte of the text where the node stood at which an activity is. There is none where its
+    /// term is done, or is the call that a service begins with.
+    pub fn mark(&self, number: u32) -> Option<usize>
+        ensures place { (c : Configuration) (a : model.Activity) (n : Name) →
+            (p : IsPopulation self.now c) → number_of n self.now.roster ≡ Some number →
+            IsAt c n a → IsPlaceOf p.code a result }
+    {
+        match self.get(number) {
+            Some(actor) => actor.mark(),
+            None => None,
         }
     }
 

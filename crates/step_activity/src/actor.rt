@@ -11,6 +11,7 @@ ghost use Rattle.code_table.specs.Pieces.{tree};
 ghost use Rattle.code_table.specs.Sound.{root_of};
 ghost use Rattle.code_table.specs.Tables.{piece_at, pieces};
 ghost use Rattle.activity_step.specs.Activities.{StandsFor};
+ghost use Rattle.activity_step.specs.Places.{IsPlaceOf};
 ghost use Rattle.def_paths.specs.Snapshots.{snapshot_of};
 ghost use Rattle.request_queue.specs.Requests.{request_shape};
 ghost use Rattle.run_ends.specs.Ends.{IsSnapshotOf};
@@ -86,6 +87,15 @@ impl Actor {
             result ≡ a.reductions }
     {
         self.activity.count()
+    }
+
+    /// The byte of the text where the node stood at which it is. There is none where its term is
+    /// done, or is the call that a service begins with.
+    pub fn mark(&self) -> Option<usize>
+        ensures place { (a : model.Activity) (rs : List RequestShape) → Stands self.now a rs →
+            IsPlaceOf (code_of self.now) a result }
+    {
+        self.activity.mark()
     }
 
     /// How many receptions its log has.
