@@ -7,3 +7,4 @@ pub mod Asking
 pub mod Running
 pub mod Stances
 pub mod Passing
+pub mod Parts
