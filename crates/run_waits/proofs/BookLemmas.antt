@@ -11,7 +11,6 @@ use Rattle.law_chases.proofs.FutureLemmas.{no_some, some_is}
 use Rattle.asp_model.specs.Names.{Name, Text, name_cmp, same_name}
 use Rattle.asp_model.specs.Term.{has_text}
 use Rattle.asp_model.specs.Configuration.{Activity, Configuration}
-use Rattle.asp_model.specs.Contraction.{LineShape}
 use Rattle.asp_model.specs.Intent as intents
 use Rattle.asp_model.specs.Intent.{StatusShape}
 use Rattle.asp_model.specs.Status.{status_of}
@@ -30,7 +29,7 @@ use Rattle.replay_one.specs.Notes.{Answered, EventShape, Faulted, Made, NoteShap
 use Rattle.run_waits.specs.declared.book.Asked.{Asked}
 use Rattle.run_waits.specs.declared.book.Book.{Book}
 use Rattle.run_waits.specs.declared.books.Books.{Books}
-use Rattle.run_waits.specs.Books.{BookShape, HasNone, IsNoted, IsOldestAt, KeepsBooks, Request, blank, book_after, book_answered, book_by, book_from, book_in, book_of, book_received, book_served, book_taken, but_newest, newest, oldest, or_blank, others, owner, request_of, with_newest}
+use Rattle.run_waits.specs.Books.{BookShape, HasNone, IsNoted, IsOldestAt, KeepsBooks, Request, blank, book_after, book_answered, book_at, book_by, book_from, book_in, book_of, book_received, book_served, book_taken, but_newest, newest, oldest, or_blank, others, owner, request_of, with_newest}
 
 -- The oldest of a list
 
@@ -196,6 +195,11 @@ same_both : {X : Type 0} (b : Bool) (y : X) → elim b [ true ↦ y | false ↦ 
 same_both true y = refl
 same_both false y = refl
 
+-- an event that changes no book
+pub noted_nothing : (m : Name) (x : EventShape) (r : Books) → ((b : BookShape) → book_by x b ≡ b) → IsNoted m x r r
+noted_nothing m x r same n =
+    sym (same_both (same_name m n) (book_at r n)) ∙ ap (λ (b : BookShape). elim (same_name m n) [ true ↦ b | false ↦ book_at r n ]) (sym (same (book_at r n)))
+
 -- lines stand in no book
 pub books_deaf : (r : Books) → IsDeafToLines (KeepsBooks r)
 books_deaf r xs n k l keeps m =
@@ -267,11 +271,12 @@ taken_some old new k x e at = (
 
 -- In a map of books
 
-pub opened : (m : Name) (old new : BTreeMap Name Book) (b : Book) → get name_cmp old m ≡ None → book_of b ≡ blank → ((n : Name) → get name_cmp new n ≡ cond (is_at (name_cmp m) n) (Some b) (get name_cmp old n)) → (n : Name) → or_blank (get name_cmp new n) ≡ or_blank (get name_cmp old n)
-opened m old new b none is updates n = by (same_name m n) refl
+pub begun : (m : Name) (x : EventShape) (old new : BTreeMap Name Book) (b : Book) → get name_cmp old m ≡ None → book_of b ≡ book_by x blank → ((n : Name) → get name_cmp new n ≡ cond (is_at (name_cmp m) n) (Some b) (get name_cmp old n))
+    → (n : Name) → or_blank (get name_cmp new n) ≡ elim (same_name m n) [ true ↦ book_by x (or_blank (get name_cmp old n)) | false ↦ or_blank (get name_cmp old n) ]
+begun m x old new b none is updates n = by (same_name m n) refl
   where
-    by : (e : Bool) → same_name m n ≡ e → or_blank (get name_cmp new n) ≡ or_blank (get name_cmp old n)
-    by true e = ap or_blank (updates n ∙ ap (λ z. cond z (Some b) (get name_cmp old n)) e) ∙ is ∙ sym (ap or_blank (ap (get name_cmp old) (sym (same_name_same m n e)) ∙ none))
+    by : (e : Bool) → same_name m n ≡ e → or_blank (get name_cmp new n) ≡ elim e [ true ↦ book_by x (or_blank (get name_cmp old n)) | false ↦ or_blank (get name_cmp old n) ]
+    by true e = ap or_blank (updates n ∙ ap (λ z. cond z (Some b) (get name_cmp old n)) e) ∙ is ∙ sym (ap (λ o. book_by x (or_blank o)) (ap (get name_cmp old) (sym (same_name_same m n e)) ∙ none))
     by false e = ap or_blank (updates n ∙ ap (λ z. cond z (Some b) (get name_cmp old n)) e)
 
 pub written_book : (m : Name) (x : EventShape) (old new : BTreeMap Name Book) (was now : Book) → Some was ≡ get name_cmp old m → book_of now ≡ book_by x (book_of was) → WritesThrough name_cmp (name_cmp m) old now new

@@ -1,12 +1,12 @@
 //! What each activity has of the requests that came to it, kept by a listener.
 
-ghost use Rattle.std.specs.Prelude.{◌≡◌, IsSome, OnOk};
+ghost use Rattle.std.specs.Prelude.{◌≡◌, IsFalse, None, OnOk};
 ghost use Rattle.std.specs.BTreeMap.{get};
 ghost use Rattle.std.specs.Option.{option_copied};
 ghost use Rattle.asp_model.specs.Names.{Name, name_cmp};
 ghost use Rattle.replay_one.specs.Listening.{IsEvent, IsNote};
 ghost use Rattle.replay_one.specs.Notes.{EventShape, NoteShape};
-ghost use Rattle.run_waits.specs.Books.{IsNoted, blank, book_at, book_of, or_blank, owner};
+ghost use Rattle.run_waits.specs.Books.{BookShape, IsNoted, blank, book_at, book_by, or_blank, owner};
 
 use crate::book::Book;
 use asp_model::ActivityName;
@@ -19,6 +19,23 @@ use std::collections::BTreeMap;
 pub struct Books {
     alloc: Global,
     books: BTreeMap<ActivityName, Book>,
+}
+
+// It tells of a request. No other event changes a book.
+fn is_entered(event: Event) -> bool
+    ensures { IsFalse result → (x : EventShape) (b : BookShape) →
+        IsEvent event.entry x → book_by x b ≡ b }
+{
+    match event {
+        Event::Sent(_, _, _) => true,
+        Event::Served(_) => true,
+        Event::Answered(_) => true,
+        Event::Made(_) => false,
+        Event::Polled => false,
+        Event::Printed(_) => false,
+        Event::Standing(_) => false,
+        Event::Faulted(_) => false,
+    }
 }
 
 // Whose book tells of an event.
@@ -49,28 +66,28 @@ impl Books {
         self.books.get(name)
     }
 
-    // There is a book of this activity.
-    fn open(&mut self, name: &ActivityName) -> Result<(), AllocError>
-        ensures known { OnOk result (IsSome (get name_cmp self.new.books name.now)) }
-        ensures same { OnOk result ((n : Name) → book_at self.new n ≡ book_at self.old n) }
-    {
-        if !self.books.contains_key(name) {
-            let name = name.copy(self.alloc)?;
-            self.books.insert(name, Book::new(self.alloc))?;
-        }
-        Ok(())
-    }
-
-    // An event is told in a book that is there.
+    // An event is told in the book of an activity.
     fn enter(&mut self, name: &ActivityName, event: Event) -> Result<(), AllocError>
-        requires known { IsSome (get name_cmp self.old.books name.now) }
         ensures { (x : EventShape) → IsEvent event.entry x →
             OnOk result (IsNoted name.now x self.old self.new) }
     {
         match self.books.get_mut(name) {
             Some(book) => book.tell(self.alloc, event),
-            None => unreachable!(),
+            None => self.begin(name, event),
         }
+    }
+
+    // A first event is told of an activity.
+    fn begin(&mut self, name: &ActivityName, event: Event) -> Result<(), AllocError>
+        requires unknown { get name_cmp self.old.books name.now ≡ None }
+        ensures { (x : EventShape) → IsEvent event.entry x →
+            OnOk result (IsNoted name.now x self.old self.new) }
+    {
+        let name = name.copy(self.alloc)?;
+        let mut book = Book::new(self.alloc);
+        book.tell(self.alloc, event)?;
+        self.books.insert(name, book)?;
+        Ok(())
     }
 
     /// It is told one note more.
@@ -78,8 +95,10 @@ impl Books {
         ensures { (x : NoteShape) → IsNote note.entry x →
             OnOk result (IsNoted (owner x.by x.event) x.event self.old self.new) }
     {
-        let owner = owner_of(note);
-        self.open(owner)?;
-        self.enter(owner, note.event)
+        if is_entered(note.event) {
+            self.enter(owner_of(note), note.event)
+        } else {
+            Ok(())
+        }
     }
 }
