@@ -58,27 +58,6 @@ fn entries_of(alloc: Global, heard: IndexMap<ActivityName, Heard>) -> Result<Ser
     Ok(Services { entries })
 }
 
-// Whether two names are the same, number by number.
-fn is_same(name: &ActivityName, other: &ActivityName) -> bool
-    ensures { IsTrue result → name.now ≡ other.now }
-{
-    are_same(name.path(), other.path())
-}
-
-fn are_same(numbers: &[u32], others: &[u32]) -> bool
-    ensures { IsTrue result → numbers.now ≡ others.now }
-{
-    if numbers.len() != others.len() {
-        return false;
-    }
-    for place in 0..numbers.len() {
-        if numbers[place] != others[place] {
-            return false;
-        }
-    }
-    true
-}
-
 impl Listener {
     /// Nothing was told. The activities of these logs come first, in their order.
     pub fn new(alloc: Global, lists: &Lists) -> Result<Listener, AllocError>
@@ -110,7 +89,7 @@ impl Listener {
         ensures { IsTrue result → IsKeptAt self.now name.now place }
     {
         match self.heard.get_index(place) {
-            Some((key, _heard)) => is_same(key, name),
+            Some((key, _heard)) => *key == *name,
             None => false,
         }
     }
