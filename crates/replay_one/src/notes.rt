@@ -32,6 +32,10 @@ pub enum Event<'a> {
 pub struct Note<'a> {
     pub by: &'a ActivityName,
     pub count: u64,
+    /// The byte of the text at which it stands before its step, or at the end; none where its term
+    /// is done, or is the call that a service begins with. It is no part of what is told in the
+    /// sense of the definition: what it is the clause `place` of `Population::mark` says.
+    pub at: Option<usize>,
     pub event: Event<'a>,
 }
 

@@ -24,11 +24,12 @@ use serve_rules::Wanted;
 use std::alloc::{AllocError, Global};
 use step_activity::Given;
 
-/// What is known of an activity before it takes its step: how many reductions it took, and how many
-/// lines it printed.
+/// What is known of an activity before it takes its step: how many reductions it took, the byte of
+/// the text at which it stands, and how many lines it printed.
 #[derive(Clone, Copy)]
 pub struct Known {
     pub count: u64,
+    pub at: Option<usize>,
     pub lines: usize,
 }
 
@@ -68,15 +69,17 @@ pub fn before<N: Notes>(
     let count = population.count(number);
     let lines = lines_of(population, number).len();
     let wanted = population.wanted(number)?;
+    let at = population.mark(number);
     let by = population.roster.name(number);
-    tell_service(by, count, wanted, notes)?;
-    Ok(Some(Known { count, lines }))
+    tell_service(by, count, at, wanted, notes)?;
+    Ok(Some(Known { count, at, lines }))
 }
 
 /// It is told of a service, where labels are asked for.
 fn tell_service<N: Notes>(
     by: &ActivityName,
     count: u64,
+    at: Option<usize>,
     wanted: Wanted,
     notes: &mut N,
 ) -> Result<(), AllocError>
@@ -91,6 +94,7 @@ fn tell_service<N: Notes>(
     notes.note(Note {
         by,
         count,
+        at,
         event: Event::Served(wanted),
     })
 }
@@ -99,6 +103,7 @@ fn tell_service<N: Notes>(
 fn tell_given<N: Notes>(
     by: &ActivityName,
     count: u64,
+    at: Option<usize>,
     given: &Given,
     notes: &mut N,
 ) -> Result<(), AllocError>
@@ -113,7 +118,12 @@ fn tell_given<N: Notes>(
         Given::Filled(future, _) => Event::Answered(&future.name),
         Given::Polled => Event::Polled,
     };
-    notes.note(Note { by, count, event })
+    notes.note(Note {
+        by,
+        count,
+        at,
+        event,
+    })
 }
 
 /// The lines behind so many.
@@ -131,6 +141,7 @@ fn behind(lines: &[Line], before: usize) -> &[Line]
 fn tell_lines<N: Notes>(
     by: &ActivityName,
     count: u64,
+    at: Option<usize>,
     lines: &[Line],
     notes: &mut N,
 ) -> Result<(), AllocError>
@@ -145,6 +156,7 @@ fn tell_lines<N: Notes>(
         notes.note(Note {
             by,
             count,
+            at,
             event: Event::Printed(line),
         })?;
     }
@@ -172,15 +184,16 @@ pub fn tell<N: Notes>(
         return Ok(());
     };
     let by = population.roster.name(number);
-    tell_given(by, before.count, given, notes)?;
+    tell_given(by, before.count, before.at, given, notes)?;
     let lines = behind(lines_of(population, number), before.lines);
-    tell_lines(by, before.count, lines, notes)
+    tell_lines(by, before.count, before.at, lines, notes)
 }
 
 /// It is told where an activity stands, if it asks for labels there.
 fn tell_serve<N: Notes>(
     by: &ActivityName,
     count: u64,
+    at: Option<usize>,
     wanted: Wanted,
     notes: &mut N,
 ) -> Result<(), AllocError>
@@ -194,6 +207,7 @@ fn tell_serve<N: Notes>(
     notes.note(Note {
         by,
         count,
+        at,
         event: Event::Standing(wanted),
     })
 }
@@ -202,6 +216,7 @@ fn tell_serve<N: Notes>(
 fn tell_fault<N: Notes>(
     by: &ActivityName,
     count: u64,
+    at: Option<usize>,
     status: &Status,
     notes: &mut N,
 ) -> Result<(), AllocError>
@@ -213,6 +228,7 @@ fn tell_fault<N: Notes>(
         Status::Faulted(fault) => notes.note(Note {
             by,
             count,
+            at,
             event: Event::Faulted(*fault),
         }),
         Status::Done | Status::Serving | Status::Running | Status::Awaits(_) => Ok(()),
@@ -242,10 +258,11 @@ fn tell_place<N: Notes>(
     population.settle(number)?;
     let count = population.count(number);
     let wanted = population.wanted(number)?;
+    let at = population.mark(number);
     let status = population.status(alloc, number)?;
     let by = population.roster.name(number);
-    tell_serve(by, count, wanted, notes)?;
-    tell_fault(by, count, &status, notes)
+    tell_serve(by, count, at, wanted, notes)?;
+    tell_fault(by, count, at, &status, notes)
 }
 
 /// It is told where all activities stand, where somebody listens.
