@@ -5,3 +5,4 @@ pub mod BehindLemmas
 pub mod WalkLemmas
 pub mod TermLemmas
 pub mod GroupLemmas
+pub mod ServiceLemmas

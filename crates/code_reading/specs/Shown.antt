@@ -1,12 +1,14 @@
 -- What the terms of a machine show.
 use Rattle.std.specs.Prelude.{◌≡◌, ℕ, List, ◌∷◌, ◌++◌, Option, map, reverse}
 use Rattle.std.specs.Option.{option_map}
+use Rattle.std.specs.List.{AllByRecursion}
 use Rattle.asp_model.specs.Names.{FutureShape}
 use Rattle.asp_model.specs.Term.{Hole, Tree, leaf}
 use Rattle.asp_model.specs.Split.{Context, plug, plugged}
 use Rattle.asp_model.specs.Configuration.{ServiceShape}
 use Rattle.asp_model.specs.Shapes.{future_shape, tree_of}
 use Rattle.code_table.specs.declared.code.Node.{Node}
+use Rattle.code_laws.specs.Splitting.{AreContexts}
 use Rattle.step_machine.specs.declared.frames.Frame.{Frame}
 use Rattle.step_machine.specs.Items.{Item, contexts_of, services_of, futures_of}
 use Rattle.step_machine.specs.Stacks.{IsStack}
@@ -34,6 +36,9 @@ pub record IsShown (t : Tree) (services : List ServiceShape) (terms : List Tree)
   pub term : t ≡ plug contexts inner
   pub are : terms ≡ inner ∷ map hole_tree contexts
   pub suspended : shown ≡ map service_terms (reverse services)
+  -- a hole is reduced in place, and all before it are locations
+  pub holes : AreContexts contexts
+  pub suspended_holes : AllByRecursion (λ s. AreContexts s.contexts) services
 
 -- terms behind others are the contexts of a stack, and what is left of it begins with a service
 pub record IsSegment (k : List Node) (items : List Item) (first terms : List Tree) (frames : List Frame) (env operands : List ℕ) : Type 0 where

@@ -37,6 +37,8 @@ pub fn term_of(
     requires below { IsBelow (length code.now) child.now }
     ensures term { let p = piece_of (pieces code.now) child.now in
         IfOk result (λ r. IsTermIn places.now p (tree_of r)) }
+    ensures shown { let p = pieces code.now in
+        IfOk result (λ r. tree_of r ≡ shown_child (map loc places.now) p child.now) }
 {
     let kept = seen_places(alloc, places)?;
     child_term(alloc, code, &kept, child)

@@ -11,8 +11,9 @@ use Rattle.code_table.specs.Cells.{held_future}
 use Rattle.step_machine.specs.declared.frames.Frame.{Frame}
 use Rattle.step_machine.specs.Items.{Item, contexts_of, futures_of}
 use Rattle.step_machine.specs.Stacks.{IsStack, but_last}
-use Rattle.step_machine.specs.Standing.{taken}
+use Rattle.step_machine.specs.Standing.{taken, view_of}
 use Rattle.code_reading.specs.Shown.{IsSegment, hole_tree, service_terms}
+use Rattle.code_reading.proofs.ServiceLemmas.{holes_of, suspended_holes_of}
 use Rattle.code_reading.proofs.shown.show.Goals as goal
 
 pub returns : goal.returns
@@ -41,5 +42,7 @@ returns c = record {
         are = segment.are ∙ ap (λ (us : List Tree). us ++ map hole_tree (contexts_of items)) first;
         suspended = c.in_ok-services.ensures.services segment.left segment.alone segment.stack futures
             ∙ ap (λ (ss : List ServiceShape). map service_terms (reverse ss)) (sym segment.services ∙ sym st.suspended);
+        holes = holes_of k (view_of m) t vs st;
+        suspended_holes = suspended_holes_of k (view_of m) t vs st;
       };
 }

@@ -1,4 +1,4 @@
-use Rattle.std.proofs.Common.{◌≡◌, ◌∙◌, List, map, sym, ap}
+use Rattle.std.proofs.Common.{◌≡◌, ◌∙◌, List, IfOk, map, sym, ap, subst}
 use Rattle.asp_model.specs.Shapes.{tree_of}
 use Rattle.asp_model.specs.Term.{Tree, loc}
 use Rattle.asp_model.specs.declared.term.Term.{Term}
@@ -18,4 +18,5 @@ returns c =
     record {
       term = if_ok c.child_term.result (λ (r : Term). tree_of r ≡ shown (map seen_tree c.deref.result.now) p) (λ (r : Term). IsTermIn ns p (tree_of r))
           (λ r h xs scope runs. h ∙ ap (λ (ts : List Tree). shown ts p) seen ∙ sym (shown_is xs scope ns p runs)) c.child_term.ensures.term;
+      shown = subst (λ (ts : List Tree). IfOk c.child_term.result (λ (r : Term). tree_of r ≡ shown ts p)) seen c.child_term.ensures.term;
     }
