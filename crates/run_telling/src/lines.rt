@@ -6,7 +6,7 @@ use crate::places::{byte_of, node_of, push_place};
 use asp_model::{ActivityReport, Fault, FutureName, Label, Status};
 use code_table::{EMPTY_NUMBER, Kind, Node, SERVE_NUMBER};
 use run_ends::EndState;
-use run_waits::{Asked, Explained};
+use run_waits::{Asked, Explained, Target};
 use state_lines::push_name;
 use std::alloc::AllocError;
 use step_machine::node_at;
@@ -143,9 +143,21 @@ impl Told<'_> {
                 text.push_str("waits for ")?;
                 push_name(text, &target.to)?;
                 text.push_str(" to answer ")?;
-                push_label(text, &target.label)
+                push_label(text, &target.label)?;
+                self.push_sent(text, target)
             }
             None => text.push_str("waits for an answer"),
+        }
+    }
+
+    // Where in the text a request was sent.
+    fn push_sent(&self, text: &mut String, target: &Target) -> Result<(), AllocError> {
+        match target.at {
+            Some(at) => {
+                text.push_str(", sent at ")?;
+                push_place(text, self.file, self.bytes, at)
+            }
+            None => Ok(()),
         }
     }
 

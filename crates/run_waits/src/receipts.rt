@@ -14,6 +14,8 @@ use std::collections::BTreeMap;
 pub struct Target {
     pub to: ActivityName,
     pub label: Label,
+    /// The byte of the text where it was sent.
+    pub at: Option<usize>,
 }
 
 /// Where each request went.
@@ -47,6 +49,7 @@ impl Receipts {
         to: &ActivityName,
         label: &Label,
         future: &FutureName,
+        at: Option<usize>,
     ) -> Result<(), AllocError>
         ensures sent { OnOk result
             (IsSentTo to.now label.now.text future.now self.old self.new) }
@@ -54,6 +57,7 @@ impl Receipts {
         let target = Target {
             to: to.copy(self.alloc)?,
             label: label.copy(self.alloc)?,
+            at,
         };
         self.targets.insert(future.copy(self.alloc)?, target)?;
         Ok(())
@@ -75,7 +79,7 @@ impl Notes for Receipts {
 
     fn note(&mut self, note: Note) -> Result<(), AllocError> {
         match note.event {
-            Event::Sent(to, label, future) => self.add_target(to, label, future),
+            Event::Sent(to, label, future) => self.add_target(to, label, future, note.at),
             Event::Served(_) => Ok(()),
             Event::Made(_) => Ok(()),
             Event::Answered(_) => Ok(()),
