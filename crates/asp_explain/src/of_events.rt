@@ -55,7 +55,7 @@ fn told<'a>(alloc: Global, given: &Given<'_>, page: Page<'a>) -> Result<Answer, 
         IfErr result (λ s. StopsAtEvents tree lists counts (page_shape page.entry) (refusal_of s)) }
 {
     let run = seen(alloc, given, page)?;
-    let text = tell_events(alloc, page.from, &run);
+    let text = tell_events(alloc, given.file, &given.bytes, page.from, &run);
     drop(run);
     Ok(answer_with(text?))
 }

@@ -34,6 +34,8 @@ pub enum What {
 pub struct RunEvent {
     pub by: ActivityName,
     pub count: u64,
+    /// The byte of the text at which it stands before that; none where it answers.
+    pub at: Option<usize>,
     pub what: What,
 }
 

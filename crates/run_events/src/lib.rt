@@ -6,6 +6,7 @@ mod event;
 mod events;
 mod listener;
 mod page;
+mod places;
 mod text;
 
 pub use event::{RunEvent, What};

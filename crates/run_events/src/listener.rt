@@ -51,6 +51,7 @@ impl Notes for Listener {
                 self.page.add(RunEvent {
                     by,
                     count: note.count,
+                    at: note.at,
                     what,
                 })
             }

@@ -2,19 +2,27 @@
 
 use crate::event::{RunEvent, What};
 use crate::events::EventsRun;
+use crate::places::Places;
 use asp_model::{Fault, FutureName, Label, Line};
 use run_waits::Asked;
 use state_lines::{push_future, push_name};
 use std::alloc::{AllocError, Global};
 
-/// Tells events of a run, of which the first has this number.
-pub fn tell_events(alloc: Global, from: u64, run: &EventsRun) -> Result<String, AllocError> {
+/// Tells events of a run of the program in a file. The first of them has this number.
+pub fn tell_events(
+    alloc: Global,
+    file: &str,
+    bytes: &[u8],
+    from: u64,
+    run: &EventsRun,
+) -> Result<String, AllocError> {
+    let mut places = Places::new(alloc, file, bytes);
     let mut text = String::new(alloc);
     push_heading(&mut text, from, run)?;
     let mut number = from;
     for event in &run.events {
         write!(text, "{number}: ")?;
-        push_event(&mut text, event)?;
+        push_event(&mut text, event, &mut places)?;
         text.push_str("\n")?;
         number = number.saturating_add(1);
     }
@@ -35,9 +43,14 @@ fn push_heading(text: &mut String, from: u64, run: &EventsRun) -> Result<(), All
     )
 }
 
-// Who does what, after how many of its reductions.
-fn push_event(text: &mut String, event: &RunEvent) -> Result<(), AllocError> {
+// Who does what, where in the text, after how many of its reductions.
+fn push_event(
+    text: &mut String,
+    event: &RunEvent,
+    places: &mut Places<'_>,
+) -> Result<(), AllocError> {
     push_name(text, &event.by)?;
+    places.push(text, event.at)?;
     let count = event.count;
     write!(text, " after {count} ")?;
     push_what(text, &event.what)

@@ -14,7 +14,7 @@ pub returns-in_ok-by-in-Some : goal.returns-in_ok-by-in-Some
 returns-in_ok-by-in-Some c = record {
   told = λ xs x tells n.
       let new : Listener = record { alloc = c.args.self.now.alloc; page = c.add.new.self; books = c.tell.new.self } in
-      let shown : RunEvent = record { by = c.in_ok-by-in-Some.by; count = c.args.note.count; what = c.in-Some.what } in
+      let shown : RunEvent = record { by = c.in_ok-by-in-Some.by; count = c.args.note.count; at = c.args.note.at; what = c.in-Some.what } in
       let w = what_shape c.in-Some.what in
       let same = ap (option_map what_shape) (sym c.in-Some.is) ∙ c.in_ok-what.ensures in
       let e : event_shape shown ≡ event_by x w = λ i. record { by = (c.in_ok-by-in-Some.ensures.name ∙ n.by) i; count = n.count i; what = w } in
