@@ -8,3 +8,5 @@ pub mod ContextLemmas
 pub mod ValueLemmas
 pub mod WordLemmas
 pub mod LineLemmas
+pub mod WritingLemmas
+pub mod ObjectWriting

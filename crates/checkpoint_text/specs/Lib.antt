@@ -5,3 +5,4 @@ pub mod Reading
 pub mod Writable
 pub mod Laws
 pub mod Rows
+pub mod Writing
