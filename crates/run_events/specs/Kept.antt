@@ -4,6 +4,7 @@ use Rattle.std.specs.List.{filter}
 use Rattle.asp_model.specs.Names.{Name}
 use Rattle.asp_model.specs.Shapes.{fault_shape, future_shape, line_shape}
 use Rattle.serve_rules.specs.Labels.{label_text}
+use Rattle.serve_rules.specs.Wanted.{wanted_labels}
 use Rattle.replay_one.specs.declared.notes.Event.{Event}
 use Rattle.replay_one.specs.declared.notes.Event.TheVariants as event
 use Rattle.replay_one.specs.Notes.{EventShape, NoteShape, Served, Made, Sent, Answered, Polled, Printed, Standing, Faulted}
@@ -33,13 +34,13 @@ event_shape e = record { by = e.by; count = e.count; what = what_shape e.what }
 -- Notes as they are told
 
 abbrev pub event_told : Event → EventShape
-event_told (event.Served labels) = Served labels.now
+event_told (event.Served wanted) = Served (wanted_labels wanted)
 event_told (event.Made made) = Made made.now
 event_told (event.Sent to label future) = Sent to.now label.now.text (future_shape future.now)
 event_told (event.Answered future) = Answered (future_shape future.now)
 event_told event.Polled = Polled
 event_told (event.Printed line) = Printed (line_shape line.now)
-event_told (event.Standing labels) = Standing labels.now
+event_told (event.Standing wanted) = Standing (wanted_labels wanted)
 event_told (event.Faulted fault) = Faulted (fault_shape fault)
 
 -- A page
