@@ -1,11 +1,10 @@
 -- Stores by their code, after each change of their cells.
-use Rattle.std.proofs.Common.{◌≡◌, ℕ, zero, suc, ◌<◌, List, [], ◌∷◌, ◌++◌, length, refl, ap, ◌∙◌, arith, get_or, slice_set}
+use Rattle.std.proofs.Common.{◌≡◌, ℕ, zero, suc, ◌+◌, ◌<◌, List, [], ◌∷◌, ◌++◌, length, take, drop, refl, ap, ◌∙◌, arith}
 use Rattle.std.proofs.lemmas.List.{map-append, length-map}
 use Rattle.asp_model.specs.Store.{Store, cell, with_cell}
 use Rattle.asp_model.specs.Parcel.{with_cells_at}
 use Rattle.code_table.specs.declared.code.Node.{Node}
-use Rattle.code_table.specs.declared.cells.Cell.{Cell}
-use Rattle.code_table.specs.Cells.{CodedCell, CodedStore, coded, all_coded, cell_at, with_cell_at, with_coded_at}
+use Rattle.code_table.specs.Cells.{CodedCell, CodedStore, cell_at, with_cell_at, with_coded_at}
 use Rattle.code_table.specs.Shapes.{cell_of, store_of}
 
 pub length-store_of : (code : List Node) (cs : CodedStore) → length (store_of code cs) ≡ length cs
@@ -33,14 +32,24 @@ length-with_cell_at [] p d = refl
 length-with_cell_at (c ∷ cs) zero d = refl
 length-with_cell_at (c ∷ cs) (suc p) d = ap suc (length-with_cell_at cs p d)
 
--- Cells in a vector
+-- One cell more, and one less
 
-pub at_place : (cs : List Cell) (p : ℕ) (d : Cell) → p < length cs → cell_at (all_coded cs) p ≡ coded (get_or cs p d)
-at_place [] p d h = absurd (omega arith)
-at_place (c ∷ cs) zero d h = refl
-at_place (c ∷ cs) (suc p) d h = at_place cs p d (omega arith)
+take_next : (s : CodedStore) (p : ℕ) → p < length s → take (suc p) s ≡ take p s ++ cell_at s p ∷ []
+take_next [] p h = absurd (omega arith)
+take_next (c ∷ s) zero h = refl
+take_next (c ∷ s) (suc p) h = ap (λ (t : CodedStore). c ∷ t) (take_next s p (omega arith))
 
-pub cell_set : (cs : List Cell) (p : ℕ) (d : Cell) → all_coded (slice_set cs p d) ≡ with_cell_at (all_coded cs) p (coded d)
-cell_set [] p d = refl
-cell_set (c ∷ cs) zero d = refl
-cell_set (c ∷ cs) (suc p) d = ap (λ (s : CodedStore). coded c ∷ s) (cell_set cs p d)
+pub take_cell : (s : CodedStore) (p : ℕ) → p < length s → take (p + 1) s ≡ take p s ++ cell_at s p ∷ []
+take_cell s p h = let e : p + 1 ≡ suc p = omega arith in ap (λ n. take n s) e ∙ take_next s p h
+
+drop_next : (s : CodedStore) (p : ℕ) → p < length s → drop p s ≡ cell_at s p ∷ drop (suc p) s
+drop_next [] p h = absurd (omega arith)
+drop_next (c ∷ s) zero h = refl
+drop_next (c ∷ s) (suc p) h = drop_next s p (omega arith)
+
+pub drop_cell : (s : CodedStore) (p : ℕ) → p < length s → drop p s ≡ cell_at s p ∷ drop (p + 1) s
+drop_cell s p h = let e : suc p ≡ p + 1 = omega arith in drop_next s p h ∙ ap (λ n. cell_at s p ∷ drop n s) e
+
+pub only_at : (c : CodedCell) (p : ℕ) → p < length (c ∷ []) → cell_at (c ∷ []) p ≡ c
+only_at c zero lt = refl
+only_at c (suc p) lt = absurd (omega arith)

@@ -7,4 +7,6 @@ pub mod KeyLemmas
 pub mod NumberLemmas
 pub mod UsesLemmas
 pub mod CodedLemmas
+pub mod ColumnLemmas
+pub mod OrderLemmas
 pub mod FitsLemmas

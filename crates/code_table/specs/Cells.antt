@@ -1,5 +1,6 @@
 -- What contracts see of a cell whatever code its objects are of: an object is the number of its class and its places.
-use Rattle.std.specs.Prelude.{ℕ, ℤ, pos, zero, suc, List, [], ◌∷◌, ◌++◌, Option, Some, None, map, slice_set}
+use Rattle.std.specs.Prelude.{◌≡◌, ℕ, ℤ, ◌+◌, pos, zero, suc, cond, nat_lt, List, [], ◌∷◌, ◌++◌}
+use Rattle.std.specs.Prelude.{Option, Some, None, map, take, drop, slice_set}
 use Rattle.std.specs.Arc.{arc_value}
 use Rattle.std.specs.declared.alloc.Global.{Global}
 use Rattle.std.specs.declared.sync.Arc.{Arc}
@@ -8,6 +9,9 @@ use Rattle.asp_model.specs.Names.{Name, FutureShape}
 use Rattle.asp_model.specs.Shapes.{future_shape}
 use Rattle.code_table.specs.declared.cells.Cell.{Cell}
 use Rattle.code_table.specs.declared.cells.Cell.TheVariants as cells
+use Rattle.code_table.specs.declared.cells.Object.{Object as Read}
+use Rattle.code_table.specs.declared.cells.View.{View}
+use Rattle.code_table.specs.declared.cells.View.TheVariants as views
 
 pub data CodedCell : Type 0 where
   Number : (n : ℤ) → CodedCell
@@ -20,18 +24,59 @@ pub data CodedCell : Type 0 where
 abbrev pub held_future : Arc Held Global → FutureShape
 held_future f = future_shape (arc_value f).name
 
-abbrev pub coded : Cell → CodedCell
-coded (cells.Number n) = Number n
-coded (cells.Object o) = Object o.value.class o.value.places.items
-coded (cells.Reference n) = Reference n.value
-coded (cells.Future f) = Future (held_future f)
-coded (cells.Group ns) = Group ns.value.items
+-- a cell as it is read
+abbrev pub object_coded : Read → CodedCell
+object_coded o = Object o.class o.places.now
+
+abbrev pub coded : View → CodedCell
+coded (views.Number n) = Number n
+coded (views.Object o) = object_coded o
+coded (views.Reference n) = Reference (arc_value n.now)
+coded (views.Future f) = Future (held_future f.now)
+coded (views.Group ns) = Group ns.now
+
+-- so many words from one on
+abbrev pub span_places : List ℕ → (start count : ℕ) → List ℕ
+span_places ws start count = take count (drop start ws)
+
+-- a cell as it is kept, with its places among these words
+abbrev pub coded_in : List ℕ → Cell → CodedCell
+coded_in ws (cells.Number n) = Number n
+coded_in ws (cells.Object k start count) = Object k (span_places ws start count)
+coded_in ws (cells.Group start count) = Group (span_places ws start count)
+coded_in ws (cells.Reference n) = Reference (arc_value n)
+coded_in ws (cells.Future f) = Future (held_future f)
+
+-- the words from one up to another
+abbrev pub Span : Type 0
+Span = ℕ × ℕ
+
+-- the words of a cell
+abbrev pub span_of : Cell → Span
+span_of (cells.Object k start count) = (start, start + count)
+span_of (cells.Group start count) = (start, start + count)
+span_of c = (0, 0)
+
+abbrev pub end_of : Cell → ℕ
+end_of c = (span_of c).1
+
+-- a cell that has no words
+abbrev pub IsBare : Cell → Type 0
+IsBare c = end_of c ≡ 0
+
+abbrev pub bare : Cell → CodedCell
+bare = coded_in []
+
+-- the word of one of an object's places, where it has that many
+abbrev pub word_at : ℕ → Cell → Option ℕ
+word_at i (cells.Object k start count) = cond (nat_lt i count) (Some (start + i)) None
+word_at i c = None
 
 abbrev pub CodedStore : Type 0
 CodedStore = List CodedCell
 
-abbrev pub all_coded : List Cell → CodedStore
-all_coded cs = map coded cs
+abbrev pub all_coded : List ℕ → List Cell → CodedStore
+all_coded ws cs = map (coded_in ws) cs
 
 -- the cell at a place; no call asks past the end
 abbrev pub cell_at : CodedStore → ℕ → CodedCell
@@ -59,8 +104,3 @@ moved_coded f c = c
 abbrev pub with_coded_at : CodedStore → ℕ → List CodedCell → CodedStore
 with_coded_at s p [] = s
 with_coded_at s p (c ∷ cs) = with_cell_at s p c ++ cs
-
--- the store with these cells behind its own, or with the first one at a place and the others behind
-abbrev pub grafted : CodedStore → Option ℕ → List CodedCell → CodedStore
-grafted s None cs = s ++ cs
-grafted s (Some p) cs = with_coded_at s p cs

@@ -11,7 +11,10 @@ pub mod Sound
 pub mod Marks
 pub mod Parts
 pub mod Roots
-pub mod Carried
 pub mod Cells
+pub mod ColumnsView
+pub mod Columns
+pub mod Carried
+pub mod Moves
 pub mod Shapes
 pub mod Fits

@@ -8,10 +8,10 @@ use Rattle.code_table.specs.declared.code.Node.{Node}
 use Rattle.code_table.specs.declared.class.Class.{Class}
 use Rattle.code_table.specs.Tables.{pieces, object_of}
 use Rattle.code_table.specs.Classes.{class_at}
-use Rattle.code_table.specs.declared.cells.Cell.{Cell}
+use Rattle.code_table.specs.declared.cells.View.{View}
 use Rattle.code_table.specs.declared.cells.Parcel.{Parcel}
 use Rattle.code_table.specs.Cells as coded
-use Rattle.code_table.specs.Cells.{CodedCell, CodedStore, all_coded}
+use Rattle.code_table.specs.Cells.{CodedCell, CodedStore}
 
 -- an object whose class is no class of the code has neither fields nor methods
 abbrev pub class_object : List Node → List ℕ → Option Class → CellShape
@@ -28,12 +28,13 @@ cell_of code (coded.Group ns) = store.Group ns
 abbrev pub store_of : List Node → CodedStore → Store
 store_of code cs = map (cell_of code) cs
 
-abbrev pub cell_shape : List Node → Cell → CellShape
-cell_shape code c = cell_of code (coded.coded c)
+-- a cell as it is read
+abbrev pub cell_shape : List Node → View → CellShape
+cell_shape code v = cell_of code (coded.coded v)
 
 -- a parcel by this code
 abbrev pub parcel_in : List Node → Parcel → ParcelShape
-parcel_in code p = record { cells = store_of code (all_coded p.cells.items); roots = p.roots.items }
+parcel_in code p = record { cells = store_of code p.cells.items; roots = p.roots.items }
 
 abbrev pub parcel_shape : Parcel → ParcelShape
 parcel_shape p = parcel_in (arc_value p.code) p

@@ -1,7 +1,18 @@
-//! Cells, and deep copies of cells.
+//! Cells: as a store keeps them, as they are read, and deep copies of cells.
 
-ghost use Rattle.std.specs.Prelude.{◌≡◌, IfOk};
+ghost use Rattle.std.specs.Prelude.{◌≡◌, ◌+◌, ◌≤◌, [], IfOk, List, length, ℕ};
 ghost use Rattle.std.specs.Arc.{arc_value};
+ghost use Rattle.code_table.specs.Cells.{
+  IsBare,
+  Object as object_with,
+  bare,
+  coded,
+  coded_in,
+  end_of,
+  span_of,
+  span_places,
+  word_at,
+};
 ghost use Rattle.code_table.specs.Shapes.{parcel_shape};
 
 use crate::carried::Cells;
@@ -16,28 +27,145 @@ use std::sync::Arc;
 /// The number of a cell in a store.
 pub type Place = usize;
 
-/// An object: its class, by the number of the node that makes it, and its places: its fields', then
-/// those that its methods captured, each method's behind the one before.
-#[derive(Drop)]
-pub struct Object {
-    pub class: usize,
-    pub places: Vec<Place>,
-}
-
-/// A cell of a store.
+/// A cell as a store keeps it. An object's and a group's places lie among the words beside the cells.
 #[derive(Drop)]
 pub enum Cell {
     Number(i64),
-    Object(Box<Object>),
+    Object { class: u32, start: u32, count: u32 },
+    Group { start: u32, count: u32 },
     /// An activity, which has a store of its own.
-    Reference(Box<ActivityName>),
+    Reference(Arc<ActivityName>),
     /// The answer of a request, before its value is needed. All who hold it share it.
     Future(Arc<Future>),
-    /// The members of a group, in order.
-    Group(Box<Vec<Place>>),
 }
 
 const _: () = prove!(size_of::<Cell>() == 16);
+
+/// An object as it is read: its class, by the number of the node that makes it, and its places: its
+/// fields', then those that its methods captured, each method's behind the one before.
+#[derive(Clone, Copy)]
+pub struct Object<'a> {
+    pub class: usize,
+    pub places: &'a [Place],
+}
+
+/// A cell as it is read.
+#[derive(Clone, Copy)]
+pub enum View<'a> {
+    Number(i64),
+    Object(Object<'a>),
+    Reference(&'a Arc<ActivityName>),
+    Future(&'a Arc<Future>),
+    /// The members of a group, in order.
+    Group(&'a [Place]),
+}
+
+impl Cell {
+    /// An object without places.
+    pub fn bare_object(class: usize) -> Result<Cell, AllocError>
+        ensures bare { IfOk result IsBare }
+        ensures cell { IfOk result (λ c. bare c ≡ object_with class []) }
+    {
+        Ok(Cell::Object {
+            class: short(class)?,
+            start: 0,
+            count: 0,
+        })
+    }
+
+    /// An equal cell, whose places are the same words.
+    pub(crate) fn copy(&self) -> Result<Cell, AllocError>
+        ensures cell { (ws : List ℕ) → IfOk result (λ c. coded_in ws c ≡ coded_in ws self.now) }
+        ensures span { IfOk result (λ c. span_of c ≡ span_of self.now) }
+    {
+        match self {
+            Cell::Number(n) => Ok(Cell::Number(*n)),
+            Cell::Object {
+                class,
+                start,
+                count,
+            } => Ok(Cell::Object {
+                class: *class,
+                start: *start,
+                count: *count,
+            }),
+            Cell::Group { start, count } => Ok(Cell::Group {
+                start: *start,
+                count: *count,
+            }),
+            Cell::Reference(name) => Ok(Cell::Reference(Arc::try_clone(name)?)),
+            Cell::Future(future) => Ok(Cell::Future(Arc::try_clone(future)?)),
+        }
+    }
+
+    /// A cell that has no words, as it is read.
+    #[inline(always)]
+    pub fn lone(&self) -> View<'_>
+        requires bare { IsBare self.now }
+        ensures view { coded result ≡ bare self.now }
+    {
+        self.view(&[])
+    }
+
+    /// The word of one of an object's places, where it has that many.
+    #[inline(always)]
+    pub(crate) fn word(&self, index: usize) -> Option<usize>
+        ensures word { result ≡ word_at index self.now }
+    {
+        match self {
+            Cell::Object { start, count, .. } => {
+                if index < *count as usize {
+                    Some(*start as usize + index)
+                } else {
+                    None
+                }
+            }
+            _ => None,
+        }
+    }
+
+    /// The cell as it is read, with its places among these words.
+    #[inline(always)]
+    pub(crate) fn view<'a>(&'a self, words: &'a [Place]) -> View<'a>
+        requires within { end_of self.now ≤ length words.now }
+        ensures view { coded result ≡ coded_in words.now self.now }
+    {
+        match self {
+            Cell::Number(n) => View::Number(*n),
+            Cell::Object {
+                class,
+                start,
+                count,
+            } => View::Object(Object {
+                class: *class as usize,
+                places: span(words, *start, *count),
+            }),
+            Cell::Group { start, count } => View::Group(span(words, *start, *count)),
+            Cell::Reference(name) => View::Reference(name),
+            Cell::Future(future) => View::Future(future),
+        }
+    }
+}
+
+/// A number that a cell keeps in half of a word: a class, a place among the words, or how many they
+/// are. `AllocError` is the answer to a greater one.
+#[inline(always)]
+pub(crate) fn short(number: usize) -> Result<u32, AllocError>
+    ensures number { IfOk result (λ n. n ≡ number) }
+{
+    match u32::try_from(number) {
+        Ok(short) => Ok(short),
+        Err(_) => Err(AllocError),
+    }
+}
+
+#[inline(always)]
+fn span(words: &[Place], start: u32, count: u32) -> &[Place]
+    requires within { start + count ≤ length words.now }
+    ensures places { result.now ≡ span_places words.now start count }
+{
+    &words[start as usize..start as usize + count as usize]
+}
 
 /// A deep copy: cells that hold each other's numbers, and the numbers of the roots. It passes between
 /// two activities, or is the value of a future.

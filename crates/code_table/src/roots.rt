@@ -2,8 +2,8 @@
 
 ghost use Rattle.std.specs.Prelude.{◌≡◌, ◌∷◌, [], IfOk};
 
-use crate::carried::copy_places;
 use crate::cells::Place;
+use crate::columns::copy_places;
 use std::alloc::{AllocError, Global};
 use std::marker::Model;
 use std::slice;

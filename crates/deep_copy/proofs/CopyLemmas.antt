@@ -1,19 +1,12 @@
 -- Copies, one after another, and places that move alike.
-use Rattle.std.proofs.Common.{◌≡◌, ℕ, zero, suc, ◌+◌, ◌<◌, List, [], ◌∷◌, ◌++◌, length, map, take, get_or, refl, sym, ap, subst, ◌∙◌, arith}
+use Rattle.std.proofs.Common.{◌≡◌, ℕ, zero, suc, ◌<◌, List, [], ◌∷◌, length, map, get_or, refl, sym, ap, subst, arith}
 use Rattle.std.specs.List.{flat_map}
-use Rattle.std.proofs.lemmas.List.{map-append, take_more}
 use Rattle.asp_model.specs.Term.{Head, Tree, Trees, node, none, more, own_locations, locations, locations_below, moved_head, moved, moved_below}
 use Rattle.asp_model.specs.Term as term
 use Rattle.asp_model.specs.Store.{MethodShape, Field, CellShape, Number, Object, Reference, Future, Group, moved_cell, reached}
 use Rattle.law_steps.specs.Linked.{Each}
 use Rattle.law_steps.specs.Closed.{AreBelow, CellsBelow}
 use Rattle.law_steps.proofs.EachLemmas.{each_first, each_second, each_weaker}
-
--- one copy more
-pub one_more : {A B C : Type 0} (shape : B → C) (copy : A → C) (old new : List B) (xs : List A) (x : A) (y : B) (i : ℕ) → map shape old ≡ map copy (take i xs) → new ≡ old ++ y ∷ [] → shape y ≡ copy x → x ≡ get_or xs i x → i < length xs → map shape new ≡ map copy (take (i + 1) xs)
-one_more shape copy old new xs x y i so_far push is here lt =
-    let taken : take (i + 1) xs ≡ take i xs ++ x ∷ [] = take_more xs i x lt ∙ ap (λ z. take i xs ++ z ∷ []) (sym here) in
-    ap (map shape) push ∙ map-append shape old (y ∷ []) ∙ (λ j. so_far j ++ is j ∷ []) ∙ sym (ap (map copy) taken ∙ map-append copy (take i xs) (x ∷ []))
 
 -- a place among those that are below
 pub one_below : (n : ℕ) (ps : List ℕ) (p i : ℕ) → AreBelow n ps → p ≡ get_or ps i p → i < length ps → p < n

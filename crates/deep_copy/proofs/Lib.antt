@@ -1,10 +1,9 @@
-pub mod NumberLemmas
 pub mod LeafLemmas
 pub mod MeaningLemmas
 pub mod ReachedLemmas
 pub mod VisitLemmas
 pub mod CopyLemmas
-pub mod MovedLemmas
+pub mod GraftLemmas
 pub mod UnpackLemmas
 pub mod PackLemmas
 pub mod AloneLemmas

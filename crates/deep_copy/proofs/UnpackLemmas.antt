@@ -12,7 +12,7 @@ use Rattle.code_table.specs.Fits.{AllFitCode}
 use Rattle.code_table.specs.Shapes.{store_of}
 use Rattle.code_table.proofs.CodedLemmas.{length-store_of, store_of-append, store_of-with_coded}
 use Rattle.code_table.proofs.FitsLemmas.{all_fit_append, all_fit_moved, all_fit_with_coded}
-use Rattle.deep_copy.specs.Moves.{raised, raised_at}
+use Rattle.code_table.specs.Moves.{raised, raised_at}
 use Rattle.deep_copy.proofs.MeaningLemmas.{store_moved}
 use Rattle.deep_copy.proofs.CopyLemmas.{cells_alike, roots_alike}
 

@@ -1,4 +1,3 @@
-pub mod Moves
 pub mod Reached
 pub mod Copied
 pub mod Leaves

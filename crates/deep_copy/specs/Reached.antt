@@ -23,4 +23,4 @@ class_places k ns = take (length k.fields.items) ns ++ captured_places k.methods
 
 -- what an object stands for
 abbrev pub object_shape : List Node → Object → CellShape
-object_shape code o = class_object code o.places.items (class_at code o.class)
+object_shape code o = class_object code o.places.now (class_at code o.class)

@@ -2,7 +2,6 @@
 #![tactic(auto)]
 
 mod copied;
-mod moves;
 mod packing;
 mod reached;
 mod unpacking;

@@ -3,20 +3,18 @@
 ghost use Rattle.std.specs.Prelude.{◌≡◌, ◌∷◌, [], IfOk, IfSome, length, map};
 ghost use Rattle.std.specs.Arc.{arc_value};
 ghost use Rattle.asp_model.specs.Parcel.{number_in, parcel_of, visit_order as order_of};
-ghost use Rattle.code_table.specs.Cells.{all_coded, coded, moved_coded};
+ghost use Rattle.code_table.specs.Cells.{coded};
 ghost use Rattle.code_table.specs.Fits.{AllFitCode};
 ghost use Rattle.code_table.specs.Shapes.{parcel_shape, store_of};
 ghost use Rattle.deep_copy.specs.Copied.{copied_cell};
 ghost use Rattle.deep_copy.specs.Leaves.{IsLeaf, IsLoneLeaf};
-ghost use Rattle.deep_copy.specs.Moves.{move_of};
-ghost use Rattle.deep_copy.specs.declared.moves.Moves.TheVariants as moves;
+ghost use Rattle.code_table.specs.Moves.{move_of};
 ghost use Rattle.law_steps.specs.Closed.{AreBelow, IsClosedParcel, IsClosedStore};
 ghost use Rattle.code_table.specs.Sound.{IsSound};
 
-use crate::copied::{code_is_sound, moved_cell, moved_roots};
-use crate::moves::Moves;
+use crate::copied::{code_is_sound, leaf_cell, moved_roots};
 use crate::visiting::{visit_few, visit_order};
-use code_table::{Cell, Cells, Code, Object, Parcel, Place, Roots};
+use code_table::{Cells, Code, Columns, Moves, Object, Parcel, Place, Roots, View};
 use object_store::Store;
 use std::alloc::{AllocError, Global};
 use std::sync::Arc;
@@ -38,12 +36,12 @@ pub fn pack(
     ensures code { IfOk result (λ p. arc_value p.code ≡ arc_value code.now) }
     ensures closed { IfOk result (λ p. IsClosedParcel (parcel_shape p)) }
     ensures fits { let fit = AllFitCode (arc_value code.now) in
-        IfOk result (λ p. fit store.now.cells → fit (all_coded p.cells.items)) }
+        IfOk result (λ p. fit store.now.cells → fit p.cells.items) }
 {
     code_is_sound(code);
     match lone_leaf(store, roots) {
         Some(cell) => {
-            let parcel = pack_leaf(alloc, code, cell)?;
+            let parcel = pack_leaf(code, cell)?;
             Ok(parcel)
         }
         None => pack_visited(alloc, code, store, roots),
@@ -63,7 +61,7 @@ fn pack_visited(
     ensures code { IfOk result (λ p. arc_value p.code ≡ arc_value code.now) }
     ensures closed { IfOk result (λ p. IsClosedParcel (parcel_shape p)) }
     ensures fits { let fit = AllFitCode (arc_value code.now) in
-        IfOk result (λ p. fit store.now.cells → fit (all_coded p.cells.items)) }
+        IfOk result (λ p. fit store.now.cells → fit p.cells.items) }
 {
     code_is_sound(code);
     match visit_few(alloc, code, store, roots)? {
@@ -97,7 +95,7 @@ fn numbered(
     ensures code { IfOk result (λ p. arc_value p.code ≡ arc_value code.now) }
     ensures closed { IfOk result (λ p. IsClosedParcel (parcel_shape p)) }
     ensures fits { let fit = AllFitCode (arc_value code.now) in
-        IfOk result (λ p. fit store.now.cells → fit (all_coded p.cells.items)) }
+        IfOk result (λ p. fit store.now.cells → fit p.cells.items) }
 {
     let cells = Cells::of(alloc, copied_cells(alloc, store, moves, order)?)?;
     let roots = moved_roots(alloc, moves, roots)?;
@@ -106,9 +104,10 @@ fn numbered(
 }
 
 // The cell of the one root, where it reaches no other: the deep copy is this cell alone.
-fn lone_leaf<'a>(store: &'a Store, roots: &[Place]) -> Option<&'a Cell>
+fn lone_leaf<'a>(store: &'a Store, roots: &[Place]) -> Option<View<'a>>
     requires within { AreBelow (length store.now.cells) roots.now }
-    ensures leaf { IfSome result (λ c. IsLoneLeaf store.now.cells roots.now (coded c.now)) }
+    ensures leaf { IfSome result (λ c. IsLoneLeaf store.now.cells roots.now (coded c)) }
+    ensures bare { IfSome result (λ c. IsLeaf (coded c)) }
 {
     match roots {
         [root] => leaf(store.cell(*root)),
@@ -116,23 +115,23 @@ fn lone_leaf<'a>(store: &'a Store, roots: &[Place]) -> Option<&'a Cell>
     }
 }
 
-fn leaf(cell: &Cell) -> Option<&Cell>
-    ensures same { IfSome result (λ c. coded c.now ≡ coded cell.now) }
-    ensures leaf { IfSome result (λ c. IsLeaf (coded c.now)) }
+fn leaf(cell: View<'_>) -> Option<View<'_>>
+    ensures same { IfSome result (λ c. coded c ≡ coded cell.entry) }
+    ensures leaf { IfSome result (λ c. IsLeaf (coded c)) }
 {
     match cell {
-        Cell::Number(_) => Some(cell),
-        Cell::Reference(_) => Some(cell),
-        Cell::Future(_) => Some(cell),
-        Cell::Object(object) => bare_object(cell, object),
-        Cell::Group(_) => None,
+        View::Number(_) => Some(cell),
+        View::Reference(_) => Some(cell),
+        View::Future(_) => Some(cell),
+        View::Object(object) => bare_object(cell, object),
+        View::Group(_) => None,
     }
 }
 
 // An object that holds no places reaches nothing.
-fn bare_object<'a>(cell: &'a Cell, object: &Object) -> Option<&'a Cell>
-    ensures same { IfSome result (λ c. coded c.now ≡ coded cell.now) }
-    ensures bare { IfSome result (λ c. object.now.places.items ≡ []) }
+fn bare_object<'a>(cell: View<'a>, object: Object) -> Option<View<'a>>
+    ensures same { IfSome result (λ c. coded c ≡ coded cell.entry) }
+    ensures bare { IfSome result (λ c. object.entry.places.now ≡ []) }
 {
     if object.places.is_empty() {
         Some(cell)
@@ -141,13 +140,13 @@ fn bare_object<'a>(cell: &'a Cell, object: &Object) -> Option<&'a Cell>
     }
 }
 
-fn pack_leaf(alloc: Global, code: &Arc<Code>, cell: &Cell) -> Result<Parcel, AllocError>
-    ensures cells { let copy = moved_coded (move_of (moves.Up 0)) (coded cell.now) in
-        IfOk result (λ p. all_coded p.cells.items ≡ copy ∷ []) }
+fn pack_leaf(code: &Arc<Code>, cell: View) -> Result<Parcel, AllocError>
+    requires leaf { IsLeaf (coded cell) }
+    ensures cells { IfOk result (λ p. p.cells.items ≡ coded cell.entry ∷ []) }
     ensures roots { IfOk result (λ p. p.roots.items ≡ 0 ∷ []) }
     ensures code { IfOk result (λ p. arc_value p.code ≡ arc_value code.now) }
 {
-    let cell = moved_cell(alloc, &Moves::Up(0), cell)?;
+    let cell = leaf_cell(cell)?;
     let code = Arc::try_clone(code)?;
     Ok(Parcel {
         code,
@@ -161,14 +160,14 @@ fn copied_cells(
     store: &Store,
     moves: &Moves,
     places: &[Place],
-) -> Result<Vec<Cell>, AllocError>
+) -> Result<Columns, AllocError>
     requires within { AreBelow (length store.now.cells) places.now }
     ensures { let copies = map (copied_cell moves.now store.now.cells) places.now in
-        IfOk result (λ r. all_coded r.items ≡ copies) }
+        IfOk result (λ r. r.items ≡ copies) }
 {
-    let mut cells = Vec::with_capacity(alloc, places.len().saturating_add(ROOM))?;
+    let mut columns = Columns::with_room(alloc, places.len().saturating_add(ROOM), 0)?;
     for place in places {
-        cells.push(moved_cell(alloc, moves, store.cell(*place))?)?;
+        columns.push_moved(store.cell(*place), moves)?;
     }
-    Ok(cells)
+    Ok(columns)
 }

@@ -12,30 +12,30 @@ ghost use Rattle.deep_copy.specs.Reached.{
   used_places,
 };
 
-use code_table::{Cell, Class, Code, MethodCode, Object, Place};
+use code_table::{Class, Code, MethodCode, Object, Place, View};
 use std::alloc::AllocError;
 
 /// Appends the places that a cell reaches.
-pub fn note_reached(places: &mut Vec<Place>, code: &Code, cell: &Cell) -> Result<(), AllocError>
+pub fn note_reached(places: &mut Vec<Place>, code: &Code, cell: View) -> Result<(), AllocError>
     ensures noted { OnOk result
-        (places.new.items ≡ places.old.items ++ reached (cell_shape code.now cell.now)) }
+        (places.new.items ≡ places.old.items ++ reached (cell_shape code.now cell.entry)) }
 {
     match cell {
-        Cell::Object(object) => note_object(places, code, object),
-        Cell::Group(members) => {
+        View::Object(object) => note_object(places, code, object),
+        View::Group(members) => {
             places.extend_from_slice(members)?;
             Ok(())
         }
-        Cell::Number(_) | Cell::Reference(_) | Cell::Future(_) => Ok(()),
+        View::Number(_) | View::Reference(_) | View::Future(_) => Ok(()),
     }
 }
 
-fn note_object(places: &mut Vec<Place>, code: &Code, object: &Object) -> Result<(), AllocError>
-    ensures { let noted = reached (object_shape code.now object.now) in
+fn note_object(places: &mut Vec<Place>, code: &Code, object: Object) -> Result<(), AllocError>
+    ensures { let noted = reached (object_shape code.now object.entry) in
         OnOk result (places.new.items ≡ places.old.items ++ noted) }
 {
     match code.class(object.class) {
-        Some(class) => note_places(places, class, &object.places),
+        Some(class) => note_places(places, class, object.places),
         None => Ok(()),
     }
 }

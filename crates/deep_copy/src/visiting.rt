@@ -6,9 +6,8 @@ ghost use Rattle.asp_model.specs.Store.{reached};
 ghost use Rattle.code_table.specs.Shapes.{cell_shape, store_of};
 ghost use Rattle.law_steps.specs.Closed.{AreBelow, IsClosedStore};
 
-use crate::moves::number_in_few;
 use crate::reached::note_reached;
-use code_table::{Cell, Code, Place};
+use code_table::{Code, Place, View, number_in_few};
 use indexmap::IndexSet;
 use object_store::Store;
 use std::alloc::{AllocError, Global};
@@ -76,8 +75,8 @@ pub fn visit_order(
 }
 
 // The last place comes to lie lowest, so that the first is taken first.
-fn push_reached(stack: &mut Vec<Place>, code: &Code, cell: &Cell) -> Result<(), AllocError>
-    ensures { let pushed = reverse (reached (cell_shape code.now cell.now)) in
+fn push_reached(stack: &mut Vec<Place>, code: &Code, cell: View) -> Result<(), AllocError>
+    ensures { let pushed = reverse (reached (cell_shape code.now cell.entry)) in
         OnOk result (stack.new.items ≡ stack.old.items ++ pushed) }
 {
     let before = stack.len();

@@ -1,45 +1,38 @@
--- Cells at the end of a vector, and at places of it.
-use Rattle.std.proofs.Common.{◌≡◌, ℕ, zero, suc, ◌<◌, List, [], ◌∷◌, ◌++◌, length, take, drop, refl, sym, ap, subst, ◌∙◌, arith, length-append, Box, Global}
-use Rattle.std.proofs.lemmas.List.{map-append, length-map}
-use Rattle.code_table.specs.declared.cells.Cell.{Cell}
-use Rattle.code_table.specs.declared.cells.Cell.TheVariants as cells
-use Rattle.code_table.specs.declared.cells.Object.{Object}
-use Rattle.code_table.specs.Cells.{CodedCell, CodedStore, all_coded, coded, with_cell_at, with_coded_at, with_place_at}
+-- The last cell of a store, and others before it.
+use Rattle.std.proofs.Common.{◌≡◌, ℕ, zero, suc, ◌+◌, ◌-◌, ◌<◌, [], ◌∷◌, ◌++◌, length, take, refl, sym, ap, ◌∙◌, arith, length-append}
+use Rattle.code_table.specs.Cells.{CodedCell, CodedStore, cell_at}
+use Rattle.code_table.proofs.CodedLemmas.{take_cell}
+use Rattle.object_store.specs.Finder.{but_last}
 
--- the last cell behind the others
-pub last_coded : (cs : List Cell) (c : Cell) → all_coded (cs ++ c ∷ []) ≡ all_coded cs ++ coded c ∷ []
-last_coded cs c = map-append coded cs (c ∷ [])
+take_all : (s : CodedStore) → take (length s) s ≡ s
+take_all [] = refl
+take_all (c ∷ s) = ap (λ (t : CodedStore). c ∷ t) (take_all s)
 
--- a place of what contracts see is one of the vector
-pub coded_within : (cs : List Cell) (p : ℕ) → p < length (all_coded cs) → p < length cs
-coded_within cs p lt = subst (λ n. p < n) (length-map cs coded) lt
+take_before : (s t : CodedStore) → take (length s) (s ++ t) ≡ s
+take_before [] t = refl
+take_before (c ∷ s) t = ap (λ (u : CodedStore). c ∷ u) (take_before s t)
 
-with_cell_at-append : (s t : CodedStore) (p : ℕ) (c : CodedCell) → p < length s → with_cell_at (s ++ t) p c ≡ with_cell_at s p c ++ t
-with_cell_at-append [] t p c lt = absurd (omega arith)
-with_cell_at-append (d ∷ s) t zero c lt = refl
-with_cell_at-append (d ∷ s) t (suc p) c lt = ap (λ (u : CodedStore). d ∷ u) (with_cell_at-append s t p c (omega arith))
+-- all but the last, with the last behind
+pub whole : (s : CodedStore) → 0 < length s → s ≡ but_last s ++ cell_at s (length s - 1) ∷ []
+whole s some =
+    let more : length s - 1 + 1 ≡ length s = omega (arith, some) in
+    let less : length s - 1 < length s = omega (arith, some) in
+    sym (take_all s) ∙ ap (λ n. take n s) (sym more) ∙ take_cell s (length s - 1) less
 
--- lists that end alike
-last_same : (xs ys : List Cell) (x y : Cell) → xs ++ x ∷ [] ≡ ys ++ y ∷ [] → (xs ≡ ys) × (x ≡ y)
-last_same [] [] x y e = (refl, cc)
-last_same [] (z ∷ ys) x y e = absurd (omega (arith, ap (λ (l : List Cell). length l) e, length-append ys (y ∷ [])))
-last_same (z ∷ xs) [] x y e = absurd (omega (arith, ap (λ (l : List Cell). length l) e, length-append xs (x ∷ [])))
-last_same (w ∷ xs) (z ∷ ys) x y e =
-    let rest = last_same xs ys x y cc in
-    let head : w ≡ z = cc in
-    (λ i. head i ∷ rest.0 i, rest.1)
+pub last_count : (s : CodedStore) (c : CodedCell) → length (s ++ c ∷ []) - 1 ≡ length s
+last_count s c = omega (arith, length-append s (c ∷ []))
 
--- the first cell at a place, and the others behind
-pub grafted_at : (s : CodedStore) (cs rest : List Cell) (first : Cell) (p : ℕ) → p < length s → 0 < length cs → drop 1 cs ++ take 1 cs ≡ rest ++ first ∷ [] → with_cell_at (s ++ all_coded rest) p (coded first) ≡ with_coded_at s p (all_coded cs)
-grafted_at s [] rest first p lt some e = absurd (omega arith)
-grafted_at s (c ∷ cs) rest first p lt some e =
-    let same = last_same cs rest c first e in
-    with_cell_at-append s (all_coded rest) p (coded first) lt ∙ (λ i. with_cell_at s p (coded (sym same.1 i)) ++ all_coded (sym same.0 i))
+pub but_one : (s : CodedStore) (c : CodedCell) → but_last (s ++ c ∷ []) ≡ s
+but_one s c = ap (λ n. take n (s ++ c ∷ [])) (last_count s c) ∙ take_before s (c ∷ [])
 
--- setting a place changes nothing in a cell that is no object
-pub unplaced : (d : Cell) (i n : ℕ) → ((o : Box Object Global) → d ≡ cells.Object o → ⊥) → with_place_at i n (coded d) ≡ coded d
-unplaced (cells.Object o) i n h = absurd (h o refl)
-unplaced (cells.Number m) i n h = refl
-unplaced (cells.Reference a) i n h = refl
-unplaced (cells.Future f) i n h = refl
-unplaced (cells.Group ns) i n h = refl
+pub last_at : (s : CodedStore) (c : CodedCell) → cell_at (s ++ c ∷ []) (length s) ≡ c
+last_at [] c = refl
+last_at (d ∷ s) c = last_at s c
+
+pub before_last : (s : CodedStore) (c : CodedCell) (p : ℕ) → p < length s → cell_at (s ++ c ∷ []) p ≡ cell_at s p
+before_last [] c p lt = absurd (omega arith)
+before_last (d ∷ s) c zero lt = refl
+before_last (d ∷ s) c (suc p) lt = before_last s c p (omega arith)
+
+pub one_longer : (s t : CodedStore) (c : CodedCell) → t ≡ s ++ c ∷ [] → length t ≡ length s + 1
+one_longer s t c e = ap (λ (u : CodedStore). length u) e ∙ length-append s (c ∷ [])

@@ -1,7 +1,8 @@
 -- How the holders of a future change with the cells.
-use Rattle.std.proofs.Common.{◌≡◌, ℕ, zero, suc, ◌+◌, ◌<◌, Bool, true, false, List, [], ◌∷◌, ◌++◌, length, refl, sym, ap, ◌∙◌, arith}
+use Rattle.std.proofs.Common.{◌≡◌, ℕ, zero, suc, ◌+◌, ◌<◌, Bool, true, false, List, [], ◌∷◌, ◌++◌, length, drop, refl, sym, ap, ◌∙◌, arith, append_assoc, append-nil}
 use Rattle.asp_model.specs.Names.{FutureShape}
 use Rattle.code_table.specs.Cells.{CodedCell, CodedStore, cell_at, with_cell_at}
+use Rattle.code_table.proofs.CodedLemmas.{drop_cell}
 use Rattle.std.specs.List.{AllByRecursion}
 use Rattle.object_store.specs.Places.{with_place, without_place}
 use Rattle.object_store.specs.Holders.{is_future, holders_from, holders}
@@ -9,7 +10,7 @@ use Rattle.object_store.proofs.PlaceLemmas.{with_above, with_below, with_first, 
 use Rattle.object_store.proofs.IndexLemmas.{changed_so}
 
 -- the places from n on, where the first cell has or has not the future
-abbrev front : Bool → ℕ → List ℕ → List ℕ
+abbrev pub front : Bool → ℕ → List ℕ → List ℕ
 front here n rest = elim here [ true ↦ n ∷ rest | false ↦ rest ]
 
 -- Order
@@ -98,3 +99,21 @@ left_from n f (d ∷ cs) c =
 
 pub left : (f : FutureShape) (cs : CodedStore) (c : CodedCell) → changed_so (without_place (length cs)) (is_future f c) (holders f (cs ++ c ∷ [])) ≡ holders f cs
 left f cs c = let e : length cs ≡ 0 + length cs = omega arith in ap (λ p. changed_so (without_place p) (is_future f c) (holders f (cs ++ c ∷ []))) e ∙ left_from 0 f cs c
+
+-- A walk over the cells
+
+-- the places from one on begin with it, where its cell is the future
+pub holders_here : (f : FutureShape) (s : CodedStore) (p : ℕ) (b : Bool) → p < length s → is_future f (cell_at s p) ≡ b → holders_from p f (drop p s) ≡ front b p (holders_from (p + 1) f (drop (p + 1) s))
+holders_here f s p b lt e =
+    let on : suc p ≡ p + 1 = omega arith in
+    ap (holders_from p f) (drop_cell s p lt) ∙ (λ i. front (e i) p (holders_from (on i) f (drop (p + 1) s)))
+
+-- one cell more is looked at, and its place noted where it is the future
+pub walked : (f : FutureShape) (s : CodedStore) (p : ℕ) (b : Bool) (xs ys : List ℕ) → p < length s → is_future f (cell_at s p) ≡ b → ys ≡ xs ++ front b p [] → ys ++ holders_from (p + 1) f (drop (p + 1) s) ≡ xs ++ holders_from p f (drop p s)
+walked f s p b xs ys lt e is =
+    let rest = holders_from (p + 1) f (drop (p + 1) s) in
+    ap (λ (l : List ℕ). l ++ rest) is ∙ joined b rest ∙ ap (λ (l : List ℕ). xs ++ l) (sym (holders_here f s p b lt e))
+  where
+    joined : (here : Bool) (rest : List ℕ) → (xs ++ front here p []) ++ rest ≡ xs ++ front here p rest
+    joined true rest = append_assoc xs (p ∷ []) rest
+    joined false rest = ap (λ (l : List ℕ). l ++ rest) (append-nil xs)

@@ -1,5 +1,5 @@
 -- The index of a store, after each change of its cells.
-use Rattle.std.proofs.Common.{◌≡◌, ℕ, ◌<◌, Bool, true, false, not, List, [], ◌∷◌, ◌++◌, length, refl, sym, ap, subst, ◌∙◌, T}
+use Rattle.std.proofs.Common.{◌≡◌, ℕ, ◌-◌, ◌<◌, Bool, true, false, not, List, [], ◌∷◌, ◌++◌, length, refl, sym, ap, subst, ◌∙◌, T, arith, length-take-le}
 use Rattle.std.specs.Prelude.{◌&&◌}
 use Rattle.std.proofs.lemmas.Cmp.{eq_by_cmp_equiv, then_total, on_total, nat_cmp_total}
 use Rattle.std.specs.Cmp.{IsTotalOrder}
@@ -10,12 +10,13 @@ use Rattle.asp_model.specs.Order.{same_future_same}
 use Rattle.code_table.specs.Cells.{CodedCell, CodedStore, Number, Object, Reference, Future, Group, cell_at, with_cell_at, with_place_at}
 use Rattle.asp_model.specs.Shapes.{future_shape}
 use Rattle.object_store.specs.Holders.{is_future, is_one_future, holders}
-use Rattle.object_store.specs.Index.{ChangesWhere, IsAlike, IsIndexed, is_given_up, is_in_cell}
+use Rattle.object_store.specs.Index.{ChangesWhere, IsAlike, IsIndexed, is_given_up, is_in_cell, places_in}
 use Rattle.object_store.specs.Places.{with_place, without_place}
 use Rattle.object_store.specs.declared.index.Index.{Index}
 use Rattle.object_store.specs.declared.finder.Finder.{Finder}
 use Rattle.object_store.specs.declared.finder.Finder.TheVariants as finders
-use Rattle.object_store.specs.Finder.{Follows, IsFitting}
+use Rattle.object_store.specs.Finder.{Follows, IsFitting, but_last, last_cell}
+use Rattle.object_store.proofs.CellLemmas.{before_last, but_one, last_at, last_count, whole}
 use Rattle.object_store.proofs.IndexLemmas.{changed_so}
 use Rattle.object_store.proofs.HoldersLemmas.{added, left, replaced, exchanged, held_alike}
 
@@ -127,3 +128,38 @@ fitting_replaced (finders.Indexed i) (finders.Indexed j) (finders.Indexed k) s p
 pub fitting_object : (finder : Finder) (s t : CodedStore) (p i n : ℕ) → t ≡ with_cell_at s p (with_place_at i n (cell_at s p)) → IsFitting finder s → IsFitting finder t
 fitting_object finders.Look s t p i n e h = tt
 fitting_object (finders.Indexed index) s t p i n e h = indexed_object index.value s t p i n e h
+
+-- the last cell
+last_is : (s t : CodedStore) (c : CodedCell) → t ≡ s ++ c ∷ [] → last_cell t ≡ c
+last_is s t c e = ap last_cell e ∙ ap (cell_at (s ++ c ∷ [])) (last_count s c) ∙ last_at s c
+
+-- a cell that was appended and noted
+pub fitting_noted : (old new : Finder) (s t : CodedStore) (p : ℕ) (c : CodedCell) → t ≡ s ++ c ∷ [] → p ≡ length s → IsFitting old s → Follows (ChangesWhere (is_in_cell (last_cell t)) (with_place p)) old new → IsFitting new t
+fitting_noted old new s t p c e at h noted =
+    let held = subst (λ (x : CodedCell). Follows (ChangesWhere (is_in_cell x) (with_place p)) old new) (last_is s t c e) noted in
+    subst (IsFitting new) (sym e) (fitting_more old new s c h (subst (λ n. Follows (ChangesWhere (is_in_cell c) (with_place n)) old new) at held))
+
+-- the last cell forgotten
+pub fitting_forgotten : (old new : Finder) (s : CodedStore) → 0 < length s → IsFitting old s → Follows (ChangesWhere (is_in_cell (cell_at s (length s - 1))) (without_place (length s - 1))) old new → IsFitting new (but_last s)
+fitting_forgotten old new s some h changes =
+    let count : length s - 1 ≡ length (but_last s) = sym (length-take-le (length s - 1) s (omega (arith, some))) in
+    let last = cell_at s (length s - 1) in
+    fitting_less old new (but_last s) last (subst (IsFitting old) (whole s some) h) (subst (λ n. Follows (ChangesWhere (is_in_cell last) (without_place n)) old new) count changes)
+
+-- a cell that holds no future
+pub fitting_unheld : (finder : Finder) (s : CodedStore) (c : CodedCell) → ((f : FutureName) → is_in_cell c f ≡ false) → IsFitting finder s → IsFitting finder (s ++ c ∷ [])
+fitting_unheld finders.Look s c none h = tt
+fitting_unheld (finders.Indexed index) s c none h = indexed_more index.value index.value s c h (λ f. sym (ap (λ b. changed_so (with_place (length s)) b (places_in index.value f)) (none f)))
+
+-- the last cell in the place of another
+pub put_cells : (s t : CodedStore) (p : ℕ) (c : CodedCell) → t ≡ s ++ c ∷ [] → with_cell_at (but_last t) p (last_cell t) ≡ with_cell_at s p c
+put_cells s t p c e = (λ i. with_cell_at (but_last (e i)) p (last_is s t c e i)) ∙ ap (λ (u : CodedStore). with_cell_at u p c) (but_one s c)
+
+pub fitting_put : (old mid new : Finder) (s t : CodedStore) (p : ℕ) (c : CodedCell) → t ≡ s ++ c ∷ [] → p < length s → IsFitting old s → Follows (ChangesWhere (is_in_cell (last_cell t)) (with_place p)) old mid
+    → Follows (ChangesWhere (is_given_up (cell_at t p) (last_cell t)) (without_place p)) mid new → IsFitting new (with_cell_at (but_last t) p (last_cell t))
+fitting_put old mid new s t p c e lt h first second =
+    let last : last_cell t ≡ c = last_is s t c e in
+    let here : cell_at t p ≡ cell_at s p = ap (λ (u : CodedStore). cell_at u p) e ∙ before_last s c p lt in
+    let held = subst (λ (x : CodedCell). Follows (ChangesWhere (is_in_cell x) (with_place p)) old mid) last first in
+    let given = subst (λ (x : CodedCell). Follows (ChangesWhere (is_given_up x c) (without_place p)) mid new) here (subst (λ (x : CodedCell). Follows (ChangesWhere (is_given_up (cell_at t p) x) (without_place p)) mid new) last second) in
+    subst (IsFitting new) (sym (put_cells s t p c e)) (fitting_replaced old mid new s p c (cell_at s p) lt refl h held given)

@@ -2,7 +2,7 @@
 
 ghost use Rattle.std.specs.Prelude.{◌≡◌, ◌<◌, false, IfOk, IsOk, OnErr, OnOk};
 ghost use Rattle.asp_model.specs.Shapes.{future_shape};
-ghost use Rattle.code_table.specs.Cells.{all_coded, coded};
+ghost use Rattle.code_table.specs.Cells.{coded};
 ghost use Rattle.object_store.specs.Finder.{Follows, IsFitting};
 ghost use Rattle.object_store.specs.Holders.{holders, is_future as is_future_in, is_some_future};
 ghost use Rattle.object_store.specs.Index.{ChangesWhere, IsAlike, is_given_up, is_in_cell};
@@ -10,7 +10,7 @@ ghost use Rattle.object_store.specs.Places.{with_place, without_place};
 
 use crate::index::Index;
 use asp_model::FutureName;
-use code_table::{Cell, Place};
+use code_table::{Columns, Place, View};
 use std::alloc::{AllocError, Global};
 
 // So many cells are looked through, one after the other.
@@ -27,8 +27,8 @@ pub enum Finder {
 impl Finder {
     /// Makes the index where these cells and so many more are no longer few.
     #[inline(always)]
-    pub fn fit(&mut self, alloc: Global, cells: &[Cell], more: usize) -> Result<(), AllocError>
-        ensures { let s = all_coded cells.now in IsFitting self.old s → IsFitting self.new s }
+    pub fn fit(&mut self, alloc: Global, cells: &Columns, more: usize) -> Result<(), AllocError>
+        ensures { let s = cells.now.items in IsFitting self.old s → IsFitting self.new s }
     {
         match self {
             Finder::Look if cells.len().saturating_add(more) > FEW => self.make(alloc, cells),
@@ -38,8 +38,13 @@ impl Finder {
 
     /// Makes the index where one more cell is one too many, unless there is room to spare for it.
     #[inline(always)]
-    pub fn fit_one(&mut self, alloc: Global, cells: &[Cell], spare: usize) -> Result<(), AllocError>
-        ensures fits { let s = all_coded cells.now in IsFitting self.old s → IsFitting self.new s }
+    pub fn fit_one(
+        &mut self,
+        alloc: Global,
+        cells: &Columns,
+        spare: usize,
+    ) -> Result<(), AllocError>
+        ensures fits { let s = cells.now.items in IsFitting self.old s → IsFitting self.new s }
         ensures room { 0 < spare → IsOk result }
     {
         if spare > 0 {
@@ -50,8 +55,8 @@ impl Finder {
     }
 
     #[inline(never)]
-    fn make(&mut self, alloc: Global, cells: &[Cell]) -> Result<(), AllocError>
-        ensures { let s = all_coded cells.now in IsFitting self.old s → IsFitting self.new s }
+    fn make(&mut self, alloc: Global, cells: &Columns) -> Result<(), AllocError>
+        ensures { let s = cells.now.items in IsFitting self.old s → IsFitting self.new s }
     {
         let index = Index::of(alloc, cells)?;
         *self = Finder::Indexed(Box::new(alloc, index)?);
@@ -62,11 +67,11 @@ impl Finder {
     pub fn places(
         &self,
         alloc: Global,
-        cells: &[Cell],
+        cells: &Columns,
         future: &FutureName,
     ) -> Result<Vec<Place>, AllocError>
-        requires { IsFitting self.now (all_coded cells.now) }
-        ensures places { let places = holders (future_shape future.now) (all_coded cells.now) in
+        requires { IsFitting self.now cells.now.items }
+        ensures places { let places = holders (future_shape future.now) cells.now.items in
             IfOk result (λ v. v.items ≡ places) }
     {
         match self {
@@ -77,10 +82,10 @@ impl Finder {
 
     /// Notes the place of a cell, where it is a future.
     #[inline(always)]
-    pub fn hold(&mut self, cell: &Cell, place: Place) -> Result<(), AllocError>
-        ensures places { let here = is_in_cell (coded cell.now) in
+    pub fn hold(&mut self, cell: View, place: Place) -> Result<(), AllocError>
+        ensures places { let here = is_in_cell (coded cell.entry) in
             OnOk result (Follows (ChangesWhere here (with_place place)) self.old self.new) }
-        ensures room { is_some_future (coded cell.now) ≡ false → IsOk result }
+        ensures room { is_some_future (coded cell.entry) ≡ false → IsOk result }
         ensures err { OnErr result (Follows IsAlike self.old self.new) }
     {
         match self {
@@ -90,8 +95,8 @@ impl Finder {
     }
 
     /// Forgets the place of a cell, where it is a future.
-    pub fn release(&mut self, cell: &Cell, place: Place)
-        ensures places { let here = is_in_cell (coded cell.now) in
+    pub fn release(&mut self, cell: View, place: Place)
+        ensures places { let here = is_in_cell (coded cell.entry) in
             Follows (ChangesWhere here (without_place place)) self.old self.new }
     {
         match self {
@@ -101,8 +106,8 @@ impl Finder {
     }
 
     /// Forgets the place of a cell that another one takes.
-    pub fn give_up(&mut self, old: Cell, new: &Cell, place: Place)
-        ensures places { let gone = is_given_up (coded old) (coded new.now) in
+    pub fn give_up(&mut self, old: View, new: View, place: Place)
+        ensures places { let gone = is_given_up (coded old.entry) (coded new.entry) in
             Follows (ChangesWhere gone (without_place place)) self.old self.new }
     {
         match self {
@@ -114,16 +119,16 @@ impl Finder {
 
 fn look_through(
     alloc: Global,
-    cells: &[Cell],
+    cells: &Columns,
     future: &FutureName,
 ) -> Result<Vec<Place>, AllocError>
-    ensures places { let places = holders (future_shape future.now) (all_coded cells.now) in
+    ensures places { let places = holders (future_shape future.now) cells.now.items in
         IfOk result (λ v. v.items ≡ places) }
 {
     let mut places = Vec::with_capacity(alloc, 1)?;
     let mut place = 0;
     while place < cells.len() {
-        if is_future(&cells[place], future) {
+        if is_future(cells.view(place), future) {
             places.push(place)?;
         }
         place += 1;
@@ -131,11 +136,11 @@ fn look_through(
     Ok(places)
 }
 
-fn is_future(cell: &Cell, future: &FutureName) -> bool
-    ensures { result ≡ is_future_in (future_shape future.now) (coded cell.now) }
+fn is_future(cell: View, future: &FutureName) -> bool
+    ensures { result ≡ is_future_in (future_shape future.now) (coded cell.entry) }
 {
     match cell {
-        Cell::Future(held) => held.name == *future,
+        View::Future(held) => held.name == *future,
         _ => false,
     }
 }

@@ -14,7 +14,7 @@ ghost use Rattle.std.specs.Prelude.{
   OnOk,
 };
 ghost use Rattle.indexmap.specs.IndexMap.{get};
-ghost use Rattle.code_table.specs.Cells.{all_coded, coded};
+ghost use Rattle.code_table.specs.Cells.{coded};
 ghost use Rattle.object_store.specs.Holders.{is_one_future as one_future, is_some_future};
 ghost use Rattle.object_store.specs.Index.{
   Changes,
@@ -30,7 +30,7 @@ ghost use Rattle.object_store.specs.Places.{with_place, without_place};
 
 use crate::places::Places;
 use asp_model::FutureName;
-use code_table::{Cell, Place};
+use code_table::{Columns, Place, View};
 use indexmap::IndexMap;
 use std::alloc::{AllocError, Global};
 
@@ -52,13 +52,13 @@ impl Index {
     }
 
     /// The index of a store with these cells.
-    pub fn of(alloc: Global, cells: &[Cell]) -> Result<Index, AllocError>
-        ensures indexed { IfOk result (λ index. IsIndexed index (all_coded cells.now)) }
+    pub fn of(alloc: Global, cells: &Columns) -> Result<Index, AllocError>
+        ensures indexed { IfOk result (λ index. IsIndexed index cells.now.items) }
     {
         let mut index = Index::new(alloc);
         let mut place = 0;
         while place < cells.len() {
-            index.hold(&cells[place], place)?;
+            index.hold(cells.view(place), place)?;
             place += 1;
         }
         Ok(index)
@@ -112,35 +112,35 @@ impl Index {
 
     /// Notes the place of a cell, where it is a future.
     #[inline(always)]
-    pub fn hold(&mut self, cell: &Cell, place: Place) -> Result<(), AllocError>
-        ensures places { let here = is_in_cell (coded cell.now) in
+    pub fn hold(&mut self, cell: View, place: Place) -> Result<(), AllocError>
+        ensures places { let here = is_in_cell (coded cell.entry) in
             OnOk result (ChangesWhere here (with_place place) self.old self.new) }
-        ensures room { is_some_future (coded cell.now) ≡ false → IsOk result }
+        ensures room { is_some_future (coded cell.entry) ≡ false → IsOk result }
         ensures err { OnErr result (IsAlike self.old self.new) }
     {
         match cell {
-            Cell::Future(future) => self.insert(&future.name, place),
+            View::Future(future) => self.insert(&future.name, place),
             _ => Ok(()),
         }
     }
 
     /// Forgets the place of a cell, where it is a future.
-    pub fn release(&mut self, cell: &Cell, place: Place)
-        ensures places { let here = is_in_cell (coded cell.now) in
+    pub fn release(&mut self, cell: View, place: Place)
+        ensures places { let here = is_in_cell (coded cell.entry) in
             ChangesWhere here (without_place place) self.old self.new }
     {
-        if let Cell::Future(future) = cell {
+        if let View::Future(future) = cell {
             self.remove(&future.name, place);
         }
     }
 
     /// Forgets the place of a cell that another one takes.
-    pub fn give_up(&mut self, old: Cell, new: &Cell, place: Place)
-        ensures places { let gone = is_given_up (coded old) (coded new.now) in
+    pub fn give_up(&mut self, old: View, new: View, place: Place)
+        ensures places { let gone = is_given_up (coded old.entry) (coded new.entry) in
             ChangesWhere gone (without_place place) self.old self.new }
     {
-        if !is_one_future(&old, new) {
-            self.release(&old, place);
+        if !is_one_future(old, new) {
+            self.release(old, place);
         }
     }
 
@@ -169,11 +169,11 @@ impl Index {
     }
 }
 
-fn is_one_future(first: &Cell, second: &Cell) -> bool
-    ensures { result ≡ one_future (coded first.now) (coded second.now) }
+fn is_one_future(first: View, second: View) -> bool
+    ensures { result ≡ one_future (coded first.entry) (coded second.entry) }
 {
     match (first, second) {
-        (Cell::Future(one), Cell::Future(other)) => one.name == other.name,
+        (View::Future(one), View::Future(other)) => one.name == other.name,
         _ => false,
     }
 }

@@ -5,7 +5,6 @@
 mod finder;
 mod index;
 mod laws;
-mod objects;
 mod places;
 mod store;
 

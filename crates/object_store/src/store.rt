@@ -4,8 +4,8 @@ ghost use Rattle.std.specs.Prelude.{
   ◌≡◌,
   ◌<◌,
   ◌≤◌,
+  ◌+◌,
   ◌-◌,
-  ◌^◌,
   ◌∷◌,
   ◌++◌,
   [],
@@ -17,33 +17,36 @@ ghost use Rattle.std.specs.Prelude.{
   length,
   take,
 };
-ghost use Rattle.std.specs.Option.{IfSome, OnSome};
 ghost use Rattle.asp_model.specs.Shapes.{future_shape};
 ghost use Rattle.code_table.specs.Cells.{
-  all_coded,
+  Group,
+  IsBare,
+  Object,
+  bare,
   cell_at,
   coded,
-  grafted,
+  moved_coded,
   with_cell_at,
-  with_coded_at,
   with_place_at,
 };
+ghost use Rattle.code_table.specs.Moves.{move_of};
+ghost use Rattle.object_store.specs.Finder.{Follows, but_last, last_cell};
 ghost use Rattle.object_store.specs.Holders.{holders, is_some_future};
+ghost use Rattle.object_store.specs.Index.{ChangesWhere, IsAlike, is_in_cell};
+ghost use Rattle.object_store.specs.Places.{with_place};
 
 use crate::finder::Finder;
-use crate::objects::set_in_cells;
 use asp_model::FutureName;
-use code_table::{Cell, Place};
+use code_table::{Cell, Columns, Moves, Place, View};
 use std::alloc::{AllocError, Global};
 use std::marker::Model;
-use std::mem;
 
 /// The cells of one activity, in the order in which they were added. No call ties `AllocError` to
 /// what it asks for.
 #[derive(Drop)]
 pub struct Store {
     alloc: Global,
-    cells: Vec<Cell>,
+    columns: Columns,
     spare: usize,
     finder: Finder,
 }
@@ -72,19 +75,19 @@ impl Store {
     {
         Store {
             alloc,
-            cells: Vec::new(alloc),
+            columns: Columns::new(alloc),
             spare: 0,
             finder: Finder::Look,
         }
     }
 
     /// A store of these cells, with room for a few more.
-    pub fn of(alloc: Global, cells: Vec<Cell>) -> Result<Store, AllocError>
-        ensures cells { IfOk result (λ s. s.cells ≡ all_coded cells.items) }
+    pub fn of(alloc: Global, columns: Columns) -> Result<Store, AllocError>
+        ensures cells { IfOk result (λ s. s.cells ≡ columns.items) }
     {
         let mut store = Store {
             alloc,
-            cells,
+            columns,
             spare: 0,
             finder: Finder::Look,
         };
@@ -95,16 +98,17 @@ impl Store {
     pub fn len(&self) -> Place
         ensures { result ≡ length self.now.cells }
     {
-        self.cells.len()
+        self.columns.len()
     }
 
-    /// Appends a cell, and answers its place.
+    /// Appends a cell that has no words, and answers its place.
     #[inline(always)]
     pub fn add(&mut self, cell: Cell) -> Result<Place, AllocError>
+        requires bare { IsBare cell }
         ensures place { IfOk result (λ place. place ≡ length self.old.cells) }
-        ensures cells { OnOk result (self.new.cells ≡ self.old.cells ++ coded cell ∷ []) }
+        ensures cells { OnOk result (self.new.cells ≡ self.old.cells ++ bare cell ∷ []) }
         ensures spare { OnOk result (self.new.spare ≡ self.old.spare - 1) }
-        ensures room { 0 < self.old.spare → is_some_future (coded cell) ≡ false → IsOk result }
+        ensures room { 0 < self.old.spare → is_some_future (bare cell) ≡ false → IsOk result }
         ensures err { OnErr result (self.new ≡ self.old) }
     {
         let place = self.len();
@@ -119,62 +123,108 @@ impl Store {
         ensures err { OnErr result (self.new ≡ self.old) }
     {
         let spare = self.spare.max(more as usize);
-        self.finder.fit(self.alloc, &self.cells, spare)?;
-        self.cells.reserve(spare)?;
+        self.finder.fit(self.alloc, &self.columns, spare)?;
+        self.columns.reserve(spare)?;
         self.spare = spare;
         Ok(())
     }
 
-    pub fn cell(&self, loc: Place) -> &Cell
-        requires within { loc < length self.now.cells }
-        ensures cell { coded result.now ≡ cell_at self.now.cells loc }
+    /// Appends an object of a class, with these places, and answers its place.
+    #[inline(always)]
+    pub fn add_object(&mut self, class: usize, places: &[Place]) -> Result<Place, AllocError>
+        ensures place { IfOk result (λ place. place ≡ length self.old.cells) }
+        ensures cells { let object = Object class places.now in
+            OnOk result (self.new.cells ≡ self.old.cells ++ object ∷ []) }
+        ensures spare { OnOk result (self.new.spare ≡ self.old.spare - 1) }
+        ensures err { OnErr result (self.new ≡ self.old) }
     {
-        &self.cells[loc]
+        let place = self.len();
+        self.finder.fit_one(self.alloc, &self.columns, self.spare)?;
+        self.columns.push_object(class, places)?;
+        self.spare = self.spare.saturating_sub(1);
+        Ok(place)
+    }
+
+    /// Appends a group of these members, and answers its place.
+    pub fn add_group(&mut self, members: &[Place]) -> Result<Place, AllocError>
+        ensures place { IfOk result (λ place. place ≡ length self.old.cells) }
+        ensures cells { OnOk result (self.new.cells ≡ self.old.cells ++ Group members.now ∷ []) }
+        ensures spare { OnOk result (self.new.spare ≡ self.old.spare - 1) }
+        ensures err { OnErr result (self.new ≡ self.old) }
+    {
+        let place = self.len();
+        self.finder.fit_one(self.alloc, &self.columns, self.spare)?;
+        self.columns.push_group(members)?;
+        self.spare = self.spare.saturating_sub(1);
+        Ok(place)
+    }
+
+    /// Appends a cell that equals the one at a place, and answers where.
+    pub fn add_equal(&mut self, loc: Place) -> Result<Place, AllocError>
+        requires within { loc < length self.old.cells }
+        ensures place { IfOk result (λ place. place ≡ length self.old.cells) }
+        ensures cells { OnOk result (self.new.cells ≡ self.old.cells ++ cell_at self.old.cells loc ∷ []) }
+        ensures spare { OnOk result (self.new.spare ≡ self.old.spare - 1) }
+        ensures err { OnErr result (self.new ≡ self.old) }
+    {
+        let place = self.len();
+        self.finder.fit_one(self.alloc, &self.columns, self.spare)?;
+        self.columns.push_equal(loc)?;
+        note_last(&mut self.finder, &mut self.columns, place)?;
+        self.spare = self.spare.saturating_sub(1);
+        Ok(place)
+    }
+
+    /// Appends a cell, with each of its places moved.
+    pub fn add_moved(&mut self, cell: View, moves: &Moves) -> Result<(), AllocError>
+        ensures cells { let moved = moved_coded (move_of moves.now) (coded cell.entry) in
+            OnOk result (self.new.cells ≡ self.old.cells ++ moved ∷ []) }
+        ensures spare { OnOk result (self.new.spare ≡ self.old.spare - 1) }
+        ensures err { OnErr result (self.new ≡ self.old) }
+    {
+        let place = self.len();
+        self.finder.fit_one(self.alloc, &self.columns, self.spare)?;
+        self.columns.push_moved(cell, moves)?;
+        note_last(&mut self.finder, &mut self.columns, place)?;
+        self.spare = self.spare.saturating_sub(1);
+        Ok(())
+    }
+
+    /// Puts a cell in the place of another, with each of its places moved.
+    pub fn put_moved(&mut self, loc: Place, cell: View, moves: &Moves) -> Result<(), AllocError>
+        requires within { loc < length self.old.cells }
+        ensures cells { let moved = moved_coded (move_of moves.now) (coded cell.entry) in
+            OnOk result (self.new.cells ≡ with_cell_at self.old.cells loc moved) }
+        ensures spare { self.new.spare ≡ self.old.spare }
+        ensures err { OnErr result (self.new ≡ self.old) }
+    {
+        self.columns.push_moved(cell, moves)?;
+        note_last(&mut self.finder, &mut self.columns, loc)?;
+        let last = self.columns.len() - 1;
+        self.finder
+            .give_up(self.columns.view(loc), self.columns.view(last), loc);
+        self.columns.move_last_to(loc);
+        Ok(())
+    }
+
+    /// The cell at a place.
+    #[inline(always)]
+    pub fn cell(&self, loc: Place) -> View<'_>
+        requires within { loc < length self.now.cells }
+        ensures cell { coded result ≡ cell_at self.now.cells loc }
+    {
+        self.columns.view(loc)
     }
 
     /// Sets one of the places of an object, where it has that many.
+    #[inline(always)]
     pub fn set_place(&mut self, loc: Place, index: usize, to: Place)
         requires within { loc < length self.old.cells }
         ensures cells { let s = self.old.cells in
             self.new.cells ≡ with_cell_at s loc (with_place_at index to (cell_at s loc)) }
         ensures spare { self.new.spare ≡ self.old.spare }
     {
-        set_in_cells(&mut self.cells, loc, index, to)
-    }
-
-    /// Puts a cell in the place of another.
-    pub fn replace(&mut self, loc: Place, cell: Cell) -> Result<(), AllocError>
-        requires within { loc < length self.old.cells }
-        ensures cells { let s = self.old.cells in
-            OnOk result (self.new.cells ≡ with_cell_at s loc (coded cell)) }
-        ensures spare { self.new.spare ≡ self.old.spare }
-        ensures err { OnErr result (self.new ≡ self.old) }
-    {
-        self.finder.hold(&cell, loc)?;
-        let old = mem::replace(&mut self.cells[loc], cell);
-        self.finder.give_up(old, &self.cells[loc], loc);
-        Ok(())
-    }
-
-    /// Appends cells, or puts the first one at a place and appends the others. It answers the length
-    /// before, where the first of the appended cells then stands.
-    pub fn graft(&mut self, at: Option<Place>, cells: Vec<Cell>) -> Result<Place, AllocError>
-        requires within { IfSome at (λ loc. loc < length self.old.cells) }
-        requires some { OnSome at (0 < length cells.items) }
-        ensures length { IfOk result (λ place. place ≡ length self.old.cells) }
-        ensures cells { OnOk result
-            (self.new.cells ≡ grafted self.old.cells at (all_coded cells.items)) }
-        ensures fits { OnOk result (length self.new.cells < 2 ^ 64) }
-        ensures err { OnErr result (self.new.cells ≡ self.old.cells) }
-    {
-        let before = self.len();
-        match at {
-            None => self.append_all(cells)?,
-            Some(loc) => self.graft_at(loc, cells)?,
-        }
-        // Read for `fits`: the number of cells is a place.
-        let _after = self.len();
-        Ok(before)
+        self.columns.set_place(loc, index, to);
     }
 
     /// The places whose cell is this future, ascending.
@@ -182,20 +232,21 @@ impl Store {
         ensures holders { let places = holders (future_shape future.now) self.now.cells in
             IfOk result (λ v. v.items ≡ places) }
     {
-        self.finder.places(self.alloc, &self.cells, future)
+        self.finder.places(self.alloc, &self.columns, future)
     }
 
     #[inline(always)]
     fn append(&mut self, cell: Cell) -> Result<(), AllocError>
-        ensures cells { OnOk result (self.new.cells ≡ self.old.cells ++ coded cell ∷ []) }
+        requires bare { IsBare cell }
+        ensures cells { OnOk result (self.new.cells ≡ self.old.cells ++ bare cell ∷ []) }
         ensures spare { OnOk result (self.new.spare ≡ self.old.spare - 1) }
-        ensures room { 0 < self.old.spare → is_some_future (coded cell) ≡ false → IsOk result }
+        ensures room { 0 < self.old.spare → is_some_future (bare cell) ≡ false → IsOk result }
         ensures err { OnErr result (self.new ≡ self.old) }
     {
-        self.cells.reserve(1)?;
-        self.finder.fit_one(self.alloc, &self.cells, self.spare)?;
-        self.finder.hold(&cell, self.cells.len())?;
-        self.cells.push_reserved(cell);
+        self.columns.reserve(1)?;
+        self.finder.fit_one(self.alloc, &self.columns, self.spare)?;
+        self.finder.hold(cell.lone(), self.columns.len())?;
+        self.columns.push_reserved(cell);
         self.spare = self.spare.saturating_sub(1);
         Ok(())
     }
@@ -205,8 +256,9 @@ impl Store {
         requires { 0 < length self.old.cells }
         ensures { self.new.cells ≡ take (length self.old.cells - 1) self.old.cells }
     {
-        let last = self.cells.pop().unwrap();
-        self.finder.release(&last, self.cells.len());
+        let last = self.columns.len() - 1;
+        self.finder.release(self.columns.view(last), last);
+        self.columns.pop();
     }
 
     /// Takes cells out at the end, down to so many.
@@ -214,46 +266,28 @@ impl Store {
         requires { count ≤ length self.old.cells }
         ensures { self.new.cells ≡ take count self.old.cells }
     {
-        while count < self.cells.len() {
+        while count < self.columns.len() {
             self.unappend();
         }
     }
+}
 
-    // Appends all cells or none.
-    fn append_all(&mut self, cells: Vec<Cell>) -> Result<(), AllocError>
-        ensures cells { let cs = all_coded cells.items in
-            OnOk result (self.new.cells ≡ self.old.cells ++ cs) }
-        ensures err { OnErr result (self.new.cells ≡ self.old.cells) }
-    {
-        let count = self.cells.len();
-        self.cells.reserve(cells.len())?;
-        for cell in cells {
-            if self.append(cell).is_err() {
-                self.shorten_to(count);
-                return Err(AllocError);
-            }
-        }
-        Ok(())
-    }
-
-    // Puts the first cell at a place and appends the others, or does nothing.
-    fn graft_at(&mut self, loc: Place, mut cells: Vec<Cell>) -> Result<(), AllocError>
-        requires within { loc < length self.old.cells }
-        requires some { 0 < length cells.items }
-        ensures cells { let cs = all_coded cells.items in
-            OnOk result (self.new.cells ≡ with_coded_at self.old.cells loc cs) }
-        ensures err { OnErr result (self.new.cells ≡ self.old.cells) }
-    {
-        let count = self.cells.len();
-        cells.rotate_left(1);
-        let first = cells.pop().unwrap();
-        self.append_all(cells)?;
-        match self.replace(loc, first) {
-            Ok(()) => Ok(()),
-            Err(refused) => {
-                self.shorten_to(count);
-                Err(refused)
-            }
+// Notes the last cell at a place, or takes it out again.
+fn note_last(finder: &mut Finder, columns: &mut Columns, at: Place) -> Result<(), AllocError>
+    requires some { 0 < length columns.old.items }
+    ensures cells { OnOk result (columns.new ≡ columns.old) }
+    ensures noted { let here = is_in_cell (last_cell columns.old.items) in
+        OnOk result (Follows (ChangesWhere here (with_place at)) finder.old finder.new) }
+    ensures err { OnErr result (columns.new.items ≡ but_last columns.old.items) }
+    ensures free { OnErr result (columns.old.free + 1 ≤ columns.new.free) }
+    ensures kept { OnErr result (Follows IsAlike finder.old finder.new) }
+{
+    let last = columns.len() - 1;
+    match finder.hold(columns.view(last), at) {
+        Ok(()) => Ok(()),
+        Err(refused) => {
+            columns.pop();
+            Err(refused)
         }
     }
 }

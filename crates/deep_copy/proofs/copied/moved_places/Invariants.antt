@@ -1,5 +1,5 @@
 use Rattle.std.proofs.Common.{◌≡◌, map, take}
-use Rattle.deep_copy.specs.Moves.{move_of}
+use Rattle.code_table.specs.Moves.{move_of}
 use Rattle.deep_copy.proofs.copied.moved_places.Given as goal
 
 abbrev pub invariant-loop-place : goal.invariant-loop-place

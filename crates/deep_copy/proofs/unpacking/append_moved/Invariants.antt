@@ -1,10 +1,14 @@
-use Rattle.std.proofs.Common.{◌≡◌, ◌++◌, length, map}
-use Rattle.code_table.specs.Cells.{all_coded, moved_coded}
-use Rattle.deep_copy.specs.Moves.{move_of}
+use Rattle.std.proofs.Common.{◌≡◌, ◌≤◌, ◌-◌, length}
+use Rattle.code_table.specs.Moves.{move_of}
+use Rattle.deep_copy.proofs.GraftLemmas.{appended}
 use Rattle.deep_copy.proofs.unpacking.append_moved.Given as goal
 
-abbrev pub invariant-loop-cell : goal.invariant-loop-cell
-invariant-loop-cell l = record {
+abbrev pub invariant-loop-at : goal.invariant-loop-at
+invariant-loop-at l = record {
   first : l.before ≡ length l.fn.store.cells;
-  so_far : l.store.cells ≡ l.fn.store.cells ++ map (moved_coded (move_of l.moves)) (all_coded l.yielded);
+  within : l.from ≤ l.at;
+  so_far : l.store.cells ≡ appended (move_of l.moves) l.fn.store.cells l.cells.items l.from l.at;
 }
+
+abbrev pub decreases-loop-at : goal.decreases-loop-at
+decreases-loop-at l = length l.cells.items - l.at

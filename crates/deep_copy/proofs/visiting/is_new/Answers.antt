@@ -1,5 +1,5 @@
 use Rattle.std.proofs.Common.{◌∙◌, length, nat_eq, ap}
-use Rattle.deep_copy.proofs.NumberLemmas.{new_by_number}
+use Rattle.code_table.proofs.OrderLemmas.{new_by_number}
 use Rattle.deep_copy.proofs.visiting.is_new.Goals as goal
 
 pub returns : goal.returns

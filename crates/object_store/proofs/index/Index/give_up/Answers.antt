@@ -10,10 +10,10 @@ pub returns-then-not-is_one_future : goal.returns-then-not-is_one_future
 returns-then-not-is_one_future c =
     let other = sym c.is_one_future.ensures ∙ c.if-not-is_one_future.true in
     record {
-      places = λ f. c.release.ensures.places f ∙ ap (λ b. changed_so (without_place c.args.place) b (places_in c.args.self.now f)) (sym (given_up_other (coded c.args.old) (coded c.args.new.now) f other));
+      places = λ f. c.release.ensures.places f ∙ ap (λ b. changed_so (without_place c.args.place) b (places_in c.args.self.now f)) (sym (given_up_other (coded c.args.old) (coded c.args.new) f other));
     }
 
-pub returns : goal.returns
-returns c =
+pub returns-else-not-is_one_future : goal.returns-else-not-is_one_future
+returns-else-not-is_one_future c =
     let same = sym c.is_one_future.ensures ∙ c.if-not-is_one_future.false in
-    record { places = λ f. ap (λ b. changed_so (without_place c.args.place) b (places_in c.args.self.now f)) (sym (given_up_same (coded c.args.old) (coded c.args.new.now) f same)) }
+    record { places = λ f. ap (λ b. changed_so (without_place c.args.place) b (places_in c.args.self.now f)) (sym (given_up_same (coded c.args.old) (coded c.args.new) f same)) }

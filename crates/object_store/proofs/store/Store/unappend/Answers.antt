@@ -1,25 +1,22 @@
-use Rattle.std.proofs.Common.{◌≡◌, ◌∙◌, length, ◌++◌, ◌∷◌, [], option_to_list, sym, ap, subst, arith, rules}
-use Rattle.std.proofs.lemmas.List.{length-map}
-use Rattle.code_table.specs.Cells.{all_coded, coded}
+use Rattle.std.proofs.Common.{◌≡◌, ◌-◌, ◌<◌, length, sym, ap, subst, arith}
+use Rattle.code_table.specs.Cells.{CodedCell, cell_at}
 use Rattle.object_store.specs.Index.{ChangesWhere, is_in_cell}
 use Rattle.object_store.specs.Finder.{Follows, IsFitting}
 use Rattle.object_store.specs.Places.{without_place}
-use Rattle.object_store.proofs.CellLemmas.{last_coded}
-use Rattle.object_store.proofs.StoredLemmas.{fitting_less}
+use Rattle.object_store.specs.View.{StoreView}
+use Rattle.object_store.proofs.StoredLemmas.{fitting_forgotten}
 use Rattle.object_store.proofs.store.Store.unappend.Goals as goal
 
 pub invariant_of-self : goal.invariant_of-self
 invariant_of-self c =
+    let s = c.self.inside.columns.items in
     let old = c.self.inside.finder in
     let new = c.release.new.self in
-    let cs = c.pop.new.self.items in
-    let last = c.unwrap-last.result in
-    let items : c.self.inside.cells.items ≡ cs ++ last ∷ [] = c.pop.ensures.items ∙ ap (λ o. cs ++ option_to_list o) c.unwrap-last.ensures in
-    let s = all_coded cs in
-    let shapes : all_coded c.self.inside.cells.items ≡ s ++ coded last ∷ [] = ap (all_coded) items ∙ last_coded cs last in
-    let count : c.len.result ≡ length s = (search rules) ∙ sym (length-map cs coded) in
-    let changes = subst (λ n. Follows (ChangesWhere (is_in_cell (coded last)) (without_place n)) old new) count c.release.ensures.places in
+    let some : 0 < length s = subst (λ (v : StoreView). 0 < length v.cells) (sym c.self.view_is) c.requires in
+    let count : c.len-last.result - 1 ≡ length s - 1 = ap (λ n. n - 1) c.len-last.ensures in
+    let held = subst (λ (x : CodedCell). Follows (ChangesWhere (is_in_cell x) (without_place (c.len-last.result - 1))) old new) c.view.ensures.view c.release.ensures.places in
+    let changes = subst (λ n. Follows (ChangesWhere (is_in_cell (cell_at s n)) (without_place n)) old new) count held in
     record {
-      fitting = fitting_less old new s (coded last) (subst (IsFitting old) shapes c.self.invariant.fitting) changes;
-      room = omega (arith, c.pop.ensures.len, c.pop.ensures.capacity, c.self.invariant.room);
+      fitting = subst (IsFitting new) (sym c.pop.ensures.items) (fitting_forgotten old new s some c.self.invariant.fitting changes);
+      room = omega (arith, c.pop.ensures.free, c.self.invariant.room);
     }
