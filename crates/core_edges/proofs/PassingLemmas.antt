@@ -1,7 +1,5 @@
 -- Futures that are passed on, as events and as edges.
-use Rattle.std.proofs.Common.{◌≡◌, ◌≤◌, ◌+◌, ℕ, Bool, true, false, List, [], ◌∷◌, ◌++◌, Option, Some, None, map, take, get_or, length, zero, suc, ◌<◌, refl, sym, ap, ◌∙◌, subst, arith, append-nil, append_assoc}
-use Rattle.std.proofs.Math.Seq.{take-suc}
-use Rattle.std.proofs.lemmas.List.{map-append}
+use Rattle.std.proofs.Common.{◌≡◌, ◌≤◌, ◌+◌, ℕ, Bool, true, false, List, [], ◌∷◌, ◌++◌, Option, Some, None, map, take, length, zero, suc, ◌<◌, refl, sym, ap, ◌∙◌, subst, arith, append-nil, append_assoc}
 use Rattle.asp_model.specs.Names.{Name, FutureShape}
 use Rattle.asp_model.specs.History.{ChoiceShape, DeliveryShape, Edge, Need}
 use Rattle.asp_model.specs.Configuration.{RequestShape}
@@ -9,8 +7,7 @@ use Rattle.code_table.specs.declared.code.Node.{Node}
 use Rattle.code_table.specs.declared.class.Class.{Class}
 use Rattle.code_table.specs.Classes.{class_at}
 use Rattle.code_table.specs.Cells as coded
-use Rattle.code_table.specs.Cells.{CodedCell, CodedStore, all_coded, cell_at}
-use Rattle.code_table.specs.declared.cells.Cell.{Cell}
+use Rattle.code_table.specs.Cells.{CodedCell, CodedStore, cell_at}
 use Rattle.code_table.specs.Shapes.{cell_of, class_object, store_of}
 use Rattle.def_journals.specs.Edges.{Begins, EdgeShape, HoldersShape, Passes, Receives, after_event, after_events, home_of, is_no_edge, with_edge, with_edges, with_held}
 use Rattle.def_journals.specs.Passing.{future_in, futures_in, passes_all}
@@ -81,19 +78,6 @@ passes_are k cs from to h =
     ∙ passed_events (futures_held cs) from to h
 
 -- Loops over cells
-
-take_more : {X : Type 0} (xs : List X) (i : ℕ) (x : X) → i < length xs → x ≡ get_or xs i x → take (i + 1) xs ≡ take i xs ++ x ∷ []
-take_more xs i x lt e =
-    let on : i + 1 ≡ suc i = omega arith in
-    ap (λ n. take n xs) on ∙ take-suc xs i x lt ∙ ap (λ y. take i xs ++ y ∷ []) (sym e)
-
-pub held_more : (cs : List Cell) (i : ℕ) (x : Cell) → i < length cs → x ≡ get_or cs i x → futures_held (all_coded (take (i + 1) cs)) ≡ futures_held (all_coded (take i cs)) ++ future_held (coded.coded x)
-held_more cs i x lt e =
-    ap (λ ys. futures_held (all_coded ys)) (take_more cs i x lt e)
-    ∙ ap futures_held (map-append coded.coded (take i cs) (x ∷ []))
-    ∙ held_last (all_coded (take i cs)) (coded.coded x)
-
--- and over a store
 
 take_cell : (cs : CodedStore) (p : ℕ) → p < length cs → take (suc p) cs ≡ take p cs ++ cell_at cs p ∷ []
 take_cell [] p lt = absurd (omega (arith, lt))

@@ -3,7 +3,7 @@
 ghost use Rattle.std.specs.Prelude.{◌≡◌, [], None, OnOk};
 ghost use Rattle.std.specs.Bool.{OnFalse};
 ghost use Rattle.asp_model.specs.Shapes.{delivery_shape, future_shape};
-ghost use Rattle.code_table.specs.Cells.{all_coded, coded, held_future};
+ghost use Rattle.code_table.specs.Cells.{coded, held_future};
 ghost use Rattle.code_table.specs.Shapes.{parcel_shape};
 ghost use Rattle.def_journals.specs.Edges.{Receives, after_event, home_of};
 ghost use Rattle.def_journals.specs.Passing.{futures_in};
@@ -23,18 +23,18 @@ ghost use Rattle.core_edges.specs.Strategies.{IsLearned, KeepsLearning, KeepsOth
 use crate::edges::Edges;
 use crate::futures::future_in;
 use asp_model::{ActivityName, Delivery, FutureName};
-use code_table::{Cell, Parcel};
+use code_table::{Cells, Parcel, View};
 use object_store::Store;
 use request_queue::Request;
 use std::alloc::{AllocError, Global};
 use update_policy::{Strategy, UpdatePolicy};
 
 /// Whether one of some cells holds a future.
-fn holds_futures(cells: &[Cell]) -> bool
-    ensures none { OnFalse result (futures_held (all_coded cells.now) ≡ []) }
+fn holds_futures(cells: &Cells) -> bool
+    ensures none { OnFalse result (futures_held cells.now.items ≡ []) }
 {
-    for cell in cells {
-        match future_in(cell) {
+    for place in 0..cells.len() {
+        match future_in(cells.view(place)) {
             Some(_) => return true,
             None => {}
         }
@@ -95,11 +95,11 @@ impl<P: UpdatePolicy> Edges<P> {
     /// What a cell holds goes from one activity to another.
     fn pass_cell(
         &mut self,
-        cell: &Cell,
+        cell: View,
         from: &ActivityName,
         to: &ActivityName,
     ) -> Result<(), AllocError>
-        ensures passed { let fs = future_held (coded cell.now) in
+        ensures passed { let fs = future_held (coded cell.entry) in
             OnOk result (ArePassed P.answer P.asked fs from.now to.now self.old self.new) }
     {
         match future_in(cell) {
@@ -111,15 +111,15 @@ impl<P: UpdatePolicy> Edges<P> {
     /// What cells hold goes from one activity to another.
     fn pass_cells(
         &mut self,
-        cells: &[Cell],
+        cells: &Cells,
         from: &ActivityName,
         to: &ActivityName,
     ) -> Result<(), AllocError>
-        ensures passed { let fs = futures_held (all_coded cells.now) in
+        ensures passed { let fs = futures_held cells.now.items in
             OnOk result (ArePassed P.answer P.asked fs from.now to.now self.old self.new) }
     {
-        for cell in cells {
-            self.pass_cell(cell, from, to)?;
+        for place in 0..cells.len() {
+            self.pass_cell(cells.view(place), from, to)?;
         }
         Ok(())
     }
@@ -157,7 +157,7 @@ impl<P: UpdatePolicy> Edges<P> {
         let future = &request.future.name;
         self.holders.sent(future, home)?;
         self.pass(future, home, by)?;
-        self.pass_cells(request.arguments.cells.as_slice(), by, home)
+        self.pass_cells(&request.arguments.cells, by, home)
     }
 
     /// A delivery goes along an edge, if it is kept.
@@ -180,10 +180,10 @@ impl<P: UpdatePolicy> Edges<P> {
         value: &Parcel,
     ) -> Result<(), AllocError>
         ensures passed { let f = future_shape future.now in
-            let held = futures_held (all_coded value.now.cells.items) in
+            let held = futures_held value.now.cells.items in
             OnOk result (IsHeldPassed P.answer P.asked f held by.now self.old self.new) }
     {
-        let cells = value.cells.as_slice();
+        let cells = &value.cells;
         if !holds_futures(cells) {
             return Ok(());
         }

@@ -16,7 +16,7 @@ ghost use Rattle.core_state.specs.Targets.{IsEdgeTarget, IsNeedTarget, IsSeatedA
 
 use crate::state::CoreState;
 use asp_model::{ActivityName, FutureName};
-use code_table::{Cell, Place};
+use code_table::{Place, View};
 use future_table::{Chase, FutureTable};
 use object_store::Store;
 use step_activity::Actor;
@@ -62,15 +62,15 @@ fn place_in(store: &Store, loc: u128) -> Option<Place>
     Some(loc as usize)
 }
 
-fn future_of(cell: &Cell) -> Option<&FutureName>
-    ensures future { (k : List NodeShape) → IsFutureOf (cell_shape k cell.now) result }
+fn future_of(cell: View<'_>) -> Option<&FutureName>
+    ensures future { (k : List NodeShape) → IsFutureOf (cell_shape k cell.entry) result }
 {
     match cell {
-        Cell::Future(future) => Some(&future.name),
-        Cell::Number(_) => None,
-        Cell::Object(_) => None,
-        Cell::Reference(_) => None,
-        Cell::Group(_) => None,
+        View::Future(future) => Some(&future.name),
+        View::Number(_) => None,
+        View::Object(_) => None,
+        View::Reference(_) => None,
+        View::Group(_) => None,
     }
 }
 

@@ -6,3 +6,4 @@ pub mod JoinedLemmas
 pub mod EndedLemmas
 pub mod FillingLemmas
 pub mod EntryLemmas
+pub mod RootLemmas

@@ -2,6 +2,7 @@
 use Rattle.std.specs.Prelude.{◌≡◌, ◌≢◌, ℕ, List, Option, Some, None, length, map}
 use Rattle.asp_model.specs.declared.name.FutureName.{FutureName}
 use Rattle.code_table.specs.declared.cells.Parcel.{Parcel}
+use Rattle.code_table.specs.Cells.{CodedCell, Future}
 use Rattle.std.specs.FinMap.{find, put}
 use Rattle.asp_model.specs.Names.{FutureShape}
 use Rattle.asp_model.specs.Store.{cell}
@@ -26,6 +27,11 @@ pub record IsWhole (w : Walks) : Type 0 where
   pub parts : AreComponents (values_in w) (names_in w) w.links.items
   pub room : length w.values.items ≡ length w.numbers
   pub apart : AreApart w.numbers
+
+-- the future that a cell is, whatever code its objects are of
+abbrev pub future_in : CodedCell → Option FutureShape
+future_in (Future f) = Some f
+future_in c = None
 
 -- the value's root is this future, or none
 abbrev pub IsRoot : ParcelShape → Option FutureShape → Type 0

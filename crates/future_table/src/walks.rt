@@ -6,19 +6,20 @@ ghost use Rattle.std.specs.FinMap.{find, put};
 ghost use Rattle.asp_model.specs.Chase.{chase as chase_of};
 ghost use Rattle.asp_model.specs.Names.{future_cmp};
 ghost use Rattle.asp_model.specs.Shapes.{future_shape};
+ghost use Rattle.code_table.specs.Cells.{coded};
 ghost use Rattle.code_table.specs.Shapes.{parcel_shape};
 ghost use Rattle.std.specs.Option.{option_copied, option_map};
 ghost use Rattle.future_table.specs.Components.{EndsWithin, end_told};
 ghost use Rattle.future_table.specs.Links.{link_at};
 ghost use Rattle.future_table.specs.Numbers.{number_of};
 ghost use Rattle.future_table.specs.Values.{StayOfCode, by_name, chase_shape, lent_entries, told};
-ghost use Rattle.future_table.specs.Walks.{IsFilledWith, IsGoing, IsRoot, IsUnfilled, IsWhole, NumbersStay, filled_in, names_in, values_in};
+ghost use Rattle.future_table.specs.Walks.{IsFilledWith, IsGoing, IsRoot, IsUnfilled, IsWhole, NumbersStay, filled_in, future_in, names_in, values_in};
 
 use crate::chase::Chase;
 use crate::links::{End, Link, end_so, head_of, join};
 use crate::numbers::Numbers;
 use asp_model::FutureName;
-use code_table::{Cell, Parcel};
+use code_table::{Parcel, View};
 use std::alloc::{AllocError, Global};
 use std::collections::BTreeMap;
 
@@ -124,9 +125,23 @@ fn ending(names: &Numbers, link: Link) -> Chase
 fn root(value: &Parcel) -> Option<&FutureName>
     ensures root { IsRoot (parcel_shape value.now) (option_map (λ f. future_shape f.now) result) }
 {
-    match value.cells.as_slice().first() {
-        Some(Cell::Future(next)) => Some(&next.name),
-        _ => None,
+    match value.cells.get(0) {
+        Some(cell) => future_of(cell),
+        None => None,
+    }
+}
+
+/// The future that a cell is.
+fn future_of(cell: View<'_>) -> Option<&FutureName>
+    ensures future { let future = option_map (λ f. future_shape f.now) result in
+        future ≡ future_in (coded cell.entry) }
+{
+    match cell {
+        View::Future(future) => Some(&future.name),
+        View::Number(_) => None,
+        View::Object(_) => None,
+        View::Reference(_) => None,
+        View::Group(_) => None,
     }
 }
 

@@ -52,7 +52,7 @@ blank_found c = found_of (Some (moved_cell (λ n. 0) c))
 
 abbrev pub found_shape : Found → FoundShape
 found_shape (found.Number n) = Number n
-found_shape (found.Object o k) = blank_found (class_object k.now o.now.places.items (class_at k.now o.now.class))
+found_shape (found.Object o k) = blank_found (class_object k.now o.places.now (class_at k.now o.class))
 found_shape (found.Reference n) = Reference n.now
 found_shape (found.Group size) = Group size
 found_shape (found.Unfilled f) = Unfilled (future_shape f.now)

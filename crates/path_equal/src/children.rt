@@ -77,7 +77,7 @@ fn field(seen: Seen, label: &Label) -> Option<Place>
     };
     let class = code.class(object.class)?;
     match class.field(label) {
-        Some(number) => place_at(&object.places, number),
+        Some(number) => place_at(object.places, number),
         None => None,
     }
 }
@@ -104,7 +104,7 @@ fn captured(seen: Seen, method: &Label, nth: usize) -> Option<Place>
         return None;
     };
     let class = code.class(object.class)?;
-    let held = behind_fields(&object.places, class.fields.len());
+    let held = behind_fields(object.places, class.fields.len());
     captured_in(&class.methods, held, method, nth)
 }
 

@@ -31,7 +31,7 @@ use state_lines::{Seen, State, look_at};
 pub enum Found<'a> {
     Number(i64),
     /// An object, and the code that has its class, with the labels of its fields and its methods.
-    Object(&'a Object, &'a Code),
+    Object(Object<'a>, &'a Code),
     Reference(&'a ActivityName),
     /// A group of so many members.
     Group(usize),

@@ -20,7 +20,7 @@ ghost use Rattle.replay_population.specs.Population.{IsClosedBySome, IsKnown, Is
 
 use crate::population::Population;
 use asp_model::FutureName;
-use code_table::{Cell, Place};
+use code_table::{Place, View};
 use future_table::{Chase, FutureTable};
 use object_store::Store;
 use std::alloc::{AllocError, Global};
@@ -51,15 +51,15 @@ fn fill_held(
     }
 }
 
-fn future_of(cell: &Cell) -> Option<&FutureName>
-    ensures future { (k : List NodeShape) → IsFutureOf (cell_shape k cell.now) result }
+fn future_of(cell: View<'_>) -> Option<&FutureName>
+    ensures future { (k : List NodeShape) → IsFutureOf (cell_shape k cell.entry) result }
 {
     match cell {
-        Cell::Future(future) => Some(&future.name),
-        Cell::Number(_) => None,
-        Cell::Object(_) => None,
-        Cell::Reference(_) => None,
-        Cell::Group(_) => None,
+        View::Future(future) => Some(&future.name),
+        View::Number(_) => None,
+        View::Object(_) => None,
+        View::Reference(_) => None,
+        View::Group(_) => None,
     }
 }
 

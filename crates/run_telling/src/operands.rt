@@ -1,7 +1,7 @@
 //! What the operands of a node were, where an activity stopped at it.
 
 use asp_model::Sign;
-use code_table::{Cell, Child, Kind, Leaf, Node};
+use code_table::{Child, Kind, Leaf, Node, View};
 use object_store::Store;
 use run_ends::EndState;
 use state_lines::push_name;
@@ -79,7 +79,7 @@ impl Stopped<'_> {
 }
 
 // The cell at a place.
-fn cell_at(store: &Store, place: usize) -> Option<&Cell> {
+fn cell_at(store: &Store, place: usize) -> Option<View<'_>> {
     if place < store.len() {
         Some(store.cell(place))
     } else {
@@ -88,16 +88,16 @@ fn cell_at(store: &Store, place: usize) -> Option<&Cell> {
 }
 
 // Adds what a cell is to a text.
-fn push_cell(text: &mut String, cell: &Cell) -> Result<(), AllocError> {
+fn push_cell(text: &mut String, cell: View) -> Result<(), AllocError> {
     match cell {
-        Cell::Number(value) => write!(text, "{value}"),
-        Cell::Object(_) => text.push_str("an object"),
-        Cell::Reference(name) => {
+        View::Number(value) => write!(text, "{value}"),
+        View::Object(_) => text.push_str("an object"),
+        View::Reference(name) => {
             text.push_str("the activity ")?;
             push_name(text, name)
         }
-        Cell::Future(_) => text.push_str("an answer"),
-        Cell::Group(members) => {
+        View::Future(_) => text.push_str("an answer"),
+        View::Group(members) => {
             let count = members.len();
             write!(text, "a group of {count}")
         }

@@ -49,4 +49,4 @@ text_by_class None places = object_text [] []
 text_by_class (Some k) places = text_of_class k places
 
 abbrev pub text_of_object : List Node → Object → List ℕ
-text_of_object code o = text_by_class (class_at code o.class) (length o.places.items)
+text_of_object code o = text_by_class (class_at code o.class) (length o.places.now)

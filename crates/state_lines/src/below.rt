@@ -53,7 +53,7 @@ pub fn push_below(
 {
     match seen {
         Seen::Object(object, code) => match code.class(object.class) {
-            Some(class) => push_fields(alloc, due, parent, &class.fields, &object.places),
+            Some(class) => push_fields(alloc, due, parent, &class.fields, object.places),
             None => Ok(()),
         },
         Seen::Group(members) => push_members(alloc, due, parent, members),

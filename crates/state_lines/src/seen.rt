@@ -7,7 +7,7 @@ ghost use Rattle.def_paths.specs.StateLines.{is_compound};
 ghost use Rattle.state_lines.specs.Sights.{seen_shape};
 
 use asp_model::{ActivityName, FutureName};
-use code_table::{Cell, Code, Object, Parcel, Place};
+use code_table::{Code, Object, Parcel, Place, View};
 use object_store::Store;
 
 /// A cell as it is read. Past the end of a store or a value the number 0 is read.
@@ -15,7 +15,7 @@ use object_store::Store;
 pub enum Seen<'a> {
     Number(i64),
     /// An object, and the code that has its class.
-    Object(&'a Object, &'a Code),
+    Object(Object<'a>, &'a Code),
     Reference(&'a ActivityName),
     Future(&'a FutureName),
     /// The members, in order.
@@ -31,15 +31,15 @@ impl Seen<'_> {
     }
 }
 
-fn see<'a>(code: &'a Code, cell: &'a Cell) -> Seen<'a>
-    ensures cell { seen_shape result ≡ cell_shape code.now cell.now }
+fn see<'a>(code: &'a Code, cell: View<'a>) -> Seen<'a>
+    ensures cell { seen_shape result ≡ cell_shape code.now cell.entry }
 {
     match cell {
-        Cell::Number(n) => Seen::Number(*n),
-        Cell::Object(object) => Seen::Object(object, code),
-        Cell::Reference(name) => Seen::Reference(name),
-        Cell::Future(future) => Seen::Future(&future.name),
-        Cell::Group(members) => Seen::Group(members),
+        View::Number(n) => Seen::Number(n),
+        View::Object(object) => Seen::Object(object, code),
+        View::Reference(name) => Seen::Reference(name),
+        View::Future(future) => Seen::Future(&future.name),
+        View::Group(members) => Seen::Group(members),
     }
 }
 
@@ -57,9 +57,8 @@ pub fn in_store<'a>(code: &'a Code, store: &'a Store, place: Place) -> Seen<'a>
 pub fn in_value(value: &Parcel, place: Place) -> Seen<'_>
     ensures cell { seen_shape result ≡ cell_in (parcel_shape value.now).cells place }
 {
-    let cells = value.cells.as_slice();
-    if place >= cells.len() {
-        return Seen::Number(0);
+    match value.cells.get(place) {
+        Some(cell) => see(&value.code, cell),
+        None => Seen::Number(0),
     }
-    see(&value.code, &cells[place])
 }

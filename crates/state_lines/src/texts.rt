@@ -99,8 +99,8 @@ fn push_what(text: &mut String, futures: &FutureTable, seen: Seen) -> Result<(),
 }
 
 // By the labels of the fields and of the methods.
-fn push_object(text: &mut String, code: &Code, object: &Object) -> Result<(), AllocError>
-    ensures { OnOk result (AddsText text.old text.new (text_of_object code.now object.now)) }
+fn push_object(text: &mut String, code: &Code, object: Object) -> Result<(), AllocError>
+    ensures { OnOk result (AddsText text.old text.new (text_of_object code.now object.entry)) }
 {
     match code.class(object.class) {
         Some(class) => push_class(text, class, object.places.len()),

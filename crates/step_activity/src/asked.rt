@@ -20,7 +20,7 @@ ghost use Rattle.step_activity.specs.Asking.{
 
 use crate::actor::Actor;
 use asp_model::{ActivityName, Label};
-use code_table::{Cell, Place};
+use code_table::{Place, View};
 use object_store::Store;
 use step_rows::Redex;
 
@@ -45,11 +45,11 @@ fn asked_at<'a>(store: &'a Store, redex: Redex<'a>) -> Asked<'a>
 {
     match redex {
         Redex::Active(object, service) => match store.cell(object) {
-            Cell::Object(_) => Asked::Creates(object, service),
+            View::Object(_) => Asked::Creates(object, service),
             _ => Asked::Nothing,
         },
         Redex::Call(place, label, arguments) => match store.cell(place) {
-            Cell::Reference(name) => Asked::Sends(name, label, arguments),
+            View::Reference(name) => Asked::Sends(name, label, arguments),
             _ => Asked::Nothing,
         },
         Redex::Serve(labels) => Asked::Serves(labels),

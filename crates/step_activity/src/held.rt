@@ -10,7 +10,7 @@ ghost use Rattle.step_activity.specs.Clear.{AreClearAt, IsClear};
 ghost use Rattle.step_activity.specs.Stances.{IsFutureOf, IsHeld, held_places};
 
 use asp_model::FutureName;
-use code_table::{Cell, Place};
+use code_table::{Place, View};
 use object_store::Store;
 use step_reads::Strict;
 
@@ -21,15 +21,15 @@ pub struct Held<'a> {
     pub future: &'a FutureName,
 }
 
-fn future_of(cell: &Cell) -> Option<&FutureName>
-    ensures future { (k : List NodeShape) → IsFutureOf (cell_shape k cell.now) result }
+fn future_of(cell: View<'_>) -> Option<&FutureName>
+    ensures future { (k : List NodeShape) → IsFutureOf (cell_shape k cell.entry) result }
 {
     match cell {
-        Cell::Future(future) => Some(&future.name),
-        Cell::Number(_) => None,
-        Cell::Object(_) => None,
-        Cell::Reference(_) => None,
-        Cell::Group(_) => None,
+        View::Future(future) => Some(&future.name),
+        View::Number(_) => None,
+        View::Object(_) => None,
+        View::Reference(_) => None,
+        View::Group(_) => None,
     }
 }
 
@@ -61,15 +61,15 @@ fn first_of<'a>(store: &'a Store, places: &[Place], from: usize) -> Option<Held<
 }
 
 /// The members of a group; none of what is no group.
-fn members_of(cell: &Cell) -> &[Place]
-    ensures members { (k : List NodeShape) → result.now ≡ members_of (cell_shape k cell.now) }
+fn members_of(cell: View<'_>) -> &[Place]
+    ensures members { (k : List NodeShape) → result.now ≡ members_of (cell_shape k cell.entry) }
 {
     match cell {
-        Cell::Group(members) => members,
-        Cell::Number(_) => &[],
-        Cell::Object(_) => &[],
-        Cell::Reference(_) => &[],
-        Cell::Future(_) => &[],
+        View::Group(members) => members,
+        View::Number(_) => &[],
+        View::Object(_) => &[],
+        View::Reference(_) => &[],
+        View::Future(_) => &[],
     }
 }
 
@@ -103,15 +103,15 @@ pub fn first_held<'a>(store: &'a Store, strict: Strict, clear: usize) -> Option<
     }
 }
 
-fn is_future(cell: &Cell) -> bool
-    ensures { (k : List NodeShape) → result ≡ is_future (cell_shape k cell.now) }
+fn is_future(cell: View<'_>) -> bool
+    ensures { (k : List NodeShape) → result ≡ is_future (cell_shape k cell.entry) }
 {
     match cell {
-        Cell::Future(_) => true,
-        Cell::Number(_) => false,
-        Cell::Object(_) => false,
-        Cell::Reference(_) => false,
-        Cell::Group(_) => false,
+        View::Future(_) => true,
+        View::Number(_) => false,
+        View::Object(_) => false,
+        View::Reference(_) => false,
+        View::Group(_) => false,
     }
 }
 

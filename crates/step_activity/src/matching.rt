@@ -18,7 +18,7 @@ ghost use Rattle.step_activity.specs.Asking.{asked_for, class_in};
 use crate::actor::Actor;
 use activity_step::Standing;
 use asp_model::Label;
-use code_table::{Cell, Class, Code};
+use code_table::{Class, Code, View};
 use serve_rules::Wanted;
 use std::alloc::{AllocError, Global};
 use step_rows::Redex;
@@ -89,8 +89,8 @@ impl Actor {
 }
 
 /// The labels that a `serve` asks for: with none written, those of the active object's methods.
-fn labels_of<'a>(code: &'a Code, active: &Cell, labels: &'a [Label]) -> Wanted<'a>
-    ensures labels { let active = cell_shape code.now active.now in
+fn labels_of<'a>(code: &'a Code, active: View, labels: &'a [Label]) -> Wanted<'a>
+    ensures labels { let active = cell_shape code.now active.entry in
         wanted_labels result ≡ labels_served (map label_text labels.now) active }
 {
     if labels.is_empty() {
@@ -101,8 +101,8 @@ fn labels_of<'a>(code: &'a Code, active: &Cell, labels: &'a [Label]) -> Wanted<'
 }
 
 /// The labels of an object's methods.
-fn methods_of<'a>(code: &'a Code, active: &Cell) -> Wanted<'a>
-    ensures labels { let active = cell_shape code.now active.now in
+fn methods_of<'a>(code: &'a Code, active: View) -> Wanted<'a>
+    ensures labels { let active = cell_shape code.now active.entry in
         wanted_labels result ≡ method_labels active }
 {
     match class_of(code, active) {
@@ -112,11 +112,11 @@ fn methods_of<'a>(code: &'a Code, active: &Cell) -> Wanted<'a>
 }
 
 /// The class of an object.
-fn class_of<'a>(code: &'a Code, cell: &Cell) -> Option<&'a Class>
-    ensures class { seen_class result ≡ class_in code.now (coded cell.now) }
+fn class_of<'a>(code: &'a Code, cell: View) -> Option<&'a Class>
+    ensures class { seen_class result ≡ class_in code.now (coded cell.entry) }
 {
     match cell {
-        Cell::Object(object) => code.class(object.class),
+        View::Object(object) => code.class(object.class),
         _ => None,
     }
 }

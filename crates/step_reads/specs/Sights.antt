@@ -21,7 +21,7 @@ use Rattle.step_reads.specs.Strict.{strict_places}
 
 abbrev pub seen_shape : Seen → CellShape
 seen_shape (seen.Number n) = Number n
-seen_shape (seen.Object o k) = class_object k.now o.now.places.items (class_at k.now o.now.class)
+seen_shape (seen.Object o k) = class_object k.now o.places.now (class_at k.now o.class)
 seen_shape (seen.Reference n) = Reference n.now
 seen_shape (seen.Future f) = Future (future_shape f.now)
 seen_shape (seen.Group ns) = Group ns.now

@@ -9,15 +9,10 @@ ghost use Rattle.asp_model.specs.Store.{cell as cell_in};
 ghost use Rattle.code_table.specs.Shapes.{parcel_shape, store_of};
 ghost use Rattle.future_table.specs.Values.{values_of};
 ghost use Rattle.step_reads.specs.Passed.{members_passed, value_passed};
-ghost use Rattle.step_reads.specs.Sights.{
-  first_missed,
-  members_missed,
-  seen_shape,
-  value_missed,
-};
+ghost use Rattle.step_reads.specs.Sights.{first_missed, members_missed, value_missed};
 
-use crate::reading::{Operand, root_of, through};
-use crate::seen::{Seen, members_of, read, see};
+use crate::reading::{Operand, cell_of, root_of, through};
+use crate::seen::{Seen, members_of, read};
 use asp_model::FutureName;
 use code_table::{Code, Parcel, Place};
 use future_table::{Chase, FutureTable};
@@ -60,16 +55,6 @@ fn missed_at<'a>(
     Missed {
         future: None,
         passed: places.len(),
-    }
-}
-
-/// A cell of a parcel.
-fn cell_of(parcel: &Parcel, place: Place) -> Seen
-    ensures cell { seen_shape result ≡ cell_in (parcel_shape parcel.now).cells place }
-{
-    match parcel.cells.as_slice().get(place) {
-        Some(cell) => see(&parcel.code, cell),
-        None => Seen::Number(0),
     }
 }
 

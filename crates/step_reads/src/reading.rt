@@ -32,13 +32,20 @@ pub enum Operands<'a> {
     Awaits(&'a FutureName),
 }
 
-pub fn root_of(parcel: &Parcel) -> Seen
-    ensures root { seen_shape result ≡ cell_in (parcel_shape parcel.now).cells 0 }
+/// A cell of a parcel.
+pub fn cell_of(parcel: &Parcel, place: Place) -> Seen
+    ensures cell { seen_shape result ≡ cell_in (parcel_shape parcel.now).cells place }
 {
-    match parcel.cells.as_slice().first() {
+    match parcel.cells.get(place) {
         Some(cell) => see(&parcel.code, cell),
         None => Seen::Number(0),
     }
+}
+
+pub fn root_of(parcel: &Parcel) -> Seen
+    ensures root { seen_shape result ≡ cell_in (parcel_shape parcel.now).cells 0 }
+{
+    cell_of(parcel, 0)
 }
 
 fn value_of<'a>(futures: &'a FutureTable, future: &'a FutureName) -> Operand<'a>

@@ -33,9 +33,9 @@ use asp_model::{Fault, Label, Sign};
 use code_table::{Code, Object};
 use step_rows::{Redex, operate};
 
-fn has_field(object: &Object, code: &Code, label: &Label) -> bool
-    ensures field { let c = class_object code.now object.now.places.items
-        (class_at code.now object.now.class) in
+fn has_field(object: Object, code: &Code, label: &Label) -> bool
+    ensures field { let c = class_object code.now object.entry.places.now
+        (class_at code.now object.entry.class) in
         result ≡ has_text label.now.text (field_labels (face c)) }
 {
     let Some(class) = code.class(object.class) else {
@@ -48,9 +48,9 @@ fn has_field(object: &Object, code: &Code, label: &Label) -> bool
 }
 
 /// It has a method with this label, and with so many parameters.
-fn has_method(object: &Object, code: &Code, label: &Label, count: usize) -> bool
-    ensures method { let c = class_object code.now object.now.places.items
-        (class_at code.now object.now.class) in
+fn has_method(object: Object, code: &Code, label: &Label, count: usize) -> bool
+    ensures method { let c = class_object code.now object.entry.places.now
+        (class_at code.now object.entry.class) in
         result ≡ has_count count (head_at label.now.text (method_heads (face c))) }
 {
     let Some(class) = code.class(object.class) else {

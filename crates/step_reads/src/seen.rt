@@ -7,7 +7,7 @@ ghost use Rattle.code_table.specs.Shapes.{cell_shape, store_of};
 ghost use Rattle.step_reads.specs.Sights.{seen_shape};
 
 use asp_model::{ActivityName, FutureName};
-use code_table::{Cell, Code, Object, Place};
+use code_table::{Code, Object, Place, View};
 use object_store::Store;
 
 /// A cell as it is read. Past the end of a store the number 0 is read.
@@ -15,22 +15,22 @@ use object_store::Store;
 pub enum Seen<'a> {
     Number(i64),
     /// An object, and the code that has its class.
-    Object(&'a Object, &'a Code),
+    Object(Object<'a>, &'a Code),
     Reference(&'a ActivityName),
     Future(&'a FutureName),
     /// The members, in order.
     Group(&'a [Place]),
 }
 
-pub fn see<'a>(code: &'a Code, cell: &'a Cell) -> Seen<'a>
-    ensures cell { seen_shape result ≡ cell_shape code.now cell.now }
+pub fn see<'a>(code: &'a Code, cell: View<'a>) -> Seen<'a>
+    ensures cell { seen_shape result ≡ cell_shape code.now cell.entry }
 {
     match cell {
-        Cell::Number(n) => Seen::Number(*n),
-        Cell::Object(object) => Seen::Object(object, code),
-        Cell::Reference(name) => Seen::Reference(name),
-        Cell::Future(future) => Seen::Future(&future.name),
-        Cell::Group(members) => Seen::Group(members),
+        View::Number(n) => Seen::Number(n),
+        View::Object(object) => Seen::Object(object, code),
+        View::Reference(name) => Seen::Reference(name),
+        View::Future(future) => Seen::Future(&future.name),
+        View::Group(members) => Seen::Group(members),
     }
 }
 

@@ -9,7 +9,7 @@ ghost use Rattle.future_table.specs.Values.{chase_shape, values_of};
 ghost use Rattle.wait_need.specs.Needs.{need_of, need_shape, need_told};
 
 use crate::kinds::Need;
-use code_table::{Cell, Place};
+use code_table::{Place, View};
 use future_table::{Chase, FutureTable};
 use object_store::Store;
 
@@ -23,12 +23,12 @@ pub fn need<'a>(store: &'a Store, loc: Place, futures: &'a FutureTable) -> Need<
     of_cell(store.cell(loc), futures)
 }
 
-fn of_cell<'a>(cell: &'a Cell, futures: &'a FutureTable) -> Need<'a>
+fn of_cell<'a>(cell: View<'a>, futures: &'a FutureTable) -> Need<'a>
     ensures need { (k : List NodeShape) → let chases = chase_of (values_of futures.now) in
-        need_shape result ≡ need_of chases (cell_shape k cell.now) }
+        need_shape result ≡ need_of chases (cell_shape k cell.entry) }
 {
     match cell {
-        Cell::Future(future) => at_end(futures.chase(&future.name)),
+        View::Future(future) => at_end(futures.chase(&future.name)),
         _ => Need::Ready,
     }
 }

@@ -1,7 +1,7 @@
 //! Stores as texts.
 
 use crate::names::push_future;
-use code_table::{Cell, Class, Code, MethodCode, Object, Place};
+use code_table::{Class, Code, MethodCode, Object, Place, View};
 use object_store::Store;
 use run_ends::RunEnd;
 use run_report::push_name;
@@ -18,7 +18,7 @@ fn push_field(text: &mut String, label: &str, place: Place) -> Result<(), AllocE
     write!(text, " {label}={place}")
 }
 
-fn push_fields(text: &mut String, class: &Class, object: &Object) -> Result<(), AllocError> {
+fn push_fields(text: &mut String, class: &Class, object: Object) -> Result<(), AllocError> {
     for (label, place) in class.fields.iter().zip(object.places.iter()) {
         push_field(text, label.text.as_str(), *place)?;
     }
@@ -35,16 +35,16 @@ fn push_used(text: &mut String, method: &MethodCode, places: &[Place]) -> Result
     Ok(())
 }
 
-fn push_methods(text: &mut String, class: &Class, object: &Object) -> Result<(), AllocError> {
+fn push_methods(text: &mut String, class: &Class, object: Object) -> Result<(), AllocError> {
     for method in &class.methods {
         text.push_str(" ; ")?;
         text.push_str(method.label.text.as_str())?;
-        push_used(text, method, &object.places)?;
+        push_used(text, method, object.places)?;
     }
     Ok(())
 }
 
-fn push_object(text: &mut String, code: &Code, object: &Object) -> Result<(), AllocError> {
+fn push_object(text: &mut String, code: &Code, object: Object) -> Result<(), AllocError> {
     match code.class(object.class) {
         Some(class) => {
             push_fields(text, class, object)?;
@@ -54,22 +54,22 @@ fn push_object(text: &mut String, code: &Code, object: &Object) -> Result<(), Al
     }
 }
 
-fn push_cell(text: &mut String, code: &Code, cell: &Cell) -> Result<(), AllocError> {
+fn push_cell(text: &mut String, code: &Code, cell: View) -> Result<(), AllocError> {
     match cell {
-        Cell::Number(n) => write!(text, "number {n}"),
-        Cell::Object(object) => {
+        View::Number(n) => write!(text, "number {n}"),
+        View::Object(object) => {
             text.push_str("object")?;
             push_object(text, code, object)
         }
-        Cell::Reference(name) => {
+        View::Reference(name) => {
             text.push_str("ref ")?;
             push_name(text, name)
         }
-        Cell::Future(future) => {
+        View::Future(future) => {
             text.push_str("future ")?;
             push_future(text, &future.name)
         }
-        Cell::Group(members) => {
+        View::Group(members) => {
             text.push_str("group")?;
             push_places(text, members)
         }

@@ -13,15 +13,15 @@ pub returns : goal.returns
 returns c =
     let code = c.in-Object.code.now in
     let class = c.in_ok-class.class.now in
-    let ns = c.in-Object.object.now.places.items in
+    let ns = c.in-Object.object.places.now in
     let l = c.args.method.now.text in
     let n = c.args.nth in
     let count : c.len.result ≡ length class.fields.items = omega (arith, c.len.ensures, class.fields.ok) in
     let held : c.behind_fields-held.result.now ≡ drop (length class.fields.items) ns =
-    c.behind_fields-held.ensures ∙ (λ i. drop (count i) (c.deref.ensures.value i)) in
+    c.behind_fields-held.ensures ∙ ap (λ n. drop n ns) count in
     record {
       cell = c.captured_in.ensures.cell
-          ∙ ap (λ (ms : List MethodCode). captured_in l n ms c.behind_fields-held.result.now) c.deref-2.ensures.value
+          ∙ ap (λ (ms : List MethodCode). captured_in l n ms c.behind_fields-held.result.now) c.deref.ensures.value
           ∙ ap (captured_in l n class.methods.items) held
           ∙ captured_cell code class ns l n c.in_ok-class.ensures.sound
           ∙ ap (λ (k : Option Class). child_cell (class_object code ns k) (To_captured l n)) c.in_ok-class.ensures.class

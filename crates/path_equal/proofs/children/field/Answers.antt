@@ -1,4 +1,4 @@
-use Rattle.std.proofs.Common.{List, ℕ, Option, ◌∙◌, sym, ap, slice_get}
+use Rattle.std.proofs.Common.{Option, ◌∙◌, sym, ap}
 use Rattle.code_table.specs.declared.class.Class.{Class}
 use Rattle.code_table.specs.Shapes.{class_object}
 use Rattle.def_paths.specs.PathLabels.{To_field}
@@ -11,11 +11,10 @@ use Rattle.path_equal.proofs.children.field.Goals as goal
 pub returns-in-Some : goal.returns-in-Some
 returns-in-Some c =
     let code = c.in-Object.code.now in
-    let ns = c.in-Object.object.now.places.items in
+    let ns = c.in-Object.object.places.now in
     let l = c.args.label.now.text in
     record {
       cell = c.place_at.ensures
-          ∙ ap (λ (xs : List ℕ). slice_get xs c.in-Some.number) c.deref.ensures.value
           ∙ ap (nth_of ns) c.in-Some.ensures.number
           ∙ field_cell code c.in_ok-class.class.now ns l
           ∙ ap (λ (k : Option Class). child_cell (class_object code ns k) (To_field l)) c.in_ok-class.ensures.class
@@ -25,7 +24,7 @@ returns-in-Some c =
 pub returns-in-None : goal.returns-in-None
 returns-in-None c =
     let code = c.in-Object.code.now in
-    let ns = c.in-Object.object.now.places.items in
+    let ns = c.in-Object.object.places.now in
     let l = c.args.label.now.text in
     record {
       cell = ap (nth_of ns) c.in-None.ensures.number

@@ -7,7 +7,7 @@ use Rattle.replay_population.proofs.deliveries.held_at.Goals as goal
 
 pub returns : goal.returns
 returns c = record {
-  held = λ k. subst (λ z. IsFutureOf z c.future_of.result) (sym (cell_seen k c.args.store.now.cells c.args.place (coded c.cell.result.now) c.cell.ensures.cell)) (c.future_of.ensures.future k);
+  held = λ k. subst (λ z. IsFutureOf z c.future_of.result) (sym (cell_seen k c.args.store.now.cells c.args.place (coded c.cell.result) c.cell.ensures.cell)) (c.future_of.ensures.future k);
 }
 
 pub returns-then-place-len : goal.returns-then-place-len

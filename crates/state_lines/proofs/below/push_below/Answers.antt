@@ -1,7 +1,7 @@
 use Rattle.std.proofs.Common.{◌∙◌, List, Option, OnOk, map, sym, ap, subst}
 use Rattle.asp_model.specs.declared.word.Label.{Label}
 use Rattle.code_table.specs.declared.class.Class.{Class}
-use Rattle.code_table.specs.Tables.{labels_of, text_of}
+use Rattle.code_table.specs.Tables.{text_of}
 use Rattle.code_table.specs.Shapes.{class_object}
 use Rattle.def_paths.specs.Places.{Place}
 use Rattle.def_paths.specs.StateLines.{Path}
@@ -18,10 +18,9 @@ returns-in-Some-clause-pending c =
     let at = place_in parent in
     let code = c.in-Object.code.now in
     let class = c.in-Some.class.now in
-    let places = c.in-Object.object.now.places.items in
+    let places = c.in-Object.object.places.now in
     subst (λ (below : List (Path × Place)). OnOk c.push_fields.result (Pushes parent c.args.due.now.items c.push_fields.new.due.items below))
-    (ap (λ (ls : List Label). fields_below path at (map text_of ls) c.deref-in-Some.result.now) c.deref.ensures.value
-    ∙ ap (fields_below path at (labels_of class)) c.deref-in-Some.ensures.value
+    (ap (λ (ls : List Label). fields_below path at (map text_of ls) places) c.deref.ensures.value
     ∙ fields_are path at code class places
     ∙ ap (λ (k : Option Class). cell_below path at (class_object code places k)) c.in-Some.ensures.class
     ∙ sym (ap (λ (s : Seen). cell_below path at (seen_shape s)) c.in-Object.is))

@@ -14,9 +14,9 @@ use Rattle.state_lines.proofs.texts.push_what.Goals as goal
 pub returns-in-Object : goal.returns-in-Object
 returns-in-Object c =
     let values = values_of c.args.futures.now in
-    let o = c.in-Object.object.now in
+    let o = c.in-Object.object in
     let code = c.in-Object.code.now in
     subst (λ (x : List ℕ). OnOk c.push_object.result (AddsText c.args.text.now c.push_object.new.text x))
-    (object_told (λ (f : FutureShape). name_by (chase values f)) code o.places.items (class_at code o.class)
+    (object_told (λ (f : FutureShape). name_by (chase values f)) code o.places.now (class_at code o.class)
     ∙ sym (ap (λ (s : Seen). what_text (shown_by values (seen_shape s))) c.in-Object.is))
     c.push_object.ensures

@@ -22,7 +22,7 @@ returns-in-Some c = record {
   held = λ k.
       let s : CodedStore = c.args.store.now.cells in
       let p : ℕ = c.args.place in
-      let at : cell (store_of k s) p ≡ store.Future (future_shape c.in-Some.future.now) = cell_seen k s p (coded c.cell.result.now) c.cell.ensures.cell ∙ c.in-Some.ensures.future k in
+      let at : cell (store_of k s) p ≡ store.Future (future_shape c.in-Some.future.now) = cell_seen k s p (coded c.cell.result) c.cell.ensures.cell ∙ c.in-Some.ensures.future k in
       (future_here (store_of k s) p [] (ap is_future at), at);
 }
 
@@ -31,5 +31,5 @@ returns-in-None c = record {
   held = λ k.
       let s : CodedStore = c.args.store.now.cells in
       let p : ℕ = c.args.place in
-      future_later (store_of k s) p [] (ap is_future (cell_seen k s p (coded c.cell.result.now) c.cell.ensures.cell) ∙ c.in-None.ensures.future k);
+      future_later (store_of k s) p [] (ap is_future (cell_seen k s p (coded c.cell.result) c.cell.ensures.cell) ∙ c.in-None.ensures.future k);
 }

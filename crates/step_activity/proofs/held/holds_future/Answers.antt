@@ -6,5 +6,5 @@ use Rattle.step_activity.proofs.held.holds_future.Goals as goal
 
 pub returns : goal.returns
 returns c = record {
-  holds = λ k. c.is_future.ensures k ∙ sym (ap is_future (cell_seen k c.args.store.now.cells c.args.place (coded c.cell.result.now) c.cell.ensures.cell));
+  holds = λ k. c.is_future.ensures k ∙ sym (ap is_future (cell_seen k c.args.store.now.cells c.args.place (coded c.cell.result) c.cell.ensures.cell));
 }

@@ -20,5 +20,5 @@ pub returns : goal.returns
 returns c = record {
   members = λ k.
       let s : CodedStore = c.args.store.now.cells in
-      c.members_of.ensures.members k ∙ sym (ap members_of (cell_seen k s c.args.place (coded c.cell.result.now) c.cell.ensures.cell));
+      c.members_of.ensures.members k ∙ sym (ap members_of (cell_seen k s c.args.place (coded c.cell.result) c.cell.ensures.cell));
 }

@@ -8,10 +8,10 @@ use Rattle.step_activity.proofs.matching.methods_of.Goals as goal
 
 pub returns-in-Some : goal.returns-in-Some
 returns-in-Some c = record {
-  labels = ap (λ (o : Option (Bor Class)). class_texts (seen_class o)) (sym c.in-Some.is) ∙ methods_by c.args.code.now (coded c.args.active.now) c.class_of.result c.class_of.ensures.class;
+  labels = ap (λ (o : Option (Bor Class)). class_texts (seen_class o)) (sym c.in-Some.is) ∙ methods_by c.args.code.now (coded c.args.active) c.class_of.result c.class_of.ensures.class;
 }
 
 pub returns-in-None : goal.returns-in-None
 returns-in-None c = record {
-  labels = ap (λ (o : Option (Bor Class)). class_texts (seen_class o)) (sym c.in-None.is) ∙ methods_by c.args.code.now (coded c.args.active.now) c.class_of.result c.class_of.ensures.class;
+  labels = ap (λ (o : Option (Bor Class)). class_texts (seen_class o)) (sym c.in-None.is) ∙ methods_by c.args.code.now (coded c.args.active) c.class_of.result c.class_of.ensures.class;
 }

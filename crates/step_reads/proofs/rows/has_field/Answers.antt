@@ -1,4 +1,4 @@
-use Rattle.std.proofs.Common.{rules, ◌≡◌, ◌∙◌, List, Some, nat_lt, length, sym, ap}
+use Rattle.std.proofs.Common.{◌≡◌, ◌∙◌, List, Some, sym, ap}
 use Rattle.code_table.specs.declared.class.Class.{Class}
 use Rattle.code_table.specs.declared.code.Node.{Node}
 use Rattle.code_table.specs.Classes.{class_at, seen_class}
@@ -10,8 +10,8 @@ returns-in_default-field c = record {
   field =
       let k : List Node = c.args.code.now in
       let x : Class = c.in-Some.class.now in
-      let here : class_at k c.args.object.now.class ≡ Some x = sym c.class.ensures.class ∙ ap seen_class c.in-Some.is in
-      has_no_field k c.args.object.now.places.items (class_at k c.args.object.now.class) x here c.args.label.now.text (sym c.field.ensures.number ∙ c.in_default-field.is);
+      let here : class_at k c.args.object.class ≡ Some x = sym c.class.ensures.class ∙ ap seen_class c.in-Some.is in
+      has_no_field k c.args.object.places.now (class_at k c.args.object.class) x here c.args.label.now.text (sym c.field.ensures.number ∙ c.in_default-field.is);
 }
 
 pub returns : goal.returns
@@ -19,8 +19,6 @@ returns c = record {
   field =
       let k : List Node = c.args.code.now in
       let x : Class = c.in-Some.class.now in
-      let here : class_at k c.args.object.now.class ≡ Some x = sym c.class.ensures.class ∙ ap seen_class c.in-Some.is in
-      let size : c.len.result ≡ length c.args.object.now.places.items = search (rules, c.len.ensures) in
-      let has = has_field_at k c.args.object.now.places.items (class_at k c.args.object.now.class) x here c.args.label.now.text c.in-Some-field.number (sym c.field.ensures.number ∙ c.in-Some-field.is) in
-      ap (nat_lt c.in-Some-field.number) size ∙ has;
+      let here : class_at k c.args.object.class ≡ Some x = sym c.class.ensures.class ∙ ap seen_class c.in-Some.is in
+      has_field_at k c.args.object.places.now (class_at k c.args.object.class) x here c.args.label.now.text c.in-Some-field.number (sym c.field.ensures.number ∙ c.in-Some-field.is);
 }

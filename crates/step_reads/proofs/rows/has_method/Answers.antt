@@ -14,8 +14,8 @@ returns-in_default-method c = record {
   method =
       let k : List Node = c.args.code.now in
       let x : Class = c.in-Some.class.now in
-      let here : class_at k c.args.object.now.class ≡ Some x = sym c.class.ensures.class ∙ ap seen_class c.in-Some.is in
-      sym (ap (has_count c.args.count) (no_head k c.args.object.now.places.items (class_at k c.args.object.now.class) x here c.args.label.now.text (sym c.method.ensures.number ∙ c.in_default-method.is)));
+      let here : class_at k c.args.object.class ≡ Some x = sym c.class.ensures.class ∙ ap seen_class c.in-Some.is in
+      sym (ap (has_count c.args.count) (no_head k c.args.object.places.now (class_at k c.args.object.class) x here c.args.label.now.text (sym c.method.ensures.number ∙ c.in_default-method.is)));
 }
 
 pub returns-in-Some-get : goal.returns-in-Some-get
@@ -23,14 +23,14 @@ returns-in-Some-get c = record {
   method =
       let k : List Node = c.args.code.now in
       let x : Class = c.in-Some.class.now in
-      let here : class_at k c.args.object.now.class ≡ Some x = sym c.class.ensures.class ∙ ap seen_class c.in-Some.is in
+      let here : class_at k c.args.object.class ≡ Some x = sym c.class.ensures.class ∙ ap seen_class c.in-Some.is in
       let j : ℕ = c.in-Some-method.number in
       let is : method_number c.args.label.now.text x ≡ Some j = sym c.method.ensures.number ∙ c.in-Some-method.is in
       let m : MethodCode = c.in-Some-get.method.now in
       let m_is : m ≡ get_or x.methods.items j m = subst (λ (ms : List MethodCode). m ≡ get_or ms j m) c.deref.ensures.value (c.in-Some-get.ensures.lookup.3.1 m) in
       let size : c.len.result ≡ length m.parameters.items = search (rules, c.len.ensures) in
       ap (λ (n : ℕ). n == c.args.count) size
-      ∙ sym (ap (has_count c.args.count) (head_is k c.args.object.now.places.items (class_at k c.args.object.now.class) x here c.args.label.now.text j m is c.in-Some.ensures.starts m_is));
+      ∙ sym (ap (has_count c.args.count) (head_is k c.args.object.places.now (class_at k c.args.object.class) x here c.args.label.now.text j m is c.in-Some.ensures.starts m_is));
 }
 
 pub returns-in-None : goal.returns-in-None

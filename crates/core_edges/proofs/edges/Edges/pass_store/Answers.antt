@@ -11,6 +11,6 @@ pub loop-place-preserved : goal.loop-place-preserved
 loop-place-preserved g c =
     let cells = c.args.store.now.cells in
     let p = c.loop-place.place in
-    let x = coded c.cell.result.now in
+    let x = coded c.cell.result in
     subst (λ fs. ArePassed g.P.UpdatePolicy.answer g.P.UpdatePolicy.asked fs c.args.from.now c.args.to.now c.args.self.now c.pass_cell.new.self) (sym (stored_more cells p x (omega arith) c.cell.ensures.cell))
     (passed_then g.P.UpdatePolicy.answer g.P.UpdatePolicy.asked (futures_held (take p cells)) (future_held x) c.args.from.now c.args.to.now c.args.self.now c.loop-place.self c.pass_cell.new.self c.loop-place.invariant c.in_ok-pass_cell.ensures.passed)

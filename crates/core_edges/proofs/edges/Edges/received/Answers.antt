@@ -1,6 +1,5 @@
 use Rattle.asp_model.specs.Shapes.{future_shape}
 use Rattle.std.specs.Arc.{arc_value}
-use Rattle.code_table.specs.Cells.{all_coded}
 use Rattle.code_table.specs.Shapes.{parcel_shape}
 use Rattle.def_journals.specs.Passing.{futures_in}
 use Rattle.core_edges.specs.Passing.{futures_held}
@@ -11,7 +10,7 @@ use Rattle.core_edges.proofs.edges.Edges.received.Goals as goal
 pub returns-clause-holders : goal.returns-clause-holders
 returns-clause-holders g c =
     let value = c.args.value.now in
-    let cells = all_coded value.cells.items in
+    let cells = value.cells.items in
     let old = c.args.self.now in
     let mid = c.pass_held.new.self in
     let new = record mid { holders = c.received.new.self } in

@@ -20,9 +20,9 @@ returns c = record {
       let labels = map label_text c.args.labels.now in
       let cells : CodedStore = x.activity.state.store.cells in
       let loc : c.active.result ≡ a.active = c.active.ensures.active a h.activity in
-      let held : coded c.cell-active.result.now ≡ cell_at cells a.active = c.cell-active.ensures.cell ∙ ap (λ (s : StoreView). cell_at s.cells c.active.result) c.store.ensures.store ∙ ap (cell_at cells) loc in
+      let held : coded c.cell-active.result ≡ cell_at cells a.active = c.cell-active.ensures.cell ∙ ap (λ (s : StoreView). cell_at s.cells c.active.result) c.store.ensures.store ∙ ap (cell_at cells) loc in
       let code : c.deref.result.now ≡ k = c.deref.ensures ∙ ap arc_value c.code.ensures.code in
-      let seen : cell_shape c.deref.result.now c.cell-active.result.now ≡ cell a.store a.active =
-      ap (λ (m : List Node). cell_shape m c.cell-active.result.now) code ∙ sym (cell_seen k cells a.active (coded c.cell-active.result.now) held) ∙ ap (λ (s : Store). cell s a.active) h.activity.state.store in
+      let seen : cell_shape c.deref.result.now c.cell-active.result ≡ cell a.store a.active =
+      ap (λ (m : List Node). cell_shape m c.cell-active.result) code ∙ sym (cell_seen k cells a.active (coded c.cell-active.result) held) ∙ ap (λ (s : Store). cell s a.active) h.activity.state.store in
       c.labels_of.ensures.labels ∙ ap (λ (d : CellShape). labels_served labels d) seen;
 }
