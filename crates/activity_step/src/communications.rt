@@ -10,8 +10,8 @@ ghost use Rattle.asp_model.specs.Store.{
   Reference as ReferenceCell,
 };
 ghost use Rattle.code_table.specs.declared.code.Node.{Node as NodeShape};
-ghost use Rattle.code_table.specs.Cells.{held_future};
-ghost use Rattle.code_table.specs.Shapes.{cell_shape};
+ghost use Rattle.code_table.specs.Cells.{IsBare, bare, held_future};
+ghost use Rattle.code_table.specs.Shapes.{cell_of};
 ghost use Rattle.activity_step.specs.Activities.{StandsFor, with_new_cell};
 ghost use Rattle.activity_step.specs.Standings.{code_of, polled};
 
@@ -23,7 +23,8 @@ use std::sync::Arc;
 
 /// The number of an answer.
 fn number_cell(answer: bool) -> Cell
-    ensures cell { (k : List NodeShape) → cell_shape k result ≡ NumberCell (truth answer) }
+    ensures bare { IsBare result }
+    ensures cell { (k : List NodeShape) → cell_of k (bare result) ≡ NumberCell (truth answer) }
 {
     if answer {
         Cell::Number(1)
@@ -35,9 +36,10 @@ fn number_cell(answer: bool) -> Cell
 impl Activity {
     /// The redex becomes a new cell, which is one reduction.
     fn become_cell(&mut self, cell: Cell) -> Result<(), AllocError>
+        requires bare { IsBare cell }
         ensures becomes { (a : ActivityShape) (contexts : List Context) (redex : Redex) →
             StandsFor self.old a → split a.term ≡ Splits contexts redex →
-            let c = cell_shape (code_of self.old) cell in
+            let c = cell_of (code_of self.old) (bare cell) in
             OnOk result (StandsFor self.new (with_new_cell contexts c a)) }
         ensures code { code_of self.new ≡ code_of self.old }
     {
@@ -57,7 +59,7 @@ impl Activity {
             OnOk result (StandsFor self.new (with_new_cell contexts (ReferenceCell name) a)) }
         ensures code { code_of self.new ≡ code_of self.old }
     {
-        let cell = Cell::Reference(Box::new(alloc, name)?);
+        let cell = Cell::Reference(Arc::new(alloc, name)?);
         self.become_cell(cell)
     }
 

@@ -1,10 +1,24 @@
 //! Objects and groups that are made.
 
-ghost use Rattle.std.specs.Prelude.{◌≡◌, ◌++◌, [], IfOk, List, OnOk, Option, Some, drop, ℕ};
+ghost use Rattle.std.specs.Prelude.{
+  ◌≡◌,
+  ◌++◌,
+  ◌∷◌,
+  [],
+  IfOk,
+  List,
+  OnOk,
+  Option,
+  Some,
+  drop,
+  length,
+  ℕ,
+};
 ghost use Rattle.asp_model.specs.Configuration.{ServiceShape};
 ghost use Rattle.asp_model.specs.Contraction.{LineShape};
 ghost use Rattle.asp_model.specs.Store.{Store as StoreShape};
 ghost use Rattle.asp_model.specs.Term.{Echo as EchoHead, Group as GroupHead, Tree};
+ghost use Rattle.code_table.specs.Cells.{Object as ObjectCoded};
 ghost use Rattle.code_table.specs.Classes.{class_at, class_of};
 ghost use Rattle.code_table.specs.Sound.{IsSound};
 ghost use Rattle.code_table.specs.declared.code.Node.{Node as NodeShape};
@@ -18,14 +32,19 @@ ghost use Rattle.activity_step.specs.Advances.{IsAdvance, Stands};
 use crate::advance::Advance;
 use crate::state::State;
 use asp_model::{Line, Word};
-use code_table::{Capture, Cell, Class, EMPTY_NUMBER, MethodCode, Object, Place};
+use code_table::{Capture, Class, EMPTY_NUMBER, MethodCode, Place};
+use object_store::Store;
+use smallvec::SmallVec;
 use std::alloc::{AllocError, Global};
 use step_machine::Machine;
+
+/// The places of an object that is made. A few take no memory of their own.
+type Places = SmallVec<Place, 8>;
 
 fn push_captured(
     machine: &Machine,
     captured: &[Capture],
-    places: &mut Vec<Place>,
+    places: &mut Places,
 ) -> Result<(), AllocError>
     ensures places { let ns = drop machine.now.base machine.now.env.items in
         OnOk result (places.new.items ≡ places.old.items ++ captured_places ns captured.now) }
@@ -42,7 +61,7 @@ fn push_captured(
 fn push_kept(
     machine: &Machine,
     methods: &[MethodCode],
-    places: &mut Vec<Place>,
+    places: &mut Places,
 ) -> Result<(), AllocError>
     ensures places { let ns = drop machine.now.base machine.now.env.items in
         OnOk result (places.new.items ≡ places.old.items ++ kept_places ns methods.now) }
@@ -59,16 +78,55 @@ fn object_places(
     machine: &Machine,
     class: &Class,
     count: usize,
-) -> Result<Vec<Place>, AllocError>
+) -> Result<Places, AllocError>
     ensures places { let ns = drop machine.now.base machine.now.env.items in
         IfOk result (λ ps. ps.items
         ≡ last count machine.now.operands.items ++ kept_places ns class.now.methods.items) }
 {
-    let operands = machine.last_operands(count);
-    let mut places = Vec::with_capacity(alloc, operands.len())?;
-    places.extend_from_slice(operands)?;
+    let mut places = SmallVec::from_slice(alloc, machine.last_operands(count))?;
     push_kept(machine, &class.methods, &mut places)?;
     Ok(places)
+}
+
+/// Adds an object of a class whose methods captured places.
+fn add_kept(
+    alloc: Global,
+    store: &mut Store,
+    machine: &Machine,
+    class: &Class,
+    number: usize,
+    count: usize,
+) -> Result<Place, AllocError>
+    ensures place { IfOk result (λ place. place ≡ length store.old.cells) }
+    ensures cells { let ns = drop machine.now.base machine.now.env.items in
+        let kept = kept_places ns class.now.methods.items in
+        let places = last count machine.now.operands.items ++ kept in
+        OnOk result (store.new.cells ≡ store.old.cells ++ ObjectCoded number places ∷ []) }
+{
+    let places = object_places(alloc, machine, class, count)?;
+    store.add_object(number, places.as_slice())
+}
+
+/// Adds an object of a class, whose fields are the last operands.
+fn add_made(
+    alloc: Global,
+    store: &mut Store,
+    machine: &Machine,
+    class: &Class,
+    number: usize,
+    count: usize,
+) -> Result<Place, AllocError>
+    ensures place { IfOk result (λ place. place ≡ length store.old.cells) }
+    ensures cells { let ns = drop machine.now.base machine.now.env.items in
+        let kept = kept_places ns class.now.methods.items in
+        let places = last count machine.now.operands.items ++ kept in
+        OnOk result (store.new.cells ≡ store.old.cells ++ ObjectCoded number places ∷ []) }
+{
+    if class.methods.is_empty() {
+        store.add_object(number, machine.last_operands(count))
+    } else {
+        add_kept(alloc, store, machine, class, number, count)
+    }
 }
 
 impl State {
@@ -91,12 +149,7 @@ impl State {
         if !go {
             return Ok(Advance::Reduces);
         }
-        let places = object_places(alloc, &self.machine, class, count)?;
-        let object = Object {
-            class: number,
-            places,
-        };
-        let place = self.store.add(Cell::Object(Box::new(alloc, object)?))?;
+        let place = add_made(alloc, &mut self.store, &self.machine, class, number, count)?;
         self.machine.become_place(count, place);
         Ok(Advance::Reduces)
     }
@@ -105,7 +158,7 @@ impl State {
     #[inline(never)]
     pub fn group_advance(
         &mut self,
-        alloc: Global,
+        _alloc: Global,
         size: usize,
         count: usize,
         go: bool,
@@ -120,10 +173,7 @@ impl State {
         if !go {
             return Ok(Advance::Reduces);
         }
-        let operands = self.machine.last_operands(size);
-        let mut members = Vec::with_capacity(alloc, operands.len())?;
-        members.extend_from_slice(operands)?;
-        let place = self.store.add(Cell::Group(Box::new(alloc, members)?))?;
+        let place = self.store.add_group(self.machine.last_operands(size))?;
         self.machine.become_place(count, place);
         Ok(Advance::Reduces)
     }
@@ -147,11 +197,7 @@ impl State {
             return Ok(Advance::Reduces);
         }
         let line = Line::Text(text.copy(alloc)?);
-        let object = Object {
-            class: EMPTY_NUMBER,
-            places: Vec::new(alloc),
-        };
-        let place = self.store.add(Cell::Object(Box::new(alloc, object)?))?;
+        let place = self.store.add_object(EMPTY_NUMBER, &[])?;
         self.lines.push(line)?;
         self.machine.become_place(count, place);
         Ok(Advance::Reduces)

@@ -1,6 +1,6 @@
 //! Decisions that are done.
 
-ghost use Rattle.std.specs.Prelude.{◌≡◌, ◌++◌, ◌∷◌, [], IfOk, List, length, map};
+ghost use Rattle.std.specs.Prelude.{◌≡◌, ◌++◌, ◌∷◌, [], IfOk, List, map};
 ghost use Rattle.asp_model.specs.Shapes.{line_shape};
 ghost use Rattle.asp_model.specs.Contraction.{NumberLine};
 ghost use Rattle.code_table.specs.declared.code.Node.{Node as NodeShape};
@@ -11,7 +11,7 @@ use asp_model::Line;
 use code_table::{Cell, Place};
 use object_store::Store;
 use std::alloc::{AllocError, Global};
-use step_rows::{Decision, look};
+use step_rows::Decision;
 
 /// The redex becomes a new number.
 #[inline(always)]
@@ -25,20 +25,14 @@ pub fn add_number(store: &mut Store, lines: &[Line], number: i64) -> Result<Plac
 
 /// A new cell that equals another.
 #[inline(never)]
-fn add_copy(
-    alloc: Global,
-    store: &mut Store,
-    lines: &[Line],
-    at: Place,
-) -> Result<Place, AllocError>
+fn add_copy(store: &mut Store, lines: &[Line], at: Place) -> Result<Place, AllocError>
     ensures performed { (k : List NodeShape) → IfOk result
         (IsPerformed k store.old.cells store.new.cells lines.now lines.now (decision.Copies at)) }
 {
-    let Some(cell) = look(store, at) else {
+    if at >= store.len() {
         return Err(AllocError);
-    };
-    let cell = cell.copy(alloc)?;
-    store.add(cell)
+    }
+    store.add_equal(at)
 }
 
 /// Another place in a field of an object.
@@ -74,7 +68,7 @@ fn print_number(lines: &mut Vec<Line>, number: i64) -> Result<(), AllocError>
 /// Does what a decision says, and answers the place that the redex becomes.
 #[inline(always)]
 pub fn perform(
-    alloc: Global,
+    _alloc: Global,
     store: &mut Store,
     lines: &mut Vec<Line>,
     decision: Decision,
@@ -85,7 +79,7 @@ pub fn perform(
     match decision {
         Decision::Stays(place) => Ok(place),
         Decision::Number(number) => add_number(store, lines, number),
-        Decision::Copies(place) => add_copy(alloc, store, lines, place),
+        Decision::Copies(place) => add_copy(store, lines, place),
         Decision::Puts { object, field, to } => put_place(store, lines, object, field, to),
         Decision::Prints { place, number } => {
             print_number(lines, number)?;

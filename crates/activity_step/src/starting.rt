@@ -23,7 +23,7 @@ ghost use Rattle.activity_step.specs.Standings.{code_of};
 use crate::activity::Activity;
 use crate::state::State;
 use asp_model::{Label, Word};
-use code_table::{Cell, Code, EMPTY_NUMBER, KeyedLabel, Object, Parcel, SERVICE_NUMBER};
+use code_table::{Code, EMPTY_NUMBER, KeyedLabel, Parcel, SERVICE_NUMBER};
 use deep_copy::unpack_alone;
 use object_store::Store;
 use std::alloc::{AllocError, Global};
@@ -105,12 +105,8 @@ fn begin(alloc: Global, code: Arc<Code>, machine: Machine, store: Store) -> Acti
 fn empty_store(alloc: Global) -> Result<Store, AllocError>
     ensures cells { IfOk result (λ s. s.cells ≡ ObjectCoded EMPTY_NUMBER [] ∷ []) }
 {
-    let object = Object {
-        class: EMPTY_NUMBER,
-        places: Vec::new(alloc),
-    };
     let mut store = Store::new(alloc);
-    store.add(Cell::Object(Box::new(alloc, object)?))?;
+    store.add_object(EMPTY_NUMBER, &[])?;
     Ok(store)
 }
 

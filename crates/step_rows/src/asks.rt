@@ -10,7 +10,7 @@ use crate::decision::Decision;
 use crate::rows::one_operand;
 use crate::seen::{Seen, sight_of};
 use asp_model::Fault;
-use code_table::{Cell, Place};
+use code_table::{Place, View};
 use object_store::Store;
 use std::alloc::AllocError;
 
@@ -45,16 +45,16 @@ pub enum Creation {
     Other(Decision),
 }
 
-fn creation_at(cell: &Cell, at: Place) -> Creation
+fn creation_at(cell: View, at: Place) -> Creation
     ensures creation { (k : List NodeShape) (service : Option Text) →
-        IsCreationAt k (cell_shape k cell.now) at service result }
+        IsCreationAt k (cell_shape k cell.entry) at service result }
 {
     match cell {
-        Cell::Object(_) => Creation::Creates(at),
-        Cell::Future(_) => Creation::Other(Decision::Needs(at)),
-        Cell::Number(_) => Creation::Other(Decision::Faults(Fault::NotObject)),
-        Cell::Reference(_) => Creation::Other(Decision::Faults(Fault::NotObject)),
-        Cell::Group(_) => Creation::Other(Decision::Faults(Fault::NotObject)),
+        View::Object(_) => Creation::Creates(at),
+        View::Future(_) => Creation::Other(Decision::Needs(at)),
+        View::Number(_) => Creation::Other(Decision::Faults(Fault::NotObject)),
+        View::Reference(_) => Creation::Other(Decision::Faults(Fault::NotObject)),
+        View::Group(_) => Creation::Other(Decision::Faults(Fault::NotObject)),
     }
 }
 

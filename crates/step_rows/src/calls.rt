@@ -6,7 +6,7 @@ ghost use Rattle.step_rows.specs.Decisions.{IsCallee};
 
 use crate::decision::Decision;
 use asp_model::{ActivityName, Fault};
-use code_table::{Cell, Code, KeyedLabel, MethodCode, Object, Place};
+use code_table::{Code, KeyedLabel, MethodCode, Object, Place, View};
 use std::alloc::AllocError;
 
 /// What a call leads to.
@@ -39,12 +39,12 @@ fn captured_in<'a>(method: &MethodCode, places: &'a [Place]) -> Option<&'a [Plac
 #[inline(always)]
 fn method_in<'a>(
     code: &'a Code,
-    object: &'a Object,
+    object: Object<'a>,
     label: &KeyedLabel,
     at: Place,
     arguments: &[Place],
 ) -> Result<Callee<'a>, AllocError>
-    ensures callee { let c = object_with object.now.class object.now.places.items in
+    ensures callee { let c = object_with object.entry.class object.entry.places.now in
         IfOk result (IsCallee code.now c label.now.label.text at arguments.now) }
 {
     let Some(class) = code.class(object.class) else {
@@ -59,7 +59,7 @@ fn method_in<'a>(
     if arguments.len() != method.parameters.len() {
         return Ok(Callee::Other(Decision::Faults(Fault::NoMethod)));
     }
-    let Some(captured) = captured_in(method, &object.places) else {
+    let Some(captured) = captured_in(method, object.places) else {
         return Err(AllocError);
     };
     Ok(Callee::Method(method, captured))
@@ -69,19 +69,19 @@ fn method_in<'a>(
 #[inline(always)]
 pub fn callee_of<'a>(
     code: &'a Code,
-    cell: &'a Cell,
+    cell: View<'a>,
     label: &KeyedLabel,
     at: Place,
     arguments: &[Place],
 ) -> Result<Callee<'a>, AllocError>
     ensures callee { IfOk result
-        (IsCallee code.now (coded cell.now) label.now.label.text at arguments.now) }
+        (IsCallee code.now (coded cell.entry) label.now.label.text at arguments.now) }
 {
     match cell {
-        Cell::Object(object) => method_in(code, object, label, at, arguments),
-        Cell::Group(members) => Ok(Callee::Members(members)),
-        Cell::Reference(name) => Ok(Callee::Activity(name)),
-        Cell::Future(_) => Ok(Callee::Other(Decision::Needs(at))),
-        Cell::Number(_) => Ok(Callee::Other(Decision::Faults(Fault::NotObject))),
+        View::Object(object) => method_in(code, object, label, at, arguments),
+        View::Group(members) => Ok(Callee::Members(members)),
+        View::Reference(name) => Ok(Callee::Activity(name)),
+        View::Future(_) => Ok(Callee::Other(Decision::Needs(at))),
+        View::Number(_) => Ok(Callee::Other(Decision::Faults(Fault::NotObject))),
     }
 }

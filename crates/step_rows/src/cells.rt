@@ -3,13 +3,13 @@
 ghost use Rattle.std.specs.Prelude.{◌≡◌, ◌≤◌, ◌∷◌, [], IfNone, IfSome, length};
 ghost use Rattle.code_table.specs.Cells.{cell_at, coded};
 
-use code_table::{Cell, Place};
+use code_table::{Place, View};
 use object_store::Store;
 
 /// The cell at a place.
 #[inline(always)]
-pub fn look<'a>(store: &'a Store, loc: Place) -> Option<&'a Cell>
-    ensures cell { IfSome result (λ c. coded c.now ≡ cell_at store.now.cells loc) }
+pub fn look<'a>(store: &'a Store, loc: Place) -> Option<View<'a>>
+    ensures cell { IfSome result (λ c. coded c ≡ cell_at store.now.cells loc) }
     ensures none { IfNone result (length store.now.cells ≤ loc) }
 {
     if loc < store.len() {

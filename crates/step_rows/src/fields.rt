@@ -9,15 +9,15 @@ ghost use Rattle.step_rows.specs.Decisions.{decided, read};
 
 use crate::decision::Decision;
 use asp_model::Fault;
-use code_table::{Cell, Code, KeyedLabel, Object, Place};
+use code_table::{Code, KeyedLabel, Object, Place, View};
 use std::alloc::AllocError;
 
 /// The place of a field of an object.
 #[inline(always)]
-fn get_in(code: &Code, object: &Object, label: &KeyedLabel) -> Result<Decision, AllocError>
+fn get_in(code: &Code, object: Object, label: &KeyedLabel) -> Result<Decision, AllocError>
     ensures row { let l = label.now.label.text in
         (s : CodedStore) → IfOk result (λ d. get_row (store_of code.now s) l
-        (class_object code.now object.now.places.items (class_at code.now object.now.class))
+        (class_object code.now object.entry.places.now (class_at code.now object.entry.class))
         ≡ decided code.now s d) }
 {
     let Some(class) = code.class(object.class) else {
@@ -36,21 +36,21 @@ fn get_in(code: &Code, object: &Object, label: &KeyedLabel) -> Result<Decision, 
 #[inline(always)]
 pub fn get(
     code: &Code,
-    cell: &Cell,
+    cell: View,
     label: &KeyedLabel,
     place: Place,
 ) -> Result<Decision, AllocError>
     ensures row { let l = label.now.label.text in
         (s : CodedStore) → IfOk result
-        (λ d. read place (get_row (store_of code.now s) l) (cell_shape code.now cell.now)
+        (λ d. read place (get_row (store_of code.now s) l) (cell_shape code.now cell.entry)
         ≡ decided code.now s d) }
 {
     match cell {
-        Cell::Object(object) => get_in(code, object, label),
-        Cell::Reference(_) => Ok(Decision::Faults(Fault::ActiveField)),
-        Cell::Future(_) => Ok(Decision::Needs(place)),
-        Cell::Number(_) => Ok(Decision::Faults(Fault::NotObject)),
-        Cell::Group(_) => Ok(Decision::Faults(Fault::NotObject)),
+        View::Object(object) => get_in(code, object, label),
+        View::Reference(_) => Ok(Decision::Faults(Fault::ActiveField)),
+        View::Future(_) => Ok(Decision::Needs(place)),
+        View::Number(_) => Ok(Decision::Faults(Fault::NotObject)),
+        View::Group(_) => Ok(Decision::Faults(Fault::NotObject)),
     }
 }
 
@@ -58,14 +58,14 @@ pub fn get(
 #[inline(always)]
 fn put_in(
     code: &Code,
-    object: &Object,
+    object: Object,
     label: &KeyedLabel,
     at: Place,
     to: Place,
 ) -> Result<Decision, AllocError>
-    ensures row { (s : CodedStore) → cell_at s at ≡ object_with object.now.class object.now.places.items →
+    ensures row { (s : CodedStore) → cell_at s at ≡ object_with object.entry.class object.entry.places.now →
         IfOk result (λ d. put_row (store_of code.now s) label.now.label.text at to
-        (class_object code.now object.now.places.items (class_at code.now object.now.class))
+        (class_object code.now object.entry.places.now (class_at code.now object.entry.class))
         ≡ decided code.now s d) }
 {
     let Some(class) = code.class(object.class) else {
@@ -88,20 +88,20 @@ fn put_in(
 #[inline(always)]
 pub fn put(
     code: &Code,
-    cell: &Cell,
+    cell: View,
     label: &KeyedLabel,
     at: Place,
     to: Place,
 ) -> Result<Decision, AllocError>
-    ensures row { (s : CodedStore) → cell_at s at ≡ coded cell.now → IfOk result
+    ensures row { (s : CodedStore) → cell_at s at ≡ coded cell.entry → IfOk result
         (λ d. read at (put_row (store_of code.now s) label.now.label.text at to)
-        (cell_shape code.now cell.now) ≡ decided code.now s d) }
+        (cell_shape code.now cell.entry) ≡ decided code.now s d) }
 {
     match cell {
-        Cell::Object(object) => put_in(code, object, label, at, to),
-        Cell::Reference(_) => Ok(Decision::Faults(Fault::ActiveField)),
-        Cell::Future(_) => Ok(Decision::Needs(at)),
-        Cell::Number(_) => Ok(Decision::Faults(Fault::NotObject)),
-        Cell::Group(_) => Ok(Decision::Faults(Fault::NotObject)),
+        View::Object(object) => put_in(code, object, label, at, to),
+        View::Reference(_) => Ok(Decision::Faults(Fault::ActiveField)),
+        View::Future(_) => Ok(Decision::Needs(at)),
+        View::Number(_) => Ok(Decision::Faults(Fault::NotObject)),
+        View::Group(_) => Ok(Decision::Faults(Fault::NotObject)),
     }
 }

@@ -37,7 +37,7 @@ use crate::decision::Decision;
 use crate::rows::one_operand;
 use crate::seen::{Seen, sight_of};
 use asp_model::Fault;
-use code_table::{Cell, Place};
+use code_table::{Place, View};
 use object_store::Store;
 use std::alloc::AllocError;
 
@@ -49,15 +49,15 @@ pub enum SeenGroup<'a> {
     Other,
 }
 
-pub fn group_of<'a>(cell: &'a Cell) -> SeenGroup<'a>
-    ensures seen { (k : List NodeShape) → IsSeenGroup (cell_shape k cell.now) result }
+pub fn group_of<'a>(cell: View<'a>) -> SeenGroup<'a>
+    ensures seen { (k : List NodeShape) → IsSeenGroup (cell_shape k cell.entry) result }
 {
     match cell {
-        Cell::Group(members) => SeenGroup::Members(members),
-        Cell::Future(_) => SeenGroup::Future,
-        Cell::Number(_) => SeenGroup::Other,
-        Cell::Object(_) => SeenGroup::Other,
-        Cell::Reference(_) => SeenGroup::Other,
+        View::Group(members) => SeenGroup::Members(members),
+        View::Future(_) => SeenGroup::Future,
+        View::Number(_) => SeenGroup::Other,
+        View::Object(_) => SeenGroup::Other,
+        View::Reference(_) => SeenGroup::Other,
     }
 }
 

@@ -25,7 +25,7 @@ use crate::fields::{get, put};
 use crate::numbers::operate;
 use crate::seen::{Seen, sight_of};
 use asp_model::{Fault, Sign};
-use code_table::{Cell, Code, KeyedLabel, Place};
+use code_table::{Code, KeyedLabel, Place, View};
 use object_store::Store;
 use std::alloc::AllocError;
 
@@ -33,14 +33,14 @@ use std::alloc::AllocError;
 #[derive(Clone, Copy)]
 pub struct Operand<'a> {
     pub at: Place,
-    pub cell: &'a Cell,
+    pub cell: View<'a>,
 }
 
 /// The one operand.
 #[inline(always)]
 pub fn one_operand<'a>(store: &'a Store, operands: &[Place]) -> Option<Operand<'a>>
     ensures one { IfSome result (λ x. operands.now ≡ x.at ∷ []) }
-    ensures cell { IfSome result (λ x. coded x.cell.now ≡ cell_at store.now.cells x.at) }
+    ensures cell { IfSome result (λ x. coded x.cell ≡ cell_at store.now.cells x.at) }
 {
     let Some(at) = one(operands) else {
         return None;

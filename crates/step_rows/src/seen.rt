@@ -5,7 +5,7 @@ ghost use Rattle.code_table.specs.declared.code.Node.{Node as NodeShape};
 ghost use Rattle.code_table.specs.Shapes.{cell_shape};
 ghost use Rattle.step_rows.specs.Sights.{IsSeen};
 
-use code_table::Cell;
+use code_table::View;
 
 /// A number, a future, or neither.
 #[derive(Clone, Copy)]
@@ -16,14 +16,14 @@ pub enum Seen {
 }
 
 #[inline(always)]
-pub fn sight_of(cell: &Cell) -> Seen
-    ensures seen { (k : List NodeShape) → IsSeen (cell_shape k cell.now) result }
+pub fn sight_of(cell: View) -> Seen
+    ensures seen { (k : List NodeShape) → IsSeen (cell_shape k cell.entry) result }
 {
     match cell {
-        Cell::Number(n) => Seen::Number(*n),
-        Cell::Future(_) => Seen::Future,
-        Cell::Object(_) => Seen::Other,
-        Cell::Reference(_) => Seen::Other,
-        Cell::Group(_) => Seen::Other,
+        View::Number(n) => Seen::Number(n),
+        View::Future(_) => Seen::Future,
+        View::Object(_) => Seen::Other,
+        View::Reference(_) => Seen::Other,
+        View::Group(_) => Seen::Other,
     }
 }

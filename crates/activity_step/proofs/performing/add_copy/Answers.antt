@@ -1,11 +1,11 @@
-use Rattle.std.proofs.Common.{◌≡◌, ℕ, List, [], ◌∷◌, ◌++◌, IfOk, OnOk, Result, Ok, Err, length, map, sym, ap, ◌∙◌}
+use Rattle.std.proofs.Common.{◌≡◌, ℕ, List, [], ◌∷◌, ◌++◌, IfOk, OnOk, Result, Ok, Err, length, map, refl, sym, ap, ◌∙◌}
 use Rattle.std.proofs.lemmas.List.{append-nil}
 use Rattle.asp_model.specs.Shapes.{line_shape}
 use Rattle.asp_model.specs.Contraction.{allots}
 use Rattle.asp_model.specs.declared.outcome.Line.{Line}
 use Rattle.std.specs.declared.alloc.AllocError.{AllocError}
 use Rattle.code_table.specs.declared.code.Node.{Node}
-use Rattle.code_table.specs.Cells.{CodedCell, CodedStore, cell_at, coded}
+use Rattle.code_table.specs.Cells.{CodedCell, CodedStore, cell_at}
 use Rattle.code_table.specs.Shapes.{cell_of, store_of}
 use Rattle.code_table.proofs.CodedLemmas.{cell-store_of, length-store_of, store_of-append}
 use Rattle.step_rows.specs.declared.decision.Decision.TheVariants as decision
@@ -24,5 +24,5 @@ copied k old new lines at c (Ok p) is place cells = record {
 
 pub returns : goal.returns
 returns c = record {
-  performed = λ k. copied k c.args.store.now.cells c.add.new.self.cells c.args.lines.now c.args.at (coded c.in_ok-cell.cell) c.add.result (c.in_ok-cell.ensures.copy ∙ c.in-Some.ensures.cell) c.add.ensures.place c.add.ensures.cells;
+  performed = λ k. copied k c.args.store.now.cells c.add_equal.new.self.cells c.args.lines.now c.args.at (cell_at c.args.store.now.cells c.args.at) c.add_equal.result refl c.add_equal.ensures.place c.add_equal.ensures.cells;
 }

@@ -4,5 +4,5 @@ use Rattle.step_rows.proofs.asks.active_row.Goals as goal
 
 pub returns : goal.returns
 returns c = record {
-  creation = λ k service. creation_row k c.args.store.now.cells c.args.operands.now service c.in-Some.x.at (coded c.in-Some.x.cell.now) c.creation_at.result c.in-Some.ensures.one c.in-Some.ensures.cell (c.creation_at.ensures.creation k service);
+  creation = λ k service. creation_row k c.args.store.now.cells c.args.operands.now service c.in-Some.x.at (coded c.in-Some.x.cell) c.creation_at.result c.in-Some.ensures.one c.in-Some.ensures.cell (c.creation_at.ensures.creation k service);
 }

@@ -19,13 +19,13 @@ pub returns-in_default-method_keyed : goal.returns-in_default-method_keyed
 returns-in_default-method_keyed c = record {
   callee = λ s.
       let k : List Node = c.args.code.now in
-      let ns : List ℕ = c.args.object.now.places.items in
+      let ns : List ℕ = c.args.object.places.now in
       let l : Text = c.args.label.now.label.text in
       let x : Class = c.in-Some.class.now in
       let S : Store = store_of k s in
       let i : ℕ = c.args.at in
       let ks : List ℕ = c.args.arguments.now in
-      let here : class_at k c.args.object.now.class ≡ Some x = sym c.class.ensures.class ∙ ap seen_class c.in-Some.is in
+      let here : class_at k c.args.object.class ≡ Some x = sym c.class.ensures.class ∙ ap seen_class c.in-Some.is in
       let none : method_number l x ≡ None = sym c.method_keyed.ensures.number ∙ c.in_default-method_keyed.is in
       ap (λ (o : Option Class). read i (call_row S l i ks) (class_object k ns o)) here
       ∙ ap (method_found S i ks) (lookup.method_missing l (pieces k) x (drop (length x.fields.items) ns) none);
@@ -35,13 +35,13 @@ pub returns-then-arguments-len : goal.returns-then-arguments-len
 returns-then-arguments-len c = record {
   callee = λ s.
       let k : List Node = c.args.code.now in
-      let ns : List ℕ = c.args.object.now.places.items in
+      let ns : List ℕ = c.args.object.places.now in
       let l : Text = c.args.label.now.label.text in
       let x : Class = c.in-Some.class.now in
       let S : Store = store_of k s in
       let i : ℕ = c.args.at in
       let ks : List ℕ = c.args.arguments.now in
-      let here : class_at k c.args.object.now.class ≡ Some x = sym c.class.ensures.class ∙ ap seen_class c.in-Some.is in
+      let here : class_at k c.args.object.class ≡ Some x = sym c.class.ensures.class ∙ ap seen_class c.in-Some.is in
       let j : ℕ = c.in-Some-method_keyed.number in
       let is : method_number l x ≡ Some j = sym c.method_keyed.ensures.number ∙ c.in-Some-method_keyed.is in
       let look = c.in-Some-get.ensures.lookup.3 in
@@ -57,11 +57,11 @@ returns-then-arguments-len c = record {
 pub returns : goal.returns
 returns c =
     let k : List Node = c.args.code.now in
-    let ns : List ℕ = c.args.object.now.places.items in
+    let ns : List ℕ = c.args.object.places.now in
     let l : Text = c.args.label.now.label.text in
     let x : Class = c.in-Some.class.now in
     let ks : List ℕ = c.args.arguments.now in
-    let here : class_at k c.args.object.now.class ≡ Some x = sym c.class.ensures.class ∙ ap seen_class c.in-Some.is in
+    let here : class_at k c.args.object.class ≡ Some x = sym c.class.ensures.class ∙ ap seen_class c.in-Some.is in
     let j : ℕ = c.in-Some-method_keyed.number in
     let is : method_number l x ≡ Some j = sym c.method_keyed.ensures.number ∙ c.in-Some-method_keyed.is in
     let look = c.in-Some-get.ensures.lookup.3 in
@@ -71,7 +71,7 @@ returns c =
     let found : method_at l (seen_methods (pieces k) x.methods.items (drop (length x.fields.items) ns)) ≡ Some (placed_method (pieces k) m ns) =
     lookup.method_found l (pieces k) x m ns j (c.in-Some.ensures.starts) is ∙ ap (λ (y : MethodCode). Some (placed_method (pieces k) y ns)) (sym m_is) in
     let cs : List ℕ = c.in-Some-captured_in.captured.now in
-    let cs_is : cs ≡ take (length m.captured.items) (drop m.start ns) = c.in-Some-captured_in.ensures.places ∙ ap (λ (l : List ℕ). take (length m.captured.items) (drop m.start l)) c.deref-2.ensures.value in
+    let cs_is : cs ≡ take (length m.captured.items) (drop m.start ns) = c.in-Some-captured_in.ensures.places in
     let sound : IsSoundMethod (pieces k) m = subst (IsSoundMethod (pieces k)) (sym m_is) (lookup.sound_method_at (pieces k) x.methods.items j m lt c.in-Some.ensures.sound) in
     record {
       callee = record {

@@ -1,4 +1,4 @@
-use Rattle.std.proofs.Common.{◌≡◌, ◌<◌, ℕ, List, Option, Some, None, length, get_or, sym, ap, subst, ◌∙◌}
+use Rattle.std.proofs.Common.{◌≡◌, ◌<◌, ℕ, List, Option, Some, None, length, get_or, sym, ap, ◌∙◌}
 use Rattle.asp_model.specs.Names.{Text}
 use Rattle.asp_model.specs.Store.{Store}
 use Rattle.asp_model.specs.Contraction.{get_row, stays_at}
@@ -14,11 +14,11 @@ pub returns-in_default-field_keyed : goal.returns-in_default-field_keyed
 returns-in_default-field_keyed c = record {
   row = λ s.
       let k : List Node = c.args.code.now in
-      let ns : List ℕ = c.args.object.now.places.items in
+      let ns : List ℕ = c.args.object.places.now in
       let l : Text = c.args.label.now.label.text in
       let x : Class = c.in-Some.class.now in
       let S : Store = store_of k s in
-      let here : class_at k c.args.object.now.class ≡ Some x = sym c.class.ensures.class ∙ ap seen_class c.in-Some.is in
+      let here : class_at k c.args.object.class ≡ Some x = sym c.class.ensures.class ∙ ap seen_class c.in-Some.is in
       let none : field_number l x ≡ None = sym c.field_keyed.ensures.number ∙ c.in_default-field_keyed.is in
       ap (λ (o : Option Class). get_row S l (class_object k ns o)) here ∙ ap (contraction.field_found S) (lookup.field_missing l x ns none);
 }
@@ -27,17 +27,17 @@ pub returns : goal.returns
 returns c = record {
   row = λ s.
       let k : List Node = c.args.code.now in
-      let ns : List ℕ = c.args.object.now.places.items in
+      let ns : List ℕ = c.args.object.places.now in
       let l : Text = c.args.label.now.label.text in
       let x : Class = c.in-Some.class.now in
       let S : Store = store_of k s in
-      let here : class_at k c.args.object.now.class ≡ Some x = sym c.class.ensures.class ∙ ap seen_class c.in-Some.is in
+      let here : class_at k c.args.object.class ≡ Some x = sym c.class.ensures.class ∙ ap seen_class c.in-Some.is in
       let i : ℕ = c.in-Some-field_keyed.field in
       let is : field_number l x ≡ Some i = sym c.field_keyed.ensures.number ∙ c.in-Some-field_keyed.is in
       let look = c.in-Some-get.ensures.lookup.3 in
       let p : ℕ = c.in-Some-get.place.now in
-      let lt : i < length ns = subst (λ (l : List ℕ). i < length l) c.deref.ensures.value look.0 in
-      let at : p ≡ get_or ns i 0 = subst (λ (l : List ℕ). p ≡ get_or l i 0) c.deref.ensures.value (look.1 0) in
+      let lt : i < length ns = look.0 in
+      let at : p ≡ get_or ns i 0 = look.1 0 in
       ap (λ (o : Option Class). get_row S l (class_object k ns o)) here ∙ ap (contraction.field_found S) (lookup.field_found l x ns i is lt)
       ∙ ap (λ (n : ℕ). stays_at n S) (sym at);
 }

@@ -1,4 +1,4 @@
-use Rattle.std.proofs.Common.{rules, ◌≡◌, ◌<◌, ℕ, List, Option, Some, None, length, sym, ap, ◌∙◌, arith, drop}
+use Rattle.std.proofs.Common.{◌≡◌, ◌<◌, ℕ, List, Option, Some, None, length, sym, ap, ◌∙◌, arith, drop}
 use Rattle.asp_model.specs.Names.{Text}
 use Rattle.asp_model.specs.Store.{Store, Object, Field, MethodShape, cell}
 use Rattle.asp_model.specs.Contraction.{put_row, stays_at, with_field, fields_at}
@@ -17,12 +17,12 @@ pub returns-in_default-field_keyed : goal.returns-in_default-field_keyed
 returns-in_default-field_keyed c = record {
   row = λ s h.
       let k : List Node = c.args.code.now in
-      let ns : List ℕ = c.args.object.now.places.items in
+      let ns : List ℕ = c.args.object.places.now in
       let l : Text = c.args.label.now.label.text in
       let x : Class = c.in-Some.class.now in
       let S : Store = store_of k s in
       let i : ℕ = c.args.at in
-      let here : class_at k c.args.object.now.class ≡ Some x = sym c.class.ensures.class ∙ ap seen_class c.in-Some.is in
+      let here : class_at k c.args.object.class ≡ Some x = sym c.class.ensures.class ∙ ap seen_class c.in-Some.is in
       let none : field_number l x ≡ None = sym c.field_keyed.ensures.number ∙ c.in_default-field_keyed.is in
       let ms : List MethodShape = seen_methods (pieces k) x.methods.items (drop (length x.fields.items) ns) in
       ap (λ (o : Option Class). put_row S l i c.args.to (class_object k ns o)) here
@@ -33,20 +33,19 @@ pub returns : goal.returns
 returns c = record {
   row = λ s h.
       let k : List Node = c.args.code.now in
-      let ns : List ℕ = c.args.object.now.places.items in
+      let ns : List ℕ = c.args.object.places.now in
       let l : Text = c.args.label.now.label.text in
       let x : Class = c.in-Some.class.now in
       let S : Store = store_of k s in
       let i : ℕ = c.args.at in
       let n : ℕ = c.in-Some-field_keyed.field in
-      let here : class_at k c.args.object.now.class ≡ Some x = sym c.class.ensures.class ∙ ap seen_class c.in-Some.is in
+      let here : class_at k c.args.object.class ≡ Some x = sym c.class.ensures.class ∙ ap seen_class c.in-Some.is in
       let is : field_number l x ≡ Some n = sym c.field_keyed.ensures.number ∙ c.in-Some-field_keyed.is in
-      let size : c.len.result ≡ length ns = search (rules, c.len.ensures) in
-      let lt : n < length ns = omega (arith, size, c.if-field-len.false) in
+      let lt : n < length ns = omega (arith, c.if-field-object.false) in
       let ms : List MethodShape = seen_methods (pieces k) x.methods.items (drop (length x.fields.items) ns) in
       let fs : List Field = fields_at (labels_of x) ns in
       let cell_is : cell S i ≡ Object fs ms = cell-store_of k s i ∙ ap (cell_of k) h ∙ ap (class_object k ns) here in
       ap (λ (o : Option Class). put_row S l i c.args.to (class_object k ns o)) here
       ∙ ap (contraction.field_set S i (Object (with_field l c.args.to fs) ms)) (lookup.field_found l x ns n is lt)
-      ∙ ap (stays_at i) (sym (places_set k s i n c.args.to l c.args.object.now.class ns x fs ms h here is cell_is));
+      ∙ ap (stays_at i) (sym (places_set k s i n c.args.to l c.args.object.class ns x fs ms h here is cell_is));
 }

@@ -13,20 +13,20 @@ returns-in_default c = record { future = λ k. past_future k c.args.store.now.ce
 pub returns-in-Future : goal.returns-in-Future
 returns-in-Future c = record {
   future = λ k.
-      let d = coded c.in-Some.cell.now in
+      let d = coded c.in-Some.cell in
       sym (ap is_future (cell_seen k c.args.store.now.cells c.args.place d c.in-Some.ensures.cell) ∙ is_future_seen (cell_of k d) seen.Future (c.in-Future.ensures.seen k));
 }
 
 pub returns-in-Number : goal.returns-in-Number
 returns-in-Number c = record {
   future = λ k.
-      let d = coded c.in-Some.cell.now in
+      let d = coded c.in-Some.cell in
       sym (ap is_future (cell_seen k c.args.store.now.cells c.args.place d c.in-Some.ensures.cell) ∙ is_future_seen (cell_of k d) (seen.Number _) (c.in-Number.ensures.seen k));
 }
 
 pub returns-in-Other : goal.returns-in-Other
 returns-in-Other c = record {
   future = λ k.
-      let d = coded c.in-Some.cell.now in
+      let d = coded c.in-Some.cell in
       sym (ap is_future (cell_seen k c.args.store.now.cells c.args.place d c.in-Some.ensures.cell) ∙ is_future_seen (cell_of k d) seen.Other (c.in-Other.ensures.seen k));
 }

@@ -17,8 +17,8 @@ returns c = record {
       let S : Store = store_of k s in
       let i = c.in-Some.at in
       let j = c.in-Some.other in
-      let x = coded c.in-Some-look.cell.now in
-      let y = coded c.in-Some-look-2.cell.now in
+      let x = coded c.in-Some-look.cell in
+      let y = coded c.in-Some-look-2.cell in
       subst (λ (e : Contraction). IsScattering k s l e c.scatter_at.result)
       (sym
       (two_row k s (Scatter l) c.args.operands.now i j x y (contraction.scatter_row S l) c.in-Some.ensures.two c.in-Some-look.ensures.cell c.in-Some-look-2.ensures.cell (scatter_reads S l i j)

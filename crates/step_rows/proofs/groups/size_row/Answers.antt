@@ -14,6 +14,6 @@ returns c = record {
       let s = c.args.store.now.cells in
       let S : Store = store_of k s in
       let x = c.in-Some.x in
-      one_row k s Size c.args.operands.now x.at (coded x.cell.now) (contraction.size_row S) c.in-Some.ensures.one c.in-Some.ensures.cell (size_reads S x.at)
-      ∙ sizes S x.at (cell_of k (coded x.cell.now)) c.group_of-group.result (c.group_of-group.ensures.seen k) ∙ c.size_at.ensures.row k s;
+      one_row k s Size c.args.operands.now x.at (coded x.cell) (contraction.size_row S) c.in-Some.ensures.one c.in-Some.ensures.cell (size_reads S x.at)
+      ∙ sizes S x.at (cell_of k (coded x.cell)) c.group_of-group.result (c.group_of-group.ensures.seen k) ∙ c.size_at.ensures.row k s;
 }

@@ -17,6 +17,6 @@ returns c = record {
       let S : Store = store_of k s in
       let x = c.in-Some.x in
       ap (λ (ns : List ℕ). contract S (value_redex WaitAll ns)) c.in-Some.ensures.one
-      ∙ awaits S x.at c.group_of-group.result (subst (λ (d : CellShape). IsSeenGroup d c.group_of-group.result) (sym (cell_seen k s x.at (coded x.cell.now) c.in-Some.ensures.cell)) (c.group_of-group.ensures.seen k))
+      ∙ awaits S x.at c.group_of-group.result (subst (λ (d : CellShape). IsSeenGroup d c.group_of-group.result) (sym (cell_seen k s x.at (coded x.cell) c.in-Some.ensures.cell)) (c.group_of-group.ensures.seen k))
       ∙ c.wait_at.ensures.row k;
 }

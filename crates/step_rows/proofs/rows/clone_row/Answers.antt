@@ -15,8 +15,8 @@ returns c = record {
       let S : Store = store_of k s in
       let x = c.in-Some.x in
       let f : CellShape → Contraction = λ d. allots S d [] in
-      one_row k s Clone c.args.operands.now x.at (coded x.cell.now) f c.in-Some.ensures.one c.in-Some.ensures.cell (clone_reads S x.at)
-      ∙ seen_read x.at f (cell_of k (coded x.cell.now)) c.sight_of-sight.result (c.sight_of-sight.ensures.seen k)
-      ∙ ap (λ (d : CellShape). seen_or x.at (f d) c.sight_of-sight.result) (sym (cell_seen k s x.at (coded x.cell.now) c.in-Some.ensures.cell))
+      one_row k s Clone c.args.operands.now x.at (coded x.cell) f c.in-Some.ensures.one c.in-Some.ensures.cell (clone_reads S x.at)
+      ∙ seen_read x.at f (cell_of k (coded x.cell)) c.sight_of-sight.result (c.sight_of-sight.ensures.seen k)
+      ∙ ap (λ (d : CellShape). seen_or x.at (f d) c.sight_of-sight.result) (sym (cell_seen k s x.at (coded x.cell) c.in-Some.ensures.cell))
       ∙ c.clone_at.ensures.row k s;
 }

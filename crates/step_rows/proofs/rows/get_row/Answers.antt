@@ -17,6 +17,6 @@ returns c =
     let x = c.in-Some.x in
     record {
       row = subst (λ (e : Contraction). IfOk c.get.result (λ d. e ≡ decided k s d))
-          (sym (one_row k s (Get l) c.args.operands.now x.at (coded x.cell.now) (contraction.get_row (store_of k s) l) c.in-Some.ensures.one c.in-Some.ensures.cell (get_reads (store_of k s) l x.at)))
+          (sym (one_row k s (Get l) c.args.operands.now x.at (coded x.cell) (contraction.get_row (store_of k s) l) c.in-Some.ensures.one c.in-Some.ensures.cell (get_reads (store_of k s) l x.at)))
           (c.get.ensures.row s);
     }

@@ -16,8 +16,8 @@ returns c = record {
       let sign = sign_shape c.args.sign in
       let i = c.in-Some.at in
       let j = c.in-Some.other in
-      let x = c.in-Some-look.cell.now in
-      let y = c.in-Some-look-2.cell.now in
+      let x = c.in-Some-look.cell in
+      let y = c.in-Some-look-2.cell in
       two_row k s (Operate sign) c.args.operands.now i j (coded x) (coded y) (contraction.operate_row S sign) c.in-Some.ensures.two c.in-Some-look.ensures.cell c.in-Some-look-2.ensures.cell (operate_reads S sign i j)
       ∙ operates S sign i j (cell_of k (coded x)) (cell_of k (coded y)) c.sight_of-first.result c.sight_of-second.result (c.sight_of-first.ensures.seen k) (c.sight_of-second.ensures.seen k)
       ∙ c.operate_at.ensures.row k s;

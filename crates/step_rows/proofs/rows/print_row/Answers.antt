@@ -13,6 +13,6 @@ returns c = record {
       let s = c.args.store.now.cells in
       let S : Store = store_of k s in
       let x = c.in-Some.x in
-      one_row k s Print c.args.operands.now x.at (coded x.cell.now) (contraction.print_row S x.at) c.in-Some.ensures.one c.in-Some.ensures.cell (print_reads S x.at)
-      ∙ prints S x.at (cell_of k (coded x.cell.now)) c.sight_of-sight.result (c.sight_of-sight.ensures.seen k) ∙ c.print_at.ensures.row k s;
+      one_row k s Print c.args.operands.now x.at (coded x.cell) (contraction.print_row S x.at) c.in-Some.ensures.one c.in-Some.ensures.cell (print_reads S x.at)
+      ∙ prints S x.at (cell_of k (coded x.cell)) c.sight_of-sight.result (c.sight_of-sight.ensures.seen k) ∙ c.print_at.ensures.row k s;
 }

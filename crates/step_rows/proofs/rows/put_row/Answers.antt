@@ -16,7 +16,7 @@ returns c =
     let l = c.args.label.now.label.text in
     let i : ℕ = c.in-Some.at in
     let j : ℕ = c.in-Some.to in
-    let cell = c.in-Some-look.cell.now in
+    let cell = c.in-Some-look.cell in
     let here : contract (store_of k s) (value_redex (Put l) c.args.operands.now) ≡ read i (contraction.put_row (store_of k s) l i j) (cell_of k (coded cell)) =
     ap (λ (ns : List ℕ). contract (store_of k s) (value_redex (Put l) ns)) c.in-Some.ensures.two ∙ put_reads (store_of k s) l i j
     ∙ ap (read i (contraction.put_row (store_of k s) l i j)) (cell_seen k s i (coded cell) c.in-Some-look.ensures.cell) in

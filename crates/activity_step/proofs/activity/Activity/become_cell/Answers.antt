@@ -3,7 +3,7 @@ use Rattle.std.specs.Arc.{arc_value}
 use Rattle.code_table.specs.declared.code.Node.{Node}
 use Rattle.step_machine.specs.Standing.{View, view_of}
 use Rattle.step_machine.specs.Services.{IsAtSome}
-use Rattle.code_table.specs.Cells.{coded}
+use Rattle.code_table.specs.Cells.{bare}
 use Rattle.activity_step.specs.declared.activity.Activity.{Activity}
 use Rattle.activity_step.proofs.RunLemmas.{cell_became, some_of}
 use Rattle.activity_step.proofs.activity.Activity.become_cell.Goals as goal
@@ -19,4 +19,4 @@ returns-clause-becomes c =
     let plus : c.in_ok-reductions.reductions ≡ x.count + 1 = search (rules, c.in_ok-reductions.ensures, c.checked_add.ensures) in
     let counted : c.in_ok-reductions.reductions ≡ suc x.count = omega (arith, plus) in
     let y : Activity = record x { state = record { machine = c.become_place.new.self; store = c.add.new.self; lines = x.state.lines }; count = c.in_ok-reductions.reductions } in
-    cell_became x y a v c.in_ok-count.count c.in_ok-place.place contexts redex (coded c.args.cell) h splits some c.become_place.ensures.view c.in_ok-place.ensures.place c.in_ok-place.ensures.cells refl refl refl refl counted
+    cell_became x y a v c.in_ok-count.count c.in_ok-place.place contexts redex (bare c.args.cell) h splits some c.become_place.ensures.view c.in_ok-place.ensures.place c.in_ok-place.ensures.cells refl refl refl refl counted

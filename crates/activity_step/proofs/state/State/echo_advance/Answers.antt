@@ -27,8 +27,8 @@ returns c = record {
       let q = a.store.cells in
       let w = c.args.text.now in
       let yes0 : c.args.go ≡ true = search (rules, c.if-not-go.false) in
-      let row : contract (store_of k q) (value_redex (Echo w) []) ≡ Becomes (loc c.in_ok-place.place) (store_of k c.add.new.self.cells) (TextLine w ∷ []) =
+      let row : contract (store_of k q) (value_redex (Echo w) []) ≡ Becomes (loc c.in_ok-place.place) (store_of k c.add_object.new.self.cells) (TextLine w ∷ []) =
       ap (λ d. allots (store_of k q) d (TextLine w ∷ [])) (sym (empty_object k sound))
-      ∙ allotted k q c.add.new.self.cells (coded.Object 2 []) c.in_ok-place.place (TextLine w ∷ []) c.in_ok-place.ensures.place (search (rules, c.in_ok-place.ensures.cells)) in
-      placed k a (record { machine = c.become_place.new.self; store = c.add.new.self; lines = c.push.new.self }) t vs s ls c.args.go c.args.count (value_redex (Echo w) []) c.in_ok-place.place (TextLine w ∷ []) h at yes0 row c.become_place.ensures.view (text_printed a.lines.items c.push.new.self.items c.in_ok-copy.field-0 w c.in_ok-push.ensures.items c.in_ok-copy.ensures.word);
+      ∙ allotted k q c.add_object.new.self.cells (coded.Object 2 []) c.in_ok-place.place (TextLine w ∷ []) c.in_ok-place.ensures.place (search (rules, c.in_ok-place.ensures.cells)) in
+      placed k a (record { machine = c.become_place.new.self; store = c.add_object.new.self; lines = c.push.new.self }) t vs s ls c.args.go c.args.count (value_redex (Echo w) []) c.in_ok-place.place (TextLine w ∷ []) h at yes0 row c.become_place.ensures.view (text_printed a.lines.items c.push.new.self.items c.in_ok-copy.field-0 w c.in_ok-push.ensures.items c.in_ok-copy.ensures.word);
 }

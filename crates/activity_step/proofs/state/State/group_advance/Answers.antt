@@ -30,9 +30,9 @@ returns c = record {
       let q = a.store.cells in
       let ops : List ℕ = last c.args.size a.machine.operands.items in
       let yes0 : c.args.go ≡ true = search (rules, c.if-not-go.false) in
-      let members : c.extend_from_slice.new.self.items ≡ ops = search (rules, c.in_ok-extend_from_slice.ensures.items, c.in_ok-members.ensures.items, c.last_operands-operands.ensures.operands) in
-      let row : contract (store_of k q) (value_redex Group ops) ≡ Becomes (loc c.in_ok-place.place) (store_of k c.add.new.self.cells) [] =
+      let members : c.last_operands.result.now ≡ ops = search (rules, c.last_operands.ensures.operands) in
+      let row : contract (store_of k q) (value_redex Group ops) ≡ Becomes (loc c.in_ok-place.place) (store_of k c.add_group.new.self.cells) [] =
       ap (λ (l : List ℕ). allots (store_of k q) (store.Group l) []) (sym members)
-      ∙ allotted k q c.add.new.self.cells (coded.Group c.extend_from_slice.new.self.items) c.in_ok-place.place [] c.in_ok-place.ensures.place (search (rules, c.in_ok-place.ensures.cells)) in
-      placed k a (record { machine = c.become_place.new.self; store = c.add.new.self; lines = a.lines }) t vs s ls c.args.go c.args.count (value_redex Group ops) c.in_ok-place.place [] h at yes0 row c.become_place.ensures.view (sym (append-nil (map line_shape a.lines.items)));
+      ∙ allotted k q c.add_group.new.self.cells (coded.Group c.last_operands.result.now) c.in_ok-place.place [] c.in_ok-place.ensures.place (search (rules, c.in_ok-place.ensures.cells)) in
+      placed k a (record { machine = c.become_place.new.self; store = c.add_group.new.self; lines = a.lines }) t vs s ls c.args.go c.args.count (value_redex Group ops) c.in_ok-place.place [] h at yes0 row c.become_place.ensures.view (sym (append-nil (map line_shape a.lines.items)));
 }

@@ -36,10 +36,9 @@ returns c = record {
       let yes0 : c.args.go ≡ true = search (rules, c.if-not-go.false) in
       let o = made_at k v c.args.number from c.args.count n x t vs h.machine at is in
       let ns : List ℕ = last c.args.count v.operands ++ kept_places (drop v.base v.env) x.methods.items in
-      let places : c.in_ok-places.places.items ≡ ns = c.in_ok-places.ensures.places in
-      let cell_is : class_object k c.in_ok-places.places.items (class_at k c.args.number) ≡ object_of (pieces k) x ns = (λ i. class_object k (places i) ((class ∙ is) i)) in
-      let row : contract (store_of k q) o.redex ≡ Becomes (loc c.in_ok-place.place) (store_of k c.add.new.self.cells) [] =
+      let cell_is : class_object k ns (class_at k c.args.number) ≡ object_of (pieces k) x ns = ap (class_object k ns) (class ∙ is) in
+      let row : contract (store_of k q) o.redex ≡ Becomes (loc c.in_ok-place.place) (store_of k c.add_made.new.store.cells) [] =
       o.row_is (store_of k q) ∙ ap (λ d. allots (store_of k q) d []) (sym cell_is)
-      ∙ allotted k q c.add.new.self.cells (coded.Object c.args.number c.in_ok-places.places.items) c.in_ok-place.place [] c.in_ok-place.ensures.place (search (rules, c.in_ok-place.ensures.cells)) in
-      placed k a (record { machine = c.become_place.new.self; store = c.add.new.self; lines = a.lines }) t vs s ls c.args.go c.args.count o.redex c.in_ok-place.place [] h o.at yes0 row c.become_place.ensures.view (sym (append-nil (map line_shape a.lines.items)));
+      ∙ allotted k q c.add_made.new.store.cells (coded.Object c.args.number ns) c.in_ok-place.place [] c.in_ok-place.ensures.place (search (rules, c.in_ok-place.ensures.cells)) in
+      placed k a (record { machine = c.become_place.new.self; store = c.add_made.new.store; lines = a.lines }) t vs s ls c.args.go c.args.count o.redex c.in_ok-place.place [] h o.at yes0 row c.become_place.ensures.view (sym (append-nil (map line_shape a.lines.items)));
 }
