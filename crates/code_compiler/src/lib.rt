@@ -11,3 +11,4 @@ mod terms;
 
 pub use program::compile;
 pub use scope::{Binding, Scope, bound_with, head_slots, leaf_of};
+pub use terms::compile_term;
