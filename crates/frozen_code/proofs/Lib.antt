@@ -1,0 +1,5 @@
+pub mod NamedLemmas
+pub mod HeldLemmas
+pub mod ProperLemmas
+pub mod RestoreLemmas
+pub mod ObjectLemmas

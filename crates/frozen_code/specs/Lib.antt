@@ -1,0 +1,5 @@
+-- in reading order
+pub mod Named
+pub mod Held
+pub mod Objects
+pub mod Restoring
