@@ -12,6 +12,7 @@ mod performing;
 mod places;
 mod quick;
 mod reducing;
+mod restoring;
 mod services;
 mod standing;
 mod starting;
