@@ -62,7 +62,8 @@ pub record IsHeld (k : List Node) (number : ℕ) (ns : List ℕ) (h : Head) (n :
 
 -- the code has a node for a context, or for a redex
 abbrev pub HoldsContext : List Node → (number : ℕ) (ns done : List ℕ) → Context → Type 0
-HoldsContext k number ns done c = (c.before ≡ done) × IsContext c × IsHeld k number ns c.head (suc (length done)) c.behind
+HoldsContext k number ns done c = (c.before ≡ done) × IsContext c
+    × IsHeld k number ns c.head (suc (length done)) c.behind
 
 abbrev pub HoldsRedex : List Node → (number : ℕ) (ns done : List ℕ) → Redex → Type 0
 HoldsRedex k number ns done r = (r.places ≡ done) × IsRedex r × IsHeld k number ns r.head (length done) r.behind
@@ -71,15 +72,20 @@ HoldsRedex k number ns done r = (r.places ≡ done) × IsRedex r × IsHeld k num
 
 -- what is proper may be compiled
 abbrev pub ContextsMayCome : Type 0
-ContextsMayCome = (x : Opened) (c : Context) → IsProperContext c → IsContext c → IsOpened x (context_left c) → IsClosed x.names.items (tree_of x.term) × (is_variable (tree_of x.term) ≡ false)
+ContextsMayCome = (x : Opened) (c : Context) → IsProperContext c → IsContext c → IsOpened x (context_left c)
+    → IsClosed x.names.items (tree_of x.term) × (is_variable (tree_of x.term) ≡ false)
 
 abbrev pub RedexesMayCome : Type 0
-RedexesMayCome = (x : Opened) (r : Redex) → IsProper [] (redex_node r) → IsRedex r → IsOpened x (redex_left r) → IsClosed x.names.items (tree_of x.term) × (is_variable (tree_of x.term) ≡ false)
+RedexesMayCome = (x : Opened) (r : Redex) → IsProper [] (redex_node r) → IsRedex r
+    → IsOpened x (redex_left r) → IsClosed x.names.items (tree_of x.term)
+    × (is_variable (tree_of x.term) ≡ false)
 
 -- what was made over a table stands over each table that begins with it
 
 abbrev pub ContextsStay : Type 0
-ContextsStay = (k added : List Node) (number : ℕ) (ns done : List ℕ) (c : Context) → HoldsContext k number ns done c → HoldsContext (k ++ added) number ns done c
+ContextsStay = (k added : List Node) (number : ℕ) (ns done : List ℕ) (c : Context)
+    → HoldsContext k number ns done c → HoldsContext (k ++ added) number ns done c
 
 abbrev pub RedexesStay : Type 0
-RedexesStay = (k added : List Node) (number : ℕ) (ns done : List ℕ) (r : Redex) → HoldsRedex k number ns done r → HoldsRedex (k ++ added) number ns done r
+RedexesStay = (k added : List Node) (number : ℕ) (ns done : List ℕ) (r : Redex)
+    → HoldsRedex k number ns done r → HoldsRedex (k ++ added) number ns done r

@@ -1,7 +1,10 @@
 -- Places under names: a term of a store, as a term of a program whose free variables stand for its places.
 use Rattle.std.specs.Prelude.{◌≡◌, ℕ, Bool, true, false, List, [], ◌∷◌, Option, Some, None}
 use Rattle.asp_model.specs.Names.{Text, same_text}
-use Rattle.asp_model.specs.Term.{Head, Loc, Var, Tree, Trees, node, none, more, leaf, loc, Environment, binders, location_of, put_in, without}
+use Rattle.asp_model.specs.Term.{
+  Head, Loc, Var, Tree, Trees, node, none, more, leaf, loc, Environment, binders, location_of, put_in,
+  without
+}
 use Rattle.law_programs.specs.Proper.{IsProper}
 use Rattle.code_compiler.specs.Closed.{IsClosed}
 
@@ -62,4 +65,5 @@ NamesAreTakenBack = (f : ℕ → Text) (e : Environment) (t : Tree) → IsNameab
 
 -- a proper term whose places have names is one of a program where these names are bound
 abbrev pub NamedAreClosed : Type 0
-NamedAreClosed = (f : ℕ → Text) (xs : List Text) (ns : List ℕ) (t : Tree) → IsProper [] t → IsNameable f (places_named xs ns) t → IsClosed xs (named f t)
+NamedAreClosed = (f : ℕ → Text) (xs : List Text) (ns : List ℕ) (t : Tree) → IsProper [] t
+    → IsNameable f (places_named xs ns) t → IsClosed xs (named f t)

@@ -29,11 +29,16 @@ restored_places class fields ns = fields ++ kept_places ns class.methods.items
 
 -- all that its methods capture stands in the environment of its node
 abbrev pub ObjectsAreKept : Type 0
-ObjectsAreKept = (k : List Node) (number : ℕ) (class : Class) (n : ℕ) (ns : List ℕ) (labels : List Text) (heads : List MethodHead) (bodies : Trees)
-    → IsSound k → class_at k number ≡ Some class → IsHeld k number ns (Make labels heads) n bodies → AreKept (length ns) class.methods.items
+ObjectsAreKept = (k : List Node) (number : ℕ) (class : Class) (n : ℕ) (ns : List ℕ) (labels : List Text)
+    (heads : List MethodHead) (bodies : Trees)
+    → IsSound k → class_at k number ≡ Some class → IsHeld k number ns (Make labels heads) n bodies
+    → AreKept (length ns) class.methods.items
 
 -- with its places it is the object that was read
 abbrev pub ObjectsAreRestored : Type 0
-ObjectsAreRestored = (k : List Node) (number : ℕ) (class : Class) (fields ns : List ℕ) (labels : List Text) (heads : List MethodHead) (bodies : Trees)
-    → IsSound k → class_at k number ≡ Some class → length fields ≡ length labels → IsHeld k number ns (Make labels heads) (length fields) bodies
-    → object_of (pieces k) class (restored_places class fields ns) ≡ Object (fields_at labels fields) (methods_with heads bodies)
+ObjectsAreRestored = (k : List Node) (number : ℕ) (class : Class) (fields ns : List ℕ) (labels : List Text)
+    (heads : List MethodHead) (bodies : Trees)
+    → IsSound k → class_at k number ≡ Some class → length fields ≡ length labels
+    → IsHeld k number ns (Make labels heads) (length fields) bodies
+    → object_of (pieces k) class (restored_places class fields ns) ≡ Object (fields_at labels fields)
+    (methods_with heads bodies)
