@@ -3,7 +3,6 @@ use Rattle.std.proofs.Common.{◌≡◌, ◌≤◌, ◌<◌, ◌||◌, ℕ, Bool
 use Rattle.std.proofs.lemmas.Bool.Decides.{nat_tests}
 use Rattle.std.specs.Map.{keys_of, lookup}
 use Rattle.std.specs.BTreeMap.{is_at}
-use Rattle.std.specs.BTreeSet.{BTreeSet}
 use Rattle.std.specs.Ordering.{is_eq}
 use Rattle.std.specs.Cmp.Lexicographic.{texts_ties}
 use Rattle.asp_model.specs.declared.word.Label.{Label}
@@ -12,7 +11,8 @@ use Rattle.asp_model.specs.Term.{has_text}
 use Rattle.request_queue.specs.declared.notes.Notes.{Notes}
 use Rattle.code_table.specs.declared.code.MethodCode.{MethodCode}
 use Rattle.serve_rules.specs.Labels.{label_text, method_text}
-use Rattle.request_queue.specs.Notes.{IsAsked, IsOldest, IsOldestWith, IsUpTo, earlier, has_number, is_noted, label_order, or_none}
+use Rattle.request_queue.specs.Numbers.{IsUpTo, has_number}
+use Rattle.request_queue.specs.Notes.{IsAsked, IsOldest, IsOldestWith, earlier, is_noted, label_order, or_none}
 use Rattle.request_queue.proofs.NoteLemmas.{label_same}
 
 -- The lesser of two
@@ -99,7 +99,7 @@ pub none_looked : (asked : List Text) (w : Notes) (rest : List Label) → ((l : 
 none_looked asked w rest left = record { found = λ n e. absurd cc; least = λ l k a. inl (left l k a) }
 
 -- a label with a number is pending
-pub is_pending : (l : Label) (k : ℕ) (es : List (Label × BTreeSet ℕ)) → has_number k (or_none (lookup (is_at (label_order l)) es)) ≡ true → has_text l.text (map label_text (keys_of es)) ≡ true
+pub is_pending : (l : Label) (k : ℕ) (es : List (Label × List ℕ)) → has_number k (or_none (lookup (is_at (label_order l)) es)) ≡ true → has_text l.text (map label_text (keys_of es)) ≡ true
 is_pending l k [] h = h
 is_pending l k (e ∷ es) h = by (is_eq (label_order l e.0)) refl h (is_pending l k es)
   where

@@ -17,10 +17,11 @@ use Rattle.asp_model.specs.Intent.{Numbered}
 use Rattle.request_queue.specs.Requests.{request_shape}
 use Rattle.request_queue.specs.declared.notes.Notes.{Notes}
 use Rattle.request_queue.specs.Pending.{oldest, request_at}
-use Rattle.request_queue.specs.Notes.{IsOldest, IsUpTo, is_noted, is_that, label_order}
+use Rattle.request_queue.specs.Numbers.{IsUpTo}
+use Rattle.request_queue.specs.Notes.{IsAbove, IsOldest, is_noted, is_that, label_order}
 use Rattle.request_queue.specs.Kept.{has_label, waits}
 use Rattle.request_queue.proofs.OldestLemmas.{text_same, tied}
-use Rattle.request_queue.proofs.PendingLemmas.{equal_numbers}
+use Rattle.request_queue.proofs.NumberLemmas.{itself, less, number_same}
 
 abbrev Entries : Type 0
 Entries = List (ℕ × Request)
@@ -56,9 +57,6 @@ not_there n (e ∷ es) b = ap (λ o. cond (is_eq o) (Some e.1) (request_at n es)
 
 -- Notes
 
-number_same : (n k : ℕ) → eq_by_cmp nat_cmp n k ≡ true → n ≡ k
-number_same n k e = let d : nat_eq n k ≡ true = equal_numbers n k ∙ e in grind (arith, nat_tests)
-
 that_label : (l m : Label) (b : Bool) → (eq_by_cmp label_order l m && b) ≡ (same_text m.text l.text && b)
 that_label l m b = ap (λ t. t && b) (tied l m ∙ nat_list_eq_equiv.symm l.text m.text)
 
@@ -81,6 +79,18 @@ notes_more old new n r es after below kept changes updates l k = changes l k ∙
     by : (b : Bool) → eq_by_cmp nat_cmp n k ≡ b → cond (same_text l.text r.label.text && b) true (is_noted old l k) ≡ has_label l (cond b (Some r) (request_at k es))
     by true e = ap (λ c. cond (same_text l.text r.label.text && true) true c) (none e) ∙ both (same_text l.text r.label.text)
     by false e = neither (same_text l.text r.label.text) (is_noted old l k) ∙ kept l k
+
+waits_below : (n : ℕ) (es : Entries) (l : Label) (k : ℕ) → AreBelow n es → waits es l k ≡ true → k < n
+waits_below n [] l k b h = absurd (subst T (sym h) tt)
+waits_below n (e ∷ es) l k b h = by (is_eq (nat_cmp k e.0)) refl h (waits_below n es l k b.1)
+  where
+    by : (t : Bool) → is_eq (nat_cmp k e.0) ≡ t → has_label l (cond t (Some e.1) (request_at k es)) ≡ true → (waits es l k ≡ true → k < n) → k < n
+    by true d h next = subst (λ m. m < n) (sym (number_same k e.0 d)) b.0
+    by false d h next = next h
+
+-- the next number is above all that are noted
+pub notes_below : (w : Notes) (n : ℕ) (es : Entries) → AreBelow n es → ((l : Label) (k : ℕ) → is_noted w l k ≡ waits es l k) → IsAbove n w
+notes_below w n es below kept l k noted = waits_below n es l k below (sym (kept l k) ∙ noted)
 
 -- what was noted is forgotten
 pub notes_back : (old new back : Notes) (n : ℕ) (r : Request) (es : Entries) → AreBelow n es → ((l : Label) (k : ℕ) → is_noted old l k ≡ waits es l k) → ((l : Label) (k : ℕ) → is_noted new l k ≡ cond (is_that r.label n l k) true (is_noted old l k))
@@ -139,23 +149,9 @@ waits_after : (k : ℕ) (es : Entries) (l : Label) (n : ℕ) → AllByRecursion 
 waits_after k [] l n above h = contradiction false h refl
 waits_after k (e ∷ es) l n above h = by (is_eq (nat_cmp n e.0)) refl h (waits_after k es l n above.1)
   where
-    less : (j : ℕ) → nat_cmp k j ≡ Less → k < j
-    less j d = go (nat_lt k j) refl d
-      where
-        go : (b : Bool) → nat_lt k j ≡ b → cond b Less (cond (nat_eq k j) Equal Greater) ≡ Less → k < j
-        go true p q = grind (arith, nat_tests)
-        go false p q = absurd (no (nat_eq k j) q)
-          where
-            no : (b : Bool) → cond b Equal Greater ≡ Less → ⊥
-            no true q = absurd cc
-            no false q = absurd cc
-
     by : (b : Bool) → is_eq (nat_cmp n e.0) ≡ b → has_label l (cond b (Some e.1) (request_at n es)) ≡ true → (waits es l n ≡ true → k < n) → k < n
-    by true d h next = subst (λ m. k < m) (sym (number_same n e.0 d)) (less e.0 above.0)
+    by true d h next = subst (λ m. k < m) (sym (number_same n e.0 d)) (less k e.0 above.0)
     by false d h next = next h
-
-itself : (k : ℕ) → is_eq (nat_cmp k k) ≡ true
-itself k = sym (equal_numbers k k) ∙ grind (arith, nat_tests)
 
 -- the least number that is asked for is that of the oldest match
 first_is : (asked : List Text) (es : Entries) (o : Option ℕ) → Ascends es → IsFirst asked es o → o ≡ option_map (λ x. x.0) (oldest asked (map numbered es))

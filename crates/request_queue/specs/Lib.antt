@@ -1,5 +1,7 @@
 pub mod Requests
 pub mod Pending
+pub mod Numbers
+pub mod Ascending
 pub mod Notes
 pub mod Kept
 pub mod Few

@@ -5,6 +5,7 @@ mod crowd;
 mod few;
 mod laws;
 mod notes;
+mod numbers;
 mod queue;
 mod request;
 

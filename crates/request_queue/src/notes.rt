@@ -3,7 +3,6 @@
 ghost use Rattle.std.specs.Prelude.{
   ◌≡◌,
   ℕ,
-  IsSome,
   IsTrue,
   None,
   OnErr,
@@ -20,7 +19,7 @@ ghost use Rattle.serve_rules.specs.Wanted.{wanted_labels};
 ghost use Rattle.request_queue.specs.Notes.{
   AreAlike,
   Changes,
-  IsLeast,
+  IsAbove,
   IsOldest,
   IsOldestWith,
   earlier as earlier_of,
@@ -29,17 +28,18 @@ ghost use Rattle.request_queue.specs.Notes.{
   numbers_in,
 };
 
+use crate::numbers::Numbers;
 use asp_model::Label;
 use code_table::Class;
 use serve_rules::Wanted;
 use std::alloc::{AllocError, Global};
-use std::collections::{BTreeMap, BTreeSet};
+use std::collections::BTreeMap;
 
 /// For each label that is pending the numbers of its requests.
 #[derive(Drop)]
 pub struct Notes {
     alloc: Global,
-    numbers: BTreeMap<Label, BTreeSet<u64>>,
+    numbers: BTreeMap<Label, Numbers>,
 }
 
 impl Notes {
@@ -52,29 +52,15 @@ impl Notes {
         }
     }
 
-    /// Notes a number under a label.
+    /// Notes a number under a label. It is above all that are noted.
     pub fn note(&mut self, label: &Label, number: u64) -> Result<(), AllocError>
-        ensures noted { OnOk result (Changes label.now number true self.old self.new) }
-        ensures err { OnErr result (AreAlike self.old self.new) }
-    {
-        if self.numbers.contains_key(label) {
-            self.note_known(label, number)
-        } else {
-            self.note_new(label, number)
-        }
-    }
-
-    fn note_known(&mut self, label: &Label, number: u64) -> Result<(), AllocError>
-        requires known { IsSome (get label_order self.old.numbers label.now) }
+        requires above { IsAbove number self.old }
         ensures noted { OnOk result (Changes label.now number true self.old self.new) }
         ensures err { OnErr result (AreAlike self.old self.new) }
     {
         match self.numbers.get_mut(label) {
-            Some(numbers) => {
-                numbers.insert(number)?;
-                Ok(())
-            }
-            None => unreachable!(),
+            Some(numbers) => numbers.push(number),
+            None => self.note_new(label, number),
         }
     }
 
@@ -84,8 +70,8 @@ impl Notes {
         ensures err { OnErr result (AreAlike self.old self.new) }
     {
         let label = label.copy(self.alloc)?;
-        let mut numbers = BTreeSet::new(self.alloc);
-        numbers.insert(number)?;
+        let mut numbers = Numbers::new(self.alloc);
+        numbers.push(number)?;
         self.numbers.insert(label, numbers)?;
         Ok(())
     }
@@ -106,7 +92,7 @@ impl Notes {
     {
         match self.numbers.get_mut(label) {
             Some(numbers) => {
-                numbers.remove(&number);
+                numbers.forget(number);
                 numbers.is_empty()
             }
             None => false,
@@ -172,16 +158,10 @@ impl Notes {
         ensures oldest { IsOldestWith self.now label.now result }
     {
         match self.numbers.get(label) {
-            Some(numbers) => first(numbers),
+            Some(numbers) => numbers.first(),
             None => None,
         }
     }
-}
-
-fn first(numbers: &BTreeSet<u64>) -> Option<u64>
-    ensures least { IsLeast numbers.now.keys result }
-{
-    numbers.first().copied()
 }
 
 // The lesser of two numbers, where there are both.

@@ -10,12 +10,15 @@ use Rattle.request_queue.specs.Pending.{QueueView}
 use Rattle.request_queue.specs.Notes.{is_noted, is_that}
 use Rattle.request_queue.specs.Kept.{unboxed, waits}
 use Rattle.request_queue.proofs.BoxLemmas.{inserted_unboxed, keys_unboxed, updated_unboxed}
-use Rattle.request_queue.proofs.QueueLemmas.{AreBelow, added_last, below_more, notes_back, notes_more}
+use Rattle.request_queue.proofs.QueueLemmas.{AreBelow, added_last, below_more, notes_back, notes_below, notes_more}
 use Rattle.request_queue.proofs.crowd.Crowd.push.Goals as goal
 
 -- the notes change at the number and the label of a request
 abbrev AreNoted : Notes → Notes → ℕ → Bool → Request → Type 0
 AreNoted old new n b r = (l : Label) (k : ℕ) → is_noted new l k ≡ cond (is_that r.label n l k) b (is_noted old l k)
+
+pub note-requires : goal.note-requires
+note-requires c = record { above = notes_below c.self.inside.notes c.self.inside.arrived (unboxed c.self.inside.pending.entries) c.self.invariant.below c.self.invariant.noted }
 
 pub invariant_of-self-in-Ok : goal.invariant_of-self-in-Ok
 invariant_of-self-in-Ok c =
