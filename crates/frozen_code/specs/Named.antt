@@ -2,8 +2,21 @@
 use Rattle.std.specs.Prelude.{◌≡◌, ℕ, Bool, true, false, List, [], ◌∷◌, Option, Some, None}
 use Rattle.asp_model.specs.Names.{Text, same_text}
 use Rattle.asp_model.specs.Term.{
-  Head, Loc, Var, Tree, Trees, node, none, more, leaf, loc, Environment, binders, location_of, put_in,
-  without
+  Head,
+  Loc,
+  Var,
+  Tree,
+  Trees,
+  node,
+  none,
+  more,
+  leaf,
+  loc,
+  Environment,
+  binders,
+  location_of,
+  put_in,
+  without,
 }
 use Rattle.law_programs.specs.Proper.{IsProper}
 use Rattle.code_compiler.specs.Closed.{IsClosed}

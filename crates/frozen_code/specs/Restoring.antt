@@ -24,30 +24,56 @@ use Rattle.frozen_code.specs.declared.machines.Suspended.{Suspended}
 
 -- in no frames
 abbrev pub empty_view : View
-empty_view = record { frames = []; env = []; operands = []; futures = []; asked = []; base = 0;
-    focus = focus.Place 0 }
+empty_view = record {
+  frames = [];
+  env = [];
+  operands = [];
+  futures = [];
+  asked = [];
+  base = 0;
+  focus = focus.Place 0;
+}
 
 -- a frame round whatever comes, behind the environments and operands so far
 abbrev pub held_frame : (number : ℕ) (ns done : List ℕ) → View → Frame
-held_frame number ns done v = record { form = form.Terms; node = number; from = 0; done = length done;
-    base = length v.env; height = length (v.env ++ ns) }
+held_frame number ns done v = record {
+  form = form.Terms;
+  node = number;
+  from = 0;
+  done = length done;
+  base = length v.env;
+  height = length (v.env ++ ns);
+}
 
 abbrev pub held_view : (number : ℕ) (ns done : List ℕ) → View → View
-held_view number ns done v = record v { frames = v.frames ++ held_frame number ns done v ∷ [];
-    env = v.env ++ ns; operands = v.operands ++ done }
+held_view number ns done v = record v {
+  frames = v.frames ++ held_frame number ns done v ∷ [];
+  env = v.env ++ ns;
+  operands = v.operands ++ done;
+}
 
 -- the term so far waits for the end of a service
 abbrev pub served_frame : View → Frame
-served_frame v = record { form = form.Service; node = 0; from = 0; done = 0; base = length v.env;
-    height = length v.env }
+served_frame v = record {
+  form = form.Service;
+  node = 0;
+  from = 0;
+  done = 0;
+  base = length v.env;
+  height = length v.env;
+}
 
 abbrev pub served_view : Option FutureShape → View → View
 served_view f v = record v { frames = v.frames ++ served_frame v ∷ []; futures = v.futures ++ f ∷ [] }
 
 -- a node is looked at, whose first terms are done
 abbrev pub begun_view : (number : ℕ) (ns done : List ℕ) → View → View
-begun_view number ns done v = record v { env = v.env ++ ns; operands = v.operands ++ done;
-    base = length v.env; focus = focus.Node number 0 (length done) }
+begun_view number ns done v = record v {
+  env = v.env ++ ns;
+  operands = v.operands ++ done;
+  base = length v.env;
+  focus = focus.Node number 0 (length done);
+}
 
 -- a place is looked at
 abbrev pub rested_view : (place : ℕ) → View → View
