@@ -1,13 +1,14 @@
 -- What the changes of a population leave of it.
 use Rattle.std.proofs.Common.{◌≡◌, ◌≢◌, ◌⊎◌, ◌<◌, ◌≤◌, ◌∷◌, ◌++◌, [], true, false, List, Option, Some, None, Ok, Err, Result, IfOk, OnOk, length, map, refl, sym, ap, subst, ◌∙◌, ⊎_elim, inl, inr, ℕ, ◌+◌, arith}
 use Rattle.std.proofs.lemmas.Bool.{cases_lt}
+use Rattle.std.proofs.lemmas.Map.{update_all_push, update_other, update_same}
 use Rattle.std.specs.FinMap.{find, put}
-use Rattle.std.specs.Map.{lookup}
+use Rattle.std.specs.Map.{lookup, update_all}
 use Rattle.std.specs.BTreeMap as trees
 use Rattle.std.specs.BTreeMap.{BTreeMap, is_at}
 use Rattle.std.specs.Global.{Box}
 use Rattle.asp_model.specs.declared.name.FutureName.{FutureName}
-use Rattle.asp_model.specs.Names.{Name, FutureShape, name_cmp, future_cmp}
+use Rattle.asp_model.specs.Names.{Name, FutureShape, name_cmp, future_cmp, same_name}
 use Rattle.asp_model.specs.Parcel.{ParcelShape}
 use Rattle.asp_model.specs.Chase.{Values, chase}
 use Rattle.asp_model.specs.Configuration as model
@@ -21,7 +22,7 @@ use Rattle.future_table.specs.Values.{AreOfCode, values_of}
 use Rattle.law_steps.specs.Reached.{IsThere}
 use Rattle.law_steps.proofs.LinkedLemmas.{acting}
 use Rattle.law_chases.proofs.MapLemmas.{find_same, find_other}
-use Rattle.law_steps.proofs.NameLemmas.{name_total, name_same, name_case, names_apart, is_there}
+use Rattle.law_steps.proofs.NameLemmas.{name_total, name_same, name_case, name_itself, names_apart, is_there}
 use Rattle.law_chases.proofs.FutureLemmas.{no_some, some_is}
 use Rattle.code_table.specs.declared.code.Node.{Node}
 use Rattle.step_reads.specs.Values.{AreClosedValues}
@@ -37,13 +38,13 @@ use Rattle.std.specs.declared.cmp.Ordering.TheVariants.{Equal}
 use Rattle.asp_model.specs.Order.{equal_order}
 use Rattle.def_journals.specs.Journals.{number_of}
 use Rattle.replay_population.specs.Roster.{IsEntered, IsRoster}
-use Rattle.replay_population.specs.Population.{AreActorsOf, AreNamed, IsClosedPopulation, IsPassing, IsPopulation, IsSet, KeepsPassed, at_number, found_in, passed_in, seat_at, unboxed, with_activity, with_poll, with_request, with_value}
+use Rattle.replay_population.specs.Population.{AreActorsOf, IsClosedPopulation, IsPassing, IsPopulation, IsSet, KeepsPassed, at_number, found_in, passed_in, seat_at, unboxed, with_activity, with_poll, with_request, with_value}
 use Rattle.replay_population.proofs.ColumnLemmas.{number_case}
 use Rattle.replay_population.proofs.RosterLemmas.{number_within, one_name, other_number}
-use Rattle.step_ends.specs.Activities.{StandsAt, actor_at}
+use Rattle.step_ends.specs.Activities.{StandsAt}
 
 abbrev pub Named : Type 0
-Named = BTreeMap Name (Box Actor)
+Named = List (Name × Box Actor)
 
 -- What stands at a name
 
@@ -285,15 +286,28 @@ nobody_yet k p roster none f = (
 
 -- All activities are taken out
 
--- those with lesser numbers were taken out, by their names, and the others are still there
+-- who is paired with a name last
+abbrev pub paired_in : Named → Name → Option (Box Actor)
+paired_in = update_all same_name (λ _. None)
+
+abbrev pub named_in : Named → Name → Option Actor
+named_in xs n = unboxed (paired_in xs n)
+
+named_here : (xs : Named) (n : Name) (x : Box Actor) → named_in (xs ++ (n, x) ∷ []) n ≡ Some x.value
+named_here xs n x = ap unboxed (sym (update_all_push same_name (λ _. None) (paired_in xs) xs (n, x) n refl) ∙ update_same same_name (paired_in xs) n (Some x) n (name_itself n))
+
+named_apart : (xs : Named) (n : Name) (x : Box Actor) (m : Name) → m ≢ n → named_in (xs ++ (n, x) ∷ []) m ≡ named_in xs m
+named_apart xs n x m d = ap unboxed (sym (update_all_push same_name (λ _. None) (paired_in xs) xs (n, x) m refl) ∙ update_other same_name (paired_in xs) n (Some x) m (names_apart n m (λ e. d (sym e))))
+
+-- those with lesser numbers were taken out, with their names, and the others are still there
 pub record AreTaken (p q : Population) (t : Named) (i : ℕ) : Type 0 where
   pub same : q ≡ record p { activities = q.activities }
-  pub taken : (n : Name) (k : ℕ) → number_of n p.roster ≡ Some k → k < i → actor_at t.entries n ≡ seat_at p.activities.items k
-  pub left : (n : Name) (k : ℕ) → number_of n p.roster ≡ Some k → i ≤ k → actor_at t.entries n ≡ None
+  pub taken : (n : Name) (k : ℕ) → number_of n p.roster ≡ Some k → k < i → named_in t n ≡ seat_at p.activities.items k
+  pub left : (n : Name) (k : ℕ) → number_of n p.roster ≡ Some k → i ≤ k → named_in t n ≡ None
   pub seats : (k : ℕ) → i ≤ k → seat_at q.activities.items k ≡ seat_at p.activities.items k
-  pub none : (n : Name) → number_of n p.roster ≡ None → actor_at t.entries n ≡ None
+  pub none : (n : Name) → number_of n p.roster ≡ None → named_in t n ≡ None
 
-pub none_taken : (p : Population) (t : Named) → t.entries ≡ [] → AreTaken p p t 0
+pub none_taken : (p : Population) (t : Named) → t ≡ [] → AreTaken p p t 0
 none_taken p t e = record {
   same = refl;
   taken = λ n k has lt. absurd (omega (arith, lt));
@@ -302,8 +316,8 @@ none_taken p t e = record {
   none = λ n has. nobody n;
 }
   where
-    nobody : (n : Name) → actor_at t.entries n ≡ None
-    nobody n = ap (λ (xs : List (Name × Box Actor)). actor_at xs n) e
+    nobody : (n : Name) → named_in t n ≡ None
+    nobody n = ap (λ (xs : Named). named_in xs n) e
 
 -- nobody has the next number
 pub none_more : (p q r : Population) (t : Named) (i : ℕ) (o : Option (Box Actor)) → AreTaken p q t i → unboxed o ≡ seat_at q.activities.items i → o ≡ None → IsSet q i None r → AreTaken p r t (i + 1)
@@ -322,31 +336,28 @@ none_more p q r t i o h told none s = record {
 }
 
 -- somebody has it
-pub one_more : (p q r : Population) (t u : Named) (i : ℕ) (n : Name) (x : Box Actor) → AreTaken p q t i → unboxed (Some x) ≡ seat_at q.activities.items i → IsSet q i None r → number_of n p.roster ≡ Some i → trees.Updates name_cmp t u n (Some x) → AreTaken p r u (i + 1)
-one_more p q r t u i n x h told s has put = record {
+pub one_more : (p q r : Population) (t : Named) (i : ℕ) (n : Name) (x : Box Actor) → AreTaken p q t i → unboxed (Some x) ≡ seat_at q.activities.items i → IsSet q i None r → number_of n p.roster ≡ Some i → AreTaken p r (t ++ (n, x) ∷ []) (i + 1)
+one_more p q r t i n x h told s has = record {
   same = s.same ∙ ap (λ (x : Population). record x { activities = r.activities }) h.same;
   taken = λ m k got lt. ⊎_elim
       (λ less. elsewhere m k got (λ e. omega (arith, less, e)) ∙ h.taken m k got less)
       (λ more.
       let here : k ≡ i = omega (arith, lt, more) in
       let same : m ≡ n = one_name p.roster m n i (got ∙ ap Some here) has in
-      ap (λ (w : Name). actor_at u.entries w) same ∙ ap unboxed put.1 ∙ told ∙ ap (seat_at q.activities.items) (sym here) ∙ h.seats k (omega (arith, more)))
+      ap (named_in (t ++ (n, x) ∷ [])) same ∙ named_here t n x ∙ told ∙ ap (seat_at q.activities.items) (sym here) ∙ h.seats k (omega (arith, more)))
       (cases_lt k i);
   left = λ m k got le. elsewhere m k got (λ e. omega (arith, le, e)) ∙ h.left m k got (omega (arith, le));
   seats = λ k le. s.others k (λ e. omega (arith, le, e)) ∙ h.seats k (omega (arith, le));
-  none = λ m got. apart m (λ e. no_some (sym got ∙ ap (λ (w : Name). number_of w p.roster) e ∙ has)) ∙ h.none m got;
+  none = λ m got. named_apart t n x m (λ e. no_some (sym got ∙ ap (λ (w : Name). number_of w p.roster) e ∙ has)) ∙ h.none m got;
 }
   where
-    apart : (m : Name) → m ≢ n → actor_at u.entries m ≡ actor_at t.entries m
-    apart m d = ap unboxed (put.2 m (names_apart n m (λ e. d (sym e))))
+    elsewhere : (m : Name) (k : ℕ) → number_of m p.roster ≡ Some k → k ≢ i → named_in (t ++ (n, x) ∷ []) m ≡ named_in t m
+    elsewhere m k got d = named_apart t n x m (λ e. d (some_is (sym got ∙ ap (λ (w : Name). number_of w p.roster) e ∙ has)))
 
-    elsewhere : (m : Name) (k : ℕ) → number_of m p.roster ≡ Some k → k ≢ i → actor_at u.entries m ≡ actor_at t.entries m
-    elsewhere m k got d = apart m (λ e. d (some_is (sym got ∙ ap (λ (w : Name). number_of w p.roster) e ∙ has)))
-
-pub all_taken : (p q : Population) (t : Named) (i : ℕ) → AreTaken p q t i → length p.roster ≤ i → AreNamed p t.entries
+pub all_taken : (p q : Population) (t : Named) (i : ℕ) → AreTaken p q t i → length p.roster ≤ i → (n : Name) → named_in t n ≡ found_in p n
 all_taken p q t i h past n = by (number_of n p.roster) refl
   where
-    by : (o : Option ℕ) → number_of n p.roster ≡ o → actor_at t.entries n ≡ at_number o (seat_at p.activities.items)
+    by : (o : Option ℕ) → number_of n p.roster ≡ o → named_in t n ≡ at_number o (seat_at p.activities.items)
     by None e = h.none n e
     by (Some k) e = let lt = number_within p.roster n k e in h.taken n k e (omega (arith, lt, past))
 

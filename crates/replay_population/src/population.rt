@@ -273,13 +273,13 @@ impl Population {
         ensures all { IfOk result (λ t. AreNamed self.old t.entries) }
         ensures futures { self.new.futures ≡ self.old.futures }
     {
-        let mut named = BTreeMap::new(alloc);
+        let mut named = Vec::new(alloc);
         for number in 0..self.roster.len() as u32 {
             if let Some(actor) = self.take(number) {
                 let name = self.roster.name(number).copy(alloc)?;
-                named.insert(name, actor)?;
+                named.push((name, actor))?;
             }
         }
-        Ok(named)
+        BTreeMap::from_iter(alloc, named)
     }
 }
