@@ -223,6 +223,10 @@ impl Notes for Listener {
         false
     }
 
+    fn hears_places(&self) -> bool {
+        false
+    }
+
     fn note(&mut self, note: Note) -> Result<(), AllocError> {
         match note.event {
             Event::Sent(to, label, _) => self.add_arrival(to, note.by, label),
