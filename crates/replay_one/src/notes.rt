@@ -33,8 +33,9 @@ pub struct Note<'a> {
     pub by: &'a ActivityName,
     pub count: u64,
     /// The byte of the text at which it stands before its step, or at the end; none where its term
-    /// is done, or is the call that a service begins with. It is no part of what is told in the
-    /// sense of the definition: what it is the clause `place` of `Population::mark` says.
+    /// is done, or is the call that a service begins with, or where the listener does not hear of
+    /// places. It is no part of what is told in the sense of the definition: what it is the clause
+    /// `place` of `Population::mark` says.
     pub at: Option<usize>,
     pub event: Event<'a>,
 }
@@ -52,6 +53,10 @@ pub trait Notes {
     /// a round.
     fn hears_lines(&self) -> bool
         ensures deaf { result ≡ false → IsDeafToLines (tells self.now) };
+
+    /// Whether it wants to know where in the text an activity stands. Who does not is told of no
+    /// place.
+    fn hears_places(&self) -> bool;
 
     /// It is told one note more.
     fn note(&mut self, note: Note) -> Result<(), AllocError>
@@ -75,6 +80,11 @@ impl Notes for NoNotes {
 
     #[inline]
     fn hears_lines(&self) -> bool {
+        false
+    }
+
+    #[inline]
+    fn hears_places(&self) -> bool {
         false
     }
 

@@ -1,11 +1,12 @@
 //! A listener is told of a step, and where the activities stand in the end.
 
-ghost use Rattle.std.specs.Prelude.{◌≡◌, ◌++◌, IfOk, List, OnOk, Some, drop, map};
+ghost use Rattle.std.specs.Prelude.{◌≡◌, ◌++◌, ◌⊎◌, IfOk, List, None, OnOk, Some, drop, map};
 ghost use Rattle.asp_model.specs.Configuration as model;
 ghost use Rattle.asp_model.specs.Configuration.{Configuration};
 ghost use Rattle.asp_model.specs.Intent.{Effect};
 ghost use Rattle.asp_model.specs.Names.{Name};
 ghost use Rattle.def_journals.specs.Journals.{number_of};
+ghost use Rattle.activity_step.specs.Places.{IsPlaceOf};
 ghost use Rattle.law_steps.specs.Reached.{IsAt};
 ghost use Rattle.step_activity.specs.Effects.{IsGiven};
 ghost use Rattle.replay_population.specs.Population.{IsClosedBySome, IsKnown, IsPopulation};
@@ -45,6 +46,19 @@ fn lines_of(population: &Population, number: u32) -> &[Line]
     }
 }
 
+/// Where an activity stands in the text, if the listener hears of places.
+fn heard_place<N: Notes>(population: &Population, number: u32, notes: &N) -> Option<usize>
+    ensures place { (c : Configuration) (a : model.Activity) (n : Name) →
+        (p : IsPopulation population.now c) → number_of n population.now.roster ≡ Some number →
+        IsAt c n a → (result ≡ None) ⊎ IsPlaceOf p.code a result }
+{
+    if notes.hears_places() {
+        population.mark(number)
+    } else {
+        None
+    }
+}
+
 /// What is known of an activity before its step, where somebody listens. It is told of the service
 /// that the step begins.
 pub fn before<N: Notes>(
@@ -69,7 +83,7 @@ pub fn before<N: Notes>(
     let count = population.count(number);
     let lines = lines_of(population, number).len();
     let wanted = population.wanted(number)?;
-    let at = population.mark(number);
+    let at = heard_place(population, number, notes);
     let by = population.roster.name(number);
     tell_service(by, count, at, wanted, notes)?;
     Ok(Some(Known { count, at, lines }))
@@ -257,8 +271,8 @@ fn tell_place<N: Notes>(
     };
     population.settle(number)?;
     let count = population.count(number);
+    let at = heard_place(population, number, notes);
     let wanted = population.wanted(number)?;
-    let at = population.mark(number);
     let status = population.status(alloc, number)?;
     let by = population.roster.name(number);
     tell_serve(by, count, at, wanted, notes)?;

@@ -1,6 +1,6 @@
 //! What is kept of a replay that is listened to.
 
-ghost use Rattle.std.specs.Prelude.{◌≡◌, ◌∷◌, ◌++◌, [], List, IfNone, IfOk, IfSome, IsSome, IsTrue, None, OnOk};
+ghost use Rattle.std.specs.Prelude.{◌≡◌, ◌∷◌, ◌++◌, ◌-◌, [], List, IfNone, IfOk, IfSome, IsSome, IsTrue, None, OnOk, get_or, length};
 ghost use Rattle.indexmap.specs.IndexMap.{get, keys};
 ghost use Rattle.std.specs.List.Sorted.{IsSorted};
 ghost use Rattle.asp_model.specs.Names.{Name, name_cmp, same_name};
@@ -17,17 +17,15 @@ use replay_one::{Event, Note, Notes};
 use serve_rules::Wanted;
 use std::alloc::{AllocError, Global};
 
-// So many places are near to one, from the one before it on.
-const NEAR: usize = 5;
-
 /// What is kept of each activity, in the order in which they were met.
 #[derive(Drop)]
 pub struct Listener {
     alloc: Global,
     pub heard: IndexMap<ActivityName, Heard>,
-    // The place that was asked for last, and the last one that is not near to it.
-    last: usize,
-    before: usize,
+    // How far the place that was asked for last is ahead of the last number of its name. Those that
+    // one activity created mostly stand in their order, and an activity mostly sends to those that
+    // were created with it.
+    ahead: usize,
 }
 
 /// In the order of the names, as they mostly are.
@@ -58,6 +56,16 @@ fn entries_of(alloc: Global, heard: IndexMap<ActivityName, Heard>) -> Result<Ser
     Ok(Services { entries })
 }
 
+/// The last number of a name; 0 where it has none.
+fn last_number(name: &ActivityName) -> usize
+    ensures last { result ≡ get_or name.now (length name.now - 1) 0 }
+{
+    match name.path().last() {
+        Some(number) => *number as usize,
+        None => 0,
+    }
+}
+
 impl Listener {
     /// Nothing was told. The activities of these logs come first, in their order.
     pub fn new(alloc: Global, lists: &Lists) -> Result<Listener, AllocError>
@@ -70,8 +78,7 @@ impl Listener {
         Ok(Listener {
             alloc,
             heard,
-            last: 0,
-            before: 0,
+            ahead: 0,
         })
     }
 
@@ -92,21 +99,6 @@ impl Listener {
             Some((key, _heard)) => *key == *name,
             None => false,
         }
-    }
-
-    // The place of what is kept of this activity, if that is near to another: activities mostly send
-    // to those that were created with them.
-    fn near(&self, place: usize, name: &ActivityName) -> Option<usize>
-        ensures at { IfSome result (IsKeptAt self.now name.now) }
-    {
-        let first = place.saturating_sub(1);
-        for more in 0..NEAR {
-            let here = first.saturating_add(more);
-            if self.is_at(here, name) {
-                return Some(here);
-            }
-        }
-        None
     }
 
     // The place of what is kept of this activity, if there is one.
@@ -131,14 +123,11 @@ impl Listener {
         Ok(())
     }
 
-    // The place of what is kept of this activity, which is not near to the last one.
+    // The place of what is kept of this activity, by the hash of its name.
     fn find(&mut self, name: &ActivityName) -> Result<usize, AllocError>
         ensures at { IfOk result (IsKeptAt self.new name.now) }
         ensures same { OnOk result ((n : Name) → kept_at self.new n ≡ kept_at self.old n) }
     {
-        if let Some(place) = self.near(self.before, name) {
-            return Ok(place);
-        }
         if let Some(place) = self.place_of(name) {
             return Ok(place);
         }
@@ -154,13 +143,13 @@ impl Listener {
         ensures at { IfOk result (IsKeptAt self.new name.now) }
         ensures same { OnOk result ((n : Name) → kept_at self.new n ≡ kept_at self.old n) }
     {
-        if let Some(place) = self.near(self.last, name) {
-            self.last = place;
+        let number = last_number(name);
+        let place = number.wrapping_add(self.ahead);
+        if self.is_at(place, name) {
             return Ok(place);
         }
         let place = self.find(name)?;
-        self.before = self.last;
-        self.last = place;
+        self.ahead = place.wrapping_sub(number);
         Ok(place)
     }
 
@@ -220,6 +209,10 @@ impl Notes for Listener {
     }
 
     fn hears_lines(&self) -> bool {
+        false
+    }
+
+    fn hears_places(&self) -> bool {
         false
     }
 

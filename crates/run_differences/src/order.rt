@@ -90,6 +90,10 @@ impl Notes for Order {
         false
     }
 
+    fn hears_places(&self) -> bool {
+        false
+    }
+
     fn note(&mut self, note: Note) -> Result<(), AllocError> {
         match note.event {
             Event::Sent(to, label, _) => self.add_request(to, note.by, label),

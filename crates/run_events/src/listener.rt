@@ -43,6 +43,10 @@ impl Notes for Listener {
         true
     }
 
+    fn hears_places(&self) -> bool {
+        true
+    }
+
     fn note(&mut self, note: Note) -> Result<(), AllocError> {
         self.books.tell(note)?;
         match what_of(self.alloc, note.event, self.books.book(note.by))? {

@@ -40,6 +40,10 @@ impl Notes for Kept {
         false
     }
 
+    fn hears_places(&self) -> bool {
+        true
+    }
+
     fn note(&mut self, note: Note) -> Result<(), AllocError> {
         self.receipts.note(note)?;
         self.books.tell(note)

@@ -77,6 +77,10 @@ impl Notes for Receipts {
         false
     }
 
+    fn hears_places(&self) -> bool {
+        true
+    }
+
     fn note(&mut self, note: Note) -> Result<(), AllocError> {
         match note.event {
             Event::Sent(to, label, future) => self.add_target(to, label, future, note.at),

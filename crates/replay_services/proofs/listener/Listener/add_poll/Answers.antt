@@ -8,5 +8,5 @@ pub returns : goal.returns
 returns c =
     let old = c.know.new.self in
     let place = c.in_ok-place.place in
-    written c.args.by.now place (λ h g. g ≡ with_poll h) c.args.self.now old (record { alloc = old.alloc; last = old.last; before = old.before; heard = with_value_at old.heard place c.add_poll.new.self }) c.in-Some.heard.now c.add_poll.new.self
+    written c.args.by.now place (λ h g. g ≡ with_poll h) c.args.self.now old (record { alloc = old.alloc; ahead = old.ahead; heard = with_value_at old.heard place c.add_poll.new.self }) c.in-Some.heard.now c.add_poll.new.self
     c.in_ok-place.ensures.same c.in_ok-place.ensures.at c.in-Some.ensures.unique c.in-Some.ensures.value refl c.add_poll.ensures

@@ -11,5 +11,5 @@ returns c =
     let old = c.know.new.self in
     let place = c.in_ok-place.place in
     on_ok_weaker c.add_set.result
-    (written c.args.by.now place (IsWithSet (wanted_labels c.args.wanted)) c.args.self.now old (record { alloc = old.alloc; last = old.last; before = old.before; heard = with_value_at old.heard place c.add_set.new.self }) c.in-Some.heard.now c.add_set.new.self
+    (written c.args.by.now place (IsWithSet (wanted_labels c.args.wanted)) c.args.self.now old (record { alloc = old.alloc; ahead = old.ahead; heard = with_value_at old.heard place c.add_set.new.self }) c.in-Some.heard.now c.add_set.new.self
     c.in_ok-place.ensures.same c.in_ok-place.ensures.at c.in-Some.ensures.unique c.in-Some.ensures.value refl) c.add_set.ensures
