@@ -324,6 +324,10 @@ def show_bytes(folder):
     ):
         small, large = (once(PROGRAM, [folder.text(text(n)), *MOST]) for n in (size, 2 * size))
         print(f"{name}: {(large.peak - small.peak) * 1024 / size:,.0f} bytes", flush=True)
+    for strategy in ("forward", "message"):
+        words = [folder.text(wide(20_000)), *MOST, "--strategy"]
+        lazy, other = (once(PROGRAM, [*words, name]) for name in ("lazy", strategy))
+        print(f"an edge under {strategy}: {(other.peak - lazy.peak) * 1024 / 20_000:,.0f} bytes", flush=True)
 
 
 def show_reports(folder):

@@ -3,11 +3,11 @@
 
     bench/refusals.py [MOST]     at most so many requests of each run; all with no MOST
 
-It takes the program that `rt ci` built, or the one that ASP names. A small library, which the C compiler makes here,
-counts what the program asks of malloc and its kin, from the first request of its `main` on, and refuses the one
-whose number is asked for: alone, or with all after it. A run has to end within 60 seconds, with its own status and
-report, or with status 8, nothing on standard output, and on standard error `asp: no memory` or nothing. Beside that,
-a thousand pairs run under a falling limit of address space.
+It takes the programs that `rt ci` built, or those that ASP, ASP_EXPLAIN and ASP_OUTCOMES name. A small library, which
+the C compiler makes here, counts what the program asks of malloc and its kin and of pthread_create, from the first
+request of its `main` on, and refuses the one whose number is asked for: alone, or with all after it. A run has
+to end within 60 seconds, with its own status and output, or with status 8, nothing on standard output, and on standard
+error `NAME: no memory` or nothing. Beside that, a thousand pairs run under a falling limit of address space.
 It prints how many requests of each run were refused and how each ended; its status is 1 if one ended otherwise.
 """
 import collections
@@ -17,16 +17,22 @@ import subprocess
 import sys
 import tempfile
 from concurrent.futures import ThreadPoolExecutor
+from typing import NamedTuple
 
 HERE = os.path.dirname(os.path.dirname(os.path.abspath(__file__)))
-PROGRAM = os.environ.get("ASP", os.path.join(HERE, "crates/asp/out/asp"))
+PROGRAMS = {
+    name: os.environ.get(name.upper(), os.path.join(HERE, "crates", name, "out", name))
+    for name in ("asp", "asp_explain", "asp_outcomes")
+}
 MOST_SECONDS = 60
 MEGABYTE = 1 << 20
 
 REFUSING = r"""
 #define _GNU_SOURCE
+#include <dlfcn.h>
 #include <errno.h>
 #include <fcntl.h>
+#include <pthread.h>
 #include <stdatomic.h>
 #include <stdlib.h>
 #include <sys/mman.h>
@@ -38,14 +44,16 @@ extern void *__libc_memalign(size_t, size_t);
 
 static atomic_long here, *asked = &here;
 static long first = -1, last = -1;
+static int (*create)(pthread_t *, const pthread_attr_t *, void *(*)(void *), void *);
 
 __attribute__((constructor)) static void begin(void) {
     const char *from = getenv("REFUSE_FROM"), *to = getenv("REFUSE_TO"), *count = getenv("REFUSE_COUNT");
     if (from) first = atol(from);
     if (to) last = atol(to);
-    atomic_store(&here, 0);
+    create = dlsym(RTLD_NEXT, "pthread_create");
     int file = count ? open(count, O_RDWR) : -1;
     if (file >= 0) asked = mmap(NULL, sizeof here, PROT_READ | PROT_WRITE, MAP_SHARED, file, 0);
+    atomic_store(asked, 0);
 }
 
 static int refused(void) {
@@ -63,28 +71,56 @@ int posix_memalign(void **to, size_t align, size_t size) {
     *to = __libc_memalign(align, size);
     return *to ? 0 : ENOMEM;
 }
+int pthread_create(pthread_t *to, const pthread_attr_t *with, void *(*call)(void *), void *of) {
+    return refused() ? EAGAIN : create(to, with, call, of);
+}
 """
 
-# by name: a program, and the words behind its file
-RUNS = {
-    "a sum": ("print(1 + 2)", []),
-    "a request and its answer": ("let a = active([; inc(s, x) = x + 1]) in print(a.inc(41))", []),
-    "a future that passes unread": (
-        "let q = active([; slow(s, v) = v * 10]) in let z = active([; take(s, v) = print(v + 1)]) in "
-        "let y = active([; pass(s, v) = z.take(v)]) in let x = active([; hand(s, v) = y.pass(v)]) in "
-        "x.hand(q.slow(4))",
-        ["--strategy", "forward"],
-    ),
-    "groups": (
-        "let w = [; sq(s, v) = v * v] in let g = group(active(w), active(w), active(w)) in "
-        "let r = waitall(g.sq(5)) in print(member(r, 0) + member(r, 1) + member(r, 2)); "
-        "print(size(scatter(g, sq, group(1, 2, 3)))); scatter(g, sq, group(1, 2))",
-        [],
-    ),
-}
+SUM = "print(1 + 2)"
+ANSWER = "let a = active([; inc(s, x) = x + 1]) in print(a.inc(41))"
+PASSES = (
+    "let q = active([; slow(s, v) = v * 10]) in let z = active([; take(s, v) = print(v + 1)]) in "
+    "let y = active([; pass(s, v) = z.take(v)]) in let x = active([; hand(s, v) = y.pass(v)]) in "
+    "x.hand(q.slow(4))"
+)
+GROUPS = (
+    "let w = [; sq(s, v) = v * v] in let g = group(active(w), active(w), active(w)) in "
+    "let r = waitall(g.sq(5)) in print(member(r, 0) + member(r, 1) + member(r, 2)); "
+    "print(size(scatter(g, sq, group(1, 2, 3)))); scatter(g, sq, group(1, 2))"
+)
+BLOCKED = "let a = active([; m(s) = serve(n), n(s) = 0]) in print(a.m())"
 
 
-def run(words, env=None, limit=None):
+class Run(NamedTuple):
+    name: str
+    text: str  # of the program a.asp
+    words: list  # behind a.asp; r is its report, and t its trace
+    program: str = "asp"
+    workers: tuple = ()  # the numbers of workers that it is run by, if it takes workers
+
+
+RUNS = [
+    Run("a sum", SUM, [], workers=(1, 4)),
+    Run("a request and its answer", ANSWER, [], workers=(1, 4)),
+    Run("a future that passes unread, forward", PASSES, ["--strategy", "forward"], workers=(1, 4)),
+    Run("a future that passes unread, message", PASSES, ["--strategy", "message"], workers=(1, 4)),
+    Run("groups", GROUPS, [], workers=(1, 4)),
+    Run("states", GROUPS, ["--state", "4"], workers=(1,)),
+    Run("a check", GROUPS, ["--check"]),
+    Run("a ruling", ANSWER, ["--determinate"], workers=(1,)),
+    Run("a replay", GROUPS, ["--replay", "r"]),
+    Run("two reports compared", ANSWER, ["--replay", "r", "--same", "r"]),
+    Run("a journal", PASSES, ["--journal"], workers=(1,)),
+    Run("a trace", PASSES, ["--trace", "t"]),
+    Run("a fault explained", "print(1 + y)", [], "asp_explain"),
+    Run("a run explained", BLOCKED, ["r"], "asp_explain"),
+    Run("events", ANSWER, ["r", "--events"], "asp_explain"),
+    Run("a picture", ANSWER, ["r", "--picture"], "asp_explain"),
+    Run("outcomes", ANSWER, [], "asp_outcomes"),
+]
+
+
+def run(folder, program, words, env=None, limit=None):
     """Status, standard output and standard error; the status is None after a minute."""
 
     def narrow():
@@ -93,11 +129,12 @@ def run(words, env=None, limit=None):
 
     try:
         ended = subprocess.run(
-            [PROGRAM, *words],
+            [PROGRAMS[program], *words],
             stdin=subprocess.DEVNULL,
             capture_output=True,
             timeout=MOST_SECONDS,
             env={**os.environ, **(env or {})},
+            cwd=folder,
             preexec_fn=narrow,
             check=False,
         )
@@ -106,34 +143,37 @@ def run(words, env=None, limit=None):
     return ended.returncode, ended.stdout, ended.stderr
 
 
-def is_right(got, own):
+def is_right(program, got, own):
     """Whether the run ended as it does with memory, or said that it had none and nothing else."""
-    return got == own or got in ((8, b"", b"asp: no memory\n"), (8, b"", b""))
+    message = f"{program.replace('_', '-')}: no memory\n".encode()
+    return got == own or got in ((8, b"", message), (8, b"", b""))
 
 
-def requests(words, env, folder):
+def requests(folder, program, words, env):
     count = os.path.join(folder, "count")
     with open(count, "wb") as file:
         file.write(bytes(8))
-    run(words, {**env, "REFUSE_COUNT": count})
+    run(folder, program, words, {**env, "REFUSE_COUNT": count})
     with open(count, "rb") as file:
         return int.from_bytes(file.read(), sys.byteorder)
 
 
-def refuse(name, words, library, folder, most):
-    """How often a run ended in which way, where each of its requests is refused in turn."""
-    own = run(words)
-    env = {"LD_PRELOAD": library}
-    count = requests(words, env, folder)
+def refuse(folder, name, program, words, most):
+    """How often a run ended in another way, where each of its requests is refused in turn."""
+    own = run(folder, program, words)
+    env = {"LD_PRELOAD": os.path.join(folder, "refusing.so")}
+    count = requests(folder, program, words, env)
     tried = min(count + 8, most)
     jobs = [(n, to) for n in range(1, tried + 1) for to in (n, 1 << 40)]
     ends = collections.Counter()
     wrong = []
     with ThreadPoolExecutor(os.cpu_count()) as pool:
-        asked = lambda job: run(words, {**env, "REFUSE_FROM": str(job[0]), "REFUSE_TO": str(job[1])})
+        asked = lambda job: run(
+            folder, program, words, {**env, "REFUSE_FROM": str(job[0]), "REFUSE_TO": str(job[1])}
+        )
         for job, got in zip(jobs, pool.map(asked, jobs)):
             ends[got[0]] += 1
-            if not is_right(got, own):
+            if not is_right(program, got, own):
                 wrong.append((job, got))
     told = ", ".join(f"status {status} {n} times" for status, n in sorted(ends.items(), key=str))
     print(f"{name}: {count} requests, {tried} refused, each alone and with all after it: {told}", flush=True)
@@ -142,18 +182,18 @@ def refuse(name, words, library, folder, most):
     return len(wrong)
 
 
-def narrow():
+def narrow(folder):
     """A thousand pairs under a limit of address space that falls by a tenth each time."""
     words = ["--make", "1000", "--budget", "10000000"]
-    own = run(words)
+    own = run(folder, "asp", words)
     limit, wrong, ends = 400 * MEGABYTE, 0, collections.Counter()
     while limit > 4 * MEGABYTE:
-        got = run(words, limit=limit)
+        got = run(folder, "asp", words, limit=limit)
         # below this the system cannot start the program
         if got[0] in (127, 126) or got[0] is not None and got[0] < 0 and not got[1] and not ends[8]:
             break
         ends[got[0]] += 1
-        if not is_right(got, own):
+        if not is_right("asp", got, own):
             wrong += 1
             print(f"  wrong at {limit // MEGABYTE} MB: {got[0]} {got[2][:200]}", flush=True)
         limit = limit * 9 // 10
@@ -162,22 +202,36 @@ def narrow():
     return wrong
 
 
+def keep(folder, name, text):
+    with open(os.path.join(folder, name), "wb") as file:
+        file.write(text)
+
+
+def refuse_all(folder, most):
+    """How many runs ended in another way."""
+    wrong = 0
+    for one in RUNS:
+        keep(folder, "a.asp", one.text.encode())
+        if one.words and one.words[0] in ("r", "--replay"):
+            keep(folder, "r", run(folder, "asp", ["a.asp"])[1])
+        if "--trace" in one.words:
+            keep(folder, "t", run(folder, "asp", ["a.asp", "--journal"])[1])
+        words = ["a.asp", *one.words]
+        if not one.workers:
+            wrong += refuse(folder, one.name, one.program, words, most)
+        for workers in one.workers:
+            more = ["--workers", str(workers)]
+            wrong += refuse(folder, f"{one.name}, {workers} workers", one.program, [*words, *more], most)
+    return wrong
+
+
 def main():
     most = int(sys.argv[1]) if len(sys.argv) > 1 else 1 << 40
     with tempfile.TemporaryDirectory() as folder:
-        source, library = os.path.join(folder, "refusing.c"), os.path.join(folder, "refusing.so")
-        with open(source, "w", encoding="ascii") as file:
-            file.write(REFUSING)
-        subprocess.run(["cc", "-O1", "-shared", "-fPIC", "-o", library, source], check=True)
-        wrong = 0
-        for name, (text, more) in RUNS.items():
-            path = os.path.join(folder, "a.asp")
-            with open(path, "w", encoding="ascii") as file:
-                file.write(text)
-            for workers in ("1", "4"):
-                words = [path, "--workers", workers, *more]
-                wrong += refuse(f"{name}, {workers} workers", words, library, folder, most)
-        wrong += narrow()
+        keep(folder, "refusing.c", REFUSING.encode())
+        library = ["-o", "refusing.so", "refusing.c"]
+        subprocess.run(["cc", "-O1", "-shared", "-fPIC", *library], check=True, cwd=folder)
+        wrong = refuse_all(folder, most) + narrow(folder)
     sys.exit(1 if wrong else 0)
 
 
