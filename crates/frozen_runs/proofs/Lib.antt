@@ -1,0 +1,4 @@
+pub mod CellLemmas
+pub mod LineLemmas
+pub mod RedexLemmas
+pub mod ServiceLemmas

@@ -1,0 +1,8 @@
+use Rattle.std.proofs.Common.{rules, tests}
+use Rattle.std.proofs.lemmas.Iterator.{YieldsList-from_slice}
+use Rattle.std.proofs.lemmas.Iterator.Search.{all_from_yields_List}
+use Rattle.frozen_runs.specs.Redexes.{is_bare_field}
+use Rattle.frozen_runs.proofs.redexes.have_places.Goals as goal
+
+pub returns : goal.returns
+returns c = record { bare = all_from_yields_List is_bare_field _ _ _ c.all.ensures.ran (YieldsList-from_slice c.args.fields.now cc) (λ x b q k. search (rules, tests)) }
