@@ -1,5 +1,5 @@
 -- The text of a remark: its place and what it says, and then its line with a caret below the place.
-use Rattle.std.specs.Prelude.{ℕ, ◌==◌, nat_le, ◌&&◌, ◌||◌, if◌then◌else◌}
+use Rattle.std.specs.Prelude.{ℕ, Bool, true, false, ◌==◌, nat_le, ◌&&◌, ◌||◌, if◌then◌else◌}
 use Rattle.std.specs.Prelude.{List, [], ◌++◌, map, Option, Some, None, codes}
 use Rattle.std.specs.Fmt.{decimal}
 use Rattle.explain.specs.declared.remark.Severity.{Severity}
@@ -24,6 +24,11 @@ shown b = if b == 9 || (nat_le 32 b && nat_le b 126) then b else if b == 13 then
 -- the blank below a byte
 abbrev pub blank : ℕ → ℕ
 blank b = if b == 9 then 9 else 32
+
+-- a byte as it is shown, or the blank below it
+abbrev pub glyph : Bool → ℕ → ℕ
+glyph true = blank
+glyph false = shown
 
 -- the line, and the caret below the place
 abbrev pub excerpt : List ℕ → List ℕ → List ℕ

@@ -5,74 +5,133 @@ ghost use Rattle.std.specs.Prelude.{◌≤◌, length};
 use std::alloc::{AllocError, Global};
 use syntax_tokens::scan;
 
-/// The texts of the token at a place and of the two before it, empty where there is none or no
-/// short one, and whether the place is the end.
+/// Where a token stands, from its first byte to the place behind it. Nothing stands where these are
+/// the same.
 #[derive(Clone, Copy)]
-pub struct Around<'a> {
-    pub first: &'a str,
-    pub before: &'a str,
-    pub here: &'a str,
+pub struct Span {
+    pub from: usize,
+    pub to: usize,
+}
+
+/// The token at a place and the two before it, of which one that is too long is not shown, and
+/// whether the place is the end.
+#[derive(Clone, Copy)]
+pub struct Around {
+    pub first: Span,
+    pub before: Span,
+    pub here: Span,
     pub is_end: bool,
 }
 
 // A token that is longer than this is shown by none of its bytes.
 const MOST_SHOWN: usize = 60;
 
+const NOTHING: Span = Span { from: 0, to: 0 };
+
 /// The tokens round a place at which a token stands, or none.
-pub fn tokens_round<'a>(
-    alloc: Global,
-    bytes: &'a [u8],
-    at: usize,
-) -> Result<Around<'a>, AllocError> {
-    let mut found = Around {
-        first: "",
-        before: "",
-        here: "",
-        is_end: at >= bytes.len(),
-    };
+pub fn tokens_round(alloc: Global, bytes: &[u8], at: usize) -> Result<Around, AllocError> {
+    let mut first = NOTHING;
+    let mut before = NOTHING;
     let mut after = 0;
     while after < at && after < bytes.len() {
-        let token = scan(alloc, bytes, after)?;
-        if token.at >= at || token.after <= after {
+        let token = next(alloc, bytes, after)?;
+        if token.from >= at || token.to <= after {
             break;
         }
-        found.first = found.before;
-        found.before = part(bytes, token.at, token.after);
-        after = token.after;
+        first = before;
+        before = if_short(token);
+        after = token.to;
     }
-    found.here = token_at(alloc, bytes, at)?;
-    Ok(found)
+    Ok(Around {
+        first,
+        before,
+        here: token_at(alloc, bytes, at)?,
+        is_end: at >= bytes.len(),
+    })
+}
+
+// Where the next token from a place on stands.
+fn next(alloc: Global, bytes: &[u8], at: usize) -> Result<Span, AllocError>
+    requires within { at ≤ length bytes.now }
+{
+    let token = scan(alloc, bytes, at)?;
+    Ok(Span {
+        from: token.at,
+        to: token.after,
+    })
 }
 
 // The token that begins at a place; a byte that begins none alone.
-fn token_at<'a>(alloc: Global, bytes: &'a [u8], at: usize) -> Result<&'a str, AllocError> {
+fn token_at(alloc: Global, bytes: &[u8], at: usize) -> Result<Span, AllocError> {
     if at >= bytes.len() {
-        return Ok("");
+        return Ok(NOTHING);
     }
-    let token = scan(alloc, bytes, at)?;
-    if token.at == at && at < token.after {
-        Ok(part(bytes, at, token.after))
+    let token = next(alloc, bytes, at)?;
+    if token.from == at && at < token.to {
+        Ok(if_short(token))
     } else {
-        Ok(part(bytes, at, at + 1))
+        Ok(Span {
+            from: at,
+            to: at + 1,
+        })
     }
 }
 
-// These bytes, where they are a short text.
-fn part(bytes: &[u8], from: usize, to: usize) -> &str {
-    if from <= to && to <= bytes.len() && to - from <= MOST_SHOWN {
-        std::str::from_utf8(&bytes[from..to]).unwrap_or("")
+fn if_short(token: Span) -> Span {
+    if token.to.abs_diff(token.from) <= MOST_SHOWN {
+        token
+    } else {
+        NOTHING
+    }
+}
+
+/// What stands there.
+pub fn text(bytes: &[u8], span: Span) -> &str {
+    if span.from <= span.to && span.to <= bytes.len() {
+        std::str::from_utf8(&bytes[span.from..span.to]).unwrap_or("")
     } else {
         ""
     }
 }
 
-/// The name that begins at a place, as far as 60 bytes.
+/// Whether this stands there.
+pub fn is(bytes: &[u8], span: Span, word: &str) -> bool {
+    text(bytes, span) == word
+}
+
+/// The first byte of what stands there, or 0.
+pub fn first_byte(bytes: &[u8], span: Span) -> u8 {
+    if span.from < span.to && span.from < bytes.len() {
+        bytes[span.from]
+    } else {
+        0
+    }
+}
+
+/// The name that begins at a place.
 pub fn name_at(bytes: &[u8], at: usize) -> &str {
+    text(
+        bytes,
+        Span {
+            from: at,
+            to: name_end(bytes, at),
+        },
+    )
+}
+
+/// The name that begins at a place, as far as 60 bytes.
+pub fn short_name_at(bytes: &[u8], at: usize) -> &str {
+    let to = name_end(bytes, at).min(at.saturating_add(MOST_SHOWN));
+    text(bytes, Span { from: at, to })
+}
+
+// The place behind the name that begins at a place.
+fn name_end(bytes: &[u8], at: usize) -> usize {
     let mut end = at;
     while end < bytes.len() && is_inner(bytes[end]) {
         end += 1;
     }
-    part(bytes, at, end.min(at.saturating_add(MOST_SHOWN)))
+    end
 }
 
 /// A byte of a name.

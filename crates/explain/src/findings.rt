@@ -8,20 +8,20 @@ ghost use Rattle.explain.specs.declared.findings.Fault.{Fault};
 ghost use Rattle.explain.specs.Found.{IsCheckFault, IsFaultless, IsFound, IsOnlyProgram, IsShownFirst, IsSyntaxFault};
 ghost use Rattle.explain.specs.declared.remark.Severity.TheVariants.{Error};
 
-use crate::around::{name_at, tokens_round};
+use crate::around::{name_at, short_name_at, tokens_round};
 use crate::cures::{check_cure, syntax_cure};
-use crate::other::{faulty, other_place};
+use crate::other::{Seen, seen_at};
 use crate::remark::{Remark, Severity};
 use crate::sentences::{check_sentence, other_sentence, syntax_sentence};
-use crate::uses::{LabelUse, Role, uses_in};
+use crate::uses::{LabelUse, uses_in};
 use crate::warnings::warnings_of;
 use asp_check::{CheckError, CheckFault, CheckKind, Checked, check};
-use asp_model::{Program, Term};
+use asp_model::Program;
 use asp_syntax::{SyntaxError, SyntaxFault, read_program};
 use std::alloc::{AllocError, Global};
 
 /// Why a text is refused.
-#[derive(Clone, Copy, Debug, PartialEq, Eq)]
+#[derive(Clone, Copy)]
 pub enum Fault {
     /// It is no program.
     Syntax(SyntaxFault),
@@ -60,8 +60,8 @@ fn of_syntax(alloc: Global, bytes: &[u8], fault: SyntaxFault) -> Result<Findings
     ensures first { IfOk result (λ f. IsShownFirst f.fault f.remarks.items) }
 {
     let around = tokens_round(alloc, bytes, fault.at)?;
-    let sentence = syntax_sentence(alloc, fault.kind, &around)?;
-    let cure = syntax_cure(fault.kind, &around);
+    let cure = syntax_cure(fault.kind, bytes, &around);
+    let sentence = syntax_sentence(alloc, fault.kind, bytes, &around)?;
     let remark = error_at(fault.at, sentence, cure);
     Ok(Findings {
         fault: Some(Fault::Syntax(fault)),
@@ -98,7 +98,11 @@ fn of_program(alloc: Global, bytes: &[u8], program: Program) -> Result<Findings,
     ensures first { IfOk result (λ f. IsShownFirst f.fault f.remarks.items) }
 {
     match check(alloc, program) {
-        Ok(checked) => of_checked(alloc, bytes, &checked),
+        Ok(checked) => {
+            let found = of_checked(alloc, bytes, &checked);
+            drop(checked);
+            found
+        }
         Err(CheckError::Fault(fault)) => of_unchecked(alloc, bytes, fault),
         Err(CheckError::Memory) => Err(AllocError),
     }
@@ -110,7 +114,8 @@ fn of_checked(alloc: Global, bytes: &[u8], checked: &Checked) -> Result<Findings
     ensures found { IfOk result (λ f. IsFound bytes.now f.fault) }
     ensures first { IfOk result (λ f. IsShownFirst f.fault f.remarks.items) }
 {
-    let warnings = warnings_of(alloc, checked.program())?;
+    let uses = uses_in(alloc, &checked.program().root)?;
+    let warnings = warnings_of(alloc, bytes, &uses)?;
     Ok(Findings {
         fault: None,
         remarks: warnings.remarks,
@@ -126,8 +131,9 @@ fn of_unchecked(alloc: Global, bytes: &[u8], fault: CheckFault) -> Result<Findin
 {
     match read_program(alloc, bytes) {
         Ok(program) => {
-            let root = Box::new(alloc, program.root)?;
-            of_check(alloc, bytes, &*root, fault)
+            let seen = seen_at(alloc, bytes, &program.root, fault);
+            drop(program);
+            of_check(alloc, bytes, fault, seen?)
         }
         Err(SyntaxError::Fault(_)) => unreachable!(),
         Err(SyntaxError::Memory) => Err(AllocError),
@@ -137,21 +143,20 @@ fn of_unchecked(alloc: Global, bytes: &[u8], fault: CheckFault) -> Result<Findin
 fn of_check(
     alloc: Global,
     bytes: &[u8],
-    root: &Term,
     fault: CheckFault,
+    seen: Seen,
 ) -> Result<Findings, AllocError>
     requires fault { IsCheckFault bytes.now fault }
     ensures found { IfOk result (λ f. IsFound bytes.now f.fault) }
     ensures first { IfOk result (λ f. IsShownFirst f.fault f.remarks.items) }
 {
-    let uses = uses_in(alloc, root)?;
-    let name = name_at(bytes, fault.at);
-    let sentence = check_sentence(alloc, fault.kind, name, faulty(&uses, fault))?;
-    let cure = check_cure(fault.kind, name, is_field(&uses, name));
+    let name = short_name_at(bytes, fault.at);
+    let cure = check_cure(fault.kind, name, seen.is_field);
+    let sentence = check_sentence(alloc, fault.kind, name, seen.count)?;
     let remarks = one(alloc, error_at(fault.at, sentence, cure))?;
     Ok(Findings {
         fault: Some(Fault::Check(fault)),
-        remarks: with_other(alloc, remarks, fault.kind, other_place(&uses, fault))?,
+        remarks: with_other(alloc, bytes, remarks, fault.kind, seen.other)?,
         warnings: 0,
     })
 }
@@ -159,16 +164,17 @@ fn of_check(
 // The remarks, and the other place of a fault behind them.
 fn with_other(
     alloc: Global,
+    bytes: &[u8],
     remarks: Vec<Remark>,
     kind: CheckKind,
-    other: Option<LabelUse<'_>>,
+    other: Option<LabelUse>,
 ) -> Result<Vec<Remark>, AllocError>
     ensures { (f : Option Fault) → IsShownFirst f remarks.items
         → IfOk result (λ v. IsShownFirst f v.items) }
 {
     let mut remarks = remarks;
     if let Some(other) = other {
-        let sentence = other_sentence(alloc, kind, &other)?;
+        let sentence = other_sentence(alloc, kind, name_at(bytes, other.at), other.count)?;
         remarks.push(Remark {
             at: other.at,
             severity: Severity::Note,
@@ -177,14 +183,4 @@ fn with_other(
         })?;
     }
     Ok(remarks)
-}
-
-// Whether some object has a field of this name.
-fn is_field(uses: &[LabelUse<'_>], name: &str) -> bool {
-    for found in uses {
-        if found.role == Role::Field && found.label == name {
-            return true;
-        }
-    }
-    false
 }

@@ -1,10 +1,61 @@
-//! The other place of a fault.
+//! What a program has at the place of a fault, and the other place of the fault.
 
-use crate::uses::{LabelUse, Role};
+use crate::around::{name_at, short_name_at};
+use crate::uses::{LabelUse, Role, uses_in};
 use asp_check::{CheckFault, CheckKind};
+use asp_model::Term;
+use std::alloc::{AllocError, Global};
 
-/// The label or name at the place of a fault.
-pub fn faulty<'a>(uses: &[LabelUse<'a>], fault: CheckFault) -> Option<LabelUse<'a>> {
+/// What a program has at the place of a fault.
+#[derive(Clone, Copy)]
+pub struct Seen {
+    /// How many parameters or arguments the label has there.
+    pub count: usize,
+    /// Whether some object has a field of the name there.
+    pub is_field: bool,
+    /// The place that the label or name is at odds with, which stands before it.
+    pub other: Option<LabelUse>,
+}
+
+/// What the program with this term has there.
+pub fn seen_at(
+    alloc: Global,
+    bytes: &[u8],
+    root: &Term,
+    fault: CheckFault,
+) -> Result<Seen, AllocError> {
+    let uses = uses_in(alloc, root)?;
+    Ok(seen_in(bytes, &uses, fault))
+}
+
+fn seen_in(bytes: &[u8], uses: &[LabelUse], fault: CheckFault) -> Seen {
+    let is_field = has_field(bytes, uses, short_name_at(bytes, fault.at));
+    match faulty(uses, fault) {
+        Some(here) => Seen {
+            count: here.count,
+            is_field,
+            other: other_place(bytes, uses, fault.kind, here),
+        },
+        None => Seen {
+            count: 0,
+            is_field,
+            other: None,
+        },
+    }
+}
+
+// Whether some object has a field of this name.
+fn has_field(bytes: &[u8], uses: &[LabelUse], name: &str) -> bool {
+    for found in uses {
+        if matches!(found.role, Role::Field) && name_at(bytes, found.at) == name {
+            return true;
+        }
+    }
+    false
+}
+
+// The label or name at the place of a fault.
+fn faulty(uses: &[LabelUse], fault: CheckFault) -> Option<LabelUse> {
     for found in uses {
         if found.at == fault.at && is_of(fault.kind, found.role) {
             return Some(*found);
@@ -13,14 +64,16 @@ pub fn faulty<'a>(uses: &[LabelUse<'a>], fault: CheckFault) -> Option<LabelUse<'
     None
 }
 
-/// The place that the label or name at a fault is at odds with, which stands before it.
-pub fn other_place<'a>(uses: &[LabelUse<'a>], fault: CheckFault) -> Option<LabelUse<'a>> {
-    let here = match faulty(uses, fault) {
-        Some(here) => here,
-        None => return None,
-    };
+// The first place that the label or name here is at odds with.
+fn other_place(
+    bytes: &[u8],
+    uses: &[LabelUse],
+    kind: CheckKind,
+    here: LabelUse,
+) -> Option<LabelUse> {
+    let name = name_at(bytes, here.at);
     for other in uses {
-        if is_at_odds(fault.kind, &here, other) {
+        if is_at_odds(kind, here, *other) && name_at(bytes, other.at) == name {
             return Some(*other);
         }
     }
@@ -31,17 +84,17 @@ pub fn other_place<'a>(uses: &[LabelUse<'a>], fault: CheckFault) -> Option<Label
 fn is_of(kind: CheckKind, role: Role) -> bool {
     match kind {
         CheckKind::Unbound => false,
-        CheckKind::DoubleLabel => role == Role::Field || role == Role::Method,
-        CheckKind::DoubleParameter => role == Role::Parameter,
+        CheckKind::DoubleLabel => matches!(role, Role::Field | Role::Method),
+        CheckKind::DoubleParameter => matches!(role, Role::Parameter),
         CheckKind::TooManyParameters | CheckKind::Arity | CheckKind::ServiceArity => {
-            role == Role::Method || role == Role::Called
+            matches!(role, Role::Method | Role::Called)
         }
     }
 }
 
-// Whether the other one is why there is a fault here.
-fn is_at_odds(kind: CheckKind, here: &LabelUse<'_>, other: &LabelUse<'_>) -> bool {
-    if !is_of(kind, other.role) || other.label != here.label || other.at == here.at {
+// Whether the other one is why there is a fault here, if it has the same name.
+fn is_at_odds(kind: CheckKind, here: LabelUse, other: LabelUse) -> bool {
+    if !is_of(kind, other.role) || other.at == here.at {
         return false;
     }
     match kind {

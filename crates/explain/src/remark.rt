@@ -1,7 +1,7 @@
 //! What is told of a place.
 
 /// How bad it is.
-#[derive(Clone, Copy, Debug, PartialEq, Eq)]
+#[derive(Clone, Copy)]
 pub enum Severity {
     /// The program is refused for it.
     Error,

@@ -1,108 +1,111 @@
 //! What a fault is, in a sentence.
 
-use crate::around::Around;
-use crate::uses::LabelUse;
+use crate::around::{Around, first_byte, text};
 use asp_check::CheckKind;
 use asp_syntax::SyntaxKind;
 use std::alloc::{AllocError, Global};
+
+// What stands before a name and behind it in a sentence. Where nothing stands behind, the sentence
+// has no name.
+type Words = (&'static str, &'static str);
+
+/// A sentence with a name in it.
+pub fn named(alloc: Global, before: &str, name: &str, behind: &str) -> Result<String, AllocError> {
+    format!(in alloc; "{before}`{name}{behind}")
+}
 
 /// What is wrong at a token.
 pub fn syntax_sentence(
     alloc: Global,
     kind: SyntaxKind,
-    around: &Around<'_>,
+    bytes: &[u8],
+    around: &Around,
 ) -> Result<String, AllocError> {
+    let (before, behind) = syntax_words(kind, first_byte(bytes, around.here), around.is_end);
+    if behind.is_empty() {
+        String::from_str(alloc, before)
+    } else {
+        named(alloc, before, text(bytes, around.here), behind)
+    }
+}
+
+// By the kind, by the byte that the token begins with, and by whether the place is the end.
+fn syntax_words(kind: SyntaxKind, byte: u8, is_end: bool) -> Words {
     match kind {
-        SyntaxKind::BadByte => bad_byte(alloc, around),
-        SyntaxKind::BadNumber => {
-            String::from_str(alloc, "the greatest number is 9223372036854775807")
-        }
-        SyntaxKind::Unexpected => unexpected(alloc, around),
-        SyntaxKind::TooDeep => String::from_str(alloc, "more than 200 levels are open here"),
-        SyntaxKind::NotAField => {
-            String::from_str(alloc, "what stands on the left of this `:=` is no field")
-        }
+        SyntaxKind::BadByte => byte_words(byte, is_end),
+        SyntaxKind::BadNumber => ("the greatest number is 9223372036854775807", ""),
+        SyntaxKind::Unexpected => token_words(byte, is_end),
+        SyntaxKind::TooDeep => ("more than 200 levels are open here", ""),
+        SyntaxKind::NotAField => ("what stands on the left of this `:=` is no field", ""),
     }
 }
 
-fn bad_byte(alloc: Global, around: &Around<'_>) -> Result<String, AllocError> {
-    let here = around.here;
-    if around.is_end || here == "\n" || here == "\r" || here == "\t" {
-        String::from_str(alloc, "a text is not closed by a `\"` before this place")
-    } else if is_printable(here) {
-        format!(in alloc; "`{here}` is no sign of the language")
+fn byte_words(byte: u8, is_end: bool) -> Words {
+    if is_end || byte == b'\n' || byte == b'\r' || byte == b'\t' {
+        ("a text is not closed by a `\"` before this place", "")
+    } else if is_printable(byte) {
+        ("", "` is no sign of the language")
     } else {
-        String::from_str(alloc, "this byte is no sign of the language")
+        ("this byte is no sign of the language", "")
     }
 }
 
-/// Whether a text can be shown.
-pub fn is_printable(text: &str) -> bool {
-    !text.is_empty() && text.as_bytes().iter().all(|b| 32 <= *b && *b <= 126)
-}
-
-fn unexpected(alloc: Global, around: &Around<'_>) -> Result<String, AllocError> {
-    let here = around.here;
-    if around.is_end {
-        String::from_str(alloc, "the program breaks off here")
-    } else if is_printable(here) {
-        format!(in alloc; "no program goes on with `{here}` here")
+fn token_words(byte: u8, is_end: bool) -> Words {
+    if is_end {
+        ("the program breaks off here", "")
+    } else if is_printable(byte) {
+        ("no program goes on with ", "` here")
     } else {
-        String::from_str(alloc, "no program goes on in this way")
+        ("no program goes on in this way", "")
     }
 }
 
-/// What is wrong at a name or a label: the one at the place, as it stands in the program, and the
-/// place that it is at odds with.
+// Whether a token can be shown that begins with this byte.
+fn is_printable(byte: u8) -> bool {
+    32 <= byte && byte <= 126
+}
+
+/// What is wrong at a name or a label, and with how many parameters or arguments it stands there.
 pub fn check_sentence(
     alloc: Global,
     kind: CheckKind,
     name: &str,
-    here: Option<LabelUse<'_>>,
+    count: usize,
 ) -> Result<String, AllocError> {
-    match kind {
-        CheckKind::Unbound => format!(in alloc; "nothing round this place binds `{name}`"),
-        CheckKind::DoubleLabel => format!(in alloc; "the object has the label `{name}` twice"),
-        CheckKind::DoubleParameter => {
-            format!(in alloc; "the head of the method has the name `{name}` twice")
-        }
-        CheckKind::TooManyParameters => {
-            format!(in alloc; "`{name}` has more than 8 parameters or arguments here")
-        }
-        CheckKind::Arity => {
-            let count = count_of(here);
-            format!(in alloc;
-                "the number of parameters or arguments of `{name}` is {count} here, and another before"
-            )
-        }
-        CheckKind::ServiceArity => {
-            format!(in alloc;
-                "an activity begins with `{name}()`, which has parameters or arguments before"
-            )
-        }
+    if let CheckKind::Arity = kind {
+        format!(in alloc;
+            "the number of parameters or arguments of `{name}` is {count} here, and another before"
+        )
+    } else {
+        let (before, behind) = check_words(kind);
+        named(alloc, before, name, behind)
     }
 }
 
-/// What the other place has.
+fn check_words(kind: CheckKind) -> Words {
+    match kind {
+        CheckKind::Unbound => ("nothing round this place binds ", "`"),
+        CheckKind::DoubleLabel => ("the object has the label ", "` twice"),
+        CheckKind::DoubleParameter => ("the head of the method has the name ", "` twice"),
+        CheckKind::TooManyParameters => ("", "` has more than 8 parameters or arguments here"),
+        CheckKind::Arity | CheckKind::ServiceArity => (
+            "an activity begins with ",
+            "()`, which has parameters or arguments before",
+        ),
+    }
+}
+
+/// What the other place has: the label or name there, and the number of its parameters or arguments.
 pub fn other_sentence(
     alloc: Global,
     kind: CheckKind,
-    other: &LabelUse<'_>,
+    name: &str,
+    count: usize,
 ) -> Result<String, AllocError> {
-    let name = other.label;
     match kind {
         CheckKind::Arity | CheckKind::ServiceArity => {
-            let count = other.count;
             format!(in alloc; "the first place of `{name}`, with the number {count}")
         }
-        _ => format!(in alloc; "the first `{name}`"),
-    }
-}
-
-// How many parameters or arguments a label has.
-fn count_of(here: Option<LabelUse<'_>>) -> usize {
-    match here {
-        Some(here) => here.count,
-        None => 0,
+        _ => named(alloc, "the first ", name, "`"),
     }
 }

@@ -3,7 +3,7 @@
 ghost use Rattle.std.specs.Prelude.{◌≡◌, ◌≤◌, ◌++◌, length, map, IfOk, OnOk, option_map, string_bytes};
 ghost use Rattle.std.specs.List.{position_or_len};
 ghost use Rattle.text_places.specs.Positions.{is_feed, lead as lead_of, tail as tail_of};
-ghost use Rattle.explain.specs.Remarks.{blank as blank_below, cure_line, excerpt, heading as heading_of, severity_text as text_of_severity, shown as shown_byte};
+ghost use Rattle.explain.specs.Remarks.{blank as blank_below, cure_line, excerpt, glyph as glyph_of, heading as heading_of, severity_text as text_of_severity, shown as shown_byte};
 ghost use Rattle.explain.specs.Texts.{text_of as whole_text};
 
 use crate::remark::{Remark, Severity};
@@ -27,8 +27,9 @@ pub fn text_of(
     ensures text { IfOk result (λ v. v.items ≡ whole_text file.now bytes.now remark.now) }
 {
     let place = position_of(bytes, remark.at);
-    let mut text = Vec::new(alloc);
-    add_heading(alloc, &mut text, file, place, remark)?;
+    let severity = severity_text(remark.severity);
+    let heading = heading(alloc, file, place, severity, remark.sentence.as_str())?;
+    let mut text = heading.into_bytes();
     add_excerpt(&mut text, lead(bytes, remark.at), tail(bytes, remark.at))?;
     add_cure(&mut text, remark.cure)?;
     Ok(text)
@@ -57,23 +58,6 @@ fn heading(
 {
     let Position { line, column } = place;
     format!(in alloc; "{file}:{line}:{column}: {severity}: {sentence}\n")
-}
-
-fn add_heading(
-    alloc: Global,
-    text: &mut Vec<u8>,
-    file: &str,
-    place: Position,
-    remark: &Remark,
-) -> Result<(), AllocError>
-    ensures { let severity = text_of_severity remark.now.severity in
-        let told = heading_of file.now place severity (string_bytes remark.now.sentence) in
-        OnOk result (text.new.items ≡ text.old.items ++ told) }
-{
-    let severity = severity_text(remark.severity);
-    let heading = heading(alloc, file, place, severity, remark.sentence.as_str())?;
-    text.extend_from_slice(heading.as_bytes())?;
-    Ok(())
 }
 
 // The last bytes before the place in its line.
@@ -124,20 +108,18 @@ fn blank(byte: u8) -> u8
     if byte == b'\t' { b'\t' } else { b' ' }
 }
 
-fn add_shown(text: &mut Vec<u8>, bytes: &[u8]) -> Result<(), AllocError>
-    ensures { OnOk result (text.new.items ≡ text.old.items ++ map shown_byte bytes.now) }
+// A byte as it is shown, or the blank below it.
+fn glyph(byte: u8, is_below: bool) -> u8
+    ensures { result ≡ glyph_of is_below byte }
 {
-    for byte in bytes {
-        text.push(shown(*byte))?;
-    }
-    Ok(())
+    if is_below { blank(byte) } else { shown(byte) }
 }
 
-fn add_blanks(text: &mut Vec<u8>, bytes: &[u8]) -> Result<(), AllocError>
-    ensures { OnOk result (text.new.items ≡ text.old.items ++ map blank_below bytes.now) }
+fn add_glyphs(text: &mut Vec<u8>, bytes: &[u8], is_below: bool) -> Result<(), AllocError>
+    ensures { OnOk result (text.new.items ≡ text.old.items ++ map (glyph_of is_below) bytes.now) }
 {
     for byte in bytes {
-        text.push(blank(*byte))?;
+        text.push(glyph(*byte, is_below))?;
     }
     Ok(())
 }
@@ -147,10 +129,10 @@ fn add_excerpt(text: &mut Vec<u8>, lead: &[u8], tail: &[u8]) -> Result<(), Alloc
     ensures { OnOk result (text.new.items ≡ text.old.items ++ excerpt lead.now tail.now) }
 {
     text.extend_from_slice(b"    ")?;
-    add_shown(text, lead)?;
-    add_shown(text, tail)?;
+    add_glyphs(text, lead, false)?;
+    add_glyphs(text, tail, false)?;
     text.extend_from_slice(b"\n    ")?;
-    add_blanks(text, lead)?;
+    add_glyphs(text, lead, true)?;
     text.extend_from_slice(b"^\n")?;
     Ok(())
 }

@@ -1,10 +1,10 @@
 //! Where the labels of a program stand, and what they are there.
 
-use asp_model::{Label, Mark, Method, Program, Term, Word};
+use asp_model::{Label, Mark, Method, Term};
 use std::alloc::{AllocError, Global};
 
 /// What a label or a name is at its place.
-#[derive(Clone, Copy, Debug, PartialEq, Eq)]
+#[derive(Clone, Copy)]
 pub enum Role {
     /// The label of a field of an object.
     Field,
@@ -20,10 +20,9 @@ pub enum Role {
     Polled,
 }
 
-/// A label or a name of a method's head, and its place.
+/// The place of a label or of a name of a method's head.
 #[derive(Clone, Copy)]
-pub struct LabelUse<'a> {
-    pub label: &'a str,
+pub struct LabelUse {
     pub at: usize,
     pub role: Role,
     /// The place of the object of a field or method, and of the method's label for a parameter.
@@ -32,161 +31,109 @@ pub struct LabelUse<'a> {
     pub count: usize,
 }
 
-// The places that a mark has left, for a node at a place of its own.
-#[derive(Clone, Copy)]
-struct Places<'a> {
-    left: &'a [usize],
-    node: usize,
-}
-
-impl<'a> Places<'a> {
-    fn of(mark: &'a Mark) -> Places<'a> {
-        Places {
-            left: &mark.names,
-            node: mark.at,
-        }
-    }
-
-    fn next(&mut self) -> usize {
-        match self.left.split_first() {
-            Some((first, rest)) => {
-                self.left = rest;
-                *first
-            }
-            None => self.node,
-        }
-    }
-}
-
-/// The labels of a program, in text order.
-pub fn uses_of<'a>(alloc: Global, program: &'a Program) -> Result<Vec<LabelUse<'a>>, AllocError> {
-    uses_in(alloc, &program.root)
+// Those that were met, unless memory ran out.
+#[derive(Drop)]
+struct Uses {
+    met: Vec<LabelUse>,
+    is_spent: bool,
 }
 
 /// The labels of a term, in text order.
-pub fn uses_in<'a>(alloc: Global, root: &'a Term) -> Result<Vec<LabelUse<'a>>, AllocError> {
-    let mut uses = Vec::new(alloc);
-    visit(&mut uses, root)?;
-    Ok(uses)
-}
-
-fn add<'a>(
-    uses: &mut Vec<LabelUse<'a>>,
-    role: Role,
-    label: &'a Word,
-    at: usize,
-    count: usize,
-) -> Result<(), AllocError> {
-    uses.push(LabelUse {
-        label: label.as_str(),
-        at,
-        role,
-        owner: at,
-        count,
-    })?;
-    Ok(())
-}
-
-// The label of a call, or of the method that an activity begins with.
-fn add_called<'a>(
-    uses: &mut Vec<LabelUse<'a>>,
-    label: &'a Label,
-    mark: &'a Mark,
-    count: usize,
-) -> Result<(), AllocError> {
-    add(
-        uses,
-        Role::Called,
-        &label.text,
-        Places::of(mark).next(),
-        count,
-    )
-}
-
-// The labels of a `serve` or a `pending`.
-fn add_labels<'a>(
-    uses: &mut Vec<LabelUse<'a>>,
-    role: Role,
-    labels: &'a [Label],
-    mark: &'a Mark,
-) -> Result<(), AllocError> {
-    let mut places = Places::of(mark);
-    for label in labels {
-        add(uses, role, &label.text, places.next(), 0)?;
+pub fn uses_in(alloc: Global, root: &Term) -> Result<Vec<LabelUse>, AllocError> {
+    let mut uses = Uses {
+        met: Vec::new(alloc),
+        is_spent: false,
+    };
+    visit(&mut uses, root);
+    if uses.is_spent {
+        Err(AllocError)
+    } else {
+        Ok(uses.met)
     }
-    Ok(())
 }
 
-// The label, the object and the parameters of a method.
-fn add_head<'a>(
-    uses: &mut Vec<LabelUse<'a>>,
-    method: &'a Method,
-    places: &mut Places<'a>,
-) -> Result<(), AllocError> {
-    let owner = places.next();
-    uses.push(LabelUse {
-        label: method.label.text.as_str(),
-        at: owner,
-        role: Role::Method,
-        owner: places.node,
-        count: method.parameters.len(),
-    })?;
-    add_parameter(uses, &method.slf, places.next(), owner)?;
-    for parameter in &method.parameters {
-        add_parameter(uses, parameter, places.next(), owner)?;
+// The place of the label or name with this number among those of a node.
+fn place(mark: &Mark, number: usize) -> usize {
+    if number < mark.names.len() {
+        mark.names[number]
+    } else {
+        mark.at
     }
-    Ok(())
 }
 
-fn add_parameter<'a>(
-    uses: &mut Vec<LabelUse<'a>>,
-    name: &'a Word,
-    at: usize,
-    owner: usize,
-) -> Result<(), AllocError> {
-    uses.push(LabelUse {
-        label: name.as_str(),
-        at,
-        role: Role::Parameter,
-        owner,
-        count: 0,
-    })?;
-    Ok(())
+impl Uses {
+    fn add(&mut self, role: Role, at: usize, owner: usize, count: usize) {
+        let met = LabelUse {
+            at,
+            role,
+            owner,
+            count,
+        };
+        if self.met.push(met).is_err() {
+            self.is_spent = true;
+        }
+    }
+
+    // The label of a call, or of the method that an activity begins with.
+    fn add_called(&mut self, mark: &Mark, count: usize) {
+        let at = place(mark, 0);
+        self.add(Role::Called, at, at, count);
+    }
+
+    // The labels of a `serve` or a `pending`.
+    fn add_labels(&mut self, role: Role, mark: &Mark) {
+        for at in &mark.names {
+            self.add(role, *at, *at, 0);
+        }
+    }
+
+    // The label, the object and the parameters of a method, from a number on. Answers the next number.
+    fn add_head(&mut self, method: &Method, mark: &Mark, first: usize) -> usize {
+        let owner = place(mark, first);
+        let count = method.parameters.len();
+        self.add(Role::Method, owner, mark.at, count);
+        let object = first.saturating_add(1);
+        self.add(Role::Parameter, place(mark, object), owner, 0);
+        let behind = object.saturating_add(1);
+        let end = behind.saturating_add(count);
+        for number in behind..end {
+            self.add(Role::Parameter, place(mark, number), owner, 0);
+        }
+        end
+    }
 }
 
 // Adds the labels of a term.
 #[cycle(uses)]
-fn visit<'a>(uses: &mut Vec<LabelUse<'a>>, term: &'a Term) -> Result<(), AllocError> {
+fn visit(uses: &mut Uses, term: &Term) {
     match term {
-        Term::Loc(_, _) | Term::Hole(_) | Term::Number(_, _) | Term::Echo(_, _) => Ok(()),
-        Term::Var(_, _) => Ok(()),
-        Term::Serve(labels, mark) => add_labels(uses, Role::Served, labels, mark),
-        Term::Pending(labels, mark) => add_labels(uses, Role::Polled, labels, mark),
+        Term::Loc(_, _) | Term::Hole(_) | Term::Number(_, _) | Term::Echo(_, _) => {}
+        Term::Var(_, _) => {}
+        Term::Serve(_, mark) => uses.add_labels(Role::Served, mark),
+        Term::Pending(_, mark) => uses.add_labels(Role::Polled, mark),
         Term::Make {
             fields,
             methods,
             mark,
         } => {
-            let mut places = Places::of(mark);
-            visit_fields(uses, fields, &mut places)?;
-            visit_methods(uses, methods, places)
+            visit_fields(uses, fields, mark);
+            visit_methods(uses, methods, mark, fields.len());
         }
-        Term::Call(receiver, label, arguments, mark) => {
-            visit(uses, receiver)?;
-            add_called(uses, label, mark, arguments.len())?;
-            visit_all(uses, arguments)
+        Term::Call(receiver, _, arguments, mark) => {
+            visit(uses, receiver);
+            uses.add_called(mark, arguments.len());
+            visit_all(uses, arguments);
         }
         Term::Active(object, service, mark) => {
-            visit(uses, object)?;
-            match service {
-                Some(label) => add_called(uses, label, mark, 0),
-                None => Ok(()),
+            visit(uses, object);
+            if service.is_some() {
+                uses.add_called(mark, 0);
             }
         }
-        Term::Scatter(a, label, b, mark) => {
-            visit(uses, a)?;
-            add_called(uses, label, mark, 1)?;
-            visit(uses, b)
+        Term::Scatter(a, _, b, mark) => {
+            visit(uses, a);
+            uses.add_called(mark, 1);
+            visit(uses, b);
         }
         Term::Steps(terms, _) | Term::Group(terms, _) => visit_all(uses, terms),
         Term::Get(a, _, _)
@@ -199,55 +146,41 @@ fn visit<'a>(uses: &mut Vec<LabelUse<'a>>, term: &'a Term) -> Result<(), AllocEr
         | Term::Put(a, _, b, _)
         | Term::Operate(_, a, b, _)
         | Term::Member(a, b, _) => {
-            visit(uses, a)?;
-            visit(uses, b)
+            visit(uses, a);
+            visit(uses, b);
         }
         Term::If(a, b, c, _) => {
-            visit(uses, a)?;
-            visit(uses, b)?;
-            visit(uses, c)
+            visit(uses, a);
+            visit(uses, b);
+            visit(uses, c);
         }
     }
 }
 
 #[cycle(uses)]
-fn visit_all<'a>(uses: &mut Vec<LabelUse<'a>>, terms: &'a [Term]) -> Result<(), AllocError> {
+fn visit_all(uses: &mut Uses, terms: &[Term]) {
     for term in terms {
-        visit(uses, term)?;
+        visit(uses, term);
     }
-    Ok(())
 }
 
+// The labels of the fields have the first numbers of the object's.
 #[cycle(uses)]
-fn visit_fields<'a>(
-    uses: &mut Vec<LabelUse<'a>>,
-    fields: &'a [(Label, Term)],
-    places: &mut Places<'a>,
-) -> Result<(), AllocError> {
-    for (label, term) in fields {
-        let at = places.next();
-        uses.push(LabelUse {
-            label: label.text.as_str(),
-            at,
-            role: Role::Field,
-            owner: places.node,
-            count: 0,
-        })?;
-        visit(uses, term)?;
+fn visit_fields(uses: &mut Uses, fields: &[(Label, Term)], mark: &Mark) {
+    let mut number: usize = 0;
+    for (_, term) in fields {
+        uses.add(Role::Field, place(mark, number), mark.at, 0);
+        number = number.saturating_add(1);
+        visit(uses, term);
     }
-    Ok(())
 }
 
+// Those of the methods go on from a number.
 #[cycle(uses)]
-fn visit_methods<'a>(
-    uses: &mut Vec<LabelUse<'a>>,
-    methods: &'a [Method],
-    places: Places<'a>,
-) -> Result<(), AllocError> {
-    let mut places = places;
+fn visit_methods(uses: &mut Uses, methods: &[Method], mark: &Mark, first: usize) {
+    let mut number = first;
     for method in methods {
-        add_head(uses, method, &mut places)?;
-        visit(uses, &method.body)?;
+        number = uses.add_head(method, mark, number);
+        visit(uses, &method.body);
     }
-    Ok(())
 }

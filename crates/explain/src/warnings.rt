@@ -1,9 +1,10 @@
 //! Labels that are called or served, and that no object of the program has.
 
+use crate::around::name_at;
 use crate::nearest::Nearest;
 use crate::remark::{Remark, Severity};
-use crate::uses::{LabelUse, Role, uses_of};
-use asp_model::Program;
+use crate::sentences::named;
+use crate::uses::{LabelUse, Role};
 use std::alloc::{AllocError, Global};
 use std::collections::BTreeSet;
 
@@ -17,30 +18,31 @@ pub struct Warnings {
     pub count: usize,
 }
 
-/// The warnings of a program, in text order.
-pub fn warnings_of(alloc: Global, program: &Program) -> Result<Warnings, AllocError> {
-    let uses = uses_of(alloc, program)?;
-    let known = methods_in(alloc, &uses)?;
-    let mut remarks = Vec::new(alloc);
-    let mut count: usize = 0;
-    for place in &uses {
-        if !is_asked(place.role) || known.contains(&place.label) {
-            continue;
+/// The warnings of a program with these labels, in text order.
+pub fn warnings_of(alloc: Global, bytes: &[u8], uses: &[LabelUse]) -> Result<Warnings, AllocError> {
+    let known = methods_in(alloc, bytes, uses)?;
+    let mut warnings = Warnings {
+        remarks: Vec::new(alloc),
+        count: 0,
+    };
+    for place in uses {
+        if is_asked(place.role) && !known.contains(name_at(bytes, place.at)) {
+            add_warning(alloc, &mut warnings, bytes, uses, *place)?;
         }
-        if count < MOST_WARNINGS {
-            remarks.push(warning(alloc, &uses, place)?)?;
-        }
-        count = count.saturating_add(1);
     }
-    Ok(Warnings { remarks, count })
+    Ok(warnings)
 }
 
 // The labels of all methods.
-fn methods_in<'a>(alloc: Global, uses: &[LabelUse<'a>]) -> Result<BTreeSet<&'a str>, AllocError> {
+fn methods_in(
+    alloc: Global,
+    bytes: &[u8],
+    uses: &[LabelUse],
+) -> Result<BTreeSet<String>, AllocError> {
     let mut known = BTreeSet::new(alloc);
     for place in uses {
-        if place.role == Role::Method {
-            known.insert(place.label)?;
+        if let Role::Method = place.role {
+            known.insert(String::from_str(alloc, name_at(bytes, place.at))?)?;
         }
     }
     Ok(known)
@@ -54,31 +56,47 @@ fn is_asked(role: Role) -> bool {
     }
 }
 
-fn warning(
+// Counts one more, and tells it if few were told.
+fn add_warning(
     alloc: Global,
-    uses: &[LabelUse<'_>],
-    place: &LabelUse<'_>,
-) -> Result<Remark, AllocError> {
-    let label = place.label;
-    let sentence = match nearest_method(uses, label) {
-        Some(meant) => {
-            format!(in alloc; "no object has a method `{label}`: is `{meant}` meant?")?
-        }
-        None => format!(in alloc; "no object has a method `{label}`")?,
-    };
-    Ok(Remark {
-        at: place.at,
-        severity: Severity::Warning,
-        sentence,
-        cure: consequence(place.role),
-    })
+    warnings: &mut Warnings,
+    bytes: &[u8],
+    uses: &[LabelUse],
+    place: LabelUse,
+) -> Result<(), AllocError> {
+    if warnings.count < MOST_WARNINGS {
+        let sentence = unknown(alloc, bytes, uses, name_at(bytes, place.at))?;
+        warnings.remarks.push(Remark {
+            at: place.at,
+            severity: Severity::Warning,
+            sentence,
+            cure: consequence(place.role),
+        })?;
+    }
+    warnings.count = warnings.count.saturating_add(1);
+    Ok(())
 }
 
-fn nearest_method<'a>(uses: &[LabelUse<'a>], label: &str) -> Option<&'a str> {
+// That no object has a method with this label.
+fn unknown(
+    alloc: Global,
+    bytes: &[u8],
+    uses: &[LabelUse],
+    label: &str,
+) -> Result<String, AllocError> {
+    match nearest_method(bytes, uses, label) {
+        Some(meant) => {
+            format!(in alloc; "no object has a method `{label}`: is `{meant}` meant?")
+        }
+        None => named(alloc, "no object has a method ", label, "`"),
+    }
+}
+
+fn nearest_method<'a>(bytes: &'a [u8], uses: &[LabelUse], label: &str) -> Option<&'a str> {
     let mut nearest = Nearest::to(label);
     for known in uses {
-        if known.role == Role::Method {
-            nearest.offer(known.label);
+        if let Role::Method = known.role {
+            nearest.offer(name_at(bytes, known.at));
         }
     }
     nearest.found()
