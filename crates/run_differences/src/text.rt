@@ -4,9 +4,9 @@ use crate::first::{Comparison, Difference};
 use crate::lines::first_other_line;
 use crate::order::{Entry, OrderedRun};
 use asp_model::{ActivityName, ActivityReport, Line, Reception};
-use state_lines::push_name;
 use std::alloc::{AllocError, Global};
 use std::cmp::Ordering;
+use told_texts::Telling;
 
 /// Tells what a run is beside another one: the first request that came in another order, and the
 /// first line of each activity that differs.
@@ -16,42 +16,39 @@ pub fn tell_difference(
     run: &OrderedRun,
     other: &OrderedRun,
 ) -> Result<String, AllocError> {
-    let mut text = String::new(alloc);
+    let mut text = Telling::new(alloc);
     match comparison {
-        Comparison::Same => text.push_str("the same run: logs and counts are equal\n")?,
+        Comparison::Same => text.push("the same run: logs and counts are equal\n"),
         Comparison::Further => {
-            text.push_str("no request came in another order: one of the runs went further\n")?;
+            text.push("no request came in another order: one of the runs went further\n");
         }
-        Comparison::Differs(difference) => push_first(&mut text, difference, run, other)?,
+        Comparison::Differs(difference) => push_first(&mut text, difference, run, other),
     }
     push_activities(
         &mut text,
         &run.outcome.activities,
         &other.outcome.activities,
-    )?;
-    Ok(text)
+    );
+    text.whole()
 }
 
 // The first entry that differs, and what stands there in the other run.
-fn push_first(
-    text: &mut String,
-    difference: Difference,
-    run: &OrderedRun,
-    other: &OrderedRun,
-) -> Result<(), AllocError> {
+fn push_first(text: &mut Telling, difference: Difference, run: &OrderedRun, other: &OrderedRun) {
     let Some(entry) = run.order.get(difference.index) else {
-        return Ok(());
+        return;
     };
     let number = difference.place.saturating_add(1);
-    text.push_str("first difference: ")?;
-    push_name(text, &entry.to)?;
-    write!(text, ", entry {number} of its log\n  report: ")?;
-    push_entry(text, entry)?;
-    text.push_str("\n  other: ")?;
+    text.push("first difference: ");
+    text.push_name(&entry.to);
+    text.push(", entry ");
+    text.push_count(number as u64);
+    text.push(" of its log\n  report: ");
+    push_entry(text, entry);
+    text.push("\n  other: ");
     if let Some(entry) = entry_at(&other.order, &entry.to, difference.place) {
-        push_entry(text, entry)?;
+        push_entry(text, entry);
     }
-    text.push_str("\n")
+    text.push("\n");
 }
 
 // The entry at a place of a log.
@@ -68,91 +65,85 @@ fn entry_at<'a>(order: &'a [Entry], to: &ActivityName, place: usize) -> Option<&
     None
 }
 
-fn push_entry(text: &mut String, entry: &Entry) -> Result<(), AllocError> {
+fn push_entry(text: &mut Telling, entry: &Entry) {
     match &entry.noted {
         Reception::From(name) => {
             if let Some(label) = &entry.label {
-                text.push_str(label.text.as_str())?;
-                text.push_str(" ")?;
+                text.push(label.text.as_str());
+                text.push(" ");
             }
-            text.push_str("of ")?;
-            push_name(text, name)
+            text.push("of ");
+            text.push_name(name);
         }
-        Reception::Poll => text.push_str("it asks what is pending"),
+        Reception::Poll => text.push("it asks what is pending"),
     }
 }
 
 // The activities of both, in the order of their names.
-fn push_activities(
-    text: &mut String,
-    activities: &[ActivityReport],
-    others: &[ActivityReport],
-) -> Result<(), AllocError> {
+fn push_activities(text: &mut Telling, activities: &[ActivityReport], others: &[ActivityReport]) {
     let mut number = 0;
     let mut other = 0;
     while number < activities.len() && other < others.len() {
         match activities[number].name.cmp(&others[other].name) {
             Ordering::Less => {
-                push_only(text, &activities[number].name, "report")?;
+                push_only(text, &activities[number].name, "report");
                 number += 1;
             }
             Ordering::Greater => {
-                push_only(text, &others[other].name, "other")?;
+                push_only(text, &others[other].name, "other");
                 other += 1;
             }
             Ordering::Equal => {
-                push_lines(text, &activities[number], &others[other])?;
+                push_lines(text, &activities[number], &others[other]);
                 number += 1;
                 other += 1;
             }
         }
     }
-    push_rest(text, &activities[number..], "report")?;
-    push_rest(text, &others[other..], "other")
+    push_rest(text, &activities[number..], "report");
+    push_rest(text, &others[other..], "other");
 }
 
-fn push_rest(
-    text: &mut String,
-    activities: &[ActivityReport],
-    which: &str,
-) -> Result<(), AllocError> {
+fn push_rest(text: &mut Telling, activities: &[ActivityReport], which: &str) {
     for activity in activities {
-        push_only(text, &activity.name, which)?;
+        push_only(text, &activity.name, which);
     }
-    Ok(())
 }
 
-fn push_only(text: &mut String, name: &ActivityName, which: &str) -> Result<(), AllocError> {
-    push_name(text, name)?;
-    write!(text, " is in {which} alone\n")
+fn push_only(text: &mut Telling, name: &ActivityName, which: &str) {
+    text.push_name(name);
+    text.push(" is in ");
+    text.push(which);
+    text.push(" alone\n");
 }
 
 // The first line of an activity that differs.
-fn push_lines(
-    text: &mut String,
-    activity: &ActivityReport,
-    other: &ActivityReport,
-) -> Result<(), AllocError> {
+fn push_lines(text: &mut Telling, activity: &ActivityReport, other: &ActivityReport) {
     let Some(place) = first_other_line(&activity.lines, &other.lines) else {
-        return Ok(());
+        return;
     };
-    push_name(text, &activity.name)?;
+    text.push_name(&activity.name);
     let number = place.saturating_add(1);
-    write!(text, ", line {number}\n  report: ")?;
-    push_line(text, activity.lines.get(place))?;
-    text.push_str("\n  other: ")?;
-    push_line(text, other.lines.get(place))?;
-    text.push_str("\n")
+    text.push(", line ");
+    text.push_count(number as u64);
+    text.push("\n  report: ");
+    push_line(text, activity.lines.get(place));
+    text.push("\n  other: ");
+    push_line(text, other.lines.get(place));
+    text.push("\n");
 }
 
 // A line as reports have it.
-fn push_line(text: &mut String, line: Option<&Line>) -> Result<(), AllocError> {
+fn push_line(text: &mut Telling, line: Option<&Line>) {
     match line {
-        Some(Line::Number(number)) => write!(text, "> {number}"),
-        Some(Line::Text(word)) => {
-            text.push_str("| ")?;
-            text.push_str(word.as_str())
+        Some(Line::Number(number)) => {
+            text.push("> ");
+            text.push_number(*number);
         }
-        None => text.push_str("no line"),
+        Some(Line::Text(word)) => {
+            text.push("| ");
+            text.push(word.as_str());
+        }
+        None => text.push("no line"),
     }
 }

@@ -1,8 +1,9 @@
 //! Places of a program's text, as people read them.
 
-use std::alloc::{AllocError, Global};
+use std::alloc::Global;
 use std::collections::BTreeMap;
 use text_places::{Position, position_of};
+use told_texts::Telling;
 
 /// A text, and the places of it that were asked for: each is looked for once.
 #[derive(Drop)]
@@ -22,23 +23,27 @@ impl<'a> Places<'a> {
         }
     }
 
-    // The line and the column of a byte.
-    fn position(&mut self, at: usize) -> Result<Position, AllocError> {
+    // The line and the column of a byte. One that memory is refused for is looked for again.
+    fn position(&mut self, at: usize) -> Position {
         if let Some(position) = self.known.get(&at) {
-            return Ok(*position);
+            return *position;
         }
         let position = position_of(self.bytes, at);
-        self.known.insert(at, position)?;
-        Ok(position)
+        let _kept = self.known.insert(at, position);
+        position
     }
 
     /// Adds where a byte stands to a text.
-    pub fn push(&mut self, text: &mut String, at: Option<usize>) -> Result<(), AllocError> {
+    pub fn push(&mut self, text: &mut Telling, at: Option<usize>) {
         let Some(at) = at else {
-            return Ok(());
+            return;
         };
-        let Position { line, column } = self.position(at)?;
-        let file = self.file;
-        write!(text, " at {file}:{line}:{column}")
+        let Position { line, column } = self.position(at);
+        text.push(" at ");
+        text.push(self.file);
+        text.push(":");
+        text.push_count(line as u64);
+        text.push(":");
+        text.push_count(column as u64);
     }
 }

@@ -5,8 +5,8 @@ use crate::events::EventsRun;
 use crate::places::Places;
 use asp_model::{Fault, FutureName, Label, Line};
 use run_waits::Asked;
-use state_lines::{push_future, push_name};
 use std::alloc::{AllocError, Global};
+use told_texts::Telling;
 
 /// Tells events of a run of the program in a file. The first of them has this number.
 pub fn tell_events(
@@ -17,116 +17,116 @@ pub fn tell_events(
     run: &EventsRun,
 ) -> Result<String, AllocError> {
     let mut places = Places::new(alloc, file, bytes);
-    let mut text = String::new(alloc);
-    push_heading(&mut text, from, run)?;
+    let mut text = Telling::new(alloc);
+    push_heading(&mut text, from, run);
     let mut number = from;
     for event in &run.events {
-        write!(text, "{number}: ")?;
-        push_event(&mut text, event, &mut places)?;
-        text.push_str("\n")?;
+        text.push_count(number);
+        text.push(": ");
+        push_event(&mut text, event, &mut places);
+        text.push("\n");
         number = number.saturating_add(1);
     }
-    Ok(text)
+    text.whole()
 }
 
 // Which events these are, of how many.
-fn push_heading(text: &mut String, from: u64, run: &EventsRun) -> Result<(), AllocError> {
-    let all = run.all;
+fn push_heading(text: &mut Telling, from: u64, run: &EventsRun) {
     let count = run.events.len() as u64;
     if count == 0 {
-        return write!(text, "no events from {from} on, of {all}\n");
+        text.push("no events from ");
+        text.push_count(from);
+        text.push(" on, of ");
+        text.push_count(run.all);
+        text.push("\n");
+    } else {
+        text.push("events ");
+        text.push_count(from);
+        text.push(" to ");
+        text.push_count(from.saturating_add(count - 1));
+        text.push(" of ");
+        text.push_count(run.all);
+        text.push(", each after so many reductions of its activity\n");
     }
-    let last = from.saturating_add(count - 1);
-    write!(
-        text,
-        "events {from} to {last} of {all}, each after so many reductions of its activity\n"
-    )
 }
 
 // Who does what, where in the text, after how many of its reductions.
-fn push_event(
-    text: &mut String,
-    event: &RunEvent,
-    places: &mut Places<'_>,
-) -> Result<(), AllocError> {
-    push_name(text, &event.by)?;
-    places.push(text, event.at)?;
-    let count = event.count;
-    write!(text, " after {count} ")?;
-    push_what(text, &event.what)
+fn push_event(text: &mut Telling, event: &RunEvent, places: &mut Places<'_>) {
+    text.push_name(&event.by);
+    places.push(text, event.at);
+    text.push(" after ");
+    text.push_count(event.count);
+    text.push(" ");
+    push_what(text, &event.what);
 }
 
-fn push_what(text: &mut String, what: &What) -> Result<(), AllocError> {
+fn push_what(text: &mut Telling, what: &What) {
     match what {
         What::Creates(made) => {
-            text.push_str("creates ")?;
-            push_name(text, made)
+            text.push("creates ");
+            text.push_name(made);
         }
         What::Sends(to, asked) => {
-            text.push_str("sends ")?;
-            push_asked(text, asked)?;
-            text.push_str(" to ")?;
-            push_name(text, to)
+            text.push("sends ");
+            push_asked(text, asked);
+            text.push(" to ");
+            text.push_name(to);
         }
         What::Serves(asked) => {
-            text.push_str("serves ")?;
-            push_served(text, asked)
+            text.push("serves ");
+            push_served(text, asked);
         }
         What::Answers(label, future) => {
-            text.push_str("answers ")?;
-            push_answered(text, label, future)
+            text.push("answers ");
+            push_answered(text, label, future);
         }
-        What::Polls => text.push_str("asks what is pending"),
+        What::Polls => text.push("asks what is pending"),
         What::Prints(line) => {
-            text.push_str("prints ")?;
-            push_line(text, line)
+            text.push("prints ");
+            push_line(text, line);
         }
         What::Fails(fault) => {
-            text.push_str("stops at ")?;
-            text.push_str(fault_text(*fault))
+            text.push("stops at ");
+            text.push(fault_text(*fault));
         }
     }
 }
 
 // A label, and a space behind it.
-fn push_label(text: &mut String, label: &Label) -> Result<(), AllocError> {
-    text.push_str("`")?;
-    text.push_str(label.text.as_str())?;
-    text.push_str("` ")
+fn push_label(text: &mut Telling, label: &Label) {
+    text.push("`");
+    text.push(label.text.as_str());
+    text.push("` ");
 }
 
 // A request: its label, and its future, which is named by who asks.
-fn push_asked(text: &mut String, asked: &Asked) -> Result<(), AllocError> {
-    push_label(text, &asked.label)?;
-    push_future(text, &asked.future)
+fn push_asked(text: &mut Telling, asked: &Asked) {
+    push_label(text, &asked.label);
+    text.push_future(&asked.future);
 }
 
-fn push_served(text: &mut String, asked: &Option<Asked>) -> Result<(), AllocError> {
+fn push_served(text: &mut Telling, asked: &Option<Asked>) {
     match asked {
         Some(asked) => push_asked(text, asked),
-        None => text.push_str("a request"),
+        None => text.push("a request"),
     }
 }
 
-fn push_answered(
-    text: &mut String,
-    label: &Option<Label>,
-    future: &FutureName,
-) -> Result<(), AllocError> {
+fn push_answered(text: &mut Telling, label: &Option<Label>, future: &FutureName) {
     if let Some(label) = label {
-        push_label(text, label)?;
+        push_label(text, label);
     }
-    push_future(text, future)
+    text.push_future(future);
 }
 
 // A line as it was printed, a text in quotes.
-fn push_line(text: &mut String, line: &Line) -> Result<(), AllocError> {
+fn push_line(text: &mut Telling, line: &Line) {
     match line {
-        Line::Number(number) => write!(text, "{number}"),
+        Line::Number(number) => text.push_number(*number),
         Line::Text(word) => {
-            text.push_str("\"")?;
-            text.push_str(word.as_str())?;
-            text.push_str("\"")
+            text.push("\"");
+            text.push(word.as_str());
+            text.push("\"");
         }
     }
 }

@@ -4,6 +4,7 @@ use crate::layout::{lane_at, last_of, place_at};
 use crate::run::{Event, Mark, Rest, Run};
 use crate::text::escaped;
 use std::alloc::{AllocError, Global};
+use told_texts::Telling;
 
 // A service that has begun.
 #[derive(Drop)]
@@ -126,9 +127,9 @@ pub fn bars_of(alloc: Global, run: &Run, places: &[u64]) -> Result<String, Alloc
 }
 
 fn joined(alloc: Global, bars: &[String]) -> Result<String, AllocError> {
-    let mut out = String::new(alloc);
+    let mut out = Telling::new(alloc);
     for bar in bars {
-        out.push_str(bar)?;
+        out.push(bar);
     }
-    Ok(out)
+    out.whole()
 }

@@ -4,12 +4,13 @@ ghost use Rattle.std.specs.Prelude.{IsTrue};
 ghost use Rattle.run_pictures.specs.Large.{AreMany};
 
 use crate::bars::bars_of;
-use crate::lanes::{ends_of, lanes_of};
+use crate::lanes::{push_ends, push_lanes};
 use crate::layout::{LANE, lane_at, place_at, places_of};
-use crate::marks::marks_of;
+use crate::marks::push_marks;
 use crate::run::Run;
-use crate::text::whole;
+use crate::text::push_whole;
 use std::alloc::{AllocError, Global};
+use told_texts::Telling;
 
 /// A picture has no more lines.
 pub const MOST_LANES: usize = 60;
@@ -29,21 +30,32 @@ pub fn are_many(lanes: usize, events: usize) -> bool
 /// The picture of a run, as the text of an SVG file.
 pub fn picture_of(alloc: Global, run: &Run) -> Result<String, AllocError> {
     let places = places_of(alloc, &run.events)?;
-    let end = place_at(&places, run.events.len());
+    let bars = bars_of(alloc, run, &places)?;
+    let mut out = Telling::new(alloc);
+    push_head(&mut out, run, place_at(&places, run.events.len()));
+    push_lanes(&mut out, run, &places);
+    out.push(&bars);
+    push_ends(&mut out, run, &places);
+    push_marks(&mut out, run, &places);
+    out.push("</svg>\n");
+    out.whole()
+}
+
+// Its size, its style and its title, where the lines end there.
+fn push_head(out: &mut Telling, run: &Run, end: u64) {
     let width = end.saturating_add(170);
     let height = lane_at(run.lanes.len()).saturating_add(LANE / 2);
-    let title = whole(alloc, &run.title)?;
-    let mut out = format!(in alloc;
+    let size = write!(
+        out.text,
         "<svg xmlns=\"http://www.w3.org/2000/svg\" width=\"{width}\" height=\"{height}\" viewBox=\"0 0 {width} {height}\">\n"
-    )?;
-    out.push_str(STYLE)?;
-    out.push_str(&format!(in alloc;
-        "<rect width=\"{width}\" height=\"{height}\" fill=\"#fff\"/>\n<text class=\"title\" x=\"16\" y=\"26\">{title}</text>\n"
-    )?)?;
-    out.push_str(&lanes_of(alloc, run, &places)?)?;
-    out.push_str(&bars_of(alloc, run, &places)?)?;
-    out.push_str(&ends_of(alloc, run, &places)?)?;
-    out.push_str(&marks_of(alloc, run, &places)?)?;
-    out.push_str("</svg>\n")?;
-    Ok(out)
+    );
+    out.note(size);
+    out.push(STYLE);
+    let ground = write!(
+        out.text,
+        "<rect width=\"{width}\" height=\"{height}\" fill=\"#fff\"/>\n<text class=\"title\" x=\"16\" y=\"26\">"
+    );
+    out.note(ground);
+    push_whole(out, &run.title);
+    out.push("</text>\n");
 }

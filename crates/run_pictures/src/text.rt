@@ -1,6 +1,7 @@
 //! Texts in XML.
 
 use std::alloc::{AllocError, Global};
+use told_texts::Telling;
 
 /// More characters of a text are not shown.
 const MOST_SHOWN: usize = 24;
@@ -9,15 +10,20 @@ fn is_shown(c: char) -> bool {
     c >= ' ' && c != '\u{FFFE}' && c != '\u{FFFF}'
 }
 
-fn push_escaped(out: &mut String, c: char) -> Result<(), AllocError> {
+fn push_escaped(out: &mut Telling, c: char) {
     match c {
-        '&' => out.push_str("&amp;"),
-        '<' => out.push_str("&lt;"),
-        '>' => out.push_str("&gt;"),
-        '"' => out.push_str("&quot;"),
-        c if is_shown(c) => out.push(c),
-        _ => out.push('?'),
+        '&' => out.push("&amp;"),
+        '<' => out.push("&lt;"),
+        '>' => out.push("&gt;"),
+        '"' => out.push("&quot;"),
+        c if is_shown(c) => push_char(out, c),
+        _ => out.push("?"),
     }
+}
+
+fn push_char(out: &mut Telling, c: char) {
+    let done = out.text.push(c);
+    out.note(done);
 }
 
 /// How many characters of a text are shown.
@@ -25,23 +31,26 @@ pub fn shown_len(text: &str) -> u64 {
     text.chars().take(MOST_SHOWN + 1).count() as u64
 }
 
-/// The text as XML has it.
-pub fn whole(alloc: Global, text: &str) -> Result<String, AllocError> {
-    let mut out = String::new(alloc);
+/// Adds a text as XML has it.
+pub fn push_whole(out: &mut Telling, text: &str) {
     for c in text.chars() {
-        push_escaped(&mut out, c)?;
+        push_escaped(out, c);
     }
-    Ok(out)
+}
+
+/// Adds a text as XML has it, cut off where it is long.
+pub fn push_short(out: &mut Telling, text: &str) {
+    for c in text.chars().take(MOST_SHOWN) {
+        push_escaped(out, c);
+    }
+    if shown_len(text) > MOST_SHOWN as u64 {
+        out.push("…");
+    }
 }
 
 /// The text as XML has it, cut off where it is long.
 pub fn escaped(alloc: Global, text: &str) -> Result<String, AllocError> {
-    let mut out = String::new(alloc);
-    for c in text.chars().take(MOST_SHOWN) {
-        push_escaped(&mut out, c)?;
-    }
-    if shown_len(text) > MOST_SHOWN as u64 {
-        out.push('…')?;
-    }
-    Ok(out)
+    let mut out = Telling::new(alloc);
+    push_short(&mut out, text);
+    out.whole()
 }

@@ -3,7 +3,7 @@
 use crate::operands::{Stopped, sign_text};
 use asp_model::{Fault, Sign};
 use code_table::Kind;
-use std::alloc::AllocError;
+use told_texts::Telling;
 
 /// What a fault is, where no node tells more.
 pub fn fault_text(fault: Fault) -> &'static str {
@@ -21,45 +21,45 @@ pub fn fault_text(fault: Fault) -> &'static str {
 }
 
 // The two operands of a sign.
-fn push_signed(text: &mut String, stopped: Stopped<'_>, sign: Sign) -> Result<(), AllocError> {
-    text.push_str(" (")?;
-    stopped.push_operand(text, 0)?;
-    text.push_str(" ")?;
-    text.push_str(sign_text(sign))?;
-    text.push_str(" ")?;
-    stopped.push_operand(text, 1)?;
-    text.push_str(")")
+fn push_signed(text: &mut Telling, stopped: Stopped<'_>, sign: Sign) {
+    text.push(" (");
+    stopped.push_operand(text, 0);
+    text.push(" ");
+    text.push(sign_text(sign));
+    text.push(" ");
+    stopped.push_operand(text, 1);
+    text.push(")");
 }
 
-// A label, and what it was asked of.
-fn push_asked(text: &mut String, stopped: Stopped<'_>, label: &str) -> Result<(), AllocError> {
-    text.push_str(" (`")?;
-    text.push_str(label)?;
-    text.push_str("` of ")?;
-    stopped.push_operand(text, 0)?;
-    text.push_str(")")
+// The last of what is asked of the first operand.
+fn push_of(text: &mut Telling, stopped: Stopped<'_>, asked: &str) {
+    text.push(asked);
+    text.push(" of ");
+    stopped.push_operand(text, 0);
+    text.push(")");
 }
 
-// The one operand of a node.
-fn push_given(text: &mut String, stopped: Stopped<'_>, name: &str) -> Result<(), AllocError> {
-    text.push_str(" (")?;
-    text.push_str(name)?;
-    text.push_str(" of ")?;
-    stopped.push_operand(text, 0)?;
-    text.push_str(")")
+// A label that was asked for.
+fn push_asked(text: &mut Telling, stopped: Stopped<'_>, label: &str) {
+    text.push(" (`");
+    text.push(label);
+    push_of(text, stopped, "`");
+}
+
+fn push_given(text: &mut Telling, stopped: Stopped<'_>, name: &str) {
+    text.push(" (");
+    push_of(text, stopped, name);
 }
 
 // The two operands of a member.
-fn push_member(text: &mut String, stopped: Stopped<'_>) -> Result<(), AllocError> {
-    text.push_str(" (member ")?;
-    stopped.push_operand(text, 1)?;
-    text.push_str(" of ")?;
-    stopped.push_operand(text, 0)?;
-    text.push_str(")")
+fn push_member(text: &mut Telling, stopped: Stopped<'_>) {
+    text.push(" (member ");
+    stopped.push_operand(text, 1);
+    push_of(text, stopped, "");
 }
 
 /// Adds what the operands of the node were.
-pub fn push_operands(text: &mut String, stopped: Stopped<'_>) -> Result<(), AllocError> {
+pub fn push_operands(text: &mut Telling, stopped: Stopped<'_>) {
     match &stopped.node.kind {
         Kind::Operate(sign) => push_signed(text, stopped, *sign),
         Kind::Get(label) | Kind::Put(label) | Kind::Call(label) | Kind::Scatter(label) => {
@@ -72,6 +72,6 @@ pub fn push_operands(text: &mut String, stopped: Stopped<'_>) -> Result<(), Allo
         Kind::Active(_) => push_given(text, stopped, "active"),
         Kind::WaitAll => push_given(text, stopped, "waitall"),
         Kind::Member => push_member(text, stopped),
-        _ => Ok(()),
+        _ => {}
     }
 }

@@ -2,62 +2,62 @@
 
 use crate::counts::Counts;
 use asp_model::Verdict;
-use std::alloc::AllocError;
+use told_texts::Telling;
 
 // So many of something.
-fn push_count(text: &mut String, count: u64, one: &str, more: &str) -> Result<(), AllocError> {
-    write!(text, "{count}")?;
-    text.push_str(if count == 1 { one } else { more })
+fn push_count(text: &mut Telling, count: u64, one: &str, more: &str) {
+    text.push_count(count);
+    text.push(if count == 1 { one } else { more });
 }
 
 // Why nothing goes on, or that it could.
-fn push_verdict(text: &mut String, verdict: Verdict, counts: Counts) -> Result<(), AllocError> {
+fn push_verdict(text: &mut Telling, verdict: Verdict, counts: Counts) {
     match verdict {
         Verdict::Blocked => {
-            text.push_str("blocked: ")?;
+            text.push("blocked: ");
             push_count(
                 text,
                 counts.waiting,
                 " activity waits for an answer that cannot come",
                 " activities wait for answers that cannot come",
-            )
+            );
         }
         Verdict::Budget => {
-            text.push_str("cut off by its budget: ")?;
+            text.push("cut off by its budget: ");
             push_count(
                 text,
                 counts.running,
                 " activity can go on",
                 " activities can go on",
-            )
+            );
         }
-        Verdict::End => text.push_str("end"),
+        Verdict::End => text.push("end"),
     }
 }
 
 /// Adds how a run stands to a text: its verdict, its faults, and the requests that nobody serves.
-pub fn push_heading(text: &mut String, verdict: Verdict, counts: Counts) -> Result<(), AllocError> {
-    push_verdict(text, verdict, counts)?;
+pub fn push_heading(text: &mut Telling, verdict: Verdict, counts: Counts) {
+    push_verdict(text, verdict, counts);
     if counts.faulted > 0 {
-        text.push_str(", ")?;
+        text.push(", ");
         push_count(
             text,
             counts.faulted,
             " activity stopped at a fault",
             " activities stopped at faults",
-        )?;
+        );
     }
     if counts.pending > 0 {
-        text.push_str(match verdict {
+        text.push(match verdict {
             Verdict::End => ", but ",
             Verdict::Blocked | Verdict::Budget => ", ",
-        })?;
-        push_pending(text, verdict, counts.pending)?;
+        });
+        push_pending(text, verdict, counts.pending);
     }
     if is_plain(verdict, counts) {
-        text.push_str(": nobody waits for an answer, and no request is pending")?;
+        text.push(": nobody waits for an answer, and no request is pending");
     }
-    text.push_str("\n")
+    text.push("\n");
 }
 
 // There is nothing more to tell.
@@ -66,7 +66,7 @@ fn is_plain(verdict: Verdict, counts: Counts) -> bool {
 }
 
 // The requests that are pending.
-fn push_pending(text: &mut String, verdict: Verdict, pending: u64) -> Result<(), AllocError> {
+fn push_pending(text: &mut Telling, verdict: Verdict, pending: u64) {
     match verdict {
         Verdict::End | Verdict::Blocked => push_count(
             text,

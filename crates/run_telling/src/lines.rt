@@ -7,9 +7,8 @@ use asp_model::{ActivityReport, Fault, FutureName, Label, Status};
 use code_table::{EMPTY_NUMBER, Kind, Node, SERVE_NUMBER};
 use run_ends::EndState;
 use run_waits::{Asked, Explained, Target};
-use state_lines::push_name;
-use std::alloc::AllocError;
 use step_machine::node_at;
+use told_texts::Telling;
 
 /// A program's text and a run of it.
 #[derive(Clone, Copy)]
@@ -20,28 +19,27 @@ pub struct Told<'a> {
 }
 
 // Labels, with commas between them.
-fn push_labels(text: &mut String, labels: &[Label]) -> Result<(), AllocError> {
+fn push_labels(text: &mut Telling, labels: &[Label]) {
     let mut between = "";
     for label in labels {
-        text.push_str(between)?;
-        text.push_str(label.text.as_str())?;
+        text.push(between);
+        text.push(label.text.as_str());
         between = ", ";
     }
-    Ok(())
 }
 
 /// Adds a label to a text.
-pub fn push_label(text: &mut String, label: &Label) -> Result<(), AllocError> {
-    text.push_str("`")?;
-    text.push_str(label.text.as_str())?;
-    text.push_str("`")
+pub fn push_label(text: &mut Telling, label: &Label) {
+    text.push("`");
+    text.push(label.text.as_str());
+    text.push("`");
 }
 
 /// Adds a request to a text: its label, and who asked.
-pub fn push_asked(text: &mut String, asked: &Asked) -> Result<(), AllocError> {
-    push_label(text, &asked.label)?;
-    text.push_str(" of ")?;
-    push_name(text, &asked.future.by)
+pub fn push_asked(text: &mut Telling, asked: &Asked) {
+    push_label(text, &asked.label);
+    text.push(" of ");
+    text.push_name(&asked.future.by);
 }
 
 impl Told<'_> {
@@ -54,10 +52,10 @@ impl Told<'_> {
     }
 
     /// Adds the name of an activity, by its number.
-    pub fn push_one(&self, text: &mut String, number: usize) -> Result<(), AllocError> {
+    pub fn push_one(&self, text: &mut Telling, number: usize) {
         match self.activity(number) {
-            Some(activity) => push_name(text, &activity.name),
-            None => Ok(()),
+            Some(activity) => text.push_name(&activity.name),
+            None => {}
         }
     }
 
@@ -74,138 +72,128 @@ impl Told<'_> {
     }
 
     // Where it stands in the text.
-    fn push_at(&self, text: &mut String, number: usize) -> Result<(), AllocError> {
+    fn push_at(&self, text: &mut Telling, number: usize) {
         let Some(node) = self.node_number(number) else {
-            return Ok(());
+            return;
         };
         if node <= EMPTY_NUMBER {
-            return Ok(());
+            return;
         }
         match byte_of(self.nodes(), node) {
             Some(at) => {
-                text.push_str(" at ")?;
-                push_place(text, self.file, self.bytes, at)
+                text.push(" at ");
+                push_place(text, self.file, self.bytes, at);
             }
-            None => Ok(()),
+            None => {}
         }
     }
 
     // Which request it serves.
-    fn push_service(&self, text: &mut String, activity: &ActivityReport) -> Result<(), AllocError> {
+    fn push_service(&self, text: &mut Telling, activity: &ActivityReport) {
         let Some(book) = self.run.books.book(&activity.name) else {
-            return Ok(());
+            return;
         };
         match book.serving.last() {
             Some(asked) => {
-                text.push_str(", serving ")?;
-                push_asked(text, asked)
+                text.push(", serving ");
+                push_asked(text, asked);
             }
-            None => Ok(()),
+            None => {}
         }
     }
 
     /// Adds a whole line on an activity: who, where in the text, in which service, and what it does.
-    pub fn push_line(&self, text: &mut String, number: usize) -> Result<(), AllocError> {
+    pub fn push_line(&self, text: &mut Telling, number: usize) {
         let Some(activity) = self.activity(number) else {
-            return Ok(());
+            return;
         };
-        text.push_str("  ")?;
-        push_name(text, &activity.name)?;
-        self.push_at(text, number)?;
-        self.push_service(text, activity)?;
+        text.push("  ");
+        text.push_name(&activity.name);
+        self.push_at(text, number);
+        self.push_service(text, activity);
         if matches!(activity.status, Status::Running) {
-            return Ok(());
+            return;
         }
-        text.push_str(": ")?;
-        self.push_deed(text, number, activity)
+        text.push(": ");
+        self.push_deed(text, number, activity);
     }
 
     // What it does.
-    fn push_deed(
-        &self,
-        text: &mut String,
-        number: usize,
-        activity: &ActivityReport,
-    ) -> Result<(), AllocError> {
+    fn push_deed(&self, text: &mut Telling, number: usize, activity: &ActivityReport) {
         match &activity.status {
-            Status::Done => text.push_str("has ended"),
+            Status::Done => text.push("has ended"),
             Status::Serving => self.push_standing(text, number, activity),
-            Status::Running => text.push_str("can go on"),
+            Status::Running => text.push("can go on"),
             Status::Awaits(future) => self.push_awaited(text, future),
             Status::Faulted(fault) => self.push_fault(text, number, *fault),
         }
     }
 
     // The request whose answer is awaited.
-    fn push_awaited(&self, text: &mut String, future: &FutureName) -> Result<(), AllocError> {
+    fn push_awaited(&self, text: &mut Telling, future: &FutureName) {
         match self.run.receipts.target(future) {
             Some(target) => {
-                text.push_str("waits for ")?;
-                push_name(text, &target.to)?;
-                text.push_str(" to answer ")?;
-                push_label(text, &target.label)?;
-                self.push_sent(text, target)
+                text.push("waits for ");
+                text.push_name(&target.to);
+                text.push(" to answer ");
+                push_label(text, &target.label);
+                self.push_sent(text, target);
             }
-            None => text.push_str("waits for an answer"),
+            None => text.push("waits for an answer"),
         }
     }
 
     // Where in the text a request was sent.
-    fn push_sent(&self, text: &mut String, target: &Target) -> Result<(), AllocError> {
+    fn push_sent(&self, text: &mut Telling, target: &Target) {
         match target.at {
             Some(at) => {
-                text.push_str(", sent at ")?;
-                push_place(text, self.file, self.bytes, at)
+                text.push(", sent at ");
+                push_place(text, self.file, self.bytes, at);
             }
-            None => Ok(()),
+            None => {}
         }
     }
 
     // The `serve` at which it stands, and what it answered before.
-    fn push_standing(
-        &self,
-        text: &mut String,
-        number: usize,
-        activity: &ActivityReport,
-    ) -> Result<(), AllocError> {
-        text.push_str("waits for a request")?;
-        self.push_served(text, number)?;
+    fn push_standing(&self, text: &mut Telling, number: usize, activity: &ActivityReport) {
+        text.push("waits for a request");
+        self.push_served(text, number);
         let Some(book) = self.run.books.book(&activity.name) else {
-            return Ok(());
+            return;
         };
         match &book.answered {
             Some(asked) => {
-                text.push_str("; it answered ")?;
-                push_asked(text, asked)?;
-                text.push_str(" last")
+                text.push("; it answered ");
+                push_asked(text, asked);
+                text.push(" last");
             }
-            None => Ok(()),
+            None => {}
         }
     }
 
     // The labels of a `serve`.
-    fn push_served(&self, text: &mut String, number: usize) -> Result<(), AllocError> {
+    fn push_served(&self, text: &mut Telling, number: usize) {
         let Some(number) = self.node_number(number) else {
-            return Ok(());
+            return;
         };
         let Some(node) = node_at(self.nodes(), number) else {
-            return Ok(());
+            return;
         };
         match &node.kind {
             Kind::Serve(labels) => {
-                text.push_str(", `serve(")?;
-                push_labels(text, labels)?;
-                text.push_str(")`")
+                text.push(", `serve(");
+                push_labels(text, labels);
+                text.push(")`");
             }
-            _ => Ok(()),
+            _ => {}
         }
     }
 
     // The fault, and the operands of its node.
-    fn push_fault(&self, text: &mut String, number: usize, fault: Fault) -> Result<(), AllocError> {
-        text.push_str(fault_text(fault))?;
+    fn push_fault(&self, text: &mut Telling, number: usize, fault: Fault) {
+        text.push(fault_text(fault));
         let Some(state) = self.run.end.state(number) else {
-            return Ok(());
+            return;
         };
         let nodes = self.nodes();
         let Some(at) = node_of(nodes, state) else {
@@ -213,14 +201,14 @@ impl Told<'_> {
         };
         match node_at(nodes, at) {
             Some(node) => push_operands(text, Stopped { nodes, state, node }),
-            None => Ok(()),
+            None => {}
         }
     }
 
     // The call that a service began with.
-    fn push_call(&self, text: &mut String, state: &EndState) -> Result<(), AllocError> {
-        text.push_str(" (")?;
-        push_label(text, &state.machine.asked.label)?;
-        text.push_str(")")
+    fn push_call(&self, text: &mut Telling, state: &EndState) {
+        text.push(" (");
+        push_label(text, &state.machine.asked.label);
+        text.push(")");
     }
 }

@@ -4,9 +4,8 @@ use asp_model::Sign;
 use code_table::{Child, Kind, Leaf, Node, View};
 use object_store::Store;
 use run_ends::EndState;
-use state_lines::push_name;
-use std::alloc::AllocError;
 use step_machine::{Focus, node_at};
+use told_texts::Telling;
 
 /// An activity that stopped at a node.
 #[derive(Clone, Copy)]
@@ -64,15 +63,15 @@ impl Stopped<'_> {
     }
 
     /// Adds what an operand was to a text.
-    pub fn push_operand(&self, text: &mut String, number: usize) -> Result<(), AllocError> {
+    pub fn push_operand(&self, text: &mut Telling, number: usize) {
         match self.operand(number) {
             Some(place) => match cell_at(&self.state.store, place) {
                 Some(cell) => push_cell(text, cell),
-                None => text.push_str("?"),
+                None => text.push("?"),
             },
             None => match self.literal(number) {
-                Some(value) => write!(text, "{value}"),
-                None => text.push_str("?"),
+                Some(value) => text.push_number(value),
+                None => text.push("?"),
             },
         }
     }
@@ -88,18 +87,18 @@ fn cell_at(store: &Store, place: usize) -> Option<View<'_>> {
 }
 
 // Adds what a cell is to a text.
-fn push_cell(text: &mut String, cell: View) -> Result<(), AllocError> {
+fn push_cell(text: &mut Telling, cell: View) {
     match cell {
-        View::Number(value) => write!(text, "{value}"),
-        View::Object(_) => text.push_str("an object"),
+        View::Number(value) => text.push_number(value),
+        View::Object(_) => text.push("an object"),
         View::Reference(name) => {
-            text.push_str("the activity ")?;
-            push_name(text, name)
+            text.push("the activity ");
+            text.push_name(name);
         }
-        View::Future(_) => text.push_str("an answer"),
+        View::Future(_) => text.push("an answer"),
         View::Group(members) => {
-            let count = members.len();
-            write!(text, "a group of {count}")
+            text.push("a group of ");
+            text.push_count(members.len() as u64);
         }
     }
 }

@@ -3,8 +3,8 @@
 use code_table::{Child, Node};
 use explain::{Position, position_of};
 use run_ends::EndState;
-use std::alloc::AllocError;
 use step_machine::{Focus, in_place_count, next_child, node_at};
+use told_texts::Telling;
 
 // The node below a node at which a machine stopped, where its redex needs no frame.
 fn inner(nodes: &[Node], number: usize, from: usize, done: usize) -> usize {
@@ -37,12 +37,11 @@ pub fn byte_of(nodes: &[Node], number: usize) -> Option<usize> {
 }
 
 /// Adds a place of a file to a text.
-pub fn push_place(
-    text: &mut String,
-    file: &str,
-    bytes: &[u8],
-    at: usize,
-) -> Result<(), AllocError> {
+pub fn push_place(text: &mut Telling, file: &str, bytes: &[u8], at: usize) {
     let Position { line, column } = position_of(bytes, at);
-    write!(text, "{file}:{line}:{column}")
+    text.push(file);
+    text.push(":");
+    text.push_count(line as u64);
+    text.push(":");
+    text.push_count(column as u64);
 }

@@ -5,8 +5,8 @@ use crate::lines::{Told, push_asked};
 use asp_model::{ActivityReport, Label, Status};
 use code_table::{Kind, MethodCode, Node};
 use explain::Nearest;
-use state_lines::push_name;
 use std::alloc::{AllocError, Global};
+use told_texts::Telling;
 use wait_circles::{Circle, Why};
 
 // So many lines of a section are told.
@@ -39,21 +39,21 @@ fn title_of(section: Section) -> &'static str {
 }
 
 // How many more lines there would be.
-fn push_more(text: &mut String, count: u64) -> Result<(), AllocError> {
+fn push_more(text: &mut Telling, count: u64) {
     if count > MOST_LINES {
         let more = count.saturating_sub(MOST_LINES);
-        write!(text, "  and {more} more\n")?;
+        text.push("  and ");
+        text.push_count(more);
+        text.push(" more\n");
     }
-    Ok(())
 }
 
 // The title of a section before its first line.
-fn push_title(text: &mut String, count: u64, title: &str) -> Result<(), AllocError> {
+fn push_title(text: &mut Telling, count: u64, title: &str) {
     if count == 0 {
-        text.push_str(title)?;
-        text.push_str(":\n")?;
+        text.push(title);
+        text.push(":\n");
     }
-    Ok(())
 }
 
 // Those of a circle are told there.
@@ -102,135 +102,129 @@ impl Told<'_> {
     }
 
     /// Adds a section.
-    pub fn push_section(
-        &self,
-        text: &mut String,
-        sections: &[Section],
-        section: Section,
-    ) -> Result<(), AllocError> {
+    pub fn push_section(&self, text: &mut Telling, sections: &[Section], section: Section) {
         let mut count = 0;
         for number in 0..sections.len() {
             if sections[number] != section {
                 continue;
             }
-            push_title(text, count, title_of(section))?;
+            push_title(text, count, title_of(section));
             if count < MOST_LINES {
-                self.push_line(text, number)?;
-                self.push_end(text, number)?;
-                text.push_str("\n")?;
+                self.push_line(text, number);
+                self.push_end(text, number);
+                text.push("\n");
             }
             count = one_more(count);
         }
-        push_more(text, count)
+        push_more(text, count);
     }
 
     /// Adds the circles: in each, every activity waits for the next.
-    pub fn push_circles(&self, text: &mut String) -> Result<(), AllocError> {
+    pub fn push_circles(&self, text: &mut Telling) {
         let mut count = 0;
         for circle in &self.run.ways.circles {
             if count < MOST_LINES {
-                self.push_circle(text, circle)?;
+                self.push_circle(text, circle);
             }
             count = one_more(count);
         }
-        push_more(text, count)
+        push_more(text, count);
     }
 
-    fn push_circle(&self, text: &mut String, circle: &Circle) -> Result<(), AllocError> {
+    fn push_circle(&self, text: &mut Telling, circle: &Circle) {
         let size = circle.others.len().saturating_add(1);
-        write!(
-            text,
-            "circle of {size}, each waits for the next, and the last for the first:\n"
-        )?;
-        self.push_line(text, circle.first)?;
-        text.push_str("\n")?;
+        text.push("circle of ");
+        text.push_count(size as u64);
+        text.push(", each waits for the next, and the last for the first:\n");
+        self.push_line(text, circle.first);
+        text.push("\n");
         let mut count = 1;
         for number in &circle.others {
             if count < MOST_LINES {
-                self.push_line(text, *number)?;
-                text.push_str("\n")?;
+                self.push_line(text, *number);
+                text.push("\n");
             }
             count = one_more(count);
         }
-        push_more(text, count)
+        push_more(text, count);
     }
 
     // Where the waits of one lead who is in no circle.
-    fn push_end(&self, text: &mut String, number: usize) -> Result<(), AllocError> {
+    fn push_end(&self, text: &mut Telling, number: usize) {
         match self.run.why(number) {
             Some(Why::Round(circle)) => match self.run.ways.circles.get(circle) {
                 Some(circle) => self.push_last(text, circle.first, " is in a circle"),
-                None => Ok(()),
+                None => {}
             },
             Some(Why::Ended(last)) if last != number => {
-                self.push_last(text, last, " has ended, and serves no more")
+                self.push_last(text, last, " has ended, and serves no more");
             }
             Some(Why::Faulted(last)) if last != number => {
-                self.push_last(text, last, " stopped at a fault")
+                self.push_last(text, last, " stopped at a fault");
             }
             Some(Why::Unserved(last)) if last != number => {
-                self.push_last(text, last, " waits for another request")
+                self.push_last(text, last, " waits for another request");
             }
             Some(Why::Values(last)) if last != number => {
-                self.push_last(text, last, " waits for a future that leads back to itself")
+                self.push_last(text, last, " waits for a future that leads back to itself");
             }
-            Some(Why::Values(_)) => text.push_str(
+            Some(Why::Values(_)) => text.push(
                 "; the answer is there, and is a future that leads back to itself",
             ),
-            Some(_) | None => Ok(()),
+            Some(_) | None => {}
         }
     }
 
-    fn push_last(&self, text: &mut String, last: usize, is: &str) -> Result<(), AllocError> {
-        text.push_str("; ")?;
-        self.push_one(text, last)?;
-        text.push_str(is)
+    fn push_last(&self, text: &mut Telling, last: usize, is: &str) {
+        text.push("; ");
+        self.push_one(text, last);
+        text.push(is);
     }
 
     /// Adds the requests that nobody serves.
-    pub fn push_pending(&self, text: &mut String, title: &str) -> Result<(), AllocError> {
+    pub fn push_pending(&self, text: &mut Telling, title: &str) {
         let mut count = 0;
         for activity in &self.run.end.outcome.activities {
-            count = self.push_pending_of(text, title, activity, count)?;
+            count = self.push_pending_of(text, title, activity, count);
         }
-        push_more(text, count)
+        push_more(text, count);
     }
 
     // Adds those of one activity behind so many others, and answers how many there are with them.
     fn push_pending_of(
         &self,
-        text: &mut String,
+        text: &mut Telling,
         title: &str,
         activity: &ActivityReport,
         count: u64,
-    ) -> Result<u64, AllocError> {
+    ) -> u64 {
         let Some(book) = self.run.books.book(&activity.name) else {
-            return Ok(count);
+            return count;
         };
         let mut count = count;
         for asked in book.pending.iter() {
-            push_title(text, count, title)?;
+            push_title(text, count, title);
             if count < MOST_LINES {
-                text.push_str("  ")?;
-                push_name(text, &activity.name)?;
-                text.push_str(" has ")?;
-                push_asked(text, asked)?;
-                self.push_unknown(text, &asked.label)?;
-                text.push_str("\n")?;
+                text.push("  ");
+                text.push_name(&activity.name);
+                text.push(" has ");
+                push_asked(text, asked);
+                self.push_unknown(text, &asked.label);
+                text.push("\n");
             }
             count = one_more(count);
         }
-        Ok(count)
+        count
     }
 
     // That no object has a method of this name.
-    fn push_unknown(&self, text: &mut String, label: &Label) -> Result<(), AllocError> {
+    fn push_unknown(&self, text: &mut Telling, label: &Label) {
         let nodes = self.run.end.code.nodes();
         if has_method(nodes, label) {
-            return Ok(());
+            return;
         }
-        text.push_str("; no object has a method of that name")?;
-        push_meant(text, nodes, label)
+        text.push("; no object has a method of that name");
+        push_meant(text, nodes, label);
     }
 }
 
@@ -247,7 +241,7 @@ fn has_method(nodes: &[Node], label: &Label) -> bool {
 }
 
 // Which label may be meant.
-fn push_meant(text: &mut String, nodes: &[Node], label: &Label) -> Result<(), AllocError> {
+fn push_meant(text: &mut Telling, nodes: &[Node], label: &Label) {
     let mut nearest = Nearest::to(label.text.as_str());
     for node in nodes {
         if let Kind::Make(class) = &node.kind {
@@ -255,8 +249,12 @@ fn push_meant(text: &mut String, nodes: &[Node], label: &Label) -> Result<(), Al
         }
     }
     match nearest.found() {
-        Some(meant) => write!(text, ": is `{meant}` meant?"),
-        None => Ok(()),
+        Some(meant) => {
+            text.push(": is `");
+            text.push(meant);
+            text.push("` meant?");
+        }
+        None => {}
     }
 }
 

@@ -7,6 +7,7 @@ use crate::sections::{Section, count_of};
 use asp_model::Verdict;
 use run_waits::Explained;
 use std::alloc::{AllocError, Global};
+use told_texts::Telling;
 
 /// Tells why a run of the program in a file stands as it does.
 pub fn tell_run(
@@ -18,22 +19,22 @@ pub fn tell_run(
     let told = Told { file, bytes, run };
     let counts = counts_of(run);
     let verdict = run.end.outcome.verdict;
-    let mut text = String::new(alloc);
-    push_heading(&mut text, verdict, counts)?;
     let sections = told.sections(alloc)?;
+    let mut text = Telling::new(alloc);
+    push_heading(&mut text, verdict, counts);
     if matches!(verdict, Verdict::End) {
-        told.push_pending(&mut text, "never served")?;
+        told.push_pending(&mut text, "never served");
     }
-    told.push_section(&mut text, &sections, Section::Faulted)?;
-    told.push_circles(&mut text)?;
-    told.push_section(&mut text, &sections, Section::Waiting)?;
-    told.push_section(&mut text, &sections, Section::Running)?;
-    told.push_section(&mut text, &sections, Section::Serving)?;
+    told.push_section(&mut text, &sections, Section::Faulted);
+    told.push_circles(&mut text);
+    told.push_section(&mut text, &sections, Section::Waiting);
+    told.push_section(&mut text, &sections, Section::Running);
+    told.push_section(&mut text, &sections, Section::Serving);
     if !matches!(verdict, Verdict::End) {
-        told.push_pending(&mut text, pending_title(verdict))?;
+        told.push_pending(&mut text, pending_title(verdict));
     }
-    push_rest(&mut text, &sections)?;
-    Ok(text)
+    push_rest(&mut text, &sections);
+    text.whole()
 }
 
 fn pending_title(verdict: Verdict) -> &'static str {
@@ -44,8 +45,10 @@ fn pending_title(verdict: Verdict) -> &'static str {
 }
 
 // How many have nothing to do.
-fn push_rest(text: &mut String, sections: &[Section]) -> Result<(), AllocError> {
-    let idle = count_of(sections, Section::Idle);
-    let ended = count_of(sections, Section::Ended);
-    write!(text, "idle: {idle}, ended: {ended}\n")
+fn push_rest(text: &mut Telling, sections: &[Section]) {
+    text.push("idle: ");
+    text.push_count(count_of(sections, Section::Idle));
+    text.push(", ended: ");
+    text.push_count(count_of(sections, Section::Ended));
+    text.push("\n");
 }
