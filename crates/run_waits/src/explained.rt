@@ -1,6 +1,6 @@
 //! The end of a replay, and what waits at it lead to.
 
-ghost use Rattle.std.specs.Prelude.{◌≡◌, IfErr, IfOk, Some, slice_get};
+ghost use Rattle.std.specs.Prelude.{◌≡◌, IfErr, IfOk, Some, length, slice_get};
 ghost use Rattle.asp_model.specs.Configuration.{Configuration};
 ghost use Rattle.asp_model.specs.Names.{Name};
 ghost use Rattle.asp_model.specs.Outcome.{outcome_of};
@@ -10,9 +10,10 @@ ghost use Rattle.asp_model.specs.Status.{IsStuck};
 ghost use Rattle.replay_one.specs.Correct.{IsStop};
 ghost use Rattle.replay_one.specs.Listed.{AreReplayable};
 ghost use Rattle.replay_one.specs.Notes.{replay_notes};
-ghost use Rattle.wait_circles.specs.Whys.{IsToldWhy, names_of};
+ghost use Rattle.wait_circles.specs.Ways.{AreCircles, AreEnds};
+ghost use Rattle.wait_circles.specs.Whys.{AreWaits, IsToldWhy, names_of};
 ghost use Rattle.run_waits.specs.Books.{KeepsBooks};
-ghost use Rattle.run_waits.specs.Explains.{IsExplained};
+ghost use Rattle.run_waits.specs.Explains.{IsEndTold, IsExplained};
 
 use crate::books::Books;
 use crate::kept::Kept;
@@ -22,7 +23,7 @@ use asp_check::Checked;
 use asp_model::{Counts, Lists};
 use replay_one::{ReplayStop, replay_noting};
 use run_ends::RunEnd;
-use std::alloc::Global;
+use std::alloc::{AllocError, Global};
 use wait_circles::{End, Ways, Why, ways_of, why_of};
 
 /// The end of a replay. Activities are told by their numbers in the outcome.
@@ -64,15 +65,40 @@ pub fn explain_run(
     let mut kept = Kept::new(alloc);
     let end = replay_noting(alloc, program, lists, counts, &mut kept)?;
     let Kept { receipts, books } = kept;
-    let next = waits_in(alloc, &end.outcome.activities, &end.futures, &receipts)?;
+    match leads_in(alloc, &end, &receipts) {
+        Ok(Leads { next, ways }) => Ok(Explained {
+            end,
+            receipts,
+            books,
+            next,
+            ways,
+        }),
+        Err(error) => {
+            drop(end);
+            Err(ReplayStop::from(error))
+        }
+    }
+}
+
+// Whom each waits for, and where these waits lead.
+struct Leads {
+    next: Vec<Option<usize>>,
+    ways: Ways,
+}
+
+fn leads_in(alloc: Global, end: &RunEnd, receipts: &Receipts) -> Result<Leads, AllocError>
+    ensures size { let activities = end.now.outcome.activities.items in
+        IfOk result (λ l. length l.next.items ≡ length activities) }
+    ensures waits { let activities = end.now.outcome.activities.items in (c : Configuration) →
+        IsEndTold c activities end.now.futures receipts.now →
+        IfOk result (λ l. AreWaits c l.next.items (names_of activities)) }
+    ensures circles { IfOk result (λ l. AreCircles l.next.items l.ways.circles.items) }
+    ensures ends { IfOk result
+        (λ l. AreEnds l.next.items l.ways.circles.items l.ways.ends.items) }
+{
+    let next = waits_in(alloc, &end.outcome.activities, &end.futures, receipts)?;
     let ways = ways_of(alloc, &next)?;
-    Ok(Explained {
-        end,
-        receipts,
-        books,
-        next,
-        ways,
-    })
+    Ok(Leads { next, ways })
 }
 
 fn end_at(ends: &[End], number: usize) -> Option<End>
