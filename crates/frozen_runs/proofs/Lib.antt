@@ -1,3 +1,4 @@
+pub mod ActivityLemmas
 pub mod CellLemmas
 pub mod LineLemmas
 pub mod RedexLemmas

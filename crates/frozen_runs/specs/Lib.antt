@@ -1,2 +1,3 @@
+pub mod Activities
 pub mod Pieces
 pub mod Redexes

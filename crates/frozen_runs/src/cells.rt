@@ -35,7 +35,13 @@ pub fn put_cells(
     Ok(())
 }
 
-fn put_cell(alloc: Global, text: &mut String, code: &Code, cell: View) -> Result<(), DecodeError>
+/// Writes a cell over this code.
+pub fn put_cell(
+    alloc: Global,
+    text: &mut String,
+    code: &Code,
+    cell: View,
+) -> Result<(), DecodeError>
     ensures adds { let shape = cell_shape code.now cell.entry in
         OnOk result (Adds text.old (cell_items shape) text.new) }
 {

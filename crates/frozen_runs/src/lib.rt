@@ -2,6 +2,7 @@
 //! that their objects are of.
 #![tactic(auto)]
 
+mod activities;
 mod cells;
 mod lines;
 mod methods;
@@ -9,6 +10,7 @@ mod parcels;
 mod redexes;
 mod services;
 
+pub use activities::activity_line;
 pub use cells::put_cells;
 pub use lines::{homes_line, values_line};
 pub use parcels::{put_parcel, put_request};

@@ -57,7 +57,8 @@ fn put_values(
     text: &mut String,
     values: &BTreeMap<FutureName, &Parcel>,
 ) -> Result<(), DecodeError>
-    ensures adds { OnOk result (Adds text.old (list_items value_items values.now.entries) text.new) }
+    ensures adds { let items = list_items value_items values.now.entries in
+        OnOk result (Adds text.old items text.new) }
 {
     put_number(text, values.len() as u64)?;
     for (future, value) in values {

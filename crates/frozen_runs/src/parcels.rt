@@ -25,7 +25,8 @@ pub fn put_parcel(alloc: Global, text: &mut String, parcel: &Parcel) -> Result<(
 
 /// Writes a request.
 pub fn put_request(alloc: Global, text: &mut String, request: &Request) -> Result<(), DecodeError>
-    ensures adds { OnOk result (Adds text.old (request_items (request_shape request.now)) text.new) }
+    ensures adds { let items = request_items (request_shape request.now) in
+        OnOk result (Adds text.old items text.new) }
 {
     put_text(text, request.label.text.as_str())?;
     put_name(text, &request.sender)?;

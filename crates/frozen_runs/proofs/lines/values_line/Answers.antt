@@ -1,4 +1,4 @@
-use Rattle.std.proofs.Common.{◌≡◌, ◌∙◌, ◌++◌, ap, sym}
+use Rattle.std.proofs.Common.{◌∙◌, ◌++◌, ap}
 use Rattle.std.specs.Prelude.{codes}
 use Rattle.checkpoint_text.specs.Items.{Items, future_items, list_items, pair_items, parcel_items}
 use Rattle.checkpoint_text.specs.Writing.{words}
