@@ -23,7 +23,6 @@ ASP, EXPLAIN, OUTCOMES = (
     os.environ.get(name.upper(), os.path.join(HERE, "crates", name, "out", name))
     for name in ("asp", "asp_explain", "asp_outcomes")
 )
-NAMES = {ASP: "asp", EXPLAIN: "asp-explain", OUTCOMES: "asp-outcomes"}
 NOBODY = 65534
 MOST_SECONDS = 60
 REPORT = b"asp report 2\nverdict end\nactivity 0 4 done\nsenders\n> 3\n"
@@ -113,7 +112,7 @@ def streams():
         say("full error, and no message", call(runs, err=full), (0, REPORT, b""))
         say("both full", call(runs, out=full, err=full), (7, b"", b""))
         say("full output, explained", call([EXPLAIN, "a.asp"], out=full), (7, b"", b"asp-explain: cannot write\n"))
-        say("full output, outcomes", call([OUTCOMES, "a.asp"], out=full), (7, b"", b"asp-outcomes: cannot write\n"))
+        say("full output, outcomes", call([OUTCOMES, "a.asp"], out=full), (7, b"", b"asp: cannot write\n"))
     with open("a.asp", "rb") as only:
         say("output that is read alone", call(runs, out=only), (7, b"", cannot))
 
@@ -150,6 +149,13 @@ def pipes():
 # Files
 
 
+def teller(words):
+    """The name before a refusal: what asp-outcomes says of a program is what asp says of it."""
+    if words[0] == EXPLAIN:
+        return "asp-explain"
+    return "asp-outcomes" if "--check-ends" in words else "asp"
+
+
 def unread(name, before=None):
     """A file that cannot be read, in each place of a file."""
     for words in (
@@ -163,7 +169,7 @@ def unread(name, before=None):
         [OUTCOMES, name],
         [OUTCOMES, "a.asp", "--check-ends", "r", name],
     ):
-        told = f"{NAMES[words[0]]}: cannot read {name}\n"
+        told = f"{teller(words)}: cannot read {name}\n"
         say(f"{words}", call(words, before), (6, b"", told.encode()))
 
 

@@ -1,7 +1,7 @@
 #!/usr/bin/env python3
 """Finds how much stack the deepest programs take: of each kind of node, nested as deep as the checker allows.
 
-    bench/stacks.py [--most KB] [NAME ..]     at most so much is to be taken (2048); all kinds with no NAME
+    bench/stacks.py [--most KB] [NAME ..]     at most so much is to be taken (512); all kinds with no NAME
 
 It takes the programs that `rt ci` built, or those that ASP, ASP_EXPLAIN and ASP_OUTCOMES name. Each program is checked,
 run, replayed and so on under a limit of stack (`ulimit -s`) that is halved and doubled until the least multiple of 8 KB
@@ -174,7 +174,7 @@ def show(name, depth, found):
 
 def main():
     parser = argparse.ArgumentParser(description=__doc__, formatter_class=argparse.RawDescriptionHelpFormatter)
-    parser.add_argument("--most", type=int, default=2048)
+    parser.add_argument("--most", type=int, default=512)
     parser.add_argument("names", metavar="NAME", nargs="*")
     options = parser.parse_args()
     wrong = 0
