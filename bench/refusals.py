@@ -145,8 +145,11 @@ def run(folder, program, words, env=None, limit=None):
 
 def is_right(program, got, own):
     """Whether the run ended as it does with memory, or said that it had none and nothing else."""
-    message = f"{program.replace('_', '-')}: no memory\n".encode()
-    return got == own or got in ((8, b"", message), (8, b"", b""))
+    if got == own or got == (8, b"", b""):
+        return True
+    # (what asp-outcomes says of the program's file is what asp says of it)
+    names = ("asp-outcomes", "asp") if program == "asp_outcomes" else (program.replace("_", "-"),)
+    return got in [(8, b"", f"{name}: no memory\n".encode()) for name in names]
 
 
 def requests(folder, program, words, env):
