@@ -35,7 +35,7 @@ less n k d = by (nat_lt n k) refl d
     by true p q = grind (arith, nat_tests)
     by false p q = absurd (no (nat_eq n k) q)
 
-is_less : (n k : ℕ) → n < k → nat_cmp n k ≡ Less
+pub is_less : (n k : ℕ) → n < k → nat_cmp n k ≡ Less
 is_less n k lt = let e : nat_lt n k ≡ true = grind (arith, nat_tests) in ap (λ b. cond b Less (cond (nat_eq n k) Equal Greater)) e
 
 pub equal_same : (n k : ℕ) → nat_eq n k ≡ true → n ≡ k
@@ -44,14 +44,14 @@ equal_same n k e = grind (arith, nat_tests)
 pub number_same : (n k : ℕ) → eq_by_cmp nat_cmp n k ≡ true → n ≡ k
 number_same n k e = equal_same n k (equal_numbers n k ∙ e)
 
-apart : (n k : ℕ) → (n ≡ k → ⊥) → is_eq (nat_cmp n k) ≡ false
+pub apart : (n k : ℕ) → (n ≡ k → ⊥) → is_eq (nat_cmp n k) ≡ false
 apart n k never = by (is_eq (nat_cmp n k)) refl
   where
     by : (b : Bool) → is_eq (nat_cmp n k) ≡ b → b ≡ false
     by true e = absurd (never (number_same n k e))
     by false e = refl
 
-flipped : (n k : ℕ) → is_eq (nat_cmp n k) ≡ is_eq (nat_cmp k n)
+pub flipped : (n k : ℕ) → is_eq (nat_cmp n k) ≡ is_eq (nat_cmp k n)
 flipped n k = let e : nat_eq n k ≡ nat_eq k n = grind (arith, nat_tests) in sym (equal_numbers n k) ∙ e ∙ equal_numbers k n
 
 pub itself : (k : ℕ) → is_eq (nat_cmp k k) ≡ true

@@ -4,11 +4,10 @@ use Rattle.std.proofs.lemmas.Bool.Decides.{nat_tests}
 use Rattle.std.specs.List.{AllByRecursion}
 use Rattle.std.specs.List.Sorted.{IsStrictlySortedBy}
 use Rattle.std.specs.Option.{option_map}
-use Rattle.std.specs.Ordering.{eq_by_cmp, is_eq, nat_cmp, match_ordering}
+use Rattle.std.specs.Ordering.{eq_by_cmp, is_eq, nat_cmp}
 use Rattle.std.specs.declared.cmp.Ordering.TheVariants.{Less, Equal, Greater}
 use Rattle.std.specs.Cmp.Lexicographic.{nat_list_eq_equiv}
 use Rattle.std.specs.Map.{keys_of, remove_entry}
-use Rattle.std.specs.BTreeMap.{insert_entry}
 use Rattle.asp_model.specs.declared.word.Label.{Label}
 use Rattle.request_queue.specs.declared.request.Request.{Request}
 use Rattle.asp_model.specs.Names.{Text, same_text}
@@ -16,12 +15,12 @@ use Rattle.asp_model.specs.Term.{has_text}
 use Rattle.asp_model.specs.Intent.{Numbered}
 use Rattle.request_queue.specs.Requests.{request_shape}
 use Rattle.request_queue.specs.declared.notes.Notes.{Notes}
-use Rattle.request_queue.specs.Pending.{oldest, request_at}
+use Rattle.request_queue.specs.Pending.{but, oldest, request_at}
 use Rattle.request_queue.specs.Numbers.{IsUpTo}
 use Rattle.request_queue.specs.Notes.{IsAbove, IsOldest, is_noted, is_that, label_order}
 use Rattle.request_queue.specs.Kept.{has_label, waits}
 use Rattle.request_queue.proofs.OldestLemmas.{text_same, tied}
-use Rattle.request_queue.proofs.NumberLemmas.{itself, less, number_same}
+use Rattle.request_queue.proofs.NumberLemmas.{apart, flipped, is_less, itself, less, number_same}
 
 abbrev Entries : Type 0
 Entries = List (ℕ × Request)
@@ -39,10 +38,6 @@ greater n k lt = by (nat_lt n k) refl (nat_eq n k) refl
     by false p true q = absurd (grind (arith, nat_tests))
     by false p false q = refl
 
-pub added_last : (n : ℕ) (r : Request) (es : Entries) → AreBelow n es → insert_entry nat_cmp es n r ≡ es ++ (n, r) ∷ []
-added_last n r [] b = refl
-added_last n r (e ∷ es) b = ap (λ o. match_ordering o ((n, r) ∷ e ∷ es) ((e.0, r) ∷ es) (e ∷ insert_entry nat_cmp es n r)) (greater n e.0 b.0) ∙ ap (λ xs. e ∷ xs) (added_last n r es b.1)
-
 pub below_more : (n : ℕ) (r : Request) (es : Entries) → AreBelow n es → AreBelow (n + 1) (es ++ (n, r) ∷ [])
 below_more n r [] b = (omega arith, tt)
 below_more n r (e ∷ es) b = (omega (arith, b.0), below_more n r es b.1)
@@ -54,6 +49,71 @@ below_less n test (e ∷ es) b = elim (test e.0) as (λ t. AreBelow n (cond t es
 pub not_there : (n : ℕ) (es : Entries) → AreBelow n es → request_at n es ≡ None
 not_there n [] b = refl
 not_there n (e ∷ es) b = ap (λ o. cond (is_eq o) (Some e.1) (request_at n es)) (greater n e.0 b.0) ∙ not_there n es b.1
+
+-- Entries in order
+
+abbrev pub Ascends : Entries → Type 0
+Ascends es = IsStrictlySortedBy nat_cmp (keys_of es)
+
+pub ascends_none : Ascends []
+unfolding IsStrictlySortedBy
+ascends_none = tt
+
+-- all numbers are above this one
+abbrev AreAbove : ℕ → Entries → Type 0
+AreAbove k es = AllByRecursion (λ y. nat_cmp k y ≡ Less) (keys_of es)
+
+above_more : (k n : ℕ) (r : Request) (es : Entries) → nat_cmp k n ≡ Less → AreAbove k es → AreAbove k (es ++ (n, r) ∷ [])
+above_more k n r [] lt above = (lt, tt)
+above_more k n r (e ∷ es) lt above = (above.0, above_more k n r es lt above.1)
+
+pub ordered_more : (n : ℕ) (r : Request) (es : Entries) → AreBelow n es → Ascends es → Ascends (es ++ (n, r) ∷ [])
+unfolding IsStrictlySortedBy
+ordered_more n r [] below up = (tt, tt)
+ordered_more n r (e ∷ es) below up = (above_more e.0 n r es (is_less e.0 n below.0) up.0, ordered_more n r es below.1 up.1)
+
+above_less : (k : ℕ) (test : ℕ → Bool) (es : Entries) → AreAbove k es → AreAbove k (remove_entry test es)
+above_less k test [] above = tt
+above_less k test (e ∷ es) above = elim (test e.0) as (λ t. AreAbove k (cond t es (e ∷ remove_entry test es))) [ true ↦ above.1 | false ↦ (above.0, above_less k test es above.1) ]
+
+pub ordered_less : (test : ℕ → Bool) (es : Entries) → Ascends es → Ascends (remove_entry test es)
+unfolding IsStrictlySortedBy
+ordered_less test [] up = tt
+ordered_less test (e ∷ es) up = elim (test e.0) as (λ t. Ascends (cond t es (e ∷ remove_entry test es))) [ true ↦ up.1 | false ↦ (above_less e.0 test es up.0, ordered_less test es up.1) ]
+
+-- the request of a number, where one came under the next
+pub found_more : (n : ℕ) (r : Request) (es : Entries) → AreBelow n es → (k : ℕ) → request_at k (es ++ (n, r) ∷ []) ≡ cond (eq_by_cmp nat_cmp n k) (Some r) (request_at k es)
+found_more n r [] below k = ap (λ t. cond t (Some r) None) (flipped k n)
+found_more n r (e ∷ es) below k = by (is_eq (nat_cmp k e.0)) refl (found_more n r es below.1 k)
+  where
+    by : (t : Bool) → is_eq (nat_cmp k e.0) ≡ t → request_at k (es ++ (n, r) ∷ []) ≡ cond (eq_by_cmp nat_cmp n k) (Some r) (request_at k es)
+        → cond t (Some e.1) (request_at k (es ++ (n, r) ∷ [])) ≡ cond (eq_by_cmp nat_cmp n k) (Some r) (cond t (Some e.1) (request_at k es))
+    by true d next = let lt : e.0 < n = below.0 in let same : k ≡ e.0 = number_same k e.0 d in ap (λ t. cond t (Some r) (Some e.1)) (sym (apart n k (λ f. omega (arith, lt, same, f))))
+    by false d next = next
+
+absent_above : (k : ℕ) (es : Entries) → AreAbove k es → request_at k es ≡ None
+absent_above k [] above = refl
+absent_above k (e ∷ es) above = ap (λ o. cond (is_eq o) (Some e.1) (request_at k es)) above.0 ∙ absent_above k es above.1
+
+-- and where one left
+pub found_less : (n : ℕ) (es : Entries) → Ascends es → (k : ℕ) → request_at k (but n es) ≡ cond (eq_by_cmp nat_cmp n k) None (request_at k es)
+unfolding IsStrictlySortedBy
+found_less n [] up k = sym (neither (eq_by_cmp nat_cmp n k) None)
+  where
+    neither : (t : Bool) (o : Option Request) → cond t o o ≡ o
+    neither true o = refl
+    neither false o = refl
+found_less n (e ∷ es) up k = first (is_eq (nat_cmp n e.0)) refl (eq_by_cmp nat_cmp n k) refl (is_eq (nat_cmp k e.0)) refl (found_less n es up.1 k)
+  where
+    first : (a : Bool) → is_eq (nat_cmp n e.0) ≡ a → (b : Bool) → eq_by_cmp nat_cmp n k ≡ b → (t : Bool) → is_eq (nat_cmp k e.0) ≡ t → request_at k (but n es) ≡ cond b None (request_at k es)
+        → request_at k (cond a es (e ∷ but n es)) ≡ cond b None (cond t (Some e.1) (request_at k es))
+    first true p true q t d next = let same : k ≡ e.0 = sym (number_same n k q) ∙ number_same n e.0 p in ap (λ m. request_at m es) same ∙ absent_above e.0 es up.0
+    first true p false q true d next = let same : n ≡ k = number_same n e.0 p ∙ sym (number_same k e.0 d) in absurd (subst T (sym (subst (λ m. is_eq (nat_cmp m k) ≡ true) (sym same) (itself k)) ∙ q) tt)
+    first true p false q false d next = refl
+    first false p true q true d next = let same : n ≡ e.0 = number_same n k q ∙ number_same k e.0 d in absurd (subst T (sym (subst (λ m. is_eq (nat_cmp m e.0) ≡ true) (sym same) (itself e.0)) ∙ p) tt)
+    first false p true q false d next = ap (λ t. cond t (Some e.1) (request_at k (but n es))) d ∙ next
+    first false p false q true d next = ap (λ t. cond t (Some e.1) (request_at k (but n es))) d
+    first false p false q false d next = ap (λ t. cond t (Some e.1) (request_at k (but n es))) d ∙ next
 
 -- Notes
 
@@ -140,9 +200,6 @@ record IsFirst (asked : List Text) (es : Entries) (o : Option ℕ) : Type 0 wher
 
 contradiction : {A : Type 0} (b : Bool) → b ≡ true → b ≡ false → A
 contradiction b p q = absurd (subst T (sym p ∙ q) tt)
-
-abbrev Ascends : Entries → Type 0
-Ascends es = IsStrictlySortedBy nat_cmp (keys_of es)
 
 -- a pending number is above what is below all numbers
 waits_after : (k : ℕ) (es : Entries) (l : Label) (n : ℕ) → AllByRecursion (λ y. nat_cmp k y ≡ Less) (keys_of es) → waits es l n ≡ true → k < n

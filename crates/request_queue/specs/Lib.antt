@@ -3,6 +3,7 @@ pub mod Pending
 pub mod Numbers
 pub mod Ascending
 pub mod Notes
+pub mod Places
 pub mod Kept
 pub mod Few
 pub mod Led

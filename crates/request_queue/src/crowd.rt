@@ -1,5 +1,5 @@
-//! Pending requests in maps. A served request leaves them, and the others keep their order and
-//! their numbers.
+//! Pending requests, in places by their numbers and noted under their labels. A served request
+//! leaves, and the others keep their order and their numbers.
 
 ghost use Rattle.std.specs.Prelude.{
   ◌≡◌,
@@ -21,11 +21,11 @@ ghost use Rattle.serve_rules.specs.Wanted.{wanted_labels};
 ghost use Rattle.request_queue.specs.Pending.{but, oldest, request_at, waiting};
 ghost use Rattle.request_queue.specs.Requests.{lent_shapes, shapes_of};
 
+use crate::arrivals::Arrivals;
 use crate::notes::Notes;
 use crate::request::Request;
 use serve_rules::Wanted;
 use std::alloc::{AllocError, Global};
-use std::collections::BTreeMap;
 use std::marker::Model;
 
 /// Requests have numbers of 64 bits. No more are taken once this many have arrived.
@@ -35,9 +35,7 @@ pub const MOST_ARRIVALS: u64 = u64::MAX;
 /// have arrived, here or before.
 #[derive(Drop)]
 pub struct Crowd {
-    arrived: u64,
-    /// In boxes, so that a node of the map is small.
-    pending: BTreeMap<u64, Box<Request>>,
+    requests: Arrivals,
     notes: Notes,
 }
 
@@ -60,8 +58,7 @@ impl Crowd {
         ensures arrived { result.arrived ≡ arrived }
     {
         Crowd {
-            arrived,
-            pending: BTreeMap::new(alloc),
+            requests: Arrivals::new(alloc, arrived),
             notes: Notes::new(alloc),
         }
     }
@@ -71,14 +68,14 @@ impl Crowd {
         ensures len { result ≡ length self.now.pending }
         ensures small { result < 2 ^ 63 }
     {
-        self.pending.len()
+        self.requests.len()
     }
 
     /// How many requests have arrived.
     pub fn arrived(&self) -> u64
         ensures arrived { result ≡ self.now.arrived }
     {
-        self.arrived
+        self.requests.arrived()
     }
 
     /// Puts the requests behind others, oldest first.
@@ -86,11 +83,7 @@ impl Crowd {
         ensures pending { IfOk result (λ v. lent_shapes v.items
             ≡ lent_shapes first.entry.items ++ shapes_of self.now.pending) }
     {
-        let mut pending = first;
-        for request in self.pending.values() {
-            pending.push(request)?;
-        }
-        Ok(pending)
+        self.requests.behind(first)
     }
 
     /// Appends a request under the next number. It fails when as many have arrived as can be numbered,
@@ -102,17 +95,15 @@ impl Crowd {
         ensures arrived { OnOk result (self.new.arrived ≡ self.old.arrived + 1) }
         ensures err { OnErr result (self.new ≡ self.old) }
     {
-        if self.arrived == MOST_ARRIVALS {
+        let number = self.requests.arrived();
+        if number == MOST_ARRIVALS {
             return Err(AllocError);
         }
-        self.notes.note(&request.label, self.arrived)?;
-        match self.pending.insert(self.arrived, request) {
-            Ok(_) => {
-                self.arrived += 1;
-                Ok(())
-            }
-            Err(failed) => {
-                self.notes.forget(&failed.value.1.label, self.arrived);
+        self.notes.note(&request.label, number)?;
+        match self.requests.push(request) {
+            Ok(()) => Ok(()),
+            Err(back) => {
+                self.notes.forget(&back.label, number);
                 Err(AllocError)
             }
         }
@@ -135,7 +126,7 @@ impl Crowd {
         ensures others { self.new.pending ≡ but number self.old.pending }
         ensures arrived { self.new.arrived ≡ self.old.arrived }
     {
-        let request = self.pending.remove(&number).unwrap();
+        let request = self.requests.take(number);
         self.notes.forget(&request.label, number);
         Box::into_inner(request)
     }

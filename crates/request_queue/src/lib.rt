@@ -1,6 +1,7 @@
 //! The pending requests of one activity, and which of them a service takes.
 #![tactic(auto)]
 
+mod arrivals;
 mod crowd;
 mod few;
 mod laws;

@@ -4,7 +4,7 @@ use Rattle.asp_model.specs.Configuration.{RequestShape}
 use Rattle.request_queue.specs.Led.{behind}
 use Rattle.request_queue.specs.Pending.{QueueView, waiting}
 use Rattle.request_queue.specs.Requests.{lent_shapes, shapes_of}
-use Rattle.request_queue.proofs.BoxLemmas.{shapes_append, shapes_waiting}
+use Rattle.request_queue.proofs.ShapeLemmas.{shapes_append, shapes_waiting}
 use Rattle.request_queue.proofs.queue.Queue.pending.Goals as goal
 
 pub returns-in-Some : goal.returns-in-Some
