@@ -28,6 +28,15 @@ changed f change old new places e updates g = by (is_same f g) refl
     by true p = ap or_none (updates g ∙ ap (λ b. cond b (Some places) (old g)) p) ∙ e ∙ ap (λ h. change (or_none (old h))) (is_same_same f g p)
     by false p = ap or_none (updates g ∙ ap (λ b. cond b (Some places) (old g)) p)
 
+-- the places of one future are written twice
+pub again : (f : FutureName) (change : List ℕ → List ℕ) (first last : List ℕ) (old mid new : FutureName → List ℕ) → last ≡ change (old f) → ((g : FutureName) → mid g ≡ changed_so (λ _. first) (is_same f g) (old g))
+    → ((g : FutureName) → new g ≡ changed_so (λ _. last) (is_same f g) (mid g)) → (g : FutureName) → new g ≡ changed_so change (is_same f g) (old g)
+again f change first last old mid new e one two g = by (is_same f g) refl
+  where
+    by : (b : Bool) → is_same f g ≡ b → new g ≡ changed_so change b (old g)
+    by true p = two g ∙ ap (λ b. changed_so (λ _. last) b (mid g)) p ∙ e ∙ ap (λ h. change (old h)) (is_same_same f g p)
+    by false p = two g ∙ ap (λ b. changed_so (λ _. last) b (mid g)) p ∙ one g ∙ ap (λ b. changed_so (λ _. first) b (old g)) p
+
 -- nothing changes where a future has no places, and the change makes none
 pub unchanged : (f : FutureName) (change : List ℕ → List ℕ) (old new : Held) → change (or_none (old f)) ≡ or_none (old f) → ((g : FutureName) → new g ≡ old g) → (g : FutureName) → or_none (new g) ≡ changed_so change (is_same f g) (or_none (old g))
 unchanged f change old new e same g = by (is_same f g) refl

@@ -32,7 +32,7 @@ indexed_less old new s c h changes = λ f. changes f ∙ ap (changed_so (without
 future_cmp_total : IsTotalOrder future_cmp
 future_cmp_total = then_total (on_total (λ (f : FutureShape). f.by) nat_list_cmp_total) (on_total (λ (f : FutureShape). f.index) nat_cmp_total)
 
-same_future_itself : (f : FutureShape) → same_future f f ≡ true
+pub same_future_itself : (f : FutureShape) → same_future f f ≡ true
 same_future_itself f = (eq_by_cmp_equiv future_cmp_total).refl f
 
 clash : {b : Bool} {C : Type 0} → b ≡ true → b ≡ false → C

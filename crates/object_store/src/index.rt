@@ -1,18 +1,6 @@
 //! The places that hold each future.
 
-ghost use Rattle.std.specs.Prelude.{
-  ◌≡◌,
-  None,
-  Some,
-  [],
-  false,
-  IfOk,
-  IsOk,
-  IsSome,
-  IsTrue,
-  OnErr,
-  OnOk,
-};
+ghost use Rattle.std.specs.Prelude.{◌≡◌, [], false, IfOk, IsOk, IsSome, IsTrue, OnErr, OnOk};
 ghost use Rattle.indexmap.specs.IndexMap.{get};
 ghost use Rattle.code_table.specs.Cells.{coded};
 ghost use Rattle.object_store.specs.Holders.{is_one_future as one_future, is_some_future};
@@ -26,7 +14,7 @@ ghost use Rattle.object_store.specs.Index.{
   is_same,
   places_in,
 };
-ghost use Rattle.object_store.specs.Places.{with_place, without_place};
+ghost use Rattle.object_store.specs.Places.{places_of, with_place, without_place};
 
 use crate::places::Places;
 use asp_model::FutureName;
@@ -80,10 +68,33 @@ impl Index {
         ensures places { OnOk result (Changes future.now (with_place place) self.old self.new) }
         ensures err { OnErr result (IsAlike self.old self.new) }
     {
-        if self.held.contains_key(future) {
-            self.insert_known(future, place)
-        } else {
-            self.insert_new(future, place)
+        let name = future.copy(self.alloc)?;
+        match self.held.insert(name, Places::At(place))? {
+            None => Ok(()),
+            Some(known) => self.put_more(future, known, place),
+        }
+    }
+
+    // Writes the places that a future had with one more, or as they were where memory is refused.
+    fn put_more(
+        &mut self,
+        future: &FutureName,
+        known: Places,
+        place: Place,
+    ) -> Result<(), AllocError>
+        requires known { IsSome (get is_same self.old.held future.now) }
+        ensures places { let more = with_place place (places_of known) in
+            OnOk result (Changes future.now (λ _. more) self.old self.new) }
+        ensures err { OnErr result (Changes future.now (λ _. places_of known) self.old self.new) }
+    {
+        let mut places = known;
+        let added = places.insert(self.alloc, place);
+        match self.held.get_mut(future) {
+            Some(here) => {
+                *here = places;
+                added
+            }
+            None => added,
         }
     }
 
@@ -142,30 +153,6 @@ impl Index {
         if !is_one_future(old, new) {
             self.release(old, place);
         }
-    }
-
-    fn insert_known(&mut self, future: &FutureName, place: Place) -> Result<(), AllocError>
-        requires known { IsSome (get is_same self.old.held future.now) }
-        ensures places { OnOk result (Changes future.now (with_place place) self.old self.new) }
-        ensures err { OnErr result (IsAlike self.old self.new) }
-    {
-        match self.held.get_mut(future) {
-            Some(places) => {
-                places.insert(self.alloc, place)?;
-                Ok(())
-            }
-            None => Ok(()),
-        }
-    }
-
-    fn insert_new(&mut self, future: &FutureName, place: Place) -> Result<(), AllocError>
-        requires new { get is_same self.old.held future.now ≡ None }
-        ensures places { OnOk result (Changes future.now (with_place place) self.old self.new) }
-        ensures err { OnErr result (IsAlike self.old self.new) }
-    {
-        let name = future.copy(self.alloc)?;
-        self.held.insert(name, Places::At(place))?;
-        Ok(())
     }
 }
 
