@@ -1,6 +1,6 @@
 //! Cells: as a store keeps them, as they are read, and deep copies of cells.
 
-ghost use Rattle.std.specs.Prelude.{◌≡◌, ◌+◌, ◌≤◌, [], IfOk, List, length, ℕ};
+ghost use Rattle.std.specs.Prelude.{◌≡◌, ◌<◌, ◌+◌, ◌≤◌, ◌^◌, [], IfOk, IsOk, List, length, ℕ};
 ghost use Rattle.std.specs.Arc.{arc_value};
 ghost use Rattle.code_table.specs.Cells.{
   IsBare,
@@ -65,6 +65,7 @@ impl Cell {
     pub fn bare_object(class: usize) -> Result<Cell, AllocError>
         ensures bare { IfOk result IsBare }
         ensures cell { IfOk result (λ c. bare c ≡ object_with class []) }
+        ensures succeeds { class < 2 ^ 32 → IsOk result }
     {
         Ok(Cell::Object {
             class: short(class)?,
@@ -152,6 +153,7 @@ impl Cell {
 #[inline(always)]
 pub(crate) fn short(number: usize) -> Result<u32, AllocError>
     ensures number { IfOk result (λ n. n ≡ number) }
+    ensures succeeds { number < 2 ^ 32 → IsOk result }
 {
     match u32::try_from(number) {
         Ok(short) => Ok(short),

@@ -78,6 +78,7 @@ impl Columns {
     /// No cells, with room for so many cells and so many words.
     pub fn with_room(alloc: Global, cells: usize, words: usize) -> Result<Columns, AllocError>
         ensures items { IfOk result (λ c. c.items ≡ []) }
+        ensures free { IfOk result (λ c. cells ≤ c.free) }
     {
         Ok(Columns {
             cells: Vec::with_capacity(alloc, cells)?,
