@@ -57,6 +57,7 @@ impl Places {
     /// Whether no place is left.
     pub fn is_empty(&self) -> bool
         ensures none { IsTrue result → places_of self.now ≡ [] }
+        ensures some { places_of self.now ≡ [] → IsTrue result }
     {
         match self {
             Places::Nowhere => true,

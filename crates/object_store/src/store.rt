@@ -254,7 +254,8 @@ impl Store {
     // Takes the last cell out again.
     fn unappend(&mut self)
         requires { 0 < length self.old.cells }
-        ensures { self.new.cells ≡ take (length self.old.cells - 1) self.old.cells }
+        ensures cells { self.new.cells ≡ take (length self.old.cells - 1) self.old.cells }
+        ensures spare { self.new.spare ≡ self.old.spare }
     {
         let last = self.columns.len() - 1;
         self.finder.release(self.columns.view(last), last);
@@ -264,7 +265,8 @@ impl Store {
     /// Takes cells out at the end, down to so many.
     pub fn shorten_to(&mut self, count: usize)
         requires { count ≤ length self.old.cells }
-        ensures { self.new.cells ≡ take count self.old.cells }
+        ensures cells { self.new.cells ≡ take count self.old.cells }
+        ensures spare { self.new.spare ≡ self.old.spare }
     {
         while count < self.columns.len() {
             self.unappend();
