@@ -89,6 +89,7 @@ impl Numbers {
     /// Whether there is none.
     pub fn is_empty(&self) -> bool
         ensures none { IsTrue result → self.now ≡ [] }
+        ensures some { self.now ≡ [] → IsTrue result }
     {
         self.numbers.is_empty()
     }
