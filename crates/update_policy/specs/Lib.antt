@@ -1,3 +1,4 @@
 pub mod Budgets
 pub mod Strategies
 pub mod Plans
+pub mod Scripts
