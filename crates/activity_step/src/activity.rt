@@ -114,6 +114,7 @@ impl Activity {
         ensures outcome { result ≡ outcome }
         ensures same { OnOk result (self.new ≡ self.old) }
         ensures gives_up { OnErr result (self.new.spent ≡ true) }
+        ensures still { OnOk result (self.new.spent ≡ self.old.spent) }
         ensures code { code_of self.new ≡ code_of self.old }
     {
         if outcome.is_err() {
@@ -127,6 +128,7 @@ impl Activity {
     fn take_any(&mut self, alloc: Global, go: bool) -> Result<Advance, AllocError>
         ensures after { (a : ActivityShape) → StandsFor self.old a →
             IfOk result (IsAfter self.new a go) }
+        ensures still { self.new.spent ≡ self.old.spent }
         ensures code { code_of self.new ≡ code_of self.old }
     {
         let advance = self.state.advance(alloc, &self.code, go)?;
@@ -146,6 +148,7 @@ impl Activity {
     fn take(&mut self, alloc: Global, go: bool) -> Result<Advance, AllocError>
         ensures after { (a : ActivityShape) → StandsFor self.old a →
             IfOk result (IsAfter self.new a go) }
+        ensures still { self.new.spent ≡ self.old.spent }
         ensures code { code_of self.new ≡ code_of self.old }
     {
         match self.state.stop(&self.code) {
@@ -165,6 +168,7 @@ impl Activity {
             IfOk result (IsAfter self.new a go) }
         ensures spent { self.old.spent ≡ true → result ≡ Err alloc_error }
         ensures gives_up { OnErr result (self.new.spent ≡ true) }
+        ensures still { OnOk result (self.new.spent ≡ self.old.spent) }
         ensures code { code_of self.new ≡ code_of self.old }
     {
         self.unspent()?;
@@ -178,6 +182,7 @@ impl Activity {
         ensures taken { (a : ActivityShape) → StandsFor self.old a →
             IfOk result (IsRunning self.new a) }
         ensures within { IfOk result (λ n. n ≤ left) }
+        ensures still { self.new.spent ≡ self.old.spent }
         ensures code { code_of self.new ≡ code_of self.old }
     {
         let taken = self.state.quick_all(alloc, &self.code, left)?;
@@ -196,6 +201,7 @@ impl Activity {
             IfOk result (λ x. IsNext self.new a x.0 x.1) }
         ensures some { IfOk result (λ x. 0 < x.0) }
         ensures within { IfOk result (λ x. x.0 ≤ left) }
+        ensures still { self.new.spent ≡ self.old.spent }
         ensures code { code_of self.new ≡ code_of self.old }
     {
         let taken = self.quick(alloc, left)?;
@@ -211,6 +217,7 @@ impl Activity {
     fn run(&mut self, alloc: Global, most: u64) -> Result<Advance, AllocError>
         ensures run { (a : ActivityShape) → StandsFor self.old a →
             IfOk result (IsRun self.new a most) }
+        ensures still { self.new.spent ≡ self.old.spent }
         ensures code { code_of self.new ≡ code_of self.old }
     {
         let mut left = most;
@@ -233,6 +240,7 @@ impl Activity {
             IfOk result (IsRun self.new a most) }
         ensures spent { self.old.spent ≡ true → result ≡ Err alloc_error }
         ensures gives_up { OnErr result (self.new.spent ≡ true) }
+        ensures still { OnOk result (self.new.spent ≡ self.old.spent) }
         ensures code { code_of self.new ≡ code_of self.old }
     {
         self.unspent()?;

@@ -41,6 +41,7 @@ impl Activity {
             StandsFor self.old a → split a.term ≡ Splits contexts redex →
             let c = cell_of (code_of self.old) (bare cell) in
             OnOk result (StandsFor self.new (with_new_cell contexts c a)) }
+        ensures still { self.new.spent ≡ self.old.spent }
         ensures code { code_of self.new ≡ code_of self.old }
     {
         let nodes = self.code.nodes();
@@ -57,6 +58,7 @@ impl Activity {
         ensures becomes { (a : ActivityShape) (contexts : List Context) (redex : Redex) →
             StandsFor self.old a → split a.term ≡ Splits contexts redex →
             OnOk result (StandsFor self.new (with_new_cell contexts (ReferenceCell name) a)) }
+        ensures still { self.new.spent ≡ self.old.spent }
         ensures code { code_of self.new ≡ code_of self.old }
     {
         let cell = Cell::Reference(Arc::new(alloc, name)?);
@@ -69,6 +71,7 @@ impl Activity {
             StandsFor self.old a → split a.term ≡ Splits contexts redex →
             let c = FutureCell (held_future future) in
             OnOk result (StandsFor self.new (with_new_cell contexts c a)) }
+        ensures still { self.new.spent ≡ self.old.spent }
         ensures code { code_of self.new ≡ code_of self.old }
     {
         self.become_cell(Cell::Future(future))
@@ -79,6 +82,7 @@ impl Activity {
         ensures becomes { (a : ActivityShape) (contexts : List Context) (redex : Redex) →
             StandsFor self.old a → split a.term ≡ Splits contexts redex →
             OnOk result (StandsFor self.new (polled contexts answer a)) }
+        ensures still { self.new.spent ≡ self.old.spent }
         ensures code { code_of self.new ≡ code_of self.old }
     {
         self.become_cell(number_cell(answer))
@@ -91,6 +95,7 @@ impl Activity {
             OnOk result (StandsFor self.new (with_new_cell contexts (ReferenceCell name) a)) }
         ensures spent { self.old.spent ≡ true → result ≡ Err alloc_error }
         ensures gives_up { OnErr result (self.new.spent ≡ true) }
+        ensures still { OnOk result (self.new.spent ≡ self.old.spent) }
         ensures code { code_of self.new ≡ code_of self.old }
     {
         self.unspent()?;
@@ -107,6 +112,7 @@ impl Activity {
             OnOk result (StandsFor self.new (with_new_cell contexts c a)) }
         ensures spent { self.old.spent ≡ true → result ≡ Err alloc_error }
         ensures gives_up { OnErr result (self.new.spent ≡ true) }
+        ensures still { OnOk result (self.new.spent ≡ self.old.spent) }
         ensures code { code_of self.new ≡ code_of self.old }
     {
         self.unspent()?;
@@ -122,6 +128,7 @@ impl Activity {
             OnOk result (StandsFor self.new (polled contexts answer a)) }
         ensures spent { self.old.spent ≡ true → result ≡ Err alloc_error }
         ensures gives_up { OnErr result (self.new.spent ≡ true) }
+        ensures still { OnOk result (self.new.spent ≡ self.old.spent) }
         ensures code { code_of self.new ≡ code_of self.old }
     {
         self.unspent()?;

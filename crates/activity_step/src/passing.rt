@@ -37,6 +37,7 @@ impl Activity {
         ensures stands { (a : ActivityShape) → StandsFor self.old a →
             let filled = unpacked_at a.store place (parcel_shape value.now) in
             OnOk result (StandsFor self.new (record a { store = filled })) }
+        ensures still { self.new.spent ≡ self.old.spent }
         ensures code { code_of self.new ≡ code_of self.old }
     {
         unpack_at(alloc, &mut self.state.store, place, value)
@@ -52,6 +53,7 @@ impl Activity {
             OnOk result (StandsFor self.new (record a { store = filled })) }
         ensures spent { self.old.spent ≡ true → result ≡ Err alloc_error }
         ensures gives_up { OnErr result (self.new.spent ≡ true) }
+        ensures still { OnOk result (self.new.spent ≡ self.old.spent) }
         ensures code { code_of self.new ≡ code_of self.old }
     {
         self.unspent()?;

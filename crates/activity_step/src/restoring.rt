@@ -1,6 +1,6 @@
 //! Activities that are made anew.
 
-ghost use Rattle.std.specs.Prelude.{◌≡◌, reverse};
+ghost use Rattle.std.specs.Prelude.{◌≡◌, false, reverse};
 ghost use Rattle.std.specs.Arc.{arc_value};
 ghost use Rattle.std.specs.Option.{option_map};
 ghost use Rattle.asp_model.specs.Configuration.{Activity as ActivityShape};
@@ -29,6 +29,7 @@ impl Activity {
             option_map held_future present ≡ a.present → active ≡ a.active →
             count ≡ a.reductions → StandsFor result a }
         ensures code { code_of result ≡ arc_value code }
+        ensures fresh { result.spent ≡ false }
     {
         Activity {
             code,

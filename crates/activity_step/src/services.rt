@@ -57,6 +57,7 @@ impl Activity {
             let p = parcel_shape arguments in
             let f = held_future future in
             OnOk result (StandsFor self.new (serving contexts label.text f p a)) }
+        ensures still { self.new.spent ≡ self.old.spent }
         ensures code { code_of self.new ≡ code_of self.old }
     {
         let nodes = self.code.nodes();
@@ -90,6 +91,7 @@ impl Activity {
             OnOk result (StandsFor self.new (serving contexts label.text f p a)) }
         ensures spent { self.old.spent ≡ true → result ≡ Err alloc_error }
         ensures gives_up { OnErr result (self.new.spent ≡ true) }
+        ensures still { OnOk result (self.new.spent ≡ self.old.spent) }
         ensures code { code_of self.new ≡ code_of self.old }
     {
         self.unspent()?;
@@ -103,6 +105,7 @@ impl Activity {
             StandsFor self.old a → split a.term ≡ Stands place → newest a.services ≡ Some v →
             IfOk result (λ f. (option_map held_future f ≡ a.present)
             × StandsFor self.new (going_on v a)) }
+        ensures still { self.new.spent ≡ self.old.spent }
         ensures code { code_of self.new ≡ code_of self.old }
     {
         code_is_sound(&self.code);
@@ -121,6 +124,7 @@ impl Activity {
             × StandsFor self.new (going_on v a)) }
         ensures spent { self.old.spent ≡ true → result ≡ Err alloc_error }
         ensures gives_up { OnErr result (self.new.spent ≡ true) }
+        ensures still { OnOk result (self.new.spent ≡ self.old.spent) }
         ensures code { code_of self.new ≡ code_of self.old }
     {
         self.unspent()?;

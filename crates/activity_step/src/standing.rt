@@ -155,6 +155,7 @@ impl Activity {
         ensures stands { (a : ActivityShape) → StandsFor self.old a →
             OnOk result (StandsFor self.new a) }
         ensures store { self.new.state.store ≡ self.old.state.store }
+        ensures still { self.new.spent ≡ self.old.spent }
         ensures code { code_of self.new ≡ code_of self.old }
     {
         let nodes = self.code.nodes();
@@ -169,6 +170,7 @@ impl Activity {
         ensures store { OnOk result (self.new.state.store ≡ self.old.state.store) }
         ensures spent { self.old.spent ≡ true → result ≡ Err alloc_error }
         ensures gives_up { OnErr result (self.new.spent ≡ true) }
+        ensures still { OnOk result (self.new.spent ≡ self.old.spent) }
         ensures code { code_of self.new ≡ code_of self.old }
     {
         self.unspent()?;

@@ -1,6 +1,6 @@
 //! Activities that begin.
 
-ghost use Rattle.std.specs.Prelude.{◌≡◌, ◌∷◌, [], IfOk, List};
+ghost use Rattle.std.specs.Prelude.{◌≡◌, ◌∷◌, [], IfOk, List, false};
 ghost use Rattle.std.specs.Arc.{arc_value};
 ghost use Rattle.std.specs.Option.{option_map};
 ghost use Rattle.asp_model.specs.Configuration.{begun};
@@ -86,6 +86,7 @@ fn begin(alloc: Global, code: Arc<Code>, machine: Machine, store: Store) -> Acti
         Standing (arc_value code) (view_of machine) t [] →
         store_of (arc_value code) store.cells ≡ s → StandsFor result (begun t s) }
     ensures code { code_of result ≡ arc_value code }
+    ensures fresh { result.spent ≡ false }
 {
     Activity {
         code,
@@ -117,6 +118,7 @@ impl Activity {
             let program = tree [] (piece_at (pieces k) (root_of k)) in
             IfOk result (λ x. StandsFor x (begun program (ObjectCell [] [] ∷ []))) }
         ensures code { IfOk result (λ x. code_of x ≡ arc_value code) }
+        ensures fresh { IfOk result (λ x. x.spent ≡ false) }
     {
         code_is_sound(&code);
         let machine = machine_at(alloc, code.root());
@@ -135,6 +137,7 @@ impl Activity {
             let term = start_term (option_map (λ l. l.text) service) 0 in
             IfOk result (λ x. StandsFor x (begun term store)) }
         ensures code { IfOk result (λ x. code_of x ≡ arc_value object.code) }
+        ensures fresh { IfOk result (λ x. x.spent ≡ false) }
     {
         code_is_sound(&object.code);
         let machine = serving_machine(alloc, service)?;

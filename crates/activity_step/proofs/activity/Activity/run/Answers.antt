@@ -19,6 +19,7 @@ loop-left-init c = (
       let none : 0 ≡ c.args.most - c.args.most = omega arith in
       record { here = a; run = subst (λ (n : ℕ). LocalRun n a a) none refl; stands = h },
   refl,
+  refl,
 )
 
 pub loop-left-preserved : goal.loop-left-preserved
@@ -32,6 +33,7 @@ loop-left-preserved c =
           let sum : c.args.most - c.loop-left.left + n ≡ c.args.most - (c.loop-left.left - n) = omega (arith, c.loop-left.invariant.0, within) in
           record { here = s.here; run = subst (λ (m : ℕ). LocalRun m a s.here) sum (goes_on (c.args.most - c.loop-left.left) n a w.here s.here w.run s.run); stands = s.stands },
       c.in_ok-taken.ensures.code ∙ c.loop-left.invariant.2,
+      c.in_ok-taken.ensures.still ∙ c.loop-left.invariant.3,
     )
 
 pub returns-clause-run : goal.returns-clause-run
