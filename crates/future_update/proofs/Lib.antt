@@ -8,3 +8,4 @@ pub mod OwedLemmas
 pub mod EdgeLemmas
 pub mod HolderLemmas
 pub mod LanedLemmas
+pub mod HomeLemmas

@@ -1,9 +1,12 @@
 -- What contracts see of the holders of futures.
-use Rattle.std.specs.Prelude.{◌≡◌, ℕ, map, Bool, true, false, List, [], ◌∷◌, ◌++◌, ◌&&◌, not, Option, Some, None, position, slice_get}
+use Rattle.std.specs.Prelude.{◌≡◌, ℕ, map, filter, Bool, true, false, List, [], ◌∷◌, ◌++◌, ◌&&◌, not, Option, Some, None, T, position, slice_get}
 use Rattle.std.specs.List.{AllByRecursion, IsDistinct, list_any}
-use Rattle.asp_model.specs.Names.{Name, same_name}
+use Rattle.std.specs.FinMap.{find, is_sorted}
+use Rattle.asp_model.specs.declared.name.FutureName.{FutureName}
+use Rattle.asp_model.specs.Names.{Name, FutureShape, future_cmp, same_name}
 use Rattle.asp_model.specs.History.{ChoiceShape, DeliveryShape, Edge, Need}
-use Rattle.def_journals.specs.Edges.{EdgeShape, HoldersShape, Delivers, after_event, has_edge, is_no_edge, owed_at, same_edge}
+use Rattle.asp_model.specs.Shapes.{future_shape}
+use Rattle.def_journals.specs.Edges.{EdgeShape, HoldersShape, Delivers, after_event, has_edge, home_of, is_no_edge, owed_at, same_edge}
 
 -- the definitions' holders, with the answer for each edge, and the activities that were met, each with whether it is out
 pub record HoldersView : Type 0 where
@@ -40,6 +43,19 @@ is_delivered h (Some x) = has_edge x h.delivered
 abbrev pub with_delivery : HoldersShape → Option EdgeShape → HoldersShape
 with_delivery h None = h
 with_delivery h (Some x) = after_event (Delivers x) h
+
+-- the edges along which the value was not delivered
+abbrev pub undelivered : HoldersShape → List EdgeShape
+undelivered h = filter (λ x. not (has_edge x h.delivered)) h.edges
+
+-- a future with its home
+abbrev pub home_shape : FutureName × Name → FutureShape × Name
+home_shape e = (future_shape e.0, e.1)
+
+-- the futures of these homes, ascending, each with its home
+pub record AreHomes (homes entries : List (FutureShape × Name)) : Type 0 where
+  pub found : (f : FutureShape) → find future_cmp f entries ≡ home_of f homes
+  pub ascending : T (is_sorted future_cmp entries)
 
 -- Activities
 

@@ -26,20 +26,24 @@ ghost use Rattle.future_update.specs.Changes.{once_filled, once_received};
 ghost use Rattle.core_sets.specs.Firsts.{IsFirstFrom};
 ghost use Rattle.future_update.specs.Holders.{
   AreEdges,
-  answered,
+  AreHomes,
   IsTurned,
+  answered,
   edge_in,
+  home_shape,
   is_delivered,
   is_met,
   owed_in,
   owed_to_one_in,
   place_in,
+  undelivered,
   with_delivery,
 };
 ghost use Rattle.future_update.specs.Names.{edge_between, edge_named};
 
 use crate::edge::EdgeNames;
 use crate::entering::{enter, make_room};
+use crate::homes::homes_of;
 use crate::passings::Passings;
 use crate::records::Records;
 use crate::settling::settle;
@@ -159,6 +163,14 @@ impl Holders {
             Some(home) => Some(self.records.names.name(home)),
             None => None,
         }
+    }
+
+    /// The futures that have homes, ascending, each with its home.
+    pub fn homes(&self, alloc: Global) -> Result<Vec<(FutureName, ActivityName)>, AllocError>
+        ensures homes { let homes = self.now.holders.homes in
+            IfOk result (λ v. AreHomes homes (map home_shape v.items)) }
+    {
+        homes_of(alloc, &self.records)
     }
 
     /// Says that a future is filled. It takes no memory.
@@ -298,6 +310,15 @@ impl Holders {
             result ≡ is_delivered self.now.holders edge }
     {
         self.records.was_delivered(place)
+    }
+
+    /// How many edges are kept along which the value was not delivered.
+    pub fn left(&self) -> u64
+        ensures left { result ≡ length (undelivered self.now.holders) }
+    {
+        let edges = self.records.edges.len();
+        let delivered = self.records.delivered.order().len();
+        (edges - delivered) as u64
     }
 
     /// The places of the edges that were delivered, in order.

@@ -4,6 +4,7 @@
 mod edge;
 mod entering;
 mod holders;
+mod homes;
 mod names;
 mod numbered;
 mod owed;
