@@ -1,15 +1,14 @@
 -- The activities of a core in which nobody is out are those of its run.
-use Rattle.std.proofs.Common.{◌≡◌, ◌≢◌, ◌<◌, ◌≤◌, ◌+◌, ◌++◌, ◌∷◌, [], ℕ, suc, List, Option, Some, None, is_some, length, slice_get, refl, sym, ap, subst, ◌∙◌, arith}
+use Rattle.std.proofs.Common.{◌≡◌, ◌≢◌, ◌<◌, ◌≤◌, ◌+◌, ◌++◌, ◌∷◌, [], ℕ, suc, List, Option, Some, None, is_some, length, map, slice_get, take, refl, sym, ap, subst, ◌∙◌, arith}
 use Rattle.std.specs.BTreeMap as trees
 use Rattle.std.specs.Cmp.{tied_itself}
 use Rattle.std.specs.FinMap.{find}
 use Rattle.std.specs.Global.{Box}
-use Rattle.std.specs.Map.{update_all}
 use Rattle.std.specs.Option.{option_map}
 use Rattle.std.specs.Ordering.{is_eq}
 use Rattle.std.proofs.lemmas.Map.{update_all_push, update_other, update_same}
 use Rattle.asp_model.specs.Configuration as model
-use Rattle.asp_model.specs.Configuration.{Configuration, RequestShape, log_of, requests_of}
+use Rattle.asp_model.specs.Configuration.{Configuration, log_of, requests_of}
 use Rattle.asp_model.specs.History.{HistoryShape, program_history}
 use Rattle.asp_model.specs.Names.{Name, name_cmp, same_name}
 use Rattle.asp_model.specs.Step.{name_at}
@@ -29,17 +28,14 @@ use Rattle.core_state.specs.Cores.{IsCore}
 use Rattle.core_state.proofs.LendLemmas.{is_here}
 use Rattle.core_state.proofs.ListLemmas.{got_within, name_got, name_within, number_case}
 use Rattle.step_ends.specs.Activities.{StandForReached, StandsAt, actor_at}
-use Rattle.asp_core.specs.Gathering.{AreApart, AreBefore, IsBrought, OthersStay}
+use Rattle.asp_core.specs.Gathering.{AreApart, AreBefore, IsBrought, OthersStay, as_actor, held_in, who_is_in}
 use Rattle.asp_core.specs.EndOfRun.{IsHome}
+use Rattle.asp_core.proofs.GatheredLemmas.{each_more}
 
 abbrev unboxed : Option (Box Actor) → Option Actor
 unboxed = option_map (λ b. b.value)
 
 -- Boxes by their names
-
--- the last that came with a name
-abbrev pub held_in : List (Name × Box Actor) → Name → Option (Box Actor)
-held_in = update_all same_name (λ _. None)
 
 held_here : (xs : List (Name × Box Actor)) (n : Name) (b : Box Actor) → held_in (xs ++ (n, b) ∷ []) n ≡ Some b
 held_here xs n b = sym (update_all_push same_name (λ _. None) (held_in xs) xs (n, b) n refl) ∙ update_same same_name (held_in xs) n (Some b) n (ap is_eq (tied_itself name_total n))
@@ -180,13 +176,14 @@ pub record IsGathered (first now : Seats Actor Request) (count i : ℕ) (m : Lis
   pub names : names_in now ≡ names_in first
   pub ahead : (j : ℕ) → i ≤ j → slice_get (seats_in now) j ≡ slice_get (seats_in first) j
   pub before : AreBefore (names_in first) (seats_in first) i (held_in m)
+  pub each : map as_actor m ≡ who_is_in (take i (names_in first)) (take i (seats_in first))
   pub counted : count ≡ length (seats_in first)
 
 none_yet : (ns : List Name) (seats : List (SeatShape Actor Request)) (m : List (Name × Box Actor)) → m ≡ [] → AreBefore ns seats 0 (held_in m)
 none_yet ns seats m none = record { here = λ k n a lt. absurd (omega (arith, lt)); none = λ n no. ap (λ t. held_in t n) none }
 
 pub gathered_none : (first : Seats Actor Request) (count : ℕ) (m : List (Name × Box Actor)) → AreSeats first → count ≡ length (seats_in first) → m ≡ [] → IsGathered first first count 0 m
-gathered_none first count m kept is none = record { kept = kept; names = refl; ahead = λ j le. refl; before = none_yet (names_in first) (seats_in first) m none; counted = is }
+gathered_none first count m kept is none = record { kept = kept; names = refl; ahead = λ j le. refl; before = none_yet (names_in first) (seats_in first) m none; each = ap (map as_actor) none; counted = is }
 
 module _ (first now : Seats Actor Request) (count i : ℕ) (m : List (Name × Box Actor)) (g : IsGathered first now count i m) (was : AreSeats first) (lt : i < count) where
   pub gathered_known : i < length (seats_in now)
@@ -201,6 +198,7 @@ module _ (first now : Seats Actor Request) (count i : ℕ) (m : List (Name × Bo
       → ((n : Name) → slice_get (names_in now) i ≡ Some n → IsBrought n (seat_at now i) m new) → IsGathered first then count (i + 1) new
   gathered_more then new apart kept names others brought =
       let n = gathered_name in
+      let next : suc i ≡ i + 1 = omega arith in
       let named : slice_get (names_in now) i ≡ Some n.0 = ap (λ ns. slice_get ns i) g.names ∙ n.1 in
       let here : IsBrought n.0 (slice_get (seats_in first) i) m new = subst (λ o. IsBrought n.0 o m new) (g.ahead i (omega arith)) (brought n.0 named) in
       record {
@@ -208,5 +206,6 @@ module _ (first now : Seats Actor Request) (count i : ℕ) (m : List (Name × Bo
         names = names ∙ g.names;
         ahead = λ j le. others j (λ same. absurd (omega (arith, le, same))) ∙ g.ahead j (omega (arith, le));
         before = subst (λ k. AreBefore (names_in first) (seats_in first) k (held_in new)) (omega arith) (one_before (names_in first) apart (seats_in first) i m new g.before n.0 n.1 here);
+        each = subst (λ k. map as_actor new ≡ who_is_in (take k (names_in first)) (take k (seats_in first))) next (each_more (names_in first) (seats_in first) i m new n.0 was.same (omega (arith, lt, g.counted)) n.1 g.each here);
         counted = g.counted;
       }

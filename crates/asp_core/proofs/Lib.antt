@@ -1,4 +1,5 @@
 -- in reading order
+pub mod GatheredLemmas
 pub mod EndOfRunLemmas
 pub mod OutLemmas
 pub mod DueLemmas
@@ -18,3 +19,4 @@ pub mod ChosenLemmas
 pub mod StopLemmas
 pub mod OutAfterLemmas
 pub mod OverLemmas
+pub mod FrozenLemmas

@@ -11,3 +11,4 @@ pub mod Bringing
 pub mod Delivering
 pub mod Over
 pub mod PlannedEnds
+pub mod Frozen

@@ -1,6 +1,6 @@
 //! What a run leaves.
 
-ghost use Rattle.std.specs.Prelude.{◌≡◌, IfOk, List, OnOk, Some, length, slice_get};
+ghost use Rattle.std.specs.Prelude.{◌≡◌, IfOk, List, OnOk, Some, length, map, slice_get};
 ghost use Rattle.std.specs.BTreeMap.{get};
 ghost use Rattle.asp_model.specs.History.{HistoryShape};
 ghost use Rattle.asp_model.specs.Names.{Name, name_cmp};
@@ -12,7 +12,15 @@ ghost use Rattle.code_table.specs.declared.code.Node.{Node as NodeShape};
 ghost use Rattle.run_ends.specs.Ends.{IsEndOf};
 ghost use Rattle.core_seats.specs.Seats.{AreSeats, IsKnown, names_in, seat_at, seats_in};
 ghost use Rattle.core_state.specs.Cores.{IsCore};
-ghost use Rattle.asp_core.specs.Gathering.{AreApart, AreBefore, IsBrought, OthersStay};
+ghost use Rattle.asp_core.specs.Gathering.{
+  AreApart,
+  AreBefore,
+  IsBrought,
+  OthersStay,
+  as_actor,
+  held_in,
+  who_is_in,
+};
 ghost use Rattle.asp_core.specs.EndOfRun.{IsHome, IsSomeHome};
 
 use asp_model::ActivityName;
@@ -48,6 +56,26 @@ fn bring(
     Ok(())
 }
 
+/// Takes all activities that are in, in the order of their numbers.
+pub(crate) fn gathered(
+    alloc: Global,
+    seats: &mut Seats<Actor, Request>,
+) -> Result<Vec<(ActivityName, Box<Actor>)>, AllocError>
+    requires kept { AreSeats seats.old }
+    requires apart { AreApart (names_in seats.old) }
+    ensures all { let all = length (seats_in seats.old) in
+        IfOk result (λ v. AreBefore (names_in seats.old) (seats_in seats.old) all (held_in v.items)) }
+    ensures each { IfOk result
+        (λ v. map as_actor v.items ≡ who_is_in (names_in seats.old) (seats_in seats.old)) }
+{
+    let count = seats.len() as u32;
+    let mut activities = Vec::with_capacity(alloc, count as usize)?;
+    for number in 0..count {
+        bring(alloc, seats, number, &mut activities)?;
+    }
+    Ok(activities)
+}
+
 /// All activities that are in, by their names.
 fn activities_of(
     alloc: Global,
@@ -58,12 +86,7 @@ fn activities_of(
     ensures all { let all = length (seats_in seats.old) in
         IfOk result (λ m. AreBefore (names_in seats.old) (seats_in seats.old) all (get name_cmp m)) }
 {
-    let count = seats.len() as u32;
-    let mut activities = Vec::with_capacity(alloc, count as usize)?;
-    for number in 0..count {
-        bring(alloc, seats, number, &mut activities)?;
-    }
-    BTreeMap::from_iter(alloc, activities)
+    BTreeMap::from_iter(alloc, gathered(alloc, seats)?)
 }
 
 /// What a run leaves, once nobody is out: how each activity stands, its state, and the verdict.

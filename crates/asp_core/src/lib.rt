@@ -9,9 +9,11 @@ mod cores;
 mod deliveries;
 mod ends;
 mod finishing;
+mod freezing;
 mod gathering;
 mod lends;
 
 pub use cores::Core;
 pub use finishing::{end_of_run, finish, run};
+pub use freezing::Frozen;
 pub use gathering::end;

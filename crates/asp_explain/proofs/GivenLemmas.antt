@@ -20,10 +20,10 @@ use Rattle.sender_log.specs.declared.error.LogError.{LogError}
 use Rattle.sender_log.specs.declared.error.LogError.TheVariants as log
 use Rattle.asp_model.specs.ReadReport.{read_report}
 use Rattle.syntax_grammar.specs.Programs.{IsProgramText}
-use Rattle.run_cuts.specs.declared.cuts.CutStop.TheVariants as run
-use Rattle.cut_reports.specs.Reports.{IsReportStop}
-use Rattle.cut_reports.specs.declared.reports.CutReportStop.{CutReportStop}
-use Rattle.cut_reports.specs.declared.reports.CutReportStop.TheVariants as cuts
+use Rattle.run_waits.specs.declared.cuts.CutStop.TheVariants as run
+use Rattle.run_waits.specs.Reports.{IsReportStop}
+use Rattle.run_waits.specs.declared.cuts.reports.CutReportStop.{CutReportStop}
+use Rattle.run_waits.specs.declared.cuts.reports.CutReportStop.TheVariants as cuts
 use Rattle.asp_explain.specs.declared.stop.Stop.{Stop}
 use Rattle.asp_explain.specs.declared.stop.Which.{Which}
 use Rattle.asp_explain.specs.Refusals.{Diverges, LargePicture, LongReport, NoActivity, NoCount, NoMemory, NoReport, Refusal, TooLong, Unread, Usage, cut_refusal, log_stop, refusal_of, replay_stop, status_of}

@@ -6,7 +6,7 @@ use Rattle.asp_model.specs.declared.outcome.Lists.{Lists}
 use Rattle.asp_model.specs.Marked.{Marked}
 use Rattle.asp_model.specs.Names.{Name}
 use Rattle.asp_model.specs.ReportLines.{name_of}
-use Rattle.run_cuts.specs.Cuts.{IsBeyond}
+use Rattle.run_waits.specs.Cuts.{IsBeyond}
 use Rattle.asp_model.specs.ReadReport.{BadLine, Reads, read_report}
 use Rattle.asp_model.specs.Replay.{CountsShape, Fits, IsLeastDiverging}
 use Rattle.asp_model.specs.Shapes.{counts_shape, lists_shape, marked_of}

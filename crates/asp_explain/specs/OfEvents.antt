@@ -9,9 +9,9 @@ use Rattle.asp_model.specs.ReportLines.{name_of}
 use Rattle.asp_model.specs.Step.{ListsShape}
 use Rattle.asp_model.specs.Term.{Tree}
 use Rattle.asp_explain.specs.declared.stop.Which.TheVariants.{First}
-use Rattle.run_events.specs.declared.events.EventsRun.{EventsRun}
-use Rattle.run_events.specs.declared.page.Wish.{Wish}
-use Rattle.run_events.specs.Correct.{AreEventsOf}
+use Rattle.explain.specs.declared.events.EventsRun.{EventsRun}
+use Rattle.explain.specs.declared.events.page.Wish.{Wish}
+use Rattle.explain.specs.EventRuns.{AreEventsOf}
 use Rattle.asp_explain.specs.Tasks.{PageShape}
 use Rattle.asp_explain.specs.Refusals.{NoActivity, NoMemory, Refusal}
 use Rattle.asp_explain.specs.Seen.{Outside}

@@ -7,11 +7,11 @@ use Rattle.asp_model.specs.Step.{ListsShape}
 use Rattle.asp_model.specs.Term.{Tree}
 use Rattle.replay_one.specs.Notes.{replay_notes}
 use Rattle.asp_explain.specs.declared.stop.Which.TheVariants.{First, Second}
-use Rattle.run_differences.specs.declared.first.Comparison.{Comparison}
-use Rattle.run_differences.specs.Differences as differences
-use Rattle.run_differences.specs.declared.order.OrderedRun.{OrderedRun}
-use Rattle.run_differences.specs.Kept.{entry_shape}
-use Rattle.run_differences.specs.Orders.{EntryShape, order_of}
+use Rattle.explain.specs.declared.differences.first.Comparison.{Comparison}
+use Rattle.explain.specs.Differences as differences
+use Rattle.explain.specs.declared.differences.order.OrderedRun.{OrderedRun}
+use Rattle.explain.specs.OrderKept.{entry_shape}
+use Rattle.explain.specs.Orders.{EntryShape, order_of}
 use Rattle.asp_explain.specs.Tasks.{whole_run}
 use Rattle.asp_explain.specs.Refusals.{NoMemory, Refusal}
 use Rattle.asp_explain.specs.Seen.{Asked, Outside}

@@ -4,8 +4,8 @@ use Rattle.asp_model.specs.Marked.{Marked, plain}
 use Rattle.asp_model.specs.Replay.{CountsShape}
 use Rattle.asp_model.specs.Step.{ListsShape}
 use Rattle.asp_model.specs.Term.{Tree}
-use Rattle.run_events.specs.declared.events.EventsRun.{EventsRun}
-use Rattle.run_pictures.specs.Large.{IsLarge}
+use Rattle.explain.specs.declared.events.EventsRun.{EventsRun}
+use Rattle.explain.specs.Large.{IsLarge}
 use Rattle.asp_explain.specs.Tasks.{PageShape}
 use Rattle.asp_explain.specs.Refusals.{LargePicture, NoMemory, Refusal}
 use Rattle.asp_explain.specs.Seen.{Outside}

@@ -4,7 +4,7 @@ use Rattle.asp_model.specs.Marked.{Marked, plain}
 use Rattle.asp_model.specs.Replay.{CountsShape}
 use Rattle.asp_model.specs.Step.{ListsShape}
 use Rattle.asp_model.specs.Term.{Tree}
-use Rattle.cut_reports.specs.Reports.{IsCutReport}
+use Rattle.run_waits.specs.Reports.{IsCutReport}
 use Rattle.asp_explain.specs.Refusals.{Refusal}
 use Rattle.asp_explain.specs.Seen.{Outside}
 use Rattle.asp_explain.specs.Given.{AreGiven, StopsCut, StopsLoading, TellsFault}

@@ -8,9 +8,9 @@ use Rattle.sender_log.specs.declared.error.LogError.{LogError}
 use Rattle.sender_log.specs.declared.error.LogError.TheVariants as log
 use Rattle.replay_one.specs.declared.replays.ReplayStop.{ReplayStop}
 use Rattle.replay_one.specs.declared.replays.ReplayStop.TheVariants as replays
-use Rattle.run_cuts.specs.declared.cuts.CutStop.TheVariants as run
-use Rattle.cut_reports.specs.declared.reports.CutReportStop.{CutReportStop}
-use Rattle.cut_reports.specs.declared.reports.CutReportStop.TheVariants as cuts
+use Rattle.run_waits.specs.declared.cuts.CutStop.TheVariants as run
+use Rattle.run_waits.specs.declared.cuts.reports.CutReportStop.{CutReportStop}
+use Rattle.run_waits.specs.declared.cuts.reports.CutReportStop.TheVariants as cuts
 use Rattle.asp_explain.specs.declared.stop.Which.{Which}
 use Rattle.asp_explain.specs.declared.stop.Which.TheVariants.{First, Second}
 use Rattle.asp_explain.specs.declared.stop.Stop.{Stop}

@@ -11,6 +11,7 @@ use asp_check::{CheckError, Checked, check};
 use asp_edge::{ReadError, Source};
 use asp_model::{Counts, Lists, MOST_PROGRAM_BYTES, MOST_REPORT_BYTES};
 use asp_syntax::{SyntaxError, read_program};
+use explain::drop_program;
 use sender_log::read_report;
 use std::alloc::{AllocError, Global};
 
@@ -25,6 +26,14 @@ pub struct Given<'a> {
     /// What the report reads as. It can be replayed.
     pub lists: Lists,
     pub counts: Counts,
+}
+
+impl Given<'_> {
+    /// It is not needed any more: who calls this need not prove the drop of a program.
+    pub fn discard(self) {
+        let Given { program, .. } = self;
+        drop_program(program);
+    }
 }
 
 /// What two files have.
@@ -116,7 +125,7 @@ pub fn load<'a, S: Source>(
                 counts,
             })),
             Err(stop) => {
-                drop(program);
+                drop_program(program);
                 Err(stop)
             }
         },

@@ -16,7 +16,7 @@ use crate::page::Page;
 use crate::stop::{Stop, Which};
 use asp_edge::Source;
 use asp_model::{ActivityName, ActivityReport};
-use run_events::{EventsRun, Wish, events_of as events_in, tell_events};
+use explain::{EventsRun, Wish, events_of as events_in, tell_events};
 use std::alloc::{AllocError, Global};
 use text_lines::name_of;
 
@@ -37,7 +37,7 @@ pub fn of_events<'a, S: Source>(
         Loaded::Faulty(answer) => Ok(answer),
         Loaded::Given(given) => {
             let told = told(alloc, &given, page);
-            drop(given);
+            given.discard();
             told
         }
     }
@@ -56,7 +56,7 @@ fn told<'a>(alloc: Global, given: &Given<'_>, page: Page<'a>) -> Result<Answer, 
 {
     let run = seen(alloc, given, page)?;
     let text = tell_events(alloc, given.file, &given.bytes, page.from, &run);
-    drop(run);
+    run.discard();
     Ok(answer_with(text?))
 }
 
@@ -76,7 +76,7 @@ pub fn seen<'a>(alloc: Global, given: &Given<'_>, page: Page<'a>) -> Result<Even
         Ok(run) => match there(alloc, page, &run.outcome.activities) {
             Ok(()) => Ok(run),
             Err(stop) => {
-                drop(run);
+                run.discard();
                 Err(stop)
             }
         },

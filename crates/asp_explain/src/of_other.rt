@@ -2,7 +2,7 @@
 
 ghost use Rattle.std.specs.Prelude.{◌≡◌, IfErr, IfOk, map};
 ghost use Rattle.asp_model.specs.Shapes.{counts_shape, lists_shape, tree_of};
-ghost use Rattle.run_differences.specs.Kept.{entry_shape};
+ghost use Rattle.explain.specs.OrderKept.{entry_shape};
 ghost use Rattle.replay_one.specs.Listed.{AreReplayable};
 ghost use Rattle.asp_explain.specs.Refusals.{refusal_of};
 ghost use Rattle.asp_explain.specs.Seen.{outside};
@@ -19,7 +19,7 @@ use crate::stop::{Stop, Which};
 use crate::task::whole_run;
 use asp_edge::Source;
 use asp_model::{Counts, Lists};
-use run_differences::{Comparison, OrderedRun, compare, ordered_run, tell_difference};
+use explain::{Comparison, OrderedRun, compare, ordered_run, tell_difference};
 use std::alloc::Global;
 
 /// What there is to tell of the run that a report shows, beside that of another report.
@@ -41,11 +41,11 @@ pub fn of_other<'a, S: Source>(
         Loaded::Given(given) => match lists_of(alloc, Which::Second, other, source) {
             Ok((others, other_counts)) => {
                 let told = told(alloc, &given, &others, &other_counts, picture);
-                drop(given);
+                given.discard();
                 told
             }
             Err(stop) => {
-                drop(given);
+                given.discard();
                 Err(stop)
             }
         },
@@ -97,12 +97,12 @@ fn told<'a>(
     match replayed(alloc, Which::Second, given, others, other_counts) {
         Ok(other) => {
             let told = told_of(alloc, given, others, other_counts, &run, &other, picture);
-            drop(other);
-            drop(run);
+            other.discard();
+            run.discard();
             told
         }
         Err(stop) => {
-            drop(run);
+            run.discard();
             Err(stop)
         }
     }
@@ -163,6 +163,6 @@ fn pictured<'a>(
         Comparison::Same | Comparison::Further => None,
     };
     let picture = picture_of(alloc, given.file, page.from, &run, entry);
-    drop(run);
+    run.discard();
     picture
 }

@@ -15,8 +15,7 @@ use crate::of_events::seen;
 use crate::page::Page;
 use crate::stop::Stop;
 use asp_edge::Source;
-use run_events::EventsRun;
-use run_pictures::draw;
+use explain::{EventsRun, draw};
 use std::alloc::Global;
 
 /// A picture of events of the run that a report shows.
@@ -36,7 +35,7 @@ pub fn of_picture<'a, S: Source>(
         Loaded::Faulty(answer) => Ok(answer),
         Loaded::Given(given) => {
             let drawn = drawn(alloc, &given, page);
-            drop(given);
+            given.discard();
             drawn
         }
     }
@@ -55,7 +54,7 @@ fn drawn<'a>(alloc: Global, given: &Given<'_>, page: Page<'a>) -> Result<Answer,
 {
     let run = seen(alloc, given, page)?;
     let picture = picture_of(alloc, given.file, page.from, &run, None);
-    drop(run);
+    run.discard();
     picture
 }
 

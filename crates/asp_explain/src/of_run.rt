@@ -13,7 +13,7 @@ use crate::answer::{Answer, answer_with};
 use crate::loading::{Given, Loaded, load};
 use crate::stop::{Stop, Which};
 use asp_edge::Source;
-use run_telling::tell_run;
+use explain::tell_run;
 use run_waits::explain_run;
 use std::alloc::Global;
 
@@ -33,7 +33,7 @@ pub fn of_run<'a, S: Source>(
         Loaded::Faulty(answer) => Ok(answer),
         Loaded::Given(given) => {
             let told = told(alloc, &given);
-            drop(given);
+            given.discard();
             told
         }
     }
@@ -52,7 +52,7 @@ fn told<'a>(alloc: Global, given: &Given<'_>) -> Result<Answer, Stop<'a>>
     match explain_run(alloc, &given.program, &given.lists, &given.counts) {
         Ok(run) => {
             let text = tell_run(alloc, given.file, &given.bytes, &run);
-            drop(run);
+            run.discard();
             Ok(answer_with(text?))
         }
         Err(stop) => Err(Stop::of_replay(Which::First, stop)),

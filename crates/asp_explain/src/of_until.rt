@@ -12,7 +12,7 @@ use crate::answer::{Answer, answer_with};
 use crate::loading::{Given, Loaded, load};
 use crate::stop::Stop;
 use asp_edge::Source;
-use cut_reports::cut_report;
+use run_waits::cut_report;
 use std::alloc::Global;
 
 /// The report cut back to the least point at which an activity has made so many reductions.
@@ -33,7 +33,7 @@ pub fn of_until<'a, S: Source>(
         Loaded::Faulty(answer) => Ok(answer),
         Loaded::Given(given) => {
             let told = cut(alloc, &given, activity, count);
-            drop(given);
+            given.discard();
             told
         }
     }

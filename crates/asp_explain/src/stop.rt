@@ -5,9 +5,8 @@ ghost use Rattle.asp_explain.specs.Refusals.{cut_refusal, log_stop, refusal_of, 
 ghost use Rattle.asp_explain.specs.declared.stop.Stop.TheVariants as stops;
 
 use asp_model::ActivityName;
-use cut_reports::CutReportStop;
 use replay_one::ReplayStop;
-use run_cuts::CutStop;
+use run_waits::{CutReportStop, CutStop};
 use sender_log::LogError;
 use std::alloc::AllocError;
 

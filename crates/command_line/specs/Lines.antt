@@ -4,7 +4,7 @@ use Rattle.clap.specs.Walk.{Text}
 use Rattle.update_policy.specs.declared.strategy.Strategy.{Strategy}
 use Rattle.update_policy.specs.declared.strategy.Strategy.TheVariants.{Lazy, Forward, Message}
 use Rattle.command_line.specs.Settings.{SettingsShape, usual}
-use Rattle.command_line.specs.Task.{TaskShape, Runs, Checks, Rules, Journals, Replays, Compares, Traces, Makes, task_of}
+use Rattle.command_line.specs.Task.{TaskShape, Runs, Checks, Rules, Journals, Saves, Replays, Compares, Traces, Makes, task_of}
 
 abbrev pub Asks : List Text → TaskShape → Type 0
 Asks words task = task_of words ≡ Some task
@@ -40,6 +40,9 @@ pub record AcceptedLines : Type 0 where
       (Rules one (record (with_plan Message []) { workers = 64 }))
   pub journal : Asks (one ∷ codes "--journal" ∷ codes "--strategy=message" ∷ [])
       (Journals one (with_plan Message []))
+  pub save : Asks (one ∷ codes "--budget=5" ∷ codes "--save" ∷ []) (Saves one (with_budget 5))
+  pub save_settings : Asks (codes "--save" ∷ one ∷ codes "--workers=64" ∷ codes "--strategy=message" ∷ [])
+      (Saves one (record (with_plan Message []) { workers = 64 }))
   pub replay : Asks (one ∷ codes "--replay=one.report" ∷ []) (Replays one (codes "one.report") None)
   pub replay_hyphen : Asks (one ∷ codes "--replay" ∷ codes "-" ∷ []) (Replays one (codes "-") None)
   pub hyphen_behind : Asks (one ∷ codes "--replay=-r" ∷ []) (Replays one (codes "-r") None)
@@ -90,6 +93,14 @@ pub record RefusedCombinations : Type 0 where
   pub journal_state : IsRefused (one ∷ codes "--journal" ∷ codes "--state=1" ∷ [])
   pub journal_determinate : IsRefused (one ∷ codes "--journal" ∷ codes "--determinate" ∷ [])
   pub journal_make : IsRefused (codes "--make=3" ∷ codes "--journal" ∷ [])
+  pub save_alone : IsRefused (codes "--save" ∷ [])
+  pub save_check : IsRefused (one ∷ codes "--save" ∷ codes "--check" ∷ [])
+  pub save_replay : IsRefused (one ∷ codes "--save" ∷ codes "--replay=one.report" ∷ [])
+  pub save_state : IsRefused (one ∷ codes "--save" ∷ codes "--state=1" ∷ [])
+  pub save_determinate : IsRefused (one ∷ codes "--save" ∷ codes "--determinate" ∷ [])
+  pub save_journal : IsRefused (one ∷ codes "--journal" ∷ codes "--save" ∷ [])
+  pub save_trace : IsRefused (one ∷ codes "--save" ∷ codes "--trace=one.trace" ∷ [])
+  pub save_make : IsRefused (codes "--make=3" ∷ codes "--save" ∷ [])
   pub same_alone : IsRefused (one ∷ codes "--same=two.report" ∷ [])
   pub same_state : IsRefused (one ∷ codes "--replay=one.report" ∷ codes "--same=two.report" ∷ codes "--state=1" ∷ [])
   pub same_check : IsRefused (one ∷ codes "--check" ∷ codes "--same=two.report" ∷ [])

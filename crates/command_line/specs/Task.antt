@@ -6,7 +6,7 @@ use Rattle.asp_model.specs.declared.limits.TheConstants.{MOST_DEPTH, MOST_PAIRS,
 use Rattle.command_line.specs.Command.{SettingTexts, TextsShape, is_taken, texts_of}
 use Rattle.command_line.specs.Numbers.{number_in}
 use Rattle.command_line.specs.Settings.{IsSettings, SettingsShape, budget_of, settings_of}
-use Rattle.command_line.specs.Wanted.{WantedShape, Run, Check, Rule, Journal, Replay, Compare, Trace, Make}
+use Rattle.command_line.specs.Wanted.{WantedShape, Run, Check, Rule, Journal, Save, Replay, Compare, Trace, Make}
 use Rattle.command_line.specs.Wanted.{companions_of, stand, wanted_in}
 
 -- a depth is that of the states that the report shows; with none it shows no state
@@ -15,6 +15,7 @@ pub data TaskShape : Type 0 where
   Checks : (file : Text) → TaskShape
   Rules : (file : Text) (settings : SettingsShape) → TaskShape
   Journals : (file : Text) (settings : SettingsShape) → TaskShape
+  Saves : (file : Text) (settings : SettingsShape) → TaskShape
   Replays : (file report : Text) (depth : Option ℕ) → TaskShape
   Compares : (file report other : Text) → TaskShape
   Traces : (file trace : Text) (budget : ℕ) (depth : Option ℕ) → TaskShape
@@ -30,6 +31,7 @@ abbrev pub IsWithin : TaskShape → Type 0
 IsWithin (Runs file settings depth) = IsSettings settings × IsDepth depth
 IsWithin (Rules file settings) = IsSettings settings
 IsWithin (Journals file settings) = IsSettings settings
+IsWithin (Saves file settings) = IsSettings settings
 IsWithin (Replays file report depth) = IsDepth depth
 IsWithin (Traces file trace budget depth) = ((1 ≤ budget) × (budget ≤ MOST_REDUCTIONS)) × IsDepth depth
 IsWithin (Makes pairs settings) = ((1 ≤ pairs) × (pairs ≤ MOST_PAIRS)) × IsSettings settings
@@ -50,6 +52,9 @@ ruling file given = option_map (Rules file) (settings_of given)
 abbrev pub journaling : Text → SettingTexts → Option TaskShape
 journaling file given = option_map (Journals file) (settings_of given)
 
+abbrev pub saving : Text → SettingTexts → Option TaskShape
+saving file given = option_map (Saves file) (settings_of given)
+
 abbrev pub replaying : Text → Text → Option Text → Option TaskShape
 replaying file report state = option_map (Replays file report) (depth_of state)
 
@@ -67,6 +72,7 @@ task_by Run (Some file) t = running file t.settings t.state
 task_by Check (Some file) t = Some (Checks file)
 task_by Rule (Some file) t = ruling file t.settings
 task_by Journal (Some file) t = journaling file t.settings
+task_by Save (Some file) t = saving file t.settings
 task_by (Replay report) (Some file) t = replaying file report t.state
 task_by (Compare report other) (Some file) t = Some (Compares file report other)
 task_by (Trace trace) (Some file) t = tracing file trace t.settings t.state

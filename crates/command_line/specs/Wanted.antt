@@ -13,6 +13,8 @@ pub data WantedShape : Type 0 where
   Rule : WantedShape
   -- what the core of the run did
   Journal : WantedShape
+  -- what is left of a run whose budget runs out
+  Save : WantedShape
   Replay : (report : Text) → WantedShape
   -- two reports of it, as services see them
   Compare : (report other : Text) → WantedShape
@@ -42,6 +44,7 @@ wanted_in t =
     let asked = and_asks (Some Run) (flag_asks t.check Check) in
     let asked = and_asks asked (flag_asks t.determinate Rule) in
     let asked = and_asks asked (flag_asks t.journal Journal) in
+    let asked = and_asks asked (flag_asks t.save Save) in
     let asked = and_asks asked (replay_asks t.replay t.same) in
     let asked = and_asks asked (option_map Trace t.trace) in
     and_asks asked (option_map Make t.make)
@@ -58,6 +61,7 @@ companions_of Run = record { racing = true; budget = true; state = true }
 companions_of Check = record { racing = false; budget = false; state = false }
 companions_of Rule = record { racing = true; budget = true; state = false }
 companions_of Journal = record { racing = true; budget = true; state = false }
+companions_of Save = record { racing = true; budget = true; state = false }
 companions_of (Replay report) = record { racing = false; budget = false; state = true }
 companions_of (Compare report other) = record { racing = false; budget = false; state = false }
 companions_of (Trace trace) = record { racing = false; budget = true; state = true }

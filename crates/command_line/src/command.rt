@@ -28,6 +28,7 @@ pub struct Texts<'a> {
     pub check: bool,
     pub determinate: bool,
     pub journal: bool,
+    pub save: bool,
     pub replay: Option<&'a str>,
     pub same: Option<&'a str>,
     pub trace: Option<&'a str>,
@@ -95,6 +96,7 @@ fn with_tasks<'a>(alloc: Global, command: Command<'a>) -> Result<Command<'a>, Al
 {
     let command = with_flag(alloc, command, "determinate")?;
     let command = with_flag(alloc, command, "journal")?;
+    let command = with_flag(alloc, command, "save")?;
     let command = with_option(alloc, command, "same")?;
     with_option(alloc, command, "trace")
 }
@@ -154,6 +156,7 @@ fn texts_found<'a>(matches: &ArgMatches<'a>) -> Texts<'a>
         check: is_true(text_of(matches, "check")),
         determinate: is_true(text_of(matches, "determinate")),
         journal: is_true(text_of(matches, "journal")),
+        save: is_true(text_of(matches, "save")),
         replay: text_of(matches, "replay"),
         same: text_of(matches, "same"),
         trace: text_of(matches, "trace"),

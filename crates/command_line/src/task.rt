@@ -10,6 +10,7 @@ ghost use Rattle.command_line.specs.Task.{
   replaying,
   ruling,
   running,
+  saving,
   task_by as task_given,
   task_in,
   task_of,
@@ -52,6 +53,13 @@ pub enum Task<'a> {
     },
     /// Run it, and write what its core did.
     Journal {
+        /// The file's name.
+        file: &'a str,
+        /// How it is run.
+        settings: Settings,
+    },
+    /// Run it, and write what is left of the run, where the budget runs out.
+    Save {
         /// The file's name.
         file: &'a str,
         /// How it is run.
@@ -137,6 +145,7 @@ fn task_by<'a>(alloc: Global, wanted: Wanted<'a>, texts: &Texts<'a>) -> Result<T
         (Wanted::Check, Some(file)) => Ok(Task::Check { file }),
         (Wanted::Rule, Some(file)) => rule(alloc, file, &texts.settings),
         (Wanted::Journal, Some(file)) => journal(alloc, file, &texts.settings),
+        (Wanted::Save, Some(file)) => save(alloc, file, &texts.settings),
         (Wanted::Replay(report), Some(file)) => replay(file, report, texts.state),
         (Wanted::Compare(report, other), Some(file)) => Ok(Task::Compare {
             file,
@@ -190,6 +199,17 @@ fn journal<'a>(alloc: Global, file: &'a str, given: &Given<'_>) -> Result<Task<'
 {
     let settings = settings_in(alloc, given)?;
     Ok(Task::Journal { file, settings })
+}
+
+fn save<'a>(alloc: Global, file: &'a str, given: &Given<'_>) -> Result<Task<'a>, WordsError>
+    ensures ok { IfOk result
+        (λ t. saving file.entry.now (given_shape given.now) ≡ Some (task_shape t)) }
+    ensures usage { IfErr result
+        (λ e. e ≡ errors.Usage → saving file.entry.now (given_shape given.now) ≡ None) }
+    ensures within { IfOk result (λ t. IsWithin (task_shape t)) }
+{
+    let settings = settings_in(alloc, given)?;
+    Ok(Task::Save { file, settings })
 }
 
 fn replay<'a>(file: &'a str, report: &'a str, state: Option<&str>) -> Result<Task<'a>, WordsError>

@@ -28,6 +28,8 @@ pub enum Wanted<'a> {
     Rule,
     /// That it is run, and what its core did is written.
     Journal,
+    /// That it is run, and what is left is written, where its budget runs out.
+    Save,
     /// That the report in a file is replayed.
     Replay(&'a str),
     /// That the reports in two files are compared, as services see them.
@@ -106,6 +108,7 @@ pub fn wanted_in<'a>(texts: &Texts<'a>) -> Option<Wanted<'a>>
     let asked = and_asks(Some(Wanted::Run), flag_asks(texts.check, Wanted::Check));
     let asked = and_asks(asked, flag_asks(texts.determinate, Wanted::Rule));
     let asked = and_asks(asked, flag_asks(texts.journal, Wanted::Journal));
+    let asked = and_asks(asked, flag_asks(texts.save, Wanted::Save));
     let asked = and_asks(asked, replay_asks(texts.replay, texts.same));
     let asked = and_asks(asked, trace_asks(texts.trace));
     and_asks(asked, make_asks(texts.make))
@@ -132,6 +135,11 @@ pub fn companions_of(wanted: Wanted<'_>) -> Companions
             state: false,
         },
         Wanted::Journal => Companions {
+            racing: true,
+            budget: true,
+            state: false,
+        },
+        Wanted::Save => Companions {
             racing: true,
             budget: true,
             state: false,

@@ -3,3 +3,10 @@ pub mod Remarks
 pub mod Texts
 pub mod Found
 pub mod Told
+pub mod Events
+pub mod EventRuns
+pub mod EventsHeard
+pub mod Orders
+pub mod Differences
+pub mod OrderKept
+pub mod Large

@@ -100,12 +100,17 @@ fn of_program(alloc: Global, bytes: &[u8], program: Program) -> Result<Findings,
     match check(alloc, program) {
         Ok(checked) => {
             let found = of_checked(alloc, bytes, &checked);
-            drop(checked);
+            drop_program(checked);
             found
         }
         Err(CheckError::Fault(fault)) => of_unchecked(alloc, bytes, fault),
         Err(CheckError::Memory) => Err(AllocError),
     }
+}
+
+/// Drops a program that is not needed any more: who calls this need not prove its drop.
+pub fn drop_program(program: Checked) {
+    drop(program);
 }
 
 // Of a checked program.

@@ -4,3 +4,8 @@ pub mod WaitLemmas
 pub mod OnceLemmas
 pub mod EndLemmas
 pub mod BookLemmas
+pub mod ChainLemmas
+pub mod TurnLemmas
+pub mod SearchLemmas
+pub mod CutLemmas
+pub mod TextLemmas

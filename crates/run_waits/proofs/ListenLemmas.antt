@@ -11,9 +11,10 @@ use Rattle.replay_one.specs.declared.notes.Event.{Event}
 use Rattle.replay_one.specs.declared.notes.Event.TheVariants as event
 use Rattle.replay_one.specs.declared.notes.Note.{Note}
 use Rattle.replay_one.specs.Listening.{IsDeafToLines, IsEvent, IsNote}
-use Rattle.run_waits.specs.Targets.{Keeps, IsSentTo, Place, future_order, place_after, place_in, place_of, target_at}
+use Rattle.wait_circles.specs.Targets.{Place, place_of}
+use Rattle.run_waits.specs.Targets.{Keeps, IsSentTo, future_order, place_after, place_in, target_at}
 use Rattle.run_waits.specs.declared.receipts.Receipts.{Receipts}
-use Rattle.run_waits.specs.declared.receipts.Target.{Target}
+use Rattle.wait_circles.specs.declared.targets.Target.{Target}
 use Rattle.run_waits.proofs.TargetLemmas.{place_more}
 
 -- an entry more is a request more

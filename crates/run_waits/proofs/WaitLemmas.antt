@@ -29,9 +29,10 @@ use Rattle.wait_circles.specs.Ways.{next_in}
 use Rattle.wait_circles.specs.Whys.{AreOf, IsNumbered, names_of}
 use Rattle.wait_circles.proofs.WhyLemmas.{name_at, status_at}
 use Rattle.run_waits.specs.Explains.{IsEndTold}
-use Rattle.run_waits.specs.Targets.{place_of, target_at}
+use Rattle.wait_circles.specs.Targets.{place_of}
+use Rattle.run_waits.specs.Targets.{target_at}
 use Rattle.run_waits.specs.declared.receipts.Receipts.{Receipts}
-use Rattle.run_waits.specs.declared.receipts.Target.{Target}
+use Rattle.wait_circles.specs.declared.targets.Target.{Target}
 
 abbrev name_by : Option (Name × Standing) → Option Name
 name_by o = elim o [ None ↦ None | Some x ↦ Some x.0 ]

@@ -11,11 +11,8 @@ use Rattle.asp_model.specs.Shapes.{future_shape}
 use Rattle.law_steps.specs.Kept.{Stands}
 use Rattle.replay_one.specs.Notes.{EventShape, NoteShape, Sent}
 use Rattle.run_waits.specs.declared.receipts.Receipts.{Receipts}
-use Rattle.run_waits.specs.declared.receipts.Target.{Target}
-
--- who received a request, and its label
-abbrev pub Place : Type 0
-Place = Name × Text
+use Rattle.wait_circles.specs.declared.targets.Target.{Target}
+use Rattle.wait_circles.specs.Targets.{Place, place_of}
 
 -- In notes
 
@@ -36,9 +33,6 @@ place_in xs f = place_from f None xs
 
 abbrev pub future_order : FutureName → FutureName → Ordering
 future_order = ordering.ghosts.cmp
-
-abbrev pub place_of : Target → Place
-place_of t = (t.to, t.label.text)
 
 abbrev pub target_at : Receipts → FutureName → Option Place
 target_at r f = option_map place_of (get future_order r.targets f)

@@ -16,6 +16,7 @@ ghost use Rattle.run_waits.specs.Books.{KeepsBooks};
 ghost use Rattle.run_waits.specs.Explains.{IsEndTold, IsExplained};
 
 use crate::books::Books;
+use crate::ends::drop_end;
 use crate::kept::Kept;
 use crate::receipts::Receipts;
 use crate::waits::waits_in;
@@ -74,7 +75,7 @@ pub fn explain_run(
             ways,
         }),
         Err(error) => {
-            drop(end);
+            drop_end(end);
             Err(ReplayStop::from(error))
         }
     }
@@ -111,6 +112,11 @@ fn end_at(ends: &[End], number: usize) -> Option<End>
 }
 
 impl Explained {
+    /// It is not needed any more: who calls this need not prove its drop.
+    pub fn discard(self) {
+        drop(self);
+    }
+
     /// Why an activity rests, by its number. In a run in which nobody can go on, the cause is told
     /// of every activity, and holds.
     pub fn why(&self, number: usize) -> Option<Why>

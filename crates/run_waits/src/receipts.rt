@@ -8,15 +8,7 @@ use asp_model::{ActivityName, FutureName, Label};
 use replay_one::{Event, Note, Notes};
 use std::alloc::{AllocError, Global};
 use std::collections::BTreeMap;
-
-/// Where a request went.
-#[derive(Drop)]
-pub struct Target {
-    pub to: ActivityName,
-    pub label: Label,
-    /// The byte of the text where it was sent.
-    pub at: Option<usize>,
-}
+use wait_circles::{Target, sent_to};
 
 /// Where each request went.
 #[derive(Drop)]
@@ -54,12 +46,8 @@ impl Receipts {
         ensures sent { OnOk result
             (IsSentTo to.now label.now.text future.now self.old self.new) }
     {
-        let target = Target {
-            to: to.copy(self.alloc)?,
-            label: label.copy(self.alloc)?,
-            at,
-        };
-        self.targets.insert(future.copy(self.alloc)?, target)?;
+        let sent = sent_to(self.alloc, to, label, future, at)?;
+        self.targets.insert(sent.future, sent.target)?;
         Ok(())
     }
 }

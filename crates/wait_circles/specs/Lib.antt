@@ -2,3 +2,5 @@
 pub mod Ways
 pub mod Walks
 pub mod Whys
+pub mod Entries
+pub mod Targets

@@ -10,7 +10,7 @@ use crate::ways::{End, Mark};
 use std::alloc::{AllocError, Global};
 
 /// Where a walk stops.
-#[derive(Clone, Copy, Debug)]
+#[derive(Clone, Copy)]
 pub enum Stop {
     /// At this one, which has no next.
     Last(usize),
@@ -21,7 +21,7 @@ pub enum Stop {
 }
 
 /// What comes after one.
-#[derive(Clone, Copy, Debug)]
+#[derive(Clone, Copy)]
 pub enum Step {
     On(usize),
     Last,

@@ -9,7 +9,7 @@ use crate::walk::{Stop, after, settle, walk};
 use std::alloc::{AllocError, Global};
 
 /// Where a way ends.
-#[derive(Clone, Copy, Debug, PartialEq, Eq)]
+#[derive(Clone, Copy)]
 pub enum End {
     /// At this one, which has no next.
     Last(usize),
@@ -18,21 +18,21 @@ pub enum End {
 }
 
 /// The first is followed by the others, in order, and the last of them by the first.
-#[derive(Debug, Drop)]
+#[derive(Drop)]
 pub struct Circle {
     pub first: usize,
     pub others: Vec<usize>,
 }
 
 /// Where all ways end, by numbers, and the circles, each once.
-#[derive(Debug, Drop)]
+#[derive(Drop)]
 pub struct Ways {
     pub ends: Vec<End>,
     pub circles: Vec<Circle>,
 }
 
 /// What is known of one.
-#[derive(Clone, Copy, Debug)]
+#[derive(Clone, Copy)]
 pub enum Mark {
     Fresh,
     /// A walk that goes on passed it.

@@ -16,7 +16,7 @@ use crate::ways::End;
 use asp_model::{ActivityReport, Status};
 
 /// Why an activity rests: what its waits lead to. Activities and circles are told by numbers.
-#[derive(Clone, Copy, Debug, PartialEq, Eq)]
+#[derive(Clone, Copy)]
 pub enum Why {
     /// To this circle of activities, of which each waits for the next.
     Round(usize),

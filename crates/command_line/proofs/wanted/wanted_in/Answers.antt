@@ -5,6 +5,7 @@ pub returns : goal.returns
 returns c =
     rw (
       c.and_asks.ensures,
+      c.and_asks-asked-6.ensures,
       c.and_asks-asked-5.ensures,
       c.and_asks-asked-4.ensures,
       c.and_asks-asked-3.ensures,
@@ -13,6 +14,7 @@ returns c =
       c.flag_asks.ensures,
       c.flag_asks-2.ensures,
       c.flag_asks-3.ensures,
+      c.flag_asks-4.ensures,
       c.replay_asks.ensures,
       c.trace_asks.ensures,
       c.make_asks.ensures,

@@ -1,5 +1,0 @@
-use Rattle.asp_core.proofs.EndOfRunLemmas.{IsGathered}
-use Rattle.asp_core.proofs.gathering.activities_of.Given as goal
-
-abbrev pub invariant-loop-number : goal.invariant-loop-number
-invariant-loop-number l = IsGathered l.initial.seats l.seats l.count l.number l.activities.items

@@ -1,4 +1,0 @@
-pub mod ChainLemmas
-pub mod TurnLemmas
-pub mod SearchLemmas
-pub mod CutLemmas

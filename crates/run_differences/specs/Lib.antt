@@ -1,4 +1,0 @@
--- in reading order
-pub mod Orders
-pub mod Differences
-pub mod Kept

@@ -1,8 +1,0 @@
-//! A law of differences, without code.
-
-ghost use Rattle.run_differences.specs.Differences.{AgreeingAreCompatible};
-
-/// Where no entry of a run differs, of the two logs of each activity one begins with the other.
-pub fn agreeing_are_compatible()
-    ensures { AgreeingAreCompatible }
-{}

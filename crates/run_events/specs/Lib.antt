@@ -1,4 +1,0 @@
--- in reading order
-pub mod Events
-pub mod Correct
-pub mod Kept
