@@ -4,7 +4,10 @@ use asp_model::{ActivityName, Choice, FutureName};
 use std::alloc::{AllocError, Global};
 use std::sync::Arc;
 use std::sync::atomic::{AtomicU64, Ordering};
-use update_policy::{ForwardPolicy, LazyPolicy, MessagePolicy, Policies, PolicyBox, UpdatePolicy};
+use update_policy::{
+    Answers, ForwardPolicy, LazyPolicy, MessagePolicy, Policies, PolicyBox, ScriptPolicy,
+    UpdatePolicy,
+};
 
 /// How often a policy was asked, and dropped.
 #[derive(Drop)]
@@ -66,4 +69,30 @@ pub fn policies(alloc: Global, message: PolicyBox) -> Result<Policies, AllocErro
 /// As the program has them.
 pub fn usual_policies(alloc: Global) -> Result<Policies, AllocError> {
     policies(alloc, Box::new(alloc, MessagePolicy)?)
+}
+
+/// How many answers a script has.
+const ANSWERS: usize = 12;
+
+const CHOICES: [Choice; 3] = [Choice::Leave, Choice::Forward, Choice::FromHome];
+
+// A policy whose answers are the digits of a number to base 3, the last one first.
+fn scripted_box(alloc: Global, number: usize) -> Result<PolicyBox, AllocError> {
+    let mut choices = Vec::new(alloc);
+    let mut rest = number;
+    for _answer in 0..ANSWERS {
+        choices.push(CHOICES[rest % 3])?;
+        rest /= 3;
+    }
+    let answers = Answers { choices };
+    Ok(Box::new(alloc, ScriptPolicy { answers, next: 0 })?)
+}
+
+/// The script of a number for each strategy.
+pub fn scripts(alloc: Global, number: usize) -> Result<Policies, AllocError> {
+    Ok(Policies {
+        lazy: scripted_box(alloc, number)?,
+        forward: scripted_box(alloc, number)?,
+        message: scripted_box(alloc, number)?,
+    })
 }

@@ -42,6 +42,11 @@ pub const CIRCLE: &str =
     "let b = active([x = 0; m(s) = serve(n); s.x, n(s, v) = s.x := v]) in let f = \
      b.m() in b.n(f); print(f)";
 
+/// Two futures, of which each is the other's value.
+pub const CIRCLE_OF_TWO: &str =
+    "let w = [x = 0; m(s) = serve(n); s.x, n(s, v) = s.x := v] in let b = active(w) in let c = \
+     active(w) in let f = b.m() in let g = c.m() in b.n(g); c.n(f); print(g)";
+
 /// An activity awaits its own answer.
 pub const ITSELF: &str = "let a = active([; me(s, r) = print(r.two()), two(s) = 2]) in a.me(a)";
 

@@ -1,6 +1,6 @@
 //! Commands over memory.
 
-use asp_edge::{MemorySink, MemorySource};
+use asp_edge::{Ask, Asked, MemorySink, MemorySource, ReadError, Source};
 use asp_model::Word;
 use asp_top::run_asp;
 use std::alloc::{AllocError, Global};
@@ -42,6 +42,27 @@ pub struct Answer {
     pub err: MemorySink,
 }
 
+/// A source that has no memory for what it is asked.
+#[derive(Drop)]
+struct NoMemory {
+    asked: Asked,
+}
+
+impl Source for NoMemory {
+    ghost use Rattle.std.specs.Prelude.{None};
+
+    ghost told = { λ s. record { content = λ _. None; asked = s.asked.asks; faults = 0 } };
+
+    fn read(&mut self, name: &str, _most: usize) -> Result<Vec<u8>, ReadError> {
+        let answer = Err(ReadError::Memory);
+        self.asked = self.asked.with(&Ask {
+            name,
+            answer: &answer,
+        });
+        answer
+    }
+}
+
 fn owned(alloc: Global, words: &[&str]) -> Result<Vec<String>, AllocError> {
     let mut owned = Vec::new(alloc);
     for word in words {
@@ -70,10 +91,10 @@ fn no_answer(alloc: Global, command: &Command) -> Result<Answer, AllocError> {
 }
 
 // This alone calls `run_asp`.
-fn status_of<R: AllocGlobal + Threads + Wait + Sync, G: Gate>(
+fn status_of<R: AllocGlobal + Threads + Wait + Sync, S: Source, G: Gate>(
     rt: &R,
     words: &[String],
-    source: &mut MemorySource,
+    source: &mut S,
     out: &mut MemorySink,
     err: &mut MemorySink,
     policies: Policies,
@@ -96,4 +117,21 @@ pub fn answered<R: AllocGlobal + Threads + Wait + Sync, G: Gate>(
     let (out, err) = (&mut answer.out, &mut answer.err);
     answer.status = status_of(rt, &words, &mut source, out, err, policies, gate);
     Ok(answer)
+}
+
+/// The status of a command of which the source has no memory for what it is asked.
+pub fn starved<R: AllocGlobal + Threads + Wait + Sync, G: Gate>(
+    rt: &R,
+    alloc: Global,
+    command: &Command,
+    policies: Policies,
+    gate: &G,
+) -> Result<u8, AllocError> {
+    let mut answer = no_answer(alloc, command)?;
+    let words = owned(alloc, command.words)?;
+    let mut source = NoMemory {
+        asked: Asked::new(),
+    };
+    let (out, err) = (&mut answer.out, &mut answer.err);
+    Ok(status_of(rt, &words, &mut source, out, err, policies, gate))
 }

@@ -1,7 +1,7 @@
 //! How often the policies of a run are asked, and that each is dropped once.
 
 use crate::boxes::{Tally, counting_box, policies};
-use crate::runs::commands::{Command, SOUND, answered};
+use crate::runs::commands::{Command, SOUND, answered, starved};
 use crate::texts::PASSING;
 use std::alloc::{AllocError, Global};
 use std::process::Abort;
@@ -87,5 +87,20 @@ fn a_policy_is_asked_where_its_strategy_is_given_and_dropped_once(
     for case in &CASES {
         counts(&rt, rt.alloc(), case)?;
     }
+    Ok(())
+}
+
+#[test]
+fn a_policy_is_dropped_once_where_there_is_no_memory(rt: HostRuntime) -> Result<(), Fail> {
+    let alloc = rt.alloc();
+    let command = Command {
+        words: &["a.asp"],
+        ..SOUND
+    };
+    let tally = Tally::new(alloc)?;
+    let policies = policies(alloc, counting_box(alloc, &tally)?)?;
+    let status = starved(&rt, alloc, &command, policies, &OpenGate)?;
+    assert_eq!(rt; status, 8);
+    assert_eq!(rt; tally.dropped.load(Ordering::SeqCst), 1);
     Ok(())
 }
