@@ -17,7 +17,7 @@ use Rattle.trace_check.specs.declared.error.TraceStop.{TraceStop}
 use Rattle.trace_check.specs.declared.error.TraceStop.TheVariants as checked
 use Rattle.trace_check.specs.Checks.{IsStop, IsUnfinished, IsUnlawfulAt}
 use Rattle.trace_check.proofs.CheckLemmas.{ended_are_accepted}
-use Rattle.command_line.specs.Task.{TaskShape, Runs, Checks, Rules, Journals, Replays, Compares, Traces, Makes, task_of}
+use Rattle.command_line.specs.Task.{TaskShape, Runs, Checks, Rules, Journals, Saves, Replays, Compares, Traces, Makes, task_of}
 use Rattle.asp_top.specs.Seen.{Call, Outside, SomeReadFails, IsLong, IsLongContent}
 use Rattle.asp_top.specs.Programs.{IsFile, IsText, IsProgramOf, HasProgram, HasReport, HasTrace, NamesProgram, place_of}
 use Rattle.asp_top.specs.Correct.{Answers, IsReported}
@@ -54,6 +54,7 @@ same_text o (Runs file settings depth) bytes other e f = same_file o 0 file MOST
 same_text o (Checks file) bytes other e f = same_file o 0 file MOST_PROGRAM_BYTES bytes other e.0 f
 same_text o (Rules file settings) bytes other e f = same_file o 0 file MOST_PROGRAM_BYTES bytes other e.0 f
 same_text o (Journals file settings) bytes other e f = same_file o 0 file MOST_PROGRAM_BYTES bytes other e.0 f
+same_text o (Saves file settings) bytes other e f = same_file o 0 file MOST_PROGRAM_BYTES bytes other e.0 f
 same_text o (Replays file name depth) bytes other e f = same_file o 0 file MOST_PROGRAM_BYTES bytes other e.0 f
 same_text o (Compares file name other) bytes found e f = same_file o 0 file MOST_PROGRAM_BYTES bytes found e.0 f
 same_text o (Traces file name budget depth) bytes other e f = same_file o 0 file MOST_PROGRAM_BYTES bytes other e.0 f
@@ -70,6 +71,7 @@ program_fits o (Runs file settings depth) bytes name e n l = too_long o 0 name b
 program_fits o (Checks file) bytes name e n l = too_long o 0 name bytes MOST_PROGRAM_BYTES (has_named o 0 file name bytes n e.0) e.1 l
 program_fits o (Rules file settings) bytes name e n l = too_long o 0 name bytes MOST_PROGRAM_BYTES (has_named o 0 file name bytes n e.0) e.1 l
 program_fits o (Journals file settings) bytes name e n l = too_long o 0 name bytes MOST_PROGRAM_BYTES (has_named o 0 file name bytes n e.0) e.1 l
+program_fits o (Saves file settings) bytes name e n l = too_long o 0 name bytes MOST_PROGRAM_BYTES (has_named o 0 file name bytes n e.0) e.1 l
 program_fits o (Replays file report depth) bytes name e n l = too_long o 0 name bytes MOST_PROGRAM_BYTES (has_named o 0 file name bytes n e.0) e.1 l
 program_fits o (Compares file report other) bytes name e n l = too_long o 0 name bytes MOST_PROGRAM_BYTES (has_named o 0 file name bytes n e.0) e.1 l
 program_fits o (Traces file trace budget depth) bytes name e n l = too_long o 0 name bytes MOST_PROGRAM_BYTES (has_named o 0 file name bytes n e.0) e.1 l
@@ -196,6 +198,7 @@ given_in o (Runs file settings depth) text status a = (a.0.program, a.0.given)
 given_in o (Checks file) text status a = (a.0, a.1)
 given_in o (Rules file settings) text status a = (a.0.program, a.0.given)
 given_in o (Journals file settings) text status a = (a.0.program, a.0.given)
+given_in o (Saves file settings) text status a = (a.0.program, a.0.given)
 given_in o (Replays file name depth) text status a = (a.0.program, a.0.given)
 given_in o (Compares file name other) text status a = (a.0.program, a.0.given)
 given_in o (Traces file name budget depth) text status a = (a.0.program, a.0.given)
@@ -218,6 +221,7 @@ module _ (c : Call) (a : AsksUnfit c) where
   never_has (Checks file) n program h = not_given c.outside file a.bytes h.bytes program (has_named c.outside 0 a.name file a.bytes (sym n) a.had) a.unfit h.text h.is
   never_has (Rules file settings) n program h = not_given c.outside file a.bytes h.bytes program (has_named c.outside 0 a.name file a.bytes (sym n) a.had) a.unfit h.text h.is
   never_has (Journals file settings) n program h = not_given c.outside file a.bytes h.bytes program (has_named c.outside 0 a.name file a.bytes (sym n) a.had) a.unfit h.text h.is
+  never_has (Saves file settings) n program h = not_given c.outside file a.bytes h.bytes program (has_named c.outside 0 a.name file a.bytes (sym n) a.had) a.unfit h.text h.is
   never_has (Replays file report depth) n program h = not_given c.outside file a.bytes h.bytes program (has_named c.outside 0 a.name file a.bytes (sym n) a.had) a.unfit h.text h.is
   never_has (Compares file report other) n program h = not_given c.outside file a.bytes h.bytes program (has_named c.outside 0 a.name file a.bytes (sym n) a.had) a.unfit h.text h.is
   never_has (Traces file trace budget depth) n program h = not_given c.outside file a.bytes h.bytes program (has_named c.outside 0 a.name file a.bytes (sym n) a.had) a.unfit h.text h.is

@@ -1,13 +1,16 @@
 -- What a run and a replay have written, from the end of the run and the outcome of the replay.
 use Rattle.std.specs.Prelude.{map, string_bytes}
 use Rattle.std.specs.List.{concat}
-use Rattle.std.proofs.Common.{◌≡◌, ◌≤◌, ℕ, List, Option, None, ◌++◌, sym, ap, subst, ◌∙◌, arith}
+use Rattle.std.specs.declared.alloc.Global.{Global}
+use Rattle.std.specs.declared.string.String.{String}
+use Rattle.std.proofs.lemmas.Bool.{true≢false}
+use Rattle.std.proofs.Common.{◌≡◌, ◌≤◌, ℕ, false, List, Option, Some, None, ◌++◌, inl, inr, sym, ap, subst, ◌∙◌, arith}
 use Rattle.asp_model.specs.declared.limits.TheConstants.{MOST_REDUCTIONS}
 use Rattle.asp_model.specs.Configuration.{Configuration}
 use Rattle.asp_model.specs.Term.{Tree}
 use Rattle.asp_model.specs.Marked.{Marked, plain}
 use Rattle.asp_model.specs.Step.{ListsShape}
-use Rattle.asp_model.specs.Status.{Budget, verdict_of}
+use Rattle.asp_model.specs.Status.{Budget, VerdictShape, verdict_of}
 use Rattle.asp_model.specs.Replay.{CountsShape, replay}
 use Rattle.asp_model.specs.Outcome.{OutcomeShape, outcome_of, counts_in, lists_in, exit_status}
 use Rattle.asp_model.specs.Report.{text_of}
@@ -27,19 +30,21 @@ use Rattle.run_report.proofs.PassedLemmas.{rulings_are_passed_over}
 use Rattle.asp_core.specs.EndOfRun.{IsEndOfRun}
 use Rattle.run_traces.specs.declared.traced.Traced.{Traced}
 use Rattle.run_traces.specs.Traced.{IsTracedRun}
+use Rattle.run_saves.specs.Saved.{IsStoppedRun, is_budget}
 use Rattle.asp_model.specs.History.{EntryShape}
 use Rattle.trace_text.specs.Traces as Trace
 use Rattle.trace_text.specs.Traces.{read_trace, trace_of}
 use Rattle.trace_check.specs.Checks.{IsCheckedEnd}
 use Rattle.load_gen.specs.Generated.{generated}
 use Rattle.command_line.specs.Settings.{IsSettings, SettingsShape}
-use Rattle.command_line.specs.Task.{Runs, Rules, Journals, Replays, Compares, Traces, Makes}
+use Rattle.command_line.specs.Task.{Runs, Rules, Journals, Saves, Replays, Compares, Traces, Makes}
 use Rattle.asp_top.specs.Seen.{Outside}
 use Rattle.asp_top.specs.Programs.{IsProgramOf, IsInFile, HasReplay, HasTrace}
 use Rattle.asp_top.specs.Comparisons.{Said, IsSo, status_said, text_said}
 use Rattle.asp_top.specs.Correct.{Answers, IsWithin}
 use Rattle.asp_top.specs.Stops.{program_in}
 use Rattle.asp_top.proofs.RulingLemmas.{only_end}
+use Rattle.asp_top.proofs.StatusLemmas.{five_status}
 
 -- what the end of a run says of the replay under the lists and counts that it shows
 
@@ -116,6 +121,24 @@ module _ (c : Checked) (settings : SettingsShape) (end : RunEnd) (h : IsEndOfRun
         only_end (tree_of c.program.root) lists counts (programs_have_no_places given.bytes (program_in c) given.is.is_read),
       )
 
+  -- and one whose budget did not run out, where it would be saved
+  pub kept_is : (o : Outside) (file : List ℕ) (text : List ℕ) (status : ℕ) → is_budget (Some (verdict_of now)) ≡ false → IsInFile o file (program_in c) → IsSettings settings
+      → text ≡ report_to None (whole_outcome_of now) → status ≡ exit_status (outcome_shape end.outcome) → Answers o (Saves file settings) text status
+  kept_is o file text status not given s e is =
+      let told : text ≡ report_to None (whole_outcome_of again) = e ∙ same_report c settings.budget end h None in
+      let same : verdict_of again ≡ verdict_of now = ap (λ (x : OutcomeShape). x.verdict) h.replayed.outcome in (
+        record { program = program_in c; given = given; lists = lists_in (outcome_of now); counts = counts_in (outcome_of now); fits = h.replayed.fits },
+        (
+          inr (
+            (λ v. true≢false (ap (λ (w : VerdictShape). is_budget (Some w)) (sym v ∙ same) ∙ not)),
+            told,
+            ap read_report told ∙ reads_so None given.bytes given.is s,
+          ),
+          is ∙ ap exit_status (same_outcome c settings.budget end h),
+        ),
+        within c settings.budget end h,
+      )
+
   pub made_is : (o : Outside) (pairs : ℕ) (bytes : List ℕ) (text : List ℕ) (status : ℕ) → bytes ≡ generated pairs → IsProgramOf bytes (program_in c)
       → text ≡ summary_of pairs (outcome_shape end.outcome) → status ≡ exit_status (outcome_shape end.outcome) → Answers o (Makes pairs settings) text status
   made_is o pairs bytes text status made is e s = (
@@ -158,6 +181,28 @@ journal_is o file c settings traced text status h given e is =
           read = read_alike text (trace_of h.journal) h.journal (e ∙ h.text) h.read;
         },
         is ∙ ap exit_status (h.outcome ∙ sym h.replayed.outcome),
+      ),
+      (h.budgeted.within, λ (v : verdict_of replayed ≡ Budget). h.budgeted.spent (sym (ap (λ (x : OutcomeShape). x.verdict) h.replayed.outcome) ∙ v)),
+    )
+
+-- what a run has written whose budget ran out
+pub stopped_is : (o : Outside) (file : List ℕ) (c : Checked) (settings : SettingsShape) (pieces : List (String Global)) (text : List ℕ) (status : ℕ) → IsStoppedRun (program_in c) settings.budget pieces
+    → IsInFile o file (program_in c) → text ≡ concat (map string_bytes pieces) → status ≡ 5 → Answers o (Saves file settings) text status
+stopped_is o file c settings pieces text status h given e is =
+    let ended : Configuration = h.ended.run.configuration in
+    let replayed : Configuration = replay (tree_of c.program.root) (lists_in (outcome_of ended)) (counts_in (outcome_of ended)) in
+    let verdict : verdict_of replayed ≡ Budget = ap (λ (x : OutcomeShape). x.verdict) h.replayed.outcome ∙ h.stopped in (
+      record { program = program_in c; given = given; lists = lists_in (outcome_of ended); counts = counts_in (outcome_of ended); fits = h.replayed.fits },
+      (
+        inl (
+          verdict,
+          record {
+            entries = h.journal;
+            lawful = record { journal = h.ended; agrees = h.replayed.agrees; outcome = sym h.replayed.outcome; reports = λ depth. ap text_of (sym (h.replayed.reports depth)) };
+            written = e ∙ h.text;
+          },
+        ),
+        is ∙ sym (five_status replayed verdict),
       ),
       (h.budgeted.within, λ (v : verdict_of replayed ≡ Budget). h.budgeted.spent (sym (ap (λ (x : OutcomeShape). x.verdict) h.replayed.outcome) ∙ v)),
     )

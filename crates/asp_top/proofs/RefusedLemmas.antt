@@ -3,7 +3,7 @@ use Rattle.std.proofs.Common.{◌≡◌, ℕ, ◌<◌, ◌≤◌, List, Some, No
 use Rattle.asp_model.specs.declared.limits.TheConstants.{MOST_REPORT_BYTES}
 use Rattle.asp_model.specs.Marked.{Marked}
 use Rattle.asp_model.specs.ReadReport.{read_report}
-use Rattle.command_line.specs.Task.{TaskShape, Runs, Checks, Rules, Journals, Replays, Compares, Traces, Makes, task_of}
+use Rattle.command_line.specs.Task.{TaskShape, Runs, Checks, Rules, Journals, Saves, Replays, Compares, Traces, Makes, task_of}
 use Rattle.asp_top.specs.declared.stop.Which.{Which}
 use Rattle.asp_top.specs.declared.stop.Which.TheVariants.{First, Second}
 use Rattle.asp_top.specs.Seen.{Call, Outside, IsLong, IsUntouched, Takes}
@@ -22,6 +22,7 @@ one_name (Runs file settings depth) which name other h g = absurd h
 one_name (Checks file) which name other h g = absurd h
 one_name (Rules file settings) which name other h g = absurd h
 one_name (Journals file settings) which name other h g = absurd h
+one_name (Saves file settings) which name other h g = absurd h
 one_name (Replays file report depth) First name other h g = sym h ∙ g
 one_name (Replays file report depth) Second name other h g = absurd h
 one_name (Compares file report second) First name other h g = sym h ∙ g
@@ -35,6 +36,7 @@ no_trace (Runs file settings depth) which name other budget h g = h
 no_trace (Checks file) which name other budget h g = h
 no_trace (Rules file settings) which name other budget h g = h
 no_trace (Journals file settings) which name other budget h g = h
+no_trace (Saves file settings) which name other budget h g = h
 no_trace (Replays file report depth) which name other budget h g = g
 no_trace (Compares file report second) which name other budget h g = g
 no_trace (Traces file trace most depth) which name other budget h g = h
@@ -47,6 +49,7 @@ replays_at o (Runs file settings depth) text status a which name n = absurd n
 replays_at o (Checks file) text status a which name n = absurd n
 replays_at o (Rules file settings) text status a which name n = absurd n
 replays_at o (Journals file settings) text status a which name n = absurd n
+replays_at o (Saves file settings) text status a which name n = absurd n
 replays_at o (Replays file report depth) text status a First name n = (
   a.0.program,
   a.0.given,

@@ -5,7 +5,7 @@ use Rattle.std.specs.List.{list_any}
 use Rattle.asp_model.specs.Configuration.{Configuration}
 use Rattle.asp_model.specs.Status.{VerdictShape, End, Blocked, Budget, IsStuck, is_awaiting, is_running, statuses_of, verdict_of}
 use Rattle.asp_model.specs.Outcome.{ActivityReportShape, outcome_of, exit_status, is_faulted}
-use Rattle.command_line.specs.Task.{TaskShape, Runs, Checks, Rules, Journals, Replays, Compares, Traces, Makes, task_of}
+use Rattle.command_line.specs.Task.{TaskShape, Runs, Checks, Rules, Journals, Saves, Replays, Compares, Traces, Makes, task_of}
 use Rattle.asp_top.specs.Comparisons.{Said, Same, Differ, Unended, status_said}
 use Rattle.asp_top.specs.Seen.{Call, Outside, IsUntouched, Takes}
 use Rattle.asp_top.specs.Correct.{Answers, IsReported, IsSaid, ReplaysOf, Reports, end_of}
@@ -48,7 +48,7 @@ low_status c e = low_at (verdict_of c) (outcome_of c).activities e
 four_status : (c : Configuration) → verdict_of c ≡ Blocked → exit_status (outcome_of c) ≡ 4
 four_status c e = four_at (verdict_of c) (outcome_of c).activities e
 
-five_status : (c : Configuration) → verdict_of c ≡ Budget → exit_status (outcome_of c) ≡ 5
+pub five_status : (c : Configuration) → verdict_of c ≡ Budget → exit_status (outcome_of c) ≡ 5
 five_status c e = five_at (verdict_of c) (outcome_of c).activities e
 
 -- how a replay stops
@@ -163,6 +163,7 @@ answers_reported o (Runs file settings depth) text status a = reported_at (end_o
 answers_reported o (Checks file) text status a = inl a.3
 answers_reported o (Rules file settings) text status a = reported_at (end_of a.0) status a.1.1 (stops (end_of a.0))
 answers_reported o (Journals file settings) text status a = reported_at (end_of a.0) status a.1.1 (stops (end_of a.0))
+answers_reported o (Saves file settings) text status a = reported_at (end_of a.0) status a.1.1 (stops (end_of a.0))
 answers_reported o (Replays file name depth) text status a = reported_at (end_of a.0) status a.1.1 (stops (end_of a.0))
 answers_reported o (Compares file name other) text status a = said_reported a.1 status a.4
 answers_reported o (Traces file name budget depth) text status a = reported_at (end_of a.0) status a.1.1 (stops (end_of a.0))
@@ -173,6 +174,7 @@ has_ended o (Runs file settings depth) text status a h = end_at (end_of a.0) sta
 has_ended o (Checks file) text status a h = a.3
 has_ended o (Rules file settings) text status a h = end_at (end_of a.0) status a.1.1 h (stops (end_of a.0))
 has_ended o (Journals file settings) text status a h = end_at (end_of a.0) status a.1.1 h (stops (end_of a.0))
+has_ended o (Saves file settings) text status a h = end_at (end_of a.0) status a.1.1 h (stops (end_of a.0))
 has_ended o (Replays file name depth) text status a h = end_at (end_of a.0) status a.1.1 h (stops (end_of a.0))
 has_ended o (Compares file name other) text status a h =
     let low = said_low a.1 status a.4 h in (low, said_stuck a.0 a.1 status a.2 a.4 low)
@@ -184,6 +186,7 @@ has_blocked o (Runs file settings depth) text status a h = blocked_at (end_of a.
 has_blocked o (Checks file) text status a h = clash status 0 4 a.3 h refl refl
 has_blocked o (Rules file settings) text status a h = blocked_at (end_of a.0) status a.1.1 h (stops (end_of a.0))
 has_blocked o (Journals file settings) text status a h = blocked_at (end_of a.0) status a.1.1 h (stops (end_of a.0))
+has_blocked o (Saves file settings) text status a h = blocked_at (end_of a.0) status a.1.1 h (stops (end_of a.0))
 has_blocked o (Replays file name depth) text status a h = blocked_at (end_of a.0) status a.1.1 h (stops (end_of a.0))
 has_blocked o (Compares file name other) text status a h = not_four a.1 status a.4 h
 has_blocked o (Traces file name budget depth) text status a h = blocked_at (end_of a.0) status a.1.1 h (stops (end_of a.0))
@@ -194,6 +197,7 @@ has_spent o (Runs file settings depth) text status a h = let g = going_at (end_o
 has_spent o (Checks file) text status a h = clash status 0 5 a.3 h refl refl
 has_spent o (Rules file settings) text status a h = let g = going_at (end_of a.0) status a.1.1 h (stops (end_of a.0)) in (g, a.3.1 g.verdict)
 has_spent o (Journals file settings) text status a h = let g = going_at (end_of a.0) status a.1.1 h (stops (end_of a.0)) in (g, a.2.1 g.verdict)
+has_spent o (Saves file settings) text status a h = let g = going_at (end_of a.0) status a.1.1 h (stops (end_of a.0)) in (g, a.2.1 g.verdict)
 has_spent o (Replays file name depth) text status a h = going_at (end_of a.0) status a.1.1 h (stops (end_of a.0))
 has_spent o (Compares file name other) text status a h = said_going a.0 a.1 status a.2 a.4 h
 has_spent o (Traces file name budget depth) text status a h = let g = going_at (end_of a.0) status a.1.1 h (stops (end_of a.0)) in (g, a.3.1 g.verdict)

@@ -13,7 +13,7 @@ use Rattle.trace_text.specs.Traces.{read_trace}
 use Rattle.trace_check.specs.declared.error.TraceStop.{TraceStop}
 use Rattle.trace_check.specs.declared.error.TraceStop.TheVariants as checked
 use Rattle.trace_check.specs.Checks.{IsStop, IsUnfinished, IsUnlawfulAt}
-use Rattle.command_line.specs.Task.{TaskShape, Runs, Checks, Rules, Journals, Replays, Compares, Traces, Makes, task_of}
+use Rattle.command_line.specs.Task.{TaskShape, Runs, Checks, Rules, Journals, Saves, Replays, Compares, Traces, Makes, task_of}
 use Rattle.asp_top.specs.declared.stop.Stop.{Stop}
 use Rattle.asp_top.specs.declared.stop.Which.{Which}
 use Rattle.asp_top.specs.Seen.{Call, Outside, IsUntouched, Takes, outside_between}
@@ -118,6 +118,7 @@ one_trace (Runs file settings depth) name other budget most h g = absurd h
 one_trace (Checks file) name other budget most h g = absurd h
 one_trace (Rules file settings) name other budget most h g = absurd h
 one_trace (Journals file settings) name other budget most h g = absurd h
+one_trace (Saves file settings) name other budget most h g = absurd h
 one_trace (Replays file report depth) name other budget most h g = absurd h
 one_trace (Compares file report second) name other budget most h g = absurd h
 one_trace (Traces file trace limit depth) name other budget most h g = (sym g.0 ∙ h.0, sym g.1 ∙ h.1)
@@ -136,6 +137,7 @@ traced_at o (Runs file settings depth) text status a name budget n = absurd n
 traced_at o (Checks file) text status a name budget n = absurd n
 traced_at o (Rules file settings) text status a name budget n = absurd n
 traced_at o (Journals file settings) text status a name budget n = absurd n
+traced_at o (Saves file settings) text status a name budget n = absurd n
 traced_at o (Replays file report depth) text status a name budget n = absurd n
 traced_at o (Compares file report other) text status a name budget n = absurd n
 traced_at o (Traces file trace most depth) text status a name budget n = record {

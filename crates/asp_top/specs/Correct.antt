@@ -1,5 +1,5 @@
 -- The main theorem: `Reports` is the clause `report`, and `Answers` what is written for a task.
-use Rattle.std.specs.Prelude.{◌≡◌, ◌⊎◌, ℕ, ◌≤◌, List, Option, Some, codes}
+use Rattle.std.specs.Prelude.{◌≡◌, ◌≢◌, ◌⊎◌, ℕ, ◌≤◌, List, Option, Some, None, codes}
 use Rattle.asp_model.specs.Marked.{Marked, plain}
 use Rattle.asp_model.specs.Configuration.{Configuration}
 use Rattle.asp_model.specs.History.{EntryShape}
@@ -19,7 +19,10 @@ use Rattle.run_report.specs.Summary.{summary_of}
 use Rattle.law_traces.specs.Standings.{IsEndedJournal}
 use Rattle.trace_text.specs.Traces as Trace
 use Rattle.trace_text.specs.Traces.{read_trace, trace_of}
-use Rattle.command_line.specs.Task.{TaskShape, Runs, Checks, Rules, Journals, Replays, Compares, Traces, Makes, task_of}
+use Rattle.law_frozen.specs.Frozen.{frozen_of}
+use Rattle.checkpoint_text.specs.Lines.{checkpoint_text}
+use Rattle.checkpoint_runs.specs.Saved.{program_text}
+use Rattle.command_line.specs.Task.{TaskShape, Runs, Checks, Rules, Journals, Saves, Replays, Compares, Traces, Makes, task_of}
 use Rattle.asp_top.specs.Seen.{Call, Outside, IsUntouched, Takes}
 use Rattle.asp_top.specs.Programs.{HasProgram, HasReplay, HasReport, HasTrace}
 use Rattle.asp_top.specs.Rulings.{IsOnlyEnd}
@@ -68,6 +71,19 @@ pub record IsTrace (program : Tree) (budget : ℕ) (c : Configuration) (text : L
   pub written : text ≡ trace_of entries
   pub read : read_trace text ≡ Trace.Reads entries
 
+-- the text is the checkpoint of the end of such a journal
+pub record IsCheckpoint (program : Marked) (budget : ℕ) (c : Configuration) (text : List ℕ) : Type 0 where
+  pub entries : List EntryShape
+  pub lawful : IsJournalTo (plain program) budget entries c
+  pub written : text ≡ checkpoint_text (program_text program)
+      (frozen_of lawful.journal.run.names lawful.journal.run.configuration)
+
+-- where the budget ran out such a checkpoint, and else the report
+abbrev pub IsLeft : {o : Outside} {task : TaskShape} → ReplayOf o task → ℕ → List ℕ → Type 0
+IsLeft r budget text =
+    ((verdict_of (end_of r) ≡ Budget) × IsCheckpoint r.program budget (end_of r) text)
+    ⊎ ((verdict_of (end_of r) ≢ Budget) × (text ≡ report_at None (end_of r)) × (read_report text ≡ Reads r.lists r.counts))
+
 -- the file of this name is the trace of such a journal
 pub record IsTraced (o : Outside) (name : List ℕ) (program : Tree) (budget : ℕ) (c : Configuration) : Type 0 where
   pub entries : List EntryShape
@@ -100,6 +116,11 @@ Answers o (Rules file settings) text status = (r : ReplayOf o (Rules file settin
 -- which it agrees
 Answers o (Journals file settings) text status = (r : ReplayOf o (Journals file settings))
     × (IsTrace (plain r.program) settings.budget (end_of r) text × (status ≡ exit_status (outcome_of (end_of r))))
+    × IsWithin settings.budget r.counts (end_of r)
+-- `asp FILE --save`: where the budget ran out the checkpoint of the end of a lawful journal, with which a replay agrees,
+-- and else the report of the replay under the logs and counts that it reads as; the status is that of the replay
+Answers o (Saves file settings) text status = (r : ReplayOf o (Saves file settings))
+    × (IsLeft r settings.budget text × (status ≡ exit_status (outcome_of (end_of r))))
     × IsWithin settings.budget r.counts (end_of r)
 -- `asp FILE --replay REPORT`: the report of the replay under those that the file REPORT reads as
 Answers o (Replays file name depth) report status = (r : ReplayOf o (Replays file name depth))

@@ -14,7 +14,7 @@ use Rattle.law_traces.specs.Standings.{IsEndedJournal}
 use Rattle.trace_text.specs.Traces as Trace
 use Rattle.trace_text.specs.Traces.{read_trace}
 use Rattle.trace_check.specs.Checks.{IsUnfinished, IsUnlawfulAt}
-use Rattle.command_line.specs.Task.{TaskShape, Runs, Checks, Rules, Journals, Replays, Compares, Traces, Makes, task_of}
+use Rattle.command_line.specs.Task.{TaskShape, Runs, Checks, Rules, Journals, Saves, Replays, Compares, Traces, Makes, task_of}
 use Rattle.asp_top.specs.declared.stop.Which.{Which}
 use Rattle.asp_top.specs.declared.stop.Which.TheVariants.{First, Second}
 use Rattle.asp_top.specs.Seen.{Call, Outside, Gave, SomeReadFails, IsUntouched, Takes, Fails}
@@ -39,6 +39,7 @@ HasText o (Runs file settings depth) bytes = HasShort o 0 file MOST_PROGRAM_BYTE
 HasText o (Checks file) bytes = HasShort o 0 file MOST_PROGRAM_BYTES bytes
 HasText o (Rules file settings) bytes = HasShort o 0 file MOST_PROGRAM_BYTES bytes
 HasText o (Journals file settings) bytes = HasShort o 0 file MOST_PROGRAM_BYTES bytes
+HasText o (Saves file settings) bytes = HasShort o 0 file MOST_PROGRAM_BYTES bytes
 HasText o (Replays file name depth) bytes = HasShort o 0 file MOST_PROGRAM_BYTES bytes
 HasText o (Compares file name other) bytes = HasShort o 0 file MOST_PROGRAM_BYTES bytes
 HasText o (Traces file trace budget depth) bytes = HasShort o 0 file MOST_PROGRAM_BYTES bytes

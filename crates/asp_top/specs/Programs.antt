@@ -13,7 +13,7 @@ use Rattle.asp_edge.specs.Causes.{IsContent}
 use Rattle.load_gen.specs.Generated.{generated}
 use Rattle.trace_text.specs.Traces as Trace
 use Rattle.trace_text.specs.Traces.{read_trace}
-use Rattle.command_line.specs.Task.{TaskShape, Runs, Checks, Rules, Journals, Replays, Compares, Traces, Makes, task_of}
+use Rattle.command_line.specs.Task.{TaskShape, Runs, Checks, Rules, Journals, Saves, Replays, Compares, Traces, Makes, task_of}
 use Rattle.asp_top.specs.declared.stop.Which.{Which}
 use Rattle.asp_top.specs.declared.stop.Which.TheVariants.{First, Second}
 use Rattle.asp_top.specs.Seen.{Outside, Asked, Gave}
@@ -31,6 +31,7 @@ IsText o (Runs file settings depth) bytes = IsFile o 0 file MOST_PROGRAM_BYTES b
 IsText o (Checks file) bytes = IsFile o 0 file MOST_PROGRAM_BYTES bytes
 IsText o (Rules file settings) bytes = IsFile o 0 file MOST_PROGRAM_BYTES bytes
 IsText o (Journals file settings) bytes = IsFile o 0 file MOST_PROGRAM_BYTES bytes
+IsText o (Saves file settings) bytes = IsFile o 0 file MOST_PROGRAM_BYTES bytes
 IsText o (Replays file report depth) bytes = IsFile o 0 file MOST_PROGRAM_BYTES bytes
 IsText o (Compares file report other) bytes = IsFile o 0 file MOST_PROGRAM_BYTES bytes
 IsText o (Traces file trace budget depth) bytes = IsFile o 0 file MOST_PROGRAM_BYTES bytes
@@ -85,6 +86,7 @@ NamesProgram (Runs file settings depth) name = file ≡ name
 NamesProgram (Checks file) name = file ≡ name
 NamesProgram (Rules file settings) name = file ≡ name
 NamesProgram (Journals file settings) name = file ≡ name
+NamesProgram (Saves file settings) name = file ≡ name
 NamesProgram (Replays file report depth) name = file ≡ name
 NamesProgram (Compares file report other) name = file ≡ name
 NamesProgram (Traces file trace budget depth) name = file ≡ name
@@ -113,6 +115,7 @@ files_of (Runs file settings depth) = file ∷ []
 files_of (Checks file) = file ∷ []
 files_of (Rules file settings) = file ∷ []
 files_of (Journals file settings) = file ∷ []
+files_of (Saves file settings) = file ∷ []
 files_of (Replays file report depth) = file ∷ report ∷ []
 files_of (Compares file report other) = file ∷ report ∷ other ∷ []
 files_of (Traces file trace budget depth) = file ∷ trace ∷ []

@@ -8,7 +8,7 @@ use Rattle.asp_model.specs.Status.{End, Blocked, Budget, IsStuck, is_awaiting, s
 use Rattle.asp_model.specs.Replay.{total}
 use Rattle.asp_syntax.specs.declared.error.SyntaxFault.{SyntaxFault}
 use Rattle.asp_check.specs.declared.fault.CheckFault.{CheckFault}
-use Rattle.command_line.specs.Task.{TaskShape, Runs, Checks, Rules, Journals, Replays, Compares, Traces, Makes, task_of}
+use Rattle.command_line.specs.Task.{TaskShape, Runs, Checks, Rules, Journals, Saves, Replays, Compares, Traces, Makes, task_of}
 use Rattle.asp_top.specs.declared.stop.Which.{Which}
 use Rattle.asp_top.specs.Seen.{Call, Outside, SomeReadFails, Takes, Fails}
 use Rattle.asp_top.specs.Refusals.{LongProgram, NoProgram, Unchecked, LongReport, NoReport, Diverges}
@@ -52,6 +52,7 @@ HasEnded o (Runs file settings depth) text status a = IsEnd (end_of a.0)
 HasEnded o (Checks file) text status a = status ≡ 0
 HasEnded o (Rules file settings) text status a = IsEnd (end_of a.0)
 HasEnded o (Journals file settings) text status a = IsEnd (end_of a.0)
+HasEnded o (Saves file settings) text status a = IsEnd (end_of a.0)
 HasEnded o (Replays file name depth) text status a = IsEnd (end_of a.0)
 HasEnded o (Compares file name other) text status a = (status ≡ 0) × AreEnded a.0
 HasEnded o (Traces file name budget depth) text status a = IsEnd (end_of a.0)
@@ -63,17 +64,19 @@ HasBlocked o (Runs file settings depth) text status a = IsBlocked (end_of a.0)
 HasBlocked o (Checks file) text status a = ⊥
 HasBlocked o (Rules file settings) text status a = IsBlocked (end_of a.0)
 HasBlocked o (Journals file settings) text status a = IsBlocked (end_of a.0)
+HasBlocked o (Saves file settings) text status a = IsBlocked (end_of a.0)
 HasBlocked o (Replays file name depth) text status a = IsBlocked (end_of a.0)
 HasBlocked o (Compares file name other) text status a = ⊥
 HasBlocked o (Traces file name budget depth) text status a = IsBlocked (end_of a.0)
 HasBlocked o (Makes pairs settings) text status a = IsBlocked (end_of a.0)
 
--- what status 5 says of it: a run, traced or not, has spent its budget, and of two replays one can go on
+-- what status 5 says of it: a run, traced, saved or neither, has spent its budget, and of two replays one can go on
 abbrev pub HasSpent : OfAnswers
 HasSpent o (Runs file settings depth) text status a = GoesOn (end_of a.0) × (total a.0.counts ≡ settings.budget)
 HasSpent o (Checks file) text status a = ⊥
 HasSpent o (Rules file settings) text status a = GoesOn (end_of a.0) × (total a.0.counts ≡ settings.budget)
 HasSpent o (Journals file settings) text status a = GoesOn (end_of a.0) × (total a.0.counts ≡ settings.budget)
+HasSpent o (Saves file settings) text status a = GoesOn (end_of a.0) × (total a.0.counts ≡ settings.budget)
 HasSpent o (Replays file name depth) text status a = GoesOn (end_of a.0)
 HasSpent o (Compares file name other) text status a = IsSaid a.0 Unended
 HasSpent o (Traces file name budget depth) text status a = GoesOn (end_of a.0) × (total a.0.counts ≡ budget)

@@ -11,6 +11,8 @@ use Rattle.asp_edge.specs.declared.edge.ReadError.{ReadError}
 use Rattle.run_ends.specs.declared.ends.RunEnd.{RunEnd}
 use Rattle.run_traces.specs.declared.traced.Traced.{Traced}
 use Rattle.run_traces.specs.Traced.{IsTracedRun}
+use Rattle.run_saves.specs.declared.saved.Saved.{Saved}
+use Rattle.run_saves.specs.Saved.{IsSavedRun}
 use Rattle.asp_syntax.specs.declared.error.SyntaxError.{SyntaxError}
 use Rattle.asp_syntax.specs.declared.error.SyntaxError.TheVariants as syntax
 use Rattle.asp_check.specs.declared.fault.CheckError.{CheckError}
@@ -100,6 +102,12 @@ pub record IsTracedRunOf (o : Outside) (file : List ℕ) (budget : ℕ) (traced 
   pub checked : Checked
   pub given : IsCheckedFile o file checked
   pub run : IsTracedRun (tree_of checked.program.root) budget traced
+
+-- and what is left of one that is saved
+pub record IsSavedRunOf (o : Outside) (file : List ℕ) (budget : ℕ) (saved : Saved) : Type 0 where
+  pub checked : Checked
+  pub given : IsCheckedFile o file checked
+  pub run : IsSavedRun (program_in checked) budget saved
 
 -- the cause of a stop at a text
 abbrev pub RefusedAt : List ℕ → Refusal → Type 0

@@ -7,6 +7,7 @@ ghost use Rattle.asp_top.specs.declared.stop.Stop.TheVariants as stops;
 use asp_check::{CheckError, CheckFault};
 use asp_model::ActivityName;
 use asp_syntax::{SyntaxError, SyntaxFault};
+use code_reading::DecodeError;
 use command_line::WordsError;
 use replay_one::ReplayStop;
 use sender_log::LogError;
@@ -79,6 +80,15 @@ impl From<AllocError> for Stop<'_> {
     ghost from_gives = { λ _ s. s ≡ stops.Memory };
 
     fn from(_error: AllocError) -> Self {
+        Stop::Memory
+    }
+}
+
+// A core's activities have settled and run its code, so this is for want of memory.
+impl From<DecodeError> for Stop<'_> {
+    ghost from_gives = { λ _ s. s ≡ stops.Memory };
+
+    fn from(_error: DecodeError) -> Self {
         Stop::Memory
     }
 }

@@ -43,7 +43,8 @@ fn run_words<R: Threads + Wait + Sync, S: Source, O: Sink, E: Sink, G: Gate>(
 /// it, with `--same OTHER` it replays two and says what services could tell, `asp FILE --check`
 /// reads and checks it, `asp FILE --determinate` runs it and says behind the report whether there
 /// is another, `asp FILE --journal` runs it and writes the trace of what its core did, in pieces,
-/// `asp FILE --trace T` checks such a trace and writes the report of its run, and `asp --make N`
+/// `asp FILE --save` runs it and writes its checkpoint in place of the report where the budget runs
+/// out, `asp FILE --trace T` checks such a trace and writes the report of its run, and `asp --make N`
 /// runs the generated program of N pairs and writes a summary. With `--state D` a report shows the
 /// states of its activities. A run asks the policy of each future's strategy, which `--strategy`
 /// and `--update` name, how the future's value is to come to the activities that it was passed to;

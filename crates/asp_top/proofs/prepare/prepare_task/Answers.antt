@@ -48,6 +48,16 @@ returns-in-Journal-clause-reads g c =
     let o = outside_between g.S.Source.told c.args.source.now c.prepare_journal.new.source in
     subst (λ (t : Task). AsksInTurn o (files_of (task_shape t))) (sym c.in-Journal.is) (in_turn_once o _ [] c.prepare_journal.ensures.asked)
 
+pub returns-in-Save-clause-answer : goal.returns-in-Save-clause-answer
+returns-in-Save-clause-answer g c =
+    let o = outside_between g.S.Source.told c.args.source.now c.prepare_save.new.source in
+    subst (λ (t : Task). IfOk c.prepare_save.result (IsReady o (task_shape t))) (sym c.in-Save.is) c.prepare_save.ensures.answer
+
+pub returns-in-Save-clause-reads : goal.returns-in-Save-clause-reads
+returns-in-Save-clause-reads g c =
+    let o = outside_between g.S.Source.told c.args.source.now c.prepare_save.new.source in
+    subst (λ (t : Task). AsksInTurn o (files_of (task_shape t))) (sym c.in-Save.is) (in_turn_once o _ [] c.prepare_save.ensures.asked)
+
 pub returns-in-Check-clause-reads : goal.returns-in-Check-clause-reads
 returns-in-Check-clause-reads g c =
     let o = outside_between g.S.Source.told c.args.source.now c.prepare_check.new.source in
