@@ -23,8 +23,8 @@ count-requires c = record { ascending = ascending c.args.lists.now c.args.counts
 pub population_at-requires-clause-ascending : goal.population_at-requires-clause-ascending
 population_at-requires-clause-ascending c = (ascending c.args.lists.now c.args.counts.now c.requires.replayable).0
 
-pub returns-in_default-number-clause-stop : goal.returns-in_default-number-clause-stop
-returns-in_default-number-clause-stop c = inl (no_log_of c.args.lists.now c.in_ok-roster.roster c.args.name.now c.in_ok-roster.ensures.sound c.in_ok-roster.ensures.numbered (sym c.in_default-number.ensures.number))
+pub returns-in_default-clause-stop : goal.returns-in_default-clause-stop
+returns-in_default-clause-stop c = inl (no_log_of c.args.lists.now c.in_ok-roster.roster c.args.name.now c.in_ok-roster.ensures.sound c.in_ok-roster.ensures.numbered (sym c.in_default.ensures.number))
 
 pub population_at-requires-clause-begun : goal.population_at-requires-clause-begun
 population_at-requires-clause-begun c =
