@@ -67,7 +67,7 @@ impl Activity {
         let waiting = mem::replace(&mut self.present, Some(future));
         self.state
             .machine
-            .suspend(waiting, label, self.active, &places)?;
+            .suspend(waiting, label, self.active, places.as_slice())?;
         let reductions = self.count.checked_add(1).ok_or(AllocError)?;
         self.count = reductions;
         Ok(())

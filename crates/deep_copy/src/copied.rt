@@ -34,11 +34,7 @@ pub fn leaf_cell(cell: View) -> Result<Cell, AllocError>
 }
 
 /// Each of the places moved.
-pub fn moved_places(
-    alloc: Global,
-    moves: &Moves,
-    places: &[Place],
-) -> Result<Vec<Place>, AllocError>
+fn moved_places(alloc: Global, moves: &Moves, places: &[Place]) -> Result<Vec<Place>, AllocError>
     ensures { IfOk result (λ r. r.items ≡ map (move_of moves.now) places.now) }
 {
     let mut copies = Vec::with_capacity(alloc, places.len())?;

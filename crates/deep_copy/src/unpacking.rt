@@ -13,9 +13,9 @@ ghost use Rattle.deep_copy.specs.Copied.{IsClosedWith, KeepsFit};
 ghost use Rattle.code_table.specs.Moves.{move_of};
 ghost use Rattle.law_steps.specs.Closed.{IsClosedParcel, IsClosedValue};
 
-use crate::copied::{code_is_sound, moved_places};
+use crate::copied::{code_is_sound, moved_roots};
 use crate::packing::ROOM;
-use code_table::{Cells, Code, Moves, Parcel, Place};
+use code_table::{Cells, Code, Moves, Parcel, Place, Roots};
 use object_store::Store;
 use std::alloc::{AllocError, Global};
 use std::sync::Arc;
@@ -32,8 +32,8 @@ pub fn unpack_alone(alloc: Global, parcel: Parcel) -> Result<(Arc<Code>, Store),
     Ok((parcel.code, store))
 }
 
-/// Appends a parcel's cells, and answers where its roots then stand.
-pub fn unpack(alloc: Global, store: &mut Store, parcel: Parcel) -> Result<Vec<Place>, AllocError>
+/// Appends a parcel's cells, and answers where its roots then stand. One root takes no memory.
+pub fn unpack(alloc: Global, store: &mut Store, parcel: Parcel) -> Result<Roots, AllocError>
     requires closed { IsClosedParcel (parcel_shape parcel) }
     ensures cells { let code = arc_value parcel.code in
         let after = unpacked_in (store_of code store.old.cells) (parcel_shape parcel) in
@@ -47,7 +47,7 @@ pub fn unpack(alloc: Global, store: &mut Store, parcel: Parcel) -> Result<Vec<Pl
 {
     code_is_sound(&parcel.code);
     let moves = Moves::Up(store.len());
-    let roots = moved_places(alloc, &moves, parcel.roots.as_slice())?;
+    let roots = moved_roots(alloc, &moves, parcel.roots.as_slice())?;
     append_moved(store, &moves, &parcel.cells, 0)?;
     Ok(roots)
 }
