@@ -1,8 +1,8 @@
 -- A visit as a relation, which a loop over a stack follows.
-use Rattle.std.proofs.Common.{◌≡◌, ℕ, zero, suc, ◌+◌, ◌<◌, ◌≤◌, nat_eq, Bool, true, false, not, ◌||◌, List, [], ◌∷◌, ◌++◌, length, reverse, refl, sym, ap, subst, ◌∙◌, T, arith, ⊎_elim, length-append}
-use Rattle.std.specs.List.{list_any}
+use Rattle.std.proofs.Common.{◌≡◌, ℕ, zero, suc, ◌+◌, ◌<◌, ◌≤◌, nat_eq, Bool, true, false, not, ◌||◌, List, [], ◌∷◌, ◌++◌, length, drop, reverse, refl, sym, ap, subst, ◌∙◌, T, arith, ⊎_elim, length-append}
+use Rattle.std.specs.List.{list_any, refill}
 use Rattle.std.proofs.lemmas.Bool.{eq-eqb, cases_lt}
-use Rattle.std.proofs.lemmas.List.{reverse-append, reverse-reverse, length-reverse}
+use Rattle.std.proofs.lemmas.List.{reverse-append, reverse-reverse, length-reverse, take_at}
 use Rattle.asp_model.specs.Store.{Store, cell, reached}
 use Rattle.asp_model.specs.Parcel.{has_place, walk, visit, visit_order}
 use Rattle.law_steps.specs.Closed.{AreBelow, IsClosedStore}
@@ -137,6 +137,10 @@ begins s roots stack seen e d closed h =
       below = subst (AreBelow (length s)) (sym r) h;
       seen_below = subst (AreBelow (length s)) (sym d) tt;
     }
+
+-- a list that is written over as a whole
+pub written_over : (xs ws : List ℕ) → length ws ≡ length xs → refill (length xs) xs ws ≡ ws
+written_over xs ws e = take_at ws (drop (length ws) xs) (length xs) e
 
 popped : (old new : List ℕ) (p : ℕ) → old ≡ new ++ p ∷ [] → reverse old ≡ p ∷ reverse new
 popped old new p e = ap reverse e ∙ reverse-append new (p ∷ [])

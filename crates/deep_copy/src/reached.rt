@@ -13,10 +13,14 @@ ghost use Rattle.deep_copy.specs.Reached.{
 };
 
 use code_table::{Class, Code, MethodCode, Object, Place, View};
+use smallvec::SmallVec;
 use std::alloc::AllocError;
 
+/// Places that are gathered. A few take no memory of their own.
+pub type Places = SmallVec<Place, 8>;
+
 /// Appends the places that a cell reaches.
-pub fn note_reached(places: &mut Vec<Place>, code: &Code, cell: View) -> Result<(), AllocError>
+pub fn note_reached(places: &mut Places, code: &Code, cell: View) -> Result<(), AllocError>
     ensures noted { OnOk result
         (places.new.items ≡ places.old.items ++ reached (cell_shape code.now cell.entry)) }
 {
@@ -30,7 +34,7 @@ pub fn note_reached(places: &mut Vec<Place>, code: &Code, cell: View) -> Result<
     }
 }
 
-fn note_object(places: &mut Vec<Place>, code: &Code, object: Object) -> Result<(), AllocError>
+fn note_object(places: &mut Places, code: &Code, object: Object) -> Result<(), AllocError>
     ensures { let noted = reached (object_shape code.now object.entry) in
         OnOk result (places.new.items ≡ places.old.items ++ noted) }
 {
@@ -40,7 +44,7 @@ fn note_object(places: &mut Vec<Place>, code: &Code, object: Object) -> Result<(
     }
 }
 
-fn note_places(places: &mut Vec<Place>, class: &Class, held: &[Place]) -> Result<(), AllocError>
+fn note_places(places: &mut Places, class: &Class, held: &[Place]) -> Result<(), AllocError>
     ensures { let noted = class_places class.now held.now in
         OnOk result (places.new.items ≡ places.old.items ++ noted) }
 {
@@ -51,7 +55,7 @@ fn note_places(places: &mut Vec<Place>, class: &Class, held: &[Place]) -> Result
 
 // What the methods captured stands behind each other.
 fn note_captured(
-    places: &mut Vec<Place>,
+    places: &mut Places,
     methods: &[MethodCode],
     held: &[Place],
 ) -> Result<(), AllocError>
@@ -67,7 +71,7 @@ fn note_captured(
     Ok(())
 }
 
-fn note_used(places: &mut Vec<Place>, uses: &[usize], captured: &[Place]) -> Result<(), AllocError>
+fn note_used(places: &mut Places, uses: &[usize], captured: &[Place]) -> Result<(), AllocError>
     ensures { let noted = used_places captured.now uses.now in
         OnOk result (places.new.items ≡ places.old.items ++ noted) }
 {
@@ -77,7 +81,7 @@ fn note_used(places: &mut Vec<Place>, uses: &[usize], captured: &[Place]) -> Res
     Ok(())
 }
 
-fn note_slot(places: &mut Vec<Place>, captured: &[Place], slot: usize) -> Result<(), AllocError>
+fn note_slot(places: &mut Places, captured: &[Place], slot: usize) -> Result<(), AllocError>
     ensures { let noted = option_to_list (slice_get captured.now slot) in
         OnOk result (places.new.items ≡ places.old.items ++ noted) }
 {

@@ -1,4 +1,4 @@
-use Rattle.std.specs.List.{list_any}
+use Rattle.std.specs.List.{list_any, refill}
 use Rattle.std.proofs.Common.{◌≡◌, ◌∙◌, ◌+◌, ◌<◌, ◌++◌, ◌∷◌, [], true, false, length, reverse, cond, nat_eq, sym, ap, subst}
 use Rattle.asp_model.specs.Parcel.{has_place, visit_order}
 use Rattle.asp_model.specs.Store.{Store, reached, cell}
@@ -6,16 +6,19 @@ use Rattle.law_steps.specs.Closed.{AreBelow}
 use Rattle.code_table.specs.Cells.{CodedCell}
 use Rattle.code_table.specs.Shapes.{cell_of, store_of}
 use Rattle.code_table.proofs.CodedLemmas.{cell-store_of, length-store_of}
-use Rattle.deep_copy.proofs.VisitLemmas.{Going, begins, falls, has_any, keeps_new, keeps_old, left, new_false, old_true}
+use Rattle.deep_copy.proofs.VisitLemmas.{Going, begins, falls, has_any, keeps_new, keeps_old, left, new_false, old_true, written_over}
 use Rattle.deep_copy.proofs.visiting.visit_order.Goals as goal
 
 pub loop-place-init : goal.loop-place-init
 loop-place-init c =
     let cs = c.args.store.now.cells in
     let s : Store = store_of c.args.code.now cs in
-    let stack : c.reverse.new.self.items ≡ reverse c.args.roots.now = c.reverse.ensures.items ∙ ap reverse (c.in_ok-extend_from_slice.ensures.items ∙ ap (λ xs. xs ++ c.args.roots.now) c.new-stack.ensures.items) in
+    let whole = c.in_ok-stack.stack.items in
+    let turned = c.reverse.new.self in
+    let long : length turned ≡ length whole = c.reverse.ensures.len ∙ ap length c.deref_mut.ensures.value in
+    let stack : turned ≡ reverse c.args.roots.now = c.reverse.ensures.after ∙ ap reverse (c.deref_mut.ensures.value ∙ c.in_ok-stack.ensures.ok) in
     let within = subst (λ n. AreBelow n c.args.roots.now) (sym (length-store_of c.args.code.now cs)) c.requires.within in
-    begins s c.args.roots.now c.reverse.new.self.items c.new-seen.result.keys stack c.new-seen.ensures.empty c.requires.closed within
+    begins s c.args.roots.now (refill (length whole) whole turned) c.new-seen.result.keys (written_over whole turned long ∙ stack) c.new-seen.ensures.empty c.requires.closed within
 
 pub loop-place-preserved : goal.loop-place-preserved
 loop-place-preserved c =
