@@ -28,7 +28,7 @@ use deep_copy::unpack_alone;
 use object_store::Store;
 use std::alloc::{AllocError, Global};
 use std::sync::Arc;
-use step_machine::{Focus, Machine};
+use step_machine::{Focus, Futures, Machine};
 
 /// A machine that looks at a node, in no frames and an empty environment.
 fn machine_at(alloc: Global, number: usize) -> Machine
@@ -38,7 +38,7 @@ fn machine_at(alloc: Global, number: usize) -> Machine
         frames: Vec::new(alloc),
         env: Vec::new(alloc),
         operands: Vec::new(alloc),
-        futures: Vec::new(alloc),
+        futures: Futures::new(alloc),
         asked: KeyedLabel::new(Label {
             text: Word::new(String::new(alloc)),
         }),

@@ -26,7 +26,7 @@ use asp_model::{Label, Word};
 use code_table::{Future, KeyedLabel, Place};
 use std::alloc::{AllocError, Global};
 use std::sync::Arc;
-use step_machine::{Focus, Machine};
+use step_machine::{Focus, Futures, Machine};
 
 /// A term that waits for the end of a service.
 #[derive(Drop)]
@@ -52,7 +52,7 @@ fn empty_machine(alloc: Global) -> Machine
         frames: Vec::new(alloc),
         env: Vec::new(alloc),
         operands: Vec::new(alloc),
-        futures: Vec::new(alloc),
+        futures: Futures::new(alloc),
         asked: KeyedLabel::new(Label {
             text: Word::new(String::new(alloc)),
         }),

@@ -12,5 +12,5 @@ mod sites;
 
 pub use calls::{Round, have_results, results_in, round_at};
 pub use frames::{Focus, Form, Frame, Nested, Site, Spread};
-pub use machine::Machine;
+pub use machine::{Futures, Machine};
 pub use nodes::{call_label, child_at, in_place_count, next_child, node_at};

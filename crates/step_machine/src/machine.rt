@@ -38,8 +38,12 @@ ghost use Rattle.step_machine.specs.Views.{
 use crate::frames::{Focus, Form, Frame};
 use crate::nodes::{in_place_count, next_child, node_at};
 use code_table::{Child, Future, KeyedLabel, Leaf, Node};
+use smallvec::SmallVec;
 use std::alloc::AllocError;
 use std::sync::Arc;
+
+/// The futures of services. One takes no memory of its own, since a service seldom serves.
+pub type Futures = SmallVec<Option<Arc<Future>>, 1>;
 
 /// The term of an activity, as frames, environments and operands.
 #[derive(Drop)]
@@ -50,7 +54,7 @@ pub struct Machine {
     /// The places of terms that are done.
     pub operands: Vec<usize>,
     /// The futures of the services that are suspended, the newest last.
-    pub futures: Vec<Option<Arc<Future>>>,
+    pub futures: Futures,
     /// The label of the call that the service began with.
     pub asked: KeyedLabel,
     /// Where the environment begins.

@@ -24,20 +24,6 @@ use code_table::{Future, KeyedLabel, Node};
 use std::alloc::AllocError;
 use std::sync::Arc;
 
-/// A future more. The first takes no more room than it needs, since a service seldom serves.
-fn push_future(
-    futures: &mut Vec<Option<Arc<Future>>>,
-    future: Option<Arc<Future>>,
-) -> Result<(), AllocError>
-    ensures items { OnOk result (futures.new.items ≡ futures.old.items ++ future ∷ []) }
-{
-    if futures.is_empty() {
-        futures.reserve_exact(1)?;
-    }
-    futures.push(future)?;
-    Ok(())
-}
-
 impl Machine {
     /// Looks at the call of a label, of these places.
     pub fn ask(
@@ -71,7 +57,8 @@ impl Machine {
             base: self.base,
             height: self.env.len(),
         })?;
-        push_future(&mut self.futures, future)
+        self.futures.push(future)?;
+        Ok(())
     }
 
     /// Suspends the term, and looks at the call that the service begins with.
