@@ -26,8 +26,7 @@ ghost use Rattle.activity_step.specs.Standings.{code_of, going_on, serving};
 
 use crate::activity::Activity;
 use crate::starting::code_is_sound;
-use asp_model::Label;
-use code_table::{EMPTY_NUMBER, Future, Parcel};
+use code_table::{EMPTY_NUMBER, Future, Parcel, SharedLabel};
 use deep_copy::unpack;
 use std::alloc::{AllocError, Global};
 use std::mem;
@@ -46,7 +45,7 @@ impl Activity {
     fn serve(
         &mut self,
         alloc: Global,
-        label: Label,
+        label: SharedLabel,
         future: Arc<Future>,
         arguments: Parcel,
     ) -> Result<(), AllocError>
@@ -78,7 +77,7 @@ impl Activity {
     pub fn serves(
         &mut self,
         alloc: Global,
-        label: Label,
+        label: SharedLabel,
         future: Arc<Future>,
         arguments: Parcel,
     ) -> Result<(), AllocError>

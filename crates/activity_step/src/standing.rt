@@ -41,8 +41,8 @@ fn redex_of<'a>(kind: &'a Kind, operands: &'a [Place]) -> Option<Redex<'a>>
     ensures shown { IfSome result (IsShown kind.now operands.now) }
 {
     match (kind, operands) {
-        (Kind::Get(label), [at]) => Some(Redex::Get(*at, &label.label)),
-        (Kind::Put(label), [at, to]) => Some(Redex::Put(*at, &label.label, *to)),
+        (Kind::Get(label), [at]) => Some(Redex::Get(*at, label.label.as_label())),
+        (Kind::Put(label), [at, to]) => Some(Redex::Put(*at, label.label.as_label(), *to)),
         (Kind::Call(label), [at, arguments @ ..]) => Some(Redex::Call(
             *at,
             &label.label,
@@ -55,7 +55,11 @@ fn redex_of<'a>(kind: &'a Kind, operands: &'a [Place]) -> Option<Redex<'a>>
         (Kind::If, [at]) => Some(Redex::If(*at)),
         (Kind::Operate(sign), [first, second]) => Some(Redex::Operate(*sign, *first, *second)),
         (Kind::Print, [at]) => Some(Redex::Print(*at)),
-        (Kind::Scatter(label), [at, other]) => Some(Redex::Scatter(*at, &label.label, *other)),
+        (Kind::Scatter(label), [at, other]) => Some(Redex::Scatter(
+            *at,
+            label.label.as_label(),
+            *other,
+        )),
         (Kind::Size, [at]) => Some(Redex::Size(*at)),
         (Kind::Member, [at, number]) => Some(Redex::Member(*at, *number)),
         (Kind::WaitAll, [at]) => Some(Redex::WaitAll(*at)),

@@ -23,7 +23,7 @@ ghost use Rattle.activity_step.specs.Standings.{code_of};
 use crate::activity::Activity;
 use crate::state::State;
 use asp_model::{Label, Word};
-use code_table::{Code, EMPTY_NUMBER, KeyedLabel, Parcel, SERVICE_NUMBER};
+use code_table::{Code, EMPTY_NUMBER, KeyedLabel, Parcel, SERVICE_NUMBER, SharedLabel};
 use deep_copy::unpack_alone;
 use object_store::Store;
 use std::alloc::{AllocError, Global};
@@ -39,9 +39,9 @@ fn machine_at(alloc: Global, number: usize) -> Machine
         env: Vec::new(alloc),
         operands: Vec::new(alloc),
         futures: Futures::new(alloc),
-        asked: KeyedLabel::new(Label {
+        asked: KeyedLabel::new(SharedLabel::alone(Label {
             text: Word::new(String::new(alloc)),
-        }),
+        })),
         base: 0,
         focus: Focus::Node {
             number,
@@ -59,7 +59,7 @@ pub fn code_is_sound(code: &Code)
 }
 
 /// A machine that looks at a call of this method of the object at the place 0.
-fn calling_machine(alloc: Global, label: Label) -> Result<Machine, AllocError>
+fn calling_machine(alloc: Global, label: SharedLabel) -> Result<Machine, AllocError>
     ensures view { let start = start_view SERVICE_NUMBER in
         IfOk result (λ m. view_of m ≡ asked_view label.text (0 ∷ []) start) }
 {
@@ -69,7 +69,7 @@ fn calling_machine(alloc: Global, label: Label) -> Result<Machine, AllocError>
 }
 
 /// A machine that begins a service for ever, or a call of this method.
-fn serving_machine(alloc: Global, service: Option<Label>) -> Result<Machine, AllocError>
+fn serving_machine(alloc: Global, service: Option<SharedLabel>) -> Result<Machine, AllocError>
     ensures stands { (k : List NodeShape) → IsSound k →
         let term = start_term (option_map (λ l. l.text) service) 0 in
         IfOk result (λ m. Standing k (view_of m) term []) }
@@ -131,7 +131,7 @@ impl Activity {
     pub fn made(
         alloc: Global,
         object: Parcel,
-        service: Option<Label>,
+        service: Option<SharedLabel>,
     ) -> Result<Activity, AllocError>
         ensures stands { let store = unpacked_in [] (parcel_shape object) in
             let term = start_term (option_map (λ l. l.text) service) 0 in

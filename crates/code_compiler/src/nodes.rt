@@ -18,7 +18,7 @@ ghost use Rattle.code_table.specs.Parts.{field_label};
 
 use crate::scope::{Scope, leaf_of};
 use asp_model::{Label, Mark, Term, Word};
-use code_table::{Child, KeyedLabel, Kind, Leaf, Node};
+use code_table::{Child, KeyedLabel, Kind, Leaf, Node, SharedLabel};
 use std::alloc::{AllocError, Global};
 
 /// Puts a node behind the others, and its number behind the children.
@@ -77,7 +77,21 @@ pub fn push_use(uses: &mut Vec<usize>, leaf: &Leaf) -> Result<(), AllocError>
 fn keyed(alloc: Global, label: &Label) -> Result<KeyedLabel, AllocError>
     ensures label { IfOk result (λ k. k.label.text ≡ label.now.text) }
 {
-    Ok(KeyedLabel::new(label.copy(alloc)?))
+    Ok(KeyedLabel::new(SharedLabel::alone(label.copy(alloc)?)))
+}
+
+/// An equal label that requests can have too, with its key.
+fn asked(alloc: Global, label: &Label) -> Result<KeyedLabel, AllocError>
+    ensures label { IfOk result (λ k. k.label.text ≡ label.now.text) }
+{
+    Ok(KeyedLabel::new(shared(alloc, label)?))
+}
+
+/// An equal label that others can have too.
+fn shared(alloc: Global, label: &Label) -> Result<SharedLabel, AllocError>
+    ensures label { IfOk result (λ l. l.text ≡ label.now.text) }
+{
+    SharedLabel::shared(alloc, label.copy(alloc)?)
 }
 
 /// What the node of a term does. It is no variable, binds no name and makes no object.
@@ -91,7 +105,7 @@ pub fn kind_of(alloc: Global, term: &Term) -> Result<Kind, AllocError>
         Term::Number(n, _) => Ok(Kind::Number(*n)),
         Term::Get(_, label, _) => Ok(Kind::Get(keyed(alloc, label)?)),
         Term::Put(_, label, _, _) => Ok(Kind::Put(keyed(alloc, label)?)),
-        Term::Call(_, label, _, _) => Ok(Kind::Call(keyed(alloc, label)?)),
+        Term::Call(_, label, _, _) => Ok(Kind::Call(asked(alloc, label)?)),
         Term::Clone(_, _) => Ok(Kind::Clone),
         Term::Active(_, service, _) => Ok(Kind::Active(copy_service(alloc, service)?)),
         Term::Serve(labels, _) => Ok(Kind::Serve(copy_labels(alloc, labels)?)),
@@ -102,7 +116,7 @@ pub fn kind_of(alloc: Global, term: &Term) -> Result<Kind, AllocError>
         Term::Print(_, _) => Ok(Kind::Print),
         Term::Echo(text, _) => Ok(Kind::Echo(text.copy(alloc)?)),
         Term::Group(_, _) => Ok(Kind::Group),
-        Term::Scatter(_, label, _, _) => Ok(Kind::Scatter(keyed(alloc, label)?)),
+        Term::Scatter(_, label, _, _) => Ok(Kind::Scatter(asked(alloc, label)?)),
         Term::Size(_, _) => Ok(Kind::Size),
         Term::Member(_, _, _) => Ok(Kind::Member),
         Term::WaitAll(_, _) => Ok(Kind::WaitAll),
@@ -154,12 +168,12 @@ fn copy_labels(alloc: Global, labels: &[Label]) -> Result<Vec<Label>, AllocError
     Ok(copies)
 }
 
-fn copy_service(alloc: Global, service: &Option<Label>) -> Result<Option<Label>, AllocError>
+fn copy_service(alloc: Global, service: &Option<Label>) -> Result<Option<SharedLabel>, AllocError>
     ensures label { IfOk result (λ r. option_map text_of r ≡ option_map text_of service.now) }
 {
     match service {
         None => Ok(None),
-        Some(label) => Ok(Some(label.copy(alloc)?)),
+        Some(label) => Ok(Some(shared(alloc, label)?)),
     }
 }
 

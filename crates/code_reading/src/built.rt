@@ -74,7 +74,7 @@ fn over_one(alloc: Global, kind: &Kind, term: Term) -> Result<Term, DecodeError>
     let term = Box::new(alloc, term)?;
     match kind {
         Kind::Get(label) => {
-            let label = label.label.copy(alloc)?;
+            let label = label.label.as_label().copy(alloc)?;
             Ok(Term::Get(term, label, Mark::blank(alloc)))
         }
         Kind::Clone => Ok(Term::Clone(term, Mark::blank(alloc))),
@@ -102,7 +102,7 @@ fn over_two(
 {
     match kind {
         Kind::Put(label) => {
-            let label = label.label.copy(alloc)?;
+            let label = label.label.as_label().copy(alloc)?;
             Ok(Term::Put(first, label, second, Mark::blank(alloc)))
         }
         Kind::Let(name) => {
@@ -111,7 +111,7 @@ fn over_two(
         }
         Kind::Operate(sign) => Ok(Term::Operate(*sign, first, second, Mark::blank(alloc))),
         Kind::Scatter(label) => {
-            let label = label.label.copy(alloc)?;
+            let label = label.label.as_label().copy(alloc)?;
             Ok(Term::Scatter(first, label, second, Mark::blank(alloc)))
         }
         Kind::Member => Ok(Term::Member(first, second, Mark::blank(alloc))),
@@ -132,7 +132,7 @@ fn over_first(
     let first = Box::new(alloc, first)?;
     match kind {
         Kind::Call(label) => {
-            let label = label.label.copy(alloc)?;
+            let label = label.label.as_label().copy(alloc)?;
             Ok(Term::Call(first, label, others, Mark::blank(alloc)))
         }
         Kind::If => {

@@ -5,6 +5,7 @@ ghost use Rattle.std.specs.Option.{option_map};
 ghost use Rattle.code_table.specs.Tables.{text_of};
 
 use asp_model::{Label, Word};
+use code_table::SharedLabel;
 use std::alloc::{AllocError, Global};
 
 pub fn copy_words(alloc: Global, words: &[Word]) -> Result<Vec<Word>, AllocError>
@@ -27,11 +28,14 @@ pub fn copy_labels(alloc: Global, labels: &[Label]) -> Result<Vec<Label>, AllocE
     Ok(copies)
 }
 
-pub fn copy_service(alloc: Global, service: &Option<Label>) -> Result<Option<Label>, AllocError>
+pub fn copy_service(
+    alloc: Global,
+    service: &Option<SharedLabel>,
+) -> Result<Option<Label>, AllocError>
     ensures same { IfOk result (λ r. option_map text_of r ≡ option_map text_of service.now) }
 {
     match service {
-        Some(label) => Ok(Some(label.copy(alloc)?)),
+        Some(label) => Ok(Some(label.as_label().copy(alloc)?)),
         None => Ok(None),
     }
 }

@@ -47,7 +47,7 @@ pub fn focus_term(alloc: Global, code: &Code, machine: &Machine) -> Result<Term,
         Focus::Place(place) => Ok(location(alloc, place)),
         Focus::Asked(count) => {
             let own = last_of(&machine.operands, count);
-            call_of(alloc, &machine.asked.label, own)
+            call_of(alloc, machine.asked.label.as_label(), own)
         }
         Focus::Calls {
             spread,

@@ -62,7 +62,7 @@ fn found_in<'a>(
     };
     let results = last_of(own, count);
     Some(Found {
-        label: &label.label,
+        label: label.label.as_label(),
         given,
         results,
     })
@@ -182,5 +182,5 @@ pub fn called_term(
     let Some(label) = call_label(node) else {
         return Err(DecodeError::Unfit);
     };
-    call_of(alloc, &label.label, own)
+    call_of(alloc, label.label.as_label(), own)
 }

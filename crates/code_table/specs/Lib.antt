@@ -1,4 +1,5 @@
 -- in reading order
+pub mod Labels
 pub mod Numbers
 pub mod Keys
 pub mod Operands

@@ -5,6 +5,7 @@ ghost use Rattle.code_table.specs.Operands.{operand_count};
 
 use crate::class::Class;
 use crate::keys::KeyedLabel;
+use crate::labels::SharedLabel;
 use asp_model::{Label, Sign, Word};
 
 /// A variable of a body, by its slot in the body's environment. The environment begins with what the
@@ -59,7 +60,7 @@ pub enum Kind {
     Put(KeyedLabel),
     Call(KeyedLabel),
     Clone,
-    Active(Option<Label>),
+    Active(Option<SharedLabel>),
     Serve(Vec<Label>),
     Let(Word),
     Steps,

@@ -4,6 +4,7 @@ ghost use Rattle.std.specs.Prelude.{◌≡◌, IfOk, map};
 ghost use Rattle.code_table.specs.Keys.{key_number, keys_before, longer, text_key};
 
 use crate::code::MethodCode;
+use crate::labels::SharedLabel;
 use asp_model::{Label, Word};
 use std::alloc::{AllocError, Global};
 
@@ -37,16 +38,16 @@ fn longer(byte: u64, key: u64) -> u64
 /// A label with its key.
 #[derive(Drop)]
 pub struct KeyedLabel {
-    pub label: Label,
+    pub label: SharedLabel,
     pub key: u64,
     ghost keyed: { key ≡ text_key label.text },
 }
 
 impl KeyedLabel {
-    pub fn new(label: Label) -> KeyedLabel
+    pub fn new(label: SharedLabel) -> KeyedLabel
         ensures label { result.label ≡ label }
     {
-        let key = text_key(&label.text);
+        let key = text_key(&label.as_label().text);
         KeyedLabel { label, key }
     }
 }

@@ -61,7 +61,7 @@ impl Class {
         ensures number { result ≡ field_number label.now.label.text self.now }
     {
         match &self.field_numbers {
-            Some(numbers) => numbers.number(&label.label),
+            Some(numbers) => numbers.number(label.label.as_label()),
             None => self.few_fields(label),
         }
     }
@@ -73,7 +73,7 @@ impl Class {
         ensures number { result ≡ method_number label.now.label.text self.now }
     {
         match &self.method_numbers {
-            Some(numbers) => numbers.number(&label.label),
+            Some(numbers) => numbers.number(label.label.as_label()),
             None => self.few_methods(label),
         }
     }
@@ -84,7 +84,7 @@ impl Class {
     {
         let key = label.key;
         if key == 0 {
-            return self.walk_fields(&label.label);
+            return self.walk_fields(label.label.as_label());
         }
         number_by_key(&self.field_keys, key)
     }
@@ -95,7 +95,7 @@ impl Class {
     {
         let key = label.key;
         if key == 0 {
-            return self.walk_methods(&label.label);
+            return self.walk_methods(label.label.as_label());
         }
         number_by_key(&self.method_keys, key)
     }

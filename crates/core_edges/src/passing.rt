@@ -59,7 +59,7 @@ impl<P: UpdatePolicy> Edges<P> {
             OnOk result (IsLearned f request.now.label.text self.old self.new) }
         ensures rest { KeepsLearning self.old self.new }
     {
-        let strategy = self.plan.strategy_of(&request.label);
+        let strategy = self.plan.strategy_of(request.label.as_label());
         if strategy == self.plan.strategy {
             let _other = self.strategies.remove(&request.future.name);
             return Ok(());

@@ -23,7 +23,7 @@ ghost use Rattle.frozen_code.specs.Restoring.{
 use crate::held::Held;
 use crate::restoring::{begin_at, hold_all, rest_at, serve};
 use asp_model::{Label, Word};
-use code_table::{Future, KeyedLabel, Place};
+use code_table::{Future, KeyedLabel, Place, SharedLabel};
 use std::alloc::{AllocError, Global};
 use std::sync::Arc;
 use step_machine::{Focus, Futures, Machine};
@@ -53,9 +53,9 @@ fn empty_machine(alloc: Global) -> Machine
         env: Vec::new(alloc),
         operands: Vec::new(alloc),
         futures: Futures::new(alloc),
-        asked: KeyedLabel::new(Label {
+        asked: KeyedLabel::new(SharedLabel::alone(Label {
             text: Word::new(String::new(alloc)),
-        }),
+        })),
         base: 0,
         focus: Focus::Place(0),
     }

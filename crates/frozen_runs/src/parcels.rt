@@ -28,7 +28,7 @@ pub fn put_request(alloc: Global, text: &mut String, request: &Request) -> Resul
     ensures adds { let items = request_items (request_shape request.now) in
         OnOk result (Adds text.old items text.new) }
 {
-    put_text(text, request.label.text.as_str())?;
+    put_text(text, request.label.as_label().text.as_str())?;
     put_name(text, &request.sender)?;
     put_future(text, &request.future.name)?;
     put_parcel(alloc, text, &request.arguments)

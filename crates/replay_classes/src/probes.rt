@@ -37,7 +37,7 @@ fn sending_of(
     Ok(Sending {
         by: request.sender.copy(alloc)?,
         to: to.copy(alloc)?,
-        class: classes.class_of(&request.label),
+        class: classes.class_of(request.label.as_label()),
     })
 }
 

@@ -183,7 +183,7 @@ impl Machine {
                 let Some(to) = target else { unreachable!() };
                 let roster = &self.population.roster;
                 self.schedule
-                    .wake_server(alloc, roster, to, &request.label)?;
+                    .wake_server(alloc, roster, to, request.label.as_label())?;
                 self.population.send(alloc, to, request)?;
                 wake_next(alloc, &mut self.schedule, &self.population, bounds, to)
             }

@@ -128,7 +128,9 @@ fn tell_given<N: Notes>(
     let event = match given {
         Given::Nothing => return Ok(()),
         Given::Made(made, _) => Event::Made(made),
-        Given::Sent(to, request) => Event::Sent(to, &request.label, &request.future.name),
+        Given::Sent(to, request) => {
+            Event::Sent(to, request.label.as_label(), &request.future.name)
+        }
         Given::Filled(future, _) => Event::Answered(&future.name),
         Given::Polled => Event::Polled,
     };

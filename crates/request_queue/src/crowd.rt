@@ -99,11 +99,11 @@ impl Crowd {
         if number == MOST_ARRIVALS {
             return Err(AllocError);
         }
-        self.notes.note(&request.label, number)?;
+        self.notes.note(request.label.as_label(), number)?;
         match self.requests.push(request) {
             Ok(()) => Ok(()),
             Err(back) => {
-                self.notes.forget(&back.label, number);
+                self.notes.forget(back.label.as_label(), number);
                 Err(AllocError)
             }
         }
@@ -127,7 +127,7 @@ impl Crowd {
         ensures arrived { self.new.arrived ≡ self.old.arrived }
     {
         let request = self.requests.take(number);
-        self.notes.forget(&request.label, number);
+        self.notes.forget(request.label.as_label(), number);
         Box::into_inner(request)
     }
 }

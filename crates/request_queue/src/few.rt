@@ -100,7 +100,7 @@ impl Few {
             result ≡ option_map (λ x. x.0) found }
     {
         for arrival in &self.arrivals {
-            if wanted.has(&arrival.request.label) {
+            if wanted.has(arrival.request.label.as_label()) {
                 return Some(arrival.number);
             }
         }

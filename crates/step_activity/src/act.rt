@@ -18,7 +18,7 @@ ghost use Rattle.step_activity.specs.Effects.{IsDoneBy, IsGivenOf, IsLogAfter};
 
 use crate::actor::Actor;
 use crate::asked::Asked;
-use crate::communicate::copied;
+use crate::communicate::shared;
 use activity_step::{Advance, Standing};
 use asp_model::ActivityName;
 use code_table::{Future, Parcel, Place};
@@ -68,12 +68,12 @@ impl Actor {
         };
         match self.asks(redex) {
             Asked::Creates(object, service) => {
-                let service = copied(alloc, service)?;
+                let service = shared(alloc, service)?;
                 return self.create(alloc, name, object, service);
             }
             Asked::Sends(to, label, arguments) => {
                 let to = to.copy(alloc)?;
-                let label = label.copy(alloc)?;
+                let label = label.share(alloc)?;
                 let arguments = self.activity.pack(alloc, arguments)?;
                 let at = futures.next_number();
                 return self.send(alloc, name, to, label, arguments, at);

@@ -20,7 +20,7 @@ ghost use Rattle.step_activity.specs.Asking.{
 
 use crate::actor::Actor;
 use asp_model::{ActivityName, Label};
-use code_table::{Place, View};
+use code_table::{Place, SharedLabel, View};
 use object_store::Store;
 use step_rows::Redex;
 
@@ -28,9 +28,9 @@ use step_rows::Redex;
 #[derive(Clone, Copy)]
 pub enum Asked<'a> {
     /// An activity round this object, with a service for ever or a call of this method.
-    Creates(Place, Option<&'a Label>),
+    Creates(Place, Option<&'a SharedLabel>),
     /// A request to this activity.
-    Sends(&'a ActivityName, &'a Label, &'a [Place]),
+    Sends(&'a ActivityName, &'a SharedLabel, &'a [Place]),
     /// The oldest request with one of these labels.
     Serves(&'a [Label]),
     /// Whether a request with one of these labels is pending.

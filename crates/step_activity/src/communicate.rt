@@ -41,8 +41,8 @@ use crate::act::Given;
 use crate::actor::{Actor, push_reception};
 use crate::asked::Asked;
 use activity_step::{Activity, Standing};
-use asp_model::{ActivityName, Label, Reception};
-use code_table::{Parcel, Place};
+use asp_model::{ActivityName, Reception};
+use code_table::{Parcel, Place, SharedLabel};
 use request_queue::Request;
 use std::alloc::{AllocError, Global};
 use std::sync::Arc;
@@ -70,12 +70,12 @@ impl Actor {
     {
         match self.asked()? {
             Asked::Creates(object, service) => {
-                let service = copied(alloc, service)?;
+                let service = shared(alloc, service)?;
                 self.create(alloc, name, object, service)
             }
             Asked::Sends(to, label, arguments) => {
                 let to = to.copy(alloc)?;
-                let label = label.copy(alloc)?;
+                let label = label.share(alloc)?;
                 let arguments = self.activity.pack(alloc, arguments)?;
                 self.send(alloc, name, to, label, arguments, at)
             }
@@ -113,7 +113,7 @@ impl Actor {
         alloc: Global,
         name: &ActivityName,
         object: Place,
-        service: Option<Label>,
+        service: Option<SharedLabel>,
     ) -> Result<Given, AllocError>
         requires closed { IsClosedFor self.old }
         requires within { object < length self.old.activity.state.store.cells }
@@ -147,7 +147,7 @@ impl Actor {
         alloc: Global,
         name: &ActivityName,
         to: ActivityName,
-        label: Label,
+        label: SharedLabel,
         arguments: Parcel,
         at: u32,
     ) -> Result<Given, AllocError>
@@ -218,11 +218,14 @@ impl Actor {
     }
 }
 
-pub(crate) fn copied(alloc: Global, label: Option<&Label>) -> Result<Option<Label>, AllocError>
+pub(crate) fn shared(
+    alloc: Global,
+    label: Option<&SharedLabel>,
+) -> Result<Option<SharedLabel>, AllocError>
     ensures { IfOk result (λ l. service_text l ≡ lent_text label.entry) }
 {
     match label {
-        Some(label) => Ok(Some(label.copy(alloc)?)),
+        Some(label) => Ok(Some(label.share(alloc)?)),
         None => Ok(None),
     }
 }

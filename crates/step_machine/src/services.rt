@@ -19,8 +19,7 @@ ghost use Rattle.step_machine.specs.Standing.{Standing, view_of};
 
 use crate::frames::{Focus, Form, Frame};
 use crate::machine::Machine;
-use asp_model::Label;
-use code_table::{Future, KeyedLabel, Node};
+use code_table::{Future, KeyedLabel, Node, SharedLabel};
 use std::alloc::AllocError;
 use std::sync::Arc;
 
@@ -28,7 +27,7 @@ impl Machine {
     /// Looks at the call of a label, of these places.
     pub fn ask(
         &mut self,
-        label: Label,
+        label: SharedLabel,
         receiver: usize,
         arguments: &[usize],
     ) -> Result<(), AllocError>
@@ -65,7 +64,7 @@ impl Machine {
     pub fn suspend(
         &mut self,
         future: Option<Arc<Future>>,
-        label: Label,
+        label: SharedLabel,
         receiver: usize,
         arguments: &[usize],
     ) -> Result<(), AllocError>

@@ -212,7 +212,7 @@ pub fn by_operands<'a>(redex: Redex, first: Seen<'a>, second: Seen<'a>) -> Prosp
 {
     match redex {
         Redex::Get(_, label) | Redex::Put(_, label, _) => at_field(first, label),
-        Redex::Call(_, label, arguments) => at_call(first, label, arguments.len()),
+        Redex::Call(_, label, arguments) => at_call(first, label.as_label(), arguments.len()),
         Redex::Active(_, _) => at_object(first),
         Redex::If(_) | Redex::Print(_) => at_number(first),
         Redex::Operate(sign, _, _) => at_sign(sign, first, second),

@@ -1,7 +1,7 @@
 //! A redex, as far as the cells of its strict operands tell what it comes to.
 
 use asp_model::{Label, Sign};
-use code_table::Place;
+use code_table::{Place, SharedLabel};
 
 /// A redex: its strict operands first, in the order in which they are read.
 #[derive(Clone, Copy)]
@@ -11,9 +11,9 @@ pub enum Redex<'a> {
     Get(Place, &'a Label),
     Put(Place, &'a Label, Place),
     /// The receiver, and the arguments.
-    Call(Place, &'a Label, &'a [Place]),
+    Call(Place, &'a SharedLabel, &'a [Place]),
     Clone(Place),
-    Active(Place, Option<&'a Label>),
+    Active(Place, Option<&'a SharedLabel>),
     Serve(&'a [Label]),
     If(Place),
     Operate(Sign, Place, Place),

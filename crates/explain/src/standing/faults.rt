@@ -63,7 +63,7 @@ pub fn push_operands(text: &mut Telling, stopped: Stopped<'_>) {
     match &stopped.node.kind {
         Kind::Operate(sign) => push_signed(text, stopped, *sign),
         Kind::Get(label) | Kind::Put(label) | Kind::Call(label) | Kind::Scatter(label) => {
-            push_asked(text, stopped, label.label.text.as_str())
+            push_asked(text, stopped, label.label.as_label().text.as_str())
         }
         Kind::Print => push_given(text, stopped, "print"),
         Kind::If => push_given(text, stopped, "if"),

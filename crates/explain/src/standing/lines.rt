@@ -209,7 +209,7 @@ impl Told<'_> {
     // The call that a service began with.
     fn push_call(&self, text: &mut Telling, state: &EndState) {
         text.push(" (");
-        push_label(text, &state.machine.asked.label);
+        push_label(text, state.machine.asked.label.as_label());
         text.push(")");
     }
 }
