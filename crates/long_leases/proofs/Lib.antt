@@ -1,0 +1,3 @@
+-- in reading order
+pub mod LongLemmas
+pub mod RenewLemmas
