@@ -20,3 +20,4 @@ pub mod StopLemmas
 pub mod OutAfterLemmas
 pub mod OverLemmas
 pub mod FrozenLemmas
+pub mod RenewalLemmas

@@ -87,7 +87,7 @@ stops_there h code s l n end first run x ran =
 
 -- One entry more
 
-stopped_on : (xs : List EntryShape) (s t : RunShape) (e : EntryShape) → all_entered xs s ≡ Some t → IsStoppedEntry t e → AreStoppedFrom xs s → AreStoppedFrom (xs ++ e ∷ []) s
+pub stopped_on : (xs : List EntryShape) (s t : RunShape) (e : EntryShape) → all_entered xs s ≡ Some t → IsStoppedEntry t e → AreStoppedFrom xs s → AreStoppedFrom (xs ++ e ∷ []) s
 stopped_on [] s t e is stopped are = (subst (λ q. IsStoppedEntry q e) (sym (some_is is)) stopped, λ u _. tt)
 stopped_on (x ∷ xs) s t e is stopped are = (
   are.0,

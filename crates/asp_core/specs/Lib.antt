@@ -12,3 +12,4 @@ pub mod Delivering
 pub mod Over
 pub mod PlannedEnds
 pub mod Frozen
+pub mod Renewals

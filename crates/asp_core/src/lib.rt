@@ -12,6 +12,7 @@ mod finishing;
 mod freezing;
 mod gathering;
 mod lends;
+mod renewals;
 
 pub use cores::Core;
 pub use finishing::{end_of_run, finish, run};
