@@ -1,6 +1,6 @@
 //! What the activities do next: whether they step, or what they wait for.
 
-ghost use Rattle.std.specs.Prelude.{◌≡◌, ◌<◌, true, IfOk, Some, length};
+ghost use Rattle.std.specs.Prelude.{◌≡◌, ◌<◌, true, IfOk, None, Some, length};
 ghost use Rattle.asp_model.specs.Names.{Name};
 ghost use Rattle.asp_model.specs.Term.{Tree};
 ghost use Rattle.asp_model.specs.Configuration.{Configuration, From, Poll, log_of};
@@ -8,7 +8,7 @@ ghost use Rattle.asp_model.specs.Step.{is_next};
 ghost use Rattle.def_journals.specs.Journals.{number_of};
 ghost use Rattle.law_steps.specs.Reached.{IsThere};
 ghost use Rattle.replay_one.specs.Bounds.{IsAscending, IsNextAt, IsNumbered, count_within, lists_within};
-ghost use Rattle.replay_population.specs.Population.{HasPassedBySome, HasPassedIn, IsPopulation};
+ghost use Rattle.replay_population.specs.Population.{HasPassedBySome, HasPassedIn, IsFoundAt, IsPopulation};
 ghost use Rattle.replay_population.specs.Reached.{IsReachedBySome, IsReachedPopulation};
 ghost use Rattle.replay_one.specs.Round.{IsLook, IsTurn};
 
@@ -34,11 +34,13 @@ pub enum Look<'a> {
     Steps(Option<u32>),
 }
 
-/// What an activity does, and how many members of a group that it waits for have values.
+/// What an activity does, how many members of a group that it waits for have values, and the number
+/// of the request that it serves, where it does.
 #[derive(Clone, Copy)]
 pub struct View<'a> {
     pub look: Look<'a>,
     pub passed: usize,
+    pub found: Option<u64>,
 }
 
 /// What the log of an activity may note next.
@@ -89,22 +91,29 @@ fn may_poll(population: &Population, bounds: &Bounds, number: u32) -> bool
 fn in_turn<'a>(may: bool, to: u32, target: Option<u32>, passed: usize) -> View<'a>
     ensures passed { result.passed ≡ passed }
     ensures look { IsTurn may to target result.look }
+    ensures found { result.found ≡ None }
 {
     let look = if may {
         Look::Steps(target)
     } else {
         Look::Holds(to)
     };
-    View { look, passed }
+    View {
+        look,
+        passed,
+        found: None,
+    }
 }
 
-/// What an activity does that stands before a redex that needs others, or is at its count.
+/// What an activity does that stands before a redex that needs others, or is at its count. Whom it
+/// sends to is mostly the activity of the number `guess`.
 pub fn look_at<'a>(
     alloc: Global,
     population: &'a Population,
     bounds: &Bounds,
     number: u32,
     passed: usize,
+    guess: u32,
 ) -> Result<View<'a>, AllocError>
     requires ascending { IsAscending bounds.now }
     requires numbered { IsNumbered bounds.now population.now.roster }
@@ -117,6 +126,7 @@ pub fn look_at<'a>(
     ensures passed { (c : Configuration) (n : Name) → IsPopulation population.now c →
         number_of n population.now.roster ≡ Some number →
         IfOk result (λ v. HasPassedIn c n v.passed) }
+    ensures found { IfOk result (λ v. IsFoundAt population.now number v.found) }
 {
     let Some(actor) = population.get(number) else {
         return Ok(unseen(Look::Leaves));
@@ -130,9 +140,10 @@ pub fn look_at<'a>(
         Outlook::Steps => Ok(View {
             look: Look::Steps(None),
             passed,
+            found: seen.found,
         }),
         Outlook::Sends(name) => {
-            let Some(to) = population.roster.number(name) else {
+            let Some(to) = population.roster.number_guessed(name, guess) else {
                 unreachable!()
             };
             let may = may_come(population, bounds, to, population.roster.name(number));
@@ -145,18 +156,22 @@ pub fn look_at<'a>(
         Outlook::Awaits(future) => Ok(View {
             look: Look::Awaits(future),
             passed,
+            found: None,
         }),
         Outlook::Faulted(_) => Ok(View {
             look: Look::Leaves,
             passed,
+            found: None,
         }),
         Outlook::Serving => Ok(View {
             look: Look::Serves,
             passed,
+            found: None,
         }),
         Outlook::Done => Ok(View {
             look: Look::Leaves,
             passed,
+            found: None,
         }),
     }
 }
@@ -165,6 +180,11 @@ pub fn look_at<'a>(
 fn unseen(look: Look) -> View
     ensures look { result.look ≡ look.entry }
     ensures passed { result.passed ≡ 0 }
+    ensures found { result.found ≡ None }
 {
-    View { look, passed: 0 }
+    View {
+        look,
+        passed: 0,
+        found: None,
+    }
 }

@@ -77,13 +77,15 @@ fn at_once<N: Notes>(most: u64, notes: &N) -> u64
     if notes.hears_lines() { 0 } else { most }
 }
 
-/// Who is next in the log of an activity is ready, if it is held there.
+/// Who is next in the log of an activity is ready, if it is held there. It is mostly who stepped, of
+/// the number `guess`.
 fn wake_next(
     alloc: Global,
     schedule: &mut Schedule,
     population: &Population,
     bounds: &Bounds,
     to: u32,
+    guess: u32,
 ) -> Result<(), AllocError>
     requires ascending { IsAscending bounds.now }
     requires numbered { IsNumbered bounds.now population.now.roster }
@@ -97,7 +99,7 @@ fn wake_next(
     ensures ordered { OnOk result (schedule.new.ready.ordered ≡ schedule.old.ready.ordered) }
 {
     match next_in(population, bounds, to) {
-        Next::Only(next) => wake_owner(alloc, schedule, &population.roster, next, to),
+        Next::Only(next) => wake_owner(alloc, schedule, &population.roster, next, to, guess),
         Next::Anything | Next::Nothing => Ok(()),
     }
 }
@@ -109,6 +111,7 @@ fn wake_owner(
     roster: &Roster,
     reception: &Reception,
     to: u32,
+    guess: u32,
 ) -> Result<(), AllocError>
     requires known { to < length roster.now }
     ensures more { let ns = roster.now in
@@ -118,7 +121,7 @@ fn wake_owner(
         OnOk result (ready_in (seen ns schedule.new) q ≡ true) }
     ensures ordered { OnOk result (schedule.new.ready.ordered ≡ schedule.old.ready.ordered) }
 {
-    match roster.number(owner_of(reception, roster.name(to))) {
+    match roster.number_guessed(owner_of(reception, roster.name(to)), guess) {
         Some(number) => schedule.wake_sender(alloc, roster, number, to),
         None => Ok(()),
     }
@@ -185,7 +188,14 @@ impl Machine {
                 self.schedule
                     .wake_server(alloc, roster, to, request.label.as_label())?;
                 self.population.send(alloc, to, request)?;
-                wake_next(alloc, &mut self.schedule, &self.population, bounds, to)
+                wake_next(
+                    alloc,
+                    &mut self.schedule,
+                    &self.population,
+                    bounds,
+                    to,
+                    number,
+                )
             }
             Given::Filled(future, value) => {
                 self.schedule
@@ -193,7 +203,14 @@ impl Machine {
                 self.population.fill(future, value)
             }
             Given::Polled => {
-                wake_next(alloc, &mut self.schedule, &self.population, bounds, number)
+                wake_next(
+                    alloc,
+                    &mut self.schedule,
+                    &self.population,
+                    bounds,
+                    number,
+                    number,
+                )
             }
         }
     }
@@ -222,8 +239,10 @@ impl Machine {
             IsRunBut bounds.now self.old n program c → N.tells notes.old xs →
             IfOk result (AreToldIf (N.tells notes.new) xs bounds.now c) }
     {
-        let view = look_at(alloc, &self.population, bounds, number, passed)?;
+        let guess = self.schedule.target;
+        let view = look_at(alloc, &self.population, bounds, number, passed, guess)?;
         let passed = view.passed;
+        let found = view.found;
         match view.look {
             Look::Leaves => Ok(false),
             Look::Awaits(future) => {
@@ -243,7 +262,7 @@ impl Machine {
             }
             Look::Steps(target) => {
                 let known = before(&self.population, number, notes)?;
-                let given = self.population.act(alloc, number)?;
+                let given = self.population.act_found(alloc, number, found)?;
                 tell(&self.population, number, known, &given, notes)?;
                 self.give(alloc, bounds, number, target, given)?;
                 self.schedule.wake(alloc, &self.population.roster, number)?;

@@ -62,6 +62,8 @@ pub struct Schedule {
     pub ready: Ready,
     awaiting: BTreeMap<FutureName, Vec<u32>>,
     watches: Vec<Watch>,
+    /// Whom the last request was sent to. It is a guess at whom the next one goes to.
+    pub target: u32,
 }
 
 impl Schedule {
@@ -73,6 +75,7 @@ impl Schedule {
             ready: Ready::new(alloc, ordered),
             awaiting: BTreeMap::new(alloc),
             watches: Vec::new(alloc),
+            target: 0,
         }
     }
 
@@ -158,7 +161,7 @@ impl Schedule {
         self.watch(number, Watch::Holds(to))
     }
 
-    /// A server is ready, if it asks for a request with this label.
+    /// A server is sent a request with this label. It is ready, if it asks for one.
     pub fn wake_server(
         &mut self,
         alloc: Global,
@@ -174,6 +177,7 @@ impl Schedule {
             OnOk result (ready_in (seen roster.now self.new) n ≡ true) }
         ensures ordered { OnOk result (self.new.ready.ordered ≡ self.old.ready.ordered) }
     {
+        self.target = number;
         if !self.asks(number, label) {
             return Ok(());
         }

@@ -26,6 +26,7 @@ use Rattle.step_activity.specs.declared.actor.Actor.{Actor}
 use Rattle.step_activity.specs.declared.act.Given.{Given}
 use Rattle.step_activity.specs.declared.act.Given.TheVariants as given
 use Rattle.step_activity.specs.Actors.{code_of, log_in}
+use Rattle.step_activity.specs.Found.{IsFoundFor}
 use Rattle.step_activity.specs.Effects.{IsGivenOf}
 use Rattle.step_activity.specs.Passing.{HasPassed}
 use Rattle.step_ends.specs.Activities.{StandsAt, actor_at}
@@ -58,6 +59,10 @@ found_in p n = at_number (number_of n p.roster) (seat_at p.activities.items)
 -- a name has this number
 abbrev pub IsKnown : Population → ℕ → Type 0
 IsKnown p k = (n : Name) × (number_of n p.roster ≡ Some k)
+
+-- the one with this number serves the request of the other, where one is told
+abbrev pub IsFoundAt : Population → ℕ → Option ℕ → Type 0
+IsFoundAt p k found = (x : Actor) → seat_at p.activities.items k ≡ Some x → IsFoundFor x found
 
 -- there is a seat for the one with this number, and nothing else changes
 pub record HasSeat (old : Population) (k : ℕ) (new : Population) : Type 0 where

@@ -20,7 +20,7 @@ ghost use Rattle.serve_rules.specs.Wanted.{wanted_labels};
 ghost use Rattle.step_activity.specs.Actors.{Stands, code_of, log_in};
 ghost use Rattle.step_activity.specs.Effects.{IsGiven};
 ghost use Rattle.replay_population.specs.Roster.{IsEntered, IsRoster};
-ghost use Rattle.replay_population.specs.Population.{HasSeat, AreActorsOf, AreNamed, IsClosedBySome, IsForgotten, IsGivenIn, IsKnown, IsPassing, IsPopulation, IsRunIn, IsSet, KeepsPassed, found_in, or_zero, passed_in, seat_at, term_of, unboxed, with_activity, with_poll, with_request, with_value};
+ghost use Rattle.replay_population.specs.Population.{HasSeat, AreActorsOf, AreNamed, IsClosedBySome, IsForgotten, IsFoundAt, IsGivenIn, IsKnown, IsPassing, IsPopulation, IsRunIn, IsSet, KeepsPassed, found_in, or_zero, passed_in, seat_at, term_of, unboxed, with_activity, with_poll, with_request, with_value};
 
 use crate::roster::Roster;
 use asp_model::ActivityName;
@@ -151,11 +151,33 @@ impl Population {
         ensures roster { OnOk result (self.new.roster ≡ self.old.roster) }
         ensures passed { OnOk result (KeepsPassed self.old self.new) }
     {
+        self.act_found(alloc, number, None)
+    }
+
+    /// An activity takes its reduction as by `act`. A request that it serves is the one of the number
+    /// `found`, where a look at it told one.
+    pub fn act_found(
+        &mut self,
+        alloc: Global,
+        number: u32,
+        found: Option<u64>,
+    ) -> Result<Given, AllocError>
+        requires closed { IsClosedBySome self.old }
+        requires known { IsKnown self.old number }
+        requires found { IsFoundAt self.old number found }
+        ensures acts { (c : Configuration) (e : Effect) (n : Name) → IsPopulation self.old c →
+            number_of n self.old.roster ≡ Some number → intent_in c n ≡ Acts e →
+            let then = with_activity n e.own c in
+            IfOk result (λ g. let last = with_poll n g then in
+            IsGiven n e g × IsGivenIn self.new last g) }
+        ensures roster { OnOk result (self.new.roster ≡ self.old.roster) }
+        ensures passed { OnOk result (KeepsPassed self.old self.new) }
+    {
         let Some(mut boxed) = self.take(number) else {
             return Ok(Given::Nothing);
         };
         let name = self.roster.name(number);
-        let given = boxed.as_mut().act(alloc, name, &self.futures)?;
+        let given = boxed.as_mut().act_found(alloc, name, &self.futures, found)?;
         self.put(number, boxed)?;
         Ok(given)
     }

@@ -1,6 +1,6 @@
 //! Names of activities under numbers from 0, in the order in which they were entered.
 
-ghost use Rattle.std.specs.Prelude.{◌≡◌, ◌<◌, IfOk, Some, [], length, slice_get};
+ghost use Rattle.std.specs.Prelude.{◌≡◌, ◌<◌, IfOk, IsTrue, Some, [], length, slice_get};
 ghost use Rattle.def_journals.specs.Journals.{number_of};
 ghost use Rattle.replay_population.specs.Roster.{IsEntered, IsRoster};
 
@@ -67,6 +67,27 @@ impl Roster {
             Some(number) => Some(number as u32),
             None => None,
         }
+    }
+
+    /// The number of a name, if it was entered. It is not looked up where it is the guess.
+    pub fn number_guessed(&self, name: &ActivityName, guess: u32) -> Option<u32>
+        ensures number { result ≡ number_of name.now self.now }
+    {
+        if self.has(guess, name) {
+            Some(guess)
+        } else {
+            self.number(name)
+        }
+    }
+
+    // Whether a number is that of a name.
+    fn has(&self, number: u32, name: &ActivityName) -> bool
+        ensures has { IsTrue result → number_of name.now self.now ≡ Some number }
+    {
+        if number as usize >= self.len() {
+            return false;
+        }
+        self.name(number) == name
     }
 
     /// The number of a name, which is the next one where it was not entered.

@@ -2,7 +2,7 @@
 use Rattle.std.proofs.Common.{◌≡◌, ◌++◌, ℕ, suc, true, false, List, refl, sym, ap, ◌∙◌, subst}
 use Rattle.asp_model.specs.Names.{FutureShape, Name, Text}
 use Rattle.asp_model.specs.Term.{Head, Serve, Tree}
-use Rattle.asp_model.specs.Store.{Store}
+use Rattle.asp_model.specs.Store.{Store, cell}
 use Rattle.asp_model.specs.Split as terms
 use Rattle.asp_model.specs.Split.{Context, Redex, Split, Splits, split}
 use Rattle.asp_model.specs.Chase.{Chase}
@@ -10,7 +10,8 @@ use Rattle.asp_model.specs.Contraction as contraction
 use Rattle.asp_model.specs.Contraction.{Communication, Contraction, Becomes, Faults, Needs, Communicates, Breaks, Creates, Sends, Serves, Polls, contract, strict_members, strict_operands}
 use Rattle.asp_model.specs.Configuration as model
 use Rattle.asp_model.specs.Configuration.{RequestShape}
-use Rattle.asp_model.specs.Intent.{Intent, Rests, Awaits, Ready, Reads, Lacks, operands_ready, redex_ready, intent, contracts, ends_service, newest}
+use Rattle.asp_model.specs.Intent.{Intent, Rests, Awaits, Ready, Reads, Lacks, operands_ready, redex_ready, intent, contracts, ends_service, labels_served, newest}
+use Rattle.law_steps.specs.Waking.{labels_at, labels_of_head, labels_wanted}
 use Rattle.law_steps.proofs.ContractionLemmas.{serves_by_head}
 use Rattle.activity_step.specs.declared.activity.Activity.{Activity}
 use Rattle.activity_step.specs.declared.advance.Advance.{Advance}
@@ -67,6 +68,10 @@ pub own_for : (chases : FutureShape → Chase) (a : model.Activity) (r : Redex) 
 own_for chases a r s reads labels e =
     let head : r.head ≡ Serve labels = serves_by_head s r labels e in
     sym (reads_is a.store s (sym (ap (λ (h : Head). ready_of chases a.store h r.places) head) ∙ reads))
+
+-- an activity whose redex asks for a service wants its labels
+pub wanted_served : (a : model.Activity) (cs : List Context) (r : Redex) (s : Store) (labels : List Text) → split a.term ≡ Splits cs r → contract s r ≡ Communicates (Serves labels) → labels_wanted a ≡ labels_served labels (cell a.store a.active)
+wanted_served a cs r s labels e is = ap (λ (v : Split). labels_at v (cell a.store a.active)) e ∙ ap (λ (h : Head). labels_of_head h (cell a.store a.active)) (serves_by_head s r labels is)
 
 -- the operands of a redex that is told
 pub has_operands : (a : model.Activity) (x : Told) (z : Strict) → IsAt a x → z ≡ strict_in x → HasOperands a z

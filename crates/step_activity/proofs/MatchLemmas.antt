@@ -15,6 +15,7 @@ use Rattle.std.proofs.lemmas.Map.Made.{lookup-map_values}
 use Rattle.asp_model.specs.Names.{Text}
 use Rattle.asp_model.specs.Term.{has_text}
 use Rattle.asp_model.specs.Parcel.{has_place}
+use Rattle.asp_model.specs.Configuration as model
 use Rattle.asp_model.specs.Configuration.{RequestShape, label_of}
 use Rattle.asp_model.specs.Intent.{Numbered, oldest_match}
 use Rattle.law_steps.specs.Closed.{AreBelow}
@@ -22,6 +23,7 @@ use Rattle.law_chases.proofs.FutureLemmas.{no_some, some_is}
 use Rattle.request_queue.specs.declared.request.Request.{Request}
 use Rattle.request_queue.specs.Pending.{but, oldest, pending_of, request_at}
 use Rattle.request_queue.specs.Requests.{request_shape}
+use Rattle.step_activity.specs.Found.{IsFound}
 use Rattle.request_queue.proofs.PendingLemmas.{arrivals_wait, matches_are_pending, served_leave}
 
 abbrev pub Entries : Type 0
@@ -207,6 +209,11 @@ match_told es labels served rs o p e = e ∙ ap number_of (match_is es labels se
 pub is_none : (o : Option Numbered) → None ≡ number_of o → o ≡ None
 is_none None e = refl
 is_none (Some x) e = no_some e
+
+-- it is the one that is found
+pub is_found : (wanted : List Text) (a : model.Activity) (rs : List RequestShape) (o : Option ℕ) → o ≡ number_of (oldest_match wanted a.served 0 rs) → IsFound wanted a rs o
+is_found wanted a rs None e = tt
+is_found wanted a rs (Some k) e = e
 
 -- whether there is one
 

@@ -16,6 +16,7 @@ use Rattle.asp_model.specs.Shapes.{fault_shape, future_shape}
 use Rattle.step_reads.specs.Prospects as prospects
 use Rattle.step_reads.specs.Prospects.{ProspectShape, Goes, GoesTo, Stops, Asks, Awaits, Still, comes_to, prospect_by}
 use Rattle.law_steps.specs.Closed.{AreBelow, IsClosedStore}
+use Rattle.law_steps.specs.Waking.{labels_wanted}
 use Rattle.code_table.proofs.CodedLemmas.{length-store_of}
 use Rattle.step_rows.specs.declared.redex.Redex.{Redex as Told}
 use Rattle.step_rows.specs.Redexes.{IsRedex}
@@ -31,7 +32,7 @@ use Rattle.step_activity.specs.Actors.{IsClosedFor, code_of}
 use Rattle.step_activity.specs.Asking.{labels_in}
 use Rattle.step_activity.specs.Outlook.{IsOutlook}
 use Rattle.step_activity.proofs.FetchLemmas.{redex_below}
-use Rattle.step_activity.proofs.IntentLemmas.{intended, intent_redex, own_for}
+use Rattle.step_activity.proofs.IntentLemmas.{intended, intent_redex, own_for, wanted_served}
 use Rattle.step_activity.proofs.RedexLemmas.{operands, operands_within, same_operands, serve_labels, waited_within}
 use Rattle.step_activity.proofs.StandLemmas.{size}
 
@@ -164,7 +165,7 @@ module _ (x : Actor) (values : Values) (told : Told) (at : (a : model.Activity) 
   abbrev ready : (a : model.Activity) → StandsFor x.activity a → Ready
   ready a h = redex_ready (chase values) a.store (at a h).redex
 
-  comes : (p : ProspectShape) → IsClosedFor x → By values told p (code_of x) x.activity.state.store → (a : model.Activity) (h : StandsFor x.activity a) → p ≡ comes_to (ready a h) (at a h).redex
+  pub comes : (p : ProspectShape) → IsClosedFor x → By values told p (code_of x) x.activity.state.store → (a : model.Activity) (h : StandsFor x.activity a) → p ≡ comes_to (ready a h) (at a h).redex
   comes p closed by a h =
       let n : ℕ = length x.activity.state.store.cells in
       let b : IsAt closed.activity told = at closed.activity closed.stands.activity in
@@ -182,15 +183,28 @@ module _ (x : Actor) (values : Values) (told : Told) (at : (a : model.Activity) 
       → (p ≡ comes_to (ready a h) (at a h).redex → Q (intended rs n a (at a h).contexts (at a h).redex (ready a h))) → Q (intent (chase values) rs n a)
   outlook_at p closed by a rs n h Q is = subst Q (sym (intent_redex (chase values) rs n a (at a h).contexts (at a h).redex (ready a h) (at a h).splits refl)) (is (comes p closed by a h))
 
-  -- a `serve` intends the oldest match of the labels that are told
+  -- a `serve` asks for the labels that are told
+  serve_told : (a : model.Activity) (h : StandsFor x.activity a) (written : List Text) → written ≡ labels_in told → (w : IsServe (at a h).redex (ready a h)) → w.store ≡ a.store → w.labels ≡ written
+  serve_told a h written e w own =
+      let r : Redex = (at a h).redex in
+      let cells : CodedStore = x.activity.state.store.cells in
+      let is : contract (store_of (code_of x) cells) r ≡ Communicates (Serves w.labels) = ap (λ (s : Store). contract s r) (h.state.store ∙ sym own) ∙ w.is in
+      sym (serve_labels (code_of x) cells r told w.labels (at a h).is is) ∙ sym e
+
+  -- and intends their oldest match
   pub serve_intent : (a : model.Activity) (rs : List RequestShape) (n : Name) (h : StandsFor x.activity a) (written : List Text) → written ≡ labels_in told → IsServe (at a h).redex (ready a h)
       → intended rs n a (at a h).contexts (at a h).redex (ready a h) ≡ serves a (at a h).contexts (oldest_match (labels_served written (cell a.store a.active)) a.served 0 rs)
   serve_intent a rs n h written e w =
       let r : Redex = (at a h).redex in
       let cs : List Context = (at a h).contexts in
       let own : w.store ≡ a.store = own_for (chase values) a r w.store w.reads w.labels w.is in
-      let cells : CodedStore = x.activity.state.store.cells in
-      let is : contract (store_of (code_of x) cells) r ≡ Communicates (Serves w.labels) = ap (λ (s : Store). contract s r) (h.state.store ∙ sym own) ∙ w.is in
-      let labels : w.labels ≡ written = sym (serve_labels (code_of x) cells r told w.labels (at a h).is is) ∙ sym e in
+      let labels : w.labels ≡ written = serve_told a h written e w own in
       ap (intended rs n a cs r) w.reads ∙ ap (contracts rs n a cs w.store) w.is
       ∙ (λ i. serves a cs (oldest_match (labels_served (labels i) (cell (own i) a.active)) a.served 0 rs))
+
+  -- they are those that the activity wants
+  pub serve_wanted : (a : model.Activity) (h : StandsFor x.activity a) (written : List Text) → written ≡ labels_in told → IsServe (at a h).redex (ready a h) → labels_wanted a ≡ labels_served written (cell a.store a.active)
+  serve_wanted a h written e w =
+      let r : Redex = (at a h).redex in
+      let own : w.store ≡ a.store = own_for (chase values) a r w.store w.reads w.labels w.is in
+      wanted_served a (at a h).contexts r w.store w.labels (at a h).splits w.is ∙ ap (λ (ls : List Text). labels_served ls (cell a.store a.active)) (serve_told a h written e w own)

@@ -4,6 +4,7 @@ pub mod Actors
 pub mod Effects
 pub mod Outlook
 pub mod Asking
+pub mod Found
 pub mod Running
 pub mod Stances
 pub mod Passing

@@ -15,6 +15,7 @@ ghost use Rattle.step_reads.specs.Values.{AreClosedValues};
 ghost use Rattle.step_activity.specs.Actors.{HasOperands, IsClosedFor, Stands, code_of, log_in};
 ghost use Rattle.step_activity.specs.Asking.{communicates};
 ghost use Rattle.step_activity.specs.Effects.{IsDoneBy, IsGivenOf, IsLogAfter};
+ghost use Rattle.step_activity.specs.Found.{IsFoundFor};
 
 use crate::actor::Actor;
 use crate::asked::Asked;
@@ -61,6 +62,29 @@ impl Actor {
         ensures code { code_of self.new ≡ code_of self.old }
         ensures given { IfOk result (IsGivenOf (code_of self.old)) }
     {
+        self.act_found(alloc, name, futures, None)
+    }
+
+    /// Takes the reduction as `act` does. A request that it serves is the one of this number, where
+    /// `outlook_from` told one: it is not looked for again.
+    pub fn act_found(
+        &mut self,
+        alloc: Global,
+        name: &ActivityName,
+        futures: &FutureTable,
+        found: Option<u64>,
+    ) -> Result<Given, AllocError>
+        requires closed { IsClosedFor self.old }
+        requires values { AreClosedValues (values_of futures.now) }
+        requires code { AreOfCode (code_of self.old) futures.now }
+        requires found { IsFoundFor self.old found }
+        ensures acts { (a : model.Activity) (rs : List RequestShape) → Stands self.old a rs →
+            let intended = intent (chase (values_of futures.now)) rs name.now a in
+            IfOk result (IsDoneBy name.now intended rs self.new) }
+        ensures log { IfOk result (IsLogAfter (log_in self.old) (log_in self.new)) }
+        ensures code { code_of self.new ≡ code_of self.old }
+        ensures given { IfOk result (IsGivenOf (code_of self.old)) }
+    {
         self.settle()?;
         let redex = match self.activity.standing()? {
             Standing::Place(place) => return self.end_service(alloc, place),
@@ -79,7 +103,7 @@ impl Actor {
                 return self.send(alloc, name, to, label, arguments, at);
             }
             Asked::Serves(labels) => {
-                let Some(number) = self.match_of(alloc, labels)? else {
+                let Some(number) = self.match_known(alloc, labels, found)? else {
                     return Ok(Given::Nothing);
                 };
                 return self.serve(alloc, number);

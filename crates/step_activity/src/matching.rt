@@ -14,6 +14,7 @@ ghost use Rattle.serve_rules.specs.Labels.{label_text};
 ghost use Rattle.serve_rules.specs.Wanted.{wanted_labels};
 ghost use Rattle.step_activity.specs.Actors.{IsClosedFor, Stands};
 ghost use Rattle.step_activity.specs.Asking.{asked_for, class_in};
+ghost use Rattle.step_activity.specs.Found.{IsFound};
 
 use crate::actor::Actor;
 use activity_step::Standing;
@@ -36,6 +37,25 @@ impl Actor {
             return Ok(None);
         }
         Ok(self.queue.first_of(self.served_by(labels)))
+    }
+
+    /// The number as `match_of` tells it, where it is not known.
+    pub(crate) fn match_known(
+        &self,
+        alloc: Global,
+        labels: &[Label],
+        found: Option<u64>,
+    ) -> Result<Option<u64>, AllocError>
+        requires closed { IsClosedFor self.now }
+        ensures oldest { (a : model.Activity) (rs : List RequestShape) → Stands self.now a rs →
+            let wanted = labels_served (map label_text labels.now) (cell_in a.store a.active) in
+            IsFound wanted a rs found →
+            IfOk result (λ n. n ≡ option_map (λ x. x.0) (oldest_match wanted a.served 0 rs)) }
+    {
+        match found {
+            Some(number) => Ok(Some(number)),
+            None => self.match_of(alloc, labels),
+        }
     }
 
     /// Whether a pending request has one of these labels. It takes no memory.

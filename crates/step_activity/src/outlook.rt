@@ -1,44 +1,39 @@
 //! What an activity does next, told without a reduction.
 
-ghost use Rattle.std.specs.Prelude.{◌≡◌, IfOk, List, OnOk, map, ℕ};
+ghost use Rattle.std.specs.Prelude.{◌≡◌, IfOk, List, OnOk, Option, ℕ};
+ghost use Rattle.std.specs.Option.{option_map};
 ghost use Rattle.asp_model.specs.Chase.{chase};
 ghost use Rattle.asp_model.specs.Configuration as model;
 ghost use Rattle.asp_model.specs.Configuration.{RequestShape};
-ghost use Rattle.asp_model.specs.Intent.{
-  ends_service,
-  intent,
-  labels_served,
-  newest,
-  oldest_match,
-  serves,
-};
+ghost use Rattle.asp_model.specs.Intent.{Numbered, ends_service, intent, newest, serves};
 ghost use Rattle.asp_model.specs.Names.{Name};
 ghost use Rattle.asp_model.specs.Split.{Context};
-ghost use Rattle.asp_model.specs.Store.{cell as cell_in};
+ghost use Rattle.law_steps.specs.Waking.{labels_wanted};
 ghost use Rattle.activity_step.specs.Activities.{StandsFor};
 ghost use Rattle.activity_step.specs.Standings.{IsAt};
 ghost use Rattle.future_table.specs.Values.{values_of};
 ghost use Rattle.step_reads.specs.Values.{AreClosedValues};
-ghost use Rattle.serve_rules.specs.Labels.{label_text};
 ghost use Rattle.step_activity.specs.Actors.{IsClosedFor, Stands, code_of, log_in};
+ghost use Rattle.step_activity.specs.Found.{IsFound};
 ghost use Rattle.step_activity.specs.Outlook.{IsOutlook};
 ghost use Rattle.step_activity.specs.Passing.{HasPassed, IsPassedFor};
 
 use crate::actor::Actor;
 use crate::asked::served_labels;
 use activity_step::Standing;
-use asp_model::Label;
 use future_table::FutureTable;
 use std::alloc::{AllocError, Global};
 use step_parts::Outlook;
 use step_reads::{Prospect, prospect_from};
 use step_rows::Redex;
 
-/// What an activity does next, and how many members of a group that it waits for have values.
+/// What an activity does next, how many members of a group that it waits for have values, and the
+/// number of the request that it serves, where it does.
 #[derive(Clone, Copy)]
 pub struct Looked<'a> {
     pub outlook: Outlook<'a>,
     pub passed: usize,
+    pub found: Option<u64>,
 }
 
 impl Actor {
@@ -87,11 +82,14 @@ impl Actor {
             IfOk result (λ x. IsOutlook n intended x.outlook) }
         ensures passed { (a : model.Activity) (rs : List RequestShape) → Stands self.now a rs →
             IfOk result (λ x. HasPassed (chase (values_of futures.now)) a x.passed) }
+        ensures found { (a : model.Activity) (rs : List RequestShape) → Stands self.now a rs →
+            IfOk result (λ x. IsFound (labels_wanted a) a rs x.found) }
     {
         match self.activity.standing()? {
             Standing::Place(_place) => Ok(Looked {
                 outlook: self.at_place(),
                 passed: 0,
+                found: None,
             }),
             Standing::Redex(redex) => self.at_redex(alloc, futures, redex, from),
         }
@@ -125,6 +123,8 @@ impl Actor {
             IfOk result (λ x. IsOutlook n intended x.outlook) }
         ensures passed { (a : model.Activity) (rs : List RequestShape) → Stands self.now a rs →
             IfOk result (λ x. HasPassed (chase (values_of futures.now)) a x.passed) }
+        ensures found { (a : model.Activity) (rs : List RequestShape) → Stands self.now a rs →
+            IfOk result (λ x. IsFound (labels_wanted a) a rs x.found) }
     {
         let code = self.activity.code();
         let reading = prospect_from(code, self.activity.store(), futures, redex, from);
@@ -133,44 +133,52 @@ impl Actor {
             Prospect::Goes => Ok(Looked {
                 outlook: Outlook::Steps,
                 passed,
+                found: None,
             }),
             Prospect::GoesTo(name) => Ok(Looked {
                 outlook: Outlook::Sends(name),
                 passed,
+                found: None,
             }),
             Prospect::Stops(fault) => Ok(Looked {
                 outlook: Outlook::Faulted(fault),
                 passed,
+                found: None,
             }),
             Prospect::Asks => {
-                let outlook = self.at_serve(alloc, served_labels(redex))?;
-                Ok(Looked { outlook, passed })
+                let found = self.match_of(alloc, served_labels(redex))?;
+                Ok(Looked {
+                    outlook: at_serve(found),
+                    passed,
+                    found,
+                })
             }
             Prospect::Polls => Ok(Looked {
                 outlook: Outlook::Polls,
                 passed,
+                found: None,
             }),
             Prospect::Awaits(future) => Ok(Looked {
                 outlook: Outlook::Awaits(future),
                 passed,
+                found: None,
             }),
             Prospect::Still => Ok(Looked {
                 outlook: Outlook::Done,
                 passed,
+                found: None,
             }),
         }
     }
+}
 
-    fn at_serve(&self, alloc: Global, labels: &[Label]) -> Result<Outlook<'_>, AllocError>
-        requires closed { IsClosedFor self.now }
-        ensures outlook { (a : model.Activity) (rs : List RequestShape) (cs : List Context)
-            (n : Name) → Stands self.now a rs →
-            let wanted = labels_served (map label_text labels.now) (cell_in a.store a.active) in
-            IfOk result (IsOutlook n (serves a cs (oldest_match wanted a.served 0 rs))) }
-    {
-        match self.match_of(alloc, labels)? {
-            Some(_number) => Ok(Outlook::Steps),
-            None => Ok(Outlook::Serving),
-        }
+/// What an activity does at a `serve`, by the number of the request that it serves.
+fn at_serve<'a>(found: Option<u64>) -> Outlook<'a>
+    ensures outlook { (n : Name) (a : model.Activity) (cs : List Context) (o : Option Numbered) →
+        found ≡ option_map (λ x. x.0) o → IsOutlook n (serves a cs o) result }
+{
+    match found {
+        Some(_number) => Outlook::Steps,
+        None => Outlook::Serving,
     }
 }

@@ -12,12 +12,13 @@ use Rattle.replay_population.proofs.OutlookLemmas.{intended}
 use Rattle.replay_population.proofs.RosterLemmas.{number_named, number_within}
 use Rattle.def_journals.specs.Journals.{number_of}
 use Rattle.law_schedules.specs.Schedules.{RestsIn}
+use Rattle.step_activity.specs.Found.{IsFoundFor}
 use Rattle.step_activity.specs.Outlook.{IsOutlook}
 use Rattle.step_activity.proofs.PassingLemmas.{first_passed}
 use Rattle.replay_one.specs.declared.bounds.Bounds.{Bounds}
 use Rattle.replay_population.specs.declared.population.Population.{Population}
 use Rattle.replay_one.specs.Bounds.{count_within, lists_within}
-use Rattle.replay_population.specs.Population.{HasPassedIn, found_in}
+use Rattle.replay_population.specs.Population.{HasPassedIn, IsFoundAt, found_in}
 use Rattle.replay_one.specs.declared.looks.Look.{Look}
 use Rattle.replay_one.specs.declared.looks.Look.TheVariants as look
 use Rattle.replay_one.specs.Round.{IsLook, IsTurn, LogsTo}
@@ -32,6 +33,7 @@ returns-in_default c =
     record {
       look = λ program k n h has. subst (IsLook (lists_within b) (count_within b) k p.roster n) (sym c.unseen.ensures.look) (absent_leaves (lists_within b) (count_within b) p k n h.population (found_at p n c.args.number has ∙ sym c.in_default.ensures.value));
       passed = λ k n h has. subst (HasPassedIn k n) (sym c.unseen.ensures.passed) (λ a at. first_passed (chase k.futures) a);
+      found = subst (IsFoundAt p c.args.number) (sym c.unseen.ensures.found) (λ x is a rs s. tt);
     }
 
 pub outlook_from-requires-clause-passed : goal.outlook_from-requires-clause-passed
@@ -64,6 +66,7 @@ returns-then-count c =
           let bound = c.count-2.ensures.count p.roster n h.population.roster c.requires.numbered has in
           subst (IsLook (lists_within b) (count_within b) k p.roster n) (sym c.unseen-then-count.ensures.look) (counted_leaves (lists_within b) (count_within b) k n s.0 s.1 (omega (arith, c.if-count.true, count, bound)));
       passed = λ k n h has. subst (HasPassedIn k n) (sym c.unseen-then-count.ensures.passed) (λ a at. first_passed (chase k.futures) a);
+      found = subst (IsFoundAt p c.args.number) (sym c.unseen-then-count.ensures.found) (λ x is a rs s. tt);
     }
 
 -- whether its turn has come
@@ -95,6 +98,7 @@ returns-in-Steps c =
           let y = steps_now (lists_within b) (count_within b) k n s.0 s.1 below o in
           (y, steps_target (lists_within b) (count_within b) k n p.roster y o);
       passed = λ k n h has. seen_passed p k n x c.in_ok-seen.seen.passed h (found_at p n c.args.number has ∙ sym c.in-Some.ensures.value) c.in_ok-seen.ensures.passed;
+      found = λ y is. subst (λ (z : Actor). IsFoundFor z c.in_ok-seen.seen.found) (some_is (c.in-Some.ensures.value ∙ is)) c.in_ok-seen.ensures.found;
     }
 
 pub unreachable-requires : goal.unreachable-requires
@@ -108,13 +112,13 @@ unreachable-requires c =
     let is : found_in p n ≡ Some x = found_at p n c.args.number m.1 ∙ sym c.in-Some.ensures.value in
     let to = c.in-Sends.name in
     let o = subst (IsOutlook n (intent_in k n)) c.in-Sends.is (intended p k n x c.in_ok-seen.seen.outlook r.2.population is c.in_ok-seen.ensures.outlook) in
-    absent_nowhere p k to.now r.2.population (sym c.in_default-number.ensures.number) (target_there r.0 k n to r.2.reached o)
+    absent_nowhere p k to.now r.2.population (sym c.in_default-number_guessed.ensures.number) (target_there r.0 k n to r.2.reached o)
 
 pub name-requires : goal.name-requires
 name-requires c = let m = c.requires.passed in record { within = number_within c.args.population.now.roster m.0 c.args.number m.1 }
 
-pub returns-in-Some-number-clause-look : goal.returns-in-Some-number-clause-look
-returns-in-Some-number-clause-look c = λ program k n h has.
+pub returns-in-Some-number_guessed-clause-look : goal.returns-in-Some-number_guessed-clause-look
+returns-in-Some-number_guessed-clause-look c = λ program k n h has.
     let p : Population = c.args.population.now in
     let b : Bounds = c.args.bounds.now in
     let x : Actor = c.in-Some.actor.now in
@@ -125,20 +129,23 @@ returns-in-Some-number-clause-look c = λ program k n h has.
     let below : s.0.reductions < count_within b n = omega (arith, c.if-count.false, count, bound) in
     let to = c.in-Sends.name in
     let o = subst (IsOutlook n (intent_in k n)) c.in-Sends.is (intended p k n x c.in_ok-seen.seen.outlook h.population is c.in_ok-seen.ensures.outlook) in
-    let number : number_of to.now p.roster ≡ Some c.in-Some-number.to = sym c.in-Some-number.ensures.number in
+    let number : number_of to.now p.roster ≡ Some c.in-Some-number_guessed.to = sym c.in-Some-number_guessed.ensures.number in
     let mine : c.name.result.now ≡ n = some_is (sym c.name.ensures.name ∙ number_named p.roster n c.args.number has) in
     let turn = c.may_come-may.ensures.may k to.now h.population number (target_there program k n to h.reached o) ∙ ap (λ (m : Name). is_next (lists_within b) k to.now (From m)) mine in
-    by_turn (lists_within b) (count_within b) k p.roster n to.now c.in-Some-number.to (Some c.in-Some-number.to) c.may_come-may.result c.in_turn.result.look c.in_turn.ensures.look number
+    by_turn (lists_within b) (count_within b) k p.roster n to.now c.in-Some-number_guessed.to (Some c.in-Some-number_guessed.to) c.may_come-may.result c.in_turn.result.look c.in_turn.ensures.look number
     (λ e.
     let y = sends_now (lists_within b) (count_within b) program k n s.0 to h.reached s.1 below o (sym turn ∙ e) in
-    (y, sends_target (lists_within b) (count_within b) k n p.roster y to c.in-Some-number.to o number))
+    (y, sends_target (lists_within b) (count_within b) k n p.roster y to c.in-Some-number_guessed.to o number))
     (λ e. held_rests (lists_within b) (count_within b) program k n to h.reached o (sym turn ∙ e))
 
-pub returns-in-Some-number-clause-passed : goal.returns-in-Some-number-clause-passed
-returns-in-Some-number-clause-passed c = λ k n h has.
+pub returns-in-Some-number_guessed-clause-passed : goal.returns-in-Some-number_guessed-clause-passed
+returns-in-Some-number_guessed-clause-passed c = λ k n h has.
     let p : Population = c.args.population.now in
     let x : Actor = c.in-Some.actor.now in
     subst (HasPassedIn k n) (sym c.in_turn.ensures.passed) (seen_passed p k n x c.in_ok-seen.seen.passed h (found_at p n c.args.number has ∙ sym c.in-Some.ensures.value) c.in_ok-seen.ensures.passed)
+
+pub returns-in-Some-number_guessed-clause-found : goal.returns-in-Some-number_guessed-clause-found
+returns-in-Some-number_guessed-clause-found c = subst (IsFoundAt c.args.population.now c.args.number) (sym c.in_turn.ensures.found) (λ x is a rs s. tt)
 
 pub returns-in-Polls : goal.returns-in-Polls
 returns-in-Polls c =
@@ -160,6 +167,7 @@ returns-in-Polls c =
           (y, polls_target (lists_within b) (count_within b) k n p.roster y o))
           (λ e. poll_rests (lists_within b) (count_within b) k n s.0 s.1 o (sym turn ∙ e));
       passed = λ k n h has. subst (HasPassedIn k n) (sym c.in_turn-in-Polls.ensures.passed) (seen_passed p k n x c.in_ok-seen.seen.passed h (found_at p n c.args.number has ∙ sym c.in-Some.ensures.value) c.in_ok-seen.ensures.passed);
+      found = subst (IsFoundAt p c.args.number) (sym c.in_turn-in-Polls.ensures.found) (λ x is a rs s. tt);
     }
 
 pub returns-in-Awaits : goal.returns-in-Awaits
@@ -173,6 +181,7 @@ returns-in-Awaits c =
           let f = c.in-Awaits.future in
           awaits_rests (lists_within b) (count_within b) k n (future_shape f.now) (awaits_intent n _ f (subst (IsOutlook n (intent_in k n)) c.in-Awaits.is (intended p k n x c.in_ok-seen.seen.outlook h.population is c.in_ok-seen.ensures.outlook)));
       passed = λ k n h has. seen_passed p k n x c.in_ok-seen.seen.passed h (found_at p n c.args.number has ∙ sym c.in-Some.ensures.value) c.in_ok-seen.ensures.passed;
+      found = λ y is a rs s. tt;
     }
 
 pub returns-in-Faulted : goal.returns-in-Faulted
@@ -186,6 +195,7 @@ returns-in-Faulted c =
           let y = c.in-Faulted.field-0 in
           done_leaves (lists_within b) (count_within b) k n (Faulted (fault_shape y)) (faulted_intent n _ y (subst (IsOutlook n (intent_in k n)) c.in-Faulted.is (intended p k n x c.in_ok-seen.seen.outlook h.population is c.in_ok-seen.ensures.outlook))) (λ f e. cc) (λ e. cc);
       passed = λ k n h has. seen_passed p k n x c.in_ok-seen.seen.passed h (found_at p n c.args.number has ∙ sym c.in-Some.ensures.value) c.in_ok-seen.ensures.passed;
+      found = λ y is a rs s. tt;
     }
 
 pub returns-in-Serving : goal.returns-in-Serving
@@ -198,6 +208,7 @@ returns-in-Serving c =
           let is : found_in p n ≡ Some x = found_at p n c.args.number has ∙ sym c.in-Some.ensures.value in
           serves_rests (lists_within b) (count_within b) k n (serving_intent n _ (subst (IsOutlook n (intent_in k n)) c.in-Serving.is (intended p k n x c.in_ok-seen.seen.outlook h.population is c.in_ok-seen.ensures.outlook)));
       passed = λ k n h has. seen_passed p k n x c.in_ok-seen.seen.passed h (found_at p n c.args.number has ∙ sym c.in-Some.ensures.value) c.in_ok-seen.ensures.passed;
+      found = λ y is a rs s. tt;
     }
 
 pub returns-in-Done : goal.returns-in-Done
@@ -210,4 +221,5 @@ returns-in-Done c =
           let is : found_in p n ≡ Some x = found_at p n c.args.number has ∙ sym c.in-Some.ensures.value in
           done_leaves (lists_within b) (count_within b) k n Done (done_intent n _ (subst (IsOutlook n (intent_in k n)) c.in-Done.is (intended p k n x c.in_ok-seen.seen.outlook h.population is c.in_ok-seen.ensures.outlook))) (λ f e. cc) (λ e. cc);
       passed = λ k n h has. seen_passed p k n x c.in_ok-seen.seen.passed h (found_at p n c.args.number has ∙ sym c.in-Some.ensures.value) c.in_ok-seen.ensures.passed;
+      found = λ y is a rs s. tt;
     }

@@ -33,13 +33,13 @@ look_at-requires-clause-reached g c =
     let r = c.requires.running in
     (r.2, r.3, but_reached c.args.bounds.now c.args.self.now r.0 r.2 r.3 r.4)
 
-pub act-requires-clause-closed : goal.act-requires-clause-closed
-act-requires-clause-closed g c =
+pub act_found-requires-clause-closed : goal.act_found-requires-clause-closed
+act_found-requires-clause-closed g c =
     let r = c.requires.running in
     (r.3, reached_closed c.args.self.now.population r.2 r.3 (but_reached c.args.bounds.now c.args.self.now r.0 r.2 r.3 r.4))
 
-pub act-requires-clause-known : goal.act-requires-clause-known
-act-requires-clause-known g c = let r = c.requires.running in (r.0, r.1)
+pub act_found-requires-clause-known : goal.act_found-requires-clause-known
+act_found-requires-clause-known g c = let r = c.requires.running in (r.0, r.1)
 
 pub returns-in-Leaves-clause-tried : goal.returns-in-Leaves-clause-tried
 returns-in-Leaves-clause-tried g c = λ program k n has h.
@@ -69,7 +69,7 @@ returns-in_ok-note-in-Awaits-clause-tried g c = λ program k n has h.
 pub give-requires-clause-numbered : goal.give-requires-clause-numbered
 give-requires-clause-numbered g c =
     let r = c.requires.running in
-    numbered_on c.args.bounds.now c.args.self.now.population.roster c.act.new.self.roster r.4.run.numbered (λ j x e. ap (λ (ns : List Name). slice_get ns j) c.in_ok-given-in-Steps.ensures.roster ∙ e)
+    numbered_on c.args.bounds.now c.args.self.now.population.roster c.act_found.new.self.roster r.4.run.numbered (λ j x e. ap (λ (ns : List Name). slice_get ns j) c.in_ok-given-in-Steps.ensures.roster ∙ e)
 
 pub give-requires-clause-giving : goal.give-requires-clause-giving
 give-requires-clause-giving g c =
@@ -94,7 +94,7 @@ returns-in_ok-wake-in-Steps-clause-tried g c = λ program k n has h.
     let b : Bounds = c.args.bounds.now in
     let m : Machine = c.args.self.now in
     let ns : List Name = m.population.roster in
-    let p : Population = c.act.new.self in
+    let p : Population = c.act_found.new.self in
     let q : Population = c.give.new.self.population in
     let roster : p.roster ≡ ns = c.in_ok-given-in-Steps.ensures.roster in
     let now : number_of n p.roster ≡ Some c.args.number = ap (number_of n) roster ∙ has in
@@ -116,7 +116,7 @@ returns-in_ok-wake-in-Steps-clause-tried g c = λ program k n has h.
 pub wake-requires : goal.wake-requires
 wake-requires g c =
     let r = c.requires.running in
-    let p : Population = c.act.new.self in
+    let p : Population = c.act_found.new.self in
     let now = ap (number_of r.0) c.in_ok-given-in-Steps.ensures.roster ∙ r.1 in
     record { known = slice_get_within c.give.new.self.population.roster c.args.number r.0 (c.in_ok-give-in-Steps.ensures.leads c.args.number r.0 (number_named p.roster r.0 c.args.number now)) }
 

@@ -10,7 +10,7 @@ use Rattle.replay_one.proofs.schedule.Schedule.wake_server.Goals as goal
 pub returns-clause-more : goal.returns-clause-more
 returns-clause-more c =
     let ns : List Name = c.args.roster.now in
-    let old : Schedule = c.args.self.now in
+    let old : Schedule = record c.args.self.now { target = c.args.number } in
     let mid : Schedule = c.watch.new.self in
     let new : Schedule = c.wake.new.self in
     handed_by c.wake.result (IsMoreReady (seen ns mid) None (seen ns new)) (λ (n : Name). number_of n ns ≡ Some c.args.number) (λ n. ready_in (seen ns new) n ≡ true) _

@@ -2,10 +2,12 @@ use Rattle.std.proofs.Common.{◌≡◌, ◌<◌, List, ◌∙◌, ℕ, IfOk, Op
 use Rattle.asp_model.specs.Chase.{Chase, chase}
 use Rattle.asp_model.specs.Configuration as model
 use Rattle.asp_model.specs.Configuration.{RequestShape}
-use Rattle.asp_model.specs.Contraction.{Creates, Polls, Sends, Serves, contract}
+use Rattle.asp_model.specs.Contraction.{Communicates, Creates, Polls, Sends, Serves, contract}
 use Rattle.asp_model.specs.Intent.{Intent, Numbered, creates, labels_served, oldest_match, sends, serves}
 use Rattle.asp_model.specs.Names.{FutureShape, Name, Text}
+use Rattle.asp_model.specs.Split.{Context, Redex, Splits, split}
 use Rattle.asp_model.specs.Store.{cell}
+use Rattle.law_steps.specs.Waking.{labels_wanted}
 use Rattle.activity_step.specs.Standings.{IsAt}
 use Rattle.future_table.specs.Values.{values_of}
 use Rattle.request_queue.specs.Requests.{request_shape}
@@ -16,17 +18,22 @@ use Rattle.step_activity.specs.declared.asked.Asked.{Asked}
 use Rattle.step_activity.specs.Actors.{IsClosedFor, Stands}
 use Rattle.step_activity.specs.Asking.{IsAsked, asked_shape, lent_text}
 use Rattle.step_activity.specs.Effects.{IsDoneBy}
+use Rattle.step_activity.specs.Found.{IsFound}
 use Rattle.step_activity.proofs.FetchLemmas.{place_below}
-use Rattle.step_activity.proofs.IntentLemmas.{has_operands}
+use Rattle.step_activity.proofs.IntentLemmas.{has_operands, wanted_served}
 use Rattle.step_activity.proofs.MatchLemmas.{is_none, is_there, matched}
 use Rattle.step_activity.proofs.RedexLemmas.{is_at, is_place}
 use Rattle.step_activity.proofs.StanceLemmas.{intent_asks}
 use Rattle.step_activity.proofs.StandLemmas.{size}
-use Rattle.step_activity.proofs.actor.Actor.act.Goals as goal
+use Rattle.step_activity.proofs.actor.Actor.act_found.Goals as goal
 
 -- it is closed once it has settled
 settled : (x y : Actor) (h : IsClosedFor x) → ((a : model.Activity) (rs : List RequestShape) → Stands x a rs → Stands y a rs) → IsClosedFor y
 settled x y h keeps = record { activity = h.activity; received = h.received; stands = keeps h.activity h.received h.stands; closed = h.closed; arguments = h.arguments }
+
+-- a number that is known is that of the oldest match of the labels that it asks for
+found_served : (a : model.Activity) (rs : List RequestShape) (cs : List Context) (r : Redex) (texts : List Text) (o : Option ℕ) → split a.term ≡ Splits cs r → contract a.store r ≡ Communicates (Serves texts) → IsFound (labels_wanted a) a rs o → IsFound (labels_served texts (cell a.store a.active)) a rs o
+found_served a rs cs r texts o e is known = subst (λ (ls : List Text). IsFound ls a rs o) (wanted_served a cs r a.store texts e is) known
 
 pub end_service-requires-clause-within : goal.end_service-requires-clause-within
 end_service-requires-clause-within c =
@@ -44,12 +51,17 @@ pub asks-requires-clause-stands : goal.asks-requires-clause-stands
 asks-requires-clause-stands c = λ a h. is_at a c.in_ok-place.field-0 c.in-Redex.redex c.in-Redex.is (c.in_ok-place.ensures.standing a h)
 
 pub serve-requires-clause-pending : goal.serve-requires-clause-pending
+unfolding settled
 serve-requires-clause-pending c =
     let x : Actor = c.settle.new.self in
     let h : IsClosedFor x = settled c.args.self.now x c.requires.closed (λ a rs g. c.in_ok-settle.ensures.stands a rs g) in
     let a : model.Activity = h.activity in
-    let wanted = labels_served (map label_text c.in-Serves.labels.now) (cell a.store a.active) in
-    let m = matched x.queue.pending wanted a.served h.received c.in-Some.number h.stands.queue.pending (sym c.in-Some.is ∙ c.in_ok-number-in-Serves.ensures.oldest a h.received h.stands) in
+    let texts = map label_text c.in-Serves.labels.now in
+    let at : IsAt a c.in-Redex.redex = is_at a c.in_ok-place.field-0 c.in-Redex.redex c.in-Redex.is (c.in_ok-place.ensures.standing a h.stands.activity) in
+    let is = subst (λ (k : Asked). IsAsked (asked_shape k) (contract a.store at.redex)) c.in-Serves.is (c.asks.ensures.asked a at.contexts at.redex h.stands.activity at.splits) in
+    let wanted = labels_served texts (cell a.store a.active) in
+    let known = found_served a h.received at.contexts at.redex texts c.args.found at.splits is (c.requires.found a h.received c.requires.closed.stands) in
+    let m = matched x.queue.pending wanted a.served h.received c.in-Some.number h.stands.queue.pending (sym c.in-Some.is ∙ c.in_ok-number-in-Serves.ensures.oldest a h.received h.stands known) in
     is_there request_shape _ m.request m.there
 
 pub returns-in-Creates-clause-acts : goal.returns-in-Creates-clause-acts
@@ -90,7 +102,8 @@ returns-in-Serves-clause-acts c = λ a rs was.
     let chases : FutureShape → Chase = chase (values_of c.args.futures.now) in
     let at : IsAt a c.in-Redex.redex = is_at a c.in_ok-place.field-0 c.in-Redex.redex c.in-Redex.is (c.in_ok-place.ensures.standing a h.activity) in
     let is = subst (λ (k : Asked). IsAsked (asked_shape k) (contract a.store at.redex)) c.in-Serves.is (c.asks.ensures.asked a at.contexts at.redex h.activity at.splits) in
-    let done = c.serve.ensures.done a rs at.contexts at.redex wanted n h at.splits (sym c.in-Some.is ∙ c.in_ok-number-in-Serves.ensures.oldest a rs h) in
+    let known = found_served a rs at.contexts at.redex texts c.args.found at.splits is (c.requires.found a rs was) in
+    let done = c.serve.ensures.done a rs at.contexts at.redex wanted n h at.splits (sym c.in-Some.is ∙ c.in_ok-number-in-Serves.ensures.oldest a rs h known) in
     subst (λ (i : Intent). IfOk c.serve.result (IsDoneBy n i rs new)) (sym (intent_asks chases rs n a at.contexts at.redex at.splits (Serves texts) is)) done
 
 pub returns-in_default-clause-acts : goal.returns-in_default-clause-acts
@@ -103,7 +116,8 @@ returns-in_default-clause-acts c = λ a rs was.
     let chases : FutureShape → Chase = chase (values_of c.args.futures.now) in
     let at : IsAt a c.in-Redex.redex = is_at a c.in_ok-place.field-0 c.in-Redex.redex c.in-Redex.is (c.in_ok-place.ensures.standing a h.activity) in
     let is = subst (λ (k : Asked). IsAsked (asked_shape k) (contract a.store at.redex)) c.in-Serves.is (c.asks.ensures.asked a at.contexts at.redex h.activity at.splits) in
-    let none : oldest_match wanted a.served 0 rs ≡ None = is_none (oldest_match wanted a.served 0 rs) (sym c.in_default.is ∙ c.in_ok-number-in-Serves.ensures.oldest a rs h) in
+    let known = found_served a rs at.contexts at.redex texts c.args.found at.splits is (c.requires.found a rs was) in
+    let none : oldest_match wanted a.served 0 rs ≡ None = is_none (oldest_match wanted a.served 0 rs) (sym c.in_default.is ∙ c.in_ok-number-in-Serves.ensures.oldest a rs h known) in
     let done = subst (λ (o : Option Numbered). IsDoneBy n (serves a at.contexts o) rs old given.Nothing) (sym none) tt in
     subst (λ (i : Intent). IsDoneBy n i rs old given.Nothing) (sym (intent_asks chases rs n a at.contexts at.redex at.splits (Serves texts) is)) done
 
