@@ -11,6 +11,6 @@ returns c = record {
   serving = λ a h.
       let fs = c.args.self.now.state.machine.futures in
       let shapes : List (Option FutureShape) = map (option_map held_future) fs.items in
-      let size : fs.len ≡ length shapes = fs.ok.0 ∙ sym (length-map fs.items (option_map held_future)) in
-      ap not c.is_empty.ensures ∙ is_suspended fs.len shapes h.state.machine.items a.services size h.state.machine.futures h.state.machine.suspended;
+      let size : length fs.items ≡ length shapes = sym (length-map fs.items (option_map held_future)) in
+      ap not c.is_empty.ensures ∙ is_suspended (length fs.items) shapes h.state.machine.items a.services size h.state.machine.futures h.state.machine.suspended;
 }

@@ -24,7 +24,7 @@ returns-clause-serves c = λ a contexts redex h splits.
     let same : c.nodes-nodes.result.now ≡ k = c.nodes-nodes.ensures.nodes ∙ c.deref.ensures in
     let some : IsAtSome k v a.term (reverse a.services) n = some_of k c.nodes-nodes.result.now (view_of x.state.machine) v n a.term (reverse a.services) same h.state.machine c.in_ok-count.ensures.redex in
     let view : view_of c.suspend.new.self ≡ suspended_view (option_map held_future x.present) c.args.label.text (x.active ∷ ks) (without_last n v) =
-    c.in_ok-suspend.ensures.view ∙ (λ i. suspended_view (option_map held_future (c.replace-waiting.ensures.value i)) c.args.label.text (x.active ∷ c.deref-2.ensures.value i) (c.take_off.ensures.view i)) in
+    c.in_ok-suspend.ensures.view ∙ (λ i. suspended_view (option_map held_future (c.replace-waiting.ensures.value i)) c.args.label.text (x.active ∷ c.as_slice.ensures.items i) (c.take_off.ensures.view i)) in
     let cells : store_of k c.unpack.new.store.cells ≡ unpack (store_of k x.state.store.cells) p =
     subst (λ (q : List Node). store_of q c.unpack.new.store.cells ≡ unpack (store_of q x.state.store.cells) p) c.requires.code c.in_ok-places.ensures.cells in
     let roots : ks ≡ unpacked_roots (store_of k x.state.store.cells) p = subst (λ (q : List Node). ks ≡ unpacked_roots (store_of q x.state.store.cells) p) c.requires.code c.in_ok-places.ensures.roots in
