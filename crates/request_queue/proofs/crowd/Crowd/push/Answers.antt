@@ -11,8 +11,8 @@ use Rattle.request_queue.proofs.QueueLemmas.{AreBelow, Ascends, below_more, foun
 use Rattle.request_queue.proofs.crowd.Crowd.push.Goals as goal
 
 -- the notes change at the number and the label of a request
-abbrev AreNoted : Notes → Notes → ℕ → Bool → Request → Type 0
-AreNoted old new n b r = (l : Label) (k : ℕ) → is_noted new l k ≡ cond (is_that r.label n l k) b (is_noted old l k)
+abbrev AreNoted : Notes → Notes → ℕ → Bool → Label → Type 0
+AreNoted old new n b m = (l : Label) (k : ℕ) → is_noted new l k ≡ cond (is_that m n l k) b (is_noted old l k)
 
 pub note-requires : goal.note-requires
 note-requires c =
@@ -27,12 +27,13 @@ invariant_of-self-in-Ok c =
     let new = c.push.new.self in
     let below : AreBelow n es = subst (λ m. AreBelow m es) (sym c.arrived-number.ensures.arrived) c.self.invariant.below in
     let entries : new.pending ≡ es ++ (n, r) ∷ [] = c.in-Ok.ensures.pending ∙ ap (λ m. es ++ (m, r) ∷ []) (sym c.arrived-number.ensures.arrived) in
+    let asked : c.as_label.result.now ≡ r.label = c.as_label.ensures.label ∙ ap (λ (x : Request). x.label) c.deref.ensures in
     let next : new.arrived ≡ n + 1 = c.in-Ok.ensures.arrived ∙ ap (λ m. m + 1) (sym c.arrived-number.ensures.arrived) in
     record {
       ordered = subst Ascends (sym entries) (ordered_more n r es below c.self.invariant.ordered);
       below = subst (λ m. AreBelow m new.pending) (sym next) (subst (AreBelow (n + 1)) (sym entries) (below_more n r es below));
       noted = notes_more c.self.inside.notes c.note.new.self n r es new.pending below c.self.invariant.noted
-          (subst (λ (x : Request). AreNoted c.self.inside.notes c.note.new.self n true x) c.deref.ensures c.in_ok-note.ensures.noted)
+          (subst (AreNoted c.self.inside.notes c.note.new.self n true) asked c.in_ok-note.ensures.noted)
           (λ k. ap (request_at k) entries ∙ found_more n r es below k);
     }
 
@@ -47,12 +48,14 @@ invariant_of-self-in-Err c =
     let new = c.push.new.self in
     let same : new ≡ c.self.inside.requests = c.in-Err.ensures.err in
     let below : AreBelow n es = subst (λ m. AreBelow m es) (sym c.arrived-number.ensures.arrived) c.self.invariant.below in
-    let label : c.deref-in-Err.result.now ≡ r = c.deref-in-Err.ensures ∙ ap (λ (x : Box Request Global). x.value) c.in-Err.ensures.back in
+    let back : c.deref-in-Err.result.now ≡ r = c.deref-in-Err.ensures ∙ ap (λ (x : Box Request Global). x.value) c.in-Err.ensures.back in
+    let asked : c.as_label.result.now ≡ r.label = c.as_label.ensures.label ∙ ap (λ (x : Request). x.label) c.deref.ensures in
+    let label : c.as_label-in-Err.result.now ≡ r.label = c.as_label-in-Err.ensures.label ∙ ap (λ (x : Request). x.label) back in
     record {
       ordered = subst (λ (q : QueueView). Ascends q.pending) (sym same) c.self.invariant.ordered;
       below = subst (λ (q : QueueView). AreBelow q.arrived q.pending) (sym same) c.self.invariant.below;
       noted = λ l k. notes_back c.self.inside.notes c.note.new.self c.forget.new.self n r es below c.self.invariant.noted
-          (subst (λ (x : Request). AreNoted c.self.inside.notes c.note.new.self n true x) c.deref.ensures c.in_ok-note.ensures.noted)
-          (subst (λ (x : Request). AreNoted c.note.new.self c.forget.new.self n false x) label c.forget.ensures.forgotten) l k
+          (subst (AreNoted c.self.inside.notes c.note.new.self n true) asked c.in_ok-note.ensures.noted)
+          (subst (AreNoted c.note.new.self c.forget.new.self n false) label c.forget.ensures.forgotten) l k
           ∙ ap (λ (q : QueueView). waits q.pending l k) (sym same);
     }
