@@ -1,3 +1,4 @@
 -- in reading order
 pub mod Progress
 pub mod Answers
+pub mod Last

@@ -6,6 +6,7 @@ ghost use Rattle.asp_model.specs.Names.{same_text};
 ghost use Rattle.asp_model.specs.Shapes.{reception_shape};
 ghost use Rattle.asp_model.specs.Term.{has_text};
 ghost use Rattle.asp_model.specs.ReportLines.{parts, verdict_lines, fault_texts, are_status_words, counted as counted_of, activity_in as activity_in_words, senders_of as senders_in_words, all_found, reception_in as reception_in_word, is_output as is_output_line};
+ghost use Rattle.sender_log.specs.Last.{IsLast, last_read};
 
 use asp_model::{ActivityName, Reception};
 use std::alloc::{AllocError, Global};
@@ -166,13 +167,53 @@ fn receptions_in(
         IfOk result (λ o. option_map (λ v. map reception_shape v.items) o ≡ all) }
 {
     let mut log = Vec::new(alloc);
+    // An empty text names nobody, as an empty log has no last.
+    let mut last: &[u8] = b"".as_slice();
     for word in words {
-        match reception_in(alloc, word, polls)? {
+        match reception_behind(alloc, &log, last, word, polls)? {
             Some(reception) => log.push(reception)?,
             None => return Ok(None),
         }
+        last = *word;
     }
     Ok(Some(log))
+}
+
+// What a word says behind the word that the last of a log was read from. Mostly they are the same
+// word, and a copy takes less than reading it.
+fn reception_behind(
+    alloc: Global,
+    log: &[Reception],
+    last: &[u8],
+    word: &[u8],
+    polls: bool,
+) -> Result<Option<Reception>, AllocError>
+    requires { IsLast polls log.now last.now }
+    ensures { IfOk result (λ o. option_map reception_shape o ≡ reception_in_word polls word.now) }
+{
+    if word == last {
+        last_of(alloc, log)
+    } else {
+        reception_in(alloc, word, polls)
+    }
+}
+
+fn last_of(alloc: Global, log: &[Reception]) -> Result<Option<Reception>, AllocError>
+    ensures { IfOk result (λ o. option_map reception_shape o ≡ last_read log.now) }
+{
+    match log.last() {
+        Some(reception) => Ok(Some(copy_of(alloc, reception)?)),
+        None => Ok(None),
+    }
+}
+
+fn copy_of(alloc: Global, reception: &Reception) -> Result<Reception, AllocError>
+    ensures { IfOk result (λ r. reception_shape r ≡ reception_shape reception.now) }
+{
+    match reception {
+        Reception::From(name) => Ok(Reception::From(name.copy(alloc)?)),
+        Reception::Poll => Ok(Reception::Poll),
+    }
 }
 
 // A sender's name, or a poll where there may be polls.
