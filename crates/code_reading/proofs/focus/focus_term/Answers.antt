@@ -1,7 +1,8 @@
 use Rattle.std.proofs.Common.{◌≡◌, ◌∙◌, List, ℕ, drop, map, subst, sym, ap}
 use Rattle.asp_model.specs.declared.term.Term.{Term}
+use Rattle.asp_model.specs.declared.word.Label.{Label}
 use Rattle.asp_model.specs.Shapes.{tree_of}
-use Rattle.asp_model.specs.Term.{Call, node, trees, loc}
+use Rattle.asp_model.specs.Term.{Call, Tree, node, trees, loc}
 use Rattle.code_table.specs.Pieces.{Piece}
 use Rattle.code_table.specs.Tables.{piece_at, pieces}
 use Rattle.code_laws.specs.Nodes as nodes
@@ -41,8 +42,10 @@ returns-in-Asked c = record {
       let is : IsFocus c.args.code.now c.args.machine.now.asked.label.text ns own (focus.Asked c.in-Asked.count) t =
       subst (λ (f : Focus). IsFocus c.args.code.now c.args.machine.now.asked.label.text ns (last (taken f) ops) f t) c.in-Asked.is stands in
       let own_is : c.last_of-own-in-Asked.result.now ≡ own = c.last_of-own-in-Asked.ensures.places ∙ ap (last c.in-Asked.count) c.deref-in-Asked.ensures.value in
-      if_ok c.call_of.result (λ (r : Term). tree_of r ≡ node (Call c.args.machine.now.asked.label.text) (trees (map loc c.last_of-own-in-Asked.result.now))) (λ (r : Term). tree_of r ≡ t)
-      (λ r h. h ∙ ap (λ (l : List ℕ). node (Call c.args.machine.now.asked.label.text) (trees (map loc l))) own_is ∙ ap (node (Call c.args.machine.now.asked.label.text)) (locs_alone own) ∙ sym is)
+      let given : List Tree = map loc c.last_of-own-in-Asked.result.now in
+      if_ok c.call_of.result (λ (r : Term). tree_of r ≡ node (Call c.as_label.result.now.text) (trees given)) (λ (r : Term). tree_of r ≡ t)
+      (λ r h. h ∙ ap (λ (l : Label). node (Call l.text) (trees given)) c.as_label.ensures.label
+      ∙ ap (λ (l : List ℕ). node (Call c.args.machine.now.asked.label.text) (trees (map loc l))) own_is ∙ ap (node (Call c.args.machine.now.asked.label.text)) (locs_alone own) ∙ sym is)
       c.call_of.ensures.call;
 }
 

@@ -34,7 +34,7 @@ returns c = record {
       let first : map tree_of c.push.new.self.items ≡ st.inner ∷ [] =
       ap (map tree_of) (c.in_ok-push.ensures.items ∙ (λ i. c.new-first.ensures.items i ++ c.in_ok-focus_term.field-0 ∷ [])) ∙ (λ i. inner i ∷ []) in
       let futures : reverse (map (option_map held_future) c.deref-4.result.now) ≡ futures_of segment.left =
-      ap (λ (held : List (Option (Arc Future Global))). reverse (map (option_map held_future) held)) c.deref-4.ensures.value ∙ st.futures ∙ segment.futures in
+      ap (λ (held : List (Option (Arc Future Global))). reverse (map (option_map held_future) held)) c.deref-4.ensures ∙ st.futures ∙ segment.futures in
       record {
         contexts = contexts_of items;
         inner = st.inner;
