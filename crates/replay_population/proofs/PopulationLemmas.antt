@@ -417,6 +417,18 @@ if_ok_with (Err e) P Q X f h k = tt
 
 -- Members that are passed
 
+none_under : (es : List (ℕ × ℕ)) (k : ℕ) → length es ≡ 0 → lookup (is_at (nat_cmp k)) es ≡ None
+none_under [] k e = refl
+none_under (x ∷ es) k e = absurd (omega (arith, e))
+
+-- where nothing is noted, nothing is noted of anyone
+pub none_passed : (p : Population) (n : Name) → length p.passed.entries ≡ 0 → passed_in p n ≡ None
+none_passed p n e = by (number_of n p.roster)
+  where
+    by : (o : Option ℕ) → at_number o (λ k. lookup (is_at (nat_cmp k)) p.passed.entries) ≡ None
+    by None = refl
+    by (Some k) = none_under p.passed.entries k e
+
 -- what is noted was noted before, or is this
 pub passing : (old : Population) (t : Passed) (n : Name) (k passed : ℕ) → number_of n old.roster ≡ Some k → trees.Updates nat_cmp old.passed t k (Some passed) → IsPassing old n passed (record old { passed = t })
 passing old t n k passed here u = record { same = refl; noted = λ m j is. by m j (number_of m old.roster) refl is }

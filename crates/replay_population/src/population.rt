@@ -258,6 +258,9 @@ impl Population {
         ensures forgotten { (n : Name) → number_of n self.old.roster ≡ Some number →
             IsForgotten self.old n self.new }
     {
+        if self.passed.is_empty() {
+            return 0;
+        }
         self.passed.remove(&number).unwrap_or(0)
     }
 
