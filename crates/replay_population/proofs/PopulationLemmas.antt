@@ -1,5 +1,5 @@
 -- What the changes of a population leave of it.
-use Rattle.std.proofs.Common.{◌≡◌, ◌≢◌, ◌⊎◌, ◌<◌, ◌≤◌, ◌∷◌, ◌++◌, [], true, false, List, Option, Some, None, Ok, Err, Result, IfOk, OnOk, length, map, refl, sym, ap, subst, ◌∙◌, ⊎_elim, inl, inr, ℕ, ◌+◌, arith}
+use Rattle.std.proofs.Common.{◌≡◌, ◌≢◌, ◌⊎◌, ◌<◌, ◌≤◌, ◌∷◌, ◌++◌, [], true, false, List, Option, Some, None, Ok, Err, Result, IfOk, OnOk, length, set, slice_get, zero, suc, map, refl, sym, ap, subst, ◌∙◌, ⊎_elim, inl, inr, ℕ, ◌+◌, arith}
 use Rattle.std.proofs.lemmas.Bool.{cases_lt}
 use Rattle.std.proofs.lemmas.Map.{update_all_push, update_other, update_same}
 use Rattle.std.specs.FinMap.{find, put}
@@ -29,7 +29,7 @@ use Rattle.step_reads.specs.Values.{AreClosedValues}
 use Rattle.step_activity.specs.declared.actor.Actor.{Actor}
 use Rattle.step_activity.specs.declared.act.Given.{Given}
 use Rattle.step_activity.specs.declared.act.Given.TheVariants as given
-use Rattle.step_activity.specs.Effects.{IsLogAfter}
+use Rattle.step_activity.specs.Effects.{IsDoneBy, IsGiven, IsGivenOf, IsLogAfter}
 use Rattle.step_activity.specs.Actors.{IsClosedFor, Stands, code_of, log_in}
 use Rattle.replay_population.specs.declared.population.Population.{Population}
 use Rattle.std.specs.Ordering.{is_eq, nat_cmp}
@@ -38,7 +38,7 @@ use Rattle.std.specs.declared.cmp.Ordering.TheVariants.{Equal}
 use Rattle.asp_model.specs.Order.{equal_order}
 use Rattle.def_journals.specs.Journals.{number_of}
 use Rattle.replay_population.specs.Roster.{IsEntered, IsRoster}
-use Rattle.replay_population.specs.Population.{AreActorsOf, IsClosedPopulation, IsPassing, IsPopulation, IsSet, KeepsPassed, at_number, found_in, passed_in, seat_at, unboxed, with_activity, with_poll, with_request, with_value}
+use Rattle.replay_population.specs.Population.{AreActorsOf, IsClosedPopulation, IsGivenIn, IsPassing, IsPopulation, IsSet, KeepsPassed, at_number, found_in, passed_in, seat_at, seated, unboxed, with_activity, with_poll, with_request, with_value}
 use Rattle.replay_population.proofs.ColumnLemmas.{number_case}
 use Rattle.replay_population.proofs.RosterLemmas.{number_within, one_name, other_number}
 use Rattle.step_ends.specs.Activities.{StandsAt}
@@ -104,6 +104,35 @@ put_back p mid q n k x here out back =
       found_at q n k now ∙ back.here,
       λ m d. others_found p.roster q.roster p.activities.items q.activities.items n m k now (ap (number_of m) roster) d (λ j e. back.others j e ∙ out.others j e),
     )
+
+-- one is changed in its seat
+pub put_at : (p q : Population) (n : Name) (k : ℕ) (x : Actor) → number_of n p.roster ≡ Some k → IsSet p k (Some x) q → IsPut p q n x
+put_at p q n k x here set =
+    let roster : q.roster ≡ p.roster = ap (λ (r : Population). r.roster) set.same in
+    let now : number_of n q.roster ≡ Some k = ap (number_of n) roster ∙ here in (
+      found_at q n k now ∙ set.here,
+      λ m d. others_found p.roster q.roster p.activities.items q.activities.items n m k now (ap (number_of m) roster) d set.others,
+    )
+
+set_here : {A : Type 0} (xs : List A) (k : ℕ) (x : A) → k < length xs → slice_get (set xs k x) k ≡ Some x
+set_here [] k x lt = absurd (omega (arith, lt))
+set_here (y ∷ ys) zero x lt = refl
+set_here (y ∷ ys) (suc k) x lt = set_here ys k x (omega (arith, lt))
+
+set_other : {A : Type 0} (xs : List A) (k j : ℕ) (x : A) → j ≢ k → slice_get (set xs k x) j ≡ slice_get xs j
+set_other [] k j x ne = refl
+set_other (y ∷ ys) zero zero x ne = absurd (ne refl)
+set_other (y ∷ ys) zero (suc j) x ne = refl
+set_other (y ∷ ys) (suc k) zero x ne = refl
+set_other (y ∷ ys) (suc k) (suc j) x ne = set_other ys k j x (λ e. ne (ap suc e))
+
+-- a seat is written
+pub seat_set : (p q : Population) (k : ℕ) (y : Box Actor) → k < length p.activities.items → q ≡ record p { activities = q.activities } → q.activities.items ≡ set p.activities.items k (Some y) → IsSet p k (Some y.value) q
+seat_set p q k y lt same items = record {
+  same = same;
+  here = ap (λ xs. seat_at xs k) items ∙ ap seated (set_here p.activities.items k (Some y) lt);
+  others = λ j d. ap (λ xs. seat_at xs j) items ∙ ap seated (set_other p.activities.items k j (Some y) d);
+}
 
 pub roster_back : (p mid q : Population) (k : ℕ) (o r : Option Actor) → IsSet p k o mid → IsSet mid k r q → q.roster ≡ p.roster
 roster_back p mid q k o r out back = ap (λ (r : Population). r.roster) back.same ∙ ap (λ (r : Population). r.roster) out.same
@@ -388,6 +417,23 @@ nobody_acts p c n e h is intends =
     let t = acting c n e intends in
     let s = there_found p c n t.0 h t.1 in
     no_some (sym is ∙ s.1)
+
+-- one acts in its seat
+pub acted : {E : Type 0} (r : Result Given E) (p q : Population) (c : Configuration) (e : Effect) (n m : Name) (k : ℕ) (x new : Actor) → IsPopulation p c → number_of n p.roster ≡ Some k → intent_in c n ≡ Acts e → seat_at p.activities.items k ≡ Some x → IsSet p k (Some new) q → m ≡ n
+    → ((a : model.Activity) (rs : List RequestShape) → Stands x a rs → IfOk r (IsDoneBy m (intent (chase (values_of p.futures)) rs m a) rs new)) → IfOk r (IsLogAfter (log_in x) (log_in new)) → IfOk r (IsGivenOf (code_of x)) → code_of new ≡ code_of x
+    → IfOk r (λ g. IsGiven n e g × IsGivenIn q (with_poll n g (with_activity n e.own c)) g)
+acted (Err b) p q c e n m k x new h has intends seat set name acts log coded same = tt
+acted (Ok g) p q c e n m k x new h has intends seat set name acts log coded same =
+    let rs : List RequestShape = requests_of c n in
+    let is : found_in p n ≡ Some x = found_at p n k has ∙ seat in
+    let t = acts_as p c n e x h is intends in
+    let code : code_of x ≡ h.code = h.actors n x is in
+    let intended : intent (chase (values_of p.futures)) rs m t.0 ≡ Acts e = ap (λ (w : Name). intent (chase (values_of p.futures)) rs w t.0) name ∙ t.2 in
+    let d = subst (λ (w : Name). IsDoneBy w (Acts e) rs new g) name (subst (λ i. IsDoneBy m i rs new g) intended (acts t.0 rs t.1)) in
+    let roster : q.roster ≡ p.roster = ap (λ (r : Population). r.roster) set.same in
+    let futures : q.futures ≡ p.futures = ap (λ (r : Population). r.futures) set.same in
+    let there = given_there p q c n new e.own g (log_in x) h (put_at p q n k new has set) (subst IsRoster (sym roster) h.roster) futures d.0 (h.logs n x is) log (same ∙ code) in
+    (d.1, record { population = there.0; coded = subst (λ j. IsGivenOf j g) (code ∙ sym there.1) coded })
 
 pub if_ok : {T E : Type 0} (r : Result T E) (P Q : T → Type 0) → ((t : T) → P t → Q t) → IfOk r P → IfOk r Q
 if_ok (Ok t) P Q f h = f t h

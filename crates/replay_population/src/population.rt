@@ -173,13 +173,17 @@ impl Population {
         ensures roster { OnOk result (self.new.roster ≡ self.old.roster) }
         ensures passed { OnOk result (KeepsPassed self.old self.new) }
     {
-        let Some(mut boxed) = self.take(number) else {
+        let place = number as usize;
+        if place >= self.activities.len() {
             return Ok(Given::Nothing);
-        };
-        let name = self.roster.name(number);
-        let given = boxed.as_mut().act_found(alloc, name, &self.futures, found)?;
-        self.put(number, boxed)?;
-        Ok(given)
+        }
+        match &mut self.activities[place] {
+            Some(actor) => {
+                let name = self.roster.name(number);
+                actor.as_mut().act_found(alloc, name, &self.futures, found)
+            }
+            None => Ok(Given::Nothing),
+        }
     }
 
     /// An activity that is made. Its number is answered.
