@@ -56,7 +56,7 @@ is_below k l lt = elim (nat_lt k l) as (λ b. nat_lt k l ≡ b → b ≡ true) [
 not_below : (k l : ℕ) → l ≤ k → nat_lt k l ≡ false
 not_below k l le = false_from_ne_true (nat_lt k l) (λ h. absurd (omega (arith, le, ltb-true k l h)))
 
-none_named : (n : Name) (ks : List Name) → (0 < length ks → ⊥) → list_any (is_at (name_cmp n)) ks ≡ false
+pub none_named : (n : Name) (ks : List Name) → (0 < length ks → ⊥) → list_any (is_at (name_cmp n)) ks ≡ false
 none_named n [] h = refl
 none_named n (k ∷ ks) h = absurd (h (omega arith))
 
@@ -258,6 +258,20 @@ lesser_by r f q false e has low = λ m named. none_lesser f m q (sym e) (above m
 pub first_by : (ns : List Name) (r : Ready) (k : ℕ) (q : Name) (b : Bool) → IsLeastOf r.numbers k → number_of q ns ≡ Some k → IsLesser r q b → IsNumberFirst ns r (not b)
 first_by ns r k q true least has lesser = inr (k, q, has, least.1, lesser)
 first_by ns r k q false least has lesser = (k, least, λ lt. (q, has, lesser))
+
+-- where nobody stands by a name
+
+pub first_alone : (ns : List Name) (r : Ready) (k : ℕ) → IsRoster ns → Ascend r.ordered ns → ((m : Name) → is_named r m ≡ false) → IsLeastOf r.numbers k → IsNumberFirst ns r true
+first_alone ns r k sound ascend none least = (
+  k,
+  least,
+  λ lt.
+      let q : Name = get_or ns k main_name in
+      (q, sound.numbers k q (slice_get-get_or ns k main_name (omega (arith, lt, ascend.within))), λ m named. absurd (true_false (is_named r m) named (none m))),
+)
+
+pub nobody_alone : (ns : List Name) (r : Ready) → ((i : ℕ) → holds r.numbers i ≡ false) → ((m : Name) → is_named r m ≡ false) → (m : Name) → is_ready ns r m ≡ false
+nobody_alone ns r empty none m = neither (is_marked r (number_of m ns)) (is_named r m) (false_from_ne_true (is_marked r (number_of m ns)) (λ e. let y = marked_number r (number_of m ns) e in true_false (holds r.numbers y.0) y.3 (empty y.0))) (none m)
 
 -- where more names have numbers
 pub ready_names : (ns ms : List Name) (r : Ready) (m : Name) → ((k : ℕ) → number_of m ns ≡ Some k → number_of m ms ≡ Some k) → is_ready ns r m ≡ true → is_ready ms r m ≡ true

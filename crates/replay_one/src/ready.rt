@@ -1,8 +1,9 @@
 //! Who may be able to step.
 
 ghost use Rattle.std.specs.Prelude.{◌≡◌, ◌<◌, OnOk, false, length, true};
+ghost use Rattle.asp_model.specs.Names.{Name};
 ghost use Rattle.replay_population.specs.Roster.{IsRoster};
-ghost use Rattle.replay_one.specs.Ready.{Ascend, IsAdded, IsLeast, IsLesser, IsNumberFirst};
+ghost use Rattle.replay_one.specs.Ready.{Ascend, IsAdded, IsLeast, IsLesser, IsNumberFirst, is_named};
 
 use crate::numbers::Numbers;
 use asp_model::ActivityName;
@@ -109,6 +110,21 @@ impl Ready {
         }
     }
 
+    /// The first of those who stand by their numbers leaves, where nobody stands by a name.
+    fn take_alone(&mut self, roster: &Roster) -> Least
+        requires sound { IsRoster roster.now }
+        requires ascending { Ascend self.old.ordered roster.now }
+        requires alone { (m : Name) → is_named self.old m ≡ false }
+        ensures least { IsLeast roster.now self.old result self.new }
+        ensures ordered { self.new.ordered ≡ self.old.ordered }
+    {
+        match self.numbers.take_first() {
+            Some(number) if number < self.ordered => Least::One(number),
+            Some(_) => Least::Unknown,
+            None => Least::Nobody,
+        }
+    }
+
     /// The least of those who are ready leaves.
     pub fn take_least(&mut self, roster: &Roster) -> Least
         requires sound { IsRoster roster.now }
@@ -116,7 +132,9 @@ impl Ready {
         ensures least { IsLeast roster.now self.old result self.new }
         ensures ordered { self.new.ordered ≡ self.old.ordered }
     {
-        if self.is_number_first(roster) {
+        if self.others.is_empty() {
+            self.take_alone(roster)
+        } else if self.is_number_first(roster) {
             self.take_number(roster)
         } else {
             self.take_other(roster)
