@@ -1,6 +1,7 @@
 use Rattle.std.proofs.Common.{◌≡◌, ◌∙◌, true, Some, None, OnOk, List, refl, ap, slice_get, sym, subst}
 use Rattle.asp_model.specs.Names.{Name}
 use Rattle.asp_model.specs.Shapes.{future_shape}
+use Rattle.asp_model.specs.declared.word.Label.{Label}
 use Rattle.code_table.specs.Cells.{held_future}
 use Rattle.code_table.specs.declared.future.Future.{Future}
 use Rattle.request_queue.specs.Requests.{request_shape}
@@ -15,7 +16,7 @@ use Rattle.replay_one.specs.Bounds.{lists_within}
 use Rattle.replay_population.specs.Population.{AreActorsOf, IsPopulation, with_activity, with_poll, with_request}
 use Rattle.replay_population.specs.Giving.{IsGiving}
 use Rattle.replay_population.specs.Roster.{IsEntered}
-use Rattle.replay_one.specs.Schedule.{IsMoreReady, Seen, noted_in, ready_in, seen, sends_in}
+use Rattle.replay_one.specs.Schedule.{IsMoreReady, Seen, asks_in, noted_in, ready_in, seen, sends_in}
 use Rattle.replay_population.proofs.RosterLemmas.{number_within}
 use Rattle.replay_one.proofs.ScheduleLemmas.{handed_by, more_names, more_twice}
 use Rattle.replay_one.proofs.GiveLemmas.{filled_handed, made_handed, no_target, nothing_handed, polled_handed, sent_handed, target_number}
@@ -105,7 +106,7 @@ returns-in_ok-send-in-Sent c =
           let next : (m : Name) → IsNextIn lists (with_effect n e k) name m → sends_in v m name ≡ true → OnOk c.wake_next.result (ready_in t m ≡ true) =
           λ m i. c.wake_next.ensures.next d name m population now there (subst (λ c'. IsNextIn lists c' name m) (sym (sent_is p n k e name r g)) i) in
           handed_by c.wake_next.result (IsMoreReady v None t) (λ m. IsNextIn lists (with_effect n e k) name m × (sends_in v m name ≡ true)) (λ m. ready_in t m ≡ true) _
-          (λ more woken. sent_handed p n k e lists s v t name r g (subst (IsMoreReady s None) (sym same) c.in_ok-wake_server-in-Sent.ensures.more) (λ a. subst (λ (w : Seen). ready_in w name ≡ true) (sym same) (c.in_ok-wake_server-in-Sent.ensures.ready name target a)) more (λ m i a. woken m (i, a)))
+          (λ more woken. sent_handed p n k e lists s v t name r g (subst (IsMoreReady s None) (sym same) c.in_ok-wake_server-in-Sent.ensures.more) (λ a. subst (λ (w : Seen). ready_in w name ≡ true) (sym same) (c.in_ok-wake_server-in-Sent.ensures.ready name target (subst (λ (l : Label). asks_in s name l.text ≡ true) (sym c.as_label.ensures.label) a))) more (λ m i a. woken m (i, a)))
           c.wake_next.ensures.more (λ m x. next m x.0 x.1);
       leads = any_way c.wake_next.result _ (λ j m h. ap (λ (ns : List Name). slice_get ns j) roster ∙ h);
       passed = any_way c.wake_next.result _ c.in_ok-send-in-Sent.ensures.passed;
