@@ -15,8 +15,8 @@ module _ {P : Type 0} where
   IsReservedFor x l = (s : RunShape) → IsRun x s → l.rounds * MOST_GRANTED ≤ s.left
 
   -- the journal has two entries more, the commit of the whole grant and the next lend, and the core is its run
-  pub record IsRenewedIn (old : Core P) (s : RunShape) (l : LongLease) (lease : IsLongLease (history_of old) (code_of old) l)
-      (new : Core P) (now : LongLease) : Type 0 where
+  pub record IsRenewedIn (old : Core P) (s : RunShape) (l : LongLease)
+      (lease : IsLongLease (history_of old) (code_of old) l) (new : Core P) (now : LongLease) : Type 0 where
     pub by : IsRenewedBy (history_of old) (code_of old) s l lease new.state now
     pub entered : history_of new ≡ with_renewal (history_of old) l.lease.number l.lease.grant
     pub run : IsRun new (renewed s l.lease.number lease.name by.renewal.here)

@@ -16,14 +16,15 @@ abbrev pub with_renewal : HistoryShape → (k grant : ℕ) → HistoryShape
 with_renewal h k grant = with_entry (with_entry h (Committed k grant)) (Lent k)
 
 -- the core stands for the run with both entries, and what is left of the lease is out by them
-pub record IsRenewedBy (h : HistoryShape) (code : List Node) (s : RunShape) (old : LongLease) (l : IsLongLease h code old)
-    (y : CoreState) (new : LongLease) : Type 0 where
+pub record IsRenewedBy (h : HistoryShape) (code : List Node) (s : RunShape) (old : LongLease)
+    (l : IsLongLease h code old) (y : CoreState) (new : LongLease) : Type 0 where
   -- what it took, and from where
   pub end : Activity
   pub has_run : HasRun s old.lease.number old.lease.grant l.name old.lease.taken end
   pub from : has_run.activity ≡ l.activity
   pub renewal : IsRenewed s old.lease.number old.lease.grant l.name old.lease.taken l.activity end
-  pub core : IsCore (with_renewal h old.lease.number old.lease.grant) code y (renewed s old.lease.number l.name renewal.here)
+  pub core : IsCore (with_renewal h old.lease.number old.lease.grant) code y
+      (renewed s old.lease.number l.name renewal.here)
   pub lease : IsLongLease (with_renewal h old.lease.number old.lease.grant) code new
   pub number : new.lease.number ≡ old.lease.number
   pub taken : new.lease.taken ≡ old.lease.taken - old.lease.grant
@@ -33,4 +34,5 @@ pub record IsRenewedBy (h : HistoryShape) (code : List Node) (s : RunShape) (old
 
 -- somebody has such a lease of this core
 abbrev pub IsSomeLongLease : CoreState → LongLease → Type 0
-IsSomeLongLease x l = (h : HistoryShape) × (code : List Node) × (s : RunShape) × IsCore h code x s × IsLongLease h code l
+IsSomeLongLease x l = (h : HistoryShape) × (code : List Node) × (s : RunShape) × IsCore h code x s
+    × IsLongLease h code l

@@ -19,7 +19,8 @@ pub(crate) fn receive_all(
     actor: &mut Actor,
     came: Vec<Request>,
 ) -> Result<(), AllocError>
-    requires code { AllByRecursion (λ r. arc_value r.arguments.code ≡ code_of actor.old) came.items }
+    requires code { let code = code_of actor.old in
+        AllByRecursion (λ r. arc_value r.arguments.code ≡ code) came.items }
     ensures stands { (a : model.Activity) (rs : List RequestShape) → Stands actor.old a rs →
         OnOk result (Stands actor.new a (rs ++ map request_shape came.items)) }
     ensures code { code_of actor.new ≡ code_of actor.old }

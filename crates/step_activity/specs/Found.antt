@@ -16,4 +16,5 @@ IsFound wanted a rs (Some k) = Some k ≡ option_map (λ x. x.0) (oldest_match w
 
 -- it has one of the labels that the actor asks for where it stands
 abbrev pub IsFoundFor : Actor → Option ℕ → Type 0
-IsFoundFor x found = (a : model.Activity) (rs : List RequestShape) → Stands x a rs → IsFound (labels_wanted a) a rs found
+IsFoundFor x found = (a : model.Activity) (rs : List RequestShape) → Stands x a rs
+    → IsFound (labels_wanted a) a rs found

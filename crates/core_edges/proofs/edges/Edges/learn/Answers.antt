@@ -16,7 +16,7 @@ returns-then-eq-clause-learned g c =
     let told = subst (λ (f : FutureName). trees.UpdatesBy future_order (future_order f) old.strategies c.remove-other.new.self None) (ap (λ (f : Future). f.name) c.deref.ensures) c.remove-other.ensures.updates in
     record {
       here = ap (or_strategy old.plan.strategy) told.1 ∙ sym usual ∙ c.strategy_of-strategy.ensures.strategy
-      ∙ ap (λ (l : Label). strategy_by (plan_shape old.plan) l.text) c.as_label.ensures.label;
+          ∙ ap (λ (l : Label). strategy_by (plan_shape old.plan) l.text) c.as_label.ensures.label;
       others = others_keep old.plan.strategy old.strategies c.remove-other.new.self future None told;
     }
 
@@ -28,6 +28,6 @@ returns-clause-learned g c =
     let told = subst (λ (f : FutureName). trees.UpdatesBy future_order (future_order f) old.strategies c.insert.new.self (Some c.strategy_of-strategy.result)) named c.in_ok-insert.ensures.updates in
     record {
       here = ap (or_strategy old.plan.strategy) told.1 ∙ c.strategy_of-strategy.ensures.strategy
-      ∙ ap (λ (l : Label). strategy_by (plan_shape old.plan) l.text) c.as_label.ensures.label;
+          ∙ ap (λ (l : Label). strategy_by (plan_shape old.plan) l.text) c.as_label.ensures.label;
       others = others_keep old.plan.strategy old.strategies c.insert.new.self future (Some c.strategy_of-strategy.result) told;
     }

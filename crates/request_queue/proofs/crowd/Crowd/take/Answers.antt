@@ -23,7 +23,7 @@ invariant_of-self c =
       below = subst (λ m. AreBelow m new.pending) (sym c.take-request.ensures.arrived) (subst (AreBelow c.self.inside.requests.arrived) (sym gone) (below_less c.self.inside.requests.arrived (is_at (nat_cmp n)) es c.self.invariant.below));
       noted = notes_less c.self.inside.notes c.forget.new.self n r es new.pending c.take-request.ensures.taken c.self.invariant.noted
           (subst (λ (m : Label). (l : Label) (k : ℕ) → is_noted c.forget.new.self l k ≡ cond (is_that m n l k) false (is_noted c.self.inside.notes l k))
-              (c.as_label.ensures.label ∙ ap (λ (x : Request). x.label) c.deref.ensures) c.forget.ensures.forgotten)
+          (c.as_label.ensures.label ∙ ap (λ (x : Request). x.label) c.deref.ensures) c.forget.ensures.forgotten)
           (λ k. ap (request_at k) gone ∙ found_less n es c.self.invariant.ordered k);
     }
 
