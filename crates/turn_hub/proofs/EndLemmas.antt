@@ -17,7 +17,7 @@ use Rattle.turn_hub.proofs.TotalLemmas.{total_two, total_alone}
 use Rattle.turn_hub.proofs.ViewLemmas.{Homes, not_owner}
 use Rattle.turn_hub.proofs.JoiningLemmas.{nothing_of}
 
-module _ {H : Type 0} (history : H → HistoryShape) (out : H → ℕ → Option (ℕ × ℕ)) (keeps : H → H → Type 0) (seats : ℕ) where
+module _ {H : Type 0} (history : H → HistoryShape) (out : H → ℕ → Option (ℕ × ℕ × ℕ)) (keeps : H → H → Type 0) (seats : ℕ) where
   only_view : (v : View H) (j : ℕ) (u : View H) → get_elem? (v ∷ []) j ≡ some u → v ≡ u
   only_view v zero u found = some-injective v u found
   only_view v (suc j) u found = absurd (some-ne-none u (sym found))

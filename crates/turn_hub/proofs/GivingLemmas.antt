@@ -18,19 +18,19 @@ use Rattle.turn_hub.proofs.NumberLemmas.{times_here, times_none, own_there, once
 use Rattle.turn_hub.proofs.TotalLemmas.{total_at, total_two}
 use Rattle.turn_hub.proofs.ViewLemmas.{Shelf, Homes, shelf, view_set}
 
-module _ {H : Type 0} (history : H → HistoryShape) (out : H → ℕ → Option (ℕ × ℕ)) where
+module _ {H : Type 0} (history : H → HistoryShape) (out : H → ℕ → Option (ℕ × ℕ × ℕ)) where
   -- what the value says of numbers that the change does not concern
   module _ (h old : H) (k : ℕ) (same : (n : ℕ) → n ≢ k → out h n ≡ out old n) where
     nothing_kept : (ns : List ℕ) → times k ns ≡ 0 → NothingOut history out old ns → NothingOut history out h ns
     nothing_kept [] away x = tt
     nothing_kept (n ∷ ns) away x = (same n (times_none k n ns away) ∙ x.0, nothing_kept ns (omega arith) x.1)
 
-    has_out_kept : (ns : List ℕ) (o : Option (ℕ × ℕ)) → times k ns ≡ 0 → HasOut history out old ns o → HasOut history out h ns o
+    has_out_kept : (ns : List ℕ) (o : Option (ℕ × ℕ × ℕ)) → times k ns ≡ 0 → HasOut history out old ns o → HasOut history out h ns o
     has_out_kept [] o away x = tt
     has_out_kept (n ∷ ns) o away x = (same n (times_none k n ns away) ∙ x.0, nothing_kept ns (omega arith) x.1)
 
   -- of the numbers of the one that gives, its own has what the value says, and the others nothing
-  has_out_settled : (h old : H) (ns : List ℕ) (o : Option (ℕ × ℕ)) → ((n : ℕ) → n ≢ own ns → out h n ≡ out old n) → times (own ns) ns ≤ 1 → HasOut history out old ns o → HasOut history out h ns (out h (own ns))
+  has_out_settled : (h old : H) (ns : List ℕ) (o : Option (ℕ × ℕ × ℕ)) → ((n : ℕ) → n ≢ own ns → out h n ≡ out old n) → times (own ns) ns ≤ 1 → HasOut history out old ns o → HasOut history out h ns (out h (own ns))
   has_out_settled h old [] o same once x = tt
   has_out_settled h old (n ∷ ns) o same once x = let here = times_here n ns in (refl, nothing_kept h old n same ns (omega arith) x.1)
 

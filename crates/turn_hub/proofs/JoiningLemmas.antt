@@ -12,7 +12,7 @@ use Rattle.turn_hub.proofs.NumberLemmas.{times-append, length_both}
 use Rattle.turn_hub.proofs.TotalLemmas.{total-set}
 use Rattle.turn_hub.proofs.ViewLemmas.{Shelf, not_owner, place_kept}
 
-module _ {H : Type 0} (history : H → HistoryShape) (out : H → ℕ → Option (ℕ × ℕ)) where
+module _ {H : Type 0} (history : H → HistoryShape) (out : H → ℕ → Option (ℕ × ℕ × ℕ)) where
   tells_append : (h : H) (fs gs : List HistoryShape) → Tells history out h fs → Tells history out h gs → Tells history out h (fs ++ gs)
   tells_append h [] gs x y = y
   tells_append h (f ∷ fs) gs x y = (x.0, tells_append h fs gs x.1 y)
@@ -27,11 +27,11 @@ module _ {H : Type 0} (history : H → HistoryShape) (out : H → ℕ → Option
   nothing_append h (m ∷ ms) ns x y = (x.0, nothing_append h ms ns x.1 y)
 
   -- one that has nothing out, has nothing out under any of its numbers
-  pub nothing_of : (h : H) (ns : List ℕ) (o : Option (ℕ × ℕ)) → o ≡ None → HasOut history out h ns o → NothingOut history out h ns
+  pub nothing_of : (h : H) (ns : List ℕ) (o : Option (ℕ × ℕ × ℕ)) → o ≡ None → HasOut history out h ns o → NothingOut history out h ns
   nothing_of h [] o is x = tt
   nothing_of h (n ∷ ns) o is x = (x.0 ∙ is, x.1)
 
-  has_out_append : (h : H) (ms ns : List ℕ) (o : Option (ℕ × ℕ)) → 0 < length ms → HasOut history out h ms o → NothingOut history out h ns → HasOut history out h (ms ++ ns) o
+  has_out_append : (h : H) (ms ns : List ℕ) (o : Option (ℕ × ℕ × ℕ)) → 0 < length ms → HasOut history out h ms o → NothingOut history out h ns → HasOut history out h (ms ++ ns) o
   has_out_append h [] ns o some_number x y = absurd (omega arith)
   has_out_append h (m ∷ ms) ns o some_number x y = (x.0, nothing_append h ms ns x.1 y)
 
@@ -46,7 +46,7 @@ after_join {H = H} s id other both P at_spent at_both before j u found = ⊎_eli
     (at_set s.views id j both u t.1))
     (at_set (set s.views id both) other j spent_view u found)
 
-pub joins : {H : Type 0} (history : H → HistoryShape) (out : H → ℕ → Option (ℕ × ℕ)) (keeps : H → H → Type 0) (first : H) (seats id : ℕ) (v : View H) (other : ℕ) (w : View H) → v.taken ≡ None → w.taken ≡ None → w.out ≡ None
+pub joins : {H : Type 0} (history : H → HistoryShape) (out : H → ℕ → Option (ℕ × ℕ × ℕ)) (keeps : H → H → Type 0) (first : H) (seats id : ℕ) (v : View H) (other : ℕ) (w : View H) → v.taken ≡ None → w.taken ≡ None → w.out ≡ None
     → 0 < length v.numbers → 0 < length w.numbers → Joins (IsShared history out keeps first seats) id v other w (joined_view v w) spent_view
 joins {H = H} history out keeps first seats id v other w v_idle w_idle w_in v_live w_live s r at ne at_other =
     let both = joined_view v w in

@@ -11,8 +11,8 @@ use Rattle.turn_hub.specs.Sharing.{HasOut, Covers, IsAway, IsShared, kept_number
 use Rattle.turn_hub.proofs.TotalLemmas.{total-set, total-snoc}
 use Rattle.turn_hub.proofs.ViewLemmas.{Shelf, not_owner, place_kept}
 
-module _ {H : Type 0} (history : H → HistoryShape) (out : H → ℕ → Option (ℕ × ℕ)) where
-  has_out_cut : (ns : List ℕ) (h : H) (o : Option (ℕ × ℕ)) → 1 < length ns → HasOut history out h ns o → HasOut history out h (kept_numbers ns) o × HasOut history out h (cut_numbers ns) None
+module _ {H : Type 0} (history : H → HistoryShape) (out : H → ℕ → Option (ℕ × ℕ × ℕ)) where
+  has_out_cut : (ns : List ℕ) (h : H) (o : Option (ℕ × ℕ × ℕ)) → 1 < length ns → HasOut history out h ns o → HasOut history out h (kept_numbers ns) o × HasOut history out h (cut_numbers ns) None
   has_out_cut [] h o two x = absurd (omega arith)
   has_out_cut (n ∷ []) h o two x = absurd (omega arith)
   has_out_cut (n ∷ k ∷ ns) h o two x = ((x.0, x.1.1), (x.1.0, tt))
@@ -38,7 +38,7 @@ after_cut s id left right P at_left at_right before j u found = ⊎_elim
     (λ (is : right ≡ u). subst (P j) is (at_right j))
     (at_snoc (set s.views id left) right u j found)
 
-pub splits : {H : Type 0} (history : H → HistoryShape) (out : H → ℕ → Option (ℕ × ℕ)) (keeps : H → H → Type 0) (first : H) (seats id : ℕ) (v : View H) → v.taken ≡ None → 1 < length v.numbers → Splits (IsShared history out keeps first seats) id v (kept_view v) (cut_view v)
+pub splits : {H : Type 0} (history : H → HistoryShape) (out : H → ℕ → Option (ℕ × ℕ × ℕ)) (keeps : H → H → Type 0) (first : H) (seats id : ℕ) (v : View H) → v.taken ≡ None → 1 < length v.numbers → Splits (IsShared history out keeps first seats) id v (kept_view v) (cut_view v)
 splits {H = H} history out keeps first seats id v idle two s r at =
     let left = kept_view v in
     let right = cut_view v in

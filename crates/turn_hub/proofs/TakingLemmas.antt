@@ -9,7 +9,7 @@ use Rattle.turn_hub.specs.declared.view.View.{View}
 use Rattle.turn_hub.specs.Sharing.{Covers, IsHome, IsAway, IsKept, IsShared, tried}
 use Rattle.turn_hub.proofs.ViewLemmas.{Shelf, Homes, shelf, is_there, view_set}
 
-module _ {H : Type 0} (history : H → HistoryShape) (out : H → ℕ → Option (ℕ × ℕ)) (like : H → H → Type 0) (first : H) (seats : ℕ) where
+module _ {H : Type 0} (history : H → HistoryShape) (out : H → ℕ → Option (ℕ × ℕ × ℕ)) (like : H → H → Type 0) (first : H) (seats : ℕ) where
   abbrev Rule : Shelf H → Type 0
   Rule = IsShared history out like first seats
 

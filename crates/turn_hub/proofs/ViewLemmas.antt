@@ -29,7 +29,7 @@ Homes H = List (maybe.Option (Option H))
 abbrev pub shelf : {H : Type 0} → List ℕ → Homes H → List (View H) → Shelf H
 shelf words homes views = record { words = words; homes = homes; views = views }
 
-module _ {H : Type 0} (history : H → HistoryShape) (out : H → ℕ → Option (ℕ × ℕ)) where
+module _ {H : Type 0} (history : H → HistoryShape) (out : H → ℕ → Option (ℕ × ℕ × ℕ)) where
   -- the owner of the turn is none of the seats that do not have it
   pub not_owner : (s : Shelf H) (h : H) (away : IsAway history out h s) (id : ℕ) (v : View H) → v.taken ≡ None → get_elem? s.views id ≡ some v → away.owner ≢ id
   not_owner s h away id v idle at same =

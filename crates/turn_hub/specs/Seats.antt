@@ -36,8 +36,8 @@ module _ {H : Type 0} where
   abbrev pub seen_by : Seat H → HistoryShape
   seen_by seat = seat.place.me.0.seen
 
-  -- the number and the burst of the lease that the seat has out
-  abbrev pub out_with : Seat H → Option (ℕ × ℕ)
+  -- the number and the burst of the lease that the seat has out, and how many grants are kept for it
+  abbrev pub out_with : Seat H → Option (ℕ × ℕ × ℕ)
   out_with seat = seat.place.me.0.out
 
   -- the value as it was taken, where the seat has the turn
@@ -75,10 +75,10 @@ module _ {H : Type 0} where
   AllKnown history h seats = All (λ s. BeginsWith (history h) (seen_by s)) seats
 
   -- none of so many seats has anything out
-  abbrev pub AllIn : (H → ℕ → Option (ℕ × ℕ)) → H → ℕ → Type 0
+  abbrev pub AllIn : (H → ℕ → Option (ℕ × ℕ × ℕ)) → H → ℕ → Type 0
   AllIn out value seats = (n : ℕ) → n < seats → out value n ≡ None
 
-  module _ (history : H → HistoryShape) (out : H → ℕ → Option (ℕ × ℕ)) where
+  module _ (history : H → HistoryShape) (out : H → ℕ → Option (ℕ × ℕ × ℕ)) where
     -- the history goes on from the value that was taken, and only what seat n has out may differ
     abbrev pub GoesOn : ℕ → H → H → Type 0
     GoesOn n old value = BeginsWith (history value) (history old) × ((k : ℕ) → k ≢ n → out value k ≡ out old k)

@@ -12,14 +12,14 @@ use Rattle.turn_hub.specs.Numbers.{times, once_below, total, behind, own}
 abbrev pub IsKept : {H : Type 0} → (H → H → Type 0) → Option H → H → Type 0
 IsKept keeps opened h = MatchOption opened ⊥ (λ first. keeps first h)
 
-module _ {H : Type 0} (history : H → HistoryShape) (out : H → ℕ → Option (ℕ × ℕ)) where
+module _ {H : Type 0} (history : H → HistoryShape) (out : H → ℕ → Option (ℕ × ℕ × ℕ)) where
   -- none of these seats has anything out
   abbrev pub NothingOut : H → List ℕ → Type 0
   NothingOut h [] = Unit {0}
   NothingOut h (n ∷ ns) = (out h n ≡ None) × NothingOut h ns
 
   -- the first of these seats has this out, and the others have nothing out
-  abbrev pub HasOut : H → List ℕ → Option (ℕ × ℕ) → Type 0
+  abbrev pub HasOut : H → List ℕ → Option (ℕ × ℕ × ℕ) → Type 0
   HasOut h [] o = Unit {0}
   HasOut h (n ∷ ns) o = (out h n ≡ o) × NothingOut h ns
 

@@ -8,8 +8,9 @@ pub trait Lends: Drop {
     // What the value went through.
     ghost history: { Self → HistoryShape };
 
-    // The number and the burst of the lease that the seat with that number has, if it has one.
-    ghost out: { Self → ℕ → Option (ℕ × ℕ) };
+    // The number and the burst of the lease that the seat with that number has, if it has one, and how
+    // many grants are kept for it.
+    ghost out: { Self → ℕ → Option (ℕ × ℕ × ℕ) };
 
     // What a value keeps of the one that the hub was made with, which stands first.
     ghost keeps: { Self → Self → Type 0 };

@@ -12,8 +12,8 @@ pub struct View<H> {
     pub seen: History,
     /// What the seats that it took in have seen.
     pub told: LinkedList<History>,
-    /// The number and the burst of the lease that it has out.
-    pub out: Option<(u32, u64)>,
+    /// The number and the burst of the lease that it has out, and how many grants are kept for it.
+    pub out: Option<(u32, u64, u32)>,
     /// The value as it was taken, while the seat has the turn.
     pub taken: Option<H>,
     /// The value that the hub was made with.
