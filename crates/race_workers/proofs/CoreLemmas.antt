@@ -1,26 +1,68 @@
 -- Who is out after a call of the core.
-use Rattle.std.proofs.Common.{◌≡◌, ◌≢◌, ◌&&◌, ◌∷◌, not, ℕ, Bool, true, false, Option, Some, None, Result, Ok, Err, OnOk, OnErr, IfOk, IfSome, sym, ap, refl, ◌∙◌, subst}
+use Rattle.std.proofs.Common.{◌≡◌, ◌≢◌, ◌≤◌, ◌+◌, ◌-◌, ◌*◌, ◌⊎◌, ⊎_elim, ◌&&◌, ◌∷◌, not, ℕ, Bool, true, false, Option, Some, None, Result, Ok, Err, OnOk, OnErr, IfOk, IfSome, sym, ap, refl, ◌∙◌, subst, nat_le, arith}
 use Rattle.std.proofs.lemmas.Bool.{true≢false}
-use Rattle.std.proofs.lemmas.Option.{none-some}
+use Rattle.std.proofs.lemmas.Option.{none-some, same_Some}
 use Rattle.std.specs.Option.{option_map}
-use Rattle.asp_model.specs.History.{Delivered, DeliveryShape, HistoryShape, Lent}
+use Rattle.asp_model.specs.Configuration.{Configuration}
+use Rattle.asp_model.specs.History.{Committed, Delivered, DeliveryShape, Edge, HistoryShape, Lent, Need}
+use Rattle.asp_model.specs.Names.{Name}
 use Rattle.asp_model.specs.Shapes.{delivery_shape}
 use Rattle.asp_model.specs.declared.journal.Delivery.{Delivery}
-use Rattle.def_journals.specs.Journals.{RunShape, granted, out_but}
+use Rattle.asp_model.specs.declared.limits.TheConstants.{MOST_GRANTED}
+use Rattle.def_journals.specs.Journals.{RunShape, back, committed, delivered, granted, out_but, over, reduced}
+use Rattle.law_journals.specs.Entered.{with_lease}
 use Rattle.core_state.specs.declared.lease.Lease.{Lease}
 use Rattle.core_state.specs.Leases.{IsLease}
 use Rattle.core_state.proofs.ListLemmas.{numbers_apart}
 use Rattle.core_edges.specs.Answers.{Answering, Counting}
 use Rattle.asp_core.specs.declared.cores.Core.{Core}
-use Rattle.asp_core.specs.Calls.{HasGoneOn, IsCommittedBy, IsLentBy, MayDeliver, owed_next}
+use Rattle.asp_core.specs.Calls.{HasEntered, HasGoneOn, IsCommittedBy, IsLentBy, MayDeliver, owed_next}
 use Rattle.asp_core.specs.Chosen.{StaysChosen}
 use Rattle.asp_core.specs.Cores.{IsKept, IsRun, code_of, history_of}
 use Rattle.asp_core.specs.Plans.{StayByPlan}
 use Rattle.asp_core.specs.Stopping.{StaysStopped}
-use Rattle.asp_core.proofs.OutAfterLemmas.{ComesFrom, comes_back, comes_delivered, comes_lent, comes_same}
+use Rattle.asp_core.proofs.OutAfterLemmas.{ComesFrom, comes_back, comes_delivered, comes_lent, comes_same, entry_run, runs_are_one}
 use Rattle.race_workers.specs.Desks.{KeepsUnlessSpent}
 use Rattle.race_workers.specs.Rows.{IsOut}
 use Rattle.race_workers.proofs.OutLemmas.{out_lasts, ready_is_in}
+
+-- What is left of the budget
+
+-- each run comes from one before, of which no more was left than is left now, and this
+abbrev pub KeepsLeft : {P : Type 0} → (old new : Core P) → ℕ → Type 0
+KeepsLeft old new n = (t : RunShape) → IsRun new t → (s : RunShape) × IsRun old s × (s.left ≤ t.left + n)
+
+pub left_same : {P : Type 0} (old new : Core P) → new ≡ old → KeepsLeft old new 0
+left_same {P} old new same t is = (t, subst (λ (x : Core P). IsRun x t) same is, omega arith)
+
+back_left : (s t : RunShape) (k rest : ℕ) (o : Option Configuration) → back s k rest o ≡ Some t → s.left ≤ t.left
+back_left s t k rest None e = absurd (none-some t e)
+back_left s t k rest (Some d) e = let is : s.left + rest ≡ t.left = ap (λ (r : RunShape). r.left) (same_Some _ t e) in omega (arith, is)
+
+within_left : (s t : RunShape) (k r : ℕ) (n : Name) (grant : ℕ) (b : Bool) → elim b as (λ q. Option RunShape) [ true ↦ back s k (grant - r) (reduced r n s.configuration) | false ↦ None ] ≡ Some t → s.left ≤ t.left
+within_left s t k r n grant true e = back_left s t k (grant - r) (reduced r n s.configuration) e
+within_left s t k r n grant false e = absurd (none-some t e)
+
+-- a commit gives back
+committed_left : (s t : RunShape) (k r : ℕ) (n : Option Name) (grant : Option ℕ) → committed k r s n grant ≡ Some t → s.left ≤ t.left
+committed_left s t k r None grant e = absurd (none-some t e)
+committed_left s t k r (Some n) None e = absurd (none-some t e)
+committed_left s t k r (Some n) (Some grant) e = within_left s t k r n grant (nat_le r grant) e
+
+back_keeps : {P : Type 0} (old new : Core P) (s : RunShape) (k r : ℕ) → IsRun old s → HasEntered old (Committed k r) new → KeepsLeft old new 0
+back_keeps old new s k r before more t is =
+    let some : s.left ≤ t.left = committed_left s t k r _ _ (entry_run old new (Committed k r) s t before is more) in
+    (s, before, omega (arith, some))
+
+over_left : (s t : RunShape) (b : Bool) (o : Option Configuration) → elim b as (λ q. Option RunShape) [ true ↦ over s o | false ↦ None ] ≡ Some t → s.left ≤ t.left
+over_left s t true None e = absurd (none-some t e)
+over_left s t true (Some d) e = let is : s.left ≡ t.left = ap (λ (r : RunShape). r.left) (same_Some _ t e) in omega (arith, is)
+over_left s t false o e = absurd (none-some t e)
+
+-- and a delivery takes nothing
+delivered_left : (d : DeliveryShape) (s t : RunShape) → delivered d s ≡ Some t → s.left ≤ t.left
+delivered_left (Edge f from to) s t e = over_left s t _ _ e
+delivered_left (Need f to place) s t e = over_left s t _ _ e
 
 -- a core is spent or it is a run
 module _ {P : Type 0} (old : Core P) (kept : IsKept old) where
@@ -63,6 +105,19 @@ module _ {P A E : Type 0} (old new : Core P) (kept : IsKept old) (r : Result A E
       by_result s run (Ok v) c x = comes_back old new s l.number _ run c.on.entered
       by_result s run (Err v) c x = λ t is. absurd (true≢false (sym x ∙ is.fresh))
 
+  -- and no budget is used beyond its grant
+  pub commit_left : (l : Lease) (lease : IsLease (history_of old) (code_of old) l)
+      → ((s : RunShape) → IsRun old s → (x : IsLease (history_of old) (code_of old) l) → OnOk r (IsCommittedBy old s l x.name new))
+      → (old.spent ≡ true → r ≡ Err e) → OnErr r (new.spent ≡ true) → KeepsLeft old new 0
+  commit_left l lease committed spent gives_up =
+      run_or_spent old kept old.spent refl
+      (λ is t run. absurd (true≢false (sym (when_err (spent is) gives_up) ∙ run.fresh)))
+      (λ s run. by_result s run r (committed s run lease) gives_up)
+    where
+      by_result : (s : RunShape) → IsRun old s → (q : Result A E) → OnOk q (IsCommittedBy old s l lease.name new) → OnErr q (new.spent ≡ true) → KeepsLeft old new 0
+      by_result s run (Ok v) c x = back_keeps old new s l.number _ run c.on.entered
+      by_result s run (Err v) c x = λ t is. absurd (true≢false (sym x ∙ is.fresh))
+
   -- all stay out by a delivery
   pub deliver_out : (d : DeliveryShape)
       → ((s : RunShape) → IsRun old s → OnOk r (HasGoneOn old (Delivered d) new))
@@ -93,6 +148,19 @@ module _ {P A E : Type 0} (old new : Core P) (kept : IsKept old) (r : Result A E
       by_result s run (Ok v) c x = comes_delivered old new s d run c.entered
       by_result s run (Err v) c x = λ t is. absurd (true≢false (sym x ∙ is.fresh))
 
+  -- and as much budget is left
+  pub deliver_left : (d : DeliveryShape)
+      → ((s : RunShape) → IsRun old s → OnOk r (HasGoneOn old (Delivered d) new))
+      → (old.spent ≡ true → r ≡ Err e) → OnErr r (new.spent ≡ true) → KeepsLeft old new 0
+  deliver_left d delivered spent gives_up =
+      run_or_spent old kept old.spent refl
+      (λ is t run. absurd (true≢false (sym (when_err (spent is) gives_up) ∙ run.fresh)))
+      (λ s run. by_result s run r (delivered s run) gives_up)
+    where
+      by_result : (s : RunShape) → IsRun old s → (q : Result A E) → OnOk q (HasGoneOn old (Delivered d) new) → OnErr q (new.spent ≡ true) → KeepsLeft old new 0
+      by_result s run (Ok v) c x = λ t is. let some = delivered_left d s t (entry_run old new (Delivered d) s t run is c.entered) in (s, run, omega (arith, some))
+      by_result s run (Err v) c x = λ t is. absurd (true≢false (sym x ∙ is.fresh))
+
   -- what is owed next was chosen
   pub deliver_chosen : (d : DeliveryShape) → ((s : RunShape) → IsRun old s → owed_next old s ≡ Some d)
       → ((s : RunShape) → IsRun old s → owed_next old s ≡ Some d → OnOk r (StaysChosen old new))
@@ -109,6 +177,7 @@ pub record Lends {P : Type 0} (old new : Core P) (k : ℕ) (l : Lease) : Type 0 
   pub free : (burst : ℕ) → IsOut (history_of old) k burst → ⊥
   pub others : (j burst : ℕ) → IsOut (history_of old) j burst → IsOut (history_of new) j burst
   pub comes : ComesFrom old new (λ s. (k, granted s) ∷ s.out)
+  pub left : (t : RunShape) → IsRun new t → (s : RunShape) × IsRun old s × (t.left ≡ s.left - granted s)
 
 module _ {P : Type 0} (old new : Core P) (kept : IsKept old) (k : ℕ) (r : Option Lease)
     (lent : (s : RunShape) → IsRun old s → IsLentBy old s k r new) (spent : old.spent ≡ true → (r ≡ None) × (new ≡ old)) where
@@ -120,6 +189,7 @@ module _ {P : Type 0} (old new : Core P) (kept : IsKept old) (k : ℕ) (r : Opti
         number = x.3.number;
         free = free;
         comes = comes_lent old new s k run x.2;
+        left = λ t is. (s, run, ap (λ (r : RunShape). r.left) (runs_are_one new t (with_lease s k) is x.2));
         others = λ j burst out. subst (λ (h : HistoryShape). IsOut h j burst) (sym x.1)
             (out_lasts (history_of old) (Lent k) j burst (ap (λ b. not b && true) (numbers_apart j k (λ same. free burst (subst (λ (i : ℕ). IsOut (history_of old) i burst) same out)))) out);
       })
@@ -158,6 +228,11 @@ module _ {P E : Type 0} (old new : Core P) (r : Result (Option Delivery) E) wher
       by (Ok o) is x = comes_same old new is
       by (Err e) is x = λ t run. absurd (true≢false (sym x ∙ run.fresh))
 
+-- nor is budget used where it is asked what is owed
+pub owed_left : {P A E : Type 0} (old new : Core P) (r : Result A E) → OnOk r (new ≡ old) → OnErr r (new.spent ≡ true) → KeepsLeft old new 0
+owed_left old new (Ok o) is x = left_same old new is
+owed_left old new (Err e) is x = λ t run. absurd (true≢false (sym x ∙ run.fresh))
+
 -- What a core keeps by a call, unless it is spent
 module _ {P : Type 0} (answers : Answering P) (counts : Counting P) (old new : Core P) where
   -- it was not spent before, where that would leave it spent
@@ -194,3 +269,19 @@ module _ {P : Type 0} (answers : Answering P) (counts : Counting P) (old new : C
       as_before : {A E : Type 0} (Q : Core P → Type 0) → Q old → (q : Result A E) → OnOk q (new ≡ old) → OnOk q (Q new)
       as_before Q was (Ok x) is = subst Q (sym is) was
       as_before Q was (Err x) is = is
+
+-- a lend leaves what is kept for others, and for itself as much as is said
+pub reserve_fits : {P : Type 0} (old new : Core P) (reserved rounds before after : ℕ) → ((t : RunShape) → IsRun new t → (s : RunShape) × IsRun old s × (t.left ≡ s.left - granted s))
+    → ((s : RunShape) → IsRun old s → before ≡ s.left) → ((s : RunShape) → IsRun new s → after ≡ s.left)
+    → (reserved ≡ 0) ⊎ ((reserved + 1) * MOST_GRANTED ≤ before) → (reserved * MOST_GRANTED ≤ after → (reserved + rounds) * MOST_GRANTED ≤ after)
+    → (t : RunShape) → IsRun new t → (reserved + rounds) * MOST_GRANTED ≤ t.left
+reserve_fits old new reserved rounds before after lent was is leaves kept t run =
+    let c = lent t run in
+    let first = was c.0 c.1 in
+    let now = is t run in
+    let still : reserved * MOST_GRANTED ≤ after = ⊎_elim
+    (λ (none : reserved ≡ 0). omega (arith, none))
+    (λ (some : (reserved + 1) * MOST_GRANTED ≤ before). omega (arith, some, first, c.2, now))
+    leaves in
+    let fits = kept still in
+    omega (arith, fits, now)

@@ -1,6 +1,7 @@
 -- in reading order
 pub mod OutLemmas
 pub mod CoreLemmas
+pub mod SettleLemmas
 pub mod RowLemmas
 pub mod SeatLemmas
 pub mod TurnLemmas

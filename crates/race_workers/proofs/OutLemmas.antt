@@ -1,6 +1,6 @@
 -- What becomes of who is out, and when its lease may come back.
-use Rattle.std.proofs.Common.{◌≡◌, ◌≢◌, ◌⊎◌, ◌==◌, ◌∷◌, [], ℕ, Bool, true, false, List, Some, Result, OnOk, OnErr, inl, inr, refl, sym, ◌∙◌, subst}
-use Rattle.std.proofs.lemmas.Bool.{eqb-true}
+use Rattle.std.proofs.Common.{◌≡◌, ◌≢◌, ◌⊎◌, ◌==◌, ◌∷◌, [], ℕ, Bool, true, false, List, Some, Result, Ok, Err, OnOk, OnErr, inl, inr, refl, sym, ◌∙◌, subst}
+use Rattle.std.proofs.lemmas.Bool.{eqb-true, true≢false}
 use Rattle.std.proofs.lemmas.Option.{none-some}
 use Rattle.asp_model.specs.History.{BeginsWith, EntryShape, HistoryShape, with_entry}
 use Rattle.law_journals.specs.Numbered.{IsFirst}
@@ -11,11 +11,12 @@ use Rattle.law_journals.proofs.LeaseLemmas.{grant_but, leases_stay}
 use Rattle.code_table.specs.declared.code.Node.{Node}
 use Rattle.law_core.specs.Runs.{is_ready}
 use Rattle.core_state.specs.declared.lease.Lease.{Lease}
-use Rattle.core_state.specs.Leases.{HasStopped, IsLease}
+use Rattle.core_state.specs.Leases.{IsLease}
 use Rattle.core_state.proofs.LendLemmas.{readies}
 use Rattle.core_state.proofs.ListLemmas.{numbers_apart}
 use Rattle.core_state.proofs.PopulateLemmas.{grant_gone}
-use Rattle.asp_core.proofs.OverLemmas.{ran_stopped}
+use Rattle.long_leases.specs.declared.long_lease.LongLease.{LongLease}
+use Rattle.long_leases.specs.LongLeases.{HasEnded, IsLongLease}
 use Rattle.race_workers.specs.Rows.{IsOut}
 use Rattle.race_workers.specs.Turns.{IsFinished}
 
@@ -39,11 +40,11 @@ ready_is_in h s k burst first run ready o =
     none-some (granted o.run) (sym free ∙ still.out)
 
 -- a lease is one of a longer history by which it is out still
-lease_by : (h g : HistoryShape) (code : List Node) (l : Lease) → BeginsWith g h → IsLease h code l → IsOut g l.number l.burst → IsLease g code l
+lease_by : (h g : HistoryShape) (code : List Node) (l : LongLease) → BeginsWith g h → IsLongLease h code l → IsOut g l.lease.number l.lease.burst → IsLongLease g code l
 lease_by h g code l begins x o =
-    let now : burst_out l.number g.entries ≡ Some l.burst = (leases_are_one g l.number l.burst l.burst o.run o.run o.lent o.lent).0 in record {
+    let now : burst_out l.lease.number g.entries ≡ Some l.lease.burst = (leases_are_one g l.lease.number l.lease.burst l.lease.burst o.run o.run o.lent o.lent).0 in record {
       run = x.run;
-      lent = leases_go_on h g l.number l.burst x.run begins x.lent now;
+      lent = leases_go_on h g l.lease.number l.lease.burst x.run begins x.lent now;
       name = x.name;
       named = x.named;
       activity = x.activity;
@@ -53,7 +54,7 @@ lease_by h g code l begins x o =
       done = x.done;
     }
 
-pub finished_goes_on : (h g : HistoryShape) (code : List Node) (l : Lease) → BeginsWith g h → IsFinished h code l → IsOut g l.number l.burst → IsFinished g code l
+pub finished_goes_on : (h g : HistoryShape) (code : List Node) (l : LongLease) → BeginsWith g h → IsFinished h code l → IsOut g l.lease.number l.lease.burst → IsFinished g code l
 unfolding lease_by
 finished_goes_on h g code l begins x o = (
   lease_by h g code l begins x.0 o,
@@ -62,8 +63,9 @@ finished_goes_on h g code l begins x o = (
 )
 
 -- a lease that was run is finished
-pub finished : {A E : Type 0} (r : Result A E) (h : HistoryShape) (code : List Node) (l : Lease) → IsLease h code l → OnOk r (HasStopped h code l) → OnErr r (l.spent ≡ true) → IsFinished h code l
-finished r h code l lease stops gives_up = (lease, ran_stopped r h code l stops gives_up)
+pub finished : {A E : Type 0} (r : Result A E) (h : HistoryShape) (code : List Node) (l : LongLease) → IsLongLease h code l → OnOk r (HasEnded h code l) → OnErr r (l.lease.spent ≡ true) → IsFinished h code l
+finished (Ok x) h code l lease ends gives_up = (lease, λ fresh. ends)
+finished (Err x) h code l lease ends gives_up = (lease, λ fresh. absurd (true≢false (sym gives_up ∙ fresh)))
 
 -- who is out after a lend was out before, or it is that one
 pub lent_or : (j k g grant : ℕ) (xs : List (ℕ × ℕ)) → grant_of j ((k, g) ∷ xs) ≡ Some grant → (j ≡ k) ⊎ (grant_of j xs ≡ Some grant)

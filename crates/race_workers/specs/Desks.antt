@@ -10,7 +10,7 @@ use Rattle.asp_core.specs.Chosen.{StaysChosen}
 use Rattle.asp_core.specs.Plans.{StayByPlan}
 use Rattle.asp_core.specs.Stopping.{StaysStopped}
 use Rattle.race_workers.specs.declared.desk.Desk.{Desk}
-use Rattle.race_workers.specs.Rows.{AreApart, AreHeld, AreOut, Row, row}
+use Rattle.race_workers.specs.Rows.{AreApart, AreHeld, AreOut, AreReserved, Row, rounds_in, row}
 
 module _ {P : Type 0} where
   abbrev pub core_at : Desk P → Core P
@@ -37,6 +37,9 @@ module _ {P : Type 0} where
     pub out : AreOut (history_at desk) desk.rows.items
     pub apart : AreApart desk.rows.items
     pub held : (s : RunShape) → IsRun (core_at desk) s → AreHeld s (seats_at desk) desk.rows.items
+    -- and budget is kept for all grants that may follow
+    pub counted : desk.reserved ≡ rounds_in desk.rows.items
+    pub reserved : (s : RunShape) → IsRun (core_at desk) s → AreReserved s desk.rows.items
 
   -- what a core that is not spent keeps of an earlier one: that was not spent either, its edges are still answered by
   -- the same plan and policies, values still go along those edges alone for which they chose it, and each lease that

@@ -3,4 +3,5 @@ pub mod LeaseRows
 pub mod Rows
 pub mod Desks
 pub mod Turns
+pub mod Settling
 pub mod Working

@@ -1,5 +1,5 @@
 -- What a turn at the desk changes, and what it gives.
-use Rattle.std.specs.Prelude.{◌≡◌, ◌≢◌, ℕ, List, Option, Some, None}
+use Rattle.std.specs.Prelude.{◌≡◌, ◌≢◌, ℕ, false, List, Option, Some, None}
 use Rattle.asp_model.specs.History.{BeginsWith, HistoryShape}
 use Rattle.asp_model.specs.Shapes.{delivery_shape}
 use Rattle.asp_model.specs.declared.journal.Delivery.{Delivery}
@@ -7,17 +7,21 @@ use Rattle.def_journals.specs.Journals.{RunShape}
 use Rattle.core_edges.specs.Answers.{Answering, Counting}
 use Rattle.asp_core.specs.Cores.{IsRun}
 use Rattle.asp_core.specs.Calls.{MayDeliver, owed_next}
-use Rattle.asp_core.specs.Stopping.{HasStoppedOr}
-use Rattle.core_state.specs.declared.lease.Lease.{Lease}
-use Rattle.core_state.specs.Leases.{IsLease}
+use Rattle.long_leases.specs.declared.long_lease.LongLease.{LongLease}
+use Rattle.long_leases.specs.LongLeases.{HasEnded, IsLongLease}
 use Rattle.code_table.specs.declared.code.Node.{Node}
 use Rattle.race_workers.specs.declared.desk.Desk.{Desk}
 use Rattle.race_workers.specs.declared.desk.SharedDesk.{SharedDesk}
 use Rattle.race_workers.specs.Desks.{KeepsDesk, code_at, core_at, history_at, row_at}
+use Rattle.race_workers.specs.Rows.{Row}
 
--- a lease that was run: it has stopped, unless memory ran out
-abbrev pub IsFinished : HistoryShape → List Node → Lease → Type 0
-IsFinished h code l = IsLease h code l × HasStoppedOr h code l
+-- a lease that was run: it has ended, unless memory ran out
+abbrev pub IsFinished : HistoryShape → List Node → LongLease → Type 0
+IsFinished h code l = IsLongLease h code l × (l.lease.spent ≡ false → HasEnded h code l)
+
+-- what the row of its seat says of a lease
+abbrev pub row_of : LongLease → Row
+row_of l = Some (l.lease.number, l.lease.burst, l.rounds)
 
 module _ {P : Type 0} where
   abbrev pub desk_in : SharedDesk P → Desk P
@@ -38,6 +42,6 @@ module _ {P : Type 0} where
     pub keeps : KeepsDesk answers counts old new
 
   -- the seat has this lease out, which is as is said, or nothing
-  abbrev pub HasLease : (HistoryShape → List Node → Lease → Type 0) → Desk P → ℕ → Option Lease → Type 0
+  abbrev pub HasLease : (HistoryShape → List Node → LongLease → Type 0) → Desk P → ℕ → Option LongLease → Type 0
   HasLease Is desk seat None = row_at desk seat ≡ None
-  HasLease Is desk seat (Some l) = (row_at desk seat ≡ Some (l.number, l.burst)) × Is (history_at desk) (code_at desk) l
+  HasLease Is desk seat (Some l) = (row_at desk seat ≡ row_of l) × Is (history_at desk) (code_at desk) l

@@ -4,8 +4,8 @@ use Rattle.crossbeam_utils.specs.declared.cache_padded.CachePadded.{CachePadded}
 use Rattle.crossbeam_utils.specs.Padded.{padded_value}
 use Rattle.asp_model.specs.History.{BeginsWith, HistoryShape}
 use Rattle.code_table.specs.declared.code.Node.{Node}
-use Rattle.core_state.specs.declared.lease.Lease.{Lease}
-use Rattle.core_state.specs.Leases.{IsLease}
+use Rattle.long_leases.specs.declared.long_lease.LongLease.{LongLease}
+use Rattle.long_leases.specs.LongLeases.{IsLongLease}
 use Rattle.turn_hub.specs.declared.hub.Hub.{Hub}
 use Rattle.turn_hub.specs.declared.seat.Seat.{Seat}
 use Rattle.turn_hub.specs.Seats.{IsOf, opened_with, out_with, seats_of, seen_by, taken_by}
@@ -13,7 +13,7 @@ use Rattle.race_workers.specs.declared.desk.Desk.{Desk}
 use Rattle.race_workers.specs.declared.desk.SharedDesk.{SharedDesk}
 use Rattle.race_workers.specs.declared.seats.Seats.{Seats}
 use Rattle.race_workers.specs.Desks.{code_at, history_at, seats_at}
-use Rattle.race_workers.specs.Turns.{IsFinished, desk_in}
+use Rattle.race_workers.specs.Turns.{IsFinished, desk_in, row_of}
 
 module _ {P : Type 0} where
   -- the desk that the hub was made with
@@ -21,9 +21,10 @@ module _ {P : Type 0} where
   opened_at hub = desk_in (opened_with hub)
 
   -- the seat has this lease out, which is as is said, or nothing
-  abbrev pub HasOut : (HistoryShape → List Node → Lease → Type 0) → Hub (SharedDesk P) → Seat (SharedDesk P) → Option Lease → Type 0
+  abbrev pub HasOut : (HistoryShape → List Node → LongLease → Type 0)
+      → Hub (SharedDesk P) → Seat (SharedDesk P) → Option LongLease → Type 0
   HasOut Is hub seat None = out_with seat ≡ None
-  HasOut Is hub seat (Some l) = (out_with seat ≡ Some (l.number, l.burst)) × Is (seen_by seat) (code_at (opened_at hub)) l
+  HasOut Is hub seat (Some l) = (out_with seat ≡ row_of l) × Is (seen_by seat) (code_at (opened_at hub)) l
 
   -- the hub's desk has a row for each seat
   abbrev pub HasRows : Hub (SharedDesk P) → Type 0
@@ -36,7 +37,8 @@ module _ {P : Type 0} where
       × BeginsWith (seen_by seat) (history_at (opened_at hub))
 
   -- such a seat of one part, but it has this lease out, which is as is said, or nothing
-  abbrev pub IsAtWork : (HistoryShape → List Node → Lease → Type 0) → Hub (SharedDesk P) → Seat (SharedDesk P) → Option Lease → Type 0
+  abbrev pub IsAtWork : (HistoryShape → List Node → LongLease → Type 0)
+      → Hub (SharedDesk P) → Seat (SharedDesk P) → Option LongLease → Type 0
   IsAtWork Is hub seat held =
       IsOf hub seat × (seat.parts ≡ 1) × (taken_by seat ≡ None) × HasOut Is hub seat held
       × BeginsWith (seen_by seat) (history_at (opened_at hub))
@@ -50,9 +52,9 @@ module _ {P : Type 0} where
   AllReady hub seats = All (λ p. AreReady hub (padded_value p)) seats
 
 -- a lease after its work is the same, and it was run
-abbrev pub IsWorked : Option Lease → Option Lease → Type 0
+abbrev pub IsWorked : Option LongLease → Option LongLease → Type 0
 IsWorked None None = Unit {0}
 IsWorked None (Some k) = ⊥
 IsWorked (Some l) None = ⊥
 IsWorked (Some l) (Some k) =
-    (k.number ≡ l.number) × (k.burst ≡ l.burst) × ((h : HistoryShape) (code : List Node) → IsLease h code l → IsFinished h code k)
+    (row_of k ≡ row_of l) × ((h : HistoryShape) (code : List Node) → IsLongLease h code l → IsFinished h code k)

@@ -3,6 +3,8 @@
 use crate::rows::Row;
 use asp_core::Core;
 
+mod keeping;
+mod settling;
 mod shared;
 mod turns;
 
@@ -15,6 +17,8 @@ pub(crate) struct Desk<P> {
     leases: u32,
     // How many workers have a lease at their first seats, whose numbers are odd.
     busy: u32,
+    // How many grants are kept for the leases in the rows, beyond their own.
+    reserved: u64,
 }
 
 /// The desk in a box: a hub moves its value at each turn.

@@ -3,16 +3,16 @@
 ghost use Rattle.std.specs.Prelude.{◌≡◌, List, None};
 ghost use Rattle.asp_model.specs.History.{HistoryShape};
 ghost use Rattle.code_table.specs.declared.code.Node.{Node as NodeShape};
-ghost use Rattle.core_state.specs.Leases.{IsLease};
+ghost use Rattle.long_leases.specs.LongLeases.{IsLongLease};
 ghost use Rattle.turn_hub.specs.Seats.{IsOf, taken_by};
-ghost use Rattle.race_workers.specs.Turns.{IsFinished};
+ghost use Rattle.race_workers.specs.Turns.{IsFinished, row_of};
 ghost use Rattle.race_workers.specs.Working.{AreReady, HasRows, IsAtWork, IsWorked};
 
 use crate::desk::SharedDesk;
 use crate::gate::Gate;
 use crate::margin::Margin;
 use crate::seats::Seats;
-use core_state::Lease;
+use long_leases::LongLease;
 use std::sync::Wait;
 use turn_hub::{Hub, Seat};
 use update_policy::UpdatePolicy;
@@ -34,12 +34,12 @@ fn take_turn<R: Wait, P: UpdatePolicy + Drop>(
     hub: &Hub<SharedDesk<P>>,
     seat: &mut Seat<SharedDesk<P>>,
     margin: &mut Margin,
-    held: &mut Option<Lease>,
+    held: &mut Option<LongLease>,
     may_rest: bool,
 ) -> Turned
     requires rows { HasRows hub.now }
     requires seat { IsAtWork IsFinished hub.now seat.old held.old }
-    ensures seat { IsAtWork IsLease hub.now seat.new held.new }
+    ensures seat { IsAtWork IsLongLease hub.now seat.new held.new }
 {
     let mut desk = hub.take(rt, seat);
     let (next, more) = desk.turn(seat.number(), held, may_rest);
@@ -61,12 +61,12 @@ fn take_second<R: Wait, P: UpdatePolicy + Drop>(
     hub: &Hub<SharedDesk<P>>,
     seat: &mut Seat<SharedDesk<P>>,
     margin: &mut Margin,
-    held: &mut Option<Lease>,
+    held: &mut Option<LongLease>,
     wants: bool,
 )
     requires rows { HasRows hub.now }
     requires seat { IsAtWork IsFinished hub.now seat.old held.old }
-    ensures seat { IsAtWork IsLease hub.now seat.new held.new }
+    ensures seat { IsAtWork IsLongLease hub.now seat.new held.new }
 {
     if wants || held.is_some() {
         let _turned = take_turn(rt, hub, seat, margin, held, !wants);
@@ -74,19 +74,18 @@ fn take_second<R: Wait, P: UpdatePolicy + Drop>(
 }
 
 // A lease is run, so it has stopped then, unless memory ran out. It passes the gate.
-fn work_on<G: Gate>(gate: &G, worker: u32, margin: &mut Margin, lease: &mut Lease)
-    ensures lease { (h : HistoryShape) (code : List NodeShape) → IsLease h code lease.old →
+fn work_on<G: Gate>(gate: &G, worker: u32, margin: &mut Margin, lease: &mut LongLease)
+    ensures lease { (h : HistoryShape) (code : List NodeShape) → IsLongLease h code lease.old →
         IsFinished h code lease.new }
-    ensures number { lease.new.number ≡ lease.old.number }
-    ensures burst { lease.new.burst ≡ lease.old.burst }
+    ensures row { row_of lease.new ≡ row_of lease.old }
 {
     let _ran = lease.run();
-    margin.add(lease.taken);
-    gate.hold(worker as u64, lease.burst());
+    margin.add(lease.lease.taken);
+    gate.hold(worker as u64, lease.lease.burst());
 }
 
 // The same, if there is a lease.
-fn work_at<G: Gate>(gate: &G, worker: u32, margin: &mut Margin, held: &mut Option<Lease>)
+fn work_at<G: Gate>(gate: &G, worker: u32, margin: &mut Margin, held: &mut Option<LongLease>)
     ensures worked { IsWorked held.old held.new }
 {
     if let Some(lease) = held {

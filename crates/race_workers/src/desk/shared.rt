@@ -2,13 +2,13 @@
 
 ghost use Rattle.std.specs.Prelude.{◌≡◌, ◌<◌, IfOk, None, ℕ};
 ghost use Rattle.asp_core.specs.Cores.{IsHome, IsKept};
-ghost use Rattle.core_state.specs.Leases.{IsLease};
+ghost use Rattle.long_leases.specs.LongLeases.{IsLongLease};
 ghost use Rattle.race_workers.specs.Desks.{IsOrderly, core_at, row_at, seats_at};
 ghost use Rattle.race_workers.specs.Turns.{HasLease, IsFinished, IsTurn, desk_in};
 
 use super::{Desk, Next, SharedDesk};
 use asp_core::Core;
-use core_state::Lease;
+use long_leases::LongLease;
 use std::alloc::{AllocError, Global};
 use turn_hub::Lends;
 use update_policy::UpdatePolicy;
@@ -51,14 +51,14 @@ impl<P: UpdatePolicy + Drop> SharedDesk<P> {
     pub(crate) fn turn(
         &mut self,
         seat: u32,
-        held: &mut Option<Lease>,
+        held: &mut Option<LongLease>,
         may_rest: bool,
     ) -> (Next, bool)
         requires orderly { IsOrderly (desk_in self.old) }
         requires seat { seat < seats_at (desk_in self.old) }
         requires held { HasLease IsFinished (desk_in self.old) seat held.old }
         ensures turn { IsTurn P.answer P.asked seat (desk_in self.old) (desk_in self.new) }
-        ensures lease { HasLease IsLease (desk_in self.new) seat held.new }
+        ensures lease { HasLease IsLongLease (desk_in self.new) seat held.new }
     {
         self.desk.turn(seat, held, may_rest)
     }

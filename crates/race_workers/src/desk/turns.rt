@@ -2,15 +2,24 @@
 
 ghost use Rattle.std.specs.Prelude.{◌≡◌, ◌<◌, IfOk, IfSome, None, Some, ℕ};
 ghost use Rattle.asp_core.specs.Cores.{IsHome, IsKept};
-ghost use Rattle.core_state.specs.Leases.{IsLease};
+ghost use Rattle.long_leases.specs.LongLeases.{IsLongLease};
 ghost use Rattle.race_workers.specs.Desks.{IsOrderly, code_at, core_at, history_at, row_at, seats_at};
-ghost use Rattle.race_workers.specs.Turns.{HasLease, IsFinished, IsOwedAt, IsTurn, MayDeliverAt};
+ghost use Rattle.race_workers.specs.Turns.{
+  HasLease,
+  IsFinished,
+  IsOwedAt,
+  IsTurn,
+  MayDeliverAt,
+  row_of,
+};
 
+use super::keeping::{further_grants, leaves_reserve};
+use super::settling::bring_back;
 use super::{Desk, Next};
 use crate::rows::{clear, empty_rows, fill};
 use asp_core::Core;
-use asp_model::Delivery;
-use core_state::Lease;
+use asp_model::{Delivery, MOST_WORKERS};
+use long_leases::LongLease;
 use std::alloc::{AllocError, Global};
 use update_policy::UpdatePolicy;
 
@@ -33,6 +42,7 @@ impl<P: UpdatePolicy + Drop> Desk<P> {
             rows,
             leases: 0,
             busy: 0,
+            reserved: 0,
         })
     }
 
@@ -45,6 +55,7 @@ impl<P: UpdatePolicy + Drop> Desk<P> {
             rows: _,
             leases: _,
             busy: _,
+            reserved: _,
         } = self;
         core
     }
@@ -56,14 +67,14 @@ impl<P: UpdatePolicy + Drop> Desk<P> {
     pub(crate) fn turn(
         &mut self,
         seat: u32,
-        held: &mut Option<Lease>,
+        held: &mut Option<LongLease>,
         may_rest: bool,
     ) -> (Next, bool)
         requires orderly { IsOrderly self.old }
         requires seat { seat < seats_at self.old }
         requires held { HasLease IsFinished self.old seat held.old }
         ensures turn { IsTurn P.answer P.asked seat self.old self.new }
-        ensures lease { HasLease IsLease self.new seat held.new }
+        ensures lease { HasLease IsLongLease self.new seat held.new }
     {
         let number = self.take_in(seat, held);
         if !self.deliver_owed() {
@@ -83,7 +94,7 @@ impl<P: UpdatePolicy + Drop> Desk<P> {
     }
 
     // The lease comes back, if the seat has one. Its row is empty then, also where memory ran out.
-    fn take_in(&mut self, seat: u32, held: &mut Option<Lease>) -> Option<u32>
+    fn take_in(&mut self, seat: u32, held: &mut Option<LongLease>) -> Option<u32>
         requires orderly { IsOrderly self.old }
         requires seat { seat < seats_at self.old }
         requires held { HasLease IsFinished self.old seat held.old }
@@ -92,16 +103,16 @@ impl<P: UpdatePolicy + Drop> Desk<P> {
         ensures none { held.new ≡ None }
     {
         let lease = held.take()?;
-        let number = lease.number();
+        let number = lease.lease.number();
         self.commit(seat, lease);
         Some(number)
     }
 
-    // The seat's lease, which has stopped, is committed.
-    fn commit(&mut self, seat: u32, lease: Lease)
+    // The seat's lease, which has ended, is committed, grant by grant.
+    fn commit(&mut self, seat: u32, lease: LongLease)
         requires orderly { IsOrderly self.old }
         requires seat { seat < seats_at self.old }
-        requires row { row_at self.old seat ≡ Some (lease.number, lease.burst) }
+        requires row { row_at self.old seat ≡ row_of lease }
         requires lease { IsFinished (history_at self.old) (code_at self.old) lease }
         ensures turn { IsTurn P.answer P.asked seat self.old self.new }
         ensures free { row_at self.new seat ≡ None }
@@ -109,7 +120,8 @@ impl<P: UpdatePolicy + Drop> Desk<P> {
         clear(&mut self.rows, seat);
         self.leases = self.leases.saturating_sub(1);
         self.busy = self.busy.saturating_sub(seat % 2);
-        let _committed = self.core.commit(lease);
+        self.reserved -= lease.rounds as u64;
+        let _back = bring_back(&mut self.core, lease);
     }
 
     // Delivers what is owed, up to a limit. It tells whether that was all.
@@ -156,12 +168,12 @@ impl<P: UpdatePolicy + Drop> Desk<P> {
     }
 
     // An activity for the seat: that of the number, where it is ready, or else the first that is.
-    fn lend(&mut self, seat: u32, number: Option<u32>) -> Option<Lease>
+    fn lend(&mut self, seat: u32, number: Option<u32>) -> Option<LongLease>
         requires orderly { IsOrderly self.old }
         requires seat { seat < seats_at self.old }
         requires free { row_at self.old seat ≡ None }
         ensures turn { IsTurn P.answer P.asked seat self.old self.new }
-        ensures lease { HasLease IsLease self.new seat result }
+        ensures lease { HasLease IsLongLease self.new seat result }
     {
         match self.lend_again(seat, number) {
             Some(lease) => Some(lease),
@@ -170,45 +182,58 @@ impl<P: UpdatePolicy + Drop> Desk<P> {
     }
 
     // The activity of the number, if there is one.
-    fn lend_again(&mut self, seat: u32, number: Option<u32>) -> Option<Lease>
+    fn lend_again(&mut self, seat: u32, number: Option<u32>) -> Option<LongLease>
         requires orderly { IsOrderly self.old }
         requires seat { seat < seats_at self.old }
         requires free { row_at self.old seat ≡ None }
         ensures turn { IsTurn P.answer P.asked seat self.old self.new }
-        ensures lease { HasLease IsLease self.new seat result }
+        ensures lease { HasLease IsLongLease self.new seat result }
     {
         let number = number?;
         self.lend_one(seat, number)
     }
 
     // The first activity that is ready.
-    fn lend_first(&mut self, seat: u32) -> Option<Lease>
+    fn lend_first(&mut self, seat: u32) -> Option<LongLease>
         requires orderly { IsOrderly self.old }
         requires seat { seat < seats_at self.old }
         requires free { row_at self.old seat ≡ None }
         ensures turn { IsTurn P.answer P.asked seat self.old self.new }
-        ensures lease { HasLease IsLease self.new seat result }
+        ensures lease { HasLease IsLongLease self.new seat result }
     {
         let number = self.core.next_ready()?;
         self.lend_one(seat, number)
     }
 
-    // The activity of the number, where it is ready.
-    fn lend_one(&mut self, seat: u32, number: u32) -> Option<Lease>
+    // The activity of the number, where it is ready, and the lease leaves what is kept for others:
+    // somebody else has a lease then.
+    fn lend_one(&mut self, seat: u32, number: u32) -> Option<LongLease>
         requires orderly { IsOrderly self.old }
         requires seat { seat < seats_at self.old }
         requires free { row_at self.old seat ≡ None }
         ensures turn { IsTurn P.answer P.asked seat self.old self.new }
-        ensures lease { HasLease IsLease self.new seat result }
+        ensures lease { HasLease IsLongLease self.new seat result }
     {
         if number as usize >= self.core.activities() {
             return None;
         }
+        let before = self.core.left();
+        if !leaves_reserve(before, self.reserved) {
+            return None;
+        }
         let lease = self.core.lend(number)?;
-        fill(&mut self.rows, seat, lease.number(), lease.burst());
+        let after = self.core.left();
+        let rounds = further_grants(after, self.reserved, self.workers());
+        fill(&mut self.rows, seat, lease.number(), lease.burst(), rounds);
+        self.reserved += rounds as u64;
         self.leases = self.leases.saturating_add(1);
         self.busy = self.busy.saturating_add(seat % 2);
-        Some(lease)
+        Some(LongLease::of(lease, rounds))
+    }
+
+    // How many workers there are: each has two seats.
+    fn workers(&self) -> u32 {
+        (self.rows.len() / 2).min(MOST_WORKERS as usize) as u32
     }
 
     /// Whether there are several workers, and each has a lease at its first seat: so nobody waits for

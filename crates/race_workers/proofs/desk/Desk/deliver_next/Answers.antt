@@ -1,7 +1,7 @@
-use Rattle.std.proofs.Common.{rules, Option, IfSome, alloc_error, subst}
+use Rattle.std.proofs.Common.{refl, rules, Option, IfSome, alloc_error, subst}
 use Rattle.asp_model.specs.declared.journal.Delivery.{Delivery}
 use Rattle.race_workers.specs.Turns.{IsOwedAt}
-use Rattle.race_workers.proofs.CoreLemmas.{deliver_chosen, deliver_comes, deliver_out, keeps_by}
+use Rattle.race_workers.proofs.CoreLemmas.{deliver_chosen, deliver_comes, deliver_left, deliver_out, keeps_by}
 use Rattle.race_workers.proofs.TurnLemmas.{stood, turn_further, turn_still}
 use Rattle.race_workers.proofs.desk.Desk.deliver_next.Goals as goal
 
@@ -22,4 +22,5 @@ returns-clause-turn g c n =
     turn_further g.P.UpdatePolicy.answer g.P.UpdatePolicy.asked n c.args.self.now c.next_delivery.new.self _ before
     (stood g.P.UpdatePolicy.answer g.P.UpdatePolicy.asked n c.next_delivery.new.self _ orderly e.begins e.code e.kept plan (search rules) (search rules)
     (deliver_out _ _ orderly.kept c.deliver.result alloc_error _ e.delivered e.spent e.err)
-    (deliver_comes _ _ orderly.kept c.deliver.result alloc_error _ e.delivered e.spent e.gives_up))
+    (deliver_comes _ _ orderly.kept c.deliver.result alloc_error _ e.delivered e.spent e.gives_up) refl
+    (deliver_left _ _ orderly.kept c.deliver.result alloc_error _ e.delivered e.spent e.gives_up))

@@ -1,4 +1,5 @@
-use Rattle.std.proofs.Common.{rules, ap, sym, ◌∙◌}
+use Rattle.std.proofs.Common.{rules, ap, sym, ◌∙◌, arith}
+use Rattle.race_workers.proofs.RowLemmas.{no_rounds}
 use Rattle.def_journals.specs.Journals.{grant_of}
 use Rattle.std.proofs.lemmas.Option.{none-some}
 use Rattle.race_workers.proofs.desk.Desk.new.Goals as goal
@@ -10,4 +11,6 @@ returns-clause-orderly g c =
       out = λ n x is. absurd (none-some x (sym (empty n) ∙ is));
       apart = λ m n x y ne is also. absurd (none-some x (sym (empty m) ∙ is));
       held = λ s is k grant out. absurd (none-some grant (ap (grant_of k) (sym (c.requires.home s is)) ∙ out));
+      counted = sym (no_rounds c.in_ok-rows.rows.items empty);
+      reserved = λ s is. omega (arith, no_rounds c.in_ok-rows.rows.items empty);
     }
