@@ -1,0 +1,3 @@
+-- in reading order
+pub mod LookLemmas
+pub mod FirstLemmas

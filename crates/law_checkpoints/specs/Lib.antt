@@ -1,0 +1,4 @@
+-- in reading order
+pub mod Lookups
+pub mod Sound
+pub mod Laws
