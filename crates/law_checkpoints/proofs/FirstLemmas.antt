@@ -27,9 +27,9 @@ use Rattle.law_frozen.specs.Frozen.{FrozenActivity, FrozenShape, answered, has_f
 use Rattle.law_frozen.proofs.FrozenLemmas.{in_numbers, not_numbers, length_spent, in_either, mapped_in, filtered_in, in_filtered, number_of_item, numbered_in, future_there, both_true, ordered_is}
 use Rattle.law_frozen.proofs.CountLemmas.{count, keys, count_both, count_none, count_spent, keys_once, one_place, slice_front, slice_behind, slice_below, numbers_apart, below_numbers}
 use Rattle.law_checkpoints.specs.Lookups.{activity_of, IsNamed, number_in, creations_in, sends_in, HasHome, IsHoused, times_pending, times_at}
-use Rattle.law_checkpoints.specs.Sound.{StandOnce, IsCreatedAmong, AreCreated, BeginWithMain, IsKnownIn, IsSoundParcel, IsSoundRequest, IsSoundValue, IsAnsweredAt, IsObject, IsSoundActivity, IsSoundHome, IsSoundFrozen}
+use Rattle.law_checkpoints.specs.Sound.{StandOnce, IsCreatedAmong, AreCreated, BeginWithMain, IsKnownIn, IsSoundParcel, IsSoundRequest, IsSoundValue, IsAnsweredAt, IsSoundActivity, IsSoundHome, IsSoundFrozen}
 use Rattle.law_checkpoints.specs.Laws.{FrozenAreFirst, FrozenAreWhole}
-use Rattle.law_checkpoints.proofs.LookLemmas.{each_in, with_each, found_each, activity_there, there_activity, home_there, times_are, count_some}
+use Rattle.law_checkpoints.proofs.LookLemmas.{each_in, with_each, found_each, activity_there, there_activity, home_there, times_are, count_some, no_future}
 
 both_second : (a b : Bool) → (a && b) ≡ true → b ≡ true
 both_second true b e = e
@@ -460,13 +460,6 @@ module _ (f : FrozenShape) (h : IsSoundFrozen f) where
     arguments = in_parcels IsClosedParcel (record { cells = tt; roots = tt }) (λ p s. s.closed);
     values = λ g p is. (filled_value g p is).closed;
   }
-
-no_future : (c : CellShape) → IsObject c → is_future c ≡ false
-no_future (Object fields methods) h = refl
-no_future (Number n) h = absurd h
-no_future (Reference n) h = absurd h
-no_future (Future g) h = absurd h
-no_future (Group ns) h = absurd h
 
 -- The laws
 

@@ -1,3 +1,8 @@
 -- in reading order
 pub mod LookLemmas
 pub mod FirstLemmas
+pub mod ServiceLemmas
+pub mod MainLemmas
+pub mod ObjectLemmas
+pub mod KeptLemmas
+pub mod FreezeLemmas

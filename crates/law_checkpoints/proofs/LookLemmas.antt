@@ -7,6 +7,8 @@ use Rattle.std.specs.Ordering.{is_eq}
 use Rattle.std.specs.FinMap.{find}
 use Rattle.std.specs.FinMap.Entries.{find-put}
 use Rattle.asp_model.specs.Names.{Name, FutureShape, name_cmp, future_cmp, same_name, same_future}
+use Rattle.asp_model.specs.Store.{CellShape, Number, Object, Reference, Future, Group}
+use Rattle.asp_model.specs.Contraction.{is_future}
 use Rattle.asp_model.specs.Configuration.{RequestShape}
 use Rattle.law_chases.proofs.FutureLemmas.{no_some, some_is, none_true, future_same}
 use Rattle.law_steps.specs.Kept.{mark, one_where}
@@ -16,7 +18,7 @@ use Rattle.law_steps.proofs.NameLemmas.{name_total, name_itself, names_tied}
 use Rattle.law_frozen.specs.Frozen.{FrozenActivity, each_named, has_future}
 use Rattle.law_frozen.proofs.CountLemmas.{count}
 use Rattle.law_checkpoints.specs.Lookups.{activity_of, IsNamed, times_pending}
-use Rattle.law_checkpoints.specs.Sound.{StandOnce}
+use Rattle.law_checkpoints.specs.Sound.{StandOnce, IsObject}
 
 pub each_in : {X : Type 0} (P : X → Type 0) (xs : List X) (x : X) → Each P xs → In x xs → P x
 each_in P [] x h i = absurd i
@@ -92,3 +94,12 @@ count_some g (r ∷ rs) h = by (same_future g r.future) (count_some g rs) h
     by : (b : Bool) → (has_future g rs ≡ true → 1 ≤ count g rs) → (b || has_future g rs) ≡ true → 1 ≤ one_where b + count g rs
     by true rest h = omega arith
     by false rest h = let le : 1 ≤ count g rs = rest h in omega (arith, le)
+
+-- Cells
+
+pub no_future : (c : CellShape) → IsObject c → is_future c ≡ false
+no_future (Object fields methods) h = refl
+no_future (Number n) h = absurd h
+no_future (Reference n) h = absurd h
+no_future (Future g) h = absurd h
+no_future (Group ns) h = absurd h

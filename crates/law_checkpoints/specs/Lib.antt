@@ -2,3 +2,4 @@
 pub mod Lookups
 pub mod Sound
 pub mod Laws
+pub mod Saved

@@ -1,7 +1,9 @@
-//! Laws of checkpoints: what a checkpoint has to have so that a run can go on from it. Each law is
-//! the contract of a function that does nothing.
+//! Laws of checkpoints: what a checkpoint has to have so that a run can go on from it, and that what
+//! is frozen of a run has it. Each law is the contract of a function that does nothing.
 #![tactic(auto)]
 
+mod saved;
 mod sound;
 
+pub use saved::saved_are_sound;
 pub use sound::{frozen_are_first, frozen_are_whole};
