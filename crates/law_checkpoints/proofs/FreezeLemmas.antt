@@ -34,10 +34,10 @@ use Rattle.law_frozen.proofs.FrozenLemmas.{in_either, number_of_item, numbered_i
 use Rattle.law_frozen.proofs.CountLemmas.{count, count_none, count_once, count_waiting, waiting_at, at_waiting, has_there}
 use Rattle.law_checkpoints.specs.Lookups.{activity_of, IsNamed, number_in, creations_in, sends_in, HasHome, IsHoused, times_pending, times_at, times_in}
 use Rattle.law_checkpoints.specs.Sound.{StandOnce, IsCreatedAmong, AreCreated, BeginWithMain, HasNames, IsKnownIn, IsSoundRequest, IsSoundValue, IsAnsweredAt, IsSoundActivity, IsSoundHome, IsSoundFrozen}
-use Rattle.law_checkpoints.specs.Saved.{IsCreatedBy, AreBehind, AreInOrder, SavedAreSound}
+use Rattle.law_checkpoints.specs.Saved.{IsCreatedBy, AreBehind, AreInOrder}
 use Rattle.law_checkpoints.proofs.LookLemmas.{in_each, activity_there, home_there, times_are, count_some}
 use Rattle.law_checkpoints.proofs.MainLemmas.{not_main}
-use Rattle.law_checkpoints.proofs.KeptLemmas.{IsSavable, reached_are_savable}
+use Rattle.law_checkpoints.proofs.KeptLemmas.{IsSavable}
 
 -- Activities that are frozen
 
@@ -385,6 +385,3 @@ module _ (c : Configuration) (names : List Name) (first : IsFirst (record { name
     filled_ascend = sound.ordered.futures;
     filled = in_each (λ v. IsSoundValue shape v.0 v.1) c.futures (λ v i. sound_value v.0 v.1 i);
   }
-
-pub saved_are_sound : SavedAreSound
-saved_are_sound program names c h reached first order = sound_frozen c names first order (reached_are_savable program c h reached)

@@ -6,3 +6,5 @@ pub mod MainLemmas
 pub mod ObjectLemmas
 pub mod KeptLemmas
 pub mod FreezeLemmas
+pub mod OrderLemmas
+pub mod AgainLemmas

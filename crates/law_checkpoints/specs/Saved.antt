@@ -1,14 +1,21 @@
 -- What is frozen of a run of a program is sound.
 use Rattle.std.specs.Prelude.{◌≡◌, ℕ, suc, List, [], ◌∷◌, ◌++◌, Some}
 use Rattle.asp_model.specs.Names.{Name, main_name, created_name}
+use Rattle.asp_model.specs.Term.{Tree}
 use Rattle.asp_model.specs.Marked.{Marked, plain}
 use Rattle.asp_model.specs.Configuration.{Configuration}
+use Rattle.asp_model.specs.History.{EntryShape, FirstShape, program_history}
 use Rattle.asp_model.specs.Step.{name_at}
+use Rattle.def_journals.specs.Journals.{RunShape, all_entered, run_from, run_of}
 use Rattle.law_steps.specs.Reached.{IsReached}
+use Rattle.law_steps.specs.Sound.{IsSound}
 use Rattle.law_journals.specs.Numbered.{IsFirst}
 use Rattle.law_programs.specs.Programs.{IsSoundProgram}
-use Rattle.law_frozen.specs.Frozen.{frozen_of}
+use Rattle.law_frozen.specs.Same.{SamePending}
+use Rattle.law_frozen.specs.Frozen.{FrozenShape, frozen_of, thawed_first}
 use Rattle.law_checkpoints.specs.Sound.{IsSoundFrozen}
+
+-- The order of creation
 
 -- a name of one that one of these has created
 abbrev pub IsCreatedBy : List Name → Name → Type 0
@@ -19,13 +26,51 @@ abbrev pub AreBehind : (before names : List Name) → Type 0
 AreBehind before [] = Unit {0}
 AreBehind before (n ∷ names) = IsCreatedBy before n × AreBehind (before ++ n ∷ []) names
 
--- names in the order of creation: main is first, and each other one stands behind the one that has created it
+-- main is first, and each other one stands behind the one that has created it
 abbrev pub AreInOrder : List Name → Type 0
 AreInOrder [] = ⊥
 AreInOrder (n ∷ names) = (n ≡ main_name) × AreBehind (n ∷ []) names
 
--- what is frozen of a configuration that a program reaches is sound, where its names stand in the order of creation
+-- entries keep it, from any run on
+abbrev pub EntriesKeepOrder : Type 0
+EntriesKeepOrder = (entries : List EntryShape) (s t : RunShape) → all_entered entries s ≡ Some t
+    → IsSound s.configuration → AreInOrder s.names → AreInOrder t.names
+
+-- Where a run is saved
+
+-- the program reaches the configuration, and these are the names of its activities in the order of creation
+pub record IsSavedAt (program : Tree) (x : FirstShape) : Type 0 where
+  pub reached : IsReached program x.configuration
+  pub first : IsFirst x
+  pub order : AreInOrder x.names
+
+-- what is frozen there
+abbrev pub frozen_at : FirstShape → FrozenShape
+frozen_at x = frozen_of x.names x.configuration
+
+-- it is sound, where the program was read and checked
 abbrev pub SavedAreSound : Type 0
-SavedAreSound = (program : Marked) (names : List Name) (c : Configuration) → IsSoundProgram program
-    → IsReached (plain program) c → IsFirst (record { names = names; configuration = c }) → AreInOrder names
-    → IsSoundFrozen (frozen_of names c)
+SavedAreSound = (program : Marked) (x : FirstShape) → IsSoundProgram program → IsSavedAt (plain program) x
+    → IsSoundFrozen (frozen_at x)
+
+-- the names and the configuration of a run
+abbrev pub end_of : RunShape → FirstShape
+end_of s = record { names = s.names; configuration = s.configuration }
+
+-- the run of each lawful journal of a program can be saved so
+abbrev pub RunsAreSaved : Type 0
+RunsAreSaved = (program : Tree) (budget : ℕ) (entries : List EntryShape) (s : RunShape)
+    → run_of (program_history program budget entries) ≡ Some s → IsSavedAt program (end_of s)
+
+-- and where a run went on that was saved so, what is frozen of its end is what is frozen of a configuration that can
+-- be saved so, from which it differs in what was served alone
+pub record IsSavedAgain (program : Tree) (t : RunShape) : Type 0 where
+  pub other : Configuration
+  pub saved : IsSavedAt program (record { names = t.names; configuration = other })
+  pub same : SamePending other t.configuration
+  pub frozen : frozen_of t.names other ≡ frozen_of t.names t.configuration
+
+abbrev pub RunsAreSavedAgain : Type 0
+RunsAreSavedAgain = (program : Tree) (x : FirstShape) (budget : ℕ) (entries : List EntryShape) (t : RunShape)
+    → IsSavedAt program x → all_entered entries (run_from (thawed_first (frozen_at x)) budget) ≡ Some t
+    → IsSavedAgain program t

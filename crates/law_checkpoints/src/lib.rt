@@ -5,5 +5,5 @@
 mod saved;
 mod sound;
 
-pub use saved::saved_are_sound;
+pub use saved::{entries_keep_order, runs_are_saved, runs_are_saved_again, saved_are_sound};
 pub use sound::{frozen_are_first, frozen_are_whole};

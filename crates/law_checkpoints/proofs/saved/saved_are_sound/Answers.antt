@@ -1,4 +1,4 @@
-use Rattle.law_checkpoints.proofs.FreezeLemmas.{saved_are_sound}
+use Rattle.law_checkpoints.proofs.AgainLemmas.{saved_are_sound}
 use Rattle.law_checkpoints.proofs.saved.saved_are_sound.Goals as goal
 
 pub returns : goal.returns
