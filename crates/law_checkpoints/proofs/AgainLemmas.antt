@@ -16,7 +16,8 @@ use Rattle.law_frozen.specs.Frozen.{freeze, frozen_at as frozen_in, thawed_first
 use Rattle.law_frozen.proofs.FrozenLemmas.{same_freezes_same}
 use Rattle.law_frozen.proofs.SameLemmas.{bare_found, there_same}
 use Rattle.law_frozen.proofs.ThawLemmas.{thawed_are_first, runs_are_led_back}
-use Rattle.law_checkpoints.specs.Saved.{AreInOrder, RunsAreSaved, RunsAreSavedAgain, SavedAreSound, frozen_at}
+use Rattle.law_checkpoints.specs.Order.{AreInOrder}
+use Rattle.law_checkpoints.specs.Saved.{RunsAreSaved, RunsAreSavedAgain, SavedAreSound, frozen_at}
 use Rattle.law_checkpoints.proofs.FreezeLemmas.{sound_frozen}
 use Rattle.law_checkpoints.proofs.KeptLemmas.{reached_are_savable}
 use Rattle.law_checkpoints.proofs.OrderLemmas.{entries_keep_order}

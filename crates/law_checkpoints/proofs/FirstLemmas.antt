@@ -20,7 +20,7 @@ use Rattle.law_steps.proofs.EntryLemmas.{In}
 use Rattle.law_steps.proofs.NameLemmas.{name_total, name_same, name_itself, names_tied, is_there}
 use Rattle.law_steps.proofs.SoundLemmas.{mark_other}
 use Rattle.law_journals.proofs.CountLemmas.{in_mapped}
-use Rattle.law_journals.proofs.NameListLemmas.{AreApart}
+use Rattle.law_journals.proofs.NameListLemmas.{AreApart, in_numbered}
 use Rattle.law_journals.proofs.NumberLemmas.{AreNamed, numbered_by}
 use Rattle.law_paths.proofs.KeyedLemmas.{found_at_key}
 use Rattle.law_frozen.specs.Frozen.{FrozenActivity, FrozenShape, answered, has_future, numbers_to, received_by, spent, thawed, thawed_activity, thawed_first}
@@ -28,7 +28,8 @@ use Rattle.law_frozen.proofs.FrozenLemmas.{in_numbers, not_numbers, length_spent
 use Rattle.law_frozen.proofs.CountLemmas.{count, keys, count_both, count_none, count_spent, keys_once, one_place, slice_front, slice_behind, slice_below, numbers_apart, below_numbers}
 use Rattle.law_checkpoints.specs.Lookups.{activity_of, IsNamed, number_in, creations_in, sends_in, HasHome, IsHoused, times_pending, times_at}
 use Rattle.law_checkpoints.specs.Sound.{StandOnce, IsCreatedAmong, AreCreated, BeginWithMain, IsKnownIn, IsSoundParcel, IsSoundRequest, IsSoundValue, IsAnsweredAt, IsSoundActivity, IsSoundHome, IsSoundFrozen}
-use Rattle.law_checkpoints.specs.Laws.{FrozenAreFirst, FrozenAreWhole}
+use Rattle.law_checkpoints.specs.Order.{IsCreatedBy, AreBehind, AreInOrder}
+use Rattle.law_checkpoints.specs.Laws.{FrozenAreFirst, FrozenAreInOrder, FrozenAreWhole}
 use Rattle.law_checkpoints.proofs.LookLemmas.{each_in, with_each, found_each, activity_there, there_activity, home_there, times_are, count_some, no_future}
 
 both_second : (a b : Bool) → (a && b) ≡ true → b ≡ true
@@ -84,6 +85,31 @@ names_apart (x ∷ xs) h = (
   λ i. let y = mapped_in (λ z. z.name) x.name xs i in no_some (sym h.0 ∙ ap (λ n. activity_of n xs) y.2 ∙ there_activity xs y.0 h.1 y.1),
   names_apart xs h.1,
 )
+
+abbrev names_of : List FrozenActivity → List Name
+names_of xs = map (λ x. x.name) xs
+
+names_more : (xs : List FrozenActivity) (x : FrozenActivity) → names_of (xs ++ x ∷ []) ≡ names_of xs ++ x.name ∷ []
+names_more [] x = refl
+names_more (y ∷ xs) x = ap (λ l. y.name ∷ l) (names_more xs x)
+
+names_behind : (before xs : List FrozenActivity) → AreCreated before xs → AreBehind (names_of before) (names_of xs)
+names_behind before [] h = tt
+names_behind before (x ∷ xs) h = (
+  by (activity_of h.0.0 before) refl h.0.3,
+  subst (λ l. AreBehind l (names_of xs)) (names_more before x) (names_behind (before ++ x ∷ []) xs h.1),
+)
+  where
+    by : (o : Option FrozenActivity) → activity_of h.0.0 before ≡ o → suc h.0.1 ≤ number_in (λ z. z.activity.creations) o → IsCreatedBy (names_of before) x.name
+    by None is le = absurd (omega (arith, le))
+    by (Some y) is le =
+        let there = activity_there h.0.0 before y is in
+        let i = in_numbered (names_of before) h.0.0 (subst (λ n. In n (names_of before)) there.1 (in_mapped (λ z. z.name) y before there.0)) in
+        (h.0.0, h.0.1, i.0, i.1, h.0.2)
+
+names_in_order : (xs : List FrozenActivity) → BeginWithMain xs → AreInOrder (names_of xs)
+names_in_order [] h = absurd h
+names_in_order (x ∷ xs) h = (h.0, names_behind (x ∷ []) xs h.1)
 
 -- What has to be answered
 
@@ -472,3 +498,6 @@ frozen_are_whole f h = record {
   closed = closed_now f h;
   active = at_now f h (λ a. is_future (cell a.store a.active) ≡ false) (λ x s. no_future (cell x.activity.store x.activity.active) s.object);
 }
+
+pub frozen_are_in_order : FrozenAreInOrder
+frozen_are_in_order f h = names_in_order f.activities h.names.created

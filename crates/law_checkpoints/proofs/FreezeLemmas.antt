@@ -34,7 +34,7 @@ use Rattle.law_frozen.proofs.FrozenLemmas.{in_either, number_of_item, numbered_i
 use Rattle.law_frozen.proofs.CountLemmas.{count, count_none, count_once, count_waiting, waiting_at, at_waiting, has_there}
 use Rattle.law_checkpoints.specs.Lookups.{activity_of, IsNamed, number_in, creations_in, sends_in, HasHome, IsHoused, times_pending, times_at, times_in}
 use Rattle.law_checkpoints.specs.Sound.{StandOnce, IsCreatedAmong, AreCreated, BeginWithMain, HasNames, IsKnownIn, IsSoundRequest, IsSoundValue, IsAnsweredAt, IsSoundActivity, IsSoundHome, IsSoundFrozen}
-use Rattle.law_checkpoints.specs.Saved.{IsCreatedBy, AreBehind, AreInOrder}
+use Rattle.law_checkpoints.specs.Order.{IsCreatedBy, AreBehind, AreInOrder}
 use Rattle.law_checkpoints.proofs.LookLemmas.{in_each, activity_there, home_there, times_are, count_some}
 use Rattle.law_checkpoints.proofs.MainLemmas.{not_main}
 use Rattle.law_checkpoints.proofs.KeptLemmas.{IsSavable}

@@ -1,6 +1,7 @@
 -- in reading order
 pub mod LookLemmas
 pub mod FirstLemmas
+pub mod TermLemmas
 pub mod ServiceLemmas
 pub mod MainLemmas
 pub mod ObjectLemmas

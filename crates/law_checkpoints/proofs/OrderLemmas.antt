@@ -19,7 +19,7 @@ use Rattle.law_steps.proofs.StepLemmas.{step_taken}
 use Rattle.law_steps.proofs.WholeLemmas.{moves_keep_sound}
 use Rattle.law_journals.proofs.JournalLemmas.{Done, entry_done, entry_keeps, first_entered, first_reduced, reduced_keeps}
 use Rattle.law_journals.proofs.NameListLemmas.{entry_of, number_stays, passed_in}
-use Rattle.law_checkpoints.specs.Saved.{AreBehind, AreInOrder, EntriesKeepOrder}
+use Rattle.law_checkpoints.specs.Order.{AreBehind, AreInOrder, EntriesKeepOrder}
 
 -- Lists
 

@@ -1,5 +1,6 @@
 -- in reading order
 pub mod Lookups
 pub mod Sound
+pub mod Order
 pub mod Laws
 pub mod Saved

@@ -1,42 +1,17 @@
 -- What is frozen of a run of a program is sound.
-use Rattle.std.specs.Prelude.{◌≡◌, ℕ, suc, List, [], ◌∷◌, ◌++◌, Some}
-use Rattle.asp_model.specs.Names.{Name, main_name, created_name}
+use Rattle.std.specs.Prelude.{◌≡◌, ℕ, List, Some}
 use Rattle.asp_model.specs.Term.{Tree}
 use Rattle.asp_model.specs.Marked.{Marked, plain}
 use Rattle.asp_model.specs.Configuration.{Configuration}
 use Rattle.asp_model.specs.History.{EntryShape, FirstShape, program_history}
-use Rattle.asp_model.specs.Step.{name_at}
 use Rattle.def_journals.specs.Journals.{RunShape, all_entered, run_from, run_of}
 use Rattle.law_steps.specs.Reached.{IsReached}
-use Rattle.law_steps.specs.Sound.{IsSound}
 use Rattle.law_journals.specs.Numbered.{IsFirst}
 use Rattle.law_programs.specs.Programs.{IsSoundProgram}
 use Rattle.law_frozen.specs.Same.{SamePending}
 use Rattle.law_frozen.specs.Frozen.{FrozenShape, frozen_of, thawed_first}
+use Rattle.law_checkpoints.specs.Order.{AreInOrder}
 use Rattle.law_checkpoints.specs.Sound.{IsSoundFrozen}
-
--- The order of creation
-
--- a name of one that one of these has created
-abbrev pub IsCreatedBy : List Name → Name → Type 0
-IsCreatedBy names n = (by : Name) × (k i : ℕ) × (name_at names i ≡ Some by) × (n ≡ created_name by (suc k))
-
--- each stands behind the one that has created it
-abbrev pub AreBehind : (before names : List Name) → Type 0
-AreBehind before [] = Unit {0}
-AreBehind before (n ∷ names) = IsCreatedBy before n × AreBehind (before ++ n ∷ []) names
-
--- main is first, and each other one stands behind the one that has created it
-abbrev pub AreInOrder : List Name → Type 0
-AreInOrder [] = ⊥
-AreInOrder (n ∷ names) = (n ≡ main_name) × AreBehind (n ∷ []) names
-
--- entries keep it, from any run on
-abbrev pub EntriesKeepOrder : Type 0
-EntriesKeepOrder = (entries : List EntryShape) (s t : RunShape) → all_entered entries s ≡ Some t
-    → IsSound s.configuration → AreInOrder s.names → AreInOrder t.names
-
--- Where a run is saved
 
 -- the program reaches the configuration, and these are the names of its activities in the order of creation
 pub record IsSavedAt (program : Tree) (x : FirstShape) : Type 0 where

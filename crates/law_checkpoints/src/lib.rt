@@ -6,4 +6,4 @@ mod saved;
 mod sound;
 
 pub use saved::{entries_keep_order, runs_are_saved, runs_are_saved_again, saved_are_sound};
-pub use sound::{frozen_are_first, frozen_are_whole};
+pub use sound::{frozen_are_first, frozen_are_in_order, frozen_are_whole, terms_are_redexes};

@@ -1,11 +1,7 @@
 //! Where runs are saved, and what is frozen there.
 
-ghost use Rattle.law_checkpoints.specs.Saved.{
-  EntriesKeepOrder,
-  RunsAreSaved,
-  RunsAreSavedAgain,
-  SavedAreSound,
-};
+ghost use Rattle.law_checkpoints.specs.Order.{EntriesKeepOrder};
+ghost use Rattle.law_checkpoints.specs.Saved.{RunsAreSaved, RunsAreSavedAgain, SavedAreSound};
 
 /// What is frozen where a run of a program is saved is sound.
 pub fn saved_are_sound()
