@@ -9,3 +9,4 @@ pub mod KeptLemmas
 pub mod FreezeLemmas
 pub mod OrderLemmas
 pub mod AgainLemmas
+pub mod ResumeLemmas

@@ -4,3 +4,4 @@ pub mod Sound
 pub mod Order
 pub mod Laws
 pub mod Saved
+pub mod Resumed
