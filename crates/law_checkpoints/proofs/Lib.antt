@@ -2,6 +2,7 @@
 pub mod LookLemmas
 pub mod FirstLemmas
 pub mod TermLemmas
+pub mod StandingLemmas
 pub mod ServiceLemmas
 pub mod MainLemmas
 pub mod ObjectLemmas
