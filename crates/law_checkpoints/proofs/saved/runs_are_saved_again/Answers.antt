@@ -1,0 +1,5 @@
+use Rattle.law_checkpoints.proofs.AgainLemmas.{runs_are_saved_again}
+use Rattle.law_checkpoints.proofs.saved.runs_are_saved_again.Goals as goal
+
+pub returns : goal.returns
+returns c = runs_are_saved_again
