@@ -1,13 +1,17 @@
 //! Replays under lists and counts, by the calls themselves.
 
+ghost use Rattle.asp_core.specs.Over.{IsOver};
+
 use crate::drops::drop_end;
 use asp_check::Checked;
-use asp_model::{Counts, Lists, MOST_DEPTH};
+use asp_core::{Core, end_of_run};
+use asp_model::{Counts, Lists, MOST_DEPTH, Word};
 use replay_one::{ReplayStop, are_replayable, counts_in, lists_in, replay};
 use run_ends::RunEnd;
 use run_report::render;
 use std::alloc::{AllocError, Global};
 use std::process::Abort;
+use std::test::Fail;
 
 /// The replay under these lists and counts.
 pub fn replayed(
@@ -50,4 +54,30 @@ pub fn is_repeated(
     let same = is_same(alloc, end, &repeated);
     drop_end(repeated);
     Ok(same?)
+}
+
+fn lines_text(alloc: Global, lines: &[Word]) -> Result<String, AllocError> {
+    let mut text = String::new(alloc);
+    for line in lines {
+        text.push_str(line.as_str())?;
+        text.push_str("\n")?;
+    }
+    Ok(text)
+}
+
+/// The report of an end.
+pub fn report(alloc: Global, end: &RunEnd) -> Result<String, AllocError> {
+    lines_text(alloc, &render(alloc, end, None)?)
+}
+
+/// The report of a core's end, which is that of the replay under its own lists and counts.
+pub fn ended(rt: &impl Abort, alloc: Global, program: &Checked, core: Core) -> Result<String, Fail>
+    requires over { IsOver core }
+{
+    let end = end_of_run(core)?;
+    let same = is_repeated(rt, alloc, program, &end);
+    let text = report(alloc, &end);
+    drop_end(end);
+    assert!(rt; same?, "the replay is another one");
+    Ok(text?)
 }

@@ -4,6 +4,7 @@
 
 mod commands;
 mod faults_of_the_outside;
+mod long_runs;
 mod policies_asked;
 mod raced_cores;
 mod racing;

@@ -28,6 +28,11 @@ pub const FAULTS: &str =
 /// It never ends.
 pub const ENDLESS: &str = "repeat(0)";
 
+/// Eight that never end.
+pub const LOOPS: &str =
+    "let w = [; go(s) = repeat(0)] in let m = [; many(s, k) = if (k == 0) { 0 } \
+     else { active(w).go(); s.many(k - 1) }] in m.many(7); repeat(0)";
+
 /// One reduction.
 pub const ONE: &str = "1";
 

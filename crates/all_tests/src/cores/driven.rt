@@ -7,15 +7,12 @@ ghost use Rattle.asp_core.specs.Over.{IsOver};
 use crate::boxes::usual_policies;
 use crate::cores::acts::{Act, steps};
 use crate::cores::shown::told;
-use crate::drops::{drop_checked, drop_core, drop_end};
+use crate::drops::{drop_checked, drop_core};
 use crate::programs::checked;
-use crate::repeats::is_repeated;
+use crate::repeats::ended;
 use asp_check::Checked;
-use asp_core::{Core, end_of_run, finish};
-use asp_model::Word;
+use asp_core::{Core, finish};
 use core_drives::drive;
-use run_ends::RunEnd;
-use run_report::render;
 use std::alloc::{AllocError, Global};
 use std::process::Abort;
 use std::test::Fail;
@@ -48,31 +45,6 @@ fn driven(
 {
     let steps = steps(alloc, acts)?;
     drive(alloc, program, start.budget, plan, policies, &steps)
-}
-
-fn lines_text(alloc: Global, lines: &[Word]) -> Result<String, AllocError> {
-    let mut text = String::new(alloc);
-    for line in lines {
-        text.push_str(line.as_str())?;
-        text.push_str("\n")?;
-    }
-    Ok(text)
-}
-
-fn report(alloc: Global, end: &RunEnd) -> Result<String, AllocError> {
-    lines_text(alloc, &render(alloc, end, None)?)
-}
-
-// The report of the end, which is that of the replay under its own lists and counts.
-fn ended(rt: &impl Abort, alloc: Global, program: &Checked, core: Core) -> Result<String, Fail>
-    requires over { IsOver core }
-{
-    let end = end_of_run(core)?;
-    let same = is_repeated(rt, alloc, program, &end);
-    let text = report(alloc, &end);
-    drop_end(end);
-    assert!(rt; same?, "the replay is another one");
-    Ok(text?)
 }
 
 // The core is finished, if nobody is out of it: else the test fails.

@@ -1,22 +1,34 @@
 //! Cores that workers run, and what they deliver along edges.
 
+ghost use Rattle.std.specs.Prelude.{IfOk};
+ghost use Rattle.asp_core.specs.Over.{IsOver};
+
 use crate::boxes::usual_policies;
 use crate::drops::{drop_checked, drop_core};
 use crate::programs::checked;
 use crate::texts::PASSING;
 use asp_check::Checked;
 use asp_core::Core;
-use asp_model::{Delivery, Entry};
+use asp_model::{Delivery, Entry, MOST_WORKERS};
 use std::alloc::{AllocError, Global};
+use std::process::Abort;
 use std::sync::Wait;
 use std::test::Fail;
 use std::thread::Threads;
 use update_policy::{Plan, Strategy};
-use worker_pool::{OpenGate, run_core};
+use worker_pool::{Gate, OpenGate, run_core};
 
 const BUDGET: u64 = 1000;
 
 const WORKERS: u32 = 2;
+
+/// How a core is run: within which budget, by how many workers, and past which gate.
+#[derive(Drop)]
+pub struct Race<'a, G> {
+    pub budget: u64,
+    pub workers: u32,
+    pub gate: &'a G,
+}
 
 /// How many edges a run left, and how many values went along edges, and to where they were needed.
 #[derive(Drop)]
@@ -26,16 +38,22 @@ struct Deliveries {
     where_needed: u64,
 }
 
-fn raced<R: Threads + Wait + Sync>(
+/// The core of a program, which workers ran until its verdict was there.
+pub fn raced<R: Abort + Threads + Wait + Sync, G: Gate>(
     rt: &R,
     alloc: Global,
     program: &Checked,
     strategy: Strategy,
-) -> Result<Core, AllocError> {
+    race: &Race<G>,
+) -> Result<Core, AllocError>
+    ensures over { IfOk result IsOver }
+{
+    let workers = race.workers;
+    assert!(rt; workers > 0 && workers <= MOST_WORKERS);
     let policies = usual_policies(alloc)?;
     let plan = Plan::of(alloc, strategy);
-    let core = Core::new(alloc, program, BUDGET, plan, policies)?;
-    run_core(rt, alloc, core, WORKERS, &OpenGate)
+    let core = Core::new(alloc, program, race.budget, plan, policies)?;
+    run_core(rt, alloc, core, workers, race.gate)
 }
 
 fn count(made: &mut Deliveries, delivery: &Delivery) {
@@ -60,13 +78,18 @@ fn deliveries_in(core: &Core) -> Deliveries {
 }
 
 // A future passes three activities unread.
-fn delivered_by<R: Threads + Wait + Sync>(
+fn delivered_by<R: Abort + Threads + Wait + Sync>(
     rt: &R,
     alloc: Global,
     strategy: Strategy,
 ) -> Result<Deliveries, Fail> {
     let program = checked(alloc, PASSING)?;
-    let core = raced(rt, alloc, &program, strategy);
+    let race = Race {
+        budget: BUDGET,
+        workers: WORKERS,
+        gate: &OpenGate,
+    };
+    let core = raced(rt, alloc, &program, strategy, &race);
     drop_checked(program);
     let core = core?;
     let made = deliveries_in(&core);
