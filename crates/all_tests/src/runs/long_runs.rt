@@ -30,10 +30,10 @@ static WORKERS: [u32; 7] = [1, 2, 3, 4, 8, 16, 64];
 const HELD_BURST: u64 = 100;
 
 /// Until one comes from here on. Hardly more is left then than is kept for the worker that is held.
-const LATE_BURST: u64 = GRANTS - 70;
+const LATE_BURST: u64 = GRANTS - 40;
 
 /// How long the others have for what is left.
-const MORE_LOOKS: u64 = 20_000;
+const MORE_LOOKS: u64 = 100;
 
 const MOST_LOOKS: u64 = 50_000_000;
 
