@@ -1,4 +1,5 @@
 -- in reading order
+pub mod Hashed
 pub mod Names
 pub mod Numbered
 pub mod Changes

@@ -155,6 +155,24 @@ impl Names {
         self.enter(name)
     }
 
+    /// As `enter`, where two numbers are tried before the name is looked up.
+    fn enter_one_of(
+        &mut self,
+        name: &ActivityName,
+        first: u32,
+        second: u32,
+    ) -> Result<u32, AllocError>
+        requires names { AreNames (names_in self.old) }
+        ensures names { AreNames (names_in self.new) }
+        ensures keeps { Keeps (names_in self.old) (names_in self.new) }
+        ensures number { IfOk result (IsNumberOf (names_in self.new) name.now) }
+    {
+        if self.is_named(first, name) {
+            return Ok(first);
+        }
+        self.enter_near(name, second)
+    }
+
     // Whether a number is that of an activity.
     #[tactic(auto, using(crate::proofs::NameLemmas::named_at))]
     fn is_named(&self, number: u32, name: &ActivityName) -> bool
@@ -179,8 +197,9 @@ impl Names {
             (λ x. IsFutureOf (names_in self.new) (future_shape future.now) x.0) }
         ensures home { IfOk result (λ x. IsNumberOf (names_in self.new) home.now x.1) }
     {
-        let by = self.enter(&future.by)?;
-        let home = self.enter(home)?;
+        let newest = self.names.len().saturating_sub(1) as u32;
+        let by = self.enter_near(&future.by, self.sender)?;
+        let home = self.enter_one_of(home, self.beside, newest)?;
         self.sender = by;
         self.beside = home;
         let index = future.index;
@@ -201,8 +220,8 @@ impl Names {
             IfOk result (IsEdgeOf (names_in self.new) edge) }
     {
         let by = self.enter_near(&future.by, self.sender)?;
-        let from = self.enter_near(from, self.beside)?;
-        let to = self.enter_near(to, by)?;
+        let from = self.enter_one_of(from, self.beside, by)?;
+        let to = self.enter_one_of(to, by, self.beside)?;
         let index = future.index;
         let future = Future { by, index };
         Ok(Edge { future, from, to })
