@@ -21,7 +21,6 @@ use Rattle.asp_model.specs.Intent.{Rests, Done, intent}
 use Rattle.asp_model.specs.Status.{status_of, status_of_intent, statuses_of, verdict_of}
 use Rattle.asp_model.specs.Outcome.{ActivityReportShape, activity_report, outcome_of}
 use Rattle.asp_model.specs.Shapes.{activity_shape, status_shape}
-use Rattle.asp_model.specs.Term.{Tree}
 use Rattle.code_table.specs.declared.cells.Parcel.{Parcel}
 use Rattle.future_table.specs.Values.{values_of}
 use Rattle.code_table.specs.declared.code.Node.{Node}
@@ -31,16 +30,13 @@ use Rattle.run_ends.specs.declared.ends.EndState.{EndState}
 use Rattle.run_ends.specs.Ends.{AreSnapshotsOf, IsSnapshotOf}
 use Rattle.law_steps.specs.Reached.{IsAt, IsThere}
 use Rattle.law_steps.specs.Closed.{IsClosed}
-use Rattle.law_steps.proofs.ClosedLaws.{reached_are_closed}
 use Rattle.law_steps.proofs.EntryLemmas.{In, entry_found, first_of_both, second_of_both}
 use Rattle.law_steps.proofs.NameLemmas.{name_total, name_case}
 use Rattle.law_chases.proofs.FutureLemmas.{no_some, true_false}
-use Rattle.law_steps.proofs.NamesLaws.{entries_ascend}
-use Rattle.law_steps.proofs.WholeLemmas.{reached_are_sound}
 use Rattle.step_reads.specs.Values.{AreClosedValues}
 use Rattle.step_activity.specs.declared.actor.Actor.{Actor}
 use Rattle.step_activity.specs.Actors.{Stands, code_of, log_in}
-use Rattle.step_ends.specs.Activities.{StandForReached, StandsAt, actor_at}
+use Rattle.step_ends.specs.Activities.{StandForSound, StandsAt, actor_at}
 use Rattle.step_ends.specs.Ends.{AreClosedStates, AreEndsBy, AreEndsFor, IsEndBy, IsEndFor, end_with}
 use Rattle.step_ends.proofs.EntryLemmas.{absent_below, absent_less, find_head, find_skip, lookup_find, sorted_by}
 
@@ -194,13 +190,13 @@ closed_paired c (x ∷ xs) (y ∷ ys) k h t = (record { activity = y.1; received
 nobody_at : (xs : List (Name × Box Actor)) (n : Name) → xs ≡ [] → actor_at xs n ≡ None
 nobody_at xs n none = ap (λ ys. actor_at ys n) none
 
-module _ (xs : List (Name × Box Actor)) (futures : List (FutureName × Parcel)) (program : Tree) (c : Configuration) (h : StandForReached xs futures program c) where
+module _ (xs : List (Name × Box Actor)) (futures : List (FutureName × Parcel)) (c : Configuration) (h : StandForSound xs futures c) where
   -- the main activity at least
   pub somebody : 0 < length xs
   somebody = by xs refl
     where
       main : IsThere c main_name
-      main = (reached_are_sound program c h.reached).created main_name (inl refl)
+      main = h.sound.created main_name (inl refl)
 
       by : (ys : List (Name × Box Actor)) → xs ≡ ys → 0 < length ys
       by [] none =
@@ -210,15 +206,15 @@ module _ (xs : List (Name × Box Actor)) (futures : List (FutureName × Parcel))
       by (y ∷ ys) is = omega arith
 
   pub values_closed : AreClosedValues (values_of futures)
-  values_closed = subst AreClosedValues (sym h.population.futures) (reached_are_closed program c h.bare h.reached).values
+  values_closed = subst AreClosedValues (sym h.population.futures) h.closed.values
 
   module _ (sorted : IsStrictlySortedBy name_cmp (keys_of xs)) where
     all_paired : ArePaired c xs c.activities
-    all_paired = paired c xs c.activities (sorted_by xs sorted) (entries_ascend program c h.reached).activities
+    all_paired = paired c xs c.activities (sorted_by xs sorted) h.sound.ordered.activities
         (λ n. subst (λ o. StandsAt (unboxed o) (find name_cmp n c.activities) (requests_of c n)) (lookup_find n xs) (h.population.activities n))
 
     all_there : AreThere c c.activities
-    all_there y i = entry_found c.activities y (entries_ascend program c h.reached).activities i
+    all_there y i = entry_found c.activities y h.sound.ordered.activities i
 
     all_coded : AreCoded h.population.code xs
     all_coded = coded h.population.code xs (sorted_by xs sorted) (λ n x e. h.population.actors n x (ap unboxed (lookup_find n xs) ∙ e))
@@ -230,7 +226,7 @@ module _ (xs : List (Name × Box Actor)) (futures : List (FutureName × Parcel))
     all_ends = subst (λ (vs : Values). AreEndsFor h.population.code vs xs (map (end_of c) c.activities)) (sym h.population.futures) (ends_paired h.population.code c xs c.activities all_coded all_logged all_paired all_there)
 
     pub all_closed : AreClosedStates xs
-    all_closed = closed_paired c xs c.activities (reached_are_closed program c h.bare h.reached) all_paired all_there
+    all_closed = closed_paired c xs c.activities h.closed all_paired all_there
 
 -- One end after the other
 

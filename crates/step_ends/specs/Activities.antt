@@ -7,13 +7,13 @@ use Rattle.std.specs.Map.{lookup}
 use Rattle.std.specs.Option.{option_map}
 use Rattle.asp_model.specs.declared.name.FutureName.{FutureName}
 use Rattle.asp_model.specs.Names.{Name, name_cmp}
-use Rattle.asp_model.specs.Term.{Tree, locations}
 use Rattle.asp_model.specs.Configuration as model
 use Rattle.asp_model.specs.Configuration.{Configuration, RequestShape, log_of, requests_of}
 use Rattle.code_table.specs.declared.cells.Parcel.{Parcel}
 use Rattle.code_table.specs.declared.code.Node.{Node}
 use Rattle.future_table.specs.Values.{AreOfCode, values_of}
-use Rattle.law_steps.specs.Reached.{IsReached}
+use Rattle.law_steps.specs.Closed.{IsClosed}
+use Rattle.law_steps.specs.Sound.{IsSound}
 use Rattle.step_activity.specs.declared.actor.Actor.{Actor}
 use Rattle.step_activity.specs.Actors.{Stands, code_of, log_in}
 
@@ -43,11 +43,12 @@ pub record StandFor (xs : List (Name × Box Actor)) (filled : List (FutureName �
   pub actors : RunCode code xs
   pub values : AreOfCode code filled
 
--- and that is reached by a program without places
-pub record StandForReached (xs : List (Name × Box Actor)) (filled : List (FutureName × Parcel)) (program : Tree) (c : Configuration) : Type 0 where
-  pub bare : locations program ≡ []
-  pub reached : IsReached program c
+-- and that is sound and closed
+pub record StandForSound (xs : List (Name × Box Actor)) (filled : List (FutureName × Parcel)) (c : Configuration)
+    : Type 0 where
+  pub sound : IsSound c
+  pub closed : IsClosed c
   pub population : StandFor xs filled c
 
 abbrev pub StandForSome : List (Name × Box Actor) → List (FutureName × Parcel) → Type 0
-StandForSome xs filled = (program : Tree) × (c : Configuration) × StandForReached xs filled program c
+StandForSome xs filled = (c : Configuration) × StandForSound xs filled c

@@ -4,7 +4,6 @@ ghost use Rattle.std.specs.Prelude.{◌≡◌, ◌<◌, List, IfOk, length, map}
 ghost use Rattle.std.specs.Arc.{arc_value};
 ghost use Rattle.std.specs.List.{list_any};
 ghost use Rattle.asp_model.specs.Names.{Name};
-ghost use Rattle.asp_model.specs.Term.{Tree};
 ghost use Rattle.asp_model.specs.Chase.{chase};
 ghost use Rattle.asp_model.specs.Configuration as model;
 ghost use Rattle.asp_model.specs.Configuration.{Configuration, RequestShape};
@@ -23,7 +22,7 @@ ghost use Rattle.step_activity.specs.Actors.{IsClosedFor, Stands, code_of, log_i
 ghost use Rattle.def_paths.specs.Outcomes.{EndShape, whole_outcome_of};
 ghost use Rattle.code_table.specs.declared.code.Node.{Node as NodeShape};
 ghost use Rattle.run_ends.specs.Ends.{IsEndOf};
-ghost use Rattle.step_ends.specs.Activities.{RunCode, StandForReached, StandForSome};
+ghost use Rattle.step_ends.specs.Activities.{RunCode, StandForSome, StandForSound};
 ghost use Rattle.step_ends.specs.Ends.{AreClosedStates, AreEndsBy, AreEndsFor, IsEndBy, end_with};
 
 use asp_model::{ActivityName, ActivityReport, Outcome, Status, Verdict};
@@ -150,12 +149,10 @@ pub fn run_end_of(
     activities: BTreeMap<ActivityName, Box<Actor>>,
     futures: FutureTable,
 ) -> Result<RunEnd, AllocError>
-    requires reached { StandForSome activities.entries futures }
-    ensures end { (program : Tree) (c : Configuration) →
-        StandForReached activities.entries futures program c →
+    requires sound { StandForSome activities.entries futures }
+    ensures end { (c : Configuration) → StandForSound activities.entries futures c →
         IfOk result (λ r. IsEndOf r (whole_outcome_of c)) }
-    ensures outcome { (program : Tree) (c : Configuration) →
-        StandForReached activities.entries futures program c →
+    ensures outcome { (c : Configuration) → StandForSound activities.entries futures c →
         IfOk result (λ r. outcome_shape r.outcome ≡ outcome_shown c) }
 {
     let count = activities.len();
