@@ -7,6 +7,9 @@ ghost use Rattle.std.specs.Prelude.{
   ◌∷◌,
   [],
   IfOk,
+  IsSome,
+  List,
+  None,
   OnErr,
   OnOk,
   false,
@@ -16,13 +19,14 @@ ghost use Rattle.std.specs.Prelude.{
 ghost use Rattle.asp_model.specs.Configuration.{Configuration};
 ghost use Rattle.asp_model.specs.Intent.{Effect};
 ghost use Rattle.asp_model.specs.Names.{FutureShape, Name};
-ghost use Rattle.asp_model.specs.Shapes.{delivery_shape};
+ghost use Rattle.asp_model.specs.Shapes.{delivery_shape, future_shape};
 ghost use Rattle.asp_model.specs.Step.{with_effect};
 ghost use Rattle.code_table.specs.Shapes.{parcel_shape};
-ghost use Rattle.def_journals.specs.Edges.{after_events, no_holders};
+ghost use Rattle.def_journals.specs.Edges.{Begins, after_event, after_events, home_of, no_holders};
 ghost use Rattle.def_journals.specs.Passing.{effect_events};
 ghost use Rattle.law_steps.specs.Steps.{IsNewTo};
 ghost use Rattle.step_activity.specs.Effects.{IsGiven};
+ghost use Rattle.future_update.specs.Changes.{once_filled};
 ghost use Rattle.future_update.specs.Holders.{IsTurned, is_met};
 ghost use Rattle.core_edges.specs.Answers.{AreAnswered};
 ghost use Rattle.core_edges.specs.Deliveries.{IsAfterDelivery};
@@ -107,6 +111,33 @@ impl<P: UpdatePolicy> Edges<P> {
         self.holders.returned(number)
     }
 
+    /// A future was begun before, and this is its home.
+    pub fn begun(&mut self, future: &FutureName, home: &ActivityName) -> Result<(), AllocError>
+        requires new { let homes = self.old.holders.holders.homes in
+            home_of (future_shape future.now) homes ≡ None }
+        ensures begun { let begins = Begins (future_shape future.now) home.now in
+            let old = self.old.holders.holders in
+            OnOk result (self.new.holders.holders ≡ after_event begins old) }
+        ensures answers { self.new.holders.answers ≡ self.old.holders.answers }
+        ensures policies { self.new.policies ≡ self.old.policies }
+        ensures others { KeepsOthers self.old self.new }
+    {
+        self.holders.sent(future, home)
+    }
+
+    /// A future that was begun before is filled. It takes no memory.
+    pub fn filled(&mut self, future: &FutureName)
+        requires told { let homes = self.old.holders.holders.homes in
+            IsSome (home_of (future_shape future.now) homes) }
+        ensures filled { let old = self.old.holders.holders in
+            self.new.holders.holders ≡ once_filled (future_shape future.now) old }
+        ensures answers { self.new.holders.answers ≡ self.old.holders.answers }
+        ensures policies { self.new.policies ≡ self.old.policies }
+        ensures others { KeepsOthers self.old self.new }
+    {
+        self.holders.filled(future)
+    }
+
     /// Enters what a reduction of an activity gives to others.
     pub fn given(
         &mut self,
@@ -122,9 +153,9 @@ impl<P: UpdatePolicy> Edges<P> {
         ensures answers { let strategies = strategy_in self.new in
             OnOk result (AreAnswered P.answer P.asked strategies self.old self.new) }
         ensures strategies { OnOk result (AreLearned given.now self.old self.new) }
-        ensures labels { (c : Configuration) (n : Name) (e : Effect) → IsNewTo c e →
-            IsGiven n e given.now → AreByLabels c self.old →
-            OnOk result (AreByLabels (with_effect n e c) self.new) }
+        ensures labels { (homes : List (FutureShape × Name)) (c : Configuration) (n : Name)
+            (e : Effect) → IsNewTo c e → IsGiven n e given.now → AreByLabels homes c self.old →
+            OnOk result (AreByLabels homes (with_effect n e c) self.new) }
         ensures activities { let old = self.old.holders.activities in
             OnOk result (self.new.holders.activities ≡ old) }
         ensures plan { OnOk result (self.new.plan ≡ self.old.plan) }

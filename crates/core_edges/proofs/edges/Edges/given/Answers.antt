@@ -73,24 +73,24 @@ returns-in-Filled-clause-answers g c =
     none_answered g.P.UpdatePolicy.answer g.P.UpdatePolicy.asked (strategy_in (record old { holders = c.filled.new.self })) old (record old { holders = c.filled.new.self }) (ap (λ h. h.edges) (c.filled.ensures.filled ∙ named ∙ new)) c.filled.ensures.answers refl
 
 pub returns-in-Nothing-clause-labels : goal.returns-in-Nothing-clause-labels
-returns-in-Nothing-clause-labels g c d n e new given labels =
+returns-in-Nothing-clause-labels g c homes d n e new given labels =
     let is = subst (IsGiven n e) c.in-Nothing.is given in
-    labels_stay d n e c.args.self.now c.args.self.now refl labels is.0 (λ f. refl)
+    labels_stay homes d n e c.args.self.now c.args.self.now refl labels is.0 (λ f. refl)
 
 pub returns-in-Made-clause-labels : goal.returns-in-Made-clause-labels
-returns-in-Made-clause-labels g c d n e new given labels =
+returns-in-Made-clause-labels g c homes d n e new given labels =
     let is = subst (IsGiven n e) c.in-Made.is given in
-    on_ok c.pass_store.result (λ passed. labels_stay d n e c.args.self.now c.pass_store.new.self passed.others.plan labels is.0 (λ f. ap (λ s. s f) (same_strategies g.P.UpdatePolicy.answer g.P.UpdatePolicy.asked c.args.self.now c.pass_store.new.self passed.others))) c.pass_store.ensures.passed
+    on_ok c.pass_store.result (λ passed. labels_stay homes d n e c.args.self.now c.pass_store.new.self passed.others.plan labels is.0 (λ f. ap (λ s. s f) (same_strategies g.P.UpdatePolicy.answer g.P.UpdatePolicy.asked c.args.self.now c.pass_store.new.self passed.others))) c.pass_store.ensures.passed
 
 pub returns-in-Sent-clause-labels : goal.returns-in-Sent-clause-labels
-returns-in-Sent-clause-labels g c d n e new given labels =
+returns-in-Sent-clause-labels g c homes d n e new given labels =
     let is = subst (IsGiven n e) c.in-Sent.is given in
-    on_ok c.sent.result (λ sent. labels_learned d n e c.args.self.now c.sent.new.self sent.plan labels (c.in-Sent.home, request_shape c.in-Sent.request) is.0 new sent.learned) c.sent.ensures.sent
+    on_ok c.sent.result (λ sent. labels_learned homes d n e c.args.self.now c.sent.new.self sent.plan labels (c.in-Sent.home, request_shape c.in-Sent.request) is.0 new sent.learned) c.sent.ensures.sent
 
 pub returns-in-Filled-clause-labels : goal.returns-in-Filled-clause-labels
-returns-in-Filled-clause-labels g c d n e new given labels =
+returns-in-Filled-clause-labels g c homes d n e new given labels =
     let is = subst (IsGiven n e) c.in-Filled.is given in
-    labels_stay d n e c.args.self.now (record c.args.self.now { holders = c.filled.new.self }) refl labels is.0 (λ f. refl)
+    labels_stay homes d n e c.args.self.now (record c.args.self.now { holders = c.filled.new.self }) refl labels is.0 (λ f. refl)
 
 -- A poll
 
@@ -101,6 +101,6 @@ pub returns-in-Polled-clause-answers : goal.returns-in-Polled-clause-answers
 returns-in-Polled-clause-answers g c = none_answered g.P.UpdatePolicy.answer g.P.UpdatePolicy.asked (strategy_in c.args.self.now) c.args.self.now c.args.self.now refl refl refl
 
 pub returns-in-Polled-clause-labels : goal.returns-in-Polled-clause-labels
-returns-in-Polled-clause-labels g c d n e new given labels =
+returns-in-Polled-clause-labels g c homes d n e new given labels =
     let is = subst (IsGiven n e) c.in-Polled.is given in
-    labels_stay d n e c.args.self.now c.args.self.now refl labels is.0 (λ f. refl)
+    labels_stay homes d n e c.args.self.now c.args.self.now refl labels is.0 (λ f. refl)
