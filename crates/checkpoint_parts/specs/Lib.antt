@@ -1,0 +1,2 @@
+-- in reading order
+pub mod Shapes
