@@ -15,7 +15,7 @@ use Rattle.core_state.specs.declared.lease.Lease.{Lease}
 use Rattle.core_state.specs.Leases.{HasStopped, IsLease}
 
 -- contractions behind others
-run_then : (n m : ℕ) (a b c : Activity) → LocalRun n a b → LocalRun m b c → LocalRun (n + m) a c
+pub run_then : (n m : ℕ) (a b c : Activity) → LocalRun n a b → LocalRun m b c → LocalRun (n + m) a c
 run_then zero m a b c first then =
     let same : m ≡ 0 + m = omega arith in
     subst (λ k. LocalRun k a c) same (subst (λ z. LocalRun m z c) (sym first) then)
@@ -24,7 +24,7 @@ run_then (suc n) m a b c first then =
     subst (λ k. LocalRun k a c) same (first.0, first.1, run_then n m first.0 b c first.2 then)
 
 -- the grant is used still
-used_on : (n t m g : ℕ) (r : Advance) → IsUsed m (g - t) r → t ≤ g → n ≡ t + m → IsUsed n g r
+pub used_on : (n t m g : ℕ) (r : Advance) → IsUsed m (g - t) r → t ≤ g → n ≡ t + m → IsUsed n g r
 used_on n t m g advance.Reduces used within sum = omega (arith, used, within, sum)
 used_on n t m g (advance.Rests p) used within sum = tt
 used_on n t m g (advance.Faults f) used within sum = tt

@@ -79,9 +79,10 @@ pub fn rank_of(alloc: Global, actor: &Actor, futures: &FutureTable) -> Result<Ra
     rank_at(alloc, actor.stance(alloc, futures)?, futures)
 }
 
-/// All of these come, in order.
-fn receive_all(alloc: Global, actor: &mut Actor, came: Vec<Request>) -> Result<(), AllocError>
-    requires code { AllByRecursion (λ r. arc_value r.arguments.code ≡ code_of actor.old) came.items }
+/// All of these come, in order, to an activity that was out meanwhile.
+pub fn receive_all(alloc: Global, actor: &mut Actor, came: Vec<Request>) -> Result<(), AllocError>
+    requires code { let code = code_of actor.old in
+        AllByRecursion (λ r. arc_value r.arguments.code ≡ code) came.items }
     ensures stands { (a : model.Activity) (rs : List RequestShape) → Stands actor.old a rs →
         OnOk result (Stands actor.new a (rs ++ map request_shape came.items)) }
     ensures code { code_of actor.new ≡ code_of actor.old }

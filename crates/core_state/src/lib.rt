@@ -28,7 +28,7 @@ mod target;
 mod verdicts;
 
 pub use acting::bring_in;
-pub use come_back::{rank_at, rank_of};
+pub use come_back::{rank_at, rank_of, receive_all};
 pub use coming::come_in;
 pub use commits::arrive;
 pub use deliveries::{deliver, may_deliver};

@@ -1,5 +1,5 @@
 -- A lease with further grants that runs on, and as a lease.
-use Rattle.std.proofs.Common.{◌≡◌, ◌<◌, ◌-◌, ◌+◌, ◌*◌, ◌≤◌, ◌^◌, ℕ, zero, suc, false, min, List, sym, ap, subst, ◌∙◌, arith}
+use Rattle.std.proofs.Common.{◌≡◌, ◌<◌, ◌-◌, ◌+◌, ◌*◌, ◌≤◌, ◌^◌, ℕ, false, min, List, sym, ap, subst, ◌∙◌, arith}
 use Rattle.asp_model.specs.Configuration.{Activity, RequestShape, requests_of}
 use Rattle.asp_model.specs.History.{HistoryShape}
 use Rattle.asp_model.specs.Step.{name_at}
@@ -12,30 +12,10 @@ use Rattle.activity_step.specs.Activities.{IsUsed}
 use Rattle.activity_step.specs.Local.{LocalRun}
 use Rattle.step_activity.specs.Actors.{Stands, code_of, log_in}
 use Rattle.step_activity.specs.Running.{IsRunBy}
-use Rattle.core_state.specs.declared.lease.Lease.{Lease}
 use Rattle.core_state.specs.Leases.{HasStopped, IsLease}
+use Rattle.core_state.proofs.LeaseLemmas.{run_then, used_on}
 use Rattle.long_leases.specs.declared.long_lease.LongLease.{LongLease}
 use Rattle.long_leases.specs.LongLeases.{HasEnded, IsLongLease, most_of}
-
--- contractions behind others
-run_then : (n m : ℕ) (a b c : Activity) → LocalRun n a b → LocalRun m b c → LocalRun (n + m) a c
-run_then zero m a b c first then =
-    let same : m ≡ 0 + m = omega arith in
-    subst (λ k. LocalRun k a c) same (subst (λ z. LocalRun m z c) (sym first) then)
-run_then (suc n) m a b c first then =
-    let same : suc (n + m) ≡ suc n + m = omega arith in
-    subst (λ k. LocalRun k a c) same (first.0, first.1, run_then n m first.0 b c first.2 then)
-
--- the grant is used still
-used_on : (n t m g : ℕ) (r : Advance) → IsUsed m (g - t) r → t ≤ g → n ≡ t + m → IsUsed n g r
-used_on n t m g advance.Reduces used within sum = omega (arith, used, within, sum)
-used_on n t m g (advance.Rests p) used within sum = tt
-used_on n t m g (advance.Faults f) used within sum = tt
-used_on n t m g (advance.Needs p) used within sum = tt
-used_on n t m g (advance.Creates p) used within sum = tt
-used_on n t m g advance.Sends used within sum = tt
-used_on n t m g advance.Serves used within sum = tt
-used_on n t m g advance.Polls used within sum = tt
 
 module _ (h : HistoryShape) (code : List Node) (x y : LongLease) (l : IsLongLease h code x) (fresh : x.lease.spent ≡ false) (m further : ℕ) where
   pub long_runs_on : further ≡ x.rounds * MOST_GRANTED → further < 2 ^ 38 → y.lease.number ≡ x.lease.number → y.lease.burst ≡ x.lease.burst → y.lease.grant ≡ x.lease.grant → y.rounds ≡ x.rounds

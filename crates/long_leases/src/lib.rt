@@ -3,7 +3,6 @@
 #![tactic(auto)]
 
 mod long_lease;
-mod receiving;
 mod renewing;
 
 pub use long_lease::{LongLease, contractions};

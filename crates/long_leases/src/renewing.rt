@@ -28,9 +28,8 @@ ghost use Rattle.long_leases.specs.LongLeases.{IsLongLease};
 ghost use Rattle.long_leases.specs.Renewing.{IsRenewedBy, IsSomeLongLease};
 
 use crate::long_lease::LongLease;
-use crate::receiving::receive_all;
 use asp_model::{Entry, MOST_GRANTED};
-use core_state::{CoreState, Journal};
+use core_state::{CoreState, Journal, receive_all};
 use std::alloc::AllocError;
 
 /// A lease that took more than its grant comes back with the whole grant, and is lent again at once,
