@@ -112,6 +112,7 @@ RUNS = [
     Run("two reports compared", ANSWER, ["--replay", "r", "--same", "r"]),
     Run("a journal", PASSES, ["--journal"], workers=(1,)),
     Run("a trace", PASSES, ["--trace", "t"]),
+    Run("a checkpoint", GROUPS, ["--budget", "20", "--save"], workers=(1, 4)),
     Run("a fault explained", "print(1 + y)", [], "asp_explain"),
     Run("a run explained", BLOCKED, ["r"], "asp_explain"),
     Run("events", ANSWER, ["r", "--events"], "asp_explain"),
