@@ -1,5 +1,5 @@
 -- What definitions see of activities and checkpoints that were read.
-use Rattle.std.specs.Prelude.{ℕ, List, [], Option, Some, None, map}
+use Rattle.std.specs.Prelude.{ℕ, List, [], ◌∷◌, Option, Some, None, map}
 use Rattle.std.specs.Option.{option_map}
 use Rattle.asp_model.specs.Configuration.{ReceptionShape, RequestShape, ServiceShape}
 use Rattle.asp_model.specs.Contraction.{LineShape}
@@ -7,7 +7,7 @@ use Rattle.asp_model.specs.Names.{FutureShape}
 use Rattle.asp_model.specs.Shapes.{future_shape, line_shape, reception_shape, tree_of}
 use Rattle.asp_model.specs.Split.{Context}
 use Rattle.asp_model.specs.Store.{CellShape}
-use Rattle.asp_model.specs.Term.{Hole, Tree, leaf}
+use Rattle.asp_model.specs.Term.{Hole, Tree, none, leaf}
 use Rattle.law_frozen.specs.Frozen.{FrozenActivity, FrozenShape}
 use Rattle.checkpoint_items.specs.Lines.{home_shape}
 use Rattle.checkpoint_parts.specs.declared.parts.ActivityText.{ActivityText}
@@ -29,8 +29,12 @@ or_hole (Some t) = t
 abbrev pub running_shape : List Tree → Tree
 running_shape ts = or_hole (running_of ts)
 
+-- no hole of it is reduced in place, so it is no context
+abbrev pub no_context : Context
+no_context = record { head = Hole; before = []; behind = none }
+
 abbrev pub or_none : Option (List Context) → List Context
-or_none None = []
+or_none None = no_context ∷ []
 or_none (Some cs) = cs
 
 -- the contexts that these make behind the first, which is the hole of a `serve`
