@@ -1,0 +1,3 @@
+-- in reading order
+pub mod RunningLemmas
+pub mod FileLemmas

@@ -1,0 +1,4 @@
+-- in reading order
+pub mod Running
+pub mod Activities
+pub mod Files
