@@ -41,7 +41,8 @@ none_at : (k : ℕ) → false ≡ is_context (first_open (first_of k none))
 none_at zero = refl
 none_at (suc k) = refl
 
-place_at : (k m : ℕ) (us ts : Trees) → is_context (first_open (first_of (k - 1) ts)) ≡ is_context (first_open (first_of k (more (node (Loc m) us) ts)))
+place_at : (k m : ℕ) (us ts : Trees) → is_context (first_open (first_of (k - 1) ts))
+    ≡ is_context (first_open (first_of k (more (node (Loc m) us) ts)))
 place_at zero m us ts = refl
 place_at (suc k) m us ts =
     let one : suc k - 1 ≡ k = omega arith in
@@ -59,7 +60,8 @@ hole_at m n us ts = by (n - m) refl
         let yes : nat_lt m n ≡ true = grind (arith, nat_tests) in
         yes ∙ ap (λ (k : ℕ). is_context (first_open (first_of k (more (node Hole us) ts)))) (sym e)
 
-other_at : (k : ℕ) (t : Tree) (ts : Trees) → child_of t ≡ inner.Open → false ≡ is_context (first_open (first_of k (more t ts)))
+other_at : (k : ℕ) (t : Tree) (ts : Trees) → child_of t ≡ inner.Open
+    → false ≡ is_context (first_open (first_of k (more t ts)))
 other_at zero t ts e = refl
 other_at (suc k) t ts e = sym (ap (λ (i : Inner). is_context (behind i (first_open (first_of k ts)))) e)
 
@@ -67,17 +69,22 @@ context_is : (h : Head) (before : List ℕ) (ts : Trees) (n : ℕ) → n ≡ red
     → found (context_below h before ts) ≡ is_context (first_open (first_of (n - length before) ts))
 context_is h before none n e = none_at (n - length before)
 context_is h before (more (node (Loc m) us) ts) n e =
-    let here : child_count (locs_then before (more (node (Loc m) us) ts)) ≡ length before + suc (child_count ts) = count_locs before (more (node (Loc m) us) ts) in
-    let there : child_count (locs_then (before ++ m ∷ []) ts) ≡ length (before ++ m ∷ []) + child_count ts = count_locs (before ++ m ∷ []) ts in
+    let here : child_count (locs_then before (more (node (Loc m) us) ts)) ≡ length before + suc (child_count ts) =
+        count_locs before (more (node (Loc m) us) ts) in
+    let there : child_count (locs_then (before ++ m ∷ []) ts) ≡ length (before ++ m ∷ []) + child_count ts =
+        count_locs (before ++ m ∷ []) ts in
     let long : length (before ++ m ∷ []) ≡ length before + 1 = length-append before (m ∷ []) in
-    let counts : child_count (locs_then before (more (node (Loc m) us) ts)) ≡ child_count (locs_then (before ++ m ∷ []) ts) = omega (arith, here, there, long) in
+    let counts : child_count (locs_then before (more (node (Loc m) us) ts)) ≡ child_count (locs_then (before ++ m ∷ []) ts) =
+        omega (arith, here, there, long) in
     let less : n - length (before ++ m ∷ []) ≡ (n - length before) - 1 = omega (arith, long) in
     context_is h (before ++ m ∷ []) ts n (e ∙ reduced_same h _ _ counts)
     ∙ ap (λ (k : ℕ). is_context (first_open (first_of k ts))) less
     ∙ place_at (n - length before) m us ts
 context_is h before (more (node Hole us) ts) n e =
-    let here : child_count (locs_then before (more (node Hole us) ts)) ≡ length before + suc (child_count ts) = count_locs before (more (node Hole us) ts) in
-    let there : child_count (locs_then before (more (loc 0) ts)) ≡ length before + suc (child_count ts) = count_locs before (more (loc 0) ts) in
+    let here : child_count (locs_then before (more (node Hole us) ts)) ≡ length before + suc (child_count ts) =
+        count_locs before (more (node Hole us) ts) in
+    let there : child_count (locs_then before (more (loc 0) ts)) ≡ length before + suc (child_count ts) =
+        count_locs before (more (loc 0) ts) in
     only_is (nat_lt (length before) (reduced_count h (locs_then before (more (loc 0) ts)))) _
     ∙ ap (nat_lt (length before)) (sym (e ∙ reduced_same h _ _ (here ∙ sym there)))
     ∙ hole_at (length before) n us ts
@@ -109,28 +116,34 @@ abbrev NoPlace : Split → Type 0
 NoPlace (Stands n) = ⊥
 NoPlace (Splits cs r) = Unit {0}
 
-splits_by : (h : Head) (n : ℕ) (places : List ℕ) (ts : Trees) (s : Split) → ((p : ℕ) → NoPlace (split_below h n (places ++ p ∷ []) ts))
-    → NoPlace (elim s as (λ _. Split) [ Stands p ↦ split_below h n (places ++ p ∷ []) ts | Splits cs r ↦ Splits (cs ++ record { head = h; before = places; behind = ts } ∷ []) r ])
+splits_by : (h : Head) (n : ℕ) (places : List ℕ) (ts : Trees) (s : Split)
+    → ((p : ℕ) → NoPlace (split_below h n (places ++ p ∷ []) ts))
+    → NoPlace (elim s as (λ _. Split) [ Stands p ↦ split_below h n (places ++ p ∷ []) ts
+        | Splits cs r ↦ Splits (cs ++ record { head = h; before = places; behind = ts } ∷ []) r ])
 splits_by h n places ts (Stands p) ih = ih p
 splits_by h n places ts (Splits cs r) ih = tt
 
 splits_below : (h : Head) (n : ℕ) (places : List ℕ) (ts : Trees) → NoPlace (split_below h n places ts)
 splits_below h n places none = tt
 splits_below h zero places (more t ts) = tt
-splits_below h (suc n) places (more t ts) = splits_by h n places ts (split t) (λ p. splits_below h n (places ++ p ∷ []) ts)
+splits_below h (suc n) places (more t ts) = splits_by h n places ts (split t)
+    (λ p. splits_below h n (places ++ p ∷ []) ts)
 
 not_whole : (h : Head) (n : ℕ) (places : List ℕ) (ts : Trees) (s : Split) → NoPlace s
-    → found_whole (elim s as (λ _. Split) [ Stands p ↦ split_below h n (places ++ p ∷ []) ts | Splits cs r ↦ Splits (cs ++ record { head = h; before = places; behind = ts } ∷ []) r ]) ≡ false
+    → found_whole (elim s as (λ _. Split) [ Stands p ↦ split_below h n (places ++ p ∷ []) ts
+        | Splits cs r ↦ Splits (cs ++ record { head = h; before = places; behind = ts } ∷ []) r ]) ≡ false
 not_whole h n places ts (Stands p) b = absurd b
 not_whole h n places ts (Splits [] r) b = refl
 not_whole h n places ts (Splits (c ∷ cs) r) b = refl
 
-whole_is : (h : Head) (n : ℕ) (places : List ℕ) (ts : Trees) → found_whole (split_below h n places ts) ≡ is_redex (first_open (first_of n ts))
+whole_is : (h : Head) (n : ℕ) (places : List ℕ) (ts : Trees)
+    → found_whole (split_below h n places ts) ≡ is_redex (first_open (first_of n ts))
 whole_is h zero places none = refl
 whole_is h (suc n) places none = refl
 whole_is h zero places (more t ts) = refl
 whole_is h (suc n) places (more (node (Loc m) us) ts) = whole_is h n (places ++ m ∷ []) ts
-whole_is h (suc n) places (more (node k us) ts) = not_whole h n places ts (split_below k (reduced_count k us) [] us) (splits_below k (reduced_count k us) [] us)
+whole_is h (suc n) places (more (node k us) ts) = not_whole h n places ts (split_below k (reduced_count k us) [] us)
+    (splits_below k (reduced_count k us) [] us)
 
 -- Terms that run
 
@@ -160,7 +173,8 @@ plugged_is (Splits [] r) t None = refl
 plugged_is (Splits [] r) t (Some cs) = refl
 plugged_is (Splits (d ∷ ds) r) t cs = refl
 
-by_redex : (h : Head) (us : Trees) (s : Split) (ts : List Tree) → found_whole s ≡ is_redex (first_open (first_of (reduced_count h us) us))
+by_redex : (h : Head) (us : Trees) (s : Split) (ts : List Tree)
+    → found_whole s ≡ is_redex (first_open (first_of (reduced_count h us) us))
     → found (plugged_by s (node h us) (contexts_of ts)) ≡ runs_by (first_open (first_of (reduced_count h us) us)) ts
 by_redex h us s ts e =
     plugged_is s (node h us) (contexts_of ts) ∙ (λ i. e i && contexts_found ts i)
@@ -170,7 +184,8 @@ runs_is : (ts : List Tree) → found (running_of ts) ≡ is_running ts
 runs_is [] = refl
 runs_is (node (Loc n) us ∷ []) = refl
 runs_is (node (Loc n) us ∷ t ∷ ts) = refl
-runs_is (node h us ∷ ts) = by_redex h us (split_below h (reduced_count h us) [] us) ts (whole_is h (reduced_count h us) [] us)
+runs_is (node h us ∷ ts) = by_redex h us (split_below h (reduced_count h us) [] us) ts
+    (whole_is h (reduced_count h us) [] us)
 
 -- Terms that wait
 
@@ -179,7 +194,8 @@ hole_is (node (Loc n) ts) = refl
 hole_is (node Hole ts) = refl
 hole_is (node h ts) = refl
 
-behind_hole : (b : Bool) (o : Option (List Context)) → found (elim b as (λ _. Option (List Context)) [ true ↦ o | false ↦ None ]) ≡ b && found o
+behind_hole : (b : Bool) (o : Option (List Context)) → found
+    (elim b as (λ _. Option (List Context)) [ true ↦ o | false ↦ None ]) ≡ b && found o
 behind_hole true o = refl
 behind_hole false o = refl
 
@@ -201,25 +217,36 @@ some_contexts : (o : Option (List Context)) → found o ≡ true → o ≡ Some 
 some_contexts None e = absurd (false≢true e)
 some_contexts (Some cs) e = refl
 
-pub some_refused : {X Y : Type 0} (p : Reader X) (f : X → Option Y) (ws : Items) (e : ReadError) → Refuses (p ws) e → Refuses (some_of p f ws) e
+pub some_refused : {X Y : Type 0} (p : Reader X) (f : X → Option Y) (ws : Items) (e : ReadError) → Refuses (p ws) e
+    → Refuses (some_of p f ws) e
 some_refused {X = X} p f ws e r = refused_by (λ (o : Option (X × Items)). if_some (told f o)) refl (p ws) e r
 
-some_told : {X Y : Type 0} (p : Reader X) (f : X → Option Y) (ws us : Items) (x : X) (y : Y) → p ws ≡ Some (x, us) → f x ≡ Some y → some_of p f ws ≡ Some (y, us)
-some_told {X = X} {Y = Y} p f ws us x y e d = ap (λ (o : Option (X × Items)). if_some (told f o)) e ∙ ap (λ (o : Option Y). if_some (Some (o, us))) d
+some_told : {X Y : Type 0} (p : Reader X) (f : X → Option Y) (ws us : Items) (x : X) (y : Y) → p ws ≡ Some (x, us)
+    → f x ≡ Some y → some_of p f ws ≡ Some (y, us)
+some_told {X = X} {Y = Y} p f ws us x y e d = ap (λ (o : Option (X × Items)). if_some (told f o)) e
+    ∙ ap (λ (o : Option Y). if_some (Some (o, us))) d
 
-some_none : {X Y : Type 0} (p : Reader X) (f : X → Option Y) (ws us : Items) (x : X) → p ws ≡ Some (x, us) → f x ≡ None → some_of p f ws ≡ None
-some_none {X = X} {Y = Y} p f ws us x e d = ap (λ (o : Option (X × Items)). if_some (told f o)) e ∙ ap (λ (o : Option Y). if_some (Some (o, us))) d
+some_none : {X Y : Type 0} (p : Reader X) (f : X → Option Y) (ws us : Items) (x : X) → p ws ≡ Some (x, us)
+    → f x ≡ None → some_of p f ws ≡ None
+some_none {X = X} {Y = Y} p f ws us x e d = ap (λ (o : Option (X × Items)). if_some (told f o)) e
+    ∙ ap (λ (o : Option Y). if_some (Some (o, us))) d
 
-pub running_told : (p : Reader (List Tree)) (ws us : Items) (ts : List Tree) → p ws ≡ Some (ts, us) → is_running ts ≡ true → some_of p running_of ws ≡ Some (running_shape ts, us)
-running_told p ws us ts e r = some_told p running_of ws us ts (running_shape ts) e (a_tree (running_of ts) (runs_is ts ∙ r))
+pub running_told : (p : Reader (List Tree)) (ws us : Items) (ts : List Tree) → p ws ≡ Some (ts, us)
+    → is_running ts ≡ true → some_of p running_of ws ≡ Some (running_shape ts, us)
+running_told p ws us ts e r = some_told p running_of ws us ts (running_shape ts) e
+    (a_tree (running_of ts) (runs_is ts ∙ r))
 
-pub running_none : (p : Reader (List Tree)) (ws us : Items) (ts : List Tree) → p ws ≡ Some (ts, us) → is_running ts ≡ false → some_of p running_of ws ≡ None
+pub running_none : (p : Reader (List Tree)) (ws us : Items) (ts : List Tree) → p ws ≡ Some (ts, us)
+    → is_running ts ≡ false → some_of p running_of ws ≡ None
 running_none p ws us ts e r = some_none p running_of ws us ts e (no_more (running_of ts) (runs_is ts ∙ r))
 
-pub waiting_told : (p : Reader (List Tree)) (ws us : Items) (ts : List Tree) → p ws ≡ Some (ts, us) → is_waiting ts ≡ true → some_of p waiting_of ws ≡ Some (contexts_shape ts, us)
-waiting_told p ws us ts e r = some_told p waiting_of ws us ts (contexts_shape ts) e (some_contexts (waiting_of ts) (waits_is ts ∙ r))
+pub waiting_told : (p : Reader (List Tree)) (ws us : Items) (ts : List Tree) → p ws ≡ Some (ts, us)
+    → is_waiting ts ≡ true → some_of p waiting_of ws ≡ Some (contexts_shape ts, us)
+waiting_told p ws us ts e r = some_told p waiting_of ws us ts (contexts_shape ts) e
+    (some_contexts (waiting_of ts) (waits_is ts ∙ r))
 
-pub waiting_none : (p : Reader (List Tree)) (ws us : Items) (ts : List Tree) → p ws ≡ Some (ts, us) → is_waiting ts ≡ false → some_of p waiting_of ws ≡ None
+pub waiting_none : (p : Reader (List Tree)) (ws us : Items) (ts : List Tree) → p ws ≡ Some (ts, us)
+    → is_waiting ts ≡ false → some_of p waiting_of ws ≡ None
 waiting_none p ws us ts e r = some_none p waiting_of ws us ts e (no_more (waiting_of ts) (waits_is ts ∙ r))
 
 -- The terms of a node, one after the other
@@ -230,12 +257,15 @@ behind_behind inner.Redex b c = refl
 behind_behind inner.Context b c = refl
 behind_behind inner.Open b c = refl
 
-open_is : {X : Type 0} (f : X → Tree) (first : Inner) (xs : List X) → open_by f first xs ≡ behind first (first_open (map f xs))
+open_is : {X : Type 0} (f : X → Tree) (first : Inner) (xs : List X)
+    → open_by f first xs ≡ behind first (first_open (map f xs))
 open_is f first [] = refl
-open_is f first (x ∷ xs) = open_is f (behind first (child_of (f x))) xs ∙ behind_behind first (child_of (f x)) (first_open (map f xs))
+open_is f first (x ∷ xs) = open_is f (behind first (child_of (f x))) xs
+    ∙ behind_behind first (child_of (f x)) (first_open (map f xs))
 
 -- one more of them
-pub open_more : {X : Type 0} (f : X → Tree) (first next : Inner) (xs : List X) (i : ℕ) (x : X) → i < length xs → next ≡ behind first (child_of (f (get_or xs i x)))
+pub open_more : {X : Type 0} (f : X → Tree) (first next : Inner) (xs : List X) (i : ℕ) (x : X) → i < length xs
+    → next ≡ behind first (child_of (f (get_or xs i x)))
     → open_by f next (drop (i + 1) xs) ≡ open_by f first (drop i xs)
 open_more f first next xs i x h e =
     ap (λ (o : Inner). open_by f o (drop (i + 1) xs)) e
@@ -245,14 +275,18 @@ all_below : (ts : List Term) → first_of (child_count (trees (map tree_of ts)))
 all_below [] = refl
 all_below (t ∷ ts) = ap (λ (us : List Tree). tree_of t ∷ us) (all_below ts)
 
-fields_below : (fs : List (Label × Term)) (us : List Tree) → first_of (length (map field_label fs)) (trees (map field_tree fs ++ us)) ≡ map field_tree fs
+fields_below : (fs : List (Label × Term)) (us : List Tree)
+    → first_of (length (map field_label fs)) (trees (map field_tree fs ++ us)) ≡ map field_tree fs
 fields_below [] us = refl
 fields_below (f ∷ fs) us = ap (λ (ts : List Tree). field_tree f ∷ ts) (fields_below fs us)
 
-pub all_open : (ts : List Term) → first_open (first_of (child_count (trees (map tree_of ts))) (trees (map tree_of ts))) ≡ open_by tree_of inner.Place ts
+pub all_open : (ts : List Term)
+    → first_open (first_of (child_count (trees (map tree_of ts))) (trees (map tree_of ts))) ≡ open_by tree_of inner.Place ts
 all_open ts = ap first_open (all_below ts) ∙ sym (open_is tree_of inner.Place ts)
 
-pub fields_open : (fs : List (Label × Term)) (us : List Tree) → first_open (first_of (length (map field_label fs)) (trees (map field_tree fs ++ us))) ≡ open_by field_tree inner.Place fs
+pub fields_open : (fs : List (Label × Term)) (us : List Tree)
+    → first_open (first_of (length (map field_label fs)) (trees (map field_tree fs ++ us)))
+    ≡ open_by field_tree inner.Place fs
 fields_open fs us = ap first_open (fields_below fs us) ∙ sym (open_is field_tree inner.Place fs)
 
 pub ruleset opens = (all_open, fields_open)

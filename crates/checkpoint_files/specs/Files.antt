@@ -1,6 +1,6 @@
 -- Whole checkpoints.
 use denote.Ref.{Bor}
-use Rattle.std.specs.Prelude.{◌≡◌, ℕ, ◌==◌, Bool, false, length, List, [], ◌∷◌, Option, Some, None, Result, Ok, Err, map}
+use Rattle.std.specs.Prelude.{◌≡◌, ℕ, ◌==◌, Bool, false, length, List, [], ◌∷◌, Result, Ok, Err, map}
 use Rattle.asp_model.specs.Names.{Text}
 use Rattle.law_frozen.specs.Frozen.{FrozenActivity}
 use Rattle.checkpoint_text.specs.Reading.{CheckpointReading, Reads, OtherProgram, Malformed}

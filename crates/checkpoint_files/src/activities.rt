@@ -41,10 +41,7 @@ pub fn read_activity(alloc: Global, line: &[u8]) -> Result<ActivityText, ReadErr
     Ok(activity)
 }
 
-fn read_parts_of_activity(
-    alloc: Global,
-    items: &mut Items<'_>,
-) -> Result<ActivityText, ReadError>
+fn read_parts_of_activity(alloc: Global, items: &mut Items<'_>) -> Result<ActivityText, ReadError>
     ensures read { Finds activity_shape (activity_in items.old) items.new result }
 {
     let name = read_name(alloc, items)?;
