@@ -18,6 +18,9 @@ impl Model for First {
     ghost also_owns = { λ _. ftrue };
 }
 
+// It owns nothing.
+unsafe impl Send for First {}
+
 impl First {
     ghost use Rattle.std.specs.Prelude.{◌≡◌, None};
 
