@@ -1,6 +1,5 @@
 -- Terms that run and terms that wait: their redex and contexts make them again.
 use Rattle.std.proofs.Common.{◌≡◌, ℕ, Bool, true, false, List, [], ◌∷◌, ◌++◌, length, map, Option, Some, None, refl, sym, ap, ◌∙◌, append_assoc}
-use Rattle.std.specs.Prelude.{nat_lt}
 use Rattle.std.proofs.lemmas.Bool.{false≢true, lt-ltb}
 use Rattle.std.proofs.lemmas.List.{append-nil}
 use Rattle.asp_model.specs.Term.{Head, Loc, Hole, Tree, Trees, node, more, leaf, loc, locs_then}
@@ -8,8 +7,8 @@ use Rattle.asp_model.specs.Split.{Context, Split, Stands, Splits, reduced_count,
 use Rattle.code_laws.specs.Splitting.{redex_node, is_loc, IsContext, AreContexts, IsRedex}
 use Rattle.code_laws.proofs.SplitLemmas.{splits_one_way}
 use Rattle.code_reading.specs.Shown.{hole_tree}
-use Rattle.checkpoint_text.specs.Items.{Items, list_items, option_items, pair_items, future_items, term_items, terms_items, running_items, service_items}
-use Rattle.checkpoint_text.specs.Reading.{Reader, told, list_of, term, only_context, context_below, context_of, with_context, contexts_of, if_some, some_of, plugged_by, running_by, running_of, running, waiting_of}
+use Rattle.checkpoint_text.specs.Items.{Items, list_items, term_items, terms_items, running_items}
+use Rattle.checkpoint_text.specs.Reading.{Reader, told, list_of, term, only_context, context_below, with_context, contexts_of, if_some, some_of, plugged_by, running_by, running_of, running, waiting_of}
 use Rattle.checkpoint_text.specs.Writable.{AreAll}
 use Rattle.checkpoint_text.proofs.NumberLemmas.{some_same}
 use Rattle.checkpoint_text.proofs.TermLemmas.{terms_are}
@@ -23,22 +22,26 @@ use Rattle.law_checkpoint_texts.proofs.NodeLemmas.{term_sure}
 by_option : {Y : Type 0} → Items → Option Y → Option (Y × Items)
 by_option us o = elim o [ None ↦ None | Some y ↦ Some (y, us) ]
 
-option_told : {Y : Type 0} (o : Option Y) (vs : Items) (r : Y × Items) → by_option vs o ≡ Some r → (o ≡ Some r.0) × (vs ≡ r.1)
+option_told : {Y : Type 0} (o : Option Y) (vs : Items) (r : Y × Items) → by_option vs o ≡ Some r
+    → (o ≡ Some r.0) × (vs ≡ r.1)
 unfolding by_option
 option_told None vs r e = absurd cc
 option_told {Y} (Some z) vs r e =
     let same : (z, vs) ≡ r = some_same (z, vs) r e in
     (ap (λ (v : Y × Items). Some v.0) same, ap (λ (v : Y × Items). v.1) same)
 
-was_some : {X Y : Type 0} (h : X → Option Y) (o : Option (X × Items)) (r : Y × Items) → if_some (told h o) ≡ Some r → (x : X) × (o ≡ Some (x, r.1)) × (h x ≡ Some r.0)
+was_some : {X Y : Type 0} (h : X → Option Y) (o : Option (X × Items)) (r : Y × Items) → if_some (told h o) ≡ Some r
+    → (x : X) × (o ≡ Some (x, r.1)) × (h x ≡ Some r.0)
 unfolding by_option
 was_some h None r e = absurd cc
 was_some {X} h (Some v) r e =
     let t = option_told (h v.0) v.1 r e in
     (v.0, ap {B = Option (X × Items)} (λ ws. Some (v.0, ws)) t.1, t.0)
 
-some_sure : {X Y : Type 0} (p : Reader X) (f : X → Items) (S : X → Type 0) (h : X → Option Y) (k : Y → X) (g : Y → Items) (T : Y → Type 0)
-    → IsSureOf p f S → ((y : Y) → T y → S (k y)) → ((y : Y) → T y → h (k y) ≡ Some y) → ((y : Y) → f (k y) ≡ g y) → IsSureOf (some_of p h) g T
+some_sure : {X Y : Type 0} (p : Reader X) (f : X → Items) (S : X → Type 0) (h : X → Option Y) (k : Y → X)
+    (g : Y → Items) (T : Y → Type 0)
+    → IsSureOf p f S → ((y : Y) → T y → S (k y)) → ((y : Y) → T y → h (k y) ≡ Some y) → ((y : Y) → f (k y) ≡ g y)
+    → IsSureOf (some_of p h) g T
 some_sure {X} {Y} p f S h k g T s to again same = record {
   sure = λ y ws r q e.
       let w = was_some h (p (g y ++ ws)) r e in
@@ -57,15 +60,23 @@ if_context c b = elim b [ true ↦ Some c | false ↦ None ]
 
 holds_context : (c : Context) → IsContext c → only_context c ≡ Some c
 unfolding if_context
-holds_context c h = ap (if_context c) (lt-ltb (length c.before) (reduced_count c.head (locs_then c.before (more (loc 0) c.behind))) h)
+holds_context c h =
+    ap (if_context c) (lt-ltb (length c.before) (reduced_count c.head (locs_then c.before (more (loc 0) c.behind))) h)
 
-over_places : (h : Head) (before ns : List ℕ) (ts : Trees) → context_below h before (locs_then ns (more (leaf Hole) ts)) ≡ only_context (record { head = h; before = before ++ ns; behind = ts })
-over_places h before [] ts = ap (λ (ns : List ℕ). only_context (record { head = h; before = ns; behind = ts })) (sym (append-nil before))
-over_places h before (n ∷ ns) ts = over_places h (before ++ n ∷ []) ns ts ∙ ap (λ (ms : List ℕ). only_context (record { head = h; before = ms; behind = ts })) (append_assoc before (n ∷ []) ns)
+over_places : (h : Head) (before ns : List ℕ) (ts : Trees)
+    → context_below h before (locs_then ns (more (leaf Hole) ts)) ≡ only_context
+    (record { head = h; before = before ++ ns; behind = ts })
+over_places h before [] ts =
+    ap (λ (ns : List ℕ). only_context (record { head = h; before = ns; behind = ts })) (sym (append-nil before))
+over_places h before (n ∷ ns) ts =
+    over_places h (before ++ n ∷ []) ns ts
+    ∙ ap (λ (ms : List ℕ). only_context (record { head = h; before = ms; behind = ts }))
+    (append_assoc before (n ∷ []) ns)
 
 contexts_again : (cs : List Context) → AreContexts cs → contexts_of (map hole_tree cs) ≡ Some cs
 contexts_again [] h = refl
-contexts_again (c ∷ cs) h = (λ i. with_context ((over_places c.head [] c.before c.behind ∙ holds_context c h.0) i) (contexts_again cs h.1 i))
+contexts_again (c ∷ cs) h =
+    (λ i. with_context ((over_places c.head [] c.before c.behind ∙ holds_context c h.0) i) (contexts_again cs h.1 i))
 
 shaped_trees : (cs : List Context) → AreAll (λ c. HasArities (hole_tree c)) cs → AreAll HasArities (map hole_tree cs)
 shaped_trees [] h = tt
@@ -85,7 +96,8 @@ split_arities : (t : Tree) (x : Split) → IsShapedSplit t x → AreAll HasAriti
 split_arities t (Stands n) g = ((refl, tt), tt)
 split_arities t (Splits cs r) g = (g.1.1.1, shaped_trees cs g.1.0.0)
 
-redex_first : (h : Head) (us : Trees) (ts : List Tree) → is_loc h ≡ false → running_by h us ts ≡ plugged_by (split (node h us)) (node h us) (contexts_of ts)
+redex_first : (h : Head) (us : Trees) (ts : List Tree) → is_loc h ≡ false
+    → running_by h us ts ≡ plugged_by (split (node h us)) (node h us) (contexts_of ts)
 redex_first (Loc n) us ts e = absurd (false≢true (sym e))
 redex_first h us ts e = refl
 
@@ -96,18 +108,17 @@ split_again t (Splits cs r) g =
     ∙ (λ i. plugged_by (splits_one_way [] r tt g.1.1.0 i) (redex_node r) (contexts_again cs g.1.0.1 i))
     ∙ ap (λ (v : Tree). Some v) g.0
 
-at_depth : IsSureOf term term_items HasArities
+pub at_depth : IsSureOf term term_items HasArities
 unfolding term
 at_depth = term_sure 25000
 
 pub terms_sure : IsSureOf (list_of term) (list_items term_items) (AreAll HasArities)
 terms_sure = list_sure at_depth
 
-pub stored_term_sure : IsSureOf term term_items HasArities
-stored_term_sure = at_depth
-
 pub running_sure : IsSureOf running running_items IsShapedTerm
-running_sure = some_sure (list_of term) (list_items term_items) (AreAll HasArities) running_of (λ t. split_trees (split t)) running_items IsShapedTerm
+running_sure =
+    some_sure (list_of term) (list_items term_items) (AreAll HasArities) running_of
+    (λ t. split_trees (split t)) running_items IsShapedTerm
     terms_sure (λ t g. split_arities t (split t) g) (λ t g. split_again t (split t) g) running_written
 
 -- A term that waits
@@ -122,5 +133,7 @@ waiting_again : (cs : List Context) → AreShaped cs → waiting_of (leaf Hole �
 waiting_again cs g = contexts_again cs g.1
 
 pub waiting_sure : IsSureOf (some_of (list_of term) waiting_of) waiting_items AreShaped
-waiting_sure = some_sure (list_of term) (list_items term_items) (AreAll HasArities) waiting_of (λ cs. leaf Hole ∷ map hole_tree cs) waiting_items AreShaped
+waiting_sure =
+    some_sure (list_of term) (list_items term_items) (AreAll HasArities) waiting_of
+    (λ cs. leaf Hole ∷ map hole_tree cs) waiting_items AreShaped
     terms_sure waiting_arities waiting_again (λ cs. sym (terms_are (leaf Hole ∷ map hole_tree cs)))

@@ -1,11 +1,10 @@
 -- Numbers of any size: whose decimals are those of a number of 64 bits, is that number.
-use Rattle.std.proofs.Common.{◌≡◌, ℕ, ℤ, pos, negsuc, zero, suc, ◌+◌, ◌/◌, ◌%◌, ◌<◌, ◌≤◌, ◌^◌, Bool, true, false, List, [], ◌∷◌, length, get_or, drop, refl, sym, ap, ◌∙◌, arith, zero-add}
-use Rattle.std.specs.Prelude.{◌==◌, ◌&&◌, nat_lt, nat_le, if◌then◌else◌}
-use Rattle.std.specs.Char.{is_ascii_digit}
+use Rattle.std.proofs.Common.{◌≡◌, ℕ, ℤ, pos, negsuc, zero, suc, ◌+◌, ◌/◌, ◌%◌, ◌<◌, ◌≤◌, ◌^◌, Bool, true, false, [], ◌∷◌, length, drop, refl, sym, ap, ◌∙◌, arith, zero-add}
+use Rattle.std.specs.Prelude.{nat_lt, if◌then◌else◌}
 use Rattle.std.specs.Str.{all_ascii_digits}
 use Rattle.std.specs.Str.Parse.{digits_value}
 use Rattle.std.specs.Fmt.{decimal, signed_decimal, digits, digits_onto, digit_glyph}
-use Rattle.std.proofs.lemmas.Bool.{and_parts, ne_eqb, leb-true, ltb-true, ltb-false}
+use Rattle.std.proofs.lemmas.Bool.{ne_eqb, ltb-true, ltb-false}
 use Rattle.std.proofs.lemmas.Fmt.{decimal_is_IsNumeral, decimal_is_IsNumeral_wide, length-decimal-le}
 use Rattle.asp_model.specs.Names.{Text}
 use Rattle.law_reports.proofs.DigitLemmas.{decimal_digits}
@@ -17,11 +16,9 @@ some_power : (k : ℕ) → 1 ≤ 10 ^ k
 some_power zero = omega arith
 some_power (suc k) = let h : 1 ≤ 10 ^ k = some_power k in omega (arith, h)
 
-glyph : ℕ → ℕ
-glyph n = digit_glyph false (n % 10)
-
 by_last : ℕ → ℕ → Text → Bool → Text
-by_last k n ds b = if b then (digit_glyph false (n % 10) ∷ ds) else (digits_onto k 10 false (n / 10) (digit_glyph false (n % 10) ∷ ds))
+by_last k n ds b =
+    if b then (digit_glyph false (n % 10) ∷ ds) else (digits_onto k 10 false (n / 10) (digit_glyph false (n % 10) ∷ ds))
 
 long_spelled : (k n : ℕ) (ds : Text) → 10 ^ k ≤ n → length (digits_onto k 10 false n ds) ≡ k + length ds
 unfolding by_last
@@ -41,7 +38,8 @@ long_decimal n h = long_spelled 64 n [] h
 
 by_size : (n m : ℕ) → m < 2 ^ 64 → decimal n ≡ decimal m → (b : Bool) → nat_lt n (10 ^ 64) ≡ b → n ≡ m
 by_size n m small e true t =
-    sym (decimal_is_IsNumeral_wide n (ltb-true n (10 ^ 64) t)).1 ∙ ap (digits_value 10) e ∙ (decimal_is_IsNumeral m small).1
+    sym (decimal_is_IsNumeral_wide n (ltb-true n (10 ^ 64) t)).1 ∙ ap (digits_value 10) e
+    ∙ (decimal_is_IsNumeral m small).1
 by_size n m small e false t =
     let long : length (decimal n) ≡ 64 = long_decimal n (ltb-false n (10 ^ 64) t) in
     let short : length (decimal m) ≤ 20 = length-decimal-le 20 m (omega arith) (omega arith) small in
@@ -58,7 +56,8 @@ no_sign ds h = cc
 
 pub signed_same : (y z : ℤ) → IsSigned z → signed_decimal y ≡ signed_decimal z → y ≡ z
 signed_same (pos n) (pos m) small e = ap pos (number_same n m (omega (arith, small)) e)
-signed_same (pos n) (negsuc m) small e = absurd (no_sign (decimal (suc m)) (ap all_ascii_digits (sym e) ∙ decimal_digits n))
+signed_same (pos n) (negsuc m) small e =
+    absurd (no_sign (decimal (suc m)) (ap all_ascii_digits (sym e) ∙ decimal_digits n))
 signed_same (negsuc n) (pos m) small e = absurd (no_sign (decimal (suc n)) (ap all_ascii_digits e ∙ decimal_digits m))
 signed_same (negsuc n) (negsuc m) small e =
     let same : suc n ≡ suc m = number_same (suc n) (suc m) (omega (arith, small)) (ap (drop 1) e) in

@@ -1,7 +1,7 @@
 -- What is sound has the shape of a checkpoint.
-use Rattle.std.proofs.Common.{◌≡◌, ℕ, suc, true, List, [], ◌∷◌, refl, sym, subst}
+use Rattle.std.proofs.Common.{◌≡◌, ℕ, suc, List, [], ◌∷◌, refl, subst}
 use Rattle.asp_model.specs.Names.{Text}
-use Rattle.asp_model.specs.Term.{Head, Hole, Tree, Trees, node, none, more, leaf, loc, locs_then, binders, child_count}
+use Rattle.asp_model.specs.Term.{Hole, Tree, Trees, node, none, more, leaf, loc, locs_then, binders, child_count}
 use Rattle.asp_model.specs.Readable.{HasArity}
 use Rattle.asp_model.specs.Split.{Context, Split, Stands, Splits, split}
 use Rattle.asp_model.specs.Store.{MethodShape, CellShape, Object, Reference, Future}
@@ -38,11 +38,13 @@ mutual
   proper_below bound (xs ∷ names) (more t ts) g = (proper_arities _ t g.0, proper_below bound names ts g.1)
 
 -- a hole in place of a location
-hole_count : (ns : List ℕ) (ts : Trees) → child_count (locs_then ns (more (loc 0) ts)) ≡ child_count (locs_then ns (more (leaf Hole) ts))
+hole_count : (ns : List ℕ) (ts : Trees)
+    → child_count (locs_then ns (more (loc 0) ts)) ≡ child_count (locs_then ns (more (leaf Hole) ts))
 hole_count [] ts = refl
 hole_count (n ∷ ns) ts = (λ i. suc (hole_count ns ts i))
 
-hole_below : (ns : List ℕ) (ts : Trees) → HaveArities (locs_then ns (more (loc 0) ts)) → HaveArities (locs_then ns (more (leaf Hole) ts))
+hole_below : (ns : List ℕ) (ts : Trees) → HaveArities (locs_then ns (more (loc 0) ts))
+    → HaveArities (locs_then ns (more (leaf Hole) ts))
 hole_below [] ts h = ((refl, tt), h.1)
 hole_below (n ∷ ns) ts h = (h.0, hole_below ns ts h.1)
 
@@ -76,11 +78,13 @@ shaped_cell (cells.Group ns) h = tt
 shaped_store : (s : List CellShape) → Each IsProperCell s → AreAll IsShapedCell s
 shaped_store s h = each_all IsProperCell IsShapedCell shaped_cell s h
 
-shaped_services : (vs : List ServiceShape) → Each (λ v. AreContexts v.contexts) vs → Each (λ v. Each IsProperContext v.contexts) vs → AreAll (λ v. AreShaped v.contexts) vs
+shaped_services : (vs : List ServiceShape) → Each (λ v. AreContexts v.contexts) vs
+    → Each (λ v. Each IsProperContext v.contexts) vs → AreAll (λ v. AreShaped v.contexts) vs
 shaped_services [] h g = tt
 shaped_services (v ∷ vs) h g = (shaped v.contexts h.0 g.0, shaped_services vs h.1 g.1)
 
-shaped_activity : (f : FrozenShape) (x : FrozenActivity) → IsSoundActivity f x → x.activity.served ≡ [] → IsShapedActivity x
+shaped_activity : (f : FrozenShape) (x : FrozenActivity) → IsSoundActivity f x → x.activity.served ≡ []
+    → IsShapedActivity x
 shaped_activity f x h bare = record {
   queue = each_all _ _ (λ r g. shaped_store r.arguments.cells g.arguments.proper.cells) x.queue h.queue;
   services = shaped_services x.activity.services h.contexts h.proper.services;
@@ -89,7 +93,8 @@ shaped_activity f x h bare = record {
   served = bare;
 }
 
-shaped_activities : (f : FrozenShape) (xs : List FrozenActivity) → Each (IsSoundActivity f) xs → Each (λ x. x.activity.served ≡ []) xs → AreAll IsShapedActivity xs
+shaped_activities : (f : FrozenShape) (xs : List FrozenActivity) → Each (IsSoundActivity f) xs
+    → Each (λ x. x.activity.served ≡ []) xs → AreAll IsShapedActivity xs
 shaped_activities f [] h g = tt
 shaped_activities f (x ∷ xs) h g = (shaped_activity f x h.0 g.0, shaped_activities f xs h.1 g.1)
 

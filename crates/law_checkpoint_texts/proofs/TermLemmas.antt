@@ -1,10 +1,10 @@
 -- What stands in terms: texts, operators, and the terms below a node.
-use Rattle.std.proofs.Common.{◌≡◌, ℕ, suc, ◌+◌, ◌≤◌, ◌^◌, List, [], ◌∷◌, ◌++◌, length, Some, refl, sym, ap, ◌∙◌, append_assoc, arith}
+use Rattle.std.proofs.Common.{◌≡◌, ◌^◌, List, [], ◌∷◌, ◌++◌, Some, refl, sym, ◌∙◌, append_assoc, arith}
 use Rattle.asp_model.specs.Names.{Text}
 use Rattle.asp_model.specs.Readable.{HasArity}
 use Rattle.asp_model.specs.Term.{SignShape, Add, Subtract, Multiply, Divide, Remainder, Less, Equal, MethodHead, Tree, Trees, node, none, more, child_count}
 use Rattle.checkpoint_text.specs.Items.{Items, number_items, list_items, text_items, option_items, pair_items, term_items}
-use Rattle.checkpoint_text.specs.Reading.{Reader, nothing, both, number_to, list_of, text, option_of, place, sign, method_with}
+use Rattle.checkpoint_text.specs.Reading.{Reader, nothing, both, list_of, text, option_of, place, sign, method_with}
 use Rattle.checkpoint_text.specs.Writable.{AreAll, AllBelow}
 use Rattle.checkpoint_text.proofs.TermLemmas.{sign_items}
 use Rattle.checkpoint_text.proofs.ObjectLemmas.{field_by, method_by, zipped, behind}
@@ -27,7 +27,9 @@ place_sure = number_sure (2 ^ 64) (omega arith)
 -- Operators
 
 abbrev signs : List (Reader SignShape)
-signs = nothing Add ∷ nothing Subtract ∷ nothing Multiply ∷ nothing Divide ∷ nothing Remainder ∷ nothing Less ∷ nothing Equal ∷ []
+signs =
+    nothing Add ∷ nothing Subtract ∷ nothing Multiply ∷ nothing Divide ∷ nothing Remainder ∷ nothing Less ∷ nothing
+    Equal ∷ []
 
 one_sign : (s : SignShape) (ws : Items) (r : SignShape × Items) → sign (sign_items s ++ ws) ≡ Some r → r ≡ (s, ws)
 one_sign Add ws r e = nothing_sure Add ws r (at_variant 0 signs [] ws r (omega arith) e)
@@ -56,12 +58,14 @@ arities_below none h = tt
 arities_below (more t ts) h = (h.0, arities_below ts h.1)
 
 -- each with the term that stands below for it
-pub zip_arities : {K : Type 0} (ks : List K) (ts : Trees) → AllBelow HasArities ts → AreAll (λ z. IsAny z.0 × HasArities z.1) (zipped ks ts)
+pub zip_arities : {K : Type 0} (ks : List K) (ts : Trees) → AllBelow HasArities ts
+    → AreAll (λ z. IsAny z.0 × HasArities z.1) (zipped ks ts)
 zip_arities [] ts a = tt
 zip_arities (k ∷ ks) none a = tt
 zip_arities (k ∷ ks) (more t ts) a = ((tt, a.0), zip_arities ks ts a.1)
 
-pub behind_arities : {K : Type 0} (ks : List K) (ts : Trees) → AllBelow HasArities ts → AllBelow HasArities (behind ks ts)
+pub behind_arities : {K : Type 0} (ks : List K) (ts : Trees) → AllBelow HasArities ts
+    → AllBelow HasArities (behind ks ts)
 behind_arities [] ts a = a
 behind_arities (k ∷ ks) none a = tt
 behind_arities (k ∷ ks) (more t ts) a = behind_arities ks ts a.1
@@ -83,8 +87,10 @@ module _ (p : Reader Tree) (s : IsSureOf p term_items HasArities) where
       in_order method_by (λ x. IsAny x.0 × HasArities x.1)
       (both_sure text_sure (both_sure text_sure (both_sure texts_sure s)))
       (λ x h. (tt, (tt, (tt, h.1)))) (λ x h. refl)
-      (λ x. bracketed (text_items x.0.label) (text_items x.0.slf) (list_items text_items x.0.parameters) (term_items x.1))
+      (λ x. bracketed (text_items x.0.label) (text_items x.0.slf) (list_items text_items x.0.parameters)
+      (term_items x.1))
 
-  pub object_sure : IsSureOf (both (list_of (both text p)) (list_of (method_with p))) (pair_items (list_items field_by) (list_items method_by))
+  pub object_sure : IsSureOf (both (list_of (both text p)) (list_of (method_with p)))
+      (pair_items (list_items field_by) (list_items method_by))
       (λ r. AreAll (λ z. IsAny z.0 × HasArities z.1) r.0 × AreAll (λ z. IsAny z.0 × HasArities z.1) r.1)
   object_sure = both_sure (list_sure (both_sure text_sure s)) (list_sure method_sure)
