@@ -1,0 +1,3 @@
+-- in reading order
+pub mod PrintLemmas
+pub mod ProgramLaws
