@@ -38,7 +38,9 @@ texts_are_sure printed f line sound bare =
     let shaped = sound_are_shaped f sound bare in
     record {
       same = λ g e. text_sure printed f g line shaped e;
-      fits = λ g e. subst IsWritable (text_sure printed f g line shaped e) (what_is_read printed (checkpoint_text printed f) g e).1;
+      fits = λ g e.
+          let read = what_is_read printed (checkpoint_text printed f) g e in
+          subst IsWritable (text_sure printed f g line shaped e) read.1;
       own = text_own printed f line;
     }
 
@@ -106,7 +108,8 @@ resumed_at printed program x h saved =
       whole = frozen_are_whole (frozen_at x) sound;
       one = λ budget entries t e.
           let bare = readable_has_no_places (plain program) h.readable in
-          one_same (plain program) x budget t saved (resumed_are_one_run (plain program) x budget entries t bare saved e);
+          let one = resumed_are_one_run (plain program) x budget entries t bare saved e in
+          one_same (plain program) x budget t saved one;
       again = λ budget entries t e. saved_again printed (plain program) x budget entries t saved e;
     }
 

@@ -174,7 +174,8 @@ Runs = List ServiceShape × (Tree × (List CellShape × ℕ))
 abbrev run_by : FrozenActivity → Runs
 run_by x = (x.activity.services, (x.activity.term, (x.activity.store, x.activity.active)))
 
-abbrev seen_by : FrozenActivity → List LineShape × (List ReceptionShape × (List RequestShape × (Option FutureShape × Runs)))
+abbrev seen_by : FrozenActivity
+    → List LineShape × (List ReceptionShape × (List RequestShape × (Option FutureShape × Runs)))
 seen_by x = (x.activity.lines, (x.log, (x.queue, (x.activity.present, run_by x))))
 
 twelve : (a b c d e f g h i j k l : Items)
@@ -206,7 +207,8 @@ activity_sure =
     (list_items service_items x.activity.services) (running_items x.activity.term)
     (store_items x.activity.store) (number_items x.activity.active))
   where
-    back : (x : FrozenActivity) → [] ≡ x.activity.served → record x { activity = record (x.activity) { served = [] } } ≡ x
+    back : (x : FrozenActivity) → [] ≡ x.activity.served
+        → record x { activity = record (x.activity) { served = [] } } ≡ x
     back x e = ap (λ (ns : List ℕ). record x { activity = record (x.activity) { served = ns } }) e
 
 all_homes : (hs : List (FutureShape × Name)) → AreAll (λ h. IsAny h.0 × IsAny h.1) hs

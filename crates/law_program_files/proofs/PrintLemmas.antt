@@ -42,4 +42,5 @@ pub text_lacks : (ts : List Token) → Each IsGood ts → lacks 10 (text_of ts) 
 text_lacks [] h = refl
 text_lacks (t ∷ []) h = token_lacks t h.0
 text_lacks (t ∷ u ∷ ts) h =
-    lacks-append 10 (token_text t) (32 ∷ text_of (u ∷ ts)) (token_lacks t h.0) (and_from _ _ refl (text_lacks (u ∷ ts) h.1))
+    lacks-append 10 (token_text t) (32 ∷ text_of (u ∷ ts)) (token_lacks t h.0)
+    (and_from _ _ refl (text_lacks (u ∷ ts) h.1))

@@ -22,8 +22,10 @@ sound bytes program p checked = record { readable = programs_are_readable bytes 
 
 pub programs_are_resumed : ProgramsAreResumed
 programs_are_resumed bytes saved program f p checked file e =
-    files_are_resumed (printed program) program saved f (prints_are_lines bytes program p) (sound bytes program p checked) file e
+    files_are_resumed (printed program) program saved f (prints_are_lines bytes program p)
+    (sound bytes program p checked) file e
 
 pub programs_are_own : ProgramsAreOwn
 programs_are_own bytes saved program p checked file e =
-    files_are_own (printed program) program saved (prints_are_lines bytes program p) (sound bytes program p checked) file e
+    files_are_own (printed program) program saved (prints_are_lines bytes program p)
+    (sound bytes program p checked) file e

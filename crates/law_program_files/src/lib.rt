@@ -3,5 +3,7 @@
 #![tactic(auto)]
 
 mod programs;
+mod reports;
 
 pub use programs::{prints_are_lines, programs_are_own, programs_are_resumed};
+pub use reports::files_report_replays;
