@@ -2,6 +2,7 @@
 
 mod groups;
 mod hub;
+mod items;
 mod outside;
 mod policies;
 mod polls;

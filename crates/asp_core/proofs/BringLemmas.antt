@@ -53,11 +53,11 @@ no_need s n grant taken end e is =
     ∙ no_need_by (need_of chases end) (is_communication chases end) (intent chases rs n end) e
     (within_some (grant - taken) (act_of chases rs n end) e is)
 
-module _ {P : Type 0} (h : HistoryShape) (code : List Node) (s : RunShape) (x : CoreState) (v : Edges P) (st : Stand h code s x v.holders) (labels : AreByLabels s.configuration v)
+module _ {P : Type 0} (homes : List (FutureShape × Name)) (h : HistoryShape) (code : List Node) (s : RunShape) (x : CoreState) (v : Edges P) (st : Stand h code s x v.holders) (labels : AreByLabels homes s.configuration v)
     (k : ℕ) (n : Name) (grant taken : ℕ) (y : CoreState) (u w : Edges P) (keeps : KeepsEdges u w) (even : length u.holders.answers ≡ length u.holders.holders.edges)
     (turned : IsTurned k false u.holders.activities w.holders.activities) where
   module _ (end : Activity) (has_run : HasRun s k grant n taken end) where
-    ran_back : act_at s n grant taken end ≡ None → IsComeBy h code s k n grant taken end None y v u → IsBroughtBack h code s k n grant taken y w
+    ran_back : act_at s n grant taken end ≡ None → IsComeBy h code s k n grant taken end None y v u → IsBroughtBack homes h code s k n grant taken y w
     ran_back none r =
         let c : Configuration = with_activity n end s.configuration in
         let t : RunShape = returned s k (grant - taken) c [] in
@@ -69,10 +69,10 @@ module _ {P : Type 0} (h : HistoryShape) (code : List Node) (s : RunShape) (x : 
               (comes_back h code s x v.holders st u.holders w.holders y k taken (grant - taken) c [] r.0
               (ap (λ (q : Edges P). q.holders.holders) r.1 ∙ ap (λ es. after_events es v.holders.holders) (sym (runs_are_silent s k grant n taken end has_run)))
               even (ap (λ (q : Edges P). q.holders.activities) r.1 ∙ sym (append-nil v.holders.activities)) turned keeps.holders keeps.answers);
-          labels = labels_kept s.configuration c v w refl (subst (λ q. KeepsEdges q w) r.1 keeps) labels;
+          labels = labels_kept homes s.configuration c v w refl (subst (λ q. KeepsEdges q w) r.1 keeps) labels;
         }
 
-    acted_back : (e : Effect) → act_at s n grant taken end ≡ Some e → IsComeBy h code s k n grant taken end (Some e) y v u → IsBroughtBack h code s k n grant taken y w
+    acted_back : (e : Effect) → act_at s n grant taken end ≡ Some e → IsComeBy h code s k n grant taken end (Some e) y v u → IsBroughtBack homes h code s k n grant taken y w
     acted_back e some r =
         let acted = r.1 in
         let c : Configuration = with_effect n e (with_activity n end s.configuration) in
@@ -86,12 +86,12 @@ module _ {P : Type 0} (h : HistoryShape) (code : List Node) (s : RunShape) (x : 
               (comes_back h code s x v.holders st u.holders w.holders y k (suc taken) (grant - suc taken) c (made_by e.made) acted.core
               (acted.told.holders ∙ ap (λ es. after_events es v.holders.holders) (sym events))
               even acted.told.activities turned keeps.holders keeps.answers);
-          labels = labels_kept c c u w refl keeps (acted.labels labels);
+          labels = labels_kept homes c c u w refl keeps (acted.labels homes labels);
         }
 
-    back_by : (o : Option Effect) → act_at s n grant taken end ≡ o → IsComeBy h code s k n grant taken end o y v u → IsBroughtBack h code s k n grant taken y w
+    back_by : (o : Option Effect) → act_at s n grant taken end ≡ o → IsComeBy h code s k n grant taken end o y v u → IsBroughtBack homes h code s k n grant taken y w
     back_by None is r = ran_back is r
     back_by (Some e) is r = acted_back e is r
 
-  pub brought_back : IsCome h code s k n grant taken y v u → IsBroughtBack h code s k n grant taken y w
+  pub brought_back : IsCome h code s k n grant taken y v u → IsBroughtBack homes h code s k n grant taken y w
   brought_back r = back_by r.end r.has_run (act_at s n grant taken r.end) refl r.come

@@ -19,6 +19,8 @@ use Rattle.core_sets.proofs.LanesLemmas.{get_append}
 use Rattle.update_policy.specs.declared.strategy.Policies.{Policies}
 use Rattle.update_policy.specs.declared.strategy.Strategy.{Strategy}
 use Rattle.core_edges.specs.Answers.{Answering, AreAsked, Counting}
+use Rattle.core_thaws.specs.Holders.{SameHolders}
+use Rattle.core_thaws.proofs.HolderLemmas.{same_events, same_then, same_turned}
 use Rattle.asp_core.specs.declared.cores.Core.{Core}
 use Rattle.asp_core.specs.Calls.{HasEntered, verdict_of}
 use Rattle.asp_core.specs.Chosen.{AlwaysLeaves, AreChosen, ChosenAreDelivered, DeliversChosen, IsAlongNoEdge, IsChosen, IsChosenDelivery, IsChosenEntry, LazyDeliversNothing, StaysChosen}
@@ -213,6 +215,38 @@ module _ (s : RunShape) (h : HoldersShape) where
       by None is e = edge_chosen cs d e
       by (Some z) is e = need_chosen cs s.names d (is ∙ e)
 
+-- Holders that are the same
+
+module _ (h k : HoldersShape) (same : SameHolders h k) (cs : List ChoiceShape) where
+  chosen_so : (c : ChoiceShape) (x : EdgeShape) → is_chosen c h x ≡ is_chosen c k x
+  chosen_so FromHome x = refl
+  chosen_so Forward x =
+      ap (λ o. is_home x.from o || has_received x.future x.from h.received) (same.homes x.future)
+      ∙ ap (λ rs. is_home x.from (home_of x.future k.homes) || has_received x.future x.from rs) same.received
+  chosen_so Leave x = refl
+
+  one_same : (x : EdgeShape) → IsChosen h cs x → IsChosen k cs x
+  one_same x is = record {
+    place = is.place;
+    edge = ap (λ es. slice_get es is.place) (sym same.edges) ∙ is.edge;
+    answer = is.answer;
+    kept = is.kept;
+    chosen = sym (chosen_so is.answer x) ∙ is.chosen;
+    filled = sym (same.filled x.future) ∙ is.filled;
+  }
+
+  entry_same : (e : EntryShape) → IsChosenEntry h cs e → IsChosenEntry k cs e
+  entry_same (Lent j) is = tt
+  entry_same (Committed j r) is = tt
+  entry_same (Delivered (Edge f from to)) is = one_same (record { future = f; from = from; to = to }) is
+  entry_same (Delivered (Need f to place)) is = tt
+
+  pub chosen_same : (es : List EntryShape) → AreChosen es h cs → AreChosen es k cs
+  chosen_same es are = each_weaker (IsChosenEntry h cs) (IsChosenEntry k cs) entry_same es are
+
+pub delivered_same : (h k : HoldersShape) → SameHolders h k → (cs : List ChoiceShape) → ChosenAreDelivered h cs → ChosenAreDelivered k cs
+delivered_same h k same cs all x is = ap (has_edge x) (sym same.delivered) ∙ all x (one_same k h (same_turned h k same) cs x is)
+
 -- A core
 
 module _ {P : Type 0} where
@@ -226,12 +260,14 @@ module _ {P : Type 0} where
       let h = x.edges.holders.holders in
       let cs = x.edges.holders.answers in
       let g = history_of x in
-      let after : new.edges.holders.holders ≡ after_events (entry_events e s) h =
-      then.stand.edges.holders ∙ ap holders_of entered ∙ holders_go_on g e s run.stand.core.run
-      ∙ ap (after_events (entry_events e s)) (sym run.stand.edges.holders) in
+      let now : HoldersShape = new.edges.holders.holders in
+      let told : HoldersShape = after_events (entry_events e s) (holders_of g) in
+      let after : SameHolders (after_events (entry_events e s) h) now =
+      same_then (after_events (entry_events e s) h) told now (same_events (entry_events e s) h (holders_of g) run.stand.edges.holders)
+      (same_turned now told (subst (SameHolders now) (ap holders_of entered ∙ holders_go_on g e s run.stand.core.run) then.stand.edges.holders)) in
       let all = one_more h (after_events (entry_events e s) h) (all_grown (entry_events e s) h) cs more (entries_of x) e is are in
       subst (λ es. AreChosen es new.edges.holders.holders new.edges.holders.answers) (sym (ap (λ (q : _). q.entries) entered))
-      (subst (λ q. AreChosen (entries_of x ++ e ∷ []) q new.edges.holders.answers) (sym after)
+      (chosen_same (after_events (entry_events e s) h) now after new.edges.holders.answers (entries_of x ++ e ∷ [])
       (subst (λ q. AreChosen (entries_of x ++ e ∷ []) (after_events (entry_events e s) h) q) (sym answers) all))
 
 -- Where the verdict is there

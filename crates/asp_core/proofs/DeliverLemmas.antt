@@ -1,5 +1,5 @@
 -- A value that is delivered, once the edges were told.
-use Rattle.std.proofs.Common.{◌≡◌, ◌∙◌, ◌<◌, ◌&&◌, ℕ, Bool, true, false, List, Option, Some, None, Result, Ok, Err, IfOk, IfSome, OnOk, is_some, refl, sym, ap, subst, arith}
+use Rattle.std.proofs.Common.{◌≡◌, ◌∙◌, ◌<◌, ◌&&◌, ℕ, Bool, true, false, List, Option, Some, None, Result, Ok, Err, IfOk, IfSome, OnOk, is_some, refl, sym, ap, arith}
 use Rattle.std.specs.FinMap.{find}
 use Rattle.std.specs.Option.{option_map}
 use Rattle.asp_model.specs.Shapes.{delivery_shape}
@@ -8,7 +8,7 @@ use Rattle.asp_model.specs.Configuration.{Configuration}
 use Rattle.asp_model.specs.History.{DeliveryShape, Edge, HistoryShape, Need}
 use Rattle.asp_model.specs.Names.{FutureShape, Name, future_cmp, name_cmp}
 use Rattle.def_journals.specs.Deliveries.{edge_delivered, need_delivered}
-use Rattle.def_journals.specs.Edges.{HoldersShape, has_filled}
+use Rattle.def_journals.specs.Edges.{HoldersShape}
 use Rattle.def_journals.specs.Journals.{RunShape, is_in, over}
 use Rattle.def_journals.specs.Owed.{next_owed}
 use Rattle.law_chases.proofs.ChaseLemmas.{chase_finds}
@@ -18,7 +18,6 @@ use Rattle.code_table.specs.declared.code.Node.{Node}
 use Rattle.future_update.specs.declared.edge.EdgeNames.{EdgeNames}
 use Rattle.future_update.specs.Holders.{HoldersView}
 use Rattle.future_update.specs.Names.{delivery_along, edge_named}
-use Rattle.law_journals.proofs.RunLemmas.{holders_are_of_runs}
 use Rattle.law_core.specs.Owed.{IsNeed}
 use Rattle.law_core.proofs.OwedLemmas.{edges_are_first, edges_are_next, needs_are_first}
 use Rattle.law_core.specs.Runs.{rank_of_number}
@@ -34,7 +33,7 @@ use Rattle.asp_core.specs.Calls.{MayDeliver}
 use Rattle.asp_core.specs.Delivering.{IsDueDelivery}
 use Rattle.asp_core.specs.Runs.{Stand}
 use Rattle.asp_core.proofs.DueLemmas.{due_so}
-use Rattle.asp_core.proofs.StandLemmas.{known, numbered}
+use Rattle.asp_core.proofs.StandLemmas.{holders_are, known, numbered}
 
 over_some : (s : RunShape) (o : Option Configuration) → is_some (over s o) ≡ true → (d : Configuration) × (o ≡ Some d)
 over_some s None is = none_true is
@@ -62,9 +61,7 @@ module _ (h : HistoryShape) (code : List Node) (s : RunShape) (x : CoreState) (v
   of_run = record {
     numbered = numbered h code s x v st;
     edges = known h code s x v st;
-    filled = λ f is.
-        sym ((subst (λ q. (g : FutureShape) → has_filled g q.filled ≡ is_some (find future_cmp g s.configuration.futures)) (sym st.edges.holders)
-        (holders_are_of_runs h s st.core.first.sound st.core.run).filled) f) ∙ is;
+    filled = λ f is. sym ((holders_are h code s x v st).filled f) ∙ is;
   }
 
   abbrev pub owed : Option DeliveryShape

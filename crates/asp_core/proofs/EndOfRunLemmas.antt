@@ -9,11 +9,10 @@ use Rattle.std.specs.Ordering.{is_eq}
 use Rattle.std.proofs.lemmas.Map.{update_all_push, update_other, update_same}
 use Rattle.asp_model.specs.Configuration as model
 use Rattle.asp_model.specs.Configuration.{Configuration, log_of, requests_of}
-use Rattle.asp_model.specs.History.{HistoryShape, program_history}
+use Rattle.asp_model.specs.History.{HistoryShape}
 use Rattle.asp_model.specs.Names.{Name, name_cmp, same_name}
 use Rattle.asp_model.specs.Step.{name_at}
-use Rattle.def_journals.specs.Journals.{RunShape, grant_of, run_of}
-use Rattle.law_journals.proofs.JournalLemmas.{journals_reach}
+use Rattle.def_journals.specs.Journals.{RunShape, grant_of}
 use Rattle.law_steps.proofs.NameLemmas.{name_total, names_apart}
 use Rattle.law_chases.proofs.FutureLemmas.{no_some, some_is, true_false}
 use Rattle.law_journals.specs.Numbered.{AreNumbered}
@@ -27,7 +26,7 @@ use Rattle.core_state.specs.declared.state.CoreState.{CoreState}
 use Rattle.core_state.specs.Cores.{IsCore}
 use Rattle.core_state.proofs.LendLemmas.{is_here}
 use Rattle.core_state.proofs.ListLemmas.{got_within, name_got, name_within, number_case}
-use Rattle.step_ends.specs.Activities.{StandForReached, StandsAt, actor_at}
+use Rattle.step_ends.specs.Activities.{StandForSound, StandsAt, actor_at}
 use Rattle.asp_core.specs.Gathering.{AreApart, AreBefore, IsBrought, OthersStay, as_actor, held_in, who_is_in}
 use Rattle.asp_core.specs.EndOfRun.{IsHome}
 use Rattle.asp_core.proofs.GatheredLemmas.{each_more}
@@ -138,14 +137,10 @@ module _ (h : HistoryShape) (code : List Node) (x : CoreState) (s : RunShape) (h
     logged_by n y is None at = no_some (sym (nobody n at) ∙ is)
     logged_by n y is (Some a) at = let f = somebody n a at in ap log_in (some_is (sym is ∙ f.found)) ∙ f.logged
 
-    -- its run is that of a program
-    run_started : run_of (program_history h.program h.budget h.entries) ≡ Some s
-    run_started = subst (λ x. run_of (record h { first = x }) ≡ Some s) home.start core.run
-
-    pub reached_home : StandForReached m.entries x.futures h.program c
-    reached_home = record {
-      bare = home.bare;
-      reached = journals_reach h.program h.budget h.entries s run_started;
+    pub stand_home : StandForSound m.entries x.futures c
+    stand_home = record {
+      sound = core.whole.sound;
+      closed = core.whole.closed;
       population = record {
         activities = λ n. stands_by n (find name_cmp n c.activities) refl;
         futures = core.populated.futures;

@@ -17,6 +17,7 @@ pub mod EndLemmas
 pub mod HomeLemmas
 pub mod ChosenLemmas
 pub mod StopLemmas
+pub mod ThawLemmas
 pub mod OutAfterLemmas
 pub mod OverLemmas
 pub mod FrozenLemmas

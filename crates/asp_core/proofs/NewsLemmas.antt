@@ -1,5 +1,5 @@
 -- What a lease gives that has come back is new to the edges.
-use Rattle.std.proofs.Common.{◌≡◌, ◌∙◌, ℕ, false, List, Some, None, is_some, refl, sym, ap, subst}
+use Rattle.std.proofs.Common.{◌≡◌, ◌∙◌, ℕ, false, List, Some, None, is_some, refl, sym, ap}
 use Rattle.std.specs.FinMap.{find}
 use Rattle.asp_model.specs.Configuration.{Activity, Configuration}
 use Rattle.asp_model.specs.History.{HistoryShape}
@@ -7,7 +7,6 @@ use Rattle.asp_model.specs.Intent.{Effect}
 use Rattle.asp_model.specs.Names.{Name, name_cmp}
 use Rattle.asp_model.specs.Step.{name_at}
 use Rattle.def_journals.specs.Journals.{RunShape}
-use Rattle.def_journals.specs.Passing.{holders_of}
 use Rattle.law_chases.proofs.FutureLemmas.{none_true}
 use Rattle.law_steps.proofs.WholeLemmas.{sound_intents}
 use Rattle.law_steps.specs.Steps.{IsNewTo}
@@ -24,12 +23,12 @@ use Rattle.core_state.specs.Commits.{IsActing, IsGiving}
 use Rattle.core_state.proofs.ActLemmas.{whole_ended}
 use Rattle.core_state.proofs.HandLemmas.{made_is}
 use Rattle.law_journals.specs.Fresh.{IsFresh}
-use Rattle.law_journals.proofs.RunLemmas.{effects_are_fresh, holders_are_of_runs, holders_stay}
+use Rattle.law_journals.proofs.RunLemmas.{effects_are_fresh, holders_stay}
 use Rattle.core_edges.specs.Given.{IsSomeFresh}
 use Rattle.asp_core.specs.Bringing.{IsUnmet}
 use Rattle.asp_core.specs.Runs.{Stand}
 use Rattle.asp_core.proofs.OutLemmas.{unmet}
-use Rattle.asp_core.proofs.StandLemmas.{numbered}
+use Rattle.asp_core.proofs.StandLemmas.{holders_are, numbered}
 
 -- what an activity intends is new to its configuration
 pub is_new_to : (h : HistoryShape) (code : List Node) (s : RunShape) (before : CoreState) (k : ℕ) (n : Name) (grant reductions : ℕ) (a : Actor) (e : Effect)
@@ -61,8 +60,7 @@ module _ (h : HistoryShape) (code : List Node) (s : RunShape) (x : CoreState) (v
       let acting = r.acting in
       let c : Configuration = with_activity n acting.returning.end s.configuration in
       let fresh : IsFresh v.holders e =
-      subst (λ q. IsFresh q e) (sym st.edges.holders)
-      (effects_are_fresh c (holders_of h) n e
+      effects_are_fresh c v.holders n e
       (whole_ended h code r.before s k n grant acting.taken r.actor acting.returning).sound
-      (holders_stay s.configuration c (holders_of h) refl refl (holders_are_of_runs h s st.core.first.sound st.core.run)) acting.intends) in
+      (holders_stay s.configuration c v.holders refl refl (holders_are h code s x v st)) acting.intends in
       ((n, e, r.hand.given, fresh), unmet_given g e n e.own r.hand.given (λ q made. (r.hand.made q made).0))

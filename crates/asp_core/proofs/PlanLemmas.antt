@@ -1,13 +1,12 @@
 -- Strategies stay those of labels, and answers those of the plan.
 use Rattle.std.proofs.Common.{◌≡◌, ◌∙◌, ◌++◌, ◌∷◌, Bool, true, false, List, [], Option, Some, None, is_some, refl, sym, ap, subst}
 use Rattle.asp_model.specs.Configuration.{Configuration, RequestShape}
-use Rattle.asp_model.specs.History.{ChoiceShape, DeliveryShape, Edge, HistoryShape, Need}
+use Rattle.asp_model.specs.History.{ChoiceShape, DeliveryShape, Edge, Need}
 use Rattle.asp_model.specs.Names.{FutureShape, Name}
 use Rattle.law_steps.specs.Sound.{IsSound}
 use Rattle.def_journals.specs.Deliveries.{edge_delivered, need_delivered}
 use Rattle.def_journals.specs.Edges.{EdgeShape, HoldersShape, home_of, no_holders}
-use Rattle.def_journals.specs.Journals.{RunShape, delivered, first_in, over, run_of}
-use Rattle.def_journals.specs.Passing.{holders_of}
+use Rattle.def_journals.specs.Journals.{RunShape, delivered, over}
 use Rattle.law_journals.specs.EdgesKept.{IsKnownEdge}
 use Rattle.law_steps.specs.Kept.{Stands}
 use Rattle.law_steps.specs.Linked.{Each}
@@ -21,7 +20,8 @@ use Rattle.update_policy.specs.declared.plan.Plan.{Plan}
 use Rattle.update_policy.specs.declared.strategy.Policies.{Policies}
 use Rattle.update_policy.specs.declared.strategy.Strategy.{Strategy}
 use Rattle.update_policy.specs.Plans.{plan_shape, strategy_by}
-use Rattle.law_journals.proofs.RunLemmas.{holders_are_of_runs, homes_are_of_begun}
+use Rattle.law_journals.specs.Runs.{AreHoldersOf}
+use Rattle.law_journals.proofs.RunLemmas.{homes_are_of_begun}
 use Rattle.core_edges.specs.declared.edges.Edges.{Edges}
 use Rattle.core_edges.specs.Answers.{Answering, AreAnswered, AreAsked, Counting, IsAsked}
 use Rattle.core_edges.specs.Given.{AreLearned, IsSomeFresh}
@@ -33,7 +33,7 @@ use Rattle.asp_core.specs.declared.cores.Core.{Core}
 use Rattle.asp_core.specs.Cores.{IsRun, code_of, history_of}
 use Rattle.asp_core.specs.Plans.{AreByPlan, KeepsStrategies, StayByPlan}
 use Rattle.asp_core.proofs.AnswerLemmas.{same_strategies}
-use Rattle.asp_core.proofs.StandLemmas.{known}
+use Rattle.asp_core.proofs.StandLemmas.{holders_are, known}
 
 -- A delivery brings no request
 
@@ -52,18 +52,18 @@ received_stay (Need f to place) s t e =
 module _ {P : Type 0} where
   -- Labels
 
-  pub labels_stay : (c d : Configuration) (old new : Edges P) → d.received ≡ c.received → new.plan ≡ old.plan → ((f : FutureShape) → strategy_in new f ≡ strategy_in old f)
-      → AreByLabels c old → AreByLabels d new
-  labels_stay c d old new received plan stay labels m k r st =
+  pub labels_stay : (homes : List (FutureShape × Name)) (c d : Configuration) (old new : Edges P) → d.received ≡ c.received → new.plan ≡ old.plan → ((f : FutureShape) → strategy_in new f ≡ strategy_in old f)
+      → AreByLabels homes c old → AreByLabels homes d new
+  labels_stay homes c d old new received plan stay labels m k r st out =
       stay r.future
-      ∙ labels m k r (subst (λ (x : List (Name × List RequestShape)). Stands (record d { received = x }) m k r) received st)
+      ∙ labels m k r (subst (λ (x : List (Name × List RequestShape)). Stands (record d { received = x }) m k r) received st) out
       ∙ ap (λ p. strategy_by (plan_shape p) r.label) (sym plan)
 
   kept_strategies : (old new : Edges P) → KeepsEdges old new → (f : FutureShape) → strategy_in new f ≡ strategy_in old f
   kept_strategies old new keeps f = ap (λ (q : FutureShape → Strategy). q f) (sym (same_strategies old new keeps))
 
-  pub labels_kept : (c d : Configuration) (old new : Edges P) → d.received ≡ c.received → KeepsEdges old new → AreByLabels c old → AreByLabels d new
-  labels_kept c d old new received keeps = labels_stay c d old new received keeps.plan (kept_strategies old new keeps)
+  pub labels_kept : (homes : List (FutureShape × Name)) (c d : Configuration) (old new : Edges P) → d.received ≡ c.received → KeepsEdges old new → AreByLabels homes c old → AreByLabels homes d new
+  labels_kept homes c d old new received keeps = labels_stay homes c d old new received keeps.plan (kept_strategies old new keeps)
 
   -- Strategies
 
@@ -130,12 +130,11 @@ module _ {P : Type 0} where
     }
 
     -- edges of a run are of futures that have a home
-    at_home : (h : HistoryShape) (s : RunShape) → IsSound (first_in h).configuration → IsSound s.configuration → run_of h ≡ Some s → (x : Edges P) → x.holders.holders ≡ holders_of h
+    at_home : (s : RunShape) → IsSound s.configuration → (x : Edges P) → AreHoldersOf s.configuration x.holders.holders
         → Each (IsKnownEdge s.configuration) x.holders.holders.edges → Each (λ (e : EdgeShape). is_some (home_of e.future x.holders.holders.homes) ≡ true) x.holders.holders.edges
-    at_home h s first sound run x same known =
-        let are = holders_are_of_runs h s first run in
+    at_home s sound x are known =
         each_weaker (IsKnownEdge s.configuration) (λ (e : EdgeShape). is_some (home_of e.future x.holders.holders.homes) ≡ true)
-        (λ e is. subst (λ (q : HoldersShape). is_some (home_of e.future q.homes) ≡ true) (sym same) ((homes_are_of_begun s.configuration (holders_of h) e.future sound are).0 is.0))
+        (λ e is. (homes_are_of_begun s.configuration x.holders.holders e.future sound are).0 is.0)
         x.holders.holders.edges known
 
     -- where edges arise, those that were there keep their answers
@@ -157,4 +156,4 @@ module _ {P : Type 0} where
         → StayByPlan answers counts x.edges new
     by_plan_on x s new run =
         let h = history_of x in
-        by_plan_so x.edges new (at_home h s run.stand.core.first.sound run.stand.core.whole.sound run.stand.core.run x.edges run.stand.edges.holders (known h (code_of x) s x.state x.edges.holders run.stand))
+        by_plan_so x.edges new (at_home s run.stand.core.whole.sound x.edges (holders_are h (code_of x) s x.state x.edges.holders run.stand) (known h (code_of x) s x.state x.edges.holders run.stand))

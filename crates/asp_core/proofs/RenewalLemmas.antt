@@ -1,23 +1,20 @@
 -- A core whose journal has a renewal more.
-use Rattle.std.proofs.Common.{◌≡◌, ◌∙◌, ◌-◌, ◌==◌, ◌<◌, ◌++◌, ◌∷◌, [], ℕ, zero, suc, Bool, true, false, List, Option, Some, None, is_some, map, refl, sym, ap, subst, arith}
+use Rattle.std.proofs.Common.{◌≡◌, ◌∙◌, ◌-◌, ◌==◌, ◌<◌, ◌++◌, ◌∷◌, [], ℕ, zero, suc, Bool, true, false, List, Option, Some, None, is_some, refl, sym, ap, subst, arith}
 use Rattle.std.proofs.lemmas.Bool.{eqb-true}
 use Rattle.std.proofs.lemmas.List.{append_assoc}
 use Rattle.std.specs.Arc.{arc_value}
 use Rattle.asp_model.specs.Chase.{chase}
 use Rattle.asp_model.specs.Configuration.{Activity, requests_of}
 use Rattle.asp_model.specs.Intent.{Effect}
-use Rattle.asp_model.specs.History.{BeginsWith, ChoiceShape, Committed, EntryShape, HistoryShape, Lent, program_history, with_entry}
+use Rattle.asp_model.specs.History.{BeginsWith, ChoiceShape, Committed, EntryShape, HistoryShape, Lent, with_entry}
 use Rattle.asp_model.specs.Names.{Name}
-use Rattle.asp_model.specs.Step.{name_at}
 use Rattle.asp_model.specs.Term.{locations}
-use Rattle.asp_model.proofs.HistoryLemmas.{begins_with_earlier}
 use Rattle.def_journals.specs.Edges.{HoldersShape, after_events}
 use Rattle.def_journals.specs.Journals.{RunShape, entered, first_run, grant_of, granted, out_but, run_of}
 use Rattle.def_journals.specs.Passing.{entry_events, holders_of}
 use Rattle.law_journals.proofs.GrowingLemmas.{entries_go_on, holders_go_on}
 use Rattle.law_journals.proofs.LeaseLemmas.{grant_but}
 use Rattle.law_steps.proofs.EachLemmas.{each_both}
-use Rattle.activity_step.specs.Activities.{IsStopAt}
 use Rattle.activity_step.specs.Local.{IsLocalStep, LocalRun}
 use Rattle.activity_step.specs.declared.advance.Advance.TheVariants as advance
 use Rattle.law_core.specs.Commits.{HasRun}
@@ -33,12 +30,14 @@ use Rattle.long_leases.specs.declared.long_lease.LongLease.{LongLease}
 use Rattle.long_leases.specs.LongLeases.{HasEnded, IsLongLease}
 use Rattle.long_leases.specs.Renewing.{IsRenewedBy, with_renewal}
 use Rattle.core_edges.specs.Labels.{AreByLabels}
+use Rattle.core_thaws.specs.Holders.{SameHolders}
 use Rattle.asp_core.specs.declared.cores.Core.{Core}
-use Rattle.asp_core.specs.Chosen.{AreChosen, DeliversChosen, IsChosenEntry, StaysChosen}
-use Rattle.asp_core.specs.Cores.{IsRun, code_of, entries_of, history_of}
+use Rattle.asp_core.specs.Chosen.{AreChosen, IsChosenEntry, StaysChosen}
+use Rattle.asp_core.specs.Cores.{IsRun, code_of, entries_of, first_homes, history_of}
 use Rattle.asp_core.specs.Renewals.{IsRenewedIn}
-use Rattle.asp_core.specs.Runs.{AreEdgesOf, AreToldOut, Stand, counted}
-use Rattle.asp_core.specs.Stopping.{AllStopped, AreStoppedFrom, HasRunOut, StaysStopped}
+use Rattle.asp_core.specs.Runs.{Stand, counted}
+use Rattle.asp_core.specs.Stopping.{AllStopped, HasRunOut, StaysStopped}
+use Rattle.asp_core.proofs.CoreLemmas.{homes_same}
 use Rattle.asp_core.proofs.StopLemmas.{stopped_on}
 
 number_itself : (k : ℕ) → (k == k) ≡ true
@@ -106,7 +105,7 @@ module _ (h : HistoryShape) (code : List Node) (s : RunShape) (x y : CoreState) 
       record {
         core = core;
         edges = record {
-          holders = st.edges.holders ∙ sym first ∙ sym (holders_go_on h1 (Lent k) t run1);
+          holders = subst (SameHolders v.holders) (sym first ∙ sym (holders_go_on h1 (Lent k) t run1)) st.edges.holders;
           answers = st.edges.answers;
           names = st.edges.names;
           out = λ j m named. st.edges.out j m named ∙ sym (same_out s k grant n r a b ran beyond same new j);
@@ -119,7 +118,7 @@ two_chosen h answers k grant xs are =
     each_both (IsChosenEntry h answers) (xs ++ Committed k grant ∷ []) (Lent k ∷ []) (each_both (IsChosenEntry h answers) xs (Committed k grant ∷ []) are (tt, tt)) (tt, tt)
 
 module _ {P : Type 0} (old new : Core P) (s : RunShape) (run : IsRun old s) (l : LongLease) (lease : IsLongLease (history_of old) (code_of old) l) (beyond : l.lease.grant < l.lease.taken) (now : LongLease)
-    (x : IsRenewedBy (history_of old) (code_of old) s l lease new.state now) (code : new.code ≡ old.code) (budget : new.budget ≡ old.budget) (fresh : new.spent ≡ false) (edges : new.edges ≡ old.edges) where
+    (x : IsRenewedBy (history_of old) (code_of old) s l lease new.state now) (code : new.code ≡ old.code) (first : new.first.shape ≡ old.first.shape) (budget : new.budget ≡ old.budget) (fresh : new.spent ≡ false) (edges : new.edges ≡ old.edges) where
   abbrev k : ℕ
   k = l.lease.number
 
@@ -130,7 +129,7 @@ module _ {P : Type 0} (old new : Core P) (s : RunShape) (run : IsRun old s) (l :
   t = renewed s k lease.name x.renewal.here
 
   pub two_entered : history_of new ≡ with_renewal (history_of old) k grant
-  two_entered = λ i. program_history (program_of (arc_value (code i))) (budget i) (x.core.entries i)
+  two_entered = λ i. record { program = program_of (arc_value (code i)); first = first i; budget = budget i; entries = x.core.entries i }
 
   stands : Stand (with_renewal (history_of old) k grant) (code_of old) t new.state old.edges.holders
   stands = stands_then (history_of old) (code_of old) s old.state new.state old.edges.holders run.stand k grant lease.name l.lease.taken lease.activity x.end x.has_run beyond x.from x.renewal x.core
@@ -143,7 +142,7 @@ module _ {P : Type 0} (old new : Core P) (s : RunShape) (run : IsRun old s) (l :
         subst (λ e. Stand (history_of new) (code_of new) t new.state e.holders) (sym edges)
         (subst (λ h. Stand h (code_of new) t new.state old.edges.holders) (sym two_entered)
         (subst (λ c. Stand (with_renewal (history_of old) k grant) c t new.state old.edges.holders) (ap arc_value (sym code)) stands));
-    labels = subst (AreByLabels t.configuration) (sym edges) run.labels;
+    labels = subst (AreByLabels (first_homes new) t.configuration) (sym edges) (subst (λ hs. AreByLabels hs t.configuration old.edges) (sym (homes_same old new code first)) run.labels);
   }
 
   pub renewed_in : IsRenewedIn old s l lease new now

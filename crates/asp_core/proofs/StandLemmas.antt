@@ -4,21 +4,25 @@ use Rattle.asp_model.specs.Configuration.{Configuration}
 use Rattle.asp_model.specs.History.{Committed, Delivered, DeliveryShape, EntryShape, HistoryShape, Lent, with_entry}
 use Rattle.asp_model.specs.Names.{Name}
 use Rattle.asp_model.specs.Step.{name_at}
-use Rattle.def_journals.specs.Edges.{HoldersShape, after_events}
+use Rattle.def_journals.specs.Edges.{EdgeShape, HoldersShape, after_events}
 use Rattle.def_journals.specs.Journals.{RunShape, grant_of, granted}
-use Rattle.def_journals.specs.Passing.{entry_events}
+use Rattle.def_journals.specs.Passing.{entry_events, holders_of}
 use Rattle.law_journals.specs.EdgesKept.{IsKnownEdge, sends_in}
 use Rattle.law_journals.proofs.BoundLemmas.{edges_are_bounded}
 use Rattle.law_journals.proofs.KnownLemmas.{edges_are_known}
 use Rattle.law_steps.specs.Linked.{Each}
 use Rattle.law_journals.specs.Entered.{with_lease}
 use Rattle.law_journals.specs.Numbered.{AreNumbered}
+use Rattle.law_journals.specs.Runs.{AreHoldersOf}
 use Rattle.law_journals.proofs.GrowingLemmas.{holders_go_on}
+use Rattle.law_journals.proofs.RunLemmas.{holders_are_of_runs}
 use Rattle.code_table.specs.declared.code.Node.{Node}
 use Rattle.future_update.specs.Holders.{HoldersView, IsTurned, is_out}
 use Rattle.law_core.specs.Commits.{returned}
 use Rattle.core_state.specs.declared.state.CoreState.{CoreState}
 use Rattle.core_state.specs.Cores.{IsCore}
+use Rattle.core_thaws.specs.Holders.{SameHolders}
+use Rattle.core_thaws.proofs.HolderLemmas.{are_same, same_events}
 use Rattle.asp_core.specs.Runs.{AreToldOut, Stand, as_met}
 use Rattle.asp_core.proofs.OutLemmas.{back_told, lent_told, met_told, names_met, names_more}
 
@@ -28,13 +32,17 @@ module _ (h : HistoryShape) (code : List Node) (s : RunShape) where
     numbered = st.core.numbered
 
     pub known : Each (IsKnownEdge s.configuration) v.holders.edges
-    known = subst (λ (q : HoldersShape). Each (IsKnownEdge s.configuration) q.edges) (sym st.edges.holders) (edges_are_known h s st.core.first.sound st.core.run)
+    known = subst (Each (IsKnownEdge s.configuration)) (sym st.edges.holders.edges) (edges_are_known h s st.core.first.sound st.core.run)
+
+    -- the edges know the homes of its futures, and which are filled
+    pub holders_are : AreHoldersOf s.configuration v.holders
+    holders_are = are_same v.holders (holders_of h) st.edges.holders s.configuration (holders_are_of_runs h s st.core.first.sound st.core.run)
 
     -- no more edges than futures times ordered pairs of activities
     pub bounded : length v.holders.edges ≤ sends_in s.configuration.activities * (length s.configuration.activities * (length s.configuration.activities - 1))
     bounded =
-        subst (λ (q : HoldersShape). length q.edges ≤ sends_in s.configuration.activities * (length s.configuration.activities * (length s.configuration.activities - 1)))
-        (sym st.edges.holders) (edges_are_bounded h s st.core.first.sound st.core.run)
+        subst (λ (es : List EdgeShape). length es ≤ sends_in s.configuration.activities * (length s.configuration.activities * (length s.configuration.activities - 1)))
+        (sym st.edges.holders.edges) (edges_are_bounded h s st.core.first.sound st.core.run)
 
     pub goes_on : (w : HoldersView) (e : EntryShape) (t : RunShape) (y : CoreState) → IsCore (with_entry h e) code y t
         → w.holders ≡ after_events (entry_events e s) v.holders → length w.answers ≡ length w.holders.edges
@@ -42,7 +50,8 @@ module _ (h : HistoryShape) (code : List Node) (s : RunShape) where
     goes_on w e t y core holders answers names told = record {
       core = core;
       edges = record {
-        holders = holders ∙ ap (after_events (entry_events e s)) st.edges.holders ∙ sym (holders_go_on h e s st.core.run);
+        holders = subst (λ (q : HoldersShape). SameHolders q (holders_of (with_entry h e))) (sym holders)
+            (subst (SameHolders (after_events (entry_events e s) v.holders)) (sym (holders_go_on h e s st.core.run)) (same_events (entry_events e s) v.holders (holders_of h) st.edges.holders));
         answers = answers;
         names = names;
         out = told;

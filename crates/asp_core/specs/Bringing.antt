@@ -3,7 +3,7 @@ use Rattle.std.specs.Prelude.{◌≡◌, ◌++◌, ℕ, suc, Bool, false, List, 
 use Rattle.asp_model.specs.Configuration.{Activity, Configuration}
 use Rattle.asp_model.specs.History.{Committed, HistoryShape, with_entry}
 use Rattle.asp_model.specs.Intent.{Acts, Effect}
-use Rattle.asp_model.specs.Names.{Name}
+use Rattle.asp_model.specs.Names.{FutureShape, Name}
 use Rattle.asp_model.specs.Step.{intent_in, with_effect}
 use Rattle.def_journals.specs.Edges.{after_events}
 use Rattle.def_journals.specs.Journals.{RunShape}
@@ -38,8 +38,8 @@ IsUnmet g activities = Unit {0}
 
 -- strategies stay those of labels by what is given to a configuration, to which it is new
 abbrev pub KeepLabels : {P : Type 0} → Given → (old new : Edges P) → Type 0
-KeepLabels g old new = (c : Configuration) (n : Name) (e : Effect) → IsNewTo c e → IsGiven n e g → AreByLabels c old
-    → AreByLabels (with_effect n e c) new
+KeepLabels g old new = (homes : List (FutureShape × Name)) (c : Configuration) (n : Name) (e : Effect) → IsNewTo c e
+    → IsGiven n e g → AreByLabels homes c old → AreByLabels homes (with_effect n e c) new
 
 -- somebody's lease of both
 abbrev pub StandForLease : CoreState → HoldersView → Lease → Type 0
@@ -55,7 +55,8 @@ IsSomeActing z v k grant reductions a =
 pub record HasActed {P : Type 0} (h : HistoryShape) (code : List Node) (s : RunShape) (k : ℕ) (n : Name) (grant reductions : ℕ) (end : Activity) (e : Effect) (y : CoreState) (old new : Edges P) : Type 0 where
   pub core : IsActCommitted h code s k n grant reductions end e y
   pub told : AreTold n e old.holders new.holders
-  pub labels : AreByLabels s.configuration old → AreByLabels (with_effect n e (with_activity n end s.configuration)) new
+  pub labels : (homes : List (FutureShape × Name)) → AreByLabels homes s.configuration old
+      → AreByLabels homes (with_effect n e (with_activity n end s.configuration)) new
 
 -- by the communication that it does, if any: of contractions alone the edges are told nothing
 abbrev pub IsComeBy : {P : Type 0} (h : HistoryShape) (code : List Node) (s : RunShape) (k : ℕ) (n : Name) (grant taken : ℕ) (end : Activity) → Option Effect → CoreState → (old new : Edges P) → Type 0
@@ -71,9 +72,9 @@ pub record IsCome {P : Type 0} (h : HistoryShape) (code : List Node) (s : RunSha
 
 -- an activity that was out is in with the contractions that its lease took, and with the communication at which
 -- it stands then, where that may be done and one of the grant is left
-pub record IsBroughtBack {P : Type 0} (h : HistoryShape) (code : List Node) (s : RunShape) (k : ℕ) (n : Name) (grant taken : ℕ) (y : CoreState) (w : Edges P) : Type 0 where
+pub record IsBroughtBack {P : Type 0} (homes : List (FutureShape × Name)) (h : HistoryShape) (code : List Node) (s : RunShape) (k : ℕ) (n : Name) (grant taken : ℕ) (y : CoreState) (w : Edges P) : Type 0 where
   pub end : Activity
   pub has_run : HasRun s k grant n taken end
   pub after : RunShape
   pub stand : Stand (with_entry h (Committed k (counted taken (act_at s n grant taken end)))) code after y w.holders
-  pub labels : AreByLabels after.configuration w
+  pub labels : AreByLabels homes after.configuration w

@@ -1,6 +1,7 @@
 -- What a delivery is to a state and its edges.
 use Rattle.std.specs.Prelude.{◌≡◌, ℕ, false, List, Option, Some, None}
 use Rattle.asp_model.specs.History.{Delivered, DeliveryShape, HistoryShape, with_entry}
+use Rattle.asp_model.specs.Names.{FutureShape, Name}
 use Rattle.future_update.specs.Names.{delivery_along}
 use Rattle.def_journals.specs.Edges.{EdgeShape}
 use Rattle.def_journals.specs.Journals.{RunShape}
@@ -18,8 +19,10 @@ abbrev pub StandForDelivery : CoreState → HoldersView → DeliveryShape → Ty
 StandForDelivery x v d = (h : HistoryShape) × (code : List Node) × (s : RunShape) × Stand h code s x v × MayDeliver s d
 
 -- it was entered
-abbrev pub IsHanded : {P : Type 0} → HistoryShape → List Node → DeliveryShape → CoreState → Edges P → Type 0
-IsHanded h code d y w = (t : RunShape) × Stand (with_entry h (Delivered d)) code t y w.holders × AreByLabels t.configuration w
+abbrev pub IsHanded : {P : Type 0} → List (FutureShape × Name) → HistoryShape → List Node → DeliveryShape
+    → CoreState → Edges P → Type 0
+IsHanded homes h code d y w = (t : RunShape) × Stand (with_entry h (Delivered d)) code t y w.holders
+    × AreByLabels homes t.configuration w
 
 -- the first edge that is owed to one that is in, or there is none
 abbrev pub IsDueDelivery : HoldersView → Option DeliveryShape → Type 0

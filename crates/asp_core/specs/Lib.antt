@@ -1,4 +1,5 @@
 -- in reading order
+pub mod First
 pub mod Gathering
 pub mod EndOfRun
 pub mod Runs
@@ -12,4 +13,5 @@ pub mod Delivering
 pub mod Over
 pub mod PlannedEnds
 pub mod Frozen
+pub mod Thawing
 pub mod Renewals

@@ -1,5 +1,5 @@
 -- The end of a run as a plan and policies had it.
-use Rattle.std.specs.Prelude.{◌≡◌, ℕ, IfOk, List, Result}
+use Rattle.std.specs.Prelude.{◌≡◌, ℕ, IfOk, List, None, Result}
 use Rattle.asp_model.specs.Configuration.{RequestShape}
 use Rattle.asp_model.specs.History.{ChoiceShape, program_history}
 use Rattle.asp_model.specs.Names.{FutureShape, Name}
@@ -31,9 +31,10 @@ pub record IsEndByPlan {P : Type 0} (answers : Answering P) (counts : Counting P
   pub after : Policies P
   pub asked : AreAsked answers counts strategies (holders_of (program_history program budget end.journal)).edges choices policies after
 
--- the end that a core gives, by whatever plan and policies its edges were answered
+-- the end that a core gives whose run began with its program, by whatever plan and policies its edges were answered
 abbrev pub IsEndAsPlanned : {P E : Type 0} → Answering P → Counting P → Core P → Result RunEnd E → Type 0
 IsEndAsPlanned answers counts x r = (plan : Plan) (policies : Policies _) → AreByPlan answers counts plan policies x.edges
+    → (history_of x).first ≡ None
     → IfOk r (IsEndByPlan answers counts plan policies (history_of x).program (history_of x).budget)
 
 -- Such an end, in which values went along all those edges for which a policy chose it, and along no other: along none,
@@ -48,5 +49,5 @@ pub record IsEndByChoice {P : Type 0} (answers : Answering P) (counts : Counting
 -- so a core gives it, of which that is true
 abbrev pub IsEndAsChosen : {P E : Type 0} → Answering P → Counting P → Core P → Result RunEnd E → Type 0
 IsEndAsChosen answers counts x r = (plan : Plan) (policies : Policies _) → AreByPlan answers counts plan policies x.edges
-    → DeliversChosen x → AllStopped (history_of x)
+    → DeliversChosen x → AllStopped (history_of x) → (history_of x).first ≡ None
     → IfOk r (IsEndByChoice answers counts plan policies (history_of x).program (history_of x).budget)

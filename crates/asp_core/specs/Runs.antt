@@ -10,6 +10,7 @@ use Rattle.code_table.specs.declared.code.Node.{Node}
 use Rattle.future_update.specs.Holders.{HoldersView, is_out}
 use Rattle.core_state.specs.declared.state.CoreState.{CoreState}
 use Rattle.core_state.specs.Cores.{IsCore}
+use Rattle.core_thaws.specs.Holders.{SameHolders}
 
 -- who comes to be met, in
 abbrev pub as_met : List Name → List (Name × Bool)
@@ -19,9 +20,9 @@ as_met = map (λ n. (n, false))
 abbrev pub AreToldOut : RunShape → List (Name × Bool) → Type 0
 AreToldOut s activities = (k : ℕ) (n : Name) → name_at s.names k ≡ Some n → is_out n activities ≡ is_some (grant_of k s.out)
 
--- the edges are those of a history, each with an answer, and tell who is out in its run
+-- the edges are those of a history, but for the order of homes, each with an answer, and tell who is out in its run
 pub record AreEdgesOf (h : HistoryShape) (s : RunShape) (v : HoldersView) : Type 0 where
-  pub holders : v.holders ≡ holders_of h
+  pub holders : SameHolders v.holders (holders_of h)
   pub answers : length v.answers ≡ length v.holders.edges
   pub names : map (λ x. x.0) v.activities ≡ s.names
   pub out : AreToldOut s v.activities

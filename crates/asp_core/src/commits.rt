@@ -3,7 +3,7 @@
 ghost use Rattle.std.specs.Prelude.{◌≡◌, Err, List, OnErr, OnOk, alloc_error, false, true};
 ghost use Rattle.asp_model.specs.History.{BeginsWith, HistoryShape};
 ghost use Rattle.asp_model.specs.Intent.{Effect};
-ghost use Rattle.asp_model.specs.Names.{Name};
+ghost use Rattle.asp_model.specs.Names.{FutureShape, Name};
 ghost use Rattle.def_journals.specs.Journals.{RunShape};
 ghost use Rattle.code_table.specs.declared.code.Node.{Node as NodeShape};
 ghost use Rattle.step_activity.specs.Effects.{IsGiven};
@@ -129,9 +129,9 @@ fn bring_back<P: UpdatePolicy>(
 ) -> Result<(), AllocError>
     requires lease { StandForLease state.old edges.old.holders lease }
     ensures back { (h : HistoryShape) (code : List NodeShape) (s : RunShape) →
-        Stand h code s state.old edges.old.holders → AreByLabels s.configuration edges.old →
-        (l : IsLease h code lease) →
-        let back = IsBroughtBack h code s lease.number l.name lease.grant lease.taken in
+        (homes : List (FutureShape × Name)) → Stand h code s state.old edges.old.holders →
+        AreByLabels homes s.configuration edges.old → (l : IsLease h code lease) →
+        let back = IsBroughtBack homes h code s lease.number l.name lease.grant lease.taken in
         OnOk result (back state.new edges.new) }
     ensures fresh { OnOk result (lease.spent ≡ false) }
     ensures answers { let strategies = strategy_in edges.new in

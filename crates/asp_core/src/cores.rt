@@ -10,6 +10,7 @@ ghost use Rattle.def_journals.specs.Journals.{begun as start_of};
 ghost use Rattle.core_edges.specs.Strategies.{KeepsEdges};
 ghost use Rattle.core_state.specs.Cores.{IsCore, program_of};
 
+use crate::first::First;
 use asp_check::Checked;
 use asp_model::{ActivityName, Entry};
 use code_compiler::compile;
@@ -26,6 +27,8 @@ use update_policy::{Plan, Policies, PolicyBox, UpdatePolicy};
 pub struct Core<P = PolicyBox> {
     pub(crate) alloc: Global,
     pub(crate) code: Arc<Code>,
+    /// Where its run begins, which only proofs read.
+    pub(crate) first: First,
     pub(crate) budget: u64,
     pub(crate) state: CoreState,
     pub(crate) edges: Edges<P>,
@@ -114,14 +117,18 @@ impl<P: UpdatePolicy + Drop> Core<P> {
     {
         let mut edges = Edges::new(alloc, plan, policies);
         match begin(alloc, program, budget, &mut edges) {
-            Ok(begun) => Ok(Core {
-                alloc,
-                code: begun.code,
-                budget,
-                state: begun.state,
-                edges,
-                spent: false,
-            }),
+            Ok(begun) => {
+                let first = First::program();
+                Ok(Core {
+                    alloc,
+                    code: begun.code,
+                    first,
+                    budget,
+                    state: begun.state,
+                    edges,
+                    spent: false,
+                })
+            }
             Err(error) => {
                 drop(edges);
                 Err(error)

@@ -19,7 +19,7 @@ ghost use Rattle.std.specs.Prelude.{
 ghost use Rattle.std.specs.FinMap.{find};
 ghost use Rattle.std.specs.Option.{option_map};
 ghost use Rattle.asp_model.specs.History.{BeginsWith, Delivered, HistoryShape, Need};
-ghost use Rattle.asp_model.specs.Names.{Name, future_cmp};
+ghost use Rattle.asp_model.specs.Names.{FutureShape, Name, future_cmp};
 ghost use Rattle.asp_model.specs.Shapes.{delivery_shape, future_shape};
 ghost use Rattle.future_table.specs.Values.{values_of};
 ghost use Rattle.def_journals.specs.Edges.{after_events};
@@ -136,9 +136,9 @@ fn hand<P: UpdatePolicy>(
     requires delivery { let d = delivery_shape delivery.now in
         StandForDelivery state.old edges.old.holders d }
     ensures handed { (h : HistoryShape) (code : List NodeShape) (s : RunShape) →
-        Stand h code s state.old edges.old.holders → AreByLabels s.configuration edges.old →
-        let d = delivery_shape delivery.now in
-        MayDeliver s d → OnOk result (IsHanded h code d state.new edges.new) }
+        (homes : List (FutureShape × Name)) → Stand h code s state.old edges.old.holders →
+        AreByLabels homes s.configuration edges.old → let d = delivery_shape delivery.now in
+        MayDeliver s d → OnOk result (IsHanded homes h code d state.new edges.new) }
     ensures answers { let strategies = strategy_in edges.new in
         OnOk result (AreAnswered P.answer P.asked strategies edges.old edges.new) }
     ensures keeps { OnOk result (KeepsStrategies edges.old edges.new) }

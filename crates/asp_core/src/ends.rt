@@ -48,6 +48,7 @@ impl<P: UpdatePolicy + Drop> Core<P> {
         let Core {
             alloc: _,
             code,
+            first: _,
             budget: _,
             state,
             edges,

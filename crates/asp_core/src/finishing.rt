@@ -1,11 +1,11 @@
 //! A core that is run on one thread until its verdict is there.
 
-ghost use Rattle.std.specs.Prelude.{◌≡◌, ◌<◌, ◌≤◌, IfOk, OnOk, false};
+ghost use Rattle.std.specs.Prelude.{◌≡◌, ◌<◌, ◌≤◌, IfOk, None, OnOk, false};
 ghost use Rattle.asp_model.specs.History.{BeginsWith};
 ghost use Rattle.asp_model.specs.Shapes.{tree_of};
 ghost use Rattle.asp_model.specs.declared.limits.TheConstants.{MOST_REDUCTIONS};
 ghost use Rattle.core_state.specs.Leases.{IsLease};
-ghost use Rattle.asp_core.specs.EndOfRun.{IsEndOfRun};
+ghost use Rattle.asp_core.specs.EndOfRun.{IsEndOfHistory, IsEndOfRun};
 ghost use Rattle.asp_core.specs.Chosen.{StaysChosen};
 ghost use Rattle.asp_core.specs.Cores.{IsHome, IsKept, activities_of, code_of, history_of};
 ghost use Rattle.asp_core.specs.Plans.{StayByPlan};
@@ -129,10 +129,13 @@ pub fn finish<P: UpdatePolicy + Drop>(mut core: Core<P>) -> Result<Core<P>, Allo
     }
 }
 
-/// The end of the run of a core whose verdict is there.
+/// The end of the run of a core whose verdict is there, wherever that began.
 pub fn end_of_run<P: UpdatePolicy + Drop>(core: Core<P>) -> Result<RunEnd, AllocError>
     requires over { IsOver core }
-    ensures end { let h = history_of core in IfOk result (IsEndOfRun h.program h.budget) }
+    ensures told { IfOk result (IsEndOfHistory (history_of core)) }
+    // Of a run that began with its program:
+    ensures end { let h = history_of core in
+        h.first ≡ None → IfOk result (IsEndOfRun h.program h.budget) }
     ensures by_plan { IsEndAsPlanned P.answer P.asked core result }
     ensures chosen { IsEndAsChosen P.answer P.asked core result }
 {

@@ -134,6 +134,7 @@ impl<P: UpdatePolicy + Drop> Core<P> {
         let Core {
             alloc,
             code,
+            first: _,
             budget: _,
             state,
             edges,

@@ -9,12 +9,15 @@ mod cores;
 mod deliveries;
 mod ends;
 mod finishing;
+mod first;
 mod freezing;
 mod gathering;
 mod lends;
 mod renewals;
+mod thawing;
 
 pub use cores::Core;
 pub use finishing::{end_of_run, finish, run};
+pub use first::First;
 pub use freezing::Frozen;
 pub use gathering::end;

@@ -30,10 +30,12 @@ pub struct Race<'a, G> {
     pub gate: &'a G,
 }
 
-/// How many edges a run left, and how many values went along edges, and to where they were needed.
+/// How many edges a run left, along how many of them nothing went, and how many values went along
+/// edges, and to where they were needed.
 #[derive(Drop)]
 struct Deliveries {
-    edges: usize,
+    edges: u64,
+    unused: u64,
     along_edges: u64,
     where_needed: u64,
 }
@@ -64,8 +66,10 @@ fn count(made: &mut Deliveries, delivery: &Delivery) {
 }
 
 fn deliveries_in(core: &Core) -> Deliveries {
+    let holders = core.edges().holders();
     let mut made = Deliveries {
-        edges: core.edges().holders().len(),
+        edges: holders.len() as u64,
+        unused: holders.left(),
         along_edges: 0,
         where_needed: 0,
     };
@@ -104,6 +108,7 @@ fn lazily_nothing_goes_along_an_edge(rt: HostRuntime) -> Result<(), Fail> {
     assert!(rt; made.edges > 0);
     assert!(rt; made.where_needed > 0);
     assert_eq!(rt; made.along_edges, 0);
+    assert_eq!(rt; made.unused, made.edges);
     Ok(())
 }
 
@@ -112,7 +117,15 @@ fn eagerly_values_go_along_edges(rt: HostRuntime) -> Result<(), Fail> {
     let alloc = rt.alloc();
     let forward = delivered_by(&rt, alloc, Strategy::Forward)?;
     assert!(rt; forward.along_edges > 0);
+    assert_eq!(rt;
+        forward.unused.saturating_add(forward.along_edges),
+        forward.edges
+    );
     let message = delivered_by(&rt, alloc, Strategy::Message)?;
     assert!(rt; message.along_edges > 0);
+    assert_eq!(rt;
+        message.unused.saturating_add(message.along_edges),
+        message.edges
+    );
     Ok(())
 }

@@ -52,7 +52,7 @@ returns-clause-acted g c = λ h code s n e r.
     (λ core. record {
       core = subst (λ b. IsActCommitted h code s k n m q b e c.come_in.new.state) given.1 core;
       told = subst (λ b. AreTold b e v.holders u.holders) same told;
-      labels = λ labels. c.in_ok-tell.ensures.labels (with_activity n end s.configuration) n e (is_new_to h code s z k n m q a e r) given.0.hand.given labels;
+      labels = λ homes labels. c.in_ok-tell.ensures.labels homes (with_activity n end s.configuration) n e (is_new_to h code s z k n m q a e r) given.0.hand.given labels;
     })
     (c.come_in.ensures.committed h code s n e given.0)
 

@@ -11,14 +11,14 @@ returned-requires g c =
     record { met = lease_met r.0 r.1 r.2 c.come.new.state c.args.edges.now c.come.new.edges c.args.state.now r.3 c.args.lease r.4 (c.in_ok-come.ensures.come r.0 r.1 r.2 r.3 r.4) }
 
 pub returns-clause-back : goal.returns-clause-back
-returns-clause-back g c = λ h code s st labels l.
+returns-clause-back g c = λ h code s homes st labels l.
     let x = c.args.state.now in
     let v = c.args.edges.now in
     let u = c.come.new.edges in
     let w = c.returned.new.self in
     let lease = c.args.lease in
     let even = answered_even g.P.UpdatePolicy.answer g.P.UpdatePolicy.asked (strategy_in u) v u c.in_ok-come.ensures.answers st.edges.answers in
-    brought_back h code s x v st labels lease.number l.name lease.grant lease.taken c.come.new.state u w c.returned.ensures.edges even c.returned.ensures.turned (c.in_ok-come.ensures.come h code s st l)
+    brought_back homes h code s x v st labels lease.number l.name lease.grant lease.taken c.come.new.state u w c.returned.ensures.edges even c.returned.ensures.turned (c.in_ok-come.ensures.come h code s st l)
 
 pub returns-clause-answers : goal.returns-clause-answers
 returns-clause-answers g c =

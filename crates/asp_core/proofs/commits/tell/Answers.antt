@@ -16,9 +16,9 @@ returns-in_ok-met-in-Made-clause-answers g c =
     answered_then g.P.UpdatePolicy.answer g.P.UpdatePolicy.asked c.args.edges.now c.given.new.self c.met.new.self c.in_ok-given.ensures.answers c.met.ensures.edges
 
 pub returns-in_ok-met-in-Made-clause-labels : goal.returns-in_ok-met-in-Made-clause-labels
-returns-in_ok-met-in-Made-clause-labels g c = λ d n e new given labels.
+returns-in_ok-met-in-Made-clause-labels g c = λ homes d n e new given labels.
     let after = with_effect n e d in
-    labels_kept after after c.given.new.self c.met.new.self refl c.met.ensures.edges (c.in_ok-given.ensures.labels d n e new given labels)
+    labels_kept homes after after c.given.new.self c.met.new.self refl c.met.ensures.edges (c.in_ok-given.ensures.labels homes d n e new given labels)
 
 pub returns-in_ok-met-in-Made-clause-keeps : goal.returns-in_ok-met-in-Made-clause-keeps
 returns-in_ok-met-in-Made-clause-keeps g c =
@@ -27,7 +27,7 @@ returns-in_ok-met-in-Made-clause-keeps g c =
     keeps_then x y c.met.new.self (learned_keeps x y c.args.given.now c.requires.fresh c.in_ok-given.ensures.strategies c.in_ok-given.ensures.plan) c.met.ensures.edges
 
 pub returns-in-Nothing-clause-labels : goal.returns-in-Nothing-clause-labels
-returns-in-Nothing-clause-labels g c = λ d n e new given labels. c.in_ok-given.ensures.labels d n e new given labels
+returns-in-Nothing-clause-labels g c = λ homes d n e new given labels. c.in_ok-given.ensures.labels homes d n e new given labels
 
 pub returns-in-Nothing-clause-keeps : goal.returns-in-Nothing-clause-keeps
 returns-in-Nothing-clause-keeps g c = learned_keeps c.args.edges.now c.given.new.self c.args.given.now c.requires.fresh c.in_ok-given.ensures.strategies c.in_ok-given.ensures.plan

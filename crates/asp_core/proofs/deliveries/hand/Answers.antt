@@ -23,7 +23,7 @@ pub deliver-requires : goal.deliver-requires
 deliver-requires g c = let r = c.requires.delivery in record { lawful = (r.0, r.1, r.2, r.3.core, r.4) }
 
 pub returns-clause-handed : goal.returns-clause-handed
-returns-clause-handed g c = λ h code s st labels may.
+returns-clause-handed g c = λ h code s homes st labels may.
     let v = c.args.edges.now in
     let w = c.tell.new.edges in
     let d = delivery_shape c.args.delivery.now in
@@ -33,7 +33,7 @@ returns-clause-handed g c = λ h code s st labels may.
     (λ done. (
       done.0,
       delivers h code s c.args.state.now v.holders st w.holders c.deliver.new.state d done.0 done.4 done.2 done.3 (c.in_ok-tell.ensures.told s st.core.populated.futures) even others.activities,
-      labels_stay s.configuration done.0.configuration v w (received_stay d s done.0 done.1) others.plan (others_stay g.P.UpdatePolicy.answer g.P.UpdatePolicy.asked v w others) labels,
+      labels_stay homes s.configuration done.0.configuration v w (received_stay d s done.0 done.1) others.plan (others_stay g.P.UpdatePolicy.answer g.P.UpdatePolicy.asked v w others) labels,
     ))
     (c.deliver.ensures.delivered h code s st.core may)
 

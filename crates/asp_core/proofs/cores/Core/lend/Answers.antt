@@ -4,7 +4,7 @@ use Rattle.asp_model.specs.History.{Lent}
 use Rattle.law_journals.specs.Entered.{with_lease}
 use Rattle.core_state.specs.Lending.{IsNewLease}
 use Rattle.asp_core.specs.Chosen.{StaysChosen}
-use Rattle.asp_core.specs.Cores.{IsKept, code_of, history_of}
+use Rattle.asp_core.specs.Cores.{IsKept, code_of, first_homes, history_of}
 use Rattle.asp_core.specs.Stopping.{StaysStopped}
 use Rattle.asp_core.proofs.ChosenLemmas.{stays_chosen}
 use Rattle.asp_core.proofs.CoreLemmas.{begins_before, begins_same, entered, run_kept, runs}
@@ -42,9 +42,9 @@ returns-clause-lent g c = λ s run.
     let lent = c.in-Some.ensures.lent (history_of x) (code_of x) s run.stand.core in
     let st = lends (history_of x) (code_of x) s x.state x.edges.holders run.stand w.holders y k lent.1 c.lent.ensures.turned c.lent.ensures.edges.holders c.lent.ensures.edges.answers in
     let new = record x { state = y; edges = w } in
-    let labels = labels_kept s.configuration s.configuration x.edges w refl c.lent.ensures.edges run.labels in
-    let on = entered x new (Lent k) (with_lease s k) refl refl run.fresh st labels run.bare in
-    (lent.0, on, runs x new (Lent k) (with_lease s k) refl refl run.fresh st labels run.bare, subst (λ h. IsNewLease h (code_of x) k c.in-Some.lease) (sym on) lent.2)
+    let labels = labels_kept (first_homes x) s.configuration s.configuration x.edges w refl c.lent.ensures.edges run.labels in
+    let on = entered x new (Lent k) (with_lease s k) refl refl refl run.fresh st labels run.bare in
+    (lent.0, on, runs x new (Lent k) (with_lease s k) refl refl refl run.fresh st labels run.bare, subst (λ h. IsNewLease h (code_of x) k c.in-Some.lease) (sym on) lent.2)
 
 pub returns-clause-kept : goal.returns-clause-kept
 returns-clause-kept g c =
@@ -55,9 +55,9 @@ returns-clause-kept g c =
     let r = c.requires.kept c.if-self.false in
     let lent = c.in-Some.ensures.lent (history_of x) (code_of x) r.0 r.1.stand.core in
     let st = lends (history_of x) (code_of x) r.0 x.state x.edges.holders r.1.stand w.holders y k lent.1 c.lent.ensures.turned c.lent.ensures.edges.holders c.lent.ensures.edges.answers in
-    let labels = labels_kept r.0.configuration r.0.configuration x.edges w refl c.lent.ensures.edges r.1.labels in
+    let labels = labels_kept (first_homes x) r.0.configuration r.0.configuration x.edges w refl c.lent.ensures.edges r.1.labels in
     let new = record x { state = y; edges = w } in
-    run_kept new (with_lease r.0 k) (runs x new (Lent k) (with_lease r.0 k) refl refl r.1.fresh st labels r.1.bare)
+    run_kept new (with_lease r.0 k) (runs x new (Lent k) (with_lease r.0 k) refl refl refl r.1.fresh st labels r.1.bare)
 
 pub returns-clause-begins : goal.returns-clause-begins
 returns-clause-begins g c =
@@ -68,9 +68,9 @@ returns-clause-begins g c =
     let r = c.requires.kept c.if-self.false in
     let lent = c.in-Some.ensures.lent (history_of x) (code_of x) r.0 r.1.stand.core in
     let st = lends (history_of x) (code_of x) r.0 x.state x.edges.holders r.1.stand w.holders y k lent.1 c.lent.ensures.turned c.lent.ensures.edges.holders c.lent.ensures.edges.answers in
-    let labels = labels_kept r.0.configuration r.0.configuration x.edges w refl c.lent.ensures.edges r.1.labels in
+    let labels = labels_kept (first_homes x) r.0.configuration r.0.configuration x.edges w refl c.lent.ensures.edges r.1.labels in
     let new = record x { state = y; edges = w } in
-    begins_before (history_of new) (history_of x) (Lent k) (entered x new (Lent k) (with_lease r.0 k) refl refl r.1.fresh st labels r.1.bare)
+    begins_before (history_of new) (history_of x) (Lent k) (entered x new (Lent k) (with_lease r.0 k) refl refl refl r.1.fresh st labels r.1.bare)
 
 pub returns-in_default-clause-by_plan : goal.returns-in_default-clause-by_plan
 returns-in_default-clause-by_plan g c = λ plan policies is. is
@@ -102,10 +102,10 @@ returns-clause-chosen g c =
     let lent = c.in-Some.ensures.lent (history_of x) (code_of x) r.0 r.1.stand.core in
     let edges = c.lent.ensures.edges in
     let st = lends (history_of x) (code_of x) r.0 x.state x.edges.holders r.1.stand w.holders y k lent.1 c.lent.ensures.turned edges.holders edges.answers in
-    let labels = labels_kept r.0.configuration r.0.configuration x.edges w refl edges r.1.labels in
+    let labels = labels_kept (first_homes x) r.0.configuration r.0.configuration x.edges w refl edges r.1.labels in
     let new = record x { state = y; edges = w } in
     let t = with_lease r.0 k in
-    stays_chosen x new r.0 t (Lent k) [] r.1 (runs x new (Lent k) t refl refl r.1.fresh st labels r.1.bare) (entered x new (Lent k) t refl refl r.1.fresh st labels r.1.bare) (edges.answers ∙ sym (append-nil x.edges.holders.answers)) tt
+    stays_chosen x new r.0 t (Lent k) [] r.1 (runs x new (Lent k) t refl refl refl r.1.fresh st labels r.1.bare) (entered x new (Lent k) t refl refl refl r.1.fresh st labels r.1.bare) (edges.answers ∙ sym (append-nil x.edges.holders.answers)) tt
 
 pub returns-clause-stopped : goal.returns-clause-stopped
 returns-clause-stopped g c =
@@ -117,6 +117,6 @@ returns-clause-stopped g c =
     let lent = c.in-Some.ensures.lent (history_of x) (code_of x) r.0 r.1.stand.core in
     let edges = c.lent.ensures.edges in
     let st = lends (history_of x) (code_of x) r.0 x.state x.edges.holders r.1.stand w.holders y k lent.1 c.lent.ensures.turned edges.holders edges.answers in
-    let labels = labels_kept r.0.configuration r.0.configuration x.edges w refl edges r.1.labels in
+    let labels = labels_kept (first_homes x) r.0.configuration r.0.configuration x.edges w refl edges r.1.labels in
     let new = record x { state = y; edges = w } in
-    stays_stopped x new r.0 (Lent k) r.1 (entered x new (Lent k) (with_lease r.0 k) refl refl r.1.fresh st labels r.1.bare) tt
+    stays_stopped x new r.0 (Lent k) r.1 (entered x new (Lent k) (with_lease r.0 k) refl refl refl r.1.fresh st labels r.1.bare) tt

@@ -19,9 +19,9 @@ returns-in-Ok-clause-begun g c =
     let begun = c.in-Ok.begun in
     let code = arc_value begun.code in
     let budget = c.args.budget in
-    let new : Core _ = record { alloc = c.args.alloc; code = begun.code; budget = budget; state = begun.state; edges = c.begin.new.edges; spent = false } in
+    let new : Core _ = record { alloc = c.args.alloc; code = begun.code; first = c.program-first.result; budget = budget; state = begun.state; edges = c.begin.new.edges; spent = false } in
     let edges = c.in-Ok.ensures.edges in
-    run_begins new (tree_of c.args.program.now.program.root) c.in-Ok.ensures.program refl
+    run_begins new c.program-first.ensures (tree_of c.args.program.now.program.root) c.in-Ok.ensures.program refl
     (stand_begun (program_of code) budget code begun.state c.begin.new.edges.holders c.in-Ok.ensures.state (edges.holders ∙ c.new-edges.ensures.holders) (edges.answers ∙ c.new-edges.ensures.answers) c.in-Ok.ensures.met) c.in-Ok.ensures.bare
 
 pub returns-in-Ok-clause-plan : goal.returns-in-Ok-clause-plan
@@ -42,19 +42,19 @@ returns-in-Ok-clause-home g c =
     let code = arc_value begun.code in
     let budget = c.args.budget in
     let term = tree_of c.args.program.now.program.root in
-    let new : Core _ = record { alloc = c.args.alloc; code = begun.code; budget = budget; state = begun.state; edges = c.begin.new.edges; spent = false } in
+    let new : Core _ = record { alloc = c.args.alloc; code = begun.code; first = c.program-first.result; budget = budget; state = begun.state; edges = c.begin.new.edges; spent = false } in
     let edges = c.in-Ok.ensures.edges in
     let st = stand_begun (program_of code) budget code begun.state c.begin.new.edges.holders c.in-Ok.ensures.state (edges.holders ∙ c.new-edges.ensures.holders) (edges.answers ∙ c.new-edges.ensures.answers) c.in-Ok.ensures.met in
-    home_at new (start_of term budget) (run_begins new term c.in-Ok.ensures.program refl st c.in-Ok.ensures.bare) refl
+    home_at new (start_of term budget) (run_begins new c.program-first.ensures term c.in-Ok.ensures.program refl st c.in-Ok.ensures.bare) refl
 
 pub returns-in-Ok-clause-chosen : goal.returns-in-Ok-clause-chosen
 returns-in-Ok-clause-chosen g c =
     let begun = c.in-Ok.begun in
-    let new : Core _ = record { alloc = c.args.alloc; code = begun.code; budget = c.args.budget; state = begun.state; edges = c.begin.new.edges; spent = false } in
+    let new : Core _ = record { alloc = c.args.alloc; code = begun.code; first = c.program-first.result; budget = c.args.budget; state = begun.state; edges = c.begin.new.edges; spent = false } in
     none_delivered new c.in-Ok.ensures.state.entries
 
 pub returns-in-Ok-clause-stopped : goal.returns-in-Ok-clause-stopped
 returns-in-Ok-clause-stopped g c =
     let begun = c.in-Ok.begun in
-    let new : Core _ = record { alloc = c.args.alloc; code = begun.code; budget = c.args.budget; state = begun.state; edges = c.begin.new.edges; spent = false } in
+    let new : Core _ = record { alloc = c.args.alloc; code = begun.code; first = c.program-first.result; budget = c.args.budget; state = begun.state; edges = c.begin.new.edges; spent = false } in
     none_came new c.in-Ok.ensures.state.entries

@@ -1,0 +1,6 @@
+-- Only proofs read where the run of a core begins, and it owns nothing, so it may go to another thread.
+use denote.Param.Send.{IsSend, owning_send}
+use Rattle.asp_core.specs.contracts.first.First.{the_row, the_type}
+
+pub send : IsSend the_row
+send = owning_send the_type tt (λ d. tt) (λ k x w. tt)

@@ -1,0 +1,3 @@
+pub mod HolderLemmas
+pub mod ToldLemmas
+pub mod SeatLemmas

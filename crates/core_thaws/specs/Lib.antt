@@ -1,0 +1,5 @@
+-- in reading order
+pub mod Thawed
+pub mod Seating
+pub mod Holders
+pub mod Telling

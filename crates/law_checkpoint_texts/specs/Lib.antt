@@ -1,0 +1,4 @@
+-- in reading order
+pub mod Texts
+pub mod Files
+pub mod Rows

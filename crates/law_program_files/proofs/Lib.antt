@@ -1,0 +1,4 @@
+-- in reading order
+pub mod PrintLemmas
+pub mod ProgramLaws
+pub mod ReportLaws
