@@ -70,21 +70,21 @@ context_is : (h : Head) (before : List ℕ) (ts : Trees) (n : ℕ) → n ≡ red
 context_is h before none n e = none_at (n - length before)
 context_is h before (more (node (Loc m) us) ts) n e =
     let here : child_count (locs_then before (more (node (Loc m) us) ts)) ≡ length before + suc (child_count ts) =
-        count_locs before (more (node (Loc m) us) ts) in
+    count_locs before (more (node (Loc m) us) ts) in
     let there : child_count (locs_then (before ++ m ∷ []) ts) ≡ length (before ++ m ∷ []) + child_count ts =
-        count_locs (before ++ m ∷ []) ts in
+    count_locs (before ++ m ∷ []) ts in
     let long : length (before ++ m ∷ []) ≡ length before + 1 = length-append before (m ∷ []) in
-    let counts : child_count (locs_then before (more (node (Loc m) us) ts)) ≡ child_count (locs_then (before ++ m ∷ []) ts) =
-        omega (arith, here, there, long) in
+    let counts : child_count (locs_then before (more (node (Loc m) us) ts))
+    ≡ child_count (locs_then (before ++ m ∷ []) ts) = omega (arith, here, there, long) in
     let less : n - length (before ++ m ∷ []) ≡ (n - length before) - 1 = omega (arith, long) in
     context_is h (before ++ m ∷ []) ts n (e ∙ reduced_same h _ _ counts)
     ∙ ap (λ (k : ℕ). is_context (first_open (first_of k ts))) less
     ∙ place_at (n - length before) m us ts
 context_is h before (more (node Hole us) ts) n e =
     let here : child_count (locs_then before (more (node Hole us) ts)) ≡ length before + suc (child_count ts) =
-        count_locs before (more (node Hole us) ts) in
+    count_locs before (more (node Hole us) ts) in
     let there : child_count (locs_then before (more (loc 0) ts)) ≡ length before + suc (child_count ts) =
-        count_locs before (more (loc 0) ts) in
+    count_locs before (more (loc 0) ts) in
     only_is (nat_lt (length before) (reduced_count h (locs_then before (more (loc 0) ts)))) _
     ∙ ap (nat_lt (length before)) (sym (e ∙ reduced_same h _ _ (here ∙ sym there)))
     ∙ hole_at (length before) n us ts
@@ -118,8 +118,10 @@ NoPlace (Splits cs r) = Unit {0}
 
 splits_by : (h : Head) (n : ℕ) (places : List ℕ) (ts : Trees) (s : Split)
     → ((p : ℕ) → NoPlace (split_below h n (places ++ p ∷ []) ts))
-    → NoPlace (elim s as (λ _. Split) [ Stands p ↦ split_below h n (places ++ p ∷ []) ts
-        | Splits cs r ↦ Splits (cs ++ record { head = h; before = places; behind = ts } ∷ []) r ])
+    → NoPlace (elim s as (λ _. Split) [
+      | Stands p ↦ split_below h n (places ++ p ∷ []) ts
+      | Splits cs r ↦ Splits (cs ++ record { head = h; before = places; behind = ts } ∷ []) r
+    ])
 splits_by h n places ts (Stands p) ih = ih p
 splits_by h n places ts (Splits cs r) ih = tt
 
@@ -130,8 +132,10 @@ splits_below h (suc n) places (more t ts) = splits_by h n places ts (split t)
     (λ p. splits_below h n (places ++ p ∷ []) ts)
 
 not_whole : (h : Head) (n : ℕ) (places : List ℕ) (ts : Trees) (s : Split) → NoPlace s
-    → found_whole (elim s as (λ _. Split) [ Stands p ↦ split_below h n (places ++ p ∷ []) ts
-        | Splits cs r ↦ Splits (cs ++ record { head = h; before = places; behind = ts } ∷ []) r ]) ≡ false
+    → found_whole (elim s as (λ _. Split) [
+      | Stands p ↦ split_below h n (places ++ p ∷ []) ts
+      | Splits cs r ↦ Splits (cs ++ record { head = h; before = places; behind = ts } ∷ []) r
+    ]) ≡ false
 not_whole h n places ts (Stands p) b = absurd b
 not_whole h n places ts (Splits [] r) b = refl
 not_whole h n places ts (Splits (c ∷ cs) r) b = refl
@@ -281,7 +285,8 @@ fields_below [] us = refl
 fields_below (f ∷ fs) us = ap (λ (ts : List Tree). field_tree f ∷ ts) (fields_below fs us)
 
 pub all_open : (ts : List Term)
-    → first_open (first_of (child_count (trees (map tree_of ts))) (trees (map tree_of ts))) ≡ open_by tree_of inner.Place ts
+    → first_open (first_of (child_count (trees (map tree_of ts))) (trees (map tree_of ts)))
+    ≡ open_by tree_of inner.Place ts
 all_open ts = ap first_open (all_below ts) ∙ sym (open_is tree_of inner.Place ts)
 
 pub fields_open : (fs : List (Label × Term)) (us : List Tree)

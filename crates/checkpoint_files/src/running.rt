@@ -1,4 +1,4 @@
-//! Terms that run, as lists: a place alone, or a redex and then the contexts round it; and terms that
+//! Terms that run, as lists: a place alone, or a redex and then the contexts round it. Terms that
 //! wait, as lists: a hole, and then the contexts round it.
 #![tactic(auto, using(code_table::proofs::TermTrees::trees_are))]
 
@@ -6,7 +6,13 @@ ghost use Rattle.std.specs.Prelude.{◌≡◌, map};
 ghost use Rattle.asp_model.specs.Shapes.{tree_of};
 ghost use Rattle.asp_model.specs.Term.{trees};
 ghost use Rattle.code_table.specs.Parts.{field_tree};
-ghost use Rattle.checkpoint_text.specs.Reading.{list_of, running as running_in, some_of, term as term_in, waiting_of};
+ghost use Rattle.checkpoint_text.specs.Reading.{
+  list_of,
+  running as running_in,
+  some_of,
+  term as term_in,
+  waiting_of,
+};
 ghost use Rattle.checkpoint_items.specs.Answers.{Finds};
 ghost use Rattle.checkpoint_parts.specs.Shapes.{contexts_shape, running_shape};
 ghost use Rattle.checkpoint_files.specs.declared.running.Inner.TheVariants.{Place};

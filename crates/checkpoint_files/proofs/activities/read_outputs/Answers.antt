@@ -11,18 +11,22 @@ pub loop-preserved : goal.loop-preserved
 loop-preserved c =
     rw c.in_ok-push.ensures.items
     (one_read output line_shape c.in_ok-count.count c.read_count.new.items c.loop.counter c.loop.lines.items
-        c.loop.items c.in_ok-read_output.field-0 c.read_output.new.items c.loop-test.true c.loop.invariant
-        c.in_ok-read_output.ensures.read)
+    c.loop.items c.in_ok-read_output.field-0 c.read_output.new.items c.loop-test.true c.loop.invariant
+    c.in_ok-read_output.ensures.read)
 
 pub returns-in_err-read_output : goal.returns-in_err-read_output
 returns-in_err-read_output c =
     let q = err_from_is_err_and c.from_residual-in_err-read_output.result c.from_residual-in_err-read_output.ensures.1
-        in
+    in
     rw (q.1, q.2)
-    (record { read = one_refused output line_shape c.args.items.now c.in_ok-count.count c.read_count.new.items
-        c.loop.counter c.loop.lines.items c.loop.items c.in_err-read_output.field-0.0 c.in_ok-count.ensures.read
-        c.loop-test.true c.loop.invariant c.in_err-read_output.ensures.read })
+    (record {
+      read = one_refused output line_shape c.args.items.now c.in_ok-count.count c.read_count.new.items
+          c.loop.counter c.loop.lines.items c.loop.items c.in_err-read_output.field-0.0 c.in_ok-count.ensures.read
+          c.loop-test.true c.loop.invariant c.in_err-read_output.ensures.read;
+    })
 
 pub returns : goal.returns
-returns c = record { read = all_read output line_shape c.args.items.now c.in_ok-count.count c.read_count.new.items
-    c.loop.counter c.loop.lines.items c.loop.items c.in_ok-count.ensures.read c.loop-test.false c.loop.invariant }
+returns c = record {
+  read = all_read output line_shape c.args.items.now c.in_ok-count.count c.read_count.new.items
+      c.loop.counter c.loop.lines.items c.loop.items c.in_ok-count.ensures.read c.loop-test.false c.loop.invariant;
+}

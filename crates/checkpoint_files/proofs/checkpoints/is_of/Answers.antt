@@ -9,7 +9,7 @@ returns-in-Some c =
     record {
       same = c.is_same.ensures.same
           ∙ same_program c.args.line.now c.as_slice.result.now p c.in-Some.shown.now c.in-Some.ensures.cases.0
-              c.in-Some.ensures.cases.1
+          c.in-Some.ensures.cases.1
           ∙ ap (λ (t : Text). same_text c.args.line.now (t ++ p)) c.as_slice.ensures;
     }
 

@@ -16,16 +16,20 @@ pub returns-in_err-values : goal.returns-in_err-values
 returns-in_err-values c =
     let q = err_from_is_err_and c.from_residual-in_err-values.result c.from_residual-in_err-values.ensures.1 in
     rw (q.1, q.2)
-    (record { reading = no_values _ _ _ c.in_err-values.field-0.0
-        (map home_shape c.in_ok-homes.homes.items) c.in_ok-homes.ensures.homes c.in_err-values.ensures.values })
+    (record {
+      reading = no_values _ _ _ c.in_err-values.field-0.0
+          (map home_shape c.in_ok-homes.homes.items) c.in_ok-homes.ensures.homes c.in_err-values.ensures.values;
+    })
 
 pub returns-in_err-activities : goal.returns-in_err-activities
 returns-in_err-activities c =
     let q = err_from_is_err_and c.from_residual-in_err-activities.result c.from_residual-in_err-activities.ensures.1 in
     rw (q.1, q.2)
-    (record { reading = no_activities _ _ _ c.in_err-activities.field-0.0 (map home_shape c.in_ok-homes.homes.items)
-        (map value_shape c.in_ok-values.values.items) c.in_ok-homes.ensures.homes c.in_ok-values.ensures.values
-        c.in_err-activities.ensures.read })
+    (record {
+      reading = no_activities _ _ _ c.in_err-activities.field-0.0 (map home_shape c.in_ok-homes.homes.items)
+          (map value_shape c.in_ok-values.values.items) c.in_ok-homes.ensures.homes c.in_ok-values.ensures.values
+          c.in_err-activities.ensures.read;
+    })
 
 pub returns : goal.returns
 returns c = record {

@@ -6,5 +6,7 @@ use Rattle.checkpoint_files.proofs.RunningLemmas.{all_contexts}
 use Rattle.checkpoint_files.proofs.running.are_contexts.Goals as goal
 
 pub returns : goal.returns
-returns c = record { contexts = all_from_yields_List is_context_term _ _ _ c.all.ensures.ran
-    (YieldsList-from_slice c.args.terms.now cc) (λ x b q k. search (rules, tests)) ∙ all_contexts c.args.terms.now }
+returns c = record {
+  contexts = all_from_yields_List is_context_term _ _ _ c.all.ensures.ran
+      (YieldsList-from_slice c.args.terms.now cc) (λ x b q k. search (rules, tests)) ∙ all_contexts c.args.terms.now;
+}

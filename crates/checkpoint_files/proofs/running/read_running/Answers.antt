@@ -11,17 +11,23 @@ pub returns-in_err-terms : goal.returns-in_err-terms
 returns-in_err-terms c =
     let q = err_from_is_err_and c.from_residual.result c.from_residual.ensures.1 in
     rw (q.1, q.2)
-    (record { read = some_refused (list_of term) running_of c.args.items.now c.in_err-terms.field-0.0
-        c.in_err-terms.ensures.read })
+    (record {
+      read = some_refused (list_of term) running_of c.args.items.now c.in_err-terms.field-0.0
+          c.in_err-terms.ensures.read;
+    })
 
 pub returns-then-runs : goal.returns-then-runs
-returns-then-runs c = record { read = running_told (list_of term) c.args.items.now c.read_terms.new.items
-    (map tree_of c.in_ok-terms.terms.items) c.in_ok-terms.ensures.read
-    (ap (λ (ts : List Term). is_running (map tree_of ts)) (sym c.deref.ensures.value) ∙ sym c.runs.ensures.running
-    ∙ c.if-runs.true) }
+returns-then-runs c = record {
+  read = running_told (list_of term) c.args.items.now c.read_terms.new.items
+      (map tree_of c.in_ok-terms.terms.items) c.in_ok-terms.ensures.read
+      (ap (λ (ts : List Term). is_running (map tree_of ts)) (sym c.deref.ensures.value) ∙ sym c.runs.ensures.running
+      ∙ c.if-runs.true);
+}
 
 pub returns-else-runs : goal.returns-else-runs
-returns-else-runs c = record { read = running_none (list_of term) c.args.items.now c.read_terms.new.items
-    (map tree_of c.in_ok-terms.terms.items) c.in_ok-terms.ensures.read
-    (ap (λ (ts : List Term). is_running (map tree_of ts)) (sym c.deref.ensures.value) ∙ sym c.runs.ensures.running
-    ∙ c.if-runs.false) }
+returns-else-runs c = record {
+  read = running_none (list_of term) c.args.items.now c.read_terms.new.items
+      (map tree_of c.in_ok-terms.terms.items) c.in_ok-terms.ensures.read
+      (ap (λ (ts : List Term). is_running (map tree_of ts)) (sym c.deref.ensures.value) ∙ sym c.runs.ensures.running
+      ∙ c.if-runs.false);
+}
