@@ -1,5 +1,6 @@
 //! What no clause says of the parts of a run.
 
+mod checkpoints;
 mod groups;
 mod hub;
 mod items;
