@@ -1,0 +1,6 @@
+//! A run that goes on from a configuration, by workers that race for its core.
+#![tactic(auto)]
+
+mod resumed;
+
+pub use resumed::run_resumed;
