@@ -15,14 +15,17 @@ use Rattle.asp_core.specs.EndOfRun.{IsEndOfHistory}
 use Rattle.run_resumes.specs.Resumed.{IsEndOfOneRun, IsResumedEnd, history_since}
 
 -- a later history has the start of the one with which it begins
-since : (h k : HistoryShape) (program : Tree) (x : FirstShape) (budget : ℕ) → BeginsWith h k → k ≡ resumed_history program x budget → h ≡ history_since program x budget h.entries
+since : (h k : HistoryShape) (program : Tree) (x : FirstShape) (budget : ℕ) → BeginsWith h k
+    → k ≡ resumed_history program x budget → h ≡ history_since program x budget h.entries
 since h k program x budget begins is =
     let term : h.program ≡ program = begins.program ∙ ap (λ (q : HistoryShape). q.program) is in
     let first : h.first ≡ Some x = begins.first ∙ ap (λ (q : HistoryShape). q.first) is in
     let most : h.budget ≡ budget = begins.budget ∙ ap (λ (q : HistoryShape). q.budget) is in
     λ i. record { program = term i; first = first i; budget = most i; entries = h.entries }
 
-pub resumed_end : {E : Type 0} (r : Result RunEnd E) (h k : HistoryShape) (program : Tree) (x : FirstShape) (budget : ℕ) → BeginsWith h k → k ≡ resumed_history program x budget → IfOk r (IsEndOfHistory h) → IfOk r (IsResumedEnd program x budget)
+pub resumed_end : {E : Type 0} (r : Result RunEnd E) (h k : HistoryShape) (program : Tree) (x : FirstShape) (budget : ℕ)
+    → BeginsWith h k → k ≡ resumed_history program x budget → IfOk r (IsEndOfHistory h)
+    → IfOk r (IsResumedEnd program x budget)
 resumed_end (Ok q) h k program x budget begins is end =
     let same = since h k program x budget begins is in
     record {
@@ -31,12 +34,15 @@ resumed_end (Ok q) h k program x budget begins is end =
       lawful = subst (λ (g : HistoryShape). run_of g ≡ Some end.run) same end.lawful;
       end = end.end;
       outcome = end.outcome;
-      budgeted = subst (λ (g : HistoryShape). IsBudgeted (most_in g) (outcome_of end.run.configuration)) same end.budgeted;
+      budgeted =
+          subst (λ (g : HistoryShape). IsBudgeted (most_in g) (outcome_of end.run.configuration)) same end.budgeted;
     }
 resumed_end (Err e) h k program x budget begins is end = tt
 
 -- where a run of the program was saved
-pub one_end : {E : Type 0} (r : Result RunEnd E) (program : Tree) (x : FirstShape) (budget : ℕ) → locations program ≡ [] → IsSavedAt program x → IfOk r (IsResumedEnd program (thawed_first (frozen_at x)) budget)
+pub one_end : {E : Type 0} (r : Result RunEnd E) (program : Tree) (x : FirstShape) (budget : ℕ) → locations program ≡ []
+    → IsSavedAt program x → IfOk r (IsResumedEnd program (thawed_first (frozen_at x)) budget)
     → IfOk r (IsEndOfOneRun program x budget)
-one_end (Ok q) program x budget bare saved end = record { end = end; one = resumed_are_one_run program x budget end.journal end.run bare saved end.lawful }
+one_end (Ok q) program x budget bare saved end =
+    record { end = end; one = resumed_are_one_run program x budget end.journal end.run bare saved end.lawful }
 one_end (Err e) program x budget bare saved end = tt

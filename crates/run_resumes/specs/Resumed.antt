@@ -16,7 +16,8 @@ use Rattle.run_ends.specs.Ends.{IsEndOf}
 
 -- entries since a program's run went on from this configuration, with this budget
 abbrev pub history_since : Tree → FirstShape → ℕ → List EntryShape → HistoryShape
-history_since program x budget entries = record { program = program; first = Some x; budget = budget; entries = entries }
+history_since program x budget entries =
+    record { program = program; first = Some x; budget = budget; entries = entries }
 
 -- The end of a lawful journal's run that went on from this configuration. Its counts begin with those that were there:
 -- they keep within their sum and the budget, and sum to that where the budget ran out.

@@ -15,12 +15,14 @@ run_core-requires-clause-kept g c κs within = λ fresh.
 pub returns-clause-end : goal.returns-clause-end
 returns-clause-end g c = λ x is.
     let program = program_of (arc_value c.args.frozen.code) in
-    resumed_end c.end_of_run.result (history_of c.in_ok-core-2.core) (history_of c.in_ok-core.core) program x c.args.settings.budget
-    c.in_ok-core-2.ensures.begins (c.in_ok-core.ensures.history x is) c.end_of_run.ensures.told
+    resumed_end c.end_of_run.result (history_of c.in_ok-core-2.core) (history_of c.in_ok-core.core) program x
+    c.args.settings.budget c.in_ok-core-2.ensures.begins (c.in_ok-core.ensures.history x is) c.end_of_run.ensures.told
 
 pub returns-clause-one : goal.returns-clause-one
 returns-clause-one g c = λ x saved is.
     let program = program_of (arc_value c.args.frozen.code) in
-    let end = resumed_end c.end_of_run.result (history_of c.in_ok-core-2.core) (history_of c.in_ok-core.core) program (thawed_first (frozen_at x)) c.args.settings.budget
-    c.in_ok-core-2.ensures.begins (c.in_ok-core.ensures.history (thawed_first (frozen_at x)) is) c.end_of_run.ensures.told in
+    let y = thawed_first (frozen_at x) in
+    let began = c.in_ok-core.ensures.history y is in
+    let end = resumed_end c.end_of_run.result (history_of c.in_ok-core-2.core) (history_of c.in_ok-core.core) program y
+    c.args.settings.budget c.in_ok-core-2.ensures.begins began c.end_of_run.ensures.told in
     one_end c.end_of_run.result program x c.args.settings.budget c.requires.bare saved end
