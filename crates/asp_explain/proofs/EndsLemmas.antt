@@ -6,7 +6,8 @@ use Rattle.asp_explain.specs.declared.stop.Stop.TheVariants as stops
 use Rattle.asp_explain.specs.Tasks.{TaskShape, task_of}
 use Rattle.asp_explain.specs.Shapes.{StopsFor}
 use Rattle.asp_explain.specs.Refusals.{NoMemory, Refusal, refusal_of}
-use Rattle.asp_explain.specs.Seen.{Call, IsUnasked, IsUntouched, Outside}
+use Rattle.explain_writing.specs.Writing.{IsUntouched}
+use Rattle.asp_explain.specs.Seen.{Call, IsUnasked, Outside}
 use Rattle.asp_explain.specs.Endings.{Answers, Ends, IsCause, OfMemory, OfNamed, OfTask, OfWords, Refused, StopsTask, Tells, Unheard, Unwritten, Written}
 use Rattle.asp_explain.specs.Written.{IsToldOf, IsWritten}
 

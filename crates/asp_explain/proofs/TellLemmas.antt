@@ -2,8 +2,8 @@
 use Rattle.std.proofs.Common.{◌≡◌, ◌⊎◌, ◌∙◌, ℕ, List, Result, Ok, Err, subst, inl, inr}
 use Rattle.std.specs.Prelude.{IfOk, IfErr}
 use Rattle.asp_explain.specs.Refusals.{NoMemory, Refusal, message_of, status_of_refusal}
-use Rattle.asp_explain.specs.Seen.{Sight}
-use Rattle.asp_explain.specs.Written.{IsToldBy, IsToldOf}
+use Rattle.explain_writing.specs.Writing.{IsToldBy, Sight}
+use Rattle.asp_explain.specs.Written.{IsToldOf}
 
 -- the message that was made is told, or that there is no memory
 pub made_told : {S E : Type 0} (text : S → List ℕ) (r : Refusal) (message : Result S E) (s : Sight) (result : ℕ) → IfOk message (λ t. text t ≡ message_of r) → IfOk message (λ t. IsToldBy s (text t) (status_of_refusal r) result) → IfErr message (λ e. IsToldOf NoMemory s result)

@@ -3,7 +3,8 @@ use Rattle.std.specs.Prelude.{◌≡◌, ◌⊎◌, ℕ, List, Some, false}
 use Rattle.asp_explain.specs.Words.{is_taken}
 use Rattle.asp_explain.specs.Tasks.{AskNothing, Events, File, Other, Picture, Run, TaskShape, Until, task_of}
 use Rattle.asp_explain.specs.Refusals.{NoMemory, Refusal, Usage, message_of, status_of_refusal, write_message}
-use Rattle.asp_explain.specs.Seen.{Call, IsUnasked, IsUntouched, Outside, Takes, TakesFront}
+use Rattle.explain_writing.specs.Writing.{IsUntouched, Takes, TakesFront}
+use Rattle.asp_explain.specs.Seen.{Call, IsUnasked, Outside}
 use Rattle.asp_explain.specs.Given.{StopsAtFile, TellsFile}
 use Rattle.asp_explain.specs.OfRun.{StopsRun, TellsOfRun}
 use Rattle.asp_explain.specs.OfEvents.{StopsEvents, TellsOfEvents}

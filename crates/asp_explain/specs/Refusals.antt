@@ -1,9 +1,10 @@
 -- Why a call tells nothing, with the status and the message of each refusal.
-use Rattle.std.specs.Prelude.{ℕ, List, ◌++◌, Option, Some, None, codes}
+use Rattle.std.specs.Prelude.{ℕ, List, ◌++◌, Option, codes, is_some}
 use Rattle.std.specs.Fmt.{decimal}
 use Rattle.asp_model.specs.Names.{Name}
 use Rattle.asp_model.specs.Report.{name_text}
 use Rattle.explain.specs.declared.findings.Fault.{Fault}
+use Rattle.explain_writing.specs.Writing.{status_told}
 use Rattle.sender_log.specs.declared.error.LogError.{LogError}
 use Rattle.sender_log.specs.declared.error.LogError.TheVariants as log
 use Rattle.replay_one.specs.declared.replays.ReplayStop.{ReplayStop}
@@ -107,5 +108,4 @@ write_message = codes "asp-explain: cannot write\n"
 
 -- the status of what is told of a program
 abbrev pub status_of : Option Fault → ℕ
-status_of None = 0
-status_of (Some fault) = 3
+status_of fault = status_told (is_some fault)

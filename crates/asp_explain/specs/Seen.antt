@@ -1,21 +1,15 @@
 -- What a call saw of the outside: what its source and its sinks tell, before it and behind it.
 use Rattle.std.specs.Prelude.{◌≡◌, ℕ, List, ◌++◌, map, string_bytes}
-use Rattle.std.specs.Borrow.{MutBor}
 use Rattle.std.specs.declared.alloc.Global.{Global}
 use Rattle.std.specs.declared.string.String.{String}
-use denote.Triple.Both.{Both}
 use Rattle.asp_edge.specs.Told.{Asks, SourceTells, SinkTells}
-use Rattle.asp_edge.specs.Causes.{Rose, Took, TookFront}
+use Rattle.asp_edge.specs.Causes.{Rose}
+use Rattle.explain_writing.specs.Writing.{Lent, Sight, sight}
 
 -- what a source tells, before the call and behind it
 pub record Outside : Type 0 where
   pub before : SourceTells
   pub now : SourceTells
-
--- what a sink tells, before the call and behind it
-pub record Sight : Type 0 where
-  pub before : SinkTells
-  pub now : SinkTells
 
 -- the words of a call, and what it saw of its source and its two sinks
 pub record Call : Type 0 where
@@ -27,18 +21,8 @@ pub record Call : Type 0 where
 abbrev pub outside_between : {S : Type 0} → (S → SourceTells) → S → S → Outside
 outside_between told old new = record { before = told old; now = told new }
 
-abbrev pub sight_between : {S : Type 0} → (S → SinkTells) → S → S → Sight
-sight_between told old new = record { before = told old; now = told new }
-
--- a parameter by `&mut`, as a call began and as it ended
-abbrev pub Lent : Type 0 → Type 0
-Lent S = Both (MutBor S) (MutBor S)
-
 abbrev pub outside : {S : Type 0} → (S → SourceTells) → Lent S → Outside
 outside told source = outside_between told source.entry.now source.exit.now
-
-abbrev pub sight : {S : Type 0} → (S → SinkTells) → Lent S → Sight
-sight told sink = sight_between told sink.entry.now sink.exit.now
 
 -- the bytes of each word
 abbrev pub bytes_of : List (String Global) → List (List ℕ)
@@ -65,14 +49,3 @@ IsUnasked o = o.now ≡ o.before
 -- a read failed
 abbrev pub Fails : Outside → Type 0
 Fails o = Rose o.before.faults o.now.faults
-
-abbrev pub IsUntouched : Sight → Type 0
-IsUntouched s = s.now ≡ s.before
-
--- the sink took a text, and no more
-abbrev pub Takes : Sight → List ℕ → Type 0
-Takes s text = Took s.before s.now text
-
--- the sink failed, after a front part of a text
-abbrev pub TakesFront : Sight → List ℕ → Type 0
-TakesFront s text = Rose s.before.faults s.now.faults × TookFront s.before s.now text

@@ -95,10 +95,7 @@ pub fn told(alloc: Global, file: &str, bytes: &[u8]) -> Result<Answer, AllocErro
 fn status_of(fault: &Option<Fault>) -> u8
     ensures { result ≡ status_of_fault fault.now }
 {
-    match fault {
-        Some(_) => 3,
-        None => 0,
-    }
+    explain_writing::status_of(fault.is_some())
 }
 
 /// A text that tells something.

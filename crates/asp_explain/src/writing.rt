@@ -2,13 +2,14 @@
 
 ghost use Rattle.std.specs.Prelude.{◌≡◌, ◌⊎◌, IfErr, IfOk, string_bytes};
 ghost use Rattle.asp_explain.specs.Refusals.{NoActivity, NoCount, NoMemory, Unread, bad_line, diverging_line, long_line, message_of, refusal_of, report_text as text_of_report};
-ghost use Rattle.asp_explain.specs.Seen.{sight};
-ghost use Rattle.asp_explain.specs.Written.{IsToldBy, IsToldOf, IsWritten};
+ghost use Rattle.explain_writing.specs.Writing.{IsToldBy, sight};
+ghost use Rattle.asp_explain.specs.Written.{IsToldOf, IsWritten};
 
 use crate::answer::Answer;
 use crate::stop::{Stop, Which};
-use asp_edge::{Sink, WriteFailed};
+use asp_edge::Sink;
 use asp_model::ActivityName;
+use explain_writing::{tell, write_text};
 use state_lines::push_name;
 use std::alloc::{AllocError, Global};
 
@@ -33,16 +34,6 @@ fn no_activity_message(alloc: Global, name: &str) -> Result<String, AllocError>
     ensures { IfOk result (λ s. string_bytes s ≡ message_of (NoActivity name.now)) }
 {
     format!(in alloc; "asp-explain: no activity {name}\n")
-}
-
-// Writes a message, and answers the status, or 7 where the sink failed.
-fn tell<E: Sink>(err: &mut E, message: &[u8], status: u8) -> u8
-    ensures { IsToldBy (sight E.told err) message.now status result }
-{
-    match err.write(message) {
-        Ok(()) => status,
-        Err(WriteFailed) => 7,
-    }
 }
 
 // What messages call a report.
@@ -128,8 +119,5 @@ pub fn write_answer<O: Sink, E: Sink>(answer: &Answer, out: &mut O, err: &mut E)
     ensures { IsWritten (sight O.told out) (sight E.told err) answer.now.text.items
         answer.now.status result }
 {
-    match out.write(&answer.text) {
-        Ok(()) => answer.status,
-        Err(WriteFailed) => tell(err, CANNOT_WRITE, 7),
-    }
+    write_text(&answer.text, answer.status, CANNOT_WRITE, out, err)
 }

@@ -1,6 +1,7 @@
 use Rattle.std.proofs.Common.{refl}
 use Rattle.asp_explain.specs.Refusals.{refusal_of}
-use Rattle.asp_explain.specs.Seen.{Call, bytes_of, outside_between, sight_between}
+use Rattle.explain_writing.specs.Writing.{sight_between}
+use Rattle.asp_explain.specs.Seen.{Call, bytes_of, outside_between}
 use Rattle.asp_explain.proofs.EndsLemmas.{ends_stopped, ends_written}
 use Rattle.asp_explain.proofs.top.run_explain.Goals as goal
 

@@ -2,7 +2,7 @@ use Rattle.std.proofs.Common.{◌⊎◌, ℕ, List, sym, ap, subst, inl}
 use Rattle.std.specs.Prelude.{string_bytes}
 use Rattle.asp_explain.specs.declared.stop.Stop.{Stop}
 use Rattle.asp_explain.specs.Refusals.{Diverges, LongReport, NoActivity, NoCount, NoMemory, NoReport, Unread, bad_line, diverging_line, long_line, message_of, refusal_of}
-use Rattle.asp_explain.specs.Seen.{Sight, sight_between}
+use Rattle.explain_writing.specs.Writing.{Sight, sight_between}
 use Rattle.asp_explain.specs.Written.{IsToldOf}
 use Rattle.asp_explain.proofs.TellLemmas.{if_named, made_told}
 use Rattle.asp_explain.proofs.writing.refuse.Goals as goal
@@ -13,7 +13,7 @@ IsTold s result stop = IsToldOf (refusal_of stop) s result ⊎ IsToldOf NoMemory
 pub returns-in-Usage : goal.returns-in-Usage
 returns-in-Usage g c =
     let s = sight_between g.E.Sink.told c.args.err.now c.tell.new.err in
-    subst (IsTold s c.tell.result) (sym c.in-Usage.is) (inl c.tell.ensures)
+    subst (IsTold s c.tell.result) (sym c.in-Usage.is) (inl c.tell.ensures.told)
 
 pub returns-in-Unread : goal.returns-in-Unread
 returns-in-Unread g c =
@@ -24,7 +24,7 @@ returns-in-Unread g c =
 pub returns-in-TooLong : goal.returns-in-TooLong
 returns-in-TooLong g c =
     let s = sight_between g.E.Sink.told c.args.err.now c.tell-in-TooLong.new.err in
-    subst (IsTold s c.tell-in-TooLong.result) (sym c.in-TooLong.is) (inl c.tell-in-TooLong.ensures)
+    subst (IsTold s c.tell-in-TooLong.result) (sym c.in-TooLong.is) (inl c.tell-in-TooLong.ensures.told)
 
 pub returns-in-LongReport : goal.returns-in-LongReport
 returns-in-LongReport g c =
@@ -69,9 +69,9 @@ returns-in-NoCount g c =
 pub returns-in-LargePicture : goal.returns-in-LargePicture
 returns-in-LargePicture g c =
     let s = sight_between g.E.Sink.told c.args.err.now c.tell-in-LargePicture.new.err in
-    subst (IsTold s c.tell-in-LargePicture.result) (sym c.in-LargePicture.is) (inl c.tell-in-LargePicture.ensures)
+    subst (IsTold s c.tell-in-LargePicture.result) (sym c.in-LargePicture.is) (inl c.tell-in-LargePicture.ensures.told)
 
 pub returns-in-Memory : goal.returns-in-Memory
 returns-in-Memory g c =
     let s = sight_between g.E.Sink.told c.args.err.now c.tell-in-Memory.new.err in
-    subst (IsTold s c.tell-in-Memory.result) (sym c.in-Memory.is) (inl c.tell-in-Memory.ensures)
+    subst (IsTold s c.tell-in-Memory.result) (sym c.in-Memory.is) (inl c.tell-in-Memory.ensures.told)
