@@ -31,7 +31,7 @@ context_proper bound (ys ∷ names) [] us p = (filler_proper (ys ++ bound), p.1)
 context_proper bound [] (n ∷ ns) us p = (filler_proper bound, context_proper bound [] ns us p.1)
 context_proper bound (ys ∷ names) (n ∷ ns) us p = (filler_proper (ys ++ bound), context_proper bound names ns us p.1)
 
-left_context : (c : Context) → IsProperContext c → IsProper [] (context_left c)
+pub left_context : (c : Context) → IsProperContext c → IsProper [] (context_left c)
 left_context c p =
     let whole : Trees = locs_then c.before (more (loc 0) c.behind) in
     let counted : child_count whole ≡ length c.before + suc (child_count c.behind) = count_locs c.before (more (loc 0) c.behind) in
@@ -39,7 +39,7 @@ left_context c p =
     let same : child_count whole ≡ child_count (filled (suc (length c.before)) c.behind) = omega (arith, counted, left) in
     (p.0, subst (HasArity c.head) same p.1, context_proper [] (binders c.head) c.before c.behind p.2)
 
-left_redex : (r : Redex) → IsProper [] (redex_node r) → IsProper [] (redex_left r)
+pub left_redex : (r : Redex) → IsProper [] (redex_node r) → IsProper [] (redex_left r)
 left_redex r p =
     let whole : Trees = locs_then r.places r.behind in
     let same : child_count whole ≡ child_count (filled (length r.places) r.behind) = count_locs r.places r.behind ∙ sym (count_filled (length r.places) r.behind) in

@@ -1,0 +1,10 @@
+pub mod EnterLemmas
+pub mod WalkLemmas
+pub mod NotedLemmas
+pub mod RenamedLemmas
+pub mod NamedLaws
+pub mod EmptiedLemmas
+pub mod EmptiedLaws
+pub mod NameableLemmas
+pub mod ContextLemmas
+pub mod HoldingLemmas
