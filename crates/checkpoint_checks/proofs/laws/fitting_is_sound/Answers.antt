@@ -1,0 +1,5 @@
+use Rattle.checkpoint_checks.proofs.SoundLemmas.{fits_of, fits_to}
+use Rattle.checkpoint_checks.proofs.laws.fitting_is_sound.Goals as goal
+
+pub returns : goal.returns
+returns c = λ file parted. (fits_to file parted, fits_of file parted)
