@@ -1,5 +1,6 @@
 -- Tests of cells, parcels, requests and values.
-use Rattle.std.specs.Prelude.{ℕ, ◌&&◌, nat_eq, nat_lt, Bool, true, false, List, [], ◌∷◌, Option, Some, None, is_some, length, map}
+use Rattle.std.specs.Prelude.{ℕ, ◌&&◌, nat_eq, nat_lt, Bool, true, false}
+use Rattle.std.specs.Prelude.{List, [], ◌∷◌, Option, Some, None, is_some, length, map}
 use Rattle.std.specs.List.{list_all}
 use Rattle.asp_model.specs.declared.term.Method.{Method}
 use Rattle.asp_model.specs.declared.word.Label.{Label}
@@ -43,7 +44,8 @@ is_at n None = false
 is_at n (Some m) = same_name m n
 
 abbrev pub request_fits : Activities → Homes → Name → RequestShape → Bool
-request_fits look homes n r = is_at n (homes r.future) && (same_name r.sender r.future.by && parcel_fits look homes r.arguments)
+request_fits look homes n r = is_at n (homes r.future)
+    && (same_name r.sender r.future.by && parcel_fits look homes r.arguments)
 
 abbrev pub has_one_root : List ℕ → Bool
 has_one_root (k ∷ []) = nat_eq k 0
@@ -56,4 +58,5 @@ value_fits look homes v = is_some (homes v.0) && (has_one_root v.1.roots && parc
 abbrev pub object_fits : ℕ → List (Label × ℕ) → List Method → Bool
 object_fits k fields methods =
     is_single (map place_label fields) (map method_head methods)
-    && (are_below k (map (λ f. f.place) (map place_field fields)) && list_all (method_fits k) (map method_shape methods))
+    && (are_below k (map (λ f. f.place) (map place_field fields))
+    && list_all (method_fits k) (map method_shape methods))

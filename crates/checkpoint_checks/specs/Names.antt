@@ -30,7 +30,8 @@ is_created look (k ∷ n) = created_by look (parted_behind k n)
 -- each has a new name, and one that stands before it has created it
 abbrev pub are_created : Activities → List FrozenActivity → Bool
 are_created look [] = true
-are_created look (x ∷ xs) = (is_created look x.name && not (is_named look x.name)) && are_created (with_activity look x) xs
+are_created look (x ∷ xs) = (is_created look x.name && not (is_named look x.name))
+    && are_created (with_activity look x) xs
 
 -- main is first
 abbrev pub begin_with_main : List FrozenActivity → Bool

@@ -5,7 +5,8 @@ use Rattle.law_frozen.specs.Frozen.{FrozenActivity, FrozenShape}
 use Rattle.checkpoint_parts.specs.declared.parts.CheckpointText.{CheckpointText}
 use Rattle.checkpoint_parts.specs.Shapes.{checkpoint_shape}
 use Rattle.law_checkpoints.specs.Standing.{standing_in}
-use Rattle.checkpoint_checks.specs.Maps.{Activities, Homes, nobody, no_homes, no_futures, with_activities, with_homes, with_futures}
+use Rattle.checkpoint_checks.specs.Maps.{Activities, Homes, nobody, no_homes, no_futures}
+use Rattle.checkpoint_checks.specs.Maps.{with_activities, with_homes, with_futures}
 use Rattle.checkpoint_checks.specs.Names.{begin_with_main, all_named}
 use Rattle.checkpoint_checks.specs.Homes.{all_housed, ascend_from, home_fits}
 use Rattle.checkpoint_checks.specs.Standing.{are_fresh}
