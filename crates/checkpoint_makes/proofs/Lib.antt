@@ -1,0 +1,4 @@
+pub mod MadeLemmas
+pub mod ObjectLemmas
+pub mod RunningLemmas
+pub mod HeldLemmas
