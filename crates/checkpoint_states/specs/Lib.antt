@@ -1,0 +1,3 @@
+-- in reading order
+pub mod States
+pub mod Activities
