@@ -76,10 +76,10 @@ fn check_whole(alloc: Global, file: &CheckpointText) -> Result<(), Refusal>
     check_standing(alloc, &world.names, file)
 }
 
-/// The checkpoint is sound.
+/// The checkpoint is sound: so it is told where each list of terms in it runs or waits.
 pub fn is_sound(alloc: Global, file: &CheckpointText) -> Result<bool, AllocError>
-    requires parted { AreParted file.now }
-    ensures sound { IfOk result (λ b. IsTrue b ↔ IsSoundFrozen (checkpoint_shape file.now)) }
+    ensures sound { AreParted file.now →
+        IfOk result (λ b. IsTrue b ↔ IsSoundFrozen (checkpoint_shape file.now)) }
 {
     match check_whole(alloc, file) {
         Ok(()) => Ok(true),
