@@ -5,7 +5,7 @@ use Rattle.asp_model.specs.ReadReport.{Reads, read_report}
 use Rattle.asp_model.specs.Replay.{CountsShape, Fits}
 use Rattle.asp_model.specs.Step.{ListsShape}
 use Rattle.asp_model.specs.Term.{Tree}
-use Rattle.replay_one.specs.Notes.{replay_notes}
+use Rattle.replay_parts.specs.Notes.{replay_notes}
 use Rattle.asp_explain.specs.declared.stop.Which.TheVariants.{First, Second}
 use Rattle.explain.specs.declared.differences.first.Comparison.{Comparison}
 use Rattle.explain.specs.Differences as differences

@@ -4,7 +4,7 @@ use Rattle.asp_model.specs.Marked.{Marked, plain}
 use Rattle.asp_model.specs.Replay.{CountsShape, Fits, replay}
 use Rattle.asp_model.specs.Step.{ListsShape}
 use Rattle.asp_model.specs.Term.{Tree}
-use Rattle.replay_one.specs.Notes.{replay_notes}
+use Rattle.replay_parts.specs.Notes.{replay_notes}
 use Rattle.run_waits.specs.declared.explained.Explained.{Explained}
 use Rattle.run_waits.specs.Books.{KeepsBooks}
 use Rattle.run_waits.specs.Explains.{IsExplained}

@@ -11,7 +11,12 @@ use Rattle.law_chases.proofs.FutureLemmas.{some_is}
 use Rattle.trace_text.specs.Traces as Trace
 use Rattle.trace_text.specs.Traces.{read_trace}
 use Rattle.command_line.specs.Settings.{SettingsShape}
-use Rattle.command_line.specs.Task.{Runs, Journals, Compares, Traces}
+use Rattle.command_line.specs.Task.{TaskShape, Runs, Traces}
+use Rattle.asp_model.specs.Marked.{Marked}
+use Rattle.asp_model.specs.Status.{Budget, verdict_of}
+use Rattle.asp_model.specs.Configuration.{Configuration}
+use Rattle.law_program_files.specs.Programs.{IsFileOf, printed}
+use Rattle.law_checkpoint_texts.proofs.FileLemmas.{runs_are_files}
 use Rattle.law_outcomes.specs.Outcomes.{IsEndReport}
 use Rattle.law_outcomes.proofs.ReportLaws.{end_reports_agree, narrow_reports_are_all}
 use Rattle.law_services.specs.Services.{AreServedAlike, IsServedAlike}
@@ -20,9 +25,9 @@ use Rattle.asp_model.specs.Names.{Name}
 use Rattle.asp_model.specs.Replay.{CountsShape}
 use Rattle.asp_top.specs.Seen.{Outside}
 use Rattle.asp_top.specs.Comparisons.{Said, Same, Differ, Unended, IsSo, ShowAlike, text_said}
-use Rattle.asp_top.specs.Correct.{Answers, end_of, report_at}
-use Rattle.asp_top.specs.Ended.{IsEnded, ComparisonsAreExact, EndedRunsPrintTheSame, JournalsAreAccepted, OneSenderPrintsTheSame}
-use Rattle.asp_top.proofs.StatusLemmas.{stuck_at}
+use Rattle.asp_top.specs.Correct.{Answers, IsCheckpoint, IsLeft, ReplayOf, end_of, report_at}
+use Rattle.asp_top.specs.Ended.{IsEnded, ComparisonsAreExact, EndedRunsPrintTheSame, JournalsAreAccepted, OneSenderPrintsTheSame, SavesAreResumed}
+use Rattle.asp_top.proofs.StatusLemmas.{budget_at, stuck_at}
 
 -- the report of a run that has ended
 end_report : (o : Outside) (file : List ℕ) (settings : SettingsShape) (depth : Option ℕ) (report : List ℕ) (status : ℕ) (a : Answers o (Runs file settings depth) report status) → IsEnded status → IsEndReport depth (plain a.0.program) a.0.lists report
@@ -99,3 +104,23 @@ journals_are_accepted o file settings text status a = (
         b.1.1 ∙ ap exit_status (sym its.lawful.outcome ∙ ap (λ (s : RunShape). outcome_of s.configuration) run ∙ mine.lawful.outcome) ∙ sym a.1.1,
       ),
 )
+
+-- Checkpoints that are written
+
+checkpoint_is_file : (program : Marked) (budget : ℕ) (c : Configuration) (text : List ℕ) → IsCheckpoint program budget c text → IsFileOf program text
+checkpoint_is_file program budget c text h =
+    let run = h.lawful.journal.run in
+    subst (IsFileOf program) (sym h.written) (runs_are_files (printed program) (plain program) budget h.entries run h.lawful.journal.lawful)
+
+left_is_file : {o : Outside} {task : TaskShape} (r : ReplayOf o task) (budget : ℕ) (text : List ℕ) → IsLeft r budget text → verdict_of (end_of r) ≡ Budget → IsFileOf r.program text
+left_is_file r budget text (inl h) v = checkpoint_is_file r.program budget (end_of r) text h.1
+left_is_file r budget text (inr h) v = absurd (h.0 v)
+
+pub saves_are_resumed : SavesAreResumed
+saves_are_resumed o file settings text status a five =
+    let saved = left_is_file a.0 settings.budget text a.1.0 (budget_at (end_of a.0) status a.1.1 five) in (
+      saved,
+      λ p other name later depth report code b program bytes.
+          let same = subst (λ (m : Marked). IsFileOf m text) (sym program) saved in
+          b.1.0.1 (subst (IsFileOf b.0.program) (sym bytes) same),
+    )

@@ -1,6 +1,6 @@
 -- Which status is to come.
 use Rattle.std.proofs.Common.{◌≡◌, ℕ, ◌+◌, ◌<◌, ◌≤◌, List, Option, Some, None, Ok, Err, length, refl, sym, ap, subst, ◌∙◌, ◌⊎◌, inl, inr, arith}
-use Rattle.asp_model.specs.declared.limits.TheConstants.{MOST_PROGRAM_BYTES, MOST_REPORT_BYTES, MOST_TRACE_BYTES}
+use Rattle.asp_model.specs.declared.limits.TheConstants.{MOST_CHECKPOINT_BYTES, MOST_PROGRAM_BYTES, MOST_REDUCTIONS, MOST_REPORT_BYTES, MOST_TRACE_BYTES}
 use Rattle.asp_model.specs.History.{EntryShape}
 use Rattle.asp_model.specs.Marked.{Marked, plain}
 use Rattle.asp_model.specs.Term.{Tree}
@@ -17,14 +17,22 @@ use Rattle.trace_check.specs.declared.error.TraceStop.{TraceStop}
 use Rattle.trace_check.specs.declared.error.TraceStop.TheVariants as checked
 use Rattle.trace_check.specs.Checks.{IsStop, IsUnfinished, IsUnlawfulAt}
 use Rattle.trace_check.proofs.CheckLemmas.{ended_are_accepted}
-use Rattle.command_line.specs.Task.{TaskShape, Runs, Checks, Rules, Journals, Saves, Replays, Compares, Traces, Makes, task_of}
+use Rattle.law_frozen.specs.Frozen.{FrozenShape, thawed}
+use Rattle.checkpoint_text.specs.Reading as reading
+use Rattle.checkpoint_text.specs.Reading.{read_checkpoint}
+use Rattle.law_program_files.specs.Programs.{printed}
+use Rattle.run_files.specs.declared.stop.FileStop.{FileStop}
+use Rattle.run_files.specs.declared.stop.FileStop.TheVariants as why
+use Rattle.law_journals.specs.Budgets.{spent_in}
+use Rattle.run_files.specs.Files.{HasRoom, IsReadAs, IsUsable, StopsFile}
+use Rattle.command_line.specs.Task.{TaskShape, Runs, Checks, Rules, Journals, Saves, Resumes, SavesAgain, Replays, Compares, Traces, Makes, task_of}
 use Rattle.asp_top.specs.Seen.{Call, Outside, SomeReadFails, IsLong, IsLongContent}
 use Rattle.asp_top.specs.Programs.{IsFile, IsText, IsProgramOf, HasProgram, HasReport, HasTrace, NamesProgram, place_of}
 use Rattle.asp_top.specs.Correct.{Answers, IsReported}
-use Rattle.asp_top.specs.Refusals.{Refusal, Usage, Unread, LongProgram, NoProgram, Unchecked, LongReport, NoReport, Diverges, LongTrace, NoTrace, Unlawful, Unfinished, NoMemory, status_of_refusal}
-use Rattle.asp_top.specs.Endings.{Ends, Written, Refused, Unheard, Unwritten, IsCause, OfWords, OfMemory, OfTask, HoldsFor, IsUnread, OfProgram, OfReport, OfTrace}
+use Rattle.asp_top.specs.Refusals.{Refusal, Usage, Unread, LongProgram, NoProgram, Unchecked, LongReport, NoReport, Diverges, LongTrace, NoTrace, Unlawful, Unfinished, LongCheckpoint, OtherCheckpoint, NoCheckpoint, Overspent, NoMemory, status_of_refusal}
+use Rattle.asp_top.specs.Endings.{Ends, Written, Refused, Unheard, Unwritten, IsCause, OfWords, OfMemory, OfTask, HasNoResume, HoldsFor, IsUnread, OfProgram, OfReport, OfTrace, OfCheckpoint}
 use Rattle.asp_top.specs.Statuses.{CouldNot}
-use Rattle.asp_top.specs.Expected.{Has, HasShort, HasText, IsTraceOf, MayReplayAt, MayAnswer, AsksUnfit, Completes, RefusesProgram, RefusesPrograms, IsUsageEnd}
+use Rattle.asp_top.specs.Expected.{Has, HasShort, HasText, IsCheckpointOf, IsTraceOf, MayReplayAt, MayAnswer, AsksUnfit, Completes, RefusesProgram, RefusesPrograms, IsUsageEnd}
 use Rattle.asp_top.proofs.AskLemmas.{one_answer}
 use Rattle.asp_top.proofs.StatusLemmas.{answers_reported, same_task}
 
@@ -33,6 +41,7 @@ pub unread_for : (o : Outside) (task : TaskShape) (name : List ℕ) → IsUnread
 unread_for o task name (OfProgram n fails) = (0, name, fails)
 unread_for o task name (OfReport which program comes fails) = (place_of which, name, fails)
 unread_for o task name (OfTrace budget program comes fails) = (1, name, fails)
+unread_for o task name (OfCheckpoint budget program comes fails) = (1, name, fails)
 
 -- What the source has is one text
 
@@ -55,6 +64,8 @@ same_text o (Checks file) bytes other e f = same_file o 0 file MOST_PROGRAM_BYTE
 same_text o (Rules file settings) bytes other e f = same_file o 0 file MOST_PROGRAM_BYTES bytes other e.0 f
 same_text o (Journals file settings) bytes other e f = same_file o 0 file MOST_PROGRAM_BYTES bytes other e.0 f
 same_text o (Saves file settings) bytes other e f = same_file o 0 file MOST_PROGRAM_BYTES bytes other e.0 f
+same_text o (Resumes file name settings depth) bytes other e f = same_file o 0 file MOST_PROGRAM_BYTES bytes other e.0 f
+same_text o (SavesAgain file name settings) bytes other e f = same_file o 0 file MOST_PROGRAM_BYTES bytes other e.0 f
 same_text o (Replays file name depth) bytes other e f = same_file o 0 file MOST_PROGRAM_BYTES bytes other e.0 f
 same_text o (Compares file name other) bytes found e f = same_file o 0 file MOST_PROGRAM_BYTES bytes found e.0 f
 same_text o (Traces file name budget depth) bytes other e f = same_file o 0 file MOST_PROGRAM_BYTES bytes other e.0 f
@@ -72,6 +83,8 @@ program_fits o (Checks file) bytes name e n l = too_long o 0 name bytes MOST_PRO
 program_fits o (Rules file settings) bytes name e n l = too_long o 0 name bytes MOST_PROGRAM_BYTES (has_named o 0 file name bytes n e.0) e.1 l
 program_fits o (Journals file settings) bytes name e n l = too_long o 0 name bytes MOST_PROGRAM_BYTES (has_named o 0 file name bytes n e.0) e.1 l
 program_fits o (Saves file settings) bytes name e n l = too_long o 0 name bytes MOST_PROGRAM_BYTES (has_named o 0 file name bytes n e.0) e.1 l
+program_fits o (Resumes file checkpoint settings depth) bytes name e n l = too_long o 0 name bytes MOST_PROGRAM_BYTES (has_named o 0 file name bytes n e.0) e.1 l
+program_fits o (SavesAgain file checkpoint settings) bytes name e n l = too_long o 0 name bytes MOST_PROGRAM_BYTES (has_named o 0 file name bytes n e.0) e.1 l
 program_fits o (Replays file report depth) bytes name e n l = too_long o 0 name bytes MOST_PROGRAM_BYTES (has_named o 0 file name bytes n e.0) e.1 l
 program_fits o (Compares file report other) bytes name e n l = too_long o 0 name bytes MOST_PROGRAM_BYTES (has_named o 0 file name bytes n e.0) e.1 l
 program_fits o (Traces file trace budget depth) bytes name e n l = too_long o 0 name bytes MOST_PROGRAM_BYTES (has_named o 0 file name bytes n e.0) e.1 l
@@ -131,6 +144,39 @@ module _ (o : Outside) (name : List ℕ) (program : Tree) (budget : ℕ) (bytes 
       let no : checked.Unfinished ≡ checked.Memory = stopped checked.Unfinished mine in
       absurd cc
 
+-- where a run goes on from the bytes, it does not stop there but for want of memory
+one_frozen : (program : Marked) (bytes : List ℕ) (f g : FrozenShape) → IsReadAs program bytes f → read_checkpoint (printed program) bytes ≡ reading.Reads g → g ≡ f
+one_frozen program bytes f g h e = let same : reading.Reads g ≡ reading.Reads f = sym e ∙ h.reads in cc
+
+pub never_stops : (program : Marked) (bytes : List ℕ) (budget : ℕ) (f : FrozenShape) → IsReadAs program bytes f → HasRoom f budget → (stop : FileStop) → StopsFile program bytes budget stop → stop ≡ why.Memory
+never_stops program bytes budget f h room why.OtherProgram s = let no : reading.Reads f ≡ reading.OtherProgram = sym h.reads ∙ s in absurd cc
+never_stops program bytes budget f h room why.Malformed (inl s) = let no : reading.Reads f ≡ reading.Malformed = sym h.reads ∙ s in absurd cc
+never_stops program bytes budget f h room why.Malformed (inr s) = absurd (subst (λ (g : FrozenShape). IsUsable g → ⊥) (one_frozen program bytes f s.0 h s.1) s.2 h.usable)
+never_stops program bytes budget f h room why.TooMany s =
+    let more : MOST_REDUCTIONS < spent_in (thawed f) + budget = subst (λ (g : FrozenShape). MOST_REDUCTIONS < spent_in (thawed g) + budget) (one_frozen program bytes f s.0 h s.1.reads) s.2 in
+    let few : spent_in (thawed f) + budget ≤ MOST_REDUCTIONS = room in
+    absurd (omega (arith, more, few))
+never_stops program bytes budget f h room why.Memory s = refl
+
+pub not_other : why.OtherProgram ≡ why.Memory → ⊥
+not_other e = cc
+
+pub not_malformed : why.Malformed ≡ why.Memory → ⊥
+not_malformed e = cc
+
+pub not_many : why.TooMany ≡ why.Memory → ⊥
+not_many e = cc
+
+-- a checkpoint from which a run goes on, and which is short enough, is refused for nothing
+module _ (o : Outside) (name : List ℕ) (program : Marked) (budget : ℕ) (bytes : List ℕ) (had : HasShort o 1 name MOST_CHECKPOINT_BYTES bytes) (of : IsCheckpointOf program budget bytes) where
+  checkpoint_is_short : IsLong o 1 name MOST_CHECKPOINT_BYTES → ⊥
+  checkpoint_is_short l = too_long o 1 name bytes MOST_CHECKPOINT_BYTES had.0 had.1 l
+
+  run_goes_on : (other : List ℕ) (stop : FileStop) → (stop ≡ why.Memory → ⊥) → IsFile o 1 name MOST_CHECKPOINT_BYTES other → StopsFile program other budget stop → ⊥
+  run_goes_on other stop not file s =
+      let same : other ≡ bytes = same_file o 1 name MOST_CHECKPOINT_BYTES bytes other had.0 file in
+      not (never_stops program bytes budget of.0 of.1 of.2 stop (subst (λ (b : List ℕ). StopsFile program b budget stop) same s))
+
 module _ (c : Call) (m : MayAnswer c) where
   reads_as : (other : List ℕ) → IsText c.outside m.task other → IsProgramText other m.program
   reads_as other t = subst (λ (l : List ℕ). IsProgramText l m.program) (sym (same_text c.outside m.task m.bytes other m.had t)) m.is.is_read
@@ -138,11 +184,18 @@ module _ (c : Call) (m : MayAnswer c) where
   same_program : (program : Marked) → HasProgram c.outside m.task program → program ≡ m.program
   same_program program h = h.is.only m.program (reads_as h.bytes h.text)
 
+  resumes_so : (stop : FileStop) → (stop ≡ why.Memory → ⊥) → HasNoResume c.outside m.task stop → ⊥
+  resumes_so stop not h =
+      let t = m.resumes h.name h.budget h.comes.named in
+      run_goes_on c.outside h.name m.program h.budget t.0 t.1 t.2 h.bytes stop not h.file
+      (subst (λ (p : Marked). StopsFile p h.bytes h.budget stop) (same_program h.program h.comes.given) h.stops)
+
   nothing_holds : (r : Refusal) (status : ℕ) → HoldsFor c.outside m.task r → status ≡ status_of_refusal r → status ≡ 8
   nothing_holds Usage status h e = absurd h
   nothing_holds (Unread name) status (OfProgram n fails) e = absurd (m.read (0, name, fails))
   nothing_holds (Unread name) status (OfReport which program comes fails) e = absurd (m.read (place_of which, name, fails))
   nothing_holds (Unread name) status (OfTrace budget program comes fails) e = absurd (m.read (1, name, fails))
+  nothing_holds (Unread name) status (OfCheckpoint budget program comes fails) e = absurd (m.read (1, name, fails))
   nothing_holds LongProgram status h e = absurd (program_fits c.outside m.task m.bytes h.name m.had h.named h.long)
   nothing_holds (NoProgram fault) status h e = absurd (h.2.none m.program (reads_as h.0 h.1))
   nothing_holds (Unchecked fault) status h e = absurd (h.2.none m.program (reads_as h.0 h.1) m.is.checked)
@@ -161,6 +214,11 @@ module _ (c : Call) (m : MayAnswer c) where
       let t = m.traces h.name h.budget h.comes.named in
       absurd (trace_has_ended c.outside h.name (plain m.program) h.budget t.0 t.1 t.2 h.entries h.old
       (subst (λ (p : Marked). IsUnfinished (plain p) h.budget h.entries) (same_program h.program h.comes.given) h.unfinished))
+  nothing_holds LongCheckpoint status h e =
+      let t = m.resumes h.name h.budget h.comes.named in absurd (checkpoint_is_short c.outside h.name m.program h.budget t.0 t.1 t.2 h.long)
+  nothing_holds OtherCheckpoint status h e = absurd (resumes_so why.OtherProgram not_other h)
+  nothing_holds NoCheckpoint status h e = absurd (resumes_so why.Malformed not_malformed h)
+  nothing_holds Overspent status h e = absurd (resumes_so why.TooMany not_many h)
   nothing_holds NoMemory status h e = e
 
   refused_only : (r : Refusal) (status : ℕ) → IsCause c r → status ≡ status_of_refusal r → status ≡ 8
@@ -199,6 +257,8 @@ given_in o (Checks file) text status a = (a.0, a.1)
 given_in o (Rules file settings) text status a = (a.0.program, a.0.given)
 given_in o (Journals file settings) text status a = (a.0.program, a.0.given)
 given_in o (Saves file settings) text status a = (a.0.program, a.0.given)
+given_in o (Resumes file name settings depth) text status a = (a.0.program, a.0.given)
+given_in o (SavesAgain file name settings) text status a = (a.0.program, a.0.given)
 given_in o (Replays file name depth) text status a = (a.0.program, a.0.given)
 given_in o (Compares file name other) text status a = (a.0.program, a.0.given)
 given_in o (Traces file name budget depth) text status a = (a.0.program, a.0.given)
@@ -222,6 +282,8 @@ module _ (c : Call) (a : AsksUnfit c) where
   never_has (Rules file settings) n program h = not_given c.outside file a.bytes h.bytes program (has_named c.outside 0 a.name file a.bytes (sym n) a.had) a.unfit h.text h.is
   never_has (Journals file settings) n program h = not_given c.outside file a.bytes h.bytes program (has_named c.outside 0 a.name file a.bytes (sym n) a.had) a.unfit h.text h.is
   never_has (Saves file settings) n program h = not_given c.outside file a.bytes h.bytes program (has_named c.outside 0 a.name file a.bytes (sym n) a.had) a.unfit h.text h.is
+  never_has (Resumes file checkpoint settings depth) n program h = not_given c.outside file a.bytes h.bytes program (has_named c.outside 0 a.name file a.bytes (sym n) a.had) a.unfit h.text h.is
+  never_has (SavesAgain file checkpoint settings) n program h = not_given c.outside file a.bytes h.bytes program (has_named c.outside 0 a.name file a.bytes (sym n) a.had) a.unfit h.text h.is
   never_has (Replays file report depth) n program h = not_given c.outside file a.bytes h.bytes program (has_named c.outside 0 a.name file a.bytes (sym n) a.had) a.unfit h.text h.is
   never_has (Compares file report other) n program h = not_given c.outside file a.bytes h.bytes program (has_named c.outside 0 a.name file a.bytes (sym n) a.had) a.unfit h.text h.is
   never_has (Traces file trace budget depth) n program h = not_given c.outside file a.bytes h.bytes program (has_named c.outside 0 a.name file a.bytes (sym n) a.had) a.unfit h.text h.is
@@ -240,6 +302,10 @@ module _ (c : Call) (a : AsksUnfit c) where
   unfit_end (NoTrace line) status h e = absurd (never_has a.task a.named h.program h.comes.given)
   unfit_end (Unlawful entry) status h e = absurd (never_has a.task a.named h.program h.comes.given)
   unfit_end Unfinished status h e = absurd (never_has a.task a.named h.program h.comes.given)
+  unfit_end LongCheckpoint status h e = absurd (never_has a.task a.named h.program h.comes.given)
+  unfit_end OtherCheckpoint status h e = absurd (never_has a.task a.named h.program h.comes.given)
+  unfit_end NoCheckpoint status h e = absurd (never_has a.task a.named h.program h.comes.given)
+  unfit_end Overspent status h e = absurd (never_has a.task a.named h.program h.comes.given)
   unfit_end NoMemory status h e = inr (inr (inr e))
 
   unfit_refused : (r : Refusal) (status : ℕ) → IsCause c r → status ≡ status_of_refusal r → RefusesProgram c status ⊎ CouldNot c status

@@ -11,4 +11,5 @@ pub mod CauseLemmas
 pub mod ExpectedLemmas
 pub mod RefusedLemmas
 pub mod TracedLemmas
+pub mod ResumedLemmas
 pub mod EndedLemmas

@@ -1,10 +1,10 @@
 -- What a run and a replay have written, from the end of the run and the outcome of the replay.
-use Rattle.std.specs.Prelude.{map, string_bytes}
+use Rattle.std.specs.Prelude.{IfOk, Result, Ok, Err, map, string_bytes}
 use Rattle.std.specs.List.{concat}
 use Rattle.std.specs.declared.alloc.Global.{Global}
 use Rattle.std.specs.declared.string.String.{String}
 use Rattle.std.proofs.lemmas.Bool.{true≢false}
-use Rattle.std.proofs.Common.{◌≡◌, ◌≤◌, ℕ, false, List, Option, Some, None, ◌++◌, inl, inr, sym, ap, subst, ◌∙◌, arith}
+use Rattle.std.proofs.Common.{◌≡◌, ◌≤◌, ℕ, false, List, Option, Some, None, ◌++◌, inl, inr, refl, sym, ap, subst, ◌∙◌, arith}
 use Rattle.asp_model.specs.declared.limits.TheConstants.{MOST_REDUCTIONS}
 use Rattle.asp_model.specs.Configuration.{Configuration}
 use Rattle.asp_model.specs.Term.{Tree}
@@ -17,12 +17,13 @@ use Rattle.asp_model.specs.Report.{text_of}
 use Rattle.asp_model.specs.ReadReport.{read_report, Reads}
 use Rattle.asp_model.specs.Shapes.{outcome_shape, tree_of}
 use Rattle.asp_check.specs.declared.checked.Checked.{Checked}
-use Rattle.def_paths.specs.Outcomes.{whole_outcome_of, reported}
+use Rattle.def_paths.specs.Outcomes.{WholeOutcome, whole_outcome_of, reported}
 use Rattle.law_reports.specs.Depths.{report_to}
 use Rattle.law_outcomes.proofs.ReportLaws.{replay_reports_are_read}
 use Rattle.law_outcomes.proofs.ProgramLaws.{program_texts_are_printable, programs_have_no_places}
 use Rattle.law_outcomes.proofs.OutcomeLemmas.{reported_is}
 use Rattle.run_ends.specs.declared.ends.RunEnd.{RunEnd}
+use Rattle.run_ends.specs.Ends.{IsEndOf}
 use Rattle.determinacy.specs.Rulings.{ruled}
 use Rattle.run_report.specs.Rulings.{ruled_report, ruling_lines}
 use Rattle.run_report.specs.Summary.{summary_of}
@@ -30,7 +31,9 @@ use Rattle.run_report.proofs.PassedLemmas.{rulings_are_passed_over}
 use Rattle.asp_core.specs.EndOfRun.{IsEndOfRun}
 use Rattle.run_traces.specs.declared.traced.Traced.{Traced}
 use Rattle.run_traces.specs.Traced.{IsTracedRun}
-use Rattle.run_saves.specs.Saved.{IsStoppedRun, is_budget}
+use Rattle.run_saves.specs.declared.saved.Saved.{Saved}
+use Rattle.run_saves.specs.declared.saved.Saved.TheVariants as saves
+use Rattle.run_saves.specs.Saved.{IsSavedRun, IsStoppedRun, is_budget}
 use Rattle.asp_model.specs.History.{EntryShape}
 use Rattle.trace_text.specs.Traces as Trace
 use Rattle.trace_text.specs.Traces.{read_trace, trace_of}
@@ -42,7 +45,10 @@ use Rattle.asp_top.specs.Seen.{Outside}
 use Rattle.asp_top.specs.Programs.{IsProgramOf, IsInFile, HasReplay, HasTrace}
 use Rattle.asp_top.specs.Comparisons.{Said, IsSo, status_said, text_said}
 use Rattle.asp_top.specs.Correct.{Answers, IsWithin}
+use Rattle.asp_top.specs.declared.prepare.Prepared.{Prepared}
 use Rattle.asp_top.specs.Stops.{program_in}
+use Rattle.asp_top.specs.Ready.{text_in}
+use Rattle.asp_top.specs.Resumed.{IsLeftOf}
 use Rattle.asp_top.proofs.RulingLemmas.{only_end}
 use Rattle.asp_top.proofs.StatusLemmas.{five_status}
 
@@ -206,6 +212,21 @@ stopped_is o file c settings pieces text status h given e is =
       ),
       (h.budgeted.within, λ (v : verdict_of replayed ≡ Budget). h.budgeted.spent (sym (ap (λ (x : OutcomeShape). x.verdict) h.replayed.outcome) ∙ v)),
     )
+
+-- what is left of a run whose budget ran out
+pub stopped_left : (saved : Saved) (p : Prepared) → saved ≡ saves.Stopped p.pieces → p.status ≡ 5 → IsLeftOf saved p
+stopped_left saved p e s = subst (λ (x : Saved). IsLeftOf x p) (sym e) (refl, s)
+
+-- and of one that ended in another way
+pub ended_left : {E : Type 0} (end : RunEnd) (r : Result Prepared E) → ((o : WholeOutcome) → IsEndOf end o → IfOk r (λ p. text_in p ≡ report_to None o)) → IfOk r (λ p. p.status ≡ exit_status (outcome_shape end.outcome)) → IfOk r (IsLeftOf (saves.Ended end))
+ended_left end (Ok p) h s = (h, s)
+ended_left end (Err e) h s = tt
+
+-- what is left of a run that is saved
+pub left_is : (o : Outside) (file : List ℕ) (c : Checked) (settings : SettingsShape) (saved : Saved) (p : Prepared) → IsSavedRun (program_in c) settings.budget saved → IsInFile o file (program_in c) → IsSettings settings
+    → IsLeftOf saved p → Answers o (Saves file settings) (text_in p) p.status
+left_is o file c settings (saves.Stopped pieces) p h given s left = stopped_is o file c settings pieces.items (text_in p) p.status h given left.0 left.1
+left_is o file c settings (saves.Ended end) p h given s left = kept_is c settings end h.0 o file (text_in p) p.status h.1 given s (left.0 _ h.0.end) left.1
 
 pub replay_is : (o : Outside) (file name : List ℕ) (depth : Option ℕ) (program : Marked) (outcome : OutcomeShape) (text : List ℕ) (status : ℕ) → IsInFile o file program → (h : HasReplay o 1 name program)
     → outcome ≡ outcome_of (replay (plain program) h.lists h.counts) → text ≡ report_to depth (whole_outcome_of (replay (plain program) h.lists h.counts)) → status ≡ exit_status outcome

@@ -29,7 +29,7 @@ use Rattle.asp_top.specs.declared.stop.Stop.{Stop}
 use Rattle.asp_top.specs.declared.stop.Which.{Which}
 use Rattle.asp_top.specs.declared.stop.Which.TheVariants.{First, Second}
 use Rattle.asp_top.specs.Seen.{Outside, bytes_of, outside_between}
-use Rattle.asp_top.specs.Refusals.{Refusal, Usage, Unread, LongProgram, NoProgram, Unchecked, LongReport, NoReport, Diverges, LongTrace, NoTrace, Unlawful, Unfinished, NoMemory}
+use Rattle.asp_top.specs.Refusals.{Refusal, Usage, Unread, LongProgram, NoProgram, Unchecked, LongReport, NoReport, Diverges, LongTrace, NoTrace, Unlawful, Unfinished, LongCheckpoint, OtherCheckpoint, NoCheckpoint, Overspent, NoMemory}
 use Rattle.asp_top.specs.Programs.{IsFile, IsInFile, HasReplay, HasReport, AsksInTurn, place_of}
 use Rattle.asp_top.specs.Endings.{ComesTo, HasBadLine, HasDivergence, HasLongReport, HoldsFor, OfReport, OfTask}
 use Rattle.asp_top.specs.Stops.{AsksOnce, RefusedAt, StopsTask, StopsWords, log_stop, replay_stop}
@@ -55,6 +55,10 @@ made_stops o pairs settings bytes e LongTrace h = absurd h
 made_stops o pairs settings bytes e (NoTrace line) h = absurd h
 made_stops o pairs settings bytes e (Unlawful entry) h = absurd h
 made_stops o pairs settings bytes e Unfinished h = absurd h
+made_stops o pairs settings bytes e LongCheckpoint h = absurd h
+made_stops o pairs settings bytes e OtherCheckpoint h = absurd h
+made_stops o pairs settings bytes e NoCheckpoint h = absurd h
+made_stops o pairs settings bytes e Overspent h = absurd h
 made_stops o pairs settings bytes e NoMemory h = tt
 
 -- reports
@@ -85,6 +89,10 @@ report_stops o place which name program LongTrace h = h
 report_stops o place which name program (NoTrace line) h = h
 report_stops o place which name program (Unlawful entry) h = h
 report_stops o place which name program Unfinished h = h
+report_stops o place which name program LongCheckpoint h = h
+report_stops o place which name program OtherCheckpoint h = h
+report_stops o place which name program NoCheckpoint h = h
+report_stops o place which name program Overspent h = h
 report_stops o place which name program NoMemory h = h
 
 replay_stops : (o : Outside) (which : Which) (name : List ℕ) (program : Marked) (lists : ListsShape) (counts : CountsShape) → HasReport o 0 name lists counts → (s : ReplayStop) → IsStop (plain program) lists counts s
@@ -157,6 +165,10 @@ module _ {S : Type 0} (told : S → SourceTells) (first middle last : S) (file :
     refused_later place which name program later (NoTrace line) h = absurd h
     refused_later place which name program later (Unlawful entry) h = absurd h
     refused_later place which name program later Unfinished h = absurd h
+    refused_later place which name program later LongCheckpoint h = absurd h
+    refused_later place which name program later OtherCheckpoint h = absurd h
+    refused_later place which name program later NoCheckpoint h = absurd h
+    refused_later place which name program later Overspent h = absurd h
     refused_later place which name program later NoMemory h = tt
 
 -- why there is nothing of one of the reports of a task
@@ -179,6 +191,10 @@ refused_there o task which name program comes LongTrace h = absurd h
 refused_there o task which name program comes (NoTrace line) h = absurd h
 refused_there o task which name program comes (Unlawful entry) h = absurd h
 refused_there o task which name program comes Unfinished h = absurd h
+refused_there o task which name program comes LongCheckpoint h = absurd h
+refused_there o task which name program comes OtherCheckpoint h = absurd h
+refused_there o task which name program comes NoCheckpoint h = absurd h
+refused_there o task which name program comes Overspent h = absurd h
 refused_there o task which name program comes NoMemory h = tt
 
 pub replay_refused : (o : Outside) (file report : List ℕ) (depth : Option ℕ) (program : Marked) → IsInFile o file program

@@ -3,13 +3,13 @@ use Rattle.std.proofs.Common.{◌≡◌, ℕ, ◌<◌, ◌≤◌, List, Some, No
 use Rattle.asp_model.specs.declared.limits.TheConstants.{MOST_REPORT_BYTES}
 use Rattle.asp_model.specs.Marked.{Marked}
 use Rattle.asp_model.specs.ReadReport.{read_report}
-use Rattle.command_line.specs.Task.{TaskShape, Runs, Checks, Rules, Journals, Saves, Replays, Compares, Traces, Makes, task_of}
+use Rattle.command_line.specs.Task.{TaskShape, Runs, Checks, Rules, Journals, Saves, Resumes, SavesAgain, Replays, Compares, Traces, Makes, task_of}
 use Rattle.asp_top.specs.declared.stop.Which.{Which}
 use Rattle.asp_top.specs.declared.stop.Which.TheVariants.{First, Second}
 use Rattle.asp_top.specs.Seen.{Call, Outside, IsLong, IsUntouched, Takes}
-use Rattle.asp_top.specs.Programs.{IsFile, HasProgram, HasReplay, NamesReport, NamesTrace, place_of}
+use Rattle.asp_top.specs.Programs.{IsFile, HasProgram, HasReplay, NamesCheckpoint, NamesReport, NamesTrace, place_of}
 use Rattle.asp_top.specs.Correct.{Answers}
-use Rattle.asp_top.specs.Refusals.{Refusal, Usage, Unread, LongProgram, NoProgram, Unchecked, LongReport, NoReport, Diverges, LongTrace, NoTrace, Unlawful, Unfinished, NoMemory, status_of_refusal, message_of}
+use Rattle.asp_top.specs.Refusals.{Refusal, Usage, Unread, LongProgram, NoProgram, Unchecked, LongReport, NoReport, Diverges, LongTrace, NoTrace, Unlawful, Unfinished, LongCheckpoint, OtherCheckpoint, NoCheckpoint, Overspent, NoMemory, status_of_refusal, message_of}
 use Rattle.asp_top.specs.Endings.{Ends, Written, Refused, Unheard, Unwritten, IsCause, OfWords, OfMemory, OfTask, ComesTo, HoldsFor, IsBehind}
 use Rattle.asp_top.specs.Statuses.{CouldNot}
 use Rattle.asp_top.specs.Expected.{Has, AsksNoReplay, IsOfFirst, IsRefusedBefore, IsRefusedFor, RefusesReport, RefusesProgram, RefusesReports}
@@ -23,6 +23,8 @@ one_name (Checks file) which name other h g = absurd h
 one_name (Rules file settings) which name other h g = absurd h
 one_name (Journals file settings) which name other h g = absurd h
 one_name (Saves file settings) which name other h g = absurd h
+one_name (Resumes file checkpoint settings depth) which name other h g = absurd h
+one_name (SavesAgain file checkpoint settings) which name other h g = absurd h
 one_name (Replays file report depth) First name other h g = sym h ∙ g
 one_name (Replays file report depth) Second name other h g = absurd h
 one_name (Compares file report second) First name other h g = sym h ∙ g
@@ -37,10 +39,26 @@ no_trace (Checks file) which name other budget h g = h
 no_trace (Rules file settings) which name other budget h g = h
 no_trace (Journals file settings) which name other budget h g = h
 no_trace (Saves file settings) which name other budget h g = h
+no_trace (Resumes file checkpoint settings depth) which name other budget h g = h
+no_trace (SavesAgain file checkpoint settings) which name other budget h g = h
 no_trace (Replays file report depth) which name other budget h g = g
 no_trace (Compares file report second) which name other budget h g = g
 no_trace (Traces file trace most depth) which name other budget h g = h
 no_trace (Makes pairs settings) which name other budget h g = h
+
+-- nor does it name a checkpoint
+pub no_checkpoint : (task : TaskShape) (which : Which) (name other : List ℕ) (budget : ℕ) → NamesReport task which name → NamesCheckpoint task other budget → ⊥
+no_checkpoint (Runs file settings depth) which name other budget h g = h
+no_checkpoint (Checks file) which name other budget h g = h
+no_checkpoint (Rules file settings) which name other budget h g = h
+no_checkpoint (Journals file settings) which name other budget h g = h
+no_checkpoint (Saves file settings) which name other budget h g = h
+no_checkpoint (Resumes file checkpoint settings depth) which name other budget h g = h
+no_checkpoint (SavesAgain file checkpoint settings) which name other budget h g = h
+no_checkpoint (Replays file report depth) which name other budget h g = g
+no_checkpoint (Compares file report second) which name other budget h g = g
+no_checkpoint (Traces file trace most depth) which name other budget h g = h
+no_checkpoint (Makes pairs settings) which name other budget h g = h
 
 -- where a task is answered, each report that it names fits its program
 replays_at : (o : Outside) (task : TaskShape) (text : List ℕ) (status : ℕ) → Answers o task text status → (which : Which) (name : List ℕ) → NamesReport task which name
@@ -50,6 +68,8 @@ replays_at o (Checks file) text status a which name n = absurd n
 replays_at o (Rules file settings) text status a which name n = absurd n
 replays_at o (Journals file settings) text status a which name n = absurd n
 replays_at o (Saves file settings) text status a which name n = absurd n
+replays_at o (Resumes file checkpoint settings depth) text status a which name n = absurd n
+replays_at o (SavesAgain file checkpoint settings) text status a which name n = absurd n
 replays_at o (Replays file report depth) text status a First name n = (
   a.0.program,
   a.0.given,
@@ -143,6 +163,10 @@ module _ (c : Call) (a : AsksNoReplay c) where
   no_replay_end (NoTrace line) status h u t e = absurd (no_trace a.task a.which a.name h.name h.budget a.named h.comes.named)
   no_replay_end (Unlawful entry) status h u t e = absurd (no_trace a.task a.which a.name h.name h.budget a.named h.comes.named)
   no_replay_end Unfinished status h u t e = absurd (no_trace a.task a.which a.name h.name h.budget a.named h.comes.named)
+  no_replay_end LongCheckpoint status h u t e = absurd (no_checkpoint a.task a.which a.name h.name h.budget a.named h.comes.named)
+  no_replay_end OtherCheckpoint status h u t e = absurd (no_checkpoint a.task a.which a.name h.name h.budget a.named h.comes.named)
+  no_replay_end NoCheckpoint status h u t e = absurd (no_checkpoint a.task a.which a.name h.name h.budget a.named h.comes.named)
+  no_replay_end Overspent status h u t e = absurd (no_checkpoint a.task a.which a.name h.name h.budget a.named h.comes.named)
   no_replay_end NoMemory status h u t e = inr (inr (inr (inr e)))
 
   no_replay_refused : (r : Refusal) (status : ℕ) → IsCause c r → IsUntouched c.out → Takes c.err (message_of r) → status ≡ status_of_refusal r → End status

@@ -5,11 +5,12 @@ use Rattle.std.specs.List.{list_any}
 use Rattle.asp_model.specs.Configuration.{Configuration}
 use Rattle.asp_model.specs.Status.{VerdictShape, End, Blocked, Budget, IsStuck, is_awaiting, is_running, statuses_of, verdict_of}
 use Rattle.asp_model.specs.Outcome.{ActivityReportShape, outcome_of, exit_status, is_faulted}
-use Rattle.command_line.specs.Task.{TaskShape, Runs, Checks, Rules, Journals, Saves, Replays, Compares, Traces, Makes, task_of}
+use Rattle.command_line.specs.Task.{TaskShape, Runs, Checks, Rules, Journals, Saves, Resumes, SavesAgain, Replays, Compares, Traces, Makes, task_of}
 use Rattle.asp_top.specs.Comparisons.{Said, Same, Differ, Unended, status_said}
 use Rattle.asp_top.specs.Seen.{Call, Outside, IsUntouched, Takes}
+use Rattle.asp_top.specs.Resumes.{stop_of}
 use Rattle.asp_top.specs.Correct.{Answers, IsReported, IsSaid, ReplaysOf, Reports, end_of}
-use Rattle.asp_top.specs.Refusals.{Refusal, Usage, Unread, LongProgram, NoProgram, Unchecked, LongReport, NoReport, Diverges, LongTrace, NoTrace, Unlawful, Unfinished, NoMemory, status_of_refusal}
+use Rattle.asp_top.specs.Refusals.{Refusal, Usage, Unread, LongProgram, NoProgram, Unchecked, LongReport, NoReport, Diverges, LongTrace, NoTrace, Unlawful, Unfinished, LongCheckpoint, OtherCheckpoint, NoCheckpoint, Overspent, NoMemory, status_of_refusal}
 use Rattle.asp_top.specs.Endings.{IsAnswer, Ends, Written, Refused, Unheard, Unwritten}
 use Rattle.asp_top.specs.Ended.{IsEnded}
 use Rattle.asp_top.specs.Statuses.{IsEnd, IsBlocked, GoesOn, OfAnswers, HasEnded, HasBlocked, HasSpent, Says, SaysEnd, SaysBlocked, SaysBudget, AreEnded}
@@ -113,6 +114,10 @@ module _ (c : Configuration) (status : ℕ) (e : status ≡ exit_status (outcome
   reported_at (Waiting s) = inr (inr (inl (e ∙ four_status c s.verdict)))
   reported_at (Going s) = inr (inr (inr (e ∙ five_status c s.verdict)))
 
+-- with status 5 it can go on
+pub budget_at : (c : Configuration) (status : ℕ) → status ≡ exit_status (outcome_of c) → status ≡ 5 → verdict_of c ≡ Budget
+budget_at c status e h = (going_at c status e h (stops c)).verdict
+
 -- where a replay has ended, it is stuck
 pub stuck_at : (c : Configuration) (status : ℕ) → status ≡ exit_status (outcome_of c) → IsEnded status → IsStuck c
 stuck_at c status e h = stuck_by c status e h (stops c)
@@ -164,6 +169,8 @@ answers_reported o (Checks file) text status a = inl a.3
 answers_reported o (Rules file settings) text status a = reported_at (end_of a.0) status a.1.1 (stops (end_of a.0))
 answers_reported o (Journals file settings) text status a = reported_at (end_of a.0) status a.1.1 (stops (end_of a.0))
 answers_reported o (Saves file settings) text status a = reported_at (end_of a.0) status a.1.1 (stops (end_of a.0))
+answers_reported o (Resumes file name settings depth) text status a = reported_at (stop_of a.0) status a.1.1 (stops (stop_of a.0))
+answers_reported o (SavesAgain file name settings) text status a = reported_at (stop_of a.0) status a.1.1 (stops (stop_of a.0))
 answers_reported o (Replays file name depth) text status a = reported_at (end_of a.0) status a.1.1 (stops (end_of a.0))
 answers_reported o (Compares file name other) text status a = said_reported a.1 status a.4
 answers_reported o (Traces file name budget depth) text status a = reported_at (end_of a.0) status a.1.1 (stops (end_of a.0))
@@ -175,6 +182,8 @@ has_ended o (Checks file) text status a h = a.3
 has_ended o (Rules file settings) text status a h = end_at (end_of a.0) status a.1.1 h (stops (end_of a.0))
 has_ended o (Journals file settings) text status a h = end_at (end_of a.0) status a.1.1 h (stops (end_of a.0))
 has_ended o (Saves file settings) text status a h = end_at (end_of a.0) status a.1.1 h (stops (end_of a.0))
+has_ended o (Resumes file name settings depth) text status a h = end_at (stop_of a.0) status a.1.1 h (stops (stop_of a.0))
+has_ended o (SavesAgain file name settings) text status a h = end_at (stop_of a.0) status a.1.1 h (stops (stop_of a.0))
 has_ended o (Replays file name depth) text status a h = end_at (end_of a.0) status a.1.1 h (stops (end_of a.0))
 has_ended o (Compares file name other) text status a h =
     let low = said_low a.1 status a.4 h in (low, said_stuck a.0 a.1 status a.2 a.4 low)
@@ -187,6 +196,8 @@ has_blocked o (Checks file) text status a h = clash status 0 4 a.3 h refl refl
 has_blocked o (Rules file settings) text status a h = blocked_at (end_of a.0) status a.1.1 h (stops (end_of a.0))
 has_blocked o (Journals file settings) text status a h = blocked_at (end_of a.0) status a.1.1 h (stops (end_of a.0))
 has_blocked o (Saves file settings) text status a h = blocked_at (end_of a.0) status a.1.1 h (stops (end_of a.0))
+has_blocked o (Resumes file name settings depth) text status a h = blocked_at (stop_of a.0) status a.1.1 h (stops (stop_of a.0))
+has_blocked o (SavesAgain file name settings) text status a h = blocked_at (stop_of a.0) status a.1.1 h (stops (stop_of a.0))
 has_blocked o (Replays file name depth) text status a h = blocked_at (end_of a.0) status a.1.1 h (stops (end_of a.0))
 has_blocked o (Compares file name other) text status a h = not_four a.1 status a.4 h
 has_blocked o (Traces file name budget depth) text status a h = blocked_at (end_of a.0) status a.1.1 h (stops (end_of a.0))
@@ -198,6 +209,8 @@ has_spent o (Checks file) text status a h = clash status 0 5 a.3 h refl refl
 has_spent o (Rules file settings) text status a h = let g = going_at (end_of a.0) status a.1.1 h (stops (end_of a.0)) in (g, a.3.1 g.verdict)
 has_spent o (Journals file settings) text status a h = let g = going_at (end_of a.0) status a.1.1 h (stops (end_of a.0)) in (g, a.2.1 g.verdict)
 has_spent o (Saves file settings) text status a h = let g = going_at (end_of a.0) status a.1.1 h (stops (end_of a.0)) in (g, a.2.1 g.verdict)
+has_spent o (Resumes file name settings depth) text status a h = let g = going_at (stop_of a.0) status a.1.1 h (stops (stop_of a.0)) in (g, a.2.spent g.verdict)
+has_spent o (SavesAgain file name settings) text status a h = let g = going_at (stop_of a.0) status a.1.1 h (stops (stop_of a.0)) in (g, a.2.spent g.verdict)
 has_spent o (Replays file name depth) text status a h = going_at (end_of a.0) status a.1.1 h (stops (end_of a.0))
 has_spent o (Compares file name other) text status a h = said_going a.0 a.1 status a.2 a.4 h
 has_spent o (Traces file name budget depth) text status a h = let g = going_at (end_of a.0) status a.1.1 h (stops (end_of a.0)) in (g, a.3.1 g.verdict)
@@ -231,6 +244,10 @@ not_refused LongTrace n e h = no_report n 10 e h refl
 not_refused (NoTrace line) n e h = no_report n 10 e h refl
 not_refused (Unlawful entry) n e h = no_report n 10 e h refl
 not_refused Unfinished n e h = no_report n 10 e h refl
+not_refused LongCheckpoint n e h = no_report n 11 e h refl
+not_refused OtherCheckpoint n e h = no_report n 11 e h refl
+not_refused NoCheckpoint n e h = no_report n 11 e h refl
+not_refused Overspent n e h = no_report n 11 e h refl
 not_refused NoMemory n e h = no_report n 8 e h refl
 
 record WasWritten (c : Call) (status : ℕ) : Type 0 where

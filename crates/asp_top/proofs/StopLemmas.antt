@@ -18,7 +18,7 @@ use Rattle.asp_check.specs.declared.fault.CheckFault.{CheckFault}
 use Rattle.asp_check.specs.Faults.{IsChecked, IsFirstFault}
 use Rattle.asp_top.specs.declared.stop.Stop.{Stop}
 use Rattle.asp_top.specs.Seen.{Sight, Outside}
-use Rattle.asp_top.specs.Refusals.{Refusal, Usage, Unread, LongProgram, NoProgram, Unchecked, LongReport, NoReport, Diverges, LongTrace, NoTrace, Unlawful, Unfinished, NoMemory, status_of_refusal, message_of}
+use Rattle.asp_top.specs.Refusals.{Refusal, Usage, Unread, LongProgram, NoProgram, Unchecked, LongReport, NoReport, Diverges, LongTrace, NoTrace, Unlawful, Unfinished, LongCheckpoint, OtherCheckpoint, NoCheckpoint, Overspent, NoMemory, status_of_refusal, message_of}
 use Rattle.command_line.specs.Task.{TaskShape}
 use Rattle.asp_top.specs.Programs.{IsFile, IsText, IsProgramOf, NamesProgram}
 use Rattle.asp_top.specs.Endings.{HoldsFor, OfProgram}
@@ -80,6 +80,10 @@ refused_in_file o name bytes LongTrace f h = absurd h
 refused_in_file o name bytes (NoTrace line) f h = absurd h
 refused_in_file o name bytes (Unlawful entry) f h = absurd h
 refused_in_file o name bytes Unfinished f h = absurd h
+refused_in_file o name bytes LongCheckpoint f h = absurd h
+refused_in_file o name bytes OtherCheckpoint f h = absurd h
+refused_in_file o name bytes NoCheckpoint f h = absurd h
+refused_in_file o name bytes Overspent f h = absurd h
 refused_in_file o name bytes NoMemory f h = tt
 
 pub stops_in_file : (o : Outside) (name bytes : List ℕ) (r : Result Checked Stop) → IsFile o 0 name MOST_PROGRAM_BYTES bytes → IfErr r (StopsAt bytes) → IfErr r (StopsInFile o name)
@@ -100,6 +104,10 @@ no_program o task file named text LongTrace h = absurd h
 no_program o task file named text (NoTrace line) h = absurd h
 no_program o task file named text (Unlawful entry) h = absurd h
 no_program o task file named text Unfinished h = absurd h
+no_program o task file named text LongCheckpoint h = absurd h
+no_program o task file named text OtherCheckpoint h = absurd h
+no_program o task file named text NoCheckpoint h = absurd h
+no_program o task file named text Overspent h = absurd h
 no_program o task file named text NoMemory h = tt
 
 pub if_named : {S E : Type 0} (f : S → List ℕ) (r : Result S E) (a b : List ℕ) → a ≡ b → IfOk r (λ s. f s ≡ a) → IfOk r (λ s. f s ≡ b)

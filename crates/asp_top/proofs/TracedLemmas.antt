@@ -13,13 +13,13 @@ use Rattle.trace_text.specs.Traces.{read_trace}
 use Rattle.trace_check.specs.declared.error.TraceStop.{TraceStop}
 use Rattle.trace_check.specs.declared.error.TraceStop.TheVariants as checked
 use Rattle.trace_check.specs.Checks.{IsStop, IsUnfinished, IsUnlawfulAt}
-use Rattle.command_line.specs.Task.{TaskShape, Runs, Checks, Rules, Journals, Saves, Replays, Compares, Traces, Makes, task_of}
+use Rattle.command_line.specs.Task.{TaskShape, Runs, Checks, Rules, Journals, Saves, Resumes, SavesAgain, Replays, Compares, Traces, Makes, task_of}
 use Rattle.asp_top.specs.declared.stop.Stop.{Stop}
 use Rattle.asp_top.specs.declared.stop.Which.{Which}
 use Rattle.asp_top.specs.Seen.{Call, Outside, IsUntouched, Takes, outside_between}
-use Rattle.asp_top.specs.Programs.{IsFile, IsInFile, HasProgram, HasTrace, NamesTrace, AsksInTurn}
+use Rattle.asp_top.specs.Programs.{IsFile, IsInFile, HasProgram, HasTrace, NamesCheckpoint, NamesTrace, AsksInTurn}
 use Rattle.asp_top.specs.Correct.{Answers}
-use Rattle.asp_top.specs.Refusals.{Refusal, Usage, Unread, LongProgram, NoProgram, Unchecked, LongReport, NoReport, Diverges, LongTrace, NoTrace, Unlawful, Unfinished, NoMemory, status_of_refusal, message_of}
+use Rattle.asp_top.specs.Refusals.{Refusal, Usage, Unread, LongProgram, NoProgram, Unchecked, LongReport, NoReport, Diverges, LongTrace, NoTrace, Unlawful, Unfinished, LongCheckpoint, OtherCheckpoint, NoCheckpoint, Overspent, NoMemory, status_of_refusal, message_of}
 use Rattle.asp_top.specs.Endings.{Ends, Written, Refused, Unheard, Unwritten, IsCause, OfWords, OfMemory, OfTask, OfTrace, ComesToTrace, HoldsFor}
 use Rattle.asp_top.specs.Statuses.{CouldNot}
 use Rattle.asp_top.specs.Expected.{AsksNoTrace, IsUntracedFor, RefusesProgram, RefusesTrace, RefusesTraces}
@@ -50,6 +50,10 @@ trace_stops o place name program budget LongTrace h = h
 trace_stops o place name program budget (NoTrace line) h = h
 trace_stops o place name program budget (Unlawful entry) h = absurd h
 trace_stops o place name program budget Unfinished h = absurd h
+trace_stops o place name program budget LongCheckpoint h = h
+trace_stops o place name program budget OtherCheckpoint h = h
+trace_stops o place name program budget NoCheckpoint h = h
+trace_stops o place name program budget Overspent h = h
 trace_stops o place name program budget NoMemory h = h
 
 pub run_stops : (o : Outside) (name : List ℕ) (program : Tree) (budget : ℕ) (entries : List EntryShape) → HasTrace o 0 name entries → (s : TraceStop) → IsStop program budget entries s → StopsInRun o name program budget (checked_stop s)
@@ -84,6 +88,10 @@ module _ {S : Type 0} (told : S → SourceTells) (first middle last : S) (file :
   untraced_later place name program budget later (NoTrace line) h = (h.0, file_later told first middle last file names one two same place name MOST_TRACE_BYTES h.0 h.1, h.2)
   untraced_later place name program budget later (Unlawful entry) h = (h.0, trace_later place name h.0 h.1, h.2, h.3, h.4)
   untraced_later place name program budget later Unfinished h = (h.0, trace_later place name h.0 h.1, h.2)
+  untraced_later place name program budget later LongCheckpoint h = absurd h
+  untraced_later place name program budget later OtherCheckpoint h = absurd h
+  untraced_later place name program budget later NoCheckpoint h = absurd h
+  untraced_later place name program budget later Overspent h = absurd h
   untraced_later place name program budget later NoMemory h = tt
 
 -- why there is nothing of the trace of a task
@@ -108,6 +116,10 @@ module _ (o : Outside) (file name : List ℕ) (budget : ℕ) (depth : Option ℕ
   untraced (NoTrace line) h = record { program = program; name = name; budget = budget; comes = comes; bytes = h.0; file = h.1; reads = h.2 }
   untraced (Unlawful entry) h = record { program = program; name = name; budget = budget; comes = comes; entries = h.0; old = h.1; number = h.2; is = h.3; unlawful = h.4 }
   untraced Unfinished h = record { program = program; name = name; budget = budget; comes = comes; entries = h.0; old = h.1; unfinished = h.2 }
+  untraced LongCheckpoint h = absurd h
+  untraced OtherCheckpoint h = absurd h
+  untraced NoCheckpoint h = absurd h
+  untraced Overspent h = absurd h
   untraced NoMemory h = tt
 
 -- Traces that are refused
@@ -119,10 +131,26 @@ one_trace (Checks file) name other budget most h g = absurd h
 one_trace (Rules file settings) name other budget most h g = absurd h
 one_trace (Journals file settings) name other budget most h g = absurd h
 one_trace (Saves file settings) name other budget most h g = absurd h
+one_trace (Resumes file checkpoint settings depth) name other budget most h g = absurd h
+one_trace (SavesAgain file checkpoint settings) name other budget most h g = absurd h
 one_trace (Replays file report depth) name other budget most h g = absurd h
 one_trace (Compares file report second) name other budget most h g = absurd h
 one_trace (Traces file trace limit depth) name other budget most h g = (sym g.0 ∙ h.0, sym g.1 ∙ h.1)
 one_trace (Makes pairs settings) name other budget most h g = absurd h
+
+-- a task that names a trace names no checkpoint
+pub none_of_both : (task : TaskShape) (name other : List ℕ) (budget most : ℕ) → NamesTrace task name budget → NamesCheckpoint task other most → ⊥
+none_of_both (Runs file settings depth) name other budget most h g = h
+none_of_both (Checks file) name other budget most h g = h
+none_of_both (Rules file settings) name other budget most h g = h
+none_of_both (Journals file settings) name other budget most h g = h
+none_of_both (Saves file settings) name other budget most h g = h
+none_of_both (Resumes file checkpoint settings depth) name other budget most h g = h
+none_of_both (SavesAgain file checkpoint settings) name other budget most h g = h
+none_of_both (Replays file report depth) name other budget most h g = h
+none_of_both (Compares file report second) name other budget most h g = h
+none_of_both (Traces file trace limit depth) name other budget most h g = g
+none_of_both (Makes pairs settings) name other budget most h g = h
 
 -- where a task is answered, the trace that it names is one of its program that has ended
 record TracedAt (o : Outside) (task : TaskShape) (name : List ℕ) (budget : ℕ) : Type 0 where
@@ -138,6 +166,8 @@ traced_at o (Checks file) text status a name budget n = absurd n
 traced_at o (Rules file settings) text status a name budget n = absurd n
 traced_at o (Journals file settings) text status a name budget n = absurd n
 traced_at o (Saves file settings) text status a name budget n = absurd n
+traced_at o (Resumes file checkpoint settings depth) text status a name budget n = absurd n
+traced_at o (SavesAgain file checkpoint settings) text status a name budget n = absurd n
 traced_at o (Replays file report depth) text status a name budget n = absurd n
 traced_at o (Compares file report other) text status a name budget n = absurd n
 traced_at o (Traces file trace most depth) text status a name budget n = record {
@@ -195,6 +225,10 @@ module _ (c : Call) (a : AsksNoTrace c) where
       let read = ap read_trace (sym (told_as h.name h.old.bytes n.0 h.old.file)) ∙ h.old.reads in
       let unfinished = subst (λ (b : ℕ). IsUnfinished (plain h.program) b h.entries) n.1 h.unfinished in
       refused_by Unfinished h.program h.comes.given (h.entries, read, unfinished) u t status e
+  no_trace_end LongCheckpoint status h u t e = absurd (none_of_both a.task a.name h.name a.budget h.budget a.named h.comes.named)
+  no_trace_end OtherCheckpoint status h u t e = absurd (none_of_both a.task a.name h.name a.budget h.budget a.named h.comes.named)
+  no_trace_end NoCheckpoint status h u t e = absurd (none_of_both a.task a.name h.name a.budget h.budget a.named h.comes.named)
+  no_trace_end Overspent status h u t e = absurd (none_of_both a.task a.name h.name a.budget h.budget a.named h.comes.named)
   no_trace_end NoMemory status h u t e = inr (inr (inr (inr e)))
 
   no_trace_refused : (r : Refusal) (status : ℕ) → IsCause c r → IsUntouched c.out → Takes c.err (message_of r) → status ≡ status_of_refusal r → End status

@@ -22,10 +22,12 @@ use Rattle.trace_text.specs.Traces.{read_trace, trace_of}
 use Rattle.law_frozen.specs.Frozen.{frozen_of}
 use Rattle.checkpoint_text.specs.Lines.{checkpoint_text}
 use Rattle.checkpoint_runs.specs.Saved.{program_text}
-use Rattle.command_line.specs.Task.{TaskShape, Runs, Checks, Rules, Journals, Saves, Replays, Compares, Traces, Makes, task_of}
+use Rattle.command_line.specs.Task.{TaskShape, Runs, Checks, Rules, Journals, Saves, Resumes, SavesAgain}
+use Rattle.command_line.specs.Task.{Replays, Compares, Traces, Makes, task_of}
 use Rattle.asp_top.specs.Seen.{Call, Outside, IsUntouched, Takes}
 use Rattle.asp_top.specs.Programs.{HasProgram, HasReplay, HasReport, HasTrace}
 use Rattle.asp_top.specs.Rulings.{IsOnlyEnd}
+use Rattle.asp_top.specs.Resumes.{IsNextCheckpoint, IsWithinBoth, ReportsBoth, ResumedOf, WasSaved, stop_of}
 use Rattle.asp_top.specs.Comparisons.{Said, IsSo, status_said, text_said}
 
 -- logs and counts that fit the program of a task
@@ -84,6 +86,20 @@ IsLeft r budget text =
     ((verdict_of (end_of r) ≡ Budget) × IsCheckpoint r.program budget (end_of r) text)
     ⊎ ((verdict_of (end_of r) ≢ Budget) × (text ≡ report_at None (end_of r)) × (read_report text ≡ Reads r.lists r.counts))
 
+-- the report of where a run went on to from a checkpoint; if that was saved by a run of the program, it is the report
+-- of both halves
+abbrev pub IsLaterReport : {o : Outside} {task : TaskShape} {name : List ℕ} {budget : ℕ} → ResumedOf o task name budget
+    → Option ℕ → List ℕ → ℕ → Type 0
+IsLaterReport r depth text status = (text ≡ report_at depth (stop_of r))
+    × (WasSaved r → ReportsBoth (plain r.program) r.frozen (stop_of r) depth text status)
+
+-- where the budget ran out the next checkpoint, and else such a report
+abbrev pub IsLeftLater : {o : Outside} {task : TaskShape} {name : List ℕ} {budget : ℕ} → ResumedOf o task name budget
+    → List ℕ → ℕ → Type 0
+IsLeftLater r text status =
+    ((verdict_of (stop_of r) ≡ Budget) × IsNextCheckpoint r.program r.bytes r.run text)
+    ⊎ ((verdict_of (stop_of r) ≢ Budget) × IsLaterReport r None text status)
+
 -- the file of this name is the trace of such a journal
 pub record IsTraced (o : Outside) (name : List ℕ) (program : Tree) (budget : ℕ) (c : Configuration) : Type 0 where
   pub entries : List EntryShape
@@ -122,6 +138,15 @@ Answers o (Journals file settings) text status = (r : ReplayOf o (Journals file 
 Answers o (Saves file settings) text status = (r : ReplayOf o (Saves file settings))
     × (IsLeft r settings.budget text × (status ≡ exit_status (outcome_of (end_of r))))
     × IsWithin settings.budget r.counts (end_of r)
+-- `asp FILE --resume C`: the report, at the depth asked for, of where a lawful journal leads that goes on from the
+-- checkpoint in the file C; the status is that of this end
+Answers o (Resumes file name settings depth) report status =
+    (r : ResumedOf o (Resumes file name settings depth) name settings.budget)
+    × (IsLaterReport r depth report status × (status ≡ exit_status (outcome_of (stop_of r)))) × IsWithinBoth r
+-- `asp FILE --resume C --save`: where the budget ran out the checkpoint of that end, and else its report without states
+Answers o (SavesAgain file name settings) text status =
+    (r : ResumedOf o (SavesAgain file name settings) name settings.budget)
+    × (IsLeftLater r text status × (status ≡ exit_status (outcome_of (stop_of r)))) × IsWithinBoth r
 -- `asp FILE --replay REPORT`: the report of the replay under those that the file REPORT reads as
 Answers o (Replays file name depth) report status = (r : ReplayOf o (Replays file name depth))
     × Tells (report_at depth) (end_of r) report status × HasReport o 1 name r.lists r.counts

@@ -5,9 +5,11 @@ use Rattle.law_steps.specs.Joins.{AreNarrow}
 use Rattle.command_line.specs.Settings.{SettingsShape}
 use Rattle.law_services.specs.Services.{AreServedAlike}
 use Rattle.replay_services.specs.Compares.{AreStuck}
-use Rattle.command_line.specs.Task.{Runs, Journals, Compares, Traces}
+use Rattle.command_line.specs.Task.{Runs, Journals, Saves, Resumes, Compares, Traces}
+use Rattle.law_program_files.specs.Programs.{IsFileOf}
 use Rattle.asp_top.specs.Seen.{Outside}
 use Rattle.asp_top.specs.Comparisons.{Same, ShowAlike, text_said}
+use Rattle.asp_top.specs.Resumes.{ReportsBoth, stop_of}
 use Rattle.asp_top.specs.Correct.{Answers, end_of, report_at}
 use Rattle.asp_top.specs.Expected.{IsTraceOf}
 
@@ -57,3 +59,14 @@ JournalsAreAccepted = (o : Outside) (file : List ℕ) (settings : SettingsShape)
     → (b : Answers p (Traces other name settings.budget depth) report code)
     → plain b.0.program ≡ plain a.0.program → b.4.old.bytes ≡ text
     → (report ≡ report_at depth (end_of a.0)) × (code ≡ status))
+
+-- what `--save` writes with status 5 is the checkpoint of where a run of the program stood; and what a call writes as
+-- the report of a run that went on from it, under whatever settings, is the report of both halves
+abbrev pub SavesAreResumed : Type 0
+SavesAreResumed = (o : Outside) (file : List ℕ) (settings : SettingsShape) (text : List ℕ) (status : ℕ)
+    → (a : Answers o (Saves file settings) text status) → status ≡ 5
+    → IsFileOf a.0.program text
+    × ((p : Outside) (other name : List ℕ) (later : SettingsShape) (depth : Option ℕ) (report : List ℕ) (code : ℕ)
+    → (b : Answers p (Resumes other name later depth) report code)
+    → b.0.program ≡ a.0.program → b.0.bytes ≡ text
+    → ReportsBoth (plain b.0.program) b.0.frozen (stop_of b.0) depth report code)

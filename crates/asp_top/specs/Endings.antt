@@ -1,6 +1,7 @@
 -- How a call ends, case by case: read `Ends` first.
 use Rattle.std.specs.Prelude.{◌≡◌, ◌⊎◌, ℕ, ◌+◌, List, Some, None}
 use Rattle.asp_model.specs.declared.limits.TheConstants.{MOST_PROGRAM_BYTES, MOST_REPORT_BYTES, MOST_TRACE_BYTES}
+use Rattle.asp_model.specs.declared.limits.TheConstants.{MOST_CHECKPOINT_BYTES}
 use Rattle.asp_model.specs.History.{EntryShape}
 use Rattle.asp_model.specs.Names.{Name}
 use Rattle.asp_model.specs.Marked.{Marked, plain}
@@ -16,15 +17,19 @@ use Rattle.asp_check.specs.Faults.{IsChecked, IsFirstFault}
 use Rattle.trace_text.specs.Traces as Trace
 use Rattle.trace_text.specs.Traces.{read_trace}
 use Rattle.trace_check.specs.Checks.{IsUnfinished, IsUnlawfulAt}
+use Rattle.run_files.specs.declared.stop.FileStop.{FileStop}
+use Rattle.run_files.specs.declared.stop.FileStop.TheVariants as why
+use Rattle.run_files.specs.Files.{StopsFile}
 use Rattle.command_line.specs.Task.{TaskShape, task_of}
 use Rattle.asp_top.specs.declared.stop.Which.{Which}
 use Rattle.asp_top.specs.declared.stop.Which.TheVariants.{First, Second}
 use Rattle.asp_top.specs.Seen.{Call, Outside, ReadFails, IsLong, IsUntouched, Takes, TakesFront}
 use Rattle.asp_top.specs.Refusals.{Refusal, Usage, Unread, LongProgram, NoProgram, Unchecked, NoMemory}
 use Rattle.asp_top.specs.Refusals.{LongReport, NoReport, Diverges, LongTrace, NoTrace, Unlawful, Unfinished}
+use Rattle.asp_top.specs.Refusals.{LongCheckpoint, OtherCheckpoint, NoCheckpoint, Overspent}
 use Rattle.asp_top.specs.Refusals.{status_of_refusal, message_of, write_message}
 use Rattle.asp_top.specs.Programs.{IsFile, IsText, HasProgram, HasReplay, HasReport, HasTrace}
-use Rattle.asp_top.specs.Programs.{NamesProgram, NamesReport, NamesTrace, place_of}
+use Rattle.asp_top.specs.Programs.{NamesProgram, NamesReport, NamesTrace, NamesCheckpoint, place_of}
 use Rattle.asp_top.specs.Correct.{Answers}
 
 -- the bytes are no program, and this is their first fault
@@ -129,12 +134,38 @@ pub record HasUnfinished (o : Outside) (task : TaskShape) : Type 0 where
   pub old : HasTrace o 1 name entries
   pub unfinished : IsUnfinished (plain program) budget entries
 
--- a file could not be read: the program's, or a report or a trace to which the task comes
+-- the task has a program, and comes to a checkpoint of it, from which a run goes on with this budget
+pub record ComesToCheckpoint (o : Outside) (task : TaskShape) (name : List ℕ) (budget : ℕ) (program : Marked)
+    : Type 0 where
+  pub given : HasProgram o task program
+  pub named : NamesCheckpoint task name budget
+
+-- the checkpoint is too long
+pub record HasLongCheckpoint (o : Outside) (task : TaskShape) : Type 0 where
+  pub program : Marked
+  pub name : List ℕ
+  pub budget : ℕ
+  pub comes : ComesToCheckpoint o task name budget program
+  pub long : IsLong o 1 name MOST_CHECKPOINT_BYTES
+
+-- no run goes on from it, for this cause
+pub record HasNoResume (o : Outside) (task : TaskShape) (stop : FileStop) : Type 0 where
+  pub program : Marked
+  pub name : List ℕ
+  pub budget : ℕ
+  pub comes : ComesToCheckpoint o task name budget program
+  pub bytes : List ℕ
+  pub file : IsFile o 1 name MOST_CHECKPOINT_BYTES bytes
+  pub stops : StopsFile program bytes budget stop
+
+-- a file could not be read: the program's, or a report, a trace or a checkpoint to which the task comes
 pub data IsUnread (o : Outside) (task : TaskShape) (name : List ℕ) : Type 0 where
   OfProgram : NamesProgram task name → ReadFails o 0 name → IsUnread o task name
   OfReport : (which : Which) (program : Marked) → ComesTo o task which name program
       → ReadFails o (place_of which) name → IsUnread o task name
   OfTrace : (budget : ℕ) (program : Marked) → ComesToTrace o task name budget program
+      → ReadFails o 1 name → IsUnread o task name
+  OfCheckpoint : (budget : ℕ) (program : Marked) → ComesToCheckpoint o task name budget program
       → ReadFails o 1 name → IsUnread o task name
 
 -- the cause of a refusal of a task
@@ -153,6 +184,10 @@ HoldsFor o task LongTrace = HasLongTrace o task
 HoldsFor o task (NoTrace line) = HasNoTrace o task line
 HoldsFor o task (Unlawful entry) = HasUnlawful o task entry
 HoldsFor o task Unfinished = HasUnfinished o task
+HoldsFor o task LongCheckpoint = HasLongCheckpoint o task
+HoldsFor o task OtherCheckpoint = HasNoResume o task why.OtherProgram
+HoldsFor o task NoCheckpoint = HasNoResume o task why.Malformed
+HoldsFor o task Overspent = HasNoResume o task why.TooMany
 HoldsFor o task NoMemory = Unit {0}
 
 -- the cause of a refusal: the words ask for nothing, memory ran out, or it is one of the task

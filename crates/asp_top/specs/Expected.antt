@@ -1,6 +1,7 @@
 -- Which status is to come: all of it follows from `Ends`.
 use Rattle.std.specs.Prelude.{◌≡◌, ◌⊎◌, ℕ, ◌+◌, ◌≤◌, ◌<◌, List, length, Option, Some, Ok}
 use Rattle.asp_model.specs.declared.limits.TheConstants.{MOST_PROGRAM_BYTES, MOST_REPORT_BYTES, MOST_TRACE_BYTES}
+use Rattle.asp_model.specs.declared.limits.TheConstants.{MOST_CHECKPOINT_BYTES}
 use Rattle.asp_model.specs.History.{EntryShape}
 use Rattle.asp_model.specs.Marked.{Marked, plain}
 use Rattle.asp_model.specs.Term.{Tree}
@@ -14,13 +15,19 @@ use Rattle.law_traces.specs.Standings.{IsEndedJournal}
 use Rattle.trace_text.specs.Traces as Trace
 use Rattle.trace_text.specs.Traces.{read_trace}
 use Rattle.trace_check.specs.Checks.{IsUnfinished, IsUnlawfulAt}
-use Rattle.command_line.specs.Task.{TaskShape, Runs, Checks, Rules, Journals, Saves, Replays, Compares, Traces, Makes, task_of}
+use Rattle.law_frozen.specs.Frozen.{FrozenShape}
+use Rattle.run_files.specs.declared.stop.FileStop.TheVariants as why
+use Rattle.run_files.specs.Files.{HasRoom, IsReadAs, StopsFile}
+use Rattle.command_line.specs.Task.{TaskShape, Runs, Checks, Rules, Journals, Saves, Resumes, SavesAgain}
+use Rattle.command_line.specs.Task.{Replays, Compares, Traces, Makes, task_of}
 use Rattle.asp_top.specs.declared.stop.Which.{Which}
 use Rattle.asp_top.specs.declared.stop.Which.TheVariants.{First, Second}
 use Rattle.asp_top.specs.Seen.{Call, Outside, Gave, SomeReadFails, IsUntouched, Takes, Fails}
 use Rattle.asp_top.specs.Refusals.{Refusal, LongReport, NoReport, Diverges, message_of}
 use Rattle.asp_top.specs.Refusals.{LongTrace, NoTrace, Unlawful, Unfinished}
-use Rattle.asp_top.specs.Programs.{IsProgramOf, HasProgram, NamesProgram, NamesReport, NamesTrace, place_of}
+use Rattle.asp_top.specs.Refusals.{LongCheckpoint, OtherCheckpoint, NoCheckpoint, Overspent}
+use Rattle.asp_top.specs.Programs.{IsProgramOf, HasProgram, NamesProgram, NamesReport, NamesTrace}
+use Rattle.asp_top.specs.Programs.{NamesCheckpoint, place_of}
 use Rattle.asp_top.specs.Correct.{IsReported}
 use Rattle.asp_top.specs.Endings.{HoldsFor}
 use Rattle.asp_top.specs.Statuses.{CouldNot, IsUnfit}
@@ -40,6 +47,8 @@ HasText o (Checks file) bytes = HasShort o 0 file MOST_PROGRAM_BYTES bytes
 HasText o (Rules file settings) bytes = HasShort o 0 file MOST_PROGRAM_BYTES bytes
 HasText o (Journals file settings) bytes = HasShort o 0 file MOST_PROGRAM_BYTES bytes
 HasText o (Saves file settings) bytes = HasShort o 0 file MOST_PROGRAM_BYTES bytes
+HasText o (Resumes file name settings depth) bytes = HasShort o 0 file MOST_PROGRAM_BYTES bytes
+HasText o (SavesAgain file name settings) bytes = HasShort o 0 file MOST_PROGRAM_BYTES bytes
 HasText o (Replays file name depth) bytes = HasShort o 0 file MOST_PROGRAM_BYTES bytes
 HasText o (Compares file name other) bytes = HasShort o 0 file MOST_PROGRAM_BYTES bytes
 HasText o (Traces file trace budget depth) bytes = HasShort o 0 file MOST_PROGRAM_BYTES bytes
@@ -73,8 +82,17 @@ abbrev pub MayTrace : Outside → TaskShape → Marked → Type 0
 MayTrace o task program = (name : List ℕ) (budget : ℕ) → NamesTrace task name budget
     → (bytes : List ℕ) × HasShort o 1 name MOST_TRACE_BYTES bytes × IsTraceOf (plain program) budget bytes
 
+-- these bytes are a checkpoint of the program, and a run goes on from it with this budget
+abbrev pub IsCheckpointOf : Marked → ℕ → List ℕ → Type 0
+IsCheckpointOf program budget bytes = (f : FrozenShape) × IsReadAs program bytes f × HasRoom f budget
+
+-- the source has such a checkpoint where one is named, and it is short enough
+abbrev pub MayResume : Outside → TaskShape → Marked → Type 0
+MayResume o task program = (name : List ℕ) (budget : ℕ) → NamesCheckpoint task name budget
+    → (bytes : List ℕ) × HasShort o 1 name MOST_CHECKPOINT_BYTES bytes × IsCheckpointOf program budget bytes
+
 -- the words ask for a task, the source has its files, and they are short enough, a checked program, reports
--- that fit it and traces of it that have ended; no read fails, and no sink
+-- that fit it, traces of it that have ended and checkpoints from which a run goes on; no read fails, and no sink
 pub record MayAnswer (c : Call) : Type 0 where
   pub task : TaskShape
   pub asked : task_of c.words ≡ Some task
@@ -84,6 +102,7 @@ pub record MayAnswer (c : Call) : Type 0 where
   pub is : IsProgramOf bytes program
   pub replays : MayReplay c.outside task program
   pub traces : MayTrace c.outside task program
+  pub resumes : MayResume c.outside task program
   pub read : SomeReadFails c.outside → ⊥
   pub out_takes : Fails c.out → ⊥
   pub err_takes : Fails c.err → ⊥
@@ -178,6 +197,39 @@ pub record RefusesTrace (c : Call) (a : AsksNoTrace c) (status : ℕ) : Type 0 w
   pub untouched : IsUntouched c.out
   pub answered : status ≡ 10
 
+-- the words name a checkpoint, and the source has it, and it is too long, or no run of the program in the file goes on
+-- from it with the budget
+pub record AsksNoResume (c : Call) : Type 0 where
+  pub task : TaskShape
+  pub asked : task_of c.words ≡ Some task
+  pub name : List ℕ
+  pub budget : ℕ
+  pub named : NamesCheckpoint task name budget
+  pub checkpoint : List ℕ
+  pub had : Has c.outside 1 name checkpoint
+  pub unfit : (MOST_CHECKPOINT_BYTES < length checkpoint) ⊎ ((program : Marked)
+      → HasProgram c.outside task program → IsCheckpointOf program budget checkpoint → ⊥)
+
+-- why a checkpoint, in these bytes, is refused for a program and a budget, tried in this order: it is too long; or its
+-- second line has another program; or it is none, or not sound, or beyond its limits; or its counts and the budget are
+-- too many
+abbrev pub IsUnresumedFor : Marked → ℕ → List ℕ → Refusal → Type 0
+IsUnresumedFor program budget bytes LongCheckpoint = MOST_CHECKPOINT_BYTES < length bytes
+IsUnresumedFor program budget bytes OtherCheckpoint = StopsFile program bytes budget why.OtherProgram
+IsUnresumedFor program budget bytes NoCheckpoint = StopsFile program bytes budget why.Malformed
+IsUnresumedFor program budget bytes Overspent = StopsFile program bytes budget why.TooMany
+IsUnresumedFor program budget bytes r = ⊥
+
+-- the checkpoint is refused for the program in the file, and one message tells why
+pub record RefusesCheckpoint (c : Call) (a : AsksNoResume c) (status : ℕ) : Type 0 where
+  pub program : Marked
+  pub given : HasProgram c.outside a.task program
+  pub refusal : Refusal
+  pub cause : IsUnresumedFor program a.budget a.checkpoint refusal
+  pub told : Takes c.err (message_of refusal)
+  pub untouched : IsUntouched c.out
+  pub answered : status ≡ 11
+
 -- what a good call gets
 abbrev pub Completes : Call → ℕ → Type 0
 Completes c status = MayAnswer c → IsReported status ⊎ (status ≡ 8)
@@ -199,6 +251,11 @@ RefusesReports c status =
 abbrev pub RefusesTraces : Call → ℕ → Type 0
 RefusesTraces c status =
     (a : AsksNoTrace c) → RefusesTrace c a status ⊎ RefusesProgram c status ⊎ CouldNot c status
+
+-- what a checkpoint gets from which no run of the program in the file goes on, unless there is none
+abbrev pub RefusesCheckpoints : Call → ℕ → Type 0
+RefusesCheckpoints c status =
+    (a : AsksNoResume c) → RefusesCheckpoint c a status ⊎ RefusesProgram c status ⊎ CouldNot c status
 
 -- the words are refused, unless that cannot be told
 abbrev pub IsUsageEnd : ℕ → Type 0

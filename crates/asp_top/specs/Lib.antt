@@ -3,6 +3,7 @@ pub mod Seen
 pub mod Programs
 pub mod Rulings
 pub mod Comparisons
+pub mod Resumes
 pub mod Correct
 pub mod Refusals
 pub mod Endings
@@ -13,3 +14,4 @@ pub mod Stops
 pub mod Ready
 pub mod Replayed
 pub mod Traced
+pub mod Resumed

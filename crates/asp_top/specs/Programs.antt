@@ -13,7 +13,8 @@ use Rattle.asp_edge.specs.Causes.{IsContent}
 use Rattle.load_gen.specs.Generated.{generated}
 use Rattle.trace_text.specs.Traces as Trace
 use Rattle.trace_text.specs.Traces.{read_trace}
-use Rattle.command_line.specs.Task.{TaskShape, Runs, Checks, Rules, Journals, Saves, Replays, Compares, Traces, Makes, task_of}
+use Rattle.command_line.specs.Task.{TaskShape, Runs, Checks, Rules, Journals, Saves, Resumes, SavesAgain}
+use Rattle.command_line.specs.Task.{Replays, Compares, Traces, Makes, task_of}
 use Rattle.asp_top.specs.declared.stop.Which.{Which}
 use Rattle.asp_top.specs.declared.stop.Which.TheVariants.{First, Second}
 use Rattle.asp_top.specs.Seen.{Outside, Asked, Gave}
@@ -32,6 +33,8 @@ IsText o (Checks file) bytes = IsFile o 0 file MOST_PROGRAM_BYTES bytes
 IsText o (Rules file settings) bytes = IsFile o 0 file MOST_PROGRAM_BYTES bytes
 IsText o (Journals file settings) bytes = IsFile o 0 file MOST_PROGRAM_BYTES bytes
 IsText o (Saves file settings) bytes = IsFile o 0 file MOST_PROGRAM_BYTES bytes
+IsText o (Resumes file checkpoint settings depth) bytes = IsFile o 0 file MOST_PROGRAM_BYTES bytes
+IsText o (SavesAgain file checkpoint settings) bytes = IsFile o 0 file MOST_PROGRAM_BYTES bytes
 IsText o (Replays file report depth) bytes = IsFile o 0 file MOST_PROGRAM_BYTES bytes
 IsText o (Compares file report other) bytes = IsFile o 0 file MOST_PROGRAM_BYTES bytes
 IsText o (Traces file trace budget depth) bytes = IsFile o 0 file MOST_PROGRAM_BYTES bytes
@@ -87,6 +90,8 @@ NamesProgram (Checks file) name = file ≡ name
 NamesProgram (Rules file settings) name = file ≡ name
 NamesProgram (Journals file settings) name = file ≡ name
 NamesProgram (Saves file settings) name = file ≡ name
+NamesProgram (Resumes file checkpoint settings depth) name = file ≡ name
+NamesProgram (SavesAgain file checkpoint settings) name = file ≡ name
 NamesProgram (Replays file report depth) name = file ≡ name
 NamesProgram (Compares file report other) name = file ≡ name
 NamesProgram (Traces file trace budget depth) name = file ≡ name
@@ -104,6 +109,12 @@ abbrev pub NamesTrace : TaskShape → List ℕ → ℕ → Type 0
 NamesTrace (Traces file trace budget depth) name most = (trace ≡ name) × (budget ≡ most)
 NamesTrace task name most = ⊥
 
+-- and this for a checkpoint of it, from which a run goes on with this budget
+abbrev pub NamesCheckpoint : TaskShape → List ℕ → ℕ → Type 0
+NamesCheckpoint (Resumes file checkpoint settings depth) name most = (checkpoint ≡ name) × (settings.budget ≡ most)
+NamesCheckpoint (SavesAgain file checkpoint settings) name most = (checkpoint ≡ name) × (settings.budget ≡ most)
+NamesCheckpoint task name most = ⊥
+
 -- where a report is asked for
 abbrev pub place_of : Which → ℕ
 place_of First = 1
@@ -116,6 +127,8 @@ files_of (Checks file) = file ∷ []
 files_of (Rules file settings) = file ∷ []
 files_of (Journals file settings) = file ∷ []
 files_of (Saves file settings) = file ∷ []
+files_of (Resumes file checkpoint settings depth) = file ∷ checkpoint ∷ []
+files_of (SavesAgain file checkpoint settings) = file ∷ checkpoint ∷ []
 files_of (Replays file report depth) = file ∷ report ∷ []
 files_of (Compares file report other) = file ∷ report ∷ other ∷ []
 files_of (Traces file trace budget depth) = file ∷ trace ∷ []
@@ -137,6 +150,7 @@ pub record AsksInTurn (o : Outside) (names : List (List ℕ)) : Type 0 where
   pub asked : Asked o asks
   pub turn : InTurn names asks
 
--- nothing was asked in the call but the files that the words name, in turn: the program's, then reports or a trace
+-- nothing was asked in the call but the files that the words name, in turn: the program's, then reports, a trace or a
+-- checkpoint
 abbrev pub ReadsFiles : List (List ℕ) → Outside → Type 0
 ReadsFiles words o = AsksInTurn o (files_in (task_of words))

@@ -29,6 +29,13 @@ pub data Refusal : Type 0 where
   -- by the number, from 1, of its first entry that is not lawful
   Unlawful : (entry : ℕ) → Refusal
   Unfinished : Refusal
+  LongCheckpoint : Refusal
+  -- the checkpoint is one of another program
+  OtherCheckpoint : Refusal
+  -- it is none, or no run can go on from it
+  NoCheckpoint : Refusal
+  -- it has counted too many reductions for the budget
+  Overspent : Refusal
   NoMemory : Refusal
 
 abbrev pub status_of_refusal : Refusal → ℕ
@@ -44,6 +51,10 @@ status_of_refusal LongTrace = 10
 status_of_refusal (NoTrace line) = 10
 status_of_refusal (Unlawful entry) = 10
 status_of_refusal Unfinished = 10
+status_of_refusal LongCheckpoint = 11
+status_of_refusal OtherCheckpoint = 11
+status_of_refusal NoCheckpoint = 11
+status_of_refusal Overspent = 11
 status_of_refusal NoMemory = 8
 
 abbrev pub kind_text : SyntaxKind → List ℕ
@@ -99,6 +110,10 @@ message_of (NoTrace line) = bad_line (codes "trace") line
 -- an entry stands in the line behind its number
 message_of (Unlawful entry) = bad_line (codes "trace") (entry + 1)
 message_of Unfinished = with_feed (codes "asp: trace: unfinished")
+message_of LongCheckpoint = with_feed (codes "asp: resume: longer than 268435456 bytes")
+message_of OtherCheckpoint = with_feed (codes "asp: resume: another program")
+message_of NoCheckpoint = with_feed (codes "asp: resume: malformed")
+message_of Overspent = with_feed (codes "asp: resume: more than 10000000 reductions")
 message_of NoMemory = with_feed (codes "asp: no memory")
 
 abbrev pub write_message : List ℕ

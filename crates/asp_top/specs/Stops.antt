@@ -25,6 +25,8 @@ use Rattle.trace_text.specs.declared.error.TraceError.{TraceError}
 use Rattle.trace_text.specs.declared.error.TraceError.TheVariants as trace
 use Rattle.trace_check.specs.declared.error.TraceStop.{TraceStop}
 use Rattle.trace_check.specs.declared.error.TraceStop.TheVariants as checked
+use Rattle.run_files.specs.declared.stop.FileStop.{FileStop}
+use Rattle.run_files.specs.declared.stop.FileStop.TheVariants as files
 use Rattle.command_line.specs.declared.error.WordsError.{WordsError}
 use Rattle.command_line.specs.declared.error.WordsError.TheVariants as words
 use Rattle.command_line.specs.Task.{TaskShape}
@@ -35,6 +37,7 @@ use Rattle.asp_top.specs.Seen.{Outside, Asked, ReadFails, IsLong, bytes_of}
 use Rattle.asp_top.specs.Programs.{IsFile, IsInFile}
 use Rattle.asp_top.specs.Refusals.{Refusal, Usage, Unread, LongProgram, NoProgram, Unchecked, NoMemory}
 use Rattle.asp_top.specs.Refusals.{LongReport, NoReport, Diverges, LongTrace, NoTrace, Unlawful, Unfinished}
+use Rattle.asp_top.specs.Refusals.{LongCheckpoint, OtherCheckpoint, NoCheckpoint, Overspent}
 use Rattle.asp_top.specs.Endings.{IsFaultyText, IsUncheckedText, Holds, HoldsFor}
 
 abbrev pub refusal_of : Stop → Refusal
@@ -50,6 +53,10 @@ refusal_of stops.LongTrace = LongTrace
 refusal_of (stops.NoTrace line) = NoTrace line
 refusal_of (stops.Unlawful entry) = Unlawful entry
 refusal_of stops.Unfinished = Unfinished
+refusal_of stops.LongCheckpoint = LongCheckpoint
+refusal_of stops.OtherCheckpoint = OtherCheckpoint
+refusal_of stops.NoCheckpoint = NoCheckpoint
+refusal_of stops.Overspent = Overspent
 refusal_of stops.Memory = NoMemory
 
 -- the stops that errors are
@@ -82,6 +89,12 @@ abbrev pub checked_stop : TraceStop → Stop
 checked_stop (checked.Unlawful entry) = stops.Unlawful entry
 checked_stop checked.Unfinished = stops.Unfinished
 checked_stop checked.Memory = stops.Memory
+
+abbrev pub file_stop : FileStop → Stop
+file_stop files.OtherProgram = stops.OtherCheckpoint
+file_stop files.Malformed = stops.NoCheckpoint
+file_stop files.TooMany = stops.Overspent
+file_stop files.Memory = stops.Memory
 
 -- the checked program that the code holds
 abbrev pub program_in : Checked → Marked

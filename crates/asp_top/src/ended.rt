@@ -1,6 +1,6 @@
 //! What two calls say of each other.
 
-ghost use Rattle.asp_top.specs.Ended.{ComparisonsAreExact, EndedRunsPrintTheSame, JournalsAreAccepted, OneSenderPrintsTheSame};
+ghost use Rattle.asp_top.specs.Ended.{ComparisonsAreExact, EndedRunsPrintTheSame, JournalsAreAccepted, OneSenderPrintsTheSame, SavesAreResumed};
 
 /// Two runs of one program that have ended, whose reports show states to one depth and read as
 /// equal logs, print equal bytes.
@@ -24,4 +24,10 @@ pub fn comparisons_are_exact()
 /// the report of the run, at every depth, with its status.
 pub fn journals_are_accepted()
     ensures { JournalsAreAccepted }
+{}
+
+/// What `--save` writes where the budget runs out is a checkpoint of its program's run, and from it
+/// `--resume` writes the report of both halves: that of a replay of the whole program.
+pub fn saves_are_resumed()
+    ensures { SavesAreResumed }
 {}

@@ -10,40 +10,36 @@ ghost use Rattle.law_reports.specs.Depths.{report_to};
 ghost use Rattle.run_ends.specs.Ends.{IsEndOf};
 ghost use Rattle.run_report.specs.Rulings.{ruled_report};
 ghost use Rattle.run_report.specs.Summary.{summary_of};
-ghost use Rattle.run_saves.specs.Saved.{IsSavedRun};
 ghost use Rattle.run_traces.specs.Traced.{IsTracedRun};
-ghost use Rattle.command_line.specs.Task.{Runs, Checks, Rules, Journals, Saves, Replays, Compares, Traces, Makes, IsWithin};
+ghost use Rattle.command_line.specs.Task.{Runs, Checks, Rules, Journals, Replays, Compares, Traces, Makes, IsWithin};
 ghost use Rattle.command_line.specs.Settings.{IsSettings};
 ghost use Rattle.command_line.specs.Shapes.{settings_shape, task_shape};
 ghost use Rattle.asp_top.specs.Seen.{Outside, bytes_of, outside};
 ghost use Rattle.asp_top.specs.Programs.{AsksInTurn, ReadsFiles, files_of};
-ghost use Rattle.asp_top.specs.Stops.{AsksOnce, IsRunOf, IsSavedRunOf, IsTracedRunOf, StopsInFile, StopsTask, StopsWords, program_in};
+ghost use Rattle.asp_top.specs.Stops.{AsksOnce, IsRunOf, IsTracedRunOf, StopsInFile, StopsTask, StopsWords};
 ghost use Rattle.asp_top.specs.Ready.{IsReady, IsReadyFor, text_in};
 
 use crate::comparing::compare_reports;
 use crate::letting_go::let_go;
 use crate::programs::{checked_in, program_of};
 use crate::reports::end_in;
+use crate::resuming::{prepare_resume, prepare_save_again};
+use crate::saving::prepare_save;
 use crate::stop::Stop;
 use crate::traces::traced_in;
 use asp_check::Checked;
 use asp_edge::Source;
 use asp_model::{MOST_PAIRS, MOST_REDUCTIONS, Outcome, Word, exit_number};
-use code_reading::DecodeError;
 use command_line::{Settings, Task, read_words};
 use load_gen::make;
 use run_ends::RunEnd;
 use run_report::{render, render_ruled, summarize};
-use run_saves::{Saved, run_saved};
 use run_traces::{Traced, run_traced};
 use std::alloc::{AllocError, Global};
 use std::sync::Wait;
 use std::thread::Threads;
 use update_policy::Policies;
 use worker_pool::{Gate, Settings as Racing, run};
-
-/// The status of a run whose budget ran out.
-const BUDGET_STATUS: u8 = 5;
 
 /// A text that is ready to be written, piece by piece, and the status that goes with it.
 #[derive(Drop)]
@@ -267,79 +263,6 @@ fn prepare_journal<'a, R: Threads + Wait + Sync, S: Source, G: Gate>(
     Ok(Prepared { status, pieces })
 }
 
-// Runs the program as the settings ask, and writes its checkpoint where the budget runs out.
-fn raced_and_saved<R: Threads + Wait + Sync, G: Gate>(
-    rt: &R,
-    alloc: Global,
-    program: &Checked,
-    settings: Settings,
-    policies: Policies,
-    gate: &G,
-) -> Result<Saved, DecodeError>
-    requires within { IsSettings (settings_shape settings) }
-    ensures saved { IfOk result (IsSavedRun (program_in program.now) settings.budget) }
-{
-    let racing = Racing {
-        workers: settings.workers,
-        budget: settings.budget,
-        plan: settings.plan,
-    };
-    run_saved(rt, alloc, program, racing, policies, gate)
-}
-
-// Runs the program in the file of this name, and writes its checkpoint where the budget runs out.
-fn save_file<'a, R: Threads + Wait + Sync, S: Source, G: Gate>(
-    rt: &R,
-    alloc: Global,
-    file: &'a str,
-    settings: Settings,
-    source: &mut S,
-    policies: Policies,
-    gate: &G,
-) -> Result<Saved, Stop<'a>>
-    requires within { IsSettings (settings_shape settings) }
-    ensures ran { let name = file.entry.now in
-        IfOk result (IsSavedRunOf (outside S.told source) name settings.budget) }
-    ensures stop { IfErr result (StopsInFile (outside S.told source) file.entry.now) }
-    ensures asked { AsksOnce (outside S.told source) file.entry.now }
-{
-    let checked = program_of(alloc, file, source)?;
-    let saved = raced_and_saved(rt, alloc, &checked, settings, policies, gate);
-    drop(checked);
-    Ok(saved?)
-}
-
-fn prepare_save<'a, R: Threads + Wait + Sync, S: Source, G: Gate>(
-    rt: &R,
-    alloc: Global,
-    file: &'a str,
-    settings: Settings,
-    source: &mut S,
-    policies: Policies,
-    gate: &G,
-) -> Result<Prepared, Stop<'a>>
-    requires within { IsSettings (settings_shape settings) }
-    ensures answer { let task = Saves file.entry.now (settings_shape settings) in
-        IfOk result (IsReady (outside S.told source) task) }
-    ensures stop { let task = Saves file.entry.now (settings_shape settings) in
-        IfErr result (StopsTask (outside S.told source) task) }
-    ensures asked { AsksOnce (outside S.told source) file.entry.now }
-{
-    let workers = settings.workers;
-    let saved = save_file(rt, alloc, file, settings, source, policies, gate)?;
-    match saved {
-        Saved::Stopped(pieces) => Ok(Prepared {
-            status: BUDGET_STATUS,
-            pieces,
-        }),
-        Saved::Ended(end) => {
-            let report = report_for(alloc, &end, None);
-            let_go(rt, alloc, end, workers);
-            Ok(report?)
-        }
-    }
-}
-
 fn prepare_check<'a, S: Source>(
     alloc: Global,
     file: &'a str,
@@ -468,6 +391,21 @@ fn prepare_task<'a, R: Threads + Wait + Sync, S: Source, G: Gate>(
         Task::Save { file, settings } => {
             prepare_save(rt, alloc, file, settings, source, policies, gate)
         }
+        Task::Resume {
+            file,
+            checkpoint,
+            settings,
+            depth,
+        } => prepare_resume(
+            rt, alloc, file, checkpoint, settings, depth, source, policies, gate,
+        ),
+        Task::SaveAgain {
+            file,
+            checkpoint,
+            settings,
+        } => prepare_save_again(
+            rt, alloc, file, checkpoint, settings, source, policies, gate,
+        ),
         Task::Replay {
             file,
             report,
@@ -489,8 +427,8 @@ fn prepare_task<'a, R: Threads + Wait + Sync, S: Source, G: Gate>(
 }
 
 /// What the words ask for, ready to be written. The words come first, then the program's file, its
-/// reading and its check, and the run, or each report's file and its replay, or the trace's file
-/// and its run; the first refusal in this order ends the work.
+/// reading and its check, and the run, or each report's file and its replay, or the trace's or the
+/// checkpoint's file and its run; the first refusal in this order ends the work.
 pub fn prepare<'a, R: Threads + Wait + Sync, S: Source, G: Gate>(
     rt: &R,
     alloc: Global,

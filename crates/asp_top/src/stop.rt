@@ -1,7 +1,7 @@
 //! Why there is nothing to write.
 
 ghost use Rattle.std.specs.Prelude.{◌≡◌};
-ghost use Rattle.asp_top.specs.Stops.{words_stop, syntax_stop, check_stop, checked_stop, log_stop, replay_stop, trace_stop};
+ghost use Rattle.asp_top.specs.Stops.{words_stop, syntax_stop, check_stop, checked_stop, file_stop, log_stop, replay_stop, trace_stop};
 ghost use Rattle.asp_top.specs.declared.stop.Stop.TheVariants as stops;
 
 use asp_check::{CheckError, CheckFault};
@@ -10,6 +10,7 @@ use asp_syntax::{SyntaxError, SyntaxFault};
 use code_reading::DecodeError;
 use command_line::WordsError;
 use replay_one::ReplayStop;
+use run_files::FileStop;
 use sender_log::LogError;
 use std::alloc::AllocError;
 use trace_check::TraceStop;
@@ -51,6 +52,14 @@ pub enum Stop<'a> {
     Unlawful(u64),
     /// The run of a trace has not ended.
     Unfinished,
+    /// There are more bytes than a checkpoint may have.
+    LongCheckpoint,
+    /// The checkpoint is one of another program.
+    OtherCheckpoint,
+    /// The bytes are no checkpoint, or none from which a run can go on.
+    NoCheckpoint,
+    /// What a checkpoint has counted and the budget are more than may be counted.
+    Overspent,
     Memory,
 }
 
@@ -145,6 +154,19 @@ impl From<TraceStop> for Stop<'_> {
             TraceStop::Unlawful { entry } => Stop::Unlawful(entry),
             TraceStop::Unfinished => Stop::Unfinished,
             TraceStop::Memory => Stop::Memory,
+        }
+    }
+}
+
+impl From<FileStop> for Stop<'_> {
+    ghost from_gives = { λ e s. s ≡ file_stop e };
+
+    fn from(stop: FileStop) -> Self {
+        match stop {
+            FileStop::OtherProgram => Stop::OtherCheckpoint,
+            FileStop::Malformed => Stop::NoCheckpoint,
+            FileStop::TooMany => Stop::Overspent,
+            FileStop::Memory => Stop::Memory,
         }
     }
 }

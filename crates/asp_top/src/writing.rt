@@ -23,6 +23,14 @@ const LONG_TRACE: &[u8] = b"asp: trace: longer than 67108864 bytes\n";
 
 const UNFINISHED: &[u8] = b"asp: trace: unfinished\n";
 
+const LONG_CHECKPOINT: &[u8] = b"asp: resume: longer than 268435456 bytes\n";
+
+const OTHER_CHECKPOINT: &[u8] = b"asp: resume: another program\n";
+
+const NO_CHECKPOINT: &[u8] = b"asp: resume: malformed\n";
+
+const OVERSPENT: &[u8] = b"asp: resume: more than 10000000 reductions\n";
+
 const CANNOT_WRITE: &[u8] = b"asp: cannot write\n";
 
 const NO_MEMORY: &[u8] = b"asp: no memory\n";
@@ -163,6 +171,10 @@ pub fn refuse<E: Sink>(alloc: Global, stop: &Stop<'_>, err: &mut E) -> u8
         Stop::NoTrace(line) => tell_made(err, trace_message(alloc, *line), 10),
         Stop::Unlawful(entry) => tell_made(err, unlawful_message(alloc, *entry), 10),
         Stop::Unfinished => tell(err, UNFINISHED, 10),
+        Stop::LongCheckpoint => tell(err, LONG_CHECKPOINT, 11),
+        Stop::OtherCheckpoint => tell(err, OTHER_CHECKPOINT, 11),
+        Stop::NoCheckpoint => tell(err, NO_CHECKPOINT, 11),
+        Stop::Overspent => tell(err, OVERSPENT, 11),
         Stop::Memory => tell(err, NO_MEMORY, 8),
     }
 }

@@ -18,8 +18,7 @@ use Rattle.law_checkpoints.specs.Sound.{AnswersAreRight, IsAnsweredAt, IsObject,
 use Rattle.checkpoint_reading.specs.Cells.{cell_shape, request_shape}
 use Rattle.checkpoint_parts.specs.declared.parts.ActivityText.{ActivityText}
 use Rattle.checkpoint_parts.specs.declared.parts.ServiceText.{ServiceText}
-use Rattle.checkpoint_parts.specs.Shapes.{activity_shape, contexts_shape, service_shape}
-use Rattle.checkpoint_checks.specs.Text.{IsParted, Waits}
+use Rattle.checkpoint_parts.specs.Shapes.{activity_shape, service_shape}
 use Rattle.checkpoint_checks.specs.Cells.{request_fits}
 use Rattle.checkpoint_checks.specs.Activities.{activity_fits, answer_fits, answers_fit, has_object, is_object, service_fits, service_future}
 use Rattle.checkpoint_checks.proofs.SameLemmas.{Same, same_as, same_both, same_each, same_lt, same_true}
@@ -52,25 +51,32 @@ map_each P f (x ∷ xs) h = (h.0, map_each P f xs h.1)
 -- Services
 
 abbrev IsSoundService : ℕ → ServiceShape → Type 0
-IsSoundService k v = Each IsProperContext v.contexts × ContextsBelow k v.contexts
+IsSoundService k v = (Each IsProperContext v.contexts × ContextsBelow k v.contexts) × AreContexts v.contexts
 
-same_services : (k : ℕ) (vs : List ServiceText) → Each Waits vs → Same (list_all (service_fits k) vs) (Each (λ v. IsSoundService k (service_shape v)) vs)
-same_services k [] w = same_true
-same_services k (v ∷ vs) w = same_both (service_fits k v) (list_all (service_fits k) vs) (IsSoundService k (service_shape v)) (Each (λ u. IsSoundService k (service_shape u)) vs)
-    (waiting k (map tree_of v.terms.items) (all_below v.terms.items) w.0).0
-    (same_services k vs w.1)
+same_services : (k : ℕ) (vs : List ServiceText) → Same (list_all (service_fits k) vs) (Each (λ v. IsSoundService k (service_shape v)) vs)
+same_services k [] = same_true
+same_services k (v ∷ vs) = same_both (service_fits k v) (list_all (service_fits k) vs) (IsSoundService k (service_shape v)) (Each (λ u. IsSoundService k (service_shape u)) vs)
+    (waiting k (map tree_of v.terms.items) (all_below v.terms.items))
+    (same_services k vs)
 
-all_wait : (k : ℕ) (vs : List ServiceText) → Each Waits vs → Each (λ v. AreContexts (contexts_shape (map tree_of v.terms.items))) vs
-all_wait k [] w = tt
-all_wait k (v ∷ vs) w = ((waiting k (map tree_of v.terms.items) (all_below v.terms.items) w.0).1, all_wait k vs w.1)
+-- the same, point by point
+record AreSound (k : ℕ) (vs : List ServiceShape) : Type 0 where
+  proper : Each (λ v. Each IsProperContext v.contexts) vs
+  below : Each (λ v. ContextsBelow k v.contexts) vs
+  wait : Each (λ v. AreContexts v.contexts) vs
 
-firsts : (k : ℕ) (vs : List ServiceShape) → Each (IsSoundService k) vs → Each (λ v. Each IsProperContext v.contexts) vs × Each (λ v. ContextsBelow k v.contexts) vs
-firsts k [] h = (tt, tt)
-firsts k (v ∷ vs) h = let r = firsts k vs h.1 in ((h.0.0, r.0), (h.0.1, r.1))
+points : (k : ℕ) (vs : List ServiceShape) → Each (IsSoundService k) vs → AreSound k vs
+points k [] h = record { proper = tt; below = tt; wait = tt }
+points k (v ∷ vs) h =
+    let r = points k vs h.1 in
+    record { proper = (h.0.0.0, r.proper); below = (h.0.0.1, r.below); wait = (h.0.1, r.wait) }
 
-both_of : (k : ℕ) (vs : List ServiceShape) → Each (λ v. Each IsProperContext v.contexts) vs → Each (λ v. ContextsBelow k v.contexts) vs → Each (IsSoundService k) vs
-both_of k [] h g = tt
-both_of k (v ∷ vs) h g = ((h.0, g.0), both_of k vs h.1 g.1)
+of_points : (k : ℕ) (vs : List ServiceShape) → AreSound k vs → Each (IsSoundService k) vs
+of_points k [] r = tt
+of_points k (v ∷ vs) r = (
+  ((r.proper.0, r.below.0), r.wait.0),
+  of_points k vs (record { proper = r.proper.1; below = r.below.1; wait = r.wait.1 }),
+)
 
 -- Stores
 
@@ -119,8 +125,8 @@ module _ (f : FrozenShape) where
 
   -- The whole
 
-  pub same_activity : (a : ActivityText) → IsParted a → Same (activity_fits (first_in f.activities) (home_at f) a) (IsSoundActivity f (activity_shape a))
-  same_activity a parted =
+  pub same_activity : (a : ActivityText) → Same (activity_fits (first_in f.activities) (home_at f) a) (IsSoundActivity f (activity_shape a))
+  same_activity a =
       let x = activity_shape a in
       let terms = a.parts.work.state.terms.items in
       let services = a.parts.work.services.items in
@@ -128,16 +134,16 @@ module _ (f : FrozenShape) where
       let k : ℕ = length cells in
       let present = option_map future_shape a.parts.work.present in
       let queue = same_each (request_fits (first_in f.activities) (home_at f) a.name) (IsSoundRequest f a.name) (same_request f a.name) (map request_shape a.parts.queue.items) in
-      let state = same_both _ _ _ _ (running k (map tree_of terms) (all_below terms) (all_bare terms) parted.runs) (same_both _ _ _ _ (same_cells f cells) (same_active cells a.parts.work.state.active)) in
+      let state = same_both _ _ _ _ (running k (map tree_of terms) (all_below terms) (all_bare terms)) (same_both _ _ _ _ (same_cells f cells) (same_active cells a.parts.work.state.active)) in
       let answers = same_both _ _ _ _ (same_answer a.name present) (same_both _ _ _ _ (same_suspended a.name services) (same_answers present services)) in
-      same_as _ _ _ (same_both _ _ _ _ queue (same_both _ _ _ _ state (same_both _ _ _ _ (same_services k services parted.waits) answers)))
+      same_as _ _ _ (same_both _ _ _ _ queue (same_both _ _ _ _ state (same_both _ _ _ _ (same_services k services) answers)))
       (λ h.
       let s = h.1.0 in
-      let v = firsts k x.activity.services (each_map (IsSoundService k) service_shape services h.1.1.0) in
+      let v = points k x.activity.services (each_map (IsSoundService k) service_shape services h.1.1.0) in
       record {
-        closed = record { term = s.0.1; services = v.1; store = s.1.0.below; active = s.1.1.0 };
-        proper = record { term = s.0.0; services = v.0; store = s.1.0.proper };
-        contexts = each_map (λ w. AreContexts w.contexts) service_shape services (all_wait k services parted.waits);
+        closed = record { term = s.0.1; services = v.below; store = s.1.0.below; active = s.1.1.0 };
+        proper = record { term = s.0.0; services = v.proper; store = s.1.0.proper };
+        contexts = v.wait;
         object = s.1.1.1;
         known = s.1.0.known;
         queue = h.0;
@@ -153,7 +159,7 @@ module _ (f : FrozenShape) where
             (record { below = s.closed.store; proper = s.proper.store; known = s.known }, (s.closed.active, s.object)),
           ),
           (
-            map_each (IsSoundService k) service_shape services (both_of k x.activity.services s.proper.services s.closed.services),
+            map_each (IsSoundService k) service_shape services (of_points k x.activity.services (record { proper = s.proper.services; below = s.closed.services; wait = s.contexts })),
             (s.present, (s.suspended, s.answers)),
           ),
         ),

@@ -19,12 +19,14 @@ use Rattle.law_programs.proofs.TermLemmas.{ProperSplit, loc_proper, plug_proper,
 use Rattle.code_laws.specs.Splitting.{redex_node, AreContexts, IsContext, HasBareLocations, HaveBareLocations}
 use Rattle.code_laws.proofs.SplitLemmas.{splits_one_way, splits_plug_back, splits_are_redexes}
 use Rattle.checkpoint_text.specs.Reading.{only_context, context_below, context_of, with_context, contexts_of, plugged_by, standing_alone, running_of, is_hole, waiting_of}
-use Rattle.checkpoint_parts.specs.Shapes.{or_hole, or_none, running_shape, contexts_shape}
+use Rattle.checkpoint_parts.specs.Shapes.{no_context, or_hole, or_none, running_shape, contexts_shape}
 use Rattle.proper_terms.specs.Fits.{fits, has_arity, is_single, left_at, left_below, left_in, then_left, where_true}
 use Rattle.proper_terms.proofs.FitLemmas.{fitting_is_proper, goes, going, has_none, is_where, of_arity, of_node, of_propers, single_is_single, some_of, to_arity, to_propers, where_is}
-use Rattle.checkpoint_checks.specs.Activities.{run_fits, wait_fits}
+use Rattle.checkpoint_files.specs.Running.{is_running, is_waiting}
+use Rattle.checkpoint_files.proofs.RunningLemmas.{found, runs_is, waits_is}
+use Rattle.checkpoint_checks.specs.Activities.{inner_fits, outer_fit, run_fits, wait_fits}
 use Rattle.checkpoint_checks.proofs.BareLemmas.{AreBare, HasBare, IsBare}
-use Rattle.checkpoint_checks.proofs.SameLemmas.{Same, same_as, same_both, same_true}
+use Rattle.checkpoint_checks.proofs.SameLemmas.{Same, same_as, same_at, same_both, same_true}
 
 -- The locations before the first hole, and the terms behind it
 
@@ -283,9 +285,9 @@ module _ (k : ℕ) where
 
   -- Terms that wait
 
-  pub waiting : (ts : List Tree) → Each HasBare ts → is_some (waiting_of ts) ≡ true → Same (wait_fits k ts) (AreContextsBelow (contexts_shape ts)) × AreContexts (contexts_shape ts)
-  waiting [] bare e = none_true e
-  waiting (t ∷ ts) bare e = by (is_hole t) (contexts_of ts) refl e
+  outer : (ts : List Tree) → Each HasBare ts → is_some (waiting_of ts) ≡ true → Same (outer_fit k ts) (AreContextsBelow (contexts_shape ts)) × AreContexts (contexts_shape ts)
+  outer [] bare e = none_true e
+  outer (t ∷ ts) bare e = by (is_hole t) (contexts_of ts) refl e
     where
       by : (b : Bool) (o : Option (List Context)) → contexts_of ts ≡ o → is_some (elim b [ true ↦ o | false ↦ None ]) ≡ true
           → Same (list_all (fits k 1) ts) (AreContextsBelow (or_none (elim b [ true ↦ o | false ↦ None ])))
@@ -293,6 +295,24 @@ module _ (k : ℕ) where
       by true (Some cs) p q = (same_contexts ts cs p bare.1, contexts_wait ts cs p)
       by true None p q = none_true q
       by false o p q = none_true q
+
+  no_waits : {A : Type 0} → AreContexts (no_context ∷ []) → A
+  no_waits w = absurd (omega (arith, w.0))
+
+  pub waiting : (ts : List Tree) → Each HasBare ts → Same (wait_fits k ts) (AreContextsBelow (contexts_shape ts) × AreContexts (contexts_shape ts))
+  waiting ts bare = by (waiting_of ts) refl (waits_is ts)
+    where
+      by : (o : Option (List Context)) → waiting_of ts ≡ o → found (waiting_of ts) ≡ is_waiting ts → Same (wait_fits k ts) (AreContextsBelow (contexts_shape ts) × AreContexts (contexts_shape ts))
+      by None p q =
+          let no : is_waiting ts ≡ false = sym q ∙ ap found p in
+          record {
+            to = λ e. none_true (sym (ap (λ b. b && outer_fit k ts) no) ∙ e);
+            of = λ s. no_waits (subst AreContexts (ap or_none p) s.1);
+          }
+      by (Some cs) p q =
+          let yes : is_waiting ts ≡ true = sym q ∙ ap found p in
+          let r = outer ts bare (ap is_some p) in
+          same_at _ _ _ (ap (λ b. b && outer_fit k ts) yes) (same_as _ _ _ r.0 (λ h. (h, r.1)) (λ h. h.0))
 
   -- Terms that run
 
@@ -369,7 +389,21 @@ module _ (k : ℕ) where
       (λ h. (subst (λ ts. IsProperBelow (node (Loc n) ts)) (sym bare) h, tt))
   alone n us (t ∷ ts) bare e = none_true e
 
-  pub running : (ts : List Tree) → Each HasBare ts → Each IsBare ts → is_some (running_of ts) ≡ true → Same (run_fits k ts) (IsProperBelow (running_shape ts))
-  running [] below bare e = none_true e
-  running (node (Loc n) us ∷ ts) below bare e = alone n us ts bare.0 e
-  running (node h us ∷ ts) below bare e = plugged_to (node h us) ts (split (node h us)) (contexts_of ts) refl refl e below.1
+  inner : (ts : List Tree) → Each HasBare ts → Each IsBare ts → is_some (running_of ts) ≡ true → Same (inner_fits k ts) (IsProperBelow (running_shape ts))
+  inner [] below bare e = none_true e
+  inner (node (Loc n) us ∷ ts) below bare e = alone n us ts bare.0 e
+  inner (node h us ∷ ts) below bare e = plugged_to (node h us) ts (split (node h us)) (contexts_of ts) refl refl e below.1
+
+  pub running : (ts : List Tree) → Each HasBare ts → Each IsBare ts → Same (run_fits k ts) (IsProperBelow (running_shape ts))
+  running ts below bare = by (running_of ts) refl (runs_is ts)
+    where
+      by : (o : Option Tree) → running_of ts ≡ o → found (running_of ts) ≡ is_running ts → Same (run_fits k ts) (IsProperBelow (running_shape ts))
+      by None p q =
+          let no : is_running ts ≡ false = sym q ∙ ap found p in
+          record {
+            to = λ e. none_true (sym (ap (λ b. b && inner_fits k ts) no) ∙ e);
+            of = λ s. none_true (subst IsProperBelow (ap or_hole p) s).0.0;
+          }
+      by (Some t) p q =
+          let yes : is_running ts ≡ true = sym q ∙ ap found p in
+          same_at _ _ _ (ap (λ b. b && inner_fits k ts) yes) (inner ts below bare (ap is_some p))

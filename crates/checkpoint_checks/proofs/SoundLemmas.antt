@@ -12,7 +12,6 @@ use Rattle.law_checkpoints.specs.Standing.{standing_in}
 use Rattle.checkpoint_parts.specs.declared.parts.ActivityText.{ActivityText}
 use Rattle.checkpoint_parts.specs.declared.parts.CheckpointText.{CheckpointText}
 use Rattle.checkpoint_parts.specs.Shapes.{activity_shape, checkpoint_shape}
-use Rattle.checkpoint_checks.specs.Text.{AreParted, IsParted}
 use Rattle.checkpoint_checks.specs.Maps.{Activities, Homes, nobody, no_futures, with_activities, with_futures}
 use Rattle.checkpoint_checks.specs.Names.{all_named, begin_with_main}
 use Rattle.checkpoint_checks.specs.Homes.{all_housed, ascend_from, home_fits}
@@ -54,11 +53,11 @@ names_of xs h = and_from (begin_with_main xs) (list_all (all_named (with_activit
 
 -- Activities
 
-activities_to : (f : FrozenShape) (xs : List ActivityText) → Each IsParted xs → Same (list_all (activity_fits (first_in f.activities) (home_at f)) xs) (Each (IsSoundActivity f) (map activity_shape xs))
-activities_to f [] parted = same_true
-activities_to f (a ∷ xs) parted =
-    let h = same_activity f a parted.0 in
-    let g = activities_to f xs parted.1 in
+activities_to : (f : FrozenShape) (xs : List ActivityText) → Same (list_all (activity_fits (first_in f.activities) (home_at f)) xs) (Each (IsSoundActivity f) (map activity_shape xs))
+activities_to f [] = same_true
+activities_to f (a ∷ xs) =
+    let h = same_activity f a in
+    let g = activities_to f xs in
     record {
       to = λ e. let p = and_parts (activity_fits (first_in f.activities) (home_at f) a) (list_all (activity_fits (first_in f.activities) (home_at f)) xs) e in (h.to p.0, g.to p.1);
       of = λ s. and_from (activity_fits (first_in f.activities) (home_at f) a) (list_all (activity_fits (first_in f.activities) (home_at f)) xs) (h.of s.0) (g.of s.1);
@@ -66,7 +65,7 @@ activities_to f (a ∷ xs) parted =
 
 -- The whole
 
-module _ (file : CheckpointText) (parted : AreParted file) where
+module _ (file : CheckpointText) where
   abbrev shape : FrozenShape
   shape = checkpoint_shape file
 
@@ -91,7 +90,7 @@ module _ (file : CheckpointText) (parted : AreParted file) where
       let begun : list_all (all_housed (home_at shape)) shape.activities ≡ true = subst (λ (look : Homes). list_all (all_housed look) shape.activities ≡ true) homes r.0 in
       let parts : parts_by (first_in shape.activities) (home_at shape) ≡ true = ap (λ (look : Activities). parts_by look (home_at shape)) (sym looks) ∙ ap (parts_by (all_activities shape)) (sym homes) ∙ s.0 in
       let t = and_parts (list_all (activity_fits (first_in shape.activities) (home_at shape)) file.activities.items) (list_all (value_fits (first_in shape.activities) (home_at shape)) shape.filled) parts in
-      let sound = (activities_to shape file.activities.items parted).to t.0 in
+      let sound = (activities_to shape file.activities.items).to t.0 in
       let values = (same_each (value_fits (first_in shape.activities) (home_at shape)) (λ v. IsSoundValue shape v.0 v.1) (same_value shape) shape.filled).to t.1 in
       let stand : homes_by (first_in shape.activities) ≡ true = ap homes_by (sym looks) ∙ s.1 in
       let u = and_parts (are_fresh no_futures (standing_in shape)) (list_all (home_fits (first_in shape.activities) (with_futures no_futures (standing_in shape))) shape.homes) stand in
@@ -110,7 +109,7 @@ module _ (file : CheckpointText) (parted : AreParted file) where
       let looks = activities_are shape.activities h.names.once in
       let homes = all_homes_are shape h.homes_ascend in
       let begun = (same_begun shape h.names.once).of h.begun in
-      let sound = (activities_to shape file.activities.items parted).of h.activities in
+      let sound = (activities_to shape file.activities.items).of h.activities in
       let values = (same_each (value_fits (first_in shape.activities) (home_at shape)) (λ v. IsSoundValue shape v.0 v.1) (same_value shape) shape.filled).of h.filled in
       let fresh = fresh_all shape h.names.once h.homes_ascend h.filled_ascend h.activities h.filled h.homes in
       let fit = (homes_to shape h.names.once h.homes_ascend h.filled_ascend h.activities h.filled fresh shape.homes (have_homes shape h.names.once h.homes_ascend h.filled_ascend h.activities h.filled)).of h.homes in

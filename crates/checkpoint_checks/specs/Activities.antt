@@ -8,6 +8,7 @@ use Rattle.asp_model.specs.Shapes.{future_shape, tree_of}
 use Rattle.asp_model.specs.Store.{CellShape, Object, cell}
 use Rattle.asp_model.specs.Term.{Tree}
 use Rattle.checkpoint_reading.specs.Cells.{cell_shape, request_shape}
+use Rattle.checkpoint_files.specs.Running.{is_running, is_waiting}
 use Rattle.checkpoint_parts.specs.declared.parts.ActivityText.{ActivityText}
 use Rattle.checkpoint_parts.specs.declared.parts.ServiceText.{ServiceText}
 use Rattle.checkpoint_parts.specs.declared.parts.StateText.{StateText}
@@ -17,14 +18,22 @@ use Rattle.checkpoint_checks.specs.Maps.{Activities, Homes}
 use Rattle.checkpoint_checks.specs.Cells.{cells_fit, is_at, request_fits}
 
 -- the first has no hole, and each other one
-abbrev pub run_fits : ℕ → List Tree → Bool
-run_fits k [] = false
-run_fits k (t ∷ ts) = fits k 0 t && list_all (fits k 1) ts
+abbrev pub inner_fits : ℕ → List Tree → Bool
+inner_fits k [] = false
+inner_fits k (t ∷ ts) = fits k 0 t && list_all (fits k 1) ts
 
--- behind the first, which is a hole
+-- each behind the first has one
+abbrev pub outer_fit : ℕ → List Tree → Bool
+outer_fit k [] = false
+outer_fit k (t ∷ ts) = list_all (fits k 1) ts
+
+-- a place alone, or a redex and the contexts round it
+abbrev pub run_fits : ℕ → List Tree → Bool
+run_fits k ts = is_running ts && inner_fits k ts
+
+-- a hole, and the contexts round it
 abbrev pub wait_fits : ℕ → List Tree → Bool
-wait_fits k [] = false
-wait_fits k (t ∷ ts) = list_all (fits k 1) ts
+wait_fits k ts = is_waiting ts && outer_fit k ts
 
 abbrev pub service_fits : ℕ → ServiceText → Bool
 service_fits k s = wait_fits k (map tree_of s.terms.items)

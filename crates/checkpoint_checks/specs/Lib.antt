@@ -1,5 +1,4 @@
 -- in reading order
-pub mod Text
 pub mod Maps
 pub mod Names
 pub mod Homes

@@ -7,19 +7,20 @@ ghost use Rattle.asp_model.specs.Shapes.{future_shape, tree_of};
 ghost use Rattle.checkpoint_reading.specs.Cells.{cell_shape};
 ghost use Rattle.proper_terms.specs.Tests.{Tests};
 ghost use Rattle.checkpoint_checks.specs.Maps.{activities_of, homes_of};
-ghost use Rattle.checkpoint_checks.specs.Activities.{activity_fits, answer_fits, answers_fit, has_object, is_object, run_fits, service_fits, service_future, state_fits, wait_fits, work_fits};
+ghost use Rattle.checkpoint_checks.specs.Activities.{activity_fits, answer_fits, answers_fit, has_object, inner_fits, is_object, outer_fit, run_fits, service_fits, service_future, state_fits, wait_fits, work_fits};
 
 use crate::cells::{check_cells, size_of};
 use crate::parcels::check_requests;
 use crate::world::World;
 use asp_model::{ActivityName, FutureName, Place, Term};
+use checkpoint_files::{runs, waits};
 use checkpoint_parts::{ActivityText, ServiceText, StateText, WorkText};
 use checkpoint_reading::CellText;
 use proper_terms::{Refusal, check_contexts, check_term};
 use std::alloc::Global;
 
-fn check_running(alloc: Global, size: Place, terms: &[Term]) -> Result<(), Refusal>
-    ensures fits { Tests (run_fits size (map tree_of terms.now)) result }
+fn check_inner(alloc: Global, size: Place, terms: &[Term]) -> Result<(), Refusal>
+    ensures fits { Tests (inner_fits size (map tree_of terms.now)) result }
 {
     match terms {
         [] => Err(Refusal::Unsound),
@@ -30,12 +31,32 @@ fn check_running(alloc: Global, size: Place, terms: &[Term]) -> Result<(), Refus
     }
 }
 
-fn check_waiting(alloc: Global, size: Place, terms: &[Term]) -> Result<(), Refusal>
-    ensures fits { Tests (wait_fits size (map tree_of terms.now)) result }
+fn check_running(alloc: Global, size: Place, terms: &[Term]) -> Result<(), Refusal>
+    ensures fits { Tests (run_fits size (map tree_of terms.now)) result }
+{
+    if runs(terms) {
+        check_inner(alloc, size, terms)
+    } else {
+        Err(Refusal::Unsound)
+    }
+}
+
+fn check_outer(alloc: Global, size: Place, terms: &[Term]) -> Result<(), Refusal>
+    ensures fit { Tests (outer_fit size (map tree_of terms.now)) result }
 {
     match terms {
         [] => Err(Refusal::Unsound),
         [_, contexts @ ..] => check_contexts(alloc, size, contexts),
+    }
+}
+
+fn check_waiting(alloc: Global, size: Place, terms: &[Term]) -> Result<(), Refusal>
+    ensures fits { Tests (wait_fits size (map tree_of terms.now)) result }
+{
+    if waits(terms) {
+        check_outer(alloc, size, terms)
+    } else {
+        Err(Refusal::Unsound)
     }
 }
 

@@ -4,7 +4,6 @@ ghost use Rattle.std.specs.Prelude.{◌≡◌, ◌↔◌, ◌&&◌, IfOk, IsTrue
 ghost use Rattle.checkpoint_parts.specs.Shapes.{activity_shape, checkpoint_shape};
 ghost use Rattle.law_checkpoints.specs.Sound.{IsSoundFrozen};
 ghost use Rattle.proper_terms.specs.Tests.{Tests};
-ghost use Rattle.checkpoint_checks.specs.Text.{AreParted};
 ghost use Rattle.checkpoint_checks.specs.Maps.{activities_of, activity_in, homes_of, nobody, with_activities};
 ghost use Rattle.checkpoint_checks.specs.Whole.{all_activities, all_homes, checkpoint_fits, homes_ascend, names_fit, parts_fit, stand_once};
 
@@ -76,10 +75,9 @@ fn check_whole(alloc: Global, file: &CheckpointText) -> Result<(), Refusal>
     check_standing(alloc, &world.names, file)
 }
 
-/// The checkpoint is sound: so it is told where each list of terms in it runs or waits.
+/// The checkpoint is sound.
 pub fn is_sound(alloc: Global, file: &CheckpointText) -> Result<bool, AllocError>
-    ensures sound { AreParted file.now →
-        IfOk result (λ b. IsTrue b ↔ IsSoundFrozen (checkpoint_shape file.now)) }
+    ensures sound { IfOk result (λ b. IsTrue b ↔ IsSoundFrozen (checkpoint_shape file.now)) }
 {
     match check_whole(alloc, file) {
         Ok(()) => Ok(true),

@@ -23,7 +23,7 @@ use Rattle.checkpoint_files.specs.declared.running.Inner.{Inner}
 use Rattle.checkpoint_files.specs.declared.running.Inner.TheVariants as inner
 use Rattle.checkpoint_files.specs.Running.{are_contexts, behind, child_of, first_of, first_open, inner_of, is_context, is_context_term, is_context_tree, is_running, is_waiting, open_by, runs_by}
 
-abbrev found : {X : Type 0} → Option X → Bool
+abbrev pub found : {X : Type 0} → Option X → Bool
 found None = false
 found (Some x) = true
 
@@ -184,7 +184,7 @@ by_redex h us s ts e =
     plugged_is s (node h us) (contexts_of ts) ∙ (λ i. e i && contexts_found ts i)
     ∙ sym (runs_as (first_open (first_of (reduced_count h us) us)) ts (no_place (first_of (reduced_count h us) us)))
 
-runs_is : (ts : List Tree) → found (running_of ts) ≡ is_running ts
+pub runs_is : (ts : List Tree) → found (running_of ts) ≡ is_running ts
 runs_is [] = refl
 runs_is (node (Loc n) us ∷ []) = refl
 runs_is (node (Loc n) us ∷ t ∷ ts) = refl
@@ -203,7 +203,7 @@ behind_hole : (b : Bool) (o : Option (List Context)) → found
 behind_hole true o = refl
 behind_hole false o = refl
 
-waits_is : (ts : List Tree) → found (waiting_of ts) ≡ is_waiting ts
+pub waits_is : (ts : List Tree) → found (waiting_of ts) ≡ is_waiting ts
 waits_is [] = refl
 waits_is (t ∷ ts) = behind_hole (is_hole t) (contexts_of ts) ∙ (λ i. hole_is t i && contexts_found ts i)
 

@@ -7,3 +7,4 @@ mod running;
 
 pub use checkpoint_items::ReadError;
 pub use checkpoints::read_checkpoint;
+pub use running::{runs, waits};

@@ -84,8 +84,9 @@ fn read_terms(alloc: Global, items: &mut Items<'_>) -> Result<Vec<Term>, ReadErr
     Ok(terms)
 }
 
+/// The terms are a place alone, or a redex and then the contexts round it.
 #[tactic(auto, using(crate::proofs::RunningLemmas::place_alone))]
-fn runs(terms: &[Term]) -> bool
+pub fn runs(terms: &[Term]) -> bool
     ensures running { result ≡ is_running (map tree_of terms.now) }
 {
     match terms {
@@ -98,8 +99,9 @@ fn runs(terms: &[Term]) -> bool
     }
 }
 
+/// The terms are a hole, and then the contexts round it.
 #[tactic(auto)]
-fn waits(terms: &[Term]) -> bool
+pub fn waits(terms: &[Term]) -> bool
     ensures waiting { result ≡ is_waiting (map tree_of terms.now) }
 {
     match terms {

@@ -118,7 +118,7 @@ fn push_group(
 pub fn make_future(alloc: Global, name: FutureName) -> Result<Arc<Future>, AllocError>
     ensures future { IfOk result (λ f. held_future f ≡ future_shape name) }
 {
-    let future = Future { name, number: 0 };
+    let future = Future::new(alloc, name, 0);
     let shared = Arc::new(alloc, future)?;
     Ok(shared)
 }

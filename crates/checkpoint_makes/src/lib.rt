@@ -7,7 +7,7 @@ mod objects;
 mod parcels;
 mod terms;
 
-pub use cells::make_cells;
+pub use cells::{make_cells, make_future};
 pub use laws::{terms_run, terms_wait};
 pub use parcels::{MadeParcel, MadeRequest, make_parcel, make_requests};
 pub use terms::{MadeTerm, make_answer, make_services, make_term};

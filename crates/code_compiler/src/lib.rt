@@ -9,6 +9,6 @@ mod program;
 mod scope;
 mod terms;
 
-pub use program::compile;
+pub use program::{compile, compile_root, prelude};
 pub use scope::{Binding, Scope, bound_with, head_slots, leaf_of};
 pub use terms::compile_term;

@@ -33,7 +33,7 @@ pub fn compile(alloc: Global, program: &Checked) -> Result<Code, AllocError>
 }
 
 /// The nodes with which every table begins: `serve()`, `repeat(serve())` and `[]`.
-fn prelude(alloc: Global) -> Result<Vec<Node>, AllocError>
+pub fn prelude(alloc: Global) -> Result<Vec<Node>, AllocError>
     ensures prelude { IfOk result (λ r. IsPrelude r.items) }
 {
     let mut nodes = Vec::new(alloc);
@@ -49,7 +49,7 @@ fn prelude(alloc: Global) -> Result<Vec<Node>, AllocError>
 }
 
 /// Compiles the term of a program, whose node comes last.
-fn compile_root(alloc: Global, nodes: &mut Vec<Node>, root: &Term) -> Result<(), AllocError>
+pub fn compile_root(alloc: Global, nodes: &mut Vec<Node>, root: &Term) -> Result<(), AllocError>
     requires closed { IsClosed [] (tree_of root.now) }
     ensures grows { OnOk result (Grows nodes.old.items nodes.new.items) }
     ensures root { OnOk result (IsRoot nodes.new.items (tree_of root.now)) }

@@ -8,5 +8,6 @@ pub mod NumberLemmas
 pub mod UsesLemmas
 pub mod CodedLemmas
 pub mod ColumnLemmas
+pub mod AnswerLemmas
 pub mod OrderLemmas
 pub mod FitsLemmas

@@ -13,7 +13,7 @@ use Rattle.asp_model.specs.declared.term.Term.TheFolds.{fold-roll-Term, fold-rol
 use Rattle.asp_model.specs.Names.{Text}
 use Rattle.asp_model.specs.Term as term
 use Rattle.asp_model.specs.Term.{Trees, node, none, more, trees, loc, leaf, one, two}
-use Rattle.asp_model.specs.Marked.{Marked, marked, and_marked, one_marked, two_marked, all_marked, plain, plain_below}
+use Rattle.asp_model.specs.Marked.{Marked, marked, and_marked, two_marked, all_marked, plain, plain_below}
 use Rattle.asp_model.specs.Shapes.{MarkedMethod, term_step, method_step, marked_of, method_of, tree_of, sign_shape, field_of, make_shape, mark_shape}
 use Rattle.code_table.specs.Tables.{text_of}
 use Rattle.code_table.specs.Parts.{field_label, field_tree, method_head, body_tree}

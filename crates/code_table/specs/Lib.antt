@@ -12,9 +12,12 @@ pub mod Sound
 pub mod Marks
 pub mod Parts
 pub mod Roots
+pub mod Answers
 pub mod Cells
 pub mod ColumnsView
 pub mod Columns
+pub mod Shown
+pub mod Seen
 pub mod Carried
 pub mod Moves
 pub mod Shapes

@@ -1,5 +1,5 @@
 -- What cells and parcels stand for, by the code of their objects.
-use Rattle.std.specs.Prelude.{ℕ, List, [], Option, Some, None, map}
+use Rattle.std.specs.Prelude.{ℕ, List, [], ◌∷◌, Option, Some, None, map}
 use Rattle.std.specs.Arc.{arc_value}
 use Rattle.asp_model.specs.Store as store
 use Rattle.asp_model.specs.Store.{CellShape, Store}
@@ -8,6 +8,8 @@ use Rattle.code_table.specs.declared.code.Node.{Node}
 use Rattle.code_table.specs.declared.class.Class.{Class}
 use Rattle.code_table.specs.Tables.{pieces, object_of}
 use Rattle.code_table.specs.Classes.{class_at}
+use Rattle.code_table.specs.Answers.{AnswerView}
+use Rattle.code_table.specs.Shown.{answer_items}
 use Rattle.code_table.specs.declared.cells.View.{View}
 use Rattle.code_table.specs.declared.cells.Parcel.{Parcel}
 use Rattle.code_table.specs.Cells as coded
@@ -38,3 +40,7 @@ parcel_in code p = record { cells = store_of code p.cells.items; roots = p.roots
 
 abbrev pub parcel_shape : Parcel → ParcelShape
 parcel_shape p = parcel_in (arc_value p.code) p
+
+-- a shown value as a parcel by this code, whose root is its first cell
+abbrev pub answer_shape : List Node → AnswerView → ParcelShape
+answer_shape code a = record { cells = store_of code (answer_items a); roots = 0 ∷ [] }

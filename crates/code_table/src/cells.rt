@@ -162,7 +162,7 @@ pub(crate) fn short(number: usize) -> Result<u32, AllocError>
 }
 
 #[inline(always)]
-fn span(words: &[Place], start: u32, count: u32) -> &[Place]
+pub(crate) fn span(words: &[Place], start: u32, count: u32) -> &[Place]
     requires within { start + count ≤ length words.now }
     ensures places { result.now ≡ span_places words.now start count }
 {

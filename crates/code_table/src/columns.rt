@@ -244,7 +244,7 @@ fn copies_of(alloc: Global, cells: &[Cell], room: usize) -> Result<Vec<Cell>, Al
 
 // Where so many words lie that follow the others.
 #[inline(always)]
-fn span_behind(words: &[Place], count: usize) -> Result<(u32, u32), AllocError>
+pub(crate) fn span_behind(words: &[Place], count: usize) -> Result<(u32, u32), AllocError>
     ensures { IfOk result (λ r. (r.0 ≡ length words.now) × (r.1 ≡ count)) }
 {
     Ok((short(words.len())?, short(count)?))

@@ -2,6 +2,7 @@
 //! objects share their code, and what passes between two activities.
 #![tactic(auto)]
 
+mod answer;
 mod carried;
 mod cells;
 mod class;
@@ -17,12 +18,13 @@ mod numbers;
 mod roots;
 mod table;
 
+pub use answer::{Answer, MOST_SHOWN};
 pub use carried::Cells;
 pub use cells::{Cell, Object, Parcel, Place, View};
 pub use class::Class;
 pub use code::{Capture, Child, Kind, Leaf, MethodCode, Node};
 pub use columns::Columns;
-pub use future::Future;
+pub use future::{Future, Sighting};
 pub use keys::{KeyedLabel, text_key};
 pub use labels::SharedLabel;
 pub use laws::locations_are_uses;

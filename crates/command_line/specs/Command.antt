@@ -36,8 +36,9 @@ with_more a =
 -- and behind those the options of further tasks
 abbrev pub with_tasks : App → App
 with_tasks a =
-    with_rule (with_rule (with_rule (with_rule (with_rule a (flag_rule (codes "determinate"))) (flag_rule (codes "journal")))
-    (flag_rule (codes "save"))) (option_rule (codes "same"))) (option_rule (codes "trace"))
+    with_rule (with_rule (with_rule (with_rule (with_rule (with_rule a (flag_rule (codes "determinate")))
+    (flag_rule (codes "journal"))) (flag_rule (codes "save"))) (option_rule (codes "resume")))
+    (option_rule (codes "same"))) (option_rule (codes "trace"))
 
 abbrev pub command : App
 command = on_top (λ s. record s {
@@ -45,7 +46,7 @@ command = on_top (λ s. record s {
       ∷ option_rule (codes "replay") ∷ option_rule (codes "make") ∷ option_rule (codes "state")
       ∷ option_rule (codes "workers") ∷ option_rule (codes "strategy") ∷ option_rule (codes "update")
       ∷ flag_rule (codes "determinate") ∷ flag_rule (codes "journal") ∷ flag_rule (codes "save")
-      ∷ option_rule (codes "same") ∷ option_rule (codes "trace") ∷ [];
+      ∷ option_rule (codes "resume") ∷ option_rule (codes "same") ∷ option_rule (codes "trace") ∷ [];
 }) bare_command
 
 -- the command takes the words
@@ -69,6 +70,7 @@ pub record TextsShape : Type 0 where
   pub determinate : Bool
   pub journal : Bool
   pub save : Bool
+  pub resume : Option Text
   pub replay : Option Text
   pub same : Option Text
   pub trace : Option Text
@@ -97,6 +99,7 @@ texts_in rows = record {
   determinate = says_true (first_of (codes "determinate") rows);
   journal = says_true (first_of (codes "journal") rows);
   save = says_true (first_of (codes "save") rows);
+  resume = first_of (codes "resume") rows;
   replay = first_of (codes "replay") rows;
   same = first_of (codes "same") rows;
   trace = first_of (codes "trace") rows;

@@ -4,7 +4,7 @@ use Rattle.clap.specs.Walk.{Text}
 use Rattle.update_policy.specs.declared.strategy.Strategy.{Strategy}
 use Rattle.update_policy.specs.declared.strategy.Strategy.TheVariants.{Lazy, Forward, Message}
 use Rattle.command_line.specs.Settings.{SettingsShape, usual}
-use Rattle.command_line.specs.Task.{TaskShape, Runs, Checks, Rules, Journals, Saves, Replays, Compares, Traces, Makes, task_of}
+use Rattle.command_line.specs.Task.{TaskShape, Runs, Checks, Rules, Journals, Saves, Resumes, SavesAgain, Replays, Compares, Traces, Makes, task_of}
 
 abbrev pub Asks : List Text → TaskShape → Type 0
 Asks words task = task_of words ≡ Some task
@@ -43,6 +43,11 @@ pub record AcceptedLines : Type 0 where
   pub save : Asks (one ∷ codes "--budget=5" ∷ codes "--save" ∷ []) (Saves one (with_budget 5))
   pub save_settings : Asks (codes "--save" ∷ one ∷ codes "--workers=64" ∷ codes "--strategy=message" ∷ [])
       (Saves one (record (with_plan Message []) { workers = 64 }))
+  pub resume : Asks (one ∷ codes "--resume=one.saved" ∷ []) (Resumes one (codes "one.saved") usual None)
+  pub resume_all : Asks (codes "--resume" ∷ codes "one.saved" ∷ one ∷ codes "--budget=5" ∷ codes "--workers=64" ∷ codes "--state=2" ∷ [])
+      (Resumes one (codes "one.saved") (record (with_budget 5) { workers = 64 }) (Some 2))
+  pub save_again : Asks (one ∷ codes "--save" ∷ codes "--resume=one.saved" ∷ codes "--strategy=message" ∷ [])
+      (SavesAgain one (codes "one.saved") (with_plan Message []))
   pub replay : Asks (one ∷ codes "--replay=one.report" ∷ []) (Replays one (codes "one.report") None)
   pub replay_hyphen : Asks (one ∷ codes "--replay" ∷ codes "-" ∷ []) (Replays one (codes "-") None)
   pub hyphen_behind : Asks (one ∷ codes "--replay=-r" ∷ []) (Replays one (codes "-r") None)
@@ -101,6 +106,14 @@ pub record RefusedCombinations : Type 0 where
   pub save_journal : IsRefused (one ∷ codes "--journal" ∷ codes "--save" ∷ [])
   pub save_trace : IsRefused (one ∷ codes "--save" ∷ codes "--trace=one.trace" ∷ [])
   pub save_make : IsRefused (codes "--make=3" ∷ codes "--save" ∷ [])
+  pub resume_alone : IsRefused (codes "--resume=one.saved" ∷ [])
+  pub resume_check : IsRefused (one ∷ codes "--resume=one.saved" ∷ codes "--check" ∷ [])
+  pub resume_replay : IsRefused (one ∷ codes "--resume=one.saved" ∷ codes "--replay=one.report" ∷ [])
+  pub resume_determinate : IsRefused (one ∷ codes "--determinate" ∷ codes "--resume=one.saved" ∷ [])
+  pub resume_journal : IsRefused (one ∷ codes "--journal" ∷ codes "--resume=one.saved" ∷ [])
+  pub resume_trace : IsRefused (one ∷ codes "--resume=one.saved" ∷ codes "--trace=one.trace" ∷ [])
+  pub resume_make : IsRefused (codes "--make=3" ∷ codes "--resume=one.saved" ∷ [])
+  pub save_again_state : IsRefused (one ∷ codes "--save" ∷ codes "--resume=one.saved" ∷ codes "--state=1" ∷ [])
   pub same_alone : IsRefused (one ∷ codes "--same=two.report" ∷ [])
   pub same_state : IsRefused (one ∷ codes "--replay=one.report" ∷ codes "--same=two.report" ∷ codes "--state=1" ∷ [])
   pub same_check : IsRefused (one ∷ codes "--check" ∷ codes "--same=two.report" ∷ [])
@@ -166,6 +179,7 @@ pub record RefusedWords : Type 0 where
   pub twice : IsRefused (one ∷ codes "--budget=5" ∷ codes "--budget=5" ∷ [])
   pub workers_twice : IsRefused (one ∷ codes "--workers=4" ∷ codes "--workers=4" ∷ [])
   pub state_twice : IsRefused (one ∷ codes "--state=1" ∷ codes "--state=1" ∷ [])
+  pub resume_twice : IsRefused (one ∷ codes "--resume=one.saved" ∷ codes "--resume=one.saved" ∷ [])
   pub flag_twice : IsRefused (one ∷ codes "--check" ∷ codes "--check" ∷ [])
   pub flag_with_value : IsRefused (one ∷ codes "--check=" ∷ [])
   pub no_value : IsRefused (one ∷ codes "--budget" ∷ [])

@@ -5,8 +5,8 @@ use Rattle.clap.specs.Walk.{Text}
 use Rattle.update_policy.specs.Plans.{plan_shape}
 use Rattle.command_line.specs.Command.{SettingTexts, TextsShape}
 use Rattle.command_line.specs.Settings.{SettingsShape}
-use Rattle.command_line.specs.Wanted.{CompanionsShape, WantedShape, Run, Check, Rule, Journal, Save, Replay, Compare, Trace, Make}
-use Rattle.command_line.specs.Task.{TaskShape, Runs, Checks, Rules, Journals, Saves, Replays, Compares, Traces, Makes}
+use Rattle.command_line.specs.Wanted.{CompanionsShape, WantedShape, Run, Check, Rule, Journal, Save, Resume, SaveAgain, Replay, Compare, Trace, Make}
+use Rattle.command_line.specs.Task.{TaskShape, Runs, Checks, Rules, Journals, Saves, Resumes, SavesAgain, Replays, Compares, Traces, Makes}
 use Rattle.command_line.specs.declared.command.Given.{Given}
 use Rattle.command_line.specs.declared.command.Texts.{Texts}
 use Rattle.command_line.specs.declared.settings.Settings.{Settings}
@@ -34,6 +34,7 @@ texts_shape t = record {
   determinate = t.determinate;
   journal = t.journal;
   save = t.save;
+  resume = text_behind t.resume;
   replay = text_behind t.replay;
   same = text_behind t.same;
   trace = text_behind t.trace;
@@ -51,6 +52,8 @@ task_shape (task.Check file) = Checks file.now
 task_shape (task.Rule file settings) = Rules file.now (settings_shape settings)
 task_shape (task.Journal file settings) = Journals file.now (settings_shape settings)
 task_shape (task.Save file settings) = Saves file.now (settings_shape settings)
+task_shape (task.Resume file checkpoint settings depth) = Resumes file.now checkpoint.now (settings_shape settings) depth
+task_shape (task.SaveAgain file checkpoint settings) = SavesAgain file.now checkpoint.now (settings_shape settings)
 task_shape (task.Replay file report depth) = Replays file.now report.now depth
 task_shape (task.Compare file report other) = Compares file.now report.now other.now
 task_shape (task.Trace file trace budget depth) = Traces file.now trace.now budget depth
@@ -62,6 +65,8 @@ wanted_shape wanted.Check = Check
 wanted_shape wanted.Rule = Rule
 wanted_shape wanted.Journal = Journal
 wanted_shape wanted.Save = Save
+wanted_shape (wanted.Resume checkpoint) = Resume checkpoint.now
+wanted_shape (wanted.SaveAgain checkpoint) = SaveAgain checkpoint.now
 wanted_shape (wanted.Replay report) = Replay report.now
 wanted_shape (wanted.Compare report other) = Compare report.now other.now
 wanted_shape (wanted.Trace trace) = Trace trace.now

@@ -6,7 +6,7 @@ use Rattle.asp_model.specs.declared.limits.TheConstants.{MOST_DEPTH, MOST_PAIRS,
 use Rattle.command_line.specs.Command.{SettingTexts, TextsShape, is_taken, texts_of}
 use Rattle.command_line.specs.Numbers.{number_in}
 use Rattle.command_line.specs.Settings.{IsSettings, SettingsShape, budget_of, settings_of}
-use Rattle.command_line.specs.Wanted.{WantedShape, Run, Check, Rule, Journal, Save, Replay, Compare, Trace, Make}
+use Rattle.command_line.specs.Wanted.{WantedShape, Run, Check, Rule, Journal, Save, Resume, SaveAgain, Replay, Compare, Trace, Make}
 use Rattle.command_line.specs.Wanted.{companions_of, stand, wanted_in}
 
 -- a depth is that of the states that the report shows; with none it shows no state
@@ -16,6 +16,8 @@ pub data TaskShape : Type 0 where
   Rules : (file : Text) (settings : SettingsShape) → TaskShape
   Journals : (file : Text) (settings : SettingsShape) → TaskShape
   Saves : (file : Text) (settings : SettingsShape) → TaskShape
+  Resumes : (file checkpoint : Text) (settings : SettingsShape) (depth : Option ℕ) → TaskShape
+  SavesAgain : (file checkpoint : Text) (settings : SettingsShape) → TaskShape
   Replays : (file report : Text) (depth : Option ℕ) → TaskShape
   Compares : (file report other : Text) → TaskShape
   Traces : (file trace : Text) (budget : ℕ) (depth : Option ℕ) → TaskShape
@@ -32,6 +34,8 @@ IsWithin (Runs file settings depth) = IsSettings settings × IsDepth depth
 IsWithin (Rules file settings) = IsSettings settings
 IsWithin (Journals file settings) = IsSettings settings
 IsWithin (Saves file settings) = IsSettings settings
+IsWithin (Resumes file checkpoint settings depth) = IsSettings settings × IsDepth depth
+IsWithin (SavesAgain file checkpoint settings) = IsSettings settings
 IsWithin (Replays file report depth) = IsDepth depth
 IsWithin (Traces file trace budget depth) = ((1 ≤ budget) × (budget ≤ MOST_REDUCTIONS)) × IsDepth depth
 IsWithin (Makes pairs settings) = ((1 ≤ pairs) × (pairs ≤ MOST_PAIRS)) × IsSettings settings
@@ -55,6 +59,13 @@ journaling file given = option_map (Journals file) (settings_of given)
 abbrev pub saving : Text → SettingTexts → Option TaskShape
 saving file given = option_map (Saves file) (settings_of given)
 
+abbrev pub resuming : Text → Text → SettingTexts → Option Text → Option TaskShape
+resuming file checkpoint given state =
+    option_and_then (λ s. option_map (Resumes file checkpoint s) (depth_of state)) (settings_of given)
+
+abbrev pub saving_again : Text → Text → SettingTexts → Option TaskShape
+saving_again file checkpoint given = option_map (SavesAgain file checkpoint) (settings_of given)
+
 abbrev pub replaying : Text → Text → Option Text → Option TaskShape
 replaying file report state = option_map (Replays file report) (depth_of state)
 
@@ -73,6 +84,8 @@ task_by Check (Some file) t = Some (Checks file)
 task_by Rule (Some file) t = ruling file t.settings
 task_by Journal (Some file) t = journaling file t.settings
 task_by Save (Some file) t = saving file t.settings
+task_by (Resume checkpoint) (Some file) t = resuming file checkpoint t.settings t.state
+task_by (SaveAgain checkpoint) (Some file) t = saving_again file checkpoint t.settings
 task_by (Replay report) (Some file) t = replaying file report t.state
 task_by (Compare report other) (Some file) t = Some (Compares file report other)
 task_by (Trace trace) (Some file) t = tracing file trace t.settings t.state

@@ -15,6 +15,10 @@ pub data WantedShape : Type 0 where
   Journal : WantedShape
   -- what is left of a run whose budget runs out
   Save : WantedShape
+  -- a run that goes on from a checkpoint
+  Resume : (checkpoint : Text) → WantedShape
+  -- what is left of it, where its budget runs out
+  SaveAgain : (checkpoint : Text) → WantedShape
   Replay : (report : Text) → WantedShape
   -- two reports of it, as services see them
   Compare : (report other : Text) → WantedShape
@@ -32,6 +36,12 @@ and_asks asked (Some wanted) = None
 abbrev pub flag_asks : Bool → WantedShape → Option WantedShape
 flag_asks given wanted = if given then Some wanted else None
 
+-- `--save` and `--resume` stand together, too
+abbrev pub save_asks : Bool → Option Text → Option WantedShape
+save_asks save None = flag_asks save Save
+save_asks false (Some checkpoint) = Some (Resume checkpoint)
+save_asks true (Some checkpoint) = Some (SaveAgain checkpoint)
+
 -- `--replay` asks for a replay, and with `--same` for a comparison
 abbrev pub replay_asks : Option Text → Option Text → Option WantedShape
 replay_asks None same = None
@@ -44,7 +54,7 @@ wanted_in t =
     let asked = and_asks (Some Run) (flag_asks t.check Check) in
     let asked = and_asks asked (flag_asks t.determinate Rule) in
     let asked = and_asks asked (flag_asks t.journal Journal) in
-    let asked = and_asks asked (flag_asks t.save Save) in
+    let asked = and_asks asked (save_asks t.save t.resume) in
     let asked = and_asks asked (replay_asks t.replay t.same) in
     let asked = and_asks asked (option_map Trace t.trace) in
     and_asks asked (option_map Make t.make)
@@ -62,6 +72,8 @@ companions_of Check = record { racing = false; budget = false; state = false }
 companions_of Rule = record { racing = true; budget = true; state = false }
 companions_of Journal = record { racing = true; budget = true; state = false }
 companions_of Save = record { racing = true; budget = true; state = false }
+companions_of (Resume checkpoint) = record { racing = true; budget = true; state = true }
+companions_of (SaveAgain checkpoint) = record { racing = true; budget = true; state = false }
 companions_of (Replay report) = record { racing = false; budget = false; state = true }
 companions_of (Compare report other) = record { racing = false; budget = false; state = false }
 companions_of (Trace trace) = record { racing = false; budget = true; state = true }

@@ -29,6 +29,7 @@ pub struct Texts<'a> {
     pub determinate: bool,
     pub journal: bool,
     pub save: bool,
+    pub resume: Option<&'a str>,
     pub replay: Option<&'a str>,
     pub same: Option<&'a str>,
     pub trace: Option<&'a str>,
@@ -97,6 +98,7 @@ fn with_tasks<'a>(alloc: Global, command: Command<'a>) -> Result<Command<'a>, Al
     let command = with_flag(alloc, command, "determinate")?;
     let command = with_flag(alloc, command, "journal")?;
     let command = with_flag(alloc, command, "save")?;
+    let command = with_option(alloc, command, "resume")?;
     let command = with_option(alloc, command, "same")?;
     with_option(alloc, command, "trace")
 }
@@ -157,6 +159,7 @@ fn texts_found<'a>(matches: &ArgMatches<'a>) -> Texts<'a>
         determinate: is_true(text_of(matches, "determinate")),
         journal: is_true(text_of(matches, "journal")),
         save: is_true(text_of(matches, "save")),
+        resume: text_of(matches, "resume"),
         replay: text_of(matches, "replay"),
         same: text_of(matches, "same"),
         trace: text_of(matches, "trace"),

@@ -8,9 +8,11 @@ ghost use Rattle.command_line.specs.Task.{
   journaling,
   making,
   replaying,
+  resuming,
   ruling,
   running,
   saving,
+  saving_again,
   task_by as task_given,
   task_in,
   task_of,
@@ -63,6 +65,26 @@ pub enum Task<'a> {
         /// The file's name.
         file: &'a str,
         /// How it is run.
+        settings: Settings,
+    },
+    /// Run it on from a checkpoint.
+    Resume {
+        /// The program's file.
+        file: &'a str,
+        /// The checkpoint's file.
+        checkpoint: &'a str,
+        /// How it is run on.
+        settings: Settings,
+        /// How deep the report shows states, if it shows any.
+        depth: Option<u32>,
+    },
+    /// Run it on from a checkpoint, and write what is left of the run, where the budget runs out.
+    SaveAgain {
+        /// The program's file.
+        file: &'a str,
+        /// The checkpoint's file.
+        checkpoint: &'a str,
+        /// How it is run on.
         settings: Settings,
     },
     /// Replay a report of it.
@@ -146,6 +168,10 @@ fn task_by<'a>(alloc: Global, wanted: Wanted<'a>, texts: &Texts<'a>) -> Result<T
         (Wanted::Rule, Some(file)) => rule(alloc, file, &texts.settings),
         (Wanted::Journal, Some(file)) => journal(alloc, file, &texts.settings),
         (Wanted::Save, Some(file)) => save(alloc, file, &texts.settings),
+        (Wanted::Resume(name), Some(file)) => {
+            resume(alloc, file, name, &texts.settings, texts.state)
+        }
+        (Wanted::SaveAgain(name), Some(file)) => save_again(alloc, file, name, &texts.settings),
         (Wanted::Replay(report), Some(file)) => replay(file, report, texts.state),
         (Wanted::Compare(report, other), Some(file)) => Ok(Task::Compare {
             file,
@@ -210,6 +236,49 @@ fn save<'a>(alloc: Global, file: &'a str, given: &Given<'_>) -> Result<Task<'a>,
 {
     let settings = settings_in(alloc, given)?;
     Ok(Task::Save { file, settings })
+}
+
+fn resume<'a>(
+    alloc: Global,
+    file: &'a str,
+    checkpoint: &'a str,
+    given: &Given<'_>,
+    state: Option<&str>,
+) -> Result<Task<'a>, WordsError>
+    ensures ok { let asked = resuming file.entry.now checkpoint.entry.now (given_shape given.now) in
+        IfOk result (λ t. asked (text_behind state.entry) ≡ Some (task_shape t)) }
+    ensures usage { let asked = resuming file.entry.now checkpoint.entry.now in IfErr result
+        (λ e. e ≡ errors.Usage → asked (given_shape given.now) (text_behind state.entry) ≡ None) }
+    ensures within { IfOk result (λ t. IsWithin (task_shape t)) }
+{
+    let settings = settings_in(alloc, given)?;
+    let depth = depth_in(state)?;
+    Ok(Task::Resume {
+        file,
+        checkpoint,
+        settings,
+        depth,
+    })
+}
+
+fn save_again<'a>(
+    alloc: Global,
+    file: &'a str,
+    checkpoint: &'a str,
+    given: &Given<'_>,
+) -> Result<Task<'a>, WordsError>
+    ensures ok { let asked = saving_again file.entry.now checkpoint.entry.now in
+        IfOk result (λ t. asked (given_shape given.now) ≡ Some (task_shape t)) }
+    ensures usage { let asked = saving_again file.entry.now checkpoint.entry.now in
+        IfErr result (λ e. e ≡ errors.Usage → asked (given_shape given.now) ≡ None) }
+    ensures within { IfOk result (λ t. IsWithin (task_shape t)) }
+{
+    let settings = settings_in(alloc, given)?;
+    Ok(Task::SaveAgain {
+        file,
+        checkpoint,
+        settings,
+    })
 }
 
 fn replay<'a>(file: &'a str, report: &'a str, state: Option<&str>) -> Result<Task<'a>, WordsError>

@@ -11,6 +11,7 @@ ghost use Rattle.command_line.specs.Wanted.{
   is_allowed as is_allowed_beside,
   is_racing as is_racing_given,
   replay_asks as replay_asks_shape,
+  save_asks as save_asks_shape,
   stand as stand_beside,
   wanted_in as wanted_among,
 };
@@ -30,6 +31,10 @@ pub enum Wanted<'a> {
     Journal,
     /// That it is run, and what is left is written, where its budget runs out.
     Save,
+    /// That it is run on from the checkpoint in a file.
+    Resume(&'a str),
+    /// That it is run on from there, and what is left is written, where its budget runs out.
+    SaveAgain(&'a str),
     /// That the report in a file is replayed.
     Replay(&'a str),
     /// That the reports in two files are compared, as services see them.
@@ -70,6 +75,17 @@ fn flag_asks<'a>(given: bool, wanted: Wanted<'a>) -> Option<Wanted<'a>>
     if given { Some(wanted) } else { None }
 }
 
+fn save_asks<'a>(save: bool, checkpoint: Option<&'a str>) -> Option<Wanted<'a>>
+    ensures { let asked = save_asks_shape save (text_behind checkpoint.entry) in
+        option_map wanted_shape result ≡ asked }
+{
+    match checkpoint {
+        None => flag_asks(save, Wanted::Save),
+        Some(checkpoint) if save => Some(Wanted::SaveAgain(checkpoint)),
+        Some(checkpoint) => Some(Wanted::Resume(checkpoint)),
+    }
+}
+
 fn replay_asks<'a>(report: Option<&'a str>, other: Option<&'a str>) -> Option<Wanted<'a>>
     ensures { let asked = replay_asks_shape (text_behind report.entry) in
         option_map wanted_shape result ≡ asked (text_behind other.entry) }
@@ -108,7 +124,7 @@ pub fn wanted_in<'a>(texts: &Texts<'a>) -> Option<Wanted<'a>>
     let asked = and_asks(Some(Wanted::Run), flag_asks(texts.check, Wanted::Check));
     let asked = and_asks(asked, flag_asks(texts.determinate, Wanted::Rule));
     let asked = and_asks(asked, flag_asks(texts.journal, Wanted::Journal));
-    let asked = and_asks(asked, flag_asks(texts.save, Wanted::Save));
+    let asked = and_asks(asked, save_asks(texts.save, texts.resume));
     let asked = and_asks(asked, replay_asks(texts.replay, texts.same));
     let asked = and_asks(asked, trace_asks(texts.trace));
     and_asks(asked, make_asks(texts.make))
@@ -139,7 +155,12 @@ pub fn companions_of(wanted: Wanted<'_>) -> Companions
             budget: true,
             state: false,
         },
-        Wanted::Save => Companions {
+        Wanted::Resume(_) => Companions {
+            racing: true,
+            budget: true,
+            state: true,
+        },
+        Wanted::Save | Wanted::SaveAgain(_) => Companions {
             racing: true,
             budget: true,
             state: false,

@@ -5,5 +5,6 @@ pub mod VisitLemmas
 pub mod CopyLemmas
 pub mod GraftLemmas
 pub mod UnpackLemmas
+pub mod ShownLemmas
 pub mod PackLemmas
 pub mod AloneLemmas

@@ -29,7 +29,7 @@ use Rattle.law_steps.proofs.StepLemmas.{step_taken}
 use Rattle.law_services.specs.Services.{replayed_to}
 use Rattle.law_services.proofs.EndLemmas.{more_steps, one_more, replay_run}
 use Rattle.law_services.proofs.SameLemmas.{right_at}
-use Rattle.replay_one.specs.Notes.{EventShape, NoteShape, Printed, answered_by, given_by, least_notes, made_by, noted_as, notes_from, notes_of, polled_by, printed_by, sent_by, served_by}
+use Rattle.replay_parts.specs.Notes.{EventShape, NoteShape, Printed, answered_by, given_by, least_notes, made_by, noted_as, notes_from, notes_of, polled_by, printed_by, sent_by, served_by}
 use Rattle.explain.specs.Orders.{EntryShape, OrdersAreLogs, entered, entered_by, entries_of, order_of}
 
 -- Notes of one step more

@@ -3,11 +3,11 @@ use Rattle.std.specs.Prelude.{◌≡◌, ℕ, List, [], ◌∷◌, ◌++◌, Opt
 use Rattle.std.proofs.Common.{refl, sym, ap, subst, ◌∙◌}
 use Rattle.std.proofs.lemmas.List.{append-nil, append_assoc}
 use Rattle.asp_model.specs.Names.{Name}
-use Rattle.replay_one.specs.Notes.{EventShape, NoteShape, Served, Made, Sent, Answered, Polled, Printed, Standing, Faulted}
-use Rattle.replay_one.specs.declared.notes.Event.{Event}
-use Rattle.replay_one.specs.declared.notes.Event.TheVariants as event
-use Rattle.replay_one.specs.declared.notes.Note.{Note}
-use Rattle.replay_one.specs.Listening.{IsEvent, IsNote}
+use Rattle.replay_parts.specs.Notes.{EventShape, NoteShape, Served, Made, Sent, Answered, Polled, Printed, Standing, Faulted}
+use Rattle.replay_parts.specs.declared.notes.Event.{Event}
+use Rattle.replay_parts.specs.declared.notes.Event.TheVariants as event
+use Rattle.replay_parts.specs.declared.notes.Note.{Note}
+use Rattle.replay_parts.specs.Listening.{IsEvent, IsNote}
 use Rattle.explain.specs.declared.events.listener.Listener.{Listener}
 use Rattle.explain.specs.declared.events.page.Wish.{Wish}
 use Rattle.run_waits.specs.Books.{BookShape, IsNoted, KeepsBooks, book_at, book_in, owner}

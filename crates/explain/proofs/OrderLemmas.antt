@@ -10,11 +10,11 @@ use Rattle.asp_model.specs.Intent as intents
 use Rattle.asp_model.specs.Intent.{StatusShape}
 use Rattle.asp_model.specs.Status.{status_of}
 use Rattle.law_steps.specs.Waking.{labels_wanted}
-use Rattle.replay_one.specs.Notes.{EventShape, NoteShape, Served, Made, Sent, Answered, Polled, Printed, Standing, Faulted, faulted_by, noted_as, place_of, places_by, places_in}
-use Rattle.replay_one.specs.declared.notes.Event.{Event}
-use Rattle.replay_one.specs.declared.notes.Event.TheVariants as event
-use Rattle.replay_one.specs.declared.notes.Note.{Note}
-use Rattle.replay_one.specs.Listening.{IsDeafToLines, IsEvent, IsNote}
+use Rattle.replay_parts.specs.Notes.{EventShape, NoteShape, Served, Made, Sent, Answered, Polled, Printed, Standing, Faulted, faulted_by, noted_as, place_of, places_by, places_in}
+use Rattle.replay_parts.specs.declared.notes.Event.{Event}
+use Rattle.replay_parts.specs.declared.notes.Event.TheVariants as event
+use Rattle.replay_parts.specs.declared.notes.Note.{Note}
+use Rattle.replay_parts.specs.Listening.{IsDeafToLines, IsEvent, IsNote}
 use Rattle.explain.specs.declared.differences.order.Order.{Order}
 use Rattle.explain.specs.Orders.{EntryShape, entered, entered_by, order_of}
 use Rattle.explain.specs.OrderKept.{Tells, entry_shape, poll_of, request_of}

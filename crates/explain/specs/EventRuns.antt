@@ -5,7 +5,7 @@ use Rattle.asp_model.specs.Names.{Name}
 use Rattle.asp_model.specs.Term.{Tree}
 use Rattle.asp_model.specs.Step.{ListsShape}
 use Rattle.asp_model.specs.Replay.{CountsShape, replay}
-use Rattle.replay_one.specs.Notes.{HasNames, places_in, replay_notes}
+use Rattle.replay_parts.specs.Notes.{HasNames, places_in, replay_notes}
 use Rattle.explain.specs.declared.events.event.RunEvent.{RunEvent}
 use Rattle.explain.specs.declared.events.EventsRun.{EventsRun}
 use Rattle.explain.specs.declared.events.page.Wish.{Wish}

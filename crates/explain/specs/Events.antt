@@ -2,7 +2,7 @@
 use Rattle.std.specs.Prelude.{ℕ, Bool, true, false, ◌||◌, List, [], ◌∷◌, ◌++◌, Option, Some, None, drop, take, option_map}
 use Rattle.asp_model.specs.Names.{Name, FutureShape, Text, same_name}
 use Rattle.asp_model.specs.Contraction.{FaultShape, LineShape}
-use Rattle.replay_one.specs.Notes.{EventShape, NoteShape, Served, Made, Sent, Answered, Polled, Printed, Standing, Faulted}
+use Rattle.replay_parts.specs.Notes.{EventShape, NoteShape, Served, Made, Sent, Answered, Polled, Printed, Standing, Faulted}
 use Rattle.run_waits.specs.Books.{BookShape, Request, book_in, newest}
 
 pub data WhatShape : Type 0 where

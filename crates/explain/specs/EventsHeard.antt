@@ -5,9 +5,9 @@ use Rattle.asp_model.specs.Names.{Name}
 use Rattle.asp_model.specs.Shapes.{fault_shape, future_shape, line_shape}
 use Rattle.serve_rules.specs.Labels.{label_text}
 use Rattle.serve_rules.specs.Wanted.{wanted_labels}
-use Rattle.replay_one.specs.declared.notes.Event.{Event}
-use Rattle.replay_one.specs.declared.notes.Event.TheVariants as event
-use Rattle.replay_one.specs.Notes.{EventShape, NoteShape, Served, Made, Sent, Answered, Polled, Printed, Standing, Faulted}
+use Rattle.replay_parts.specs.declared.notes.Event.{Event}
+use Rattle.replay_parts.specs.declared.notes.Event.TheVariants as event
+use Rattle.replay_parts.specs.Notes.{EventShape, NoteShape, Served, Made, Sent, Answered, Polled, Printed, Standing, Faulted}
 use Rattle.explain.specs.declared.events.event.RunEvent.{RunEvent}
 use Rattle.explain.specs.declared.events.event.What.{What}
 use Rattle.explain.specs.declared.events.event.What.TheVariants as what

@@ -9,7 +9,7 @@ use Rattle.asp_model.specs.Shapes.{reception_shape}
 use Rattle.asp_model.specs.declared.outcome.Reception.{Reception}
 use Rattle.asp_model.specs.Step.{ListsShape}
 use Rattle.serve_rules.specs.Labels.{label_text}
-use Rattle.replay_one.specs.Notes.{NoteShape}
+use Rattle.replay_parts.specs.Notes.{NoteShape}
 use Rattle.explain.specs.declared.differences.logs.Numbers.{Numbers}
 use Rattle.explain.specs.declared.differences.order.Entry.{Entry}
 use Rattle.explain.specs.declared.differences.order.Order.{Order}

@@ -6,7 +6,7 @@ use Rattle.asp_model.specs.Configuration.{ReceptionShape, From, Poll}
 use Rattle.asp_model.specs.Term.{Tree}
 use Rattle.asp_model.specs.Step.{ListsShape}
 use Rattle.asp_model.specs.Replay.{CountsShape, Fits, log_in}
-use Rattle.replay_one.specs.Notes.{EventShape, NoteShape, Sent, Polled, replay_notes}
+use Rattle.replay_parts.specs.Notes.{EventShape, NoteShape, Sent, Polled, replay_notes}
 
 -- an entry: whose log, what it notes, and the label of the request
 pub record EntryShape : Type 0 where

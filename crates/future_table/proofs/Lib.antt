@@ -1,4 +1,5 @@
 pub mod TableLemmas
+pub mod ConfirmedLemmas
 pub mod NumberLemmas
 pub mod LinkLemmas
 pub mod ComponentLemmas

@@ -4,11 +4,11 @@ use Rattle.std.specs.Option.{option_map, option_copied}
 use Rattle.std.specs.Map.{lookup}
 use Rattle.std.specs.Map.{values_of as parcels}
 use Rattle.std.specs.FinMap.{IsAntisymmetric, find, put, is_sorted}
-use Rattle.std.specs.FinMap.Entries.{below_all, by_order, is_sorted-put, length-put}
+use Rattle.std.specs.FinMap.Entries.{by_order, is_sorted-put}
 use Rattle.std.specs.Cmp.{IsTotalOrder, on_total}
 use Rattle.std.specs.declared.cmp.Ordering.{Ordering}
 use Rattle.std.specs.declared.cmp.Ordering.TheVariants.{Less, Equal, Greater}
-use Rattle.std.specs.Ordering.{eq_by_cmp, is_eq, is_lt}
+use Rattle.std.specs.Ordering.{eq_by_cmp, is_eq}
 use Rattle.std.specs.List.{AllByRecursion, Contains, IsDistinct}
 use Rattle.std.proofs.lemmas.List.{length-map}
 use Rattle.std.proofs.lemmas.List.Elements.{All-contains_itself}
@@ -16,7 +16,7 @@ use Rattle.std.proofs.lemmas.Map.Views.{IfSome-lookup_from_All}
 use Rattle.asp_model.specs.declared.name.FutureName.{FutureName}
 use Rattle.code_table.specs.declared.cells.Parcel.{Parcel}
 use Rattle.asp_model.specs.FutureOrder.{eq_shape}
-use Rattle.asp_model.specs.Names.{FutureShape, future_cmp, same_future}
+use Rattle.asp_model.specs.Names.{future_cmp, same_future}
 use Rattle.asp_model.specs.Chase.{Values}
 use Rattle.asp_model.specs.Shapes.{future_shape}
 use Rattle.law_chases.proofs.FutureLemmas.{future_itself, future_same, future_total, futures_tied, no_some, none_true}

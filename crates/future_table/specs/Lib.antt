@@ -1,4 +1,5 @@
 pub mod Values
+pub mod Confirmed
 pub mod Numbers
 pub mod Links
 pub mod Components

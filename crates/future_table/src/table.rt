@@ -1,6 +1,19 @@
 //! The table of filled futures.
 
-ghost use Rattle.std.specs.Prelude.{◌≡◌, IfOk, IfSome, None, OnErr, OnOk, [], length};
+ghost use Rattle.std.specs.Prelude.{
+  ◌≡◌,
+  ◌↔◌,
+  IfOk,
+  IfSome,
+  IsSome,
+  List,
+  None,
+  OnErr,
+  OnOk,
+  [],
+  length,
+  true,
+};
 ghost use Rattle.std.specs.FinMap.{find, put};
 ghost use Rattle.std.specs.List.{Contains};
 ghost use Rattle.std.specs.Map.{values_of as parcels};
@@ -9,13 +22,24 @@ ghost use Rattle.asp_model.specs.Chase.{chase as chase_of};
 ghost use Rattle.asp_model.specs.Names.{future_cmp};
 ghost use Rattle.asp_model.specs.Shapes.{future_shape};
 ghost use Rattle.code_table.specs.Cells.{held_future};
+ghost use Rattle.code_table.specs.Seen.{IsOf, seen_by};
 ghost use Rattle.code_table.specs.Shapes.{parcel_shape};
-ghost use Rattle.future_table.specs.Values.{StayOfCode, chase_shape, lent_values, told, values_of};
+ghost use Rattle.code_table.specs.Shown.{answer_items};
+ghost use Rattle.code_table.specs.declared.code.Node.{Node as NodeShape};
+ghost use Rattle.future_table.specs.Confirmed.{HasSeen, IsSeen, cells_of};
+ghost use Rattle.future_table.specs.Values.{
+  AreOfCode,
+  StayOfCode,
+  chase_shape,
+  lent_values,
+  told,
+  values_of,
+};
 
 use crate::chase::Chase;
 use crate::walks::{self, Walks};
 use asp_model::FutureName;
-use code_table::{Future, Parcel};
+use code_table::{Answer, Future, Parcel, Sighting};
 use std::alloc::{AllocError, Global};
 use std::collections::BTreeMap;
 use std::marker::Model;
@@ -51,7 +75,8 @@ impl FutureTable {
         }
     }
 
-    /// Gives a future its value.
+    /// Gives a future its value. Then the value is shown to all who hold the future, where it may be
+    /// shown.
     pub fn fill(&mut self, future: Arc<Future>, value: Parcel) -> Result<(), AllocError>
         requires absent { find future_cmp (held_future future) (values_of self.old) ≡ None }
         requires one_root { length value.roots.items ≡ 1 }
@@ -61,7 +86,12 @@ impl FutureTable {
         ensures err { OnErr result (self.new ≡ self.old) }
     {
         let name = future.name.copy(self.walks.alloc)?;
-        walks::fill(&mut self.walks, name, value)
+        let answer = answer_of(self.walks.alloc, &future, &value)?;
+        walks::fill(&mut self.walks, name, value)?;
+        if let Some(answer) = answer {
+            future.show(answer);
+        }
+        Ok(())
     }
 
     /// How many futures were met, which is the number of the next one. It is a hint: no clause says it.
@@ -78,6 +108,25 @@ impl FutureTable {
         walks::value(&self.walks, name)
     }
 
+    /// Whether the value that a holder has seen of a future is the one that it has here. It takes no
+    /// memory.
+    pub fn confirms(&self, future: &Future, sighting: &mut Sighting) -> bool
+        requires of { IsOf future.now sighting.old }
+        requires seen { IsSome (seen_by sighting.old) }
+        ensures confirms { let seen = option_map answer_items (seen_by sighting.old) in
+            (result ≡ true) ↔ (cells_of future.now.name self.now ≡ seen) }
+        // whatever code the values are of
+        ensures value { (k : List NodeShape) → AreOfCode k self.now → result ≡ true →
+            HasSeen k (future_shape future.now.name) (values_of self.now) (seen_by sighting.old) }
+        ensures kept { seen_by sighting.new ≡ seen_by sighting.old }
+        ensures of { IsOf future.now sighting.new }
+    {
+        match walks::value(&self.walks, &future.name) {
+            Some(value) => is_value(value, future, sighting),
+            None => false,
+        }
+    }
+
     /// The filled futures in ascending order, with their values.
     pub fn entries(&self) -> Result<BTreeMap<FutureName, &Parcel>, AllocError>
         ensures entries { IfOk result (λ m. lent_values m.entries ≡ values_of self.now) }
@@ -91,5 +140,37 @@ impl FutureTable {
             chase_shape result ≡ told c }
     {
         walks::chase(&self.walks, name)
+    }
+}
+
+// The value as it is shown, where others hold the future and it may be.
+fn answer_of(
+    alloc: Global,
+    future: &Arc<Future>,
+    value: &Parcel,
+) -> Result<Option<Box<Answer>>, AllocError>
+    ensures answer { let cells = value.now.cells.items in
+        IfOk result (λ r. IfSome r (λ a. answer_items a.value ≡ cells)) }
+{
+    if Arc::strong_count(future) == 1 {
+        return Ok(None);
+    }
+    match Answer::of(alloc, &value.cells)? {
+        Some(answer) => Ok(Some(Box::new(alloc, answer)?)),
+        None => Ok(None),
+    }
+}
+
+// Whether this is the value that a holder has seen.
+fn is_value(value: &Parcel, future: &Future, sighting: &mut Sighting) -> bool
+    requires of { IsOf future.now sighting.old }
+    requires seen { IsSome (seen_by sighting.old) }
+    ensures same { (result ≡ true) ↔ IsSeen value.now.cells.items (seen_by sighting.old) }
+    ensures kept { seen_by sighting.new ≡ seen_by sighting.old }
+    ensures of { IsOf future.now sighting.new }
+{
+    match future.peek(sighting) {
+        Some(answer) => answer.is_of(&value.cells),
+        None => unreachable!(),
     }
 }

@@ -6,7 +6,7 @@ use Rattle.def_journals.specs.Journals.{grant_of, out_but}
 use Rattle.law_chases.proofs.FutureLemmas.{no_some, some_is, none_true, true_false}
 use Rattle.law_journals.specs.Budgets.{granted_in}
 use Rattle.law_traces.specs.Standings.{least_out}
-use Rattle.replay_population.proofs.ColumnLemmas.{is_same, number_case, same_number, set_here, set_other}
+use Rattle.replay_parts.proofs.ColumnLemmas.{is_same, number_case, same_number, set_here, set_other}
 use Rattle.journal_runs.specs.Grants.{IsGranted, IsLeastOut}
 use Rattle.journal_runs.specs.Runs.{grant_at}
 

@@ -22,8 +22,8 @@ use Rattle.law_journals.proofs.NumberLemmas.{histories_are_numbered, start_is_fi
 use Rattle.replay_population.specs.declared.population.Population.{Population}
 use Rattle.replay_population.specs.Population.{IsClosedPopulation, IsPopulation}
 use Rattle.replay_population.specs.Reached.{IsReachedPopulation}
-use Rattle.replay_population.specs.Roster.{IsRoster}
-use Rattle.replay_population.proofs.RosterLemmas.{number_named}
+use Rattle.replay_parts.specs.Roster.{IsRoster}
+use Rattle.replay_parts.proofs.RosterLemmas.{number_named}
 use Rattle.journal_runs.specs.declared.runs.JournalRun.{JournalRun}
 use Rattle.journal_runs.specs.Runs.{IsRunOf, grant_at}
 use Rattle.journal_runs.specs.Stepping.{IsReducing}

@@ -36,7 +36,7 @@ use Rattle.replay_population.specs.Giving.{CanHandOn}
 use Rattle.replay_population.specs.Population.{IsClosedBySome, IsPopulation}
 use Rattle.replay_population.proofs.EndLemmas.{reached_closed}
 use Rattle.replay_population.proofs.GivingLemmas.{reached_hand_on}
-use Rattle.replay_population.proofs.RosterLemmas.{number_front, number_other}
+use Rattle.replay_parts.proofs.RosterLemmas.{number_front, number_other}
 use Rattle.journal_runs.specs.Reducing.{SameThere}
 use Rattle.journal_runs.specs.Stepping.{IsActed, IsActing, IsAfter, IsNeeding, IsReducing, IsResting, IsStepped, MayFollow, gives}
 

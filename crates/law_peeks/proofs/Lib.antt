@@ -6,5 +6,7 @@ pub mod IntentLemmas
 pub mod StepLemmas
 pub mod MoveLemmas
 pub mod LongerLemmas
+pub mod NotedLemmas
 pub mod EntryLemmas
 pub mod ToldLemmas
+pub mod LeaseLemmas

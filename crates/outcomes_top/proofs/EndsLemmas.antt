@@ -9,7 +9,7 @@ use Rattle.asp_top.specs.declared.prepare.Prepared.{Prepared}
 use Rattle.asp_top.specs.Ready.{WrittenOf, text_in}
 use Rattle.asp_top.specs.Ended.{IsEnded}
 use Rattle.asp_top.specs.Programs.{IsInFile}
-use Rattle.asp_top.specs.Refusals.{Diverges, LongProgram, LongReport, LongTrace, NoMemory, NoProgram, NoReport, NoTrace, Refusal, Unchecked, Unfinished, Unlawful, Unread, Usage, message_of, status_of_refusal}
+use Rattle.asp_top.specs.Refusals.{Diverges, LongCheckpoint, LongProgram, LongReport, LongTrace, NoCheckpoint, NoMemory, NoProgram, NoReport, NoTrace, OtherCheckpoint, Overspent, Refusal, Unchecked, Unfinished, Unlawful, Unread, Usage, message_of, status_of_refusal}
 use Rattle.asp_top.specs.Seen.{Call, IsUntouched, Outside, Takes}
 use Rattle.asp_top.specs.Stops.{refusal_of}
 use Rattle.outcomes_top.specs.declared.halt.Halt.{Halt}
@@ -67,6 +67,9 @@ not_nine status h e = not_at status 9 h e (λ p. omega (arith, p)) (λ p. omega 
 not_ten : {A : Type 0} (status : ℕ) → IsEnded status → status ≡ 10 → A
 not_ten status h e = not_at status 10 h e (λ p. omega (arith, p)) (λ p. omega (arith, p)) (λ p. omega (arith, p))
 
+not_eleven : {A : Type 0} (status : ℕ) → IsEnded status → status ≡ 11 → A
+not_eleven status h e = not_at status 11 h e (λ p. omega (arith, p)) (λ p. omega (arith, p)) (λ p. omega (arith, p))
+
 not_refused : {A : Type 0} (status : ℕ) (r : Refusal) → IsEnded status → status ≡ status_of_refusal r → A
 not_refused status Usage h e = not_two status h e
 not_refused status (Unread name) h e = not_six status h e
@@ -80,6 +83,10 @@ not_refused status LongTrace h e = not_ten status h e
 not_refused status (NoTrace line) h e = not_ten status h e
 not_refused status (Unlawful entry) h e = not_ten status h e
 not_refused status Unfinished h e = not_ten status h e
+not_refused status LongCheckpoint h e = not_eleven status h e
+not_refused status OtherCheckpoint h e = not_eleven status h e
+not_refused status NoCheckpoint h e = not_eleven status h e
+not_refused status Overspent h e = not_eleven status h e
 not_refused status NoMemory h e = not_eight status h e
 
 not_fault : {A : Type 0} (status : ℕ) (fault : Fault) → IsEnded status → status ≡ status_of_fault fault → A

@@ -24,8 +24,8 @@ use Rattle.step_activity.specs.Outlook.{IsTo}
 use Rattle.class_search.specs.declared.ends.Sending.{Sending}
 use Rattle.replay_population.specs.declared.population.Population.{Population}
 use Rattle.replay_population.specs.Reached.{IsReachedPopulation}
-use Rattle.replay_population.specs.Roster.{Leads}
-use Rattle.replay_population.proofs.RosterLemmas.{leads_both, number_named, one_name}
+use Rattle.replay_parts.specs.Roster.{Leads}
+use Rattle.replay_parts.proofs.RosterLemmas.{leads_both, number_named, one_name}
 use Rattle.replay_offers.proofs.EntryLemmas.{acts_there, known_at, numbered}
 use Rattle.replay_classes.specs.declared.looks.Look.{Look}
 use Rattle.replay_classes.specs.declared.looks.Look.TheVariants as look

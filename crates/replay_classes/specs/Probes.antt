@@ -10,7 +10,7 @@ use Rattle.law_classes.specs.Runs.{entry_of}
 use Rattle.class_search.specs.declared.ends.Sending.{Sending}
 use Rattle.replay_population.specs.declared.population.Population.{Population}
 use Rattle.replay_population.specs.Reached.{IsReachedPopulation}
-use Rattle.replay_population.specs.Roster.{Leads}
+use Rattle.replay_parts.specs.Roster.{Leads}
 use Rattle.replay_classes.specs.Looks.{AreSenders, Sends}
 use Rattle.replay_classes.specs.Sendings.{IsAmong}
 

@@ -9,7 +9,7 @@ ghost use Rattle.asp_model.specs.Term.{Tree};
 ghost use Rattle.def_journals.specs.Journals.{number_of};
 ghost use Rattle.law_classes.specs.Runs.{entry_of as entry_by};
 ghost use Rattle.replay_population.specs.Reached.{IsReachedBySome, IsReachedPopulation};
-ghost use Rattle.replay_population.specs.Roster.{Leads};
+ghost use Rattle.replay_parts.specs.Roster.{Leads};
 ghost use Rattle.replay_classes.specs.Classes.{class_in};
 ghost use Rattle.replay_classes.specs.Looks.{AreSenders};
 ghost use Rattle.replay_classes.specs.Probes.{CanSend, CanSendAll, HasNexts};

@@ -25,10 +25,10 @@ use Rattle.step_activity.specs.Outlook.{IsOutlook, IsTo}
 use Rattle.step_parts.specs.declared.outlook.Outlook.{Outlook}
 use Rattle.step_parts.specs.declared.outlook.Outlook.TheVariants as outlook
 use Rattle.replay_population.specs.declared.population.Population.{Population}
-use Rattle.replay_population.specs.Roster.{IsRoster}
+use Rattle.replay_parts.specs.Roster.{IsRoster}
 use Rattle.replay_population.specs.Population.{IsPopulation}
 use Rattle.replay_population.specs.Reached.{IsReachedPopulation}
-use Rattle.replay_population.proofs.RosterLemmas.{number_within}
+use Rattle.replay_parts.proofs.RosterLemmas.{number_within}
 use Rattle.replay_population.proofs.PopulationLemmas.{absent_nowhere}
 use Rattle.replay_offers.specs.Entries.{HasEntry, HasNext, HasNextOf, IsEntry, with_some}
 

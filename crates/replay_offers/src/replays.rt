@@ -13,10 +13,10 @@ ghost use Rattle.def_paths.specs.Outcomes.{whole_outcome_of};
 ghost use Rattle.outcome_search.specs.Ends.{IsEnd, IsReplayableEnd, run_logs};
 ghost use Rattle.run_ends.specs.Ends.{IsEndOf};
 ghost use Rattle.replay_population.specs.Reached.{IsReachedBySome, IsReachedPopulation};
-ghost use Rattle.replay_one.specs.Bounds.{IsAscending};
+ghost use Rattle.replay_parts.specs.Bounds.{IsAscending};
 ghost use Rattle.replay_one.specs.Round.{IsInOrder, IsRunAt};
 ghost use Rattle.replay_offers.specs.Programs.{tree_in};
-ghost use Rattle.replay_one.specs.declared.bounds.Bounds.TheVariants as bounds;
+ghost use Rattle.replay_parts.specs.declared.bounds.Bounds.TheVariants as bounds;
 ghost use Rattle.replay_offers.specs.Replays.{IsFreePopulation, IsFreeRun, IsHeld};
 
 use crate::entries::entries_at;

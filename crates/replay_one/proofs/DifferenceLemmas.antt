@@ -1,11 +1,10 @@
 -- The rows of an outcome side by side with those of lists and counts.
-use Rattle.std.proofs.Common.{◌≡◌, ◌≤◌, ◌&&◌, ◌∷◌, [], ℕ, Bool, true, T, List, Option, map, refl, sym, ap, subst, ◌∙◌}
+use Rattle.std.proofs.Common.{◌≡◌, ◌≤◌, ◌&&◌, ◌∷◌, [], Bool, true, T, List, map, refl, sym, ap, subst, ◌∙◌}
 use Rattle.std.specs.Global.{Vec}
 use Rattle.std.specs.FinMap.{is_sorted}
 use Rattle.std.specs.FinMap.Entries.{below_all}
 use Rattle.std.specs.Ordering.{is_lt}
 use Rattle.asp_model.specs.declared.limits.TheConstants.{MOST_REDUCTIONS}
-use Rattle.asp_model.specs.declared.outcome.ActivityReport.{ActivityReport}
 use Rattle.asp_model.specs.declared.outcome.Outcome.{Outcome}
 use Rattle.asp_model.specs.declared.outcome.Reception.{Reception}
 use Rattle.asp_model.specs.Configuration.{ReceptionShape}
@@ -17,11 +16,9 @@ use Rattle.asp_model.specs.Replay.{CountsShape, replay, total}
 use Rattle.asp_model.specs.Shapes.{activity_shape, outcome_shape}
 use Rattle.law_schedules.specs.Divergence.{Row, divergence_of, first_difference, row_of, rows_given, rows_shown}
 use Rattle.replay_one.specs.Listed.{AreReplayable}
-use Rattle.replay_one.specs.Rows.{list_shape}
+use Rattle.replay_parts.specs.Rows.{list_shape}
 use Rattle.step_ends.proofs.ReportLemmas.{map_map}
-
-abbrev pub difference_in : List ActivityReport → List (Name × Vec Reception) → List (Name × ℕ) → Option Name
-difference_in reports lists counts = first_difference (map (λ (a : ActivityReport). row_of (activity_shape a)) reports) (rows_given (map list_shape lists) counts)
+use Rattle.replay_parts.proofs.DifferenceLemmas.{difference_in}
 
 -- the replay's outcome differs where it is found to
 pub divergence_is : (program : Tree) (o : Outcome) (lists : List (Name × Vec Reception)) (counts : CountsShape) → outcome_shape o ≡ outcome_of (replay program (map list_shape lists) counts) → divergence_of program (map list_shape lists) counts ≡ difference_in o.activities.items lists counts

@@ -1,6 +1,3 @@
-pub mod EntryLemmas
-pub mod NumberLemmas
-pub mod ReadyLemmas
 pub mod ScheduleLemmas
 pub mod LookLemmas
 pub mod GiveLemmas

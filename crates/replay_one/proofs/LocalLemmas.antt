@@ -26,8 +26,9 @@ use Rattle.law_schedules.specs.Watches.{IsWatched, Watches}
 use Rattle.law_schedules.proofs.WokenLemmas.{called_are_scheduled}
 use Rattle.activity_step.specs.Local.{IsLocalStep, LocalRun}
 use Rattle.replay_population.specs.Population.{with_activity}
-use Rattle.replay_one.specs.Notes.{least_notes, notes_from, notes_of}
-use Rattle.replay_one.proofs.NoteLemmas.{AreLines, first_noted, least_noted, lines_both, local_noted}
+use Rattle.replay_parts.specs.Notes.{least_notes, notes_from, notes_of}
+use Rattle.replay_one.proofs.NoteLemmas.{first_noted, least_noted, lines_both, local_noted}
+use Rattle.replay_parts.proofs.NoteLemmas.{AreLines}
 
 -- One contraction
 

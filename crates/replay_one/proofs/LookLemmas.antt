@@ -27,9 +27,9 @@ use Rattle.step_parts.specs.declared.outlook.Outlook.TheVariants as outlook
 use Rattle.step_activity.specs.Actors.{Stands}
 use Rattle.step_activity.specs.Outlook.{IsOutlook, IsTo}
 use Rattle.law_schedules.specs.Schedules.{IsNextIn, IsOf, RestsIn}
-use Rattle.replay_one.specs.declared.bounds.Next.TheVariants as next
+use Rattle.replay_parts.specs.declared.bounds.Next.TheVariants as next
 use Rattle.replay_population.specs.declared.population.Population.{Population}
-use Rattle.replay_one.specs.Bounds.{IsNextAt}
+use Rattle.replay_parts.specs.Bounds.{IsNextAt}
 use Rattle.step_activity.specs.Passing.{HasPassed, IsPassedFor}
 use Rattle.replay_population.specs.Population.{HasPassedIn, IsPopulation, found_in}
 use Rattle.step_ends.specs.Activities.{StandsAt}

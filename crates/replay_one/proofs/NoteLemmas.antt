@@ -22,8 +22,8 @@ use Rattle.law_steps.proofs.NameLemmas.{name_case, name_total, names_apart}
 use Rattle.law_steps.proofs.NamesLaws.{entries_ascend}
 use Rattle.law_schedules.specs.Schedules.{IsScheduled, RestsIn}
 use Rattle.activity_step.specs.Local.{IsLocalStep}
-use Rattle.replay_one.specs.Listening.{IsDeafToLines}
-use Rattle.replay_one.specs.Notes.{NoteShape, Printed, least_notes, noted_as, notes_from, notes_of, printed_by, served_by}
+use Rattle.replay_parts.specs.Notes.{NoteShape, least_notes, noted_as, notes_from, notes_of, printed_by, served_by}
+use Rattle.replay_parts.proofs.NoteLemmas.{AreLines, lines_noted, told_same}
 
 -- The least-named step
 
@@ -155,21 +155,6 @@ local_asks a b x = ap (λ q. labels_at q (cell a.store a.active)) x.splits ∙ u
 
 -- Lines
 
--- each of these notes is of a line
-pub record IsLine (x : NoteShape) : Type 0 where
-  pub by : Name
-  pub count : ℕ
-  pub line : LineShape
-  pub is : x ≡ noted_as by count (Printed line)
-
-abbrev pub AreLines : List NoteShape → Type 0
-AreLines [] = Unit {0}
-AreLines (x ∷ xs) = IsLine x × AreLines xs
-
-pub lines_noted : (n : Name) (k : ℕ) (ls : List LineShape) → AreLines (map (noted_as n k) (map Printed ls))
-lines_noted n k [] = tt
-lines_noted n k (l ∷ ls) = (record { by = n; count = k; line = l; is = refl }, lines_noted n k ls)
-
 pub lines_both : (xs ys : List NoteShape) → AreLines xs → AreLines ys → AreLines (xs ++ ys)
 lines_both [] ys h k = k
 lines_both (x ∷ xs) ys h k = (h.0, lines_both xs ys h.1 k)
@@ -179,19 +164,6 @@ pub local_noted : (n : Name) (a b : Activity) → IsLocalStep a b → AreLines (
 local_noted n a b x = subst AreLines (sym (ap (λ ls. map (noted_as n a.reductions) (served_by ls ++ ([] ++ printed_by a b))) (local_asks a b x))) (lines_noted n a.reductions (drop (length a.lines) b.lines))
 
 -- What is told
-
-pub told_quiet : (tells : List NoteShape → Type 0) (xs ns : List NoteShape) → ns ≡ [] → tells xs → tells (xs ++ ns)
-told_quiet tells xs ns quiet t = subst tells (sym (ap (λ ys. xs ++ ys) quiet ∙ append-nil xs)) t
-
--- lines are told to who does not hear them
-pub told_lines : (tells : List NoteShape → Type 0) → IsDeafToLines tells → (xs ns : List NoteShape) → AreLines ns → tells xs → tells (xs ++ ns)
-told_lines tells deaf xs [] h t = subst tells (sym (append-nil xs)) t
-told_lines tells deaf xs (n ∷ ns) h t =
-    subst tells (append_assoc xs (n ∷ []) ns)
-    (told_lines tells deaf (xs ++ n ∷ []) ns h.1 (subst (λ y. tells (xs ++ y ∷ [])) (sym h.0.is) (deaf xs h.0.by h.0.count h.0.line t)))
-
-pub told_same : (tells : List NoteShape → Type 0) (xs ns ms : List NoteShape) → ns ≡ ms → tells (xs ++ ns) → tells (xs ++ ms)
-told_same tells xs ns ms same t = subst (λ ys. tells (xs ++ ys)) same t
 
 -- all is told, where nothing is left
 pub told_all : (tells : List NoteShape → Type 0) (xs zs rest all : List NoteShape) → rest ≡ [] → zs ++ rest ≡ all → tells (xs ++ zs) → tells (xs ++ all)

@@ -13,9 +13,9 @@ use Rattle.law_steps.proofs.ReachedLemmas.{start_is_reached}
 use Rattle.law_steps.proofs.ReplayLemmas.{plain_runs_replay}
 use Rattle.law_steps.proofs.SpendLemmas.{plain_runs_spend}
 use Rattle.law_schedules.proofs.LeastLemmas.{main_is_ready, main_is_watched}
-use Rattle.replay_one.specs.declared.bounds.Bounds.{Bounds}
+use Rattle.replay_parts.specs.declared.bounds.Bounds.{Bounds}
 use Rattle.replay_one.specs.declared.round.Machine.{Machine}
-use Rattle.replay_one.specs.Bounds.{IsNumbered, count_within, lists_within}
+use Rattle.replay_parts.specs.Bounds.{IsNumbered, count_within, lists_within}
 use Rattle.replay_one.specs.Correct.{IsReplayed, IsSpent}
 use Rattle.replay_population.specs.declared.population.Population.{Population}
 use Rattle.replay_population.specs.Population.{IsPopulation, passed_in}

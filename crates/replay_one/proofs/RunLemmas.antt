@@ -27,13 +27,13 @@ use Rattle.law_schedules.specs.Schedules.{IsFilledBy, IsScheduled, RestsIn}
 use Rattle.law_schedules.proofs.LeastLemmas.{least_steps, notes_leave, resters_leave}
 use Rattle.law_schedules.specs.Watches.{IsWatched, IsWatchedAt, Watches}
 use Rattle.law_schedules.proofs.WokenLemmas.{called_are_scheduled}
-use Rattle.replay_one.specs.declared.bounds.Bounds.{Bounds}
+use Rattle.replay_parts.specs.declared.bounds.Bounds.{Bounds}
 use Rattle.replay_population.specs.declared.population.Population.{Population}
 use Rattle.replay_one.specs.declared.round.Machine.{Machine}
-use Rattle.replay_population.specs.Roster.{IsRoster, Leads}
-use Rattle.replay_one.specs.declared.bounds.Bounds.TheVariants as bounds
-use Rattle.replay_one.specs.Bounds.{IsNumbered, count_within, lists_within}
-use Rattle.replay_population.proofs.RosterLemmas.{leads_both}
+use Rattle.replay_parts.specs.Roster.{IsRoster, Leads}
+use Rattle.replay_parts.specs.declared.bounds.Bounds.TheVariants as bounds
+use Rattle.replay_parts.specs.Bounds.{IsNumbered, count_within, lists_within}
+use Rattle.replay_parts.proofs.RosterLemmas.{leads_both}
 use Rattle.step_reads.proofs.PassedLemmas.{passed_still}
 use Rattle.step_reads.specs.declared.strict.Strict.TheVariants as strict
 use Rattle.step_activity.specs.Passing.{HasPassed}
@@ -43,11 +43,12 @@ use Rattle.replay_population.specs.Reached.{IsReachedPopulation}
 use Rattle.replay_one.specs.declared.schedule.Schedule.{Schedule}
 use Rattle.replay_one.specs.Schedule.{IsForNobody, IsMoreReady, IsNoted, IsTaken, IsWatching, Seen, seen, asks_in, noted_in, ready_in, sends_in, watches_in}
 use Rattle.replay_one.specs.Round.{CanStep, IsHandedOn, IsRunAt, IsRunBut, IsRunLess, IsRunWith, LeadsTo, Leaves, LogsTo, next_by, seen_in}
-use Rattle.replay_one.specs.Listening.{IsDeafToLines}
-use Rattle.replay_one.specs.Notes.{NoteShape, notes_of}
+use Rattle.replay_parts.specs.Listening.{IsDeafToLines}
+use Rattle.replay_parts.specs.Notes.{NoteShape, notes_of}
 use Rattle.replay_one.specs.Told.{notes_by}
 use Rattle.replay_one.proofs.LocalLemmas.{local_runs_go_on}
-use Rattle.replay_one.proofs.NoteLemmas.{AreLines, least_noted, notes_more, one_noted, told_lines, told_quiet}
+use Rattle.replay_one.proofs.NoteLemmas.{least_noted, notes_more, one_noted}
+use Rattle.replay_parts.proofs.NoteLemmas.{AreLines, told_lines, told_quiet}
 use Rattle.replay_population.proofs.PopulationLemmas.{absent_nowhere, still_none}
 
 pub reached_population : (b : Bounds) (p : Population) (s : Seen) (program : Tree) (c : Configuration) → IsRunWith b p s program c → IsReachedPopulation p program c

@@ -20,13 +20,13 @@ use Rattle.law_chases.proofs.FutureLemmas.{true_false}
 use Rattle.replay_one.specs.declared.schedule.Schedule.{Schedule}
 use Rattle.replay_one.specs.declared.schedule.Watch.{Watch}
 use Rattle.replay_one.specs.declared.schedule.Watch.TheVariants as watch
-use Rattle.replay_one.specs.declared.ready.Least.{Least}
-use Rattle.replay_one.specs.declared.ready.Least.TheVariants as least
-use Rattle.replay_one.specs.Ready.{IsAdded, IsLeast}
-use Rattle.replay_one.proofs.ReadyLemmas.{ready_names}
+use Rattle.replay_parts.specs.declared.ready.Least.{Least}
+use Rattle.replay_parts.specs.declared.ready.Least.TheVariants as least
+use Rattle.replay_parts.specs.Ready.{IsAdded, IsLeast}
+use Rattle.replay_parts.proofs.ReadyLemmas.{ready_names}
 use Rattle.replay_one.specs.Schedule.{HasPlace, IsFewerAfter, IsLeastIn, IsMoreReady, IsNoted, IsWatch, IsWatching, Seen, asks_at, asks_in, has_number, if_number, is_asked, is_held, is_numbered_in, noted_at, noted_in, ready_in, seen, sends_at, sends_in, watches_in}
-use Rattle.replay_population.proofs.ColumnLemmas.{is_same, number_case, same_number, set_here, set_other}
-use Rattle.replay_population.proofs.RosterLemmas.{other_number}
+use Rattle.replay_parts.proofs.ColumnLemmas.{is_same, number_case, same_number, set_here, set_other}
+use Rattle.replay_parts.proofs.RosterLemmas.{other_number}
 
 abbrev pub future_order : FutureName → FutureName → Ordering
 future_order = ordering.ghosts.cmp

@@ -1,9 +1,9 @@
 -- What a listener is told of a step, and of where the activities stand.
-use Rattle.std.proofs.Common.{◌≡◌, ◌<◌, ◌+◌, ◌++◌, ◌∷◌, [], ℕ, true, false, List, Option, Some, None, get_or, map, drop, length, slice_get, slice_index_or, take, refl, sym, ap, subst, ◌∙◌}
+use Rattle.std.proofs.Common.{◌≡◌, ◌+◌, ◌++◌, ◌∷◌, [], ℕ, List, Option, Some, None, get_or, map, drop, length, slice_get, take, refl, sym, ap, subst, ◌∙◌}
 use Rattle.std.proofs.lemmas.List.{append_assoc, append-nil, drop-map, map-append, take_more}
 use Rattle.std.proofs.lemmas.Option.{slice_get-get_or, slice_get_within}
 use Rattle.std.specs.FinMap.{find}
-use Rattle.asp_model.specs.Names.{Name, Text, name_cmp}
+use Rattle.asp_model.specs.Names.{Name, name_cmp}
 use Rattle.asp_model.specs.Configuration.{Activity, Configuration}
 use Rattle.asp_model.specs.declared.outcome.Line.{Line}
 use Rattle.asp_model.specs.Intent.{Acts, Effect, StatusShape}
@@ -18,28 +18,9 @@ use Rattle.step_activity.specs.declared.act.Given.TheVariants as given
 use Rattle.replay_population.specs.declared.population.Population.{Population}
 use Rattle.replay_population.specs.Population.{IsPopulation, with_activity, with_poll}
 use Rattle.replay_population.proofs.PopulationLemmas.{absent_nowhere}
-use Rattle.replay_population.proofs.RosterLemmas.{number_named}
+use Rattle.replay_parts.proofs.RosterLemmas.{number_named}
 use Rattle.law_steps.specs.Waking.{labels_wanted}
-use Rattle.serve_rules.specs.Labels.{has_some}
-use Rattle.replay_one.specs.Notes.{NoteShape, HasNames, Printed, Served, faulted_by, given_by, noted_as, notes_of, place_of, places_by, places_in, printed_by, served_by, standing}
-
--- no service
-pub none_served : (ls : List Text) → has_some ls ≡ false → served_by ls ≡ []
-none_served [] e = refl
-none_served (l ∷ ls) e = absurd cc
-
--- a service
-pub some_served : (ls : List Text) → has_some ls ≡ true → served_by ls ≡ Served ls ∷ []
-some_served [] e = absurd cc
-some_served (l ∷ ls) e = refl
-
-pub none_placed : (n : Name) (a : Activity) (ls : List Text) → has_some ls ≡ false → places_by n a ls ≡ []
-none_placed n a [] e = refl
-none_placed n a (l ∷ ls) e = absurd cc
-
-pub some_placed : (n : Name) (a : Activity) (ls : List Text) → has_some ls ≡ true → places_by n a ls ≡ standing n a ∷ []
-some_placed n a [] e = absurd cc
-some_placed n a (l ∷ ls) e = refl
+use Rattle.replay_parts.specs.Notes.{NoteShape, HasNames, Printed, faulted_by, given_by, noted_as, notes_of, place_of, places_by, places_in, printed_by, served_by}
 
 -- the place of an activity that is there
 pub place_at : (c : Configuration) (n : Name) (a : Activity) → find name_cmp n c.activities ≡ Some a → place_of c n ≡ places_by n a (labels_wanted a) ++ faulted_by n a (status_of c n)
@@ -76,20 +57,6 @@ told_step tells xs n a e t =
 -- the lines behind those that an activity had
 pub lines_behind : (ls all : List Line) (k : ℕ) (a b : Activity) → ls ≡ drop k all → k ≡ length a.lines → map line_shape all ≡ b.lines → map Printed (map line_shape ls) ≡ printed_by a b
 lines_behind ls all k a b same few lines = ap (map Printed) (ap (map line_shape) same ∙ sym (drop-map line_shape k all) ∙ (λ i. drop (few i) (lines i)))
-
--- one line more is told
-abbrev pub lines_told : Name → ℕ → List Line → List NoteShape
-lines_told n k ls = map (noted_as n k) (map Printed (map line_shape ls))
-
-one_told : (n : Name) (k : ℕ) (ls : List Line) (l : Line) → lines_told n k (ls ++ l ∷ []) ≡ lines_told n k ls ++ noted_as n k (Printed (line_shape l)) ∷ []
-one_told n k [] l = refl
-one_told n k (x ∷ ls) l = ap (λ ys. noted_as n k (Printed (line_shape x)) ∷ ys) (one_told n k ls l)
-
-pub lines_more : (tells : List NoteShape → Type 0) (xs : List NoteShape) (n : Name) (k : ℕ) (ls : List Line) (i : ℕ) (x : Line) → i < length ls → x ≡ slice_index_or ls i x
-    → tells ((xs ++ lines_told n k (take i ls)) ++ noted_as n k (Printed (line_shape x)) ∷ []) → tells (xs ++ lines_told n k (take (i + 1) ls))
-lines_more tells xs n k ls i x lt is t =
-    let more : take (i + 1) ls ≡ take i ls ++ x ∷ [] = take_more ls i x lt ∙ ap (λ l. take i ls ++ l ∷ []) (sym is) in
-    subst tells (append_assoc xs (lines_told n k (take i ls)) (noted_as n k (Printed (line_shape x)) ∷ []) ∙ ap (λ ys. xs ++ ys) (sym (ap (lines_told n k) more ∙ one_told n k (take i ls) x))) t
 
 -- after its reduction an activity is there as it left itself
 pub acted_at : (n : Name) (g : Given) (c : Configuration) (a : Activity) → find name_cmp n (with_poll n g (with_activity n a c)).activities ≡ Some a

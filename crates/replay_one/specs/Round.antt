@@ -13,7 +13,7 @@ use Rattle.def_journals.specs.Journals.{number_of}
 use Rattle.law_steps.specs.Reached.{IsReached, IsAt}
 use Rattle.law_schedules.specs.Schedules.{IsFilledBy, IsLoggedTo, IsNextIn, IsScheduled, RestsIn, WaitsFor}
 use Rattle.law_schedules.specs.Watches.{IsWatched}
-use Rattle.replay_one.specs.declared.bounds.Bounds.{Bounds}
+use Rattle.replay_parts.specs.declared.bounds.Bounds.{Bounds}
 use Rattle.step_activity.specs.declared.act.Given.{Given}
 use Rattle.replay_population.specs.declared.population.Population.{Population}
 use Rattle.replay_population.specs.Giving.{IsGiving}
@@ -23,9 +23,9 @@ use Rattle.replay_one.specs.declared.round.Round.{Round}
 use Rattle.replay_one.specs.declared.round.Round.TheVariants as round
 use Rattle.replay_one.specs.declared.round.Gone.{Gone}
 use Rattle.replay_one.specs.declared.round.Machine.{Machine}
-use Rattle.replay_one.specs.Bounds.{IsNumbered, count_within, lists_within}
+use Rattle.replay_parts.specs.Bounds.{IsNumbered, count_within, lists_within}
 use Rattle.replay_population.specs.Population.{ArePassed, HasPassedIn, IsPopulation, passed_in}
-use Rattle.replay_one.specs.Ready.{Ascend, size}
+use Rattle.replay_parts.specs.Ready.{Ascend, size}
 use Rattle.replay_one.specs.Schedule.{IsTaken, Seen, asks_in, noted_in, ready_in, seen, sends_in, watches_in}
 
 -- an activity is below its count, and this is its step

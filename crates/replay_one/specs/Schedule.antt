@@ -12,10 +12,10 @@ use Rattle.def_journals.specs.Journals.{number_of}
 use Rattle.law_schedules.specs.Watches.{Watches}
 use Rattle.replay_one.specs.declared.schedule.Watch.{Watch}
 use Rattle.replay_one.specs.declared.schedule.Watch.TheVariants as watch
-use Rattle.replay_one.specs.declared.ready.Least.{Least}
-use Rattle.replay_one.specs.declared.ready.Least.TheVariants as least
+use Rattle.replay_parts.specs.declared.ready.Least.{Least}
+use Rattle.replay_parts.specs.declared.ready.Least.TheVariants as least
 use Rattle.replay_one.specs.declared.schedule.Schedule.{Schedule}
-use Rattle.replay_one.specs.Ready.{is_ready, size}
+use Rattle.replay_parts.specs.Ready.{is_ready, size}
 
 -- By numbers
 

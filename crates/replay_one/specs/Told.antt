@@ -1,11 +1,11 @@
 -- What a listener was told in a round.
 use Rattle.std.specs.Prelude.{ℕ, Bool, true, false, List, ◌++◌, Option, Some, None}
 use Rattle.asp_model.specs.Configuration.{Configuration}
-use Rattle.replay_one.specs.declared.bounds.Bounds.{Bounds}
+use Rattle.replay_parts.specs.declared.bounds.Bounds.{Bounds}
 use Rattle.replay_one.specs.declared.round.Round.{Round}
 use Rattle.replay_one.specs.declared.round.Round.TheVariants as round
-use Rattle.replay_one.specs.Bounds.{count_within, lists_within}
-use Rattle.replay_one.specs.Notes.{NoteShape, notes_from}
+use Rattle.replay_parts.specs.Bounds.{count_within, lists_within}
+use Rattle.replay_parts.specs.Notes.{NoteShape, notes_from}
 
 -- what so many steps of the run note
 abbrev pub notes_by : Bounds → ℕ → Configuration → List NoteShape

@@ -3,14 +3,8 @@
 //! and counts.
 #![tactic(auto)]
 
-mod bounds;
-mod difference;
 mod listed;
 mod looks;
-mod notes;
-mod numbers;
-mod ready;
-mod receptions;
 mod replays;
 mod round;
 mod rousing;
@@ -19,9 +13,8 @@ mod schedule;
 mod splitting;
 mod telling;
 
-pub use bounds::Bounds;
 pub use listed::{are_replayable, counts_in, lists_in};
-pub use notes::{Event, NoNotes, Note, Notes};
+pub use replay_parts::{Bounds, Event, NoNotes, Note, Notes};
 pub use replays::{ReplayStop, replay, replay_noting};
 pub use round::Machine;
 pub use run::run_plain;

@@ -9,8 +9,8 @@ ghost use Rattle.asp_model.specs.Shapes.{counts_shape, lists_shape, outcome_shap
 ghost use Rattle.law_schedules.specs.Divergence.{AreInOrder};
 ghost use Rattle.replay_one.specs.Listed.{AreReplayable};
 
-use crate::receptions::copies_of;
 use asp_model::{ActivityName, Counts, Lists, MOST_REDUCTIONS, Outcome, Reception};
+use replay_parts::copies_of;
 use std::alloc::{AllocError, Global};
 
 /// The logs that an outcome shows.

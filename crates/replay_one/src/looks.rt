@@ -7,14 +7,13 @@ ghost use Rattle.asp_model.specs.Configuration.{Configuration, From, Poll, log_o
 ghost use Rattle.asp_model.specs.Step.{is_next};
 ghost use Rattle.def_journals.specs.Journals.{number_of};
 ghost use Rattle.law_steps.specs.Reached.{IsThere};
-ghost use Rattle.replay_one.specs.Bounds.{IsAscending, IsNextAt, IsNumbered, count_within, lists_within};
+ghost use Rattle.replay_parts.specs.Bounds.{IsAscending, IsNextAt, IsNumbered, count_within, lists_within};
 ghost use Rattle.replay_population.specs.Population.{HasPassedBySome, HasPassedIn, IsFoundAt, IsPopulation};
 ghost use Rattle.replay_population.specs.Reached.{IsReachedBySome, IsReachedPopulation};
 ghost use Rattle.replay_one.specs.Round.{IsLook, IsTurn};
 
-use crate::bounds::{Bounds, Next};
-use crate::receptions::{is_from, is_poll};
 use asp_model::{ActivityName, FutureName};
+use replay_parts::{Bounds, Next, is_from, is_poll};
 use replay_population::Population;
 use std::alloc::{AllocError, Global};
 use step_activity::Outlook;

@@ -10,15 +10,13 @@ ghost use Rattle.run_ends.specs.Ends.{IsEndOf};
 ghost use Rattle.replay_one.specs.declared.replays.ReplayStop.TheVariants.{Memory};
 ghost use Rattle.replay_one.specs.Correct.{IsStop};
 ghost use Rattle.replay_one.specs.Listed.{AreReplayable};
-ghost use Rattle.replay_one.specs.Listening.{AreToldPlaces};
-ghost use Rattle.replay_one.specs.Notes.{NoteShape, replay_notes};
+ghost use Rattle.replay_parts.specs.Listening.{AreToldPlaces};
+ghost use Rattle.replay_parts.specs.Notes.{NoteShape, replay_notes};
 
-use crate::bounds::Bounds;
-use crate::difference::first_difference;
-use crate::notes::{NoNotes, Notes};
 use crate::run::run_within;
 use asp_check::Checked;
 use asp_model::{ActivityName, Counts, Lists};
+use replay_parts::{Bounds, NoNotes, Notes, first_difference};
 use run_ends::RunEnd;
 use std::alloc::{AllocError, Global};
 

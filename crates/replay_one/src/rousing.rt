@@ -4,8 +4,8 @@ ghost use Rattle.std.specs.Prelude.{OnOk};
 ghost use Rattle.asp_model.specs.Configuration.{Configuration};
 ghost use Rattle.asp_model.specs.Term.{Tree};
 ghost use Rattle.replay_population.specs.Reached.{IsReachedPopulation};
-ghost use Rattle.replay_one.specs.declared.bounds.Bounds.{Bounds};
-ghost use Rattle.replay_one.specs.Bounds.{IsNumbered};
+ghost use Rattle.replay_parts.specs.declared.bounds.Bounds.{Bounds};
+ghost use Rattle.replay_parts.specs.Bounds.{IsNumbered};
 ghost use Rattle.replay_one.specs.Round.{IsInOrder, IsRunAt};
 
 use crate::round::Machine;

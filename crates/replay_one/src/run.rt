@@ -8,20 +8,19 @@ ghost use Rattle.asp_model.specs.Replay.{plain_run, steps_from, total as total_o
 ghost use Rattle.asp_model.specs.Shapes.{outcome_shape, tree_of};
 ghost use Rattle.def_paths.specs.Outcomes.{whole_outcome_of};
 ghost use Rattle.run_ends.specs.Ends.{IsEndOf};
-ghost use Rattle.replay_one.specs.Bounds.{IsAscending, count_within, lists_within};
+ghost use Rattle.replay_parts.specs.Bounds.{IsAscending, count_within, lists_within};
 ghost use Rattle.replay_one.specs.Correct.{IsReplayed, IsSpent};
 ghost use Rattle.replay_population.specs.Reached.{IsReachedPopulation};
-ghost use Rattle.replay_one.specs.Listening.{AreToldPlaces};
-ghost use Rattle.replay_one.specs.Notes.{NoteShape};
+ghost use Rattle.replay_parts.specs.Listening.{AreToldPlaces};
+ghost use Rattle.replay_parts.specs.Notes.{NoteShape};
 ghost use Rattle.replay_one.specs.Round.{IsInOrder, IsRunAt, IsRunSomewhere};
 ghost use Rattle.replay_one.specs.Told.{notes_by};
 
-use crate::bounds::Bounds;
-use crate::notes::{NoNotes, Notes};
 use crate::round::Machine;
 use crate::telling::tell_places;
 use asp_check::Checked;
 use code_compiler::compile;
+use replay_parts::{Bounds, NoNotes, Notes};
 use run_ends::RunEnd;
 use std::alloc::{AllocError, Global};
 use std::sync::Arc;

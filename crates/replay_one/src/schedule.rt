@@ -16,9 +16,9 @@ ghost use Rattle.asp_model.specs.Names.{Name, Text};
 ghost use Rattle.asp_model.specs.Shapes.{future_shape};
 ghost use Rattle.asp_model.specs.Term.{has_text};
 ghost use Rattle.def_journals.specs.Journals.{number_of};
-ghost use Rattle.replay_population.specs.Roster.{IsRoster};
+ghost use Rattle.replay_parts.specs.Roster.{IsRoster};
 ghost use Rattle.serve_rules.specs.Wanted.{wanted_labels};
-ghost use Rattle.replay_one.specs.Ready.{Ascend};
+ghost use Rattle.replay_parts.specs.Ready.{Ascend};
 ghost use Rattle.replay_one.specs.Schedule.{
   HasPlace,
   IsFewerAfter,
@@ -37,8 +37,8 @@ ghost use Rattle.replay_one.specs.Schedule.{
   sends_in,
 };
 
-use crate::ready::{Least, Ready};
 use asp_model::{FutureName, Label, Labels};
+use replay_parts::{Least, Ready};
 use replay_population::Roster;
 use serve_rules::Wanted;
 use std::alloc::{AllocError, Global};

@@ -1,6 +1,6 @@
 //! A listener is told of a step, and where the activities stand in the end.
 
-ghost use Rattle.std.specs.Prelude.{◌≡◌, ◌++◌, ◌⊎◌, IfOk, List, None, OnOk, Some, drop, map};
+ghost use Rattle.std.specs.Prelude.{◌≡◌, ◌++◌, ◌⊎◌, IfOk, List, None, OnOk, Some, map};
 ghost use Rattle.asp_model.specs.Configuration as model;
 ghost use Rattle.asp_model.specs.Configuration.{Configuration};
 ghost use Rattle.asp_model.specs.Intent.{Effect};
@@ -11,28 +11,19 @@ ghost use Rattle.law_steps.specs.Reached.{IsAt};
 ghost use Rattle.step_activity.specs.Effects.{IsGiven};
 ghost use Rattle.replay_population.specs.Population.{IsClosedBySome, IsKnown, IsPopulation};
 ghost use Rattle.law_steps.specs.Waking.{labels_wanted};
-ghost use Rattle.serve_rules.specs.Wanted.{wanted_labels};
 ghost use Rattle.replay_population.specs.Reached.{IsReachedPopulation};
-ghost use Rattle.replay_one.specs.Listening.{AreToldPlaces, IsKnownBefore};
-ghost use Rattle.asp_model.specs.Shapes.{line_shape, status_shape};
-ghost use Rattle.replay_one.specs.Notes.{NoteShape, Printed, faulted_by, given_by, noted_as, place_of, places_by, printed_by, served_by};
+ghost use Rattle.replay_parts.specs.Listening.{AreToldPlaces, IsKnownBefore};
+ghost use Rattle.asp_model.specs.Shapes.{line_shape};
+ghost use Rattle.replay_parts.specs.Notes.{NoteShape, given_by, noted_as, place_of, printed_by, served_by};
 ghost use Rattle.asp_model.specs.Term.{Tree};
 
-use crate::notes::{Event, Note, Notes};
-use asp_model::{ActivityName, Line, Status};
+use asp_model::Line;
+use replay_parts::{
+    Known, Notes, behind, tell_fault, tell_given, tell_lines, tell_serve, tell_service,
+};
 use replay_population::Population;
-use serve_rules::Wanted;
 use std::alloc::{AllocError, Global};
 use step_activity::Given;
-
-/// What is known of an activity before it takes its step: how many reductions it took, the byte of
-/// the text at which it stands, and how many lines it printed.
-#[derive(Clone, Copy)]
-pub struct Known {
-    pub count: u64,
-    pub at: Option<usize>,
-    pub lines: usize,
-}
 
 /// What an activity printed, in order; nothing where nobody has the number.
 fn lines_of(population: &Population, number: u32) -> &[Line]
@@ -89,96 +80,6 @@ pub fn before<N: Notes>(
     Ok(Some(Known { count, at, lines }))
 }
 
-/// It is told of a service, where labels are asked for.
-fn tell_service<N: Notes>(
-    by: &ActivityName,
-    count: u64,
-    at: Option<usize>,
-    wanted: Wanted,
-    notes: &mut N,
-) -> Result<(), AllocError>
-    ensures told { (xs : List NoteShape) (a : model.Activity) → N.tells notes.old xs →
-        count ≡ a.reductions → wanted_labels wanted.entry ≡ labels_wanted a →
-        let events = served_by (labels_wanted a) in
-        OnOk result (N.tells notes.new (xs ++ map (noted_as by.now a.reductions) events)) }
-{
-    if !wanted.asks() {
-        return Ok(());
-    }
-    notes.note(Note {
-        by,
-        count,
-        at,
-        event: Event::Served(wanted),
-    })
-}
-
-/// It is told of what a step gives to others.
-fn tell_given<N: Notes>(
-    by: &ActivityName,
-    count: u64,
-    at: Option<usize>,
-    given: &Given,
-    notes: &mut N,
-) -> Result<(), AllocError>
-    ensures told { (xs : List NoteShape) (e : Effect) → N.tells notes.old xs →
-        IsGiven by.now e given.now →
-        OnOk result (N.tells notes.new (xs ++ map (noted_as by.now count) (given_by e))) }
-{
-    let event = match given {
-        Given::Nothing => return Ok(()),
-        Given::Made(made, _) => Event::Made(made),
-        Given::Sent(to, request) => {
-            Event::Sent(to, request.label.as_label(), &request.future.name)
-        }
-        Given::Filled(future, _) => Event::Answered(&future.name),
-        Given::Polled => Event::Polled,
-    };
-    notes.note(Note {
-        by,
-        count,
-        at,
-        event,
-    })
-}
-
-/// The lines behind so many.
-fn behind(lines: &[Line], before: usize) -> &[Line]
-    ensures { result.now ≡ drop before lines.now }
-{
-    if before < lines.len() {
-        &lines[before..]
-    } else {
-        &[]
-    }
-}
-
-/// It is told of lines, where it wants to.
-fn tell_lines<N: Notes>(
-    by: &ActivityName,
-    count: u64,
-    at: Option<usize>,
-    lines: &[Line],
-    notes: &mut N,
-) -> Result<(), AllocError>
-    ensures told { (xs : List NoteShape) → N.tells notes.old xs →
-        let events = map Printed (map line_shape lines.now) in
-        OnOk result (N.tells notes.new (xs ++ map (noted_as by.now count) events)) }
-{
-    if !notes.hears_lines() {
-        return Ok(());
-    }
-    for line in lines {
-        notes.note(Note {
-            by,
-            count,
-            at,
-            event: Event::Printed(line),
-        })?;
-    }
-    Ok(())
-}
-
 /// It is told of what a step of the activity of a number gave to others and printed, where somebody
 /// listens.
 pub fn tell<N: Notes>(
@@ -203,52 +104,6 @@ pub fn tell<N: Notes>(
     tell_given(by, before.count, before.at, given, notes)?;
     let lines = behind(lines_of(population, number), before.lines);
     tell_lines(by, before.count, before.at, lines, notes)
-}
-
-/// It is told where an activity stands, if it asks for labels there.
-fn tell_serve<N: Notes>(
-    by: &ActivityName,
-    count: u64,
-    at: Option<usize>,
-    wanted: Wanted,
-    notes: &mut N,
-) -> Result<(), AllocError>
-    ensures told { (xs : List NoteShape) (a : model.Activity) → N.tells notes.old xs →
-        count ≡ a.reductions → wanted_labels wanted.entry ≡ labels_wanted a →
-        OnOk result (N.tells notes.new (xs ++ places_by by.now a (labels_wanted a))) }
-{
-    if !wanted.asks() {
-        return Ok(());
-    }
-    notes.note(Note {
-        by,
-        count,
-        at,
-        event: Event::Standing(wanted),
-    })
-}
-
-/// It is told of the fault at which an activity stands, if its status is one.
-fn tell_fault<N: Notes>(
-    by: &ActivityName,
-    count: u64,
-    at: Option<usize>,
-    status: &Status,
-    notes: &mut N,
-) -> Result<(), AllocError>
-    ensures told { (xs : List NoteShape) (a : model.Activity) → N.tells notes.old xs →
-        count ≡ a.reductions → let faults = faulted_by by.now a (status_shape status.now) in
-        OnOk result (N.tells notes.new (xs ++ faults)) }
-{
-    match status {
-        Status::Faulted(fault) => notes.note(Note {
-            by,
-            count,
-            at,
-            event: Event::Faulted(*fault),
-        }),
-        Status::Done | Status::Serving | Status::Running | Status::Awaits(_) => Ok(()),
-    }
 }
 
 /// It is told where an activity stands, if it is there and asks for labels or has stopped at a

@@ -23,7 +23,7 @@ use Rattle.step_activity.specs.Actors.{Stands, code_of, log_in}
 use Rattle.replay_population.specs.declared.population.Population.{Population}
 use Rattle.replay_population.specs.Deliveries.{IsDelivered, IsStored, store_at, store_with}
 use Rattle.replay_population.specs.Population.{IsPopulation}
-use Rattle.replay_population.specs.Roster.{IsRoster}
+use Rattle.replay_parts.specs.Roster.{IsRoster}
 use Rattle.replay_population.proofs.PopulationLemmas.{IsPut, changed, set_at}
 
 -- an edge leads to the activity with another store

@@ -1,5 +1,3 @@
-pub mod ColumnLemmas
-pub mod RosterLemmas
 pub mod PopulationLemmas
 pub mod OutlookLemmas
 pub mod GivingLemmas

@@ -37,10 +37,10 @@ use Rattle.std.specs.FinMap.{nat_cmp-IsAntisymmetric}
 use Rattle.std.specs.declared.cmp.Ordering.TheVariants.{Equal}
 use Rattle.asp_model.specs.Order.{equal_order}
 use Rattle.def_journals.specs.Journals.{number_of}
-use Rattle.replay_population.specs.Roster.{IsEntered, IsRoster}
+use Rattle.replay_parts.specs.Roster.{IsEntered, IsRoster}
 use Rattle.replay_population.specs.Population.{AreActorsOf, IsClosedPopulation, IsGivenIn, IsPassing, IsPopulation, IsSet, KeepsPassed, at_number, found_in, passed_in, seat_at, seated, unboxed, with_activity, with_poll, with_request, with_value}
-use Rattle.replay_population.proofs.ColumnLemmas.{number_case}
-use Rattle.replay_population.proofs.RosterLemmas.{number_within, one_name, other_number}
+use Rattle.replay_parts.proofs.ColumnLemmas.{number_case}
+use Rattle.replay_parts.proofs.RosterLemmas.{number_within, one_name, other_number}
 use Rattle.step_ends.specs.Activities.{StandsAt}
 
 abbrev pub Named : Type 0
@@ -435,10 +435,6 @@ acted (Ok g) p q c e n m k x new h has intends seat set name acts log coded same
     let there = given_there p q c n new e.own g (log_in x) h (put_at p q n k new has set) (subst IsRoster (sym roster) h.roster) futures d.0 (h.logs n x is) log (same ∙ code) in
     (d.1, record { population = there.0; coded = subst (λ j. IsGivenOf j g) (code ∙ sym there.1) coded })
 
-pub if_ok : {T E : Type 0} (r : Result T E) (P Q : T → Type 0) → ((t : T) → P t → Q t) → IfOk r P → IfOk r Q
-if_ok (Ok t) P Q f h = f t h
-if_ok (Err e) P Q f h = h
-
 pub nobody_there : {C : Type 0} (p : Population) (c : Configuration) (n : Name) → IsPopulation p c → found_in p n ≡ None → IsThere c n → C
 nobody_there p c n h is there =
     let t = is_there (find name_cmp n c.activities) there in
@@ -448,14 +444,6 @@ nobody_there p c n h is there =
 -- who has no number is not there
 pub absent_nowhere : {C : Type 0} (p : Population) (c : Configuration) (n : Name) → IsPopulation p c → number_of n p.roster ≡ None → IsThere c n → C
 absent_nowhere p c n h none there = nobody_there p c n h (ap (λ o. at_number o (seat_at p.activities.items)) none) there
-
-pub on_ok : {T E : Type 0} (r : Result T E) (P Q : Type 0) → (P → Q) → OnOk r P → OnOk r Q
-on_ok (Ok t) P Q f h = f h
-on_ok (Err e) P Q f h = h
-
-pub any_way : {T E : Type 0} (r : Result T E) (P : Type 0) → P → OnOk r P
-any_way (Ok t) P h = h
-any_way (Err e) P h = tt
 
 pub if_ok_with : {T E : Type 0} (r : Result T E) (P Q X : Type 0) → (P → Q → X) → OnOk r P → OnOk r Q → OnOk r X
 if_ok_with (Ok t) P Q X f h k = f h k

@@ -1,5 +1,4 @@
 -- in reading order
-pub mod Roster
 pub mod Population
 pub mod Giving
 pub mod Deliveries

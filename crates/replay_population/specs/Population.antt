@@ -31,7 +31,7 @@ use Rattle.step_activity.specs.Effects.{IsGivenOf}
 use Rattle.step_activity.specs.Passing.{HasPassed}
 use Rattle.step_ends.specs.Activities.{StandsAt, actor_at}
 use Rattle.replay_population.specs.declared.population.Population.{Population}
-use Rattle.replay_population.specs.Roster.{IsRoster}
+use Rattle.replay_parts.specs.Roster.{IsRoster}
 
 -- the term that the last node of a table stands for
 abbrev pub term_of : List Node → Tree

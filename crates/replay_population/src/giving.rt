@@ -8,7 +8,7 @@ ghost use Rattle.asp_model.specs.Step.{intent_in, with_effect};
 ghost use Rattle.def_journals.specs.Journals.{number_of};
 ghost use Rattle.replay_population.specs.Giving.{CanHandOn, CanStepNow, IsGiving, IsGivingSome};
 ghost use Rattle.replay_population.specs.Population.{IsPopulation};
-ghost use Rattle.replay_population.specs.Roster.{Leads};
+ghost use Rattle.replay_parts.specs.Roster.{Leads};
 
 use crate::population::Population;
 use std::alloc::{AllocError, Global};

@@ -8,7 +8,6 @@ mod ends;
 mod giving;
 mod outlooks;
 mod population;
-mod roster;
 
 pub use population::Population;
-pub use roster::Roster;
+pub use replay_parts::Roster;

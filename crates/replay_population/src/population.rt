@@ -19,13 +19,13 @@ ghost use Rattle.law_steps.specs.Waking.{labels_wanted};
 ghost use Rattle.serve_rules.specs.Wanted.{wanted_labels};
 ghost use Rattle.step_activity.specs.Actors.{Stands, code_of, log_in};
 ghost use Rattle.step_activity.specs.Effects.{IsGiven};
-ghost use Rattle.replay_population.specs.Roster.{IsEntered, IsRoster};
+ghost use Rattle.replay_parts.specs.Roster.{IsEntered, IsRoster};
 ghost use Rattle.replay_population.specs.Population.{HasSeat, AreActorsOf, AreNamed, IsClosedBySome, IsForgotten, IsFoundAt, IsGivenIn, IsKnown, IsPassing, IsPopulation, IsRunIn, IsSet, KeepsPassed, found_in, or_zero, passed_in, seat_at, term_of, unboxed, with_activity, with_poll, with_request, with_value};
 
-use crate::roster::Roster;
 use asp_model::ActivityName;
 use code_table::{Code, Future, Parcel};
 use future_table::FutureTable;
+use replay_parts::Roster;
 use request_queue::Request;
 use serve_rules::Wanted;
 use std::alloc::{AllocError, Global};

@@ -37,7 +37,7 @@ use Rattle.law_steps.proofs.StepLemmas.{step_taken}
 use Rattle.law_services.specs.Services.{StoodAt, arrival_of, has_poll, replayed_to, set_at, set_by, set_of_head}
 use Rattle.law_services.proofs.EndLemmas.{more_steps, one_more, replay_run}
 use Rattle.law_services.proofs.SameLemmas.{right_at}
-use Rattle.replay_one.specs.Notes.{EventShape, Faulted, HasNames, NoteShape, Printed, answered_by, faulted_by, given_by, least_notes, made_by, noted_as, notes_from, notes_of, place_of, places_by, places_in, polled_by, printed_by, sent_by, served_by, standing}
+use Rattle.replay_parts.specs.Notes.{EventShape, Faulted, HasNames, NoteShape, Printed, answered_by, faulted_by, given_by, least_notes, made_by, noted_as, notes_from, notes_of, place_of, places_by, places_in, polled_by, printed_by, sent_by, served_by, standing}
 use Rattle.replay_services.specs.Heard.{came_as, asked_as, is_poll, came_in, asked_in, polled_in, came_to, asked_by, has_polled, TellsServices, NotesTell}
 
 -- Notes of one step more

@@ -22,10 +22,10 @@ use Rattle.law_steps.proofs.NameLemmas.{name_case, name_itself, names_apart, nam
 use Rattle.serve_rules.specs.Labels.{HaveSame}
 use Rattle.serve_rules.specs.Wanted.{wanted_labels}
 use Rattle.serve_rules.specs.declared.wanted.Wanted.{Wanted}
-use Rattle.replay_one.specs.Notes.{EventShape, NoteShape, Served, Made, Sent, Answered, Polled, Printed, Standing, Faulted}
-use Rattle.replay_one.specs.declared.notes.Event.TheVariants as event
-use Rattle.replay_one.specs.declared.notes.Note.{Note}
-use Rattle.replay_one.specs.Listening.{IsDeafToLines, IsEvent, IsNote}
+use Rattle.replay_parts.specs.Notes.{EventShape, NoteShape, Served, Made, Sent, Answered, Polled, Printed, Standing, Faulted}
+use Rattle.replay_parts.specs.declared.notes.Event.TheVariants as event
+use Rattle.replay_parts.specs.declared.notes.Note.{Note}
+use Rattle.replay_parts.specs.Listening.{IsDeafToLines, IsEvent, IsNote}
 use Rattle.replay_services.specs.Heard.{came_as, asked_as, is_poll, came_in, asked_in, polled_in, came_to, asked_by, has_polled}
 use Rattle.replay_services.specs.declared.heard.Heard.{Heard}
 use Rattle.replay_services.specs.declared.listener.Listener.{Listener}

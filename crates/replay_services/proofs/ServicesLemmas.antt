@@ -8,8 +8,8 @@ use Rattle.asp_model.specs.Services.{ServicesShape}
 use Rattle.asp_model.specs.Step.{ListsShape}
 use Rattle.asp_model.specs.Replay.{CountsShape, Fits, replay}
 use Rattle.law_services.specs.Told.{AreServicesOf, NamesAscend, entry_at}
-use Rattle.replay_one.specs.Listening.{AreToldPlaces}
-use Rattle.replay_one.specs.Notes.{replay_notes}
+use Rattle.replay_parts.specs.Listening.{AreToldPlaces}
+use Rattle.replay_parts.specs.Notes.{replay_notes}
 use Rattle.replay_services.specs.declared.listener.Listener.{Listener}
 use Rattle.replay_services.specs.Listeners.{IsHeard, entry_of, kept_at, nothing}
 use Rattle.replay_services.proofs.HeardLemmas.{none_there, notes_tell}

@@ -9,7 +9,7 @@ use Rattle.asp_model.specs.Services.{ArrivalShape}
 use Rattle.asp_model.specs.Step.{ListsShape}
 use Rattle.asp_model.specs.Replay.{CountsShape, Fits, replay}
 use Rattle.law_services.specs.Services.{StoodAt, arrival_of, has_poll}
-use Rattle.replay_one.specs.Notes.{EventShape, HasNames, NoteShape, Served, Sent, Polled, Standing, places_in, replay_notes}
+use Rattle.replay_parts.specs.Notes.{EventShape, HasNames, NoteShape, Served, Sent, Polled, Standing, places_in, replay_notes}
 
 -- a request that somebody sends to this activity
 abbrev pub came_as : (to by : Name) → EventShape → List ArrivalShape

@@ -6,7 +6,7 @@ use Rattle.asp_model.specs.Names.{Name, Text, same_name}
 use Rattle.asp_model.specs.Services.{ArrivalShape, ServiceEntryShape}
 use Rattle.asp_model.specs.Shapes.{arrival_shape, labels_shape}
 use Rattle.serve_rules.specs.Labels.{HaveSame}
-use Rattle.replay_one.specs.Notes.{NoteShape}
+use Rattle.replay_parts.specs.Notes.{NoteShape}
 use Rattle.replay_services.specs.declared.heard.Heard.{Heard}
 use Rattle.replay_services.specs.declared.listener.Listener.{Listener}
 use Rattle.replay_services.specs.Heard.{asked_by, came_to, has_polled}

@@ -6,7 +6,7 @@ ghost use Rattle.std.specs.List.Sorted.{IsSorted};
 ghost use Rattle.asp_model.specs.Names.{Name, name_cmp, same_name};
 ghost use Rattle.asp_model.specs.Shapes.{services_shape};
 ghost use Rattle.law_services.specs.Told.{NamesAscend, entry_at};
-ghost use Rattle.replay_one.specs.Notes.{NoteShape};
+ghost use Rattle.replay_parts.specs.Notes.{NoteShape};
 ghost use Rattle.serve_rules.specs.Wanted.{wanted_labels};
 ghost use Rattle.replay_services.specs.Listeners.{ChangesAt, IsKeptAt, IsWithSet, arrived, entry_of, kept_at, kept_in, nothing, with_arrival, with_poll};
 

@@ -66,6 +66,19 @@ impl Queue {
         }
     }
 
+    /// No request, where so many have arrived and were served.
+    pub fn after(alloc: Global, arrived: u64) -> Queue
+        ensures pending { result.pending ≡ [] }
+        ensures arrived { result.arrived ≡ arrived }
+    {
+        Queue {
+            alloc,
+            arrived,
+            few: Few::new(alloc),
+            others: None,
+        }
+    }
+
     /// How many requests are pending.
     pub fn len(&self) -> usize
         ensures len { result ≡ length self.now.pending }

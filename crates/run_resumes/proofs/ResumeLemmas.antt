@@ -10,6 +10,8 @@ use Rattle.law_frozen.specs.Frozen.{thawed_first}
 use Rattle.law_checkpoints.specs.Saved.{IsSavedAt, frozen_at}
 use Rattle.law_checkpoints.proofs.ResumeLemmas.{resumed_are_one_run}
 use Rattle.core_thaws.specs.Thawed.{resumed_history}
+use Rattle.asp_core.specs.declared.cores.Core.{Core}
+use Rattle.asp_core.specs.Cores.{entries_of, history_of}
 use Rattle.run_ends.specs.declared.ends.RunEnd.{RunEnd}
 use Rattle.asp_core.specs.EndOfRun.{IsEndOfHistory}
 use Rattle.run_resumes.specs.Resumed.{IsEndOfOneRun, IsResumedEnd, history_since}
@@ -23,21 +25,24 @@ since h k program x budget begins is =
     let most : h.budget ≡ budget = begins.budget ∙ ap (λ (q : HistoryShape). q.budget) is in
     λ i. record { program = term i; first = first i; budget = most i; entries = h.entries }
 
-pub resumed_end : {E : Type 0} (r : Result RunEnd E) (h k : HistoryShape) (program : Tree) (x : FirstShape) (budget : ℕ)
-    → BeginsWith h k → k ≡ resumed_history program x budget → IfOk r (IsEndOfHistory h)
+pub core_since : {P E : Type 0} (r : Result (Core P) E) (k : HistoryShape) (program : Tree) (x : FirstShape) (budget : ℕ)
+    → IfOk r (λ c. BeginsWith (history_of c) k) → k ≡ resumed_history program x budget
+    → IfOk r (λ c. history_of c ≡ history_since program x budget (entries_of c))
+core_since (Ok c) k program x budget begins is = since (history_of c) k program x budget begins is
+core_since (Err e) k program x budget begins is = tt
+
+pub resumed_end : {E : Type 0} (r : Result RunEnd E) (h : HistoryShape) (program : Tree) (x : FirstShape) (budget : ℕ)
+    → h ≡ history_since program x budget h.entries → IfOk r (IsEndOfHistory h)
     → IfOk r (IsResumedEnd program x budget)
-resumed_end (Ok q) h k program x budget begins is end =
-    let same = since h k program x budget begins is in
-    record {
-      journal = h.entries;
-      run = end.run;
-      lawful = subst (λ (g : HistoryShape). run_of g ≡ Some end.run) same end.lawful;
-      end = end.end;
-      outcome = end.outcome;
-      budgeted =
-          subst (λ (g : HistoryShape). IsBudgeted (most_in g) (outcome_of end.run.configuration)) same end.budgeted;
-    }
-resumed_end (Err e) h k program x budget begins is end = tt
+resumed_end (Ok q) h program x budget same end = record {
+  journal = h.entries;
+  run = end.run;
+  lawful = subst (λ (g : HistoryShape). run_of g ≡ Some end.run) same end.lawful;
+  end = end.end;
+  outcome = end.outcome;
+  budgeted = subst (λ (g : HistoryShape). IsBudgeted (most_in g) (outcome_of end.run.configuration)) same end.budgeted;
+}
+resumed_end (Err e) h program x budget same end = tt
 
 -- where a run of the program was saved
 pub one_end : {E : Type 0} (r : Result RunEnd E) (program : Tree) (x : FirstShape) (budget : ℕ) → locations program ≡ []

@@ -3,4 +3,4 @@
 
 mod resumed;
 
-pub use resumed::run_resumed;
+pub use resumed::{resume_core, run_resumed};

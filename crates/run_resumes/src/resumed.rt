@@ -8,8 +8,10 @@ ghost use Rattle.asp_model.specs.declared.limits.TheConstants.{MOST_WORKERS};
 ghost use Rattle.core_state.specs.Cores.{program_of};
 ghost use Rattle.law_frozen.specs.Frozen.{thawed_first};
 ghost use Rattle.law_checkpoints.specs.Saved.{IsSavedAt, frozen_at};
+ghost use Rattle.asp_core.specs.Cores.{entries_of, history_of};
+ghost use Rattle.asp_core.specs.Over.{IsOver};
 ghost use Rattle.asp_core.specs.Thawing.{BeginsIn};
-ghost use Rattle.run_resumes.specs.Resumed.{IsEndOfOneRun, IsResumedEnd};
+ghost use Rattle.run_resumes.specs.Resumed.{IsEndOfOneRun, IsResumedEnd, history_since};
 
 use asp_core::{Core, First, Frozen, end_of_run};
 use run_ends::RunEnd;
@@ -20,7 +22,36 @@ use update_policy::{Policies, UpdatePolicy};
 use worker_pool::{Gate, Settings, run_core};
 
 /// Goes on where a core was taken apart, or a checkpoint was read, by so many workers, until the
-/// verdict is there. The policies are dropped when the run ends.
+/// verdict is there, and leaves the core.
+pub fn resume_core<R: Threads + Wait + Sync, P: UpdatePolicy + Send + Drop, G: Gate>(
+    rt: &R,
+    alloc: Global,
+    frozen: Frozen,
+    first: First,
+    settings: Settings,
+    policies: Policies<P>,
+    gate: &G,
+) -> Result<Core<P>, AllocError>
+    requires workers { (0 < settings.workers) × (settings.workers ≤ MOST_WORKERS) }
+    requires first { BeginsIn frozen first settings.budget }
+    requires bare { locations (program_of (arc_value frozen.code)) ≡ [] }
+    ensures over { IfOk result IsOver }
+    ensures history { (x : FirstShape) → first.shape ≡ Some x →
+        let since = history_since (program_of (arc_value frozen.code)) x settings.budget in
+        IfOk result (λ c. history_of c ≡ since (entries_of c)) }
+{
+    let core = Core::thaw(
+        alloc,
+        frozen,
+        first,
+        settings.budget,
+        settings.plan,
+        policies,
+    )?;
+    run_core(rt, alloc, core, settings.workers, gate)
+}
+
+/// Goes on so, and finishes. The policies are dropped when the run ends.
 pub fn run_resumed<R: Threads + Wait + Sync, P: UpdatePolicy + Send + Drop, G: Gate>(
     rt: &R,
     alloc: Global,
@@ -41,14 +72,6 @@ pub fn run_resumed<R: Threads + Wait + Sync, P: UpdatePolicy + Send + Drop, G: G
         (x : FirstShape) → IsSavedAt program x → first.shape ≡ Some (thawed_first (frozen_at x)) →
         IfOk result (IsEndOfOneRun program x settings.budget) }
 {
-    let core = Core::thaw(
-        alloc,
-        frozen,
-        first,
-        settings.budget,
-        settings.plan,
-        policies,
-    )?;
-    let core = run_core(rt, alloc, core, settings.workers, gate)?;
+    let core = resume_core(rt, alloc, frozen, first, settings, policies, gate)?;
     end_of_run(core)
 }

@@ -3,4 +3,4 @@
 
 mod saved;
 
-pub use saved::{Saved, run_saved};
+pub use saved::{Saved, run_saved, run_saved_again};

@@ -1,25 +1,30 @@
 //! A run that is saved.
 
-ghost use Rattle.std.specs.Prelude.{◌<◌, ◌≡◌, ◌≤◌, ℕ, IfOk, map, string_bytes};
+ghost use Rattle.std.specs.Prelude.{◌<◌, ◌≡◌, ◌≤◌, IfOk, Some, map, string_bytes};
+ghost use Rattle.std.specs.Arc.{arc_value};
 ghost use Rattle.std.specs.List.{concat};
 ghost use Rattle.std.specs.Option.{option_map};
+ghost use Rattle.asp_model.specs.History.{FirstShape};
 ghost use Rattle.asp_model.specs.Shapes.{marked_of, tree_of, verdict_shape};
 ghost use Rattle.asp_model.specs.declared.limits.TheConstants.{MOST_REDUCTIONS, MOST_WORKERS};
 ghost use Rattle.def_journals.specs.Journals.{RunShape};
 ghost use Rattle.law_frozen.specs.Frozen.{frozen_of};
 ghost use Rattle.checkpoint_text.specs.Lines.{checkpoint_text};
 ghost use Rattle.checkpoint_runs.specs.Saved.{program_text};
+ghost use Rattle.core_state.specs.Cores.{program_of};
 ghost use Rattle.asp_core.specs.Calls.{verdict_of};
-ghost use Rattle.asp_core.specs.Cores.{IsRun};
+ghost use Rattle.asp_core.specs.Cores.{IsRun, history_of};
 ghost use Rattle.asp_core.specs.Over.{IsOver};
-ghost use Rattle.run_saves.specs.Saved.{IsOfProgram, IsSavedRun, is_budget as is_budget_told};
+ghost use Rattle.asp_core.specs.Thawing.{BeginsIn};
+ghost use Rattle.run_saves.specs.Saved.{IsLeftAt, IsLeftSince, IsSavedRun, is_budget as is_budget_told};
 
 use asp_check::Checked;
-use asp_core::Core;
+use asp_core::{Core, First, Frozen};
 use asp_model::Verdict;
 use checkpoint_runs::write_checkpoint;
 use code_reading::DecodeError;
 use run_ends::RunEnd;
+use run_resumes::resume_core;
 use std::alloc::Global;
 use std::sync::Wait;
 use std::thread::Threads;
@@ -55,6 +60,29 @@ pub fn run_saved<R: Threads + Wait + Sync, P: UpdatePolicy + Send + Drop, G: Gat
     left_of(alloc, program, core)
 }
 
+/// Goes on where a core was taken apart, or a checkpoint was read, and writes the checkpoint where
+/// the budget ran out.
+pub fn run_saved_again<R: Threads + Wait + Sync, P: UpdatePolicy + Send + Drop, G: Gate>(
+    rt: &R,
+    alloc: Global,
+    program: &Checked,
+    frozen: Frozen,
+    first: First,
+    settings: Settings,
+    policies: Policies<P>,
+    gate: &G,
+) -> Result<Saved, DecodeError>
+    requires workers { (0 < settings.workers) × (settings.workers ≤ MOST_WORKERS) }
+    requires first { BeginsIn frozen first settings.budget }
+    requires program { program_of (arc_value frozen.code) ≡ tree_of program.now.program.root }
+    ensures saved { let term = marked_of program.now.program.root in
+        (x : FirstShape) → first.shape ≡ Some x →
+        IfOk result (IsLeftSince term x settings.budget) }
+{
+    let core = resume_core(rt, alloc, frozen, first, settings, policies, gate)?;
+    left_of(alloc, program, core)
+}
+
 // What is left of a core whose verdict is there.
 fn left_of<P: UpdatePolicy + Drop>(
     alloc: Global,
@@ -62,8 +90,7 @@ fn left_of<P: UpdatePolicy + Drop>(
     core: Core<P>,
 ) -> Result<Saved, DecodeError>
     requires over { IsOver core }
-    ensures saved { (budget : ℕ) → IsOfProgram (tree_of program.now.program.root) budget core →
-        IfOk result (IsSavedRun (marked_of program.now.program.root) budget) }
+    ensures left { IfOk result (IsLeftAt (history_of core) (marked_of program.now.program.root)) }
 {
     if is_stopped(&core) {
         let pieces = stopped(alloc, program, core)?;

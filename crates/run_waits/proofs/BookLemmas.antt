@@ -22,10 +22,10 @@ use Rattle.asp_model.specs.Shapes.{future_shape}
 use Rattle.serve_rules.specs.Labels.{HaveSame}
 use Rattle.serve_rules.specs.Wanted.{wanted_labels}
 use Rattle.serve_rules.specs.declared.wanted.Wanted.{Wanted}
-use Rattle.replay_one.specs.declared.notes.Event.{Event}
-use Rattle.replay_one.specs.declared.notes.Event.TheVariants as event
-use Rattle.replay_one.specs.Listening.{IsDeafToLines, IsEvent}
-use Rattle.replay_one.specs.Notes.{Answered, EventShape, Faulted, Made, NoteShape, Polled, Printed, Sent, Served, Standing, faulted_by, noted_as, place_of, places_by, places_in}
+use Rattle.replay_parts.specs.declared.notes.Event.{Event}
+use Rattle.replay_parts.specs.declared.notes.Event.TheVariants as event
+use Rattle.replay_parts.specs.Listening.{IsDeafToLines, IsEvent}
+use Rattle.replay_parts.specs.Notes.{Answered, EventShape, Faulted, Made, NoteShape, Polled, Printed, Sent, Served, Standing, faulted_by, noted_as, place_of, places_by, places_in}
 use Rattle.run_waits.specs.declared.book.Asked.{Asked}
 use Rattle.run_waits.specs.declared.book.Book.{Book}
 use Rattle.run_waits.specs.declared.books.Books.{Books}

@@ -19,9 +19,9 @@ use Rattle.law_cuts.specs.Searches.{Goal, IsOnWay, made}
 use Rattle.law_cuts.proofs.CutLaws.{way_ends}
 use Rattle.step_ends.proofs.ReportLemmas.{map_map}
 use Rattle.replay_one.specs.Listed.{AreReplayable}
-use Rattle.replay_one.specs.Listening.{AreToldPlaces}
-use Rattle.replay_one.specs.Notes.{places_in, replay_notes}
-use Rattle.replay_one.specs.Rows.{list_shape}
+use Rattle.replay_parts.specs.Listening.{AreToldPlaces}
+use Rattle.replay_parts.specs.Notes.{places_in, replay_notes}
+use Rattle.replay_parts.specs.Rows.{list_shape}
 use Rattle.replay_one.proofs.DifferenceLemmas.{in_order, names_of_lists}
 use Rattle.run_waits.specs.Targets.{AreTold, Keeps, place_in}
 use Rattle.run_waits.specs.declared.receipts.Receipts.{Receipts}

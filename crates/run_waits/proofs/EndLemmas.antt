@@ -14,8 +14,8 @@ use Rattle.asp_model.specs.Status.{IsStuck}
 use Rattle.code_table.specs.declared.cells.Parcel.{Parcel}
 use Rattle.future_table.specs.Values.{values_of}
 use Rattle.law_steps.specs.Sound.{IsSound}
-use Rattle.replay_one.specs.Listening.{AreToldPlaces}
-use Rattle.replay_one.specs.Notes.{places_in, replay_notes}
+use Rattle.replay_parts.specs.Listening.{AreToldPlaces}
+use Rattle.replay_parts.specs.Notes.{places_in, replay_notes}
 use Rattle.wait_circles.specs.declared.ways.End.{End}
 use Rattle.wait_circles.specs.declared.ways.Circle.{Circle}
 use Rattle.wait_circles.specs.declared.whys.Why.{Why}

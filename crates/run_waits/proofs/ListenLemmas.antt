@@ -6,11 +6,11 @@ use Rattle.asp_model.specs.declared.name.FutureName.{FutureName}
 use Rattle.asp_model.specs.declared.word.Label.{Label}
 use Rattle.asp_model.specs.Names.{Name, FutureShape, Text, same_future}
 use Rattle.asp_model.specs.Shapes.{future_shape}
-use Rattle.replay_one.specs.Notes.{EventShape, NoteShape, noted_as, Answered, Faulted, Made, Polled, Printed, Sent, Served, Standing}
-use Rattle.replay_one.specs.declared.notes.Event.{Event}
-use Rattle.replay_one.specs.declared.notes.Event.TheVariants as event
-use Rattle.replay_one.specs.declared.notes.Note.{Note}
-use Rattle.replay_one.specs.Listening.{IsDeafToLines, IsEvent, IsNote}
+use Rattle.replay_parts.specs.Notes.{EventShape, NoteShape, noted_as, Answered, Faulted, Made, Polled, Printed, Sent, Served, Standing}
+use Rattle.replay_parts.specs.declared.notes.Event.{Event}
+use Rattle.replay_parts.specs.declared.notes.Event.TheVariants as event
+use Rattle.replay_parts.specs.declared.notes.Note.{Note}
+use Rattle.replay_parts.specs.Listening.{IsDeafToLines, IsEvent, IsNote}
 use Rattle.wait_circles.specs.Targets.{Place, place_of}
 use Rattle.run_waits.specs.Targets.{Keeps, IsSentTo, future_order, place_after, place_in, target_at}
 use Rattle.run_waits.specs.declared.receipts.Receipts.{Receipts}

@@ -35,10 +35,10 @@ use Rattle.law_cuts.proofs.CutLaws.{needed_steps, start_is_on_way, wanted_are_ne
 use Rattle.activity_step.specs.Local.{LocalRun}
 use Rattle.replay_one.proofs.DifferenceLemmas.{names_of_lists}
 use Rattle.replay_one.proofs.LocalLemmas.{local_intends}
-use Rattle.replay_population.proofs.RosterLemmas.{leads_both, number_named}
+use Rattle.replay_parts.proofs.RosterLemmas.{leads_both, number_named}
 use Rattle.replay_population.specs.Population.{IsPopulation, IsRunIn, with_activity}
 use Rattle.replay_population.specs.Reached.{IsReachedPopulation}
-use Rattle.replay_population.specs.Roster.{IsRoster, Leads}
+use Rattle.replay_parts.specs.Roster.{IsRoster, Leads}
 use Rattle.replay_population.specs.declared.population.Population.{Population}
 use Rattle.run_waits.specs.Targets.{AreTold}
 use Rattle.run_waits.specs.declared.receipts.Receipts.{Receipts}

@@ -22,7 +22,7 @@ use Rattle.law_steps.proofs.NameLemmas.{name_case, name_same, name_total}
 use Rattle.law_steps.proofs.StepLemmas.{step_taken}
 use Rattle.law_steps.proofs.WholeLemmas.{moves_keep_sound, start_is_sound}
 use Rattle.law_waits.proofs.HolderLemmas.{stands_once}
-use Rattle.replay_one.specs.Notes.{EventShape, NoteShape, Printed, answered_by, faulted_by, given_by, least_notes, made_by, noted_as, notes_from, notes_of, place_of, places_by, places_in, polled_by, printed_by, replay_notes, sent_by, served_by}
+use Rattle.replay_parts.specs.Notes.{EventShape, NoteShape, Printed, answered_by, faulted_by, given_by, least_notes, made_by, noted_as, notes_from, notes_of, place_of, places_by, places_in, polled_by, printed_by, replay_notes, sent_by, served_by}
 use Rattle.wait_circles.specs.Targets.{Place}
 use Rattle.run_waits.specs.Targets.{place_after, place_from, place_in}
 

@@ -4,7 +4,7 @@ use Rattle.std.specs.BTreeMap.{get}
 use Rattle.asp_model.specs.Names.{Name, FutureShape, Text, name_cmp, same_name}
 use Rattle.asp_model.specs.Term.{has_text}
 use Rattle.asp_model.specs.Shapes.{future_shape}
-use Rattle.replay_one.specs.Notes.{EventShape, NoteShape, Answered, Sent, Served}
+use Rattle.replay_parts.specs.Notes.{EventShape, NoteShape, Answered, Sent, Served}
 use Rattle.run_waits.specs.declared.book.Asked.{Asked}
 use Rattle.run_waits.specs.declared.book.Book.{Book}
 use Rattle.run_waits.specs.declared.books.Books.{Books}

@@ -1,6 +1,6 @@
 -- What the listener of a replay keeps.
 use Rattle.std.specs.Prelude.{List}
-use Rattle.replay_one.specs.Notes.{NoteShape}
+use Rattle.replay_parts.specs.Notes.{NoteShape}
 use Rattle.run_waits.specs.declared.kept.Kept.{Kept}
 use Rattle.run_waits.specs.Targets.{Keeps}
 use Rattle.run_waits.specs.Books.{KeepsBooks}

@@ -13,7 +13,7 @@ use Rattle.law_cuts.specs.Searches.{Goal, IsOnWay, made}
 use Rattle.run_waits.specs.Targets.{AreTold}
 use Rattle.run_waits.specs.declared.receipts.Receipts.{Receipts}
 use Rattle.replay_population.specs.Population.{IsPopulation}
-use Rattle.replay_population.specs.Roster.{Leads}
+use Rattle.replay_parts.specs.Roster.{Leads}
 use Rattle.replay_population.specs.declared.population.Population.{Population}
 use Rattle.run_waits.specs.Chains.{IsChain, IsChainUnder}
 use Rattle.run_waits.specs.Entries.{names_in}

@@ -9,7 +9,7 @@ use Rattle.asp_model.specs.Names.{Name, FutureShape, Text, same_future}
 use Rattle.asp_model.specs.Configuration.{Configuration, RequestShape}
 use Rattle.asp_model.specs.Shapes.{future_shape}
 use Rattle.law_steps.specs.Kept.{Stands}
-use Rattle.replay_one.specs.Notes.{EventShape, NoteShape, Sent}
+use Rattle.replay_parts.specs.Notes.{EventShape, NoteShape, Sent}
 use Rattle.run_waits.specs.declared.receipts.Receipts.{Receipts}
 use Rattle.wait_circles.specs.declared.targets.Target.{Target}
 use Rattle.wait_circles.specs.Targets.{Place, place_of}

@@ -3,8 +3,8 @@
 ghost use Rattle.std.specs.Prelude.{◌≡◌, ◌<◌, IfNone, IfSome, OnOk, map};
 ghost use Rattle.std.specs.VecDeque.{deque_len};
 ghost use Rattle.asp_model.specs.Shapes.{future_shape};
-ghost use Rattle.replay_one.specs.Listening.{IsEvent};
-ghost use Rattle.replay_one.specs.Notes.{EventShape};
+ghost use Rattle.replay_parts.specs.Listening.{IsEvent};
+ghost use Rattle.replay_parts.specs.Notes.{EventShape};
 ghost use Rattle.serve_rules.specs.Wanted.{wanted_labels};
 ghost use Rattle.run_waits.specs.Books.{HasNone, IsOldestAt, blank, book_answered, book_by, book_of, book_received, book_served, book_taken, request_of};
 

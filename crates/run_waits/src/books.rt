@@ -4,8 +4,8 @@ ghost use Rattle.std.specs.Prelude.{◌≡◌, IsFalse, None, OnOk};
 ghost use Rattle.std.specs.BTreeMap.{get};
 ghost use Rattle.std.specs.Option.{option_copied};
 ghost use Rattle.asp_model.specs.Names.{Name, name_cmp};
-ghost use Rattle.replay_one.specs.Listening.{IsEvent, IsNote};
-ghost use Rattle.replay_one.specs.Notes.{EventShape, NoteShape};
+ghost use Rattle.replay_parts.specs.Listening.{IsEvent, IsNote};
+ghost use Rattle.replay_parts.specs.Notes.{EventShape, NoteShape};
 ghost use Rattle.run_waits.specs.Books.{BookShape, IsNoted, blank, book_at, book_by, or_blank, owner};
 
 use crate::book::Book;

@@ -10,7 +10,7 @@ ghost use Rattle.def_paths.specs.Outcomes.{whole_outcome_of};
 ghost use Rattle.run_ends.specs.Ends.{IsEndOf};
 ghost use Rattle.replay_one.specs.Listed.{AreReplayable};
 ghost use Rattle.run_waits.specs.declared.cuts.CutStop.TheVariants.{Memory};
-ghost use Rattle.replay_population.specs.Roster.{IsRoster, Leads};
+ghost use Rattle.replay_parts.specs.Roster.{IsRoster, Leads};
 ghost use Rattle.run_waits.specs.Entries.{names_in};
 ghost use Rattle.run_waits.specs.Searches.{IsStart};
 ghost use Rattle.run_waits.specs.Cuts.{IsCutBack, IsCutStop, IsStopOf};

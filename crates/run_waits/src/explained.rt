@@ -9,7 +9,7 @@ ghost use Rattle.asp_model.specs.Shapes.{counts_shape, lists_shape, outcome_shap
 ghost use Rattle.asp_model.specs.Status.{IsStuck};
 ghost use Rattle.replay_one.specs.Correct.{IsStop};
 ghost use Rattle.replay_one.specs.Listed.{AreReplayable};
-ghost use Rattle.replay_one.specs.Notes.{replay_notes};
+ghost use Rattle.replay_parts.specs.Notes.{replay_notes};
 ghost use Rattle.wait_circles.specs.Ways.{AreCircles, AreEnds};
 ghost use Rattle.wait_circles.specs.Whys.{AreWaits, IsToldWhy, names_of};
 ghost use Rattle.run_waits.specs.Books.{KeepsBooks};

@@ -13,7 +13,7 @@ use Rattle.asp_model.specs.Split as terms
 use Rattle.asp_model.specs.Split.{Context, Splits, split}
 use Rattle.law_steps.specs.Closed.{AreBelow, IsClosedActivity, IsClosedParcel}
 use Rattle.code_table.specs.declared.code.Node.{Node}
-use Rattle.request_queue.specs.Pending.{pending_of, waiting}
+use Rattle.request_queue.specs.Pending.{QueueView, pending_of, waiting}
 use Rattle.activity_step.specs.Activities.{StandsFor}
 use Rattle.activity_step.specs.Standings as step
 use Rattle.step_reads.specs.declared.strict.Strict.{Strict}
@@ -28,6 +28,13 @@ code_of x = step.code_of x.activity
 -- what it received and asked, oldest first
 abbrev pub log_in : Actor → List ReceptionShape
 log_in x = map reception_shape x.log.items
+
+-- a queue of this code has those of these requests that were not served
+pub record HoldsQueue (k : List Node) (q : QueueView) (served : List ℕ) (rs : List RequestShape) : Type 0 where
+  pub pending : waiting q ≡ pending_of served 0 rs
+  pub arrived : q.arrived ≡ length rs
+  pub below : AreBelow (length rs) served
+  pub coded : AllByRecursion (λ e. arc_value e.1.arguments.code ≡ k) q.pending
 
 -- what it received: the pending requests are those that were not served
 pub record IsQueue (x : Actor) (served : List ℕ) (rs : List RequestShape) : Type 0 where

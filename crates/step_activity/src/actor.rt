@@ -4,7 +4,12 @@ ghost use Rattle.std.specs.Prelude.{◌≡◌, ◌∷◌, ◌++◌, [], IfOk, Li
 ghost use Rattle.std.specs.Arc.{arc_value};
 ghost use Rattle.asp_model.specs.Configuration as model;
 ghost use Rattle.asp_model.specs.Configuration.{From, RequestShape, begun};
-ghost use Rattle.asp_model.specs.Shapes.{activity_shape as report_shape, line_shape, status_shape};
+ghost use Rattle.asp_model.specs.Shapes.{
+  activity_shape as report_shape,
+  line_shape,
+  reception_shape,
+  status_shape,
+};
 ghost use Rattle.asp_model.specs.Store.{Object as ObjectCell};
 ghost use Rattle.code_table.specs.Shapes.{store_of};
 ghost use Rattle.code_table.specs.Pieces.{tree};
@@ -15,7 +20,7 @@ ghost use Rattle.activity_step.specs.Places.{IsPlaceOf};
 ghost use Rattle.def_paths.specs.Snapshots.{snapshot_of};
 ghost use Rattle.request_queue.specs.Requests.{request_shape};
 ghost use Rattle.run_ends.specs.Ends.{IsSnapshotOf};
-ghost use Rattle.step_activity.specs.Actors.{Stands, code_of, log_in};
+ghost use Rattle.step_activity.specs.Actors.{HoldsQueue, Stands, code_of, log_in};
 
 use activity_step::{Activity, State};
 use asp_model::{ActivityName, ActivityReport, Line, Reception, Status};
@@ -52,6 +57,32 @@ impl Actor {
             log: Vec::new(alloc),
             sends: 0,
             creations: 0,
+            clear: 0,
+        }
+    }
+
+    /// An activity that is made anew, with its pending requests, its log, and how many requests and
+    /// activities it has made.
+    pub fn restored(
+        activity: Activity,
+        queue: Queue,
+        log: Vec<Reception>,
+        sends: u32,
+        creations: u32,
+    ) -> Actor
+        ensures stands { let k = arc_value activity.code in
+            (a : model.Activity) (rs : List RequestShape) → StandsFor activity a →
+            sends ≡ a.sends → creations ≡ a.creations → HoldsQueue k queue a.served rs →
+            Stands result a rs }
+        ensures log { log_in result ≡ map reception_shape log.items }
+        ensures code { code_of result ≡ arc_value activity.code }
+    {
+        Actor {
+            activity,
+            queue,
+            log,
+            sends,
+            creations,
             clear: 0,
         }
     }

@@ -6,7 +6,7 @@ ghost use Rattle.asp_model.specs.Configuration as model;
 ghost use Rattle.asp_model.specs.Configuration.{RequestShape};
 ghost use Rattle.asp_model.specs.Parcel.{ParcelShape, unpack_at};
 ghost use Rattle.asp_model.specs.Shapes.{future_shape};
-ghost use Rattle.code_table.specs.Shapes.{parcel_shape};
+ghost use Rattle.code_table.specs.Shapes.{answer_shape, parcel_shape};
 ghost use Rattle.def_journals.specs.Deliveries.{holders_from, unpack_each};
 ghost use Rattle.law_steps.specs.Closed.{AreBelow, IsClosedValue};
 ghost use Rattle.activity_step.specs.Activities.{StandsFor};
@@ -17,7 +17,8 @@ use crate::actor::Actor;
 use crate::held::{clear_at, holds_future};
 use activity_step::Standing;
 use asp_model::FutureName;
-use code_table::{Parcel, Place};
+use code_table::{Answer, Parcel, Place};
+use deep_copy::shown_parcel;
 use std::alloc::{AllocError, Global};
 use step_reads::strict_of;
 
@@ -37,6 +38,25 @@ impl Actor {
         self.activity.fill(alloc, place, value)?;
         self.clear = self.clear_now();
         Ok(())
+    }
+
+    /// Puts a value that is shown to all who hold its future at a place. It takes no reduction.
+    pub fn fill_answer(
+        &mut self,
+        alloc: Global,
+        place: Place,
+        answer: &Answer,
+    ) -> Result<(), AllocError>
+        requires within { place < length self.old.activity.state.store.cells }
+        ensures stands { (a : model.Activity) (rs : List RequestShape) → Stands self.old a rs →
+            let value = answer_shape (code_of self.old) answer.now in
+            let filled = unpack_at a.store place value in
+            OnOk result (Stands self.new (record a { store = filled }) rs) }
+        ensures log { log_in self.new ≡ log_in self.old }
+        ensures code { code_of self.new ≡ code_of self.old }
+    {
+        let value = shown_parcel(alloc, self.code(), answer)?;
+        self.fill(alloc, place, &value)
     }
 
     /// How many members of a group that it waits for are still known to have come, once a value has

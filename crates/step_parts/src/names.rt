@@ -23,5 +23,5 @@ pub fn future_named(
         by: name.copy(alloc)?,
         index: number,
     };
-    Ok(Arc::new(alloc, Future { name, number: at })?)
+    Ok(Arc::new(alloc, Future::new(alloc, name, at))?)
 }

@@ -17,9 +17,13 @@ use Rattle.law_chases.proofs.ChaseLemmas.{chase_finds}
 use Rattle.wait_need.specs.Needs.{NeedShape, Ready, Fill, Awaits, need_by, need_of}
 use Rattle.wait_need.specs.Operands.{GivesByNeed, NeedsAreOfOperands}
 
+-- a cell that is read stands for the one at its place
+pub cell_there : (k : List Node) (s : CodedStore) (p : ℕ) (c : CodedCell) → c ≡ cell_at s p → cell_of k c ≡ cell (store_of k s) p
+cell_there k s p c e = ap (cell_of k) e ∙ sym (cell-store_of k s p)
+
 -- what is at a place needs what the coded cell there stands for
 pub cell_needs : (chases : FutureShape → Chase) (k : List Node) (s : CodedStore) (p : ℕ) (c : CodedCell) → c ≡ cell_at s p → need_of chases (cell_of k c) ≡ need_of chases (cell (store_of k s) p)
-cell_needs chases k s p c e = ap (need_of chases) (ap (cell_of k) e ∙ sym (cell-store_of k s p))
+cell_needs chases k s p c e = ap (need_of chases) (cell_there k s p c e)
 
 abbrev filled_in : NeedShape → Option FutureShape
 filled_in (Fill f) = Some f

@@ -4,8 +4,10 @@
 
 mod kinds;
 mod operands;
+mod peeks;
 mod places;
 
 pub use kinds::Need;
 pub use operands::needs_are_of_operands;
+pub use peeks::{PeekNeed, Seen, peek_need};
 pub use places::need;

@@ -8,7 +8,7 @@ ghost use Rattle.asp_model.specs.Replay.{Fits, log_in, replay as replay_of};
 ghost use Rattle.asp_model.specs.Shapes.{counts_shape, lists_shape, outcome_shape, tree_of};
 ghost use Rattle.replay_one.specs.Correct.{IsStop};
 ghost use Rattle.replay_one.specs.Listed.{AreReplayable};
-ghost use Rattle.replay_one.specs.Notes.{replay_notes};
+ghost use Rattle.replay_parts.specs.Notes.{replay_notes};
 ghost use Rattle.explain.specs.Orders.{entries_of, order_of};
 ghost use Rattle.explain.specs.OrderKept.{Tells, entry_shape, poll_of, request_of};
 

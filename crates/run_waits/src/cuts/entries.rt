@@ -11,7 +11,7 @@ ghost use Rattle.def_journals.specs.Journals.{number_of};
 ghost use Rattle.law_cuts.specs.Wants.{creator_of};
 ghost use Rattle.law_steps.specs.Reached.{IsThere};
 ghost use Rattle.replay_population.specs.Population.{IsPopulation};
-ghost use Rattle.replay_population.specs.Roster.{IsRoster, Leads};
+ghost use Rattle.replay_parts.specs.Roster.{IsRoster, Leads};
 ghost use Rattle.wait_circles.specs.Entries.{entry_lent};
 ghost use Rattle.run_waits.specs.Entries.{names_in};
 

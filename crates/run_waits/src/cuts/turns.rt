@@ -16,7 +16,7 @@ ghost use Rattle.law_steps.specs.Sound.{IsSound};
 ghost use Rattle.law_waits.specs.Waits.{waited};
 ghost use Rattle.replay_population.specs.Population.{IsKnown, IsPopulation};
 ghost use Rattle.replay_population.specs.Reached.{IsReachedBySome, IsReachedPopulation};
-ghost use Rattle.replay_population.specs.Roster.{Leads};
+ghost use Rattle.replay_parts.specs.Roster.{Leads};
 ghost use Rattle.run_waits.specs.Targets.{AreTold};
 ghost use Rattle.wait_circles.specs.Entries.{name_lent};
 ghost use Rattle.run_waits.specs.Entries.{names_in};

@@ -92,3 +92,23 @@ pub returns-in-Trace-clause-reads : goal.returns-in-Trace-clause-reads
 returns-in-Trace-clause-reads g c =
     let o = outside_between g.S.Source.told c.args.source.now c.prepare_trace.new.source in
     subst (λ (t : Task). AsksInTurn o (files_of (task_shape t))) (sym c.in-Trace.is) c.prepare_trace.ensures.reads
+
+pub returns-in-Resume-clause-answer : goal.returns-in-Resume-clause-answer
+returns-in-Resume-clause-answer g c =
+    let o = outside_between g.S.Source.told c.args.source.now c.prepare_resume.new.source in
+    subst (λ (t : Task). IfOk c.prepare_resume.result (IsReady o (task_shape t))) (sym c.in-Resume.is) c.prepare_resume.ensures.answer
+
+pub returns-in-Resume-clause-reads : goal.returns-in-Resume-clause-reads
+returns-in-Resume-clause-reads g c =
+    let o = outside_between g.S.Source.told c.args.source.now c.prepare_resume.new.source in
+    subst (λ (t : Task). AsksInTurn o (files_of (task_shape t))) (sym c.in-Resume.is) c.prepare_resume.ensures.reads
+
+pub returns-in-SaveAgain-clause-answer : goal.returns-in-SaveAgain-clause-answer
+returns-in-SaveAgain-clause-answer g c =
+    let o = outside_between g.S.Source.told c.args.source.now c.prepare_save_again.new.source in
+    subst (λ (t : Task). IfOk c.prepare_save_again.result (IsReady o (task_shape t))) (sym c.in-SaveAgain.is) c.prepare_save_again.ensures.answer
+
+pub returns-in-SaveAgain-clause-reads : goal.returns-in-SaveAgain-clause-reads
+returns-in-SaveAgain-clause-reads g c =
+    let o = outside_between g.S.Source.told c.args.source.now c.prepare_save_again.new.source in
+    subst (λ (t : Task). AsksInTurn o (files_of (task_shape t))) (sym c.in-SaveAgain.is) c.prepare_save_again.ensures.reads

@@ -91,3 +91,23 @@ pub returns-in-Unfinished : goal.returns-in-Unfinished
 returns-in-Unfinished g c =
     let s = sight_between g.E.Sink.told c.args.err.now c.tell-in-Unfinished.new.err in
     subst (λ (stop : Stop). ToldOf (refusal_of stop) s c.tell-in-Unfinished.result) (sym c.in-Unfinished.is) (inl c.tell-in-Unfinished.ensures)
+
+pub returns-in-LongCheckpoint : goal.returns-in-LongCheckpoint
+returns-in-LongCheckpoint g c =
+    let s = sight_between g.E.Sink.told c.args.err.now c.tell-in-LongCheckpoint.new.err in
+    subst (λ (stop : Stop). ToldOf (refusal_of stop) s c.tell-in-LongCheckpoint.result) (sym c.in-LongCheckpoint.is) (inl c.tell-in-LongCheckpoint.ensures)
+
+pub returns-in-OtherCheckpoint : goal.returns-in-OtherCheckpoint
+returns-in-OtherCheckpoint g c =
+    let s = sight_between g.E.Sink.told c.args.err.now c.tell-in-OtherCheckpoint.new.err in
+    subst (λ (stop : Stop). ToldOf (refusal_of stop) s c.tell-in-OtherCheckpoint.result) (sym c.in-OtherCheckpoint.is) (inl c.tell-in-OtherCheckpoint.ensures)
+
+pub returns-in-NoCheckpoint : goal.returns-in-NoCheckpoint
+returns-in-NoCheckpoint g c =
+    let s = sight_between g.E.Sink.told c.args.err.now c.tell-in-NoCheckpoint.new.err in
+    subst (λ (stop : Stop). ToldOf (refusal_of stop) s c.tell-in-NoCheckpoint.result) (sym c.in-NoCheckpoint.is) (inl c.tell-in-NoCheckpoint.ensures)
+
+pub returns-in-Overspent : goal.returns-in-Overspent
+returns-in-Overspent g c =
+    let s = sight_between g.E.Sink.told c.args.err.now c.tell-in-Overspent.new.err in
+    subst (λ (stop : Stop). ToldOf (refusal_of stop) s c.tell-in-Overspent.result) (sym c.in-Overspent.is) (inl c.tell-in-Overspent.ensures)

@@ -2,4 +2,4 @@ use Rattle.checkpoint_checks.proofs.SoundLemmas.{fits_of, fits_to}
 use Rattle.checkpoint_checks.proofs.laws.fitting_is_sound.Goals as goal
 
 pub returns : goal.returns
-returns c = λ file parted. (fits_to file parted, fits_of file parted)
+returns c = λ file. (fits_to file, fits_of file)

@@ -14,7 +14,7 @@ returns c =
       c.flag_asks.ensures,
       c.flag_asks-2.ensures,
       c.flag_asks-3.ensures,
-      c.flag_asks-4.ensures,
+      c.save_asks.ensures,
       c.replay_asks.ensures,
       c.trace_asks.ensures,
       c.make_asks.ensures,

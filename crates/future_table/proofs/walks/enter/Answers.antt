@@ -1,4 +1,4 @@
-use Rattle.std.proofs.Common.{◌≡◌, ◌∙◌, ◌++◌, ◌∷◌, [], ◌+◌, true, List, Option, None, Some, length, length-append, map, sym, ap, subst, arith}
+use Rattle.std.proofs.Common.{◌≡◌, ◌∙◌, ◌++◌, ◌∷◌, [], ◌+◌, true, List, Option, None, length, length-append, map, sym, ap, subst}
 use Rattle.asp_model.specs.declared.name.FutureName.{FutureName}
 use Rattle.asp_model.specs.Chase.{Values}
 use Rattle.asp_model.specs.Names.{FutureShape}
@@ -8,7 +8,7 @@ use Rattle.law_chases.proofs.FutureLemmas.{some_is}
 use Rattle.future_table.specs.declared.links.Link.{Link}
 use Rattle.future_table.specs.Numbers.{IsEntered, number_of}
 use Rattle.future_table.specs.Values.{filled_of, values_of}
-use Rattle.future_table.specs.Walks.{filled_in, names_in, values_in}
+use Rattle.future_table.specs.Walks.{names_in, values_in}
 use Rattle.future_table.specs.Components.{AreComponents, alone}
 use Rattle.future_table.proofs.ComponentLemmas.{met, number_new, number_stays}
 use Rattle.future_table.proofs.TableLemmas.{filled_met, mapped_more}

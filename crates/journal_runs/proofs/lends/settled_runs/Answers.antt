@@ -1,6 +1,6 @@
 use Rattle.std.proofs.Common.{◌≡◌, ◌∙◌, ap, sym}
 use Rattle.def_journals.specs.Journals.{number_of}
-use Rattle.replay_population.proofs.PopulationLemmas.{any_way}
+use Rattle.replay_parts.proofs.ResultLemmas.{any_way}
 use Rattle.journal_runs.proofs.lends.settled_runs.Goals as goal
 
 pub can_step-requires-clause-closed : goal.can_step-requires-clause-closed

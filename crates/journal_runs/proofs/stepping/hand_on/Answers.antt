@@ -6,7 +6,7 @@ use Rattle.replay_population.specs.declared.population.Population.{Population}
 use Rattle.replay_population.specs.Giving.{IsGiving}
 use Rattle.replay_population.specs.Population.{IsPopulation, with_activity}
 use Rattle.replay_population.proofs.GivingLemmas.{filled_is, filled_new, filled_root, made_alone, made_given, made_population, made_unlogged, sent_found, sent_is, sent_there}
-use Rattle.replay_population.proofs.PopulationLemmas.{on_ok}
+use Rattle.replay_parts.proofs.ResultLemmas.{on_ok}
 use Rattle.journal_runs.proofs.stepping.hand_on.Goals as goal
 
 pub unreachable-requires : goal.unreachable-requires

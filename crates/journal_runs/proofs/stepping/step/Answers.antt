@@ -1,5 +1,5 @@
 use Rattle.std.proofs.Common.{◌≡◌, true, false, rules, subst}
-use Rattle.replay_population.proofs.PopulationLemmas.{if_ok}
+use Rattle.replay_parts.proofs.ResultLemmas.{if_ok}
 use Rattle.journal_runs.specs.Stepping.{IsActed, IsStepped, MayFollow}
 use Rattle.journal_runs.proofs.StepLemmas.{acted_stepped}
 use Rattle.journal_runs.proofs.stepping.step.Goals as goal

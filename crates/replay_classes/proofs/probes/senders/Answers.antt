@@ -2,7 +2,7 @@ use Rattle.std.proofs.Common.{◌≡◌, ◌<◌, ◌+◌, ◌∙◌, List, [], 
 use Rattle.std.proofs.Common.{length-append}
 use Rattle.asp_model.specs.Step.{intent_in}
 use Rattle.replay_population.proofs.EndLemmas.{reached_closed}
-use Rattle.replay_population.proofs.RosterLemmas.{number_within}
+use Rattle.replay_parts.proofs.RosterLemmas.{number_within}
 use Rattle.replay_offers.proofs.EntryLemmas.{known_at}
 use Rattle.replay_classes.specs.Looks.{AreSendersTo}
 use Rattle.replay_classes.proofs.ProbeLemmas.{rests_if, senders_more, sends_if}

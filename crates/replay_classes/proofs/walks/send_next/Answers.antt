@@ -1,7 +1,7 @@
 use Rattle.std.proofs.Common.{◌∙◌, List, sym, ap, subst}
 use Rattle.asp_model.specs.Step.{with_effect}
 use Rattle.class_search.specs.declared.ends.Sending.{Sending}
-use Rattle.replay_population.proofs.RosterLemmas.{number_within}
+use Rattle.replay_parts.proofs.RosterLemmas.{number_within}
 use Rattle.replay_classes.specs.Classes.{class_in}
 use Rattle.replay_classes.specs.Walks.{IsWalk}
 use Rattle.replay_classes.proofs.WalkLemmas.{sent_on}

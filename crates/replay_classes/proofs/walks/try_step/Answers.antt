@@ -7,7 +7,7 @@ use Rattle.def_journals.specs.Journals.{number_of}
 use Rattle.replay_population.specs.declared.population.Population.{Population}
 use Rattle.replay_population.proofs.EndLemmas.{reached_closed}
 use Rattle.replay_population.proofs.GivingLemmas.{reached_hand_on}
-use Rattle.replay_population.proofs.PopulationLemmas.{on_ok}
+use Rattle.replay_parts.proofs.ResultLemmas.{on_ok}
 use Rattle.replay_offers.proofs.EntryLemmas.{known_at}
 use Rattle.replay_classes.specs.declared.walks.Walk.{Walk}
 use Rattle.replay_classes.specs.Classes.{class_in}

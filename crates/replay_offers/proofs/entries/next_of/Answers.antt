@@ -3,7 +3,7 @@ use Rattle.std.specs.Prelude.{IfOk}
 use Rattle.asp_model.specs.Configuration.{From, ReceptionShape}
 use Rattle.asp_model.specs.Step.{intent_in}
 use Rattle.law_chases.proofs.FutureLemmas.{some_is}
-use Rattle.replay_population.proofs.RosterLemmas.{number_named, number_within}
+use Rattle.replay_parts.proofs.RosterLemmas.{number_named, number_within}
 use Rattle.step_activity.specs.Outlook.{IsOutlook}
 use Rattle.step_parts.specs.declared.outlook.Outlook.TheVariants as outlook
 use Rattle.replay_offers.specs.Entries.{IsEntry}

@@ -9,15 +9,15 @@ use Rattle.asp_model.specs.Step.{ListsShape, intent_in, is_next}
 use Rattle.law_chases.proofs.FutureLemmas.{some_is}
 use Rattle.replay_population.proofs.EndLemmas.{reached_closed}
 use Rattle.replay_population.proofs.OutlookLemmas.{intended}
-use Rattle.replay_population.proofs.RosterLemmas.{number_named, number_within}
+use Rattle.replay_parts.proofs.RosterLemmas.{number_named, number_within}
 use Rattle.def_journals.specs.Journals.{number_of}
 use Rattle.law_schedules.specs.Schedules.{RestsIn}
 use Rattle.step_activity.specs.Found.{IsFoundFor}
 use Rattle.step_activity.specs.Outlook.{IsOutlook}
 use Rattle.step_activity.proofs.PassingLemmas.{first_passed}
-use Rattle.replay_one.specs.declared.bounds.Bounds.{Bounds}
+use Rattle.replay_parts.specs.declared.bounds.Bounds.{Bounds}
 use Rattle.replay_population.specs.declared.population.Population.{Population}
-use Rattle.replay_one.specs.Bounds.{count_within, lists_within}
+use Rattle.replay_parts.specs.Bounds.{count_within, lists_within}
 use Rattle.replay_population.specs.Population.{HasPassedIn, IsFoundAt, found_in}
 use Rattle.replay_one.specs.declared.looks.Look.{Look}
 use Rattle.replay_one.specs.declared.looks.Look.TheVariants as look

@@ -1,7 +1,7 @@
 use Rattle.std.proofs.Common.{◌∙◌, length, refl, sym, subst}
 use Rattle.asp_model.specs.Configuration.{From, log_of}
-use Rattle.replay_one.specs.declared.bounds.Next.{Next}
-use Rattle.replay_one.specs.Bounds.{IsNextAt, lists_within}
+use Rattle.replay_parts.specs.declared.bounds.Next.{Next}
+use Rattle.replay_parts.specs.Bounds.{IsNextAt, lists_within}
 use Rattle.replay_one.proofs.LookLemmas.{anything_next, nothing_next, only_next}
 use Rattle.replay_one.proofs.looks.may_come.Goals as goal
 

@@ -10,11 +10,12 @@ use Rattle.asp_model.specs.Replay.{CountsShape, IsLeastDiverging, count_in, repl
 use Rattle.asp_model.specs.Shapes.{outcome_shape, tree_of}
 use Rattle.law_schedules.specs.Divergence.{AreInOrder, divergence_of}
 use Rattle.law_schedules.proofs.DivergenceLemmas.{diverges_where_first, fits_where_none_differs}
-use Rattle.replay_one.specs.Rows.{list_shape}
+use Rattle.replay_parts.specs.Rows.{list_shape}
 use Rattle.asp_model.specs.Step.{ListsShape}
-use Rattle.replay_one.specs.Listening.{AreToldPlaces}
-use Rattle.replay_one.specs.Notes.{NoteShape, notes_from, replay_notes}
-use Rattle.replay_one.proofs.DifferenceLemmas.{difference_in, divergence_is, in_order, names_of_lists}
+use Rattle.replay_parts.specs.Listening.{AreToldPlaces}
+use Rattle.replay_parts.specs.Notes.{NoteShape, notes_from, replay_notes}
+use Rattle.replay_one.proofs.DifferenceLemmas.{divergence_is, in_order, names_of_lists}
+use Rattle.replay_parts.proofs.DifferenceLemmas.{difference_in}
 use Rattle.replay_one.proofs.replays.replay_noting.Goals as goal
 
 pub sum_of-sum-requires : goal.sum_of-sum-requires

@@ -1,7 +1,7 @@
 use Rattle.std.proofs.Common.{length, refl, subst}
 use Rattle.asp_model.specs.Configuration.{log_of}
-use Rattle.replay_one.specs.declared.bounds.Next.{Next}
-use Rattle.replay_one.specs.Bounds.{IsNextAt, lists_within}
+use Rattle.replay_parts.specs.declared.bounds.Next.{Next}
+use Rattle.replay_parts.specs.Bounds.{IsNextAt, lists_within}
 use Rattle.replay_one.proofs.LookLemmas.{next_of}
 use Rattle.replay_one.proofs.round.wake_next.Goals as goal
 

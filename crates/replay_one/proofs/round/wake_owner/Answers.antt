@@ -5,7 +5,7 @@ use Rattle.asp_model.specs.Names.{Name}
 use Rattle.def_journals.specs.Journals.{number_of}
 use Rattle.law_chases.proofs.FutureLemmas.{none_true, some_is}
 use Rattle.law_schedules.specs.Schedules.{IsOf}
-use Rattle.replay_population.proofs.RosterLemmas.{number_named, number_within}
+use Rattle.replay_parts.proofs.RosterLemmas.{number_named, number_within}
 use Rattle.replay_one.specs.Schedule.{if_number, sends_at}
 use Rattle.replay_one.proofs.LookLemmas.{of_one}
 use Rattle.replay_one.proofs.round.wake_owner.Goals as goal

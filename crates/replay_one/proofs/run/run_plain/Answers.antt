@@ -1,7 +1,7 @@
 use Rattle.asp_model.specs.Shapes.{outcome_shape, tree_of}
 use Rattle.run_ends.specs.declared.ends.RunEnd.{RunEnd}
 use Rattle.replay_one.proofs.PlainLemmas.{plain_replays, plain_spent, plain_within}
-use Rattle.replay_population.proofs.PopulationLemmas.{if_ok}
+use Rattle.replay_parts.proofs.ResultLemmas.{if_ok}
 use Rattle.replay_one.proofs.run.run_plain.Goals as goal
 
 pub returns-clause-replays : goal.returns-clause-replays

@@ -4,11 +4,11 @@ use Rattle.asp_model.specs.Term.{Tree}
 use Rattle.asp_model.specs.Configuration.{start}
 use Rattle.asp_model.specs.Replay.{steps_from}
 use Rattle.asp_model.specs.Shapes.{tree_of}
-use Rattle.replay_one.specs.declared.bounds.Bounds.{Bounds}
-use Rattle.replay_one.specs.Bounds.{count_within, lists_within}
+use Rattle.replay_parts.specs.declared.bounds.Bounds.{Bounds}
+use Rattle.replay_parts.specs.Bounds.{count_within, lists_within}
 use Rattle.replay_population.specs.Population.{term_of}
 use Rattle.replay_population.proofs.EndLemmas.{reached_closed}
-use Rattle.replay_population.proofs.PopulationLemmas.{any_way}
+use Rattle.replay_parts.proofs.ResultLemmas.{any_way}
 use Rattle.replay_one.specs.Told.{notes_by}
 use Rattle.replay_one.proofs.PlainLemmas.{begins_run, placed}
 use Rattle.replay_one.proofs.run.run_within.Goals as goal

@@ -5,8 +5,8 @@ use Rattle.asp_model.specs.Names.{Name}
 use Rattle.asp_model.specs.Shapes.{line_shape}
 use Rattle.law_chases.proofs.FutureLemmas.{some_is}
 use Rattle.law_steps.specs.Waking.{labels_wanted}
-use Rattle.replay_population.proofs.RosterLemmas.{number_named, number_within}
-use Rattle.replay_one.specs.Notes.{noted_as, served_by}
+use Rattle.replay_parts.proofs.RosterLemmas.{number_named, number_within}
+use Rattle.replay_parts.specs.Notes.{noted_as, served_by}
 use Rattle.replay_one.proofs.telling.before.Goals as goal
 
 pub name-by-requires : goal.name-by-requires

@@ -4,10 +4,10 @@ use Rattle.asp_model.specs.Shapes.{line_shape}
 use Rattle.law_chases.proofs.FutureLemmas.{some_is}
 use Rattle.step_activity.specs.Effects.{IsGiven}
 use Rattle.replay_population.specs.declared.population.Population.{Population}
-use Rattle.replay_population.proofs.PopulationLemmas.{on_ok}
-use Rattle.replay_population.proofs.RosterLemmas.{number_named, number_within}
-use Rattle.replay_one.specs.Listening.{IsBefore, IsKnownBefore}
-use Rattle.replay_one.specs.Notes.{EventShape, Printed, given_by, noted_as, printed_by}
+use Rattle.replay_parts.proofs.ResultLemmas.{on_ok}
+use Rattle.replay_parts.proofs.RosterLemmas.{number_named, number_within}
+use Rattle.replay_parts.specs.Listening.{IsBefore, IsKnownBefore}
+use Rattle.replay_parts.specs.Notes.{EventShape, Printed, given_by, noted_as, printed_by}
 use Rattle.replay_one.proofs.TellLemmas.{lines_behind, told_given}
 use Rattle.replay_one.proofs.telling.tell.Goals as goal
 

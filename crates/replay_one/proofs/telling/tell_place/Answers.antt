@@ -5,10 +5,11 @@ use Rattle.def_journals.specs.Journals.{number_of}
 use Rattle.law_steps.specs.Waking.{labels_wanted}
 use Rattle.law_chases.proofs.FutureLemmas.{some_is}
 use Rattle.replay_population.specs.declared.population.Population.{Population}
-use Rattle.replay_population.proofs.PopulationLemmas.{absent_there, any_way, found_at, found_stands, on_ok}
-use Rattle.replay_population.proofs.RosterLemmas.{number_named, number_within}
-use Rattle.replay_one.specs.Notes.{faulted_by, place_of, places_by}
-use Rattle.replay_one.proofs.NoteLemmas.{told_quiet}
+use Rattle.replay_population.proofs.PopulationLemmas.{absent_there, found_at, found_stands}
+use Rattle.replay_parts.proofs.ResultLemmas.{any_way, on_ok}
+use Rattle.replay_parts.proofs.RosterLemmas.{number_named, number_within}
+use Rattle.replay_parts.specs.Notes.{faulted_by, place_of, places_by}
+use Rattle.replay_parts.proofs.NoteLemmas.{told_quiet}
 use Rattle.replay_one.proofs.TellLemmas.{place_none, told_place}
 use Rattle.replay_one.proofs.telling.tell_place.Goals as goal
 

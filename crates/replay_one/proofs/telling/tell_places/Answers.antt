@@ -4,8 +4,8 @@ use Rattle.std.proofs.lemmas.Option.{slice_get-get_or}
 use Rattle.asp_model.specs.Names.{Name, main_name}
 use Rattle.def_journals.specs.Journals.{number_of}
 use Rattle.replay_population.specs.declared.population.Population.{Population}
-use Rattle.replay_one.specs.Notes.{places_in}
-use Rattle.replay_one.proofs.NoteLemmas.{told_quiet}
+use Rattle.replay_parts.specs.Notes.{places_in}
+use Rattle.replay_parts.proofs.NoteLemmas.{told_quiet}
 use Rattle.replay_one.proofs.TellLemmas.{names_there, told_next}
 use Rattle.replay_one.proofs.telling.tell_places.Goals as goal
 

@@ -1,7 +1,7 @@
 use Rattle.std.proofs.Common.{◌≡◌, ◌++◌, List, take}
 use Rattle.asp_model.specs.Configuration.{Configuration}
 use Rattle.replay_population.specs.Population.{IsClosedBySome, IsPopulation}
-use Rattle.replay_one.specs.Notes.{NoteShape, places_in}
+use Rattle.replay_parts.specs.Notes.{NoteShape, places_in}
 use Rattle.replay_one.proofs.telling.tell_places.Given as goal
 
 -- it was told where those with lesser numbers stand

@@ -1,5 +1,4 @@
 use Rattle.std.specs.Arc.{arc_value}
-use Rattle.def_journals.specs.Journals.{run_from}
 use Rattle.law_frozen.specs.Frozen.{thawed_first}
 use Rattle.law_checkpoints.specs.Saved.{frozen_at}
 use Rattle.core_state.specs.Cores.{program_of}
@@ -7,22 +6,15 @@ use Rattle.asp_core.specs.Cores.{history_of}
 use Rattle.run_resumes.proofs.ResumeLemmas.{one_end, resumed_end}
 use Rattle.run_resumes.proofs.resumed.run_resumed.Goals as goal
 
-pub run_core-requires-clause-kept : goal.run_core-requires-clause-kept
-run_core-requires-clause-kept g c κs within = λ fresh.
-    let r = c.requires.first in
-    (run_from r.0 c.args.settings.budget, c.in_ok-core.ensures.run r.0 r.1)
-
 pub returns-clause-end : goal.returns-clause-end
 returns-clause-end g c = λ x is.
-    let program = program_of (arc_value c.args.frozen.code) in
-    resumed_end c.end_of_run.result (history_of c.in_ok-core-2.core) (history_of c.in_ok-core.core) program x
-    c.args.settings.budget c.in_ok-core-2.ensures.begins (c.in_ok-core.ensures.history x is) c.end_of_run.ensures.told
+    resumed_end c.end_of_run.result (history_of c.in_ok-core.core) (program_of (arc_value c.args.frozen.code)) x
+    c.args.settings.budget (c.in_ok-core.ensures.history x is) c.end_of_run.ensures.told
 
 pub returns-clause-one : goal.returns-clause-one
 returns-clause-one g c = λ x saved is.
     let program = program_of (arc_value c.args.frozen.code) in
     let y = thawed_first (frozen_at x) in
-    let began = c.in_ok-core.ensures.history y is in
-    let end = resumed_end c.end_of_run.result (history_of c.in_ok-core-2.core) (history_of c.in_ok-core.core) program y
-    c.args.settings.budget c.in_ok-core-2.ensures.begins began c.end_of_run.ensures.told in
+    let end = resumed_end c.end_of_run.result (history_of c.in_ok-core.core) program y c.args.settings.budget
+    (c.in_ok-core.ensures.history y is) c.end_of_run.ensures.told in
     one_end c.end_of_run.result program x c.args.settings.budget c.requires.bare saved end

@@ -1,7 +1,7 @@
 use Rattle.std.proofs.Common.{subst, sym}
-use Rattle.replay_one.specs.declared.notes.Event.{Event}
-use Rattle.replay_one.specs.declared.notes.Event.TheVariants as event
-use Rattle.replay_one.specs.Listening.{IsEvent}
+use Rattle.replay_parts.specs.declared.notes.Event.{Event}
+use Rattle.replay_parts.specs.declared.notes.Event.TheVariants as event
+use Rattle.replay_parts.specs.Listening.{IsEvent}
 use Rattle.run_waits.proofs.BookLemmas.{tell_other}
 use Rattle.run_waits.proofs.books.is_entered.Goals as goal
 

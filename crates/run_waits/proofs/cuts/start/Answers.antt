@@ -3,7 +3,7 @@ use Rattle.std.specs.Arc.{arc_value}
 use Rattle.asp_model.specs.Configuration.{start}
 use Rattle.asp_model.specs.Shapes.{tree_of}
 use Rattle.replay_population.specs.Population.{IsPopulation, term_of}
-use Rattle.replay_population.proofs.RosterLemmas.{leads_both}
+use Rattle.replay_parts.proofs.RosterLemmas.{leads_both}
 use Rattle.run_waits.specs.Entries.{names_in}
 use Rattle.run_waits.proofs.cuts.start.Goals as goal
 

@@ -1,7 +1,7 @@
 use Rattle.std.proofs.Common.{[], ap}
 use Rattle.asp_model.specs.Replay.{replay}
 use Rattle.asp_model.specs.Shapes.{counts_shape, lists_shape, tree_of}
-use Rattle.replay_one.specs.Notes.{replay_notes}
+use Rattle.replay_parts.specs.Notes.{replay_notes}
 use Rattle.run_waits.proofs.BookLemmas.{books_end}
 use Rattle.run_waits.proofs.EndLemmas.{end_told}
 use Rattle.run_waits.proofs.explained.explain_run.Goals as goal

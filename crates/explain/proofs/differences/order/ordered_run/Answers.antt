@@ -1,7 +1,7 @@
 use Rattle.std.proofs.Common.{[], ◌∙◌, ap}
 use Rattle.asp_model.specs.Replay.{replay}
 use Rattle.asp_model.specs.Shapes.{counts_shape, lists_shape, outcome_shape, tree_of}
-use Rattle.replay_one.specs.Notes.{replay_notes}
+use Rattle.replay_parts.specs.Notes.{replay_notes}
 use Rattle.explain.specs.Orders.{entries_of}
 use Rattle.explain.proofs.EntryLemmas.{orders_are_logs}
 use Rattle.explain.proofs.OrderLemmas.{order_at_end}

@@ -5,7 +5,7 @@ use Rattle.asp_model.specs.Names.{Name}
 use Rattle.asp_model.specs.Status.{is_running, status_of}
 use Rattle.asp_model.specs.Term.{Tree}
 use Rattle.def_journals.specs.Journals.{RunShape, number_of}
-use Rattle.replay_population.proofs.RosterLemmas.{number_within, one_name}
+use Rattle.replay_parts.proofs.RosterLemmas.{number_within, one_name}
 use Rattle.journal_runs.specs.declared.runs.JournalRun.{JournalRun}
 use Rattle.journal_runs.specs.Runs.{IsRunOf}
 use Rattle.journal_runs.proofs.RunFacts.{got_name, is_closed, number_at, run_sound, settled_run}

@@ -5,7 +5,7 @@ use Rattle.asp_model.specs.Names.{Name, main_name}
 use Rattle.asp_model.specs.Shapes.{tree_of}
 use Rattle.asp_model.specs.Term.{Tree}
 use Rattle.replay_population.specs.Population.{IsPopulation, term_of}
-use Rattle.replay_population.specs.Roster.{IsEntered}
+use Rattle.replay_parts.specs.Roster.{IsEntered}
 use Rattle.journal_runs.specs.Runs.{grant_at}
 use Rattle.journal_runs.proofs.runs.JournalRun.begin.Goals as goal
 

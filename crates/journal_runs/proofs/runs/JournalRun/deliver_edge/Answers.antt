@@ -3,7 +3,7 @@ use Rattle.asp_model.specs.History.{Delivered, Edge, Need}
 use Rattle.asp_model.specs.Shapes.{future_shape}
 use Rattle.def_journals.specs.Deliveries.{edge_delivered, need_delivered}
 use Rattle.replay_population.specs.Deliveries.{IsDelivered}
-use Rattle.replay_population.proofs.PopulationLemmas.{if_ok}
+use Rattle.replay_parts.proofs.ResultLemmas.{if_ok}
 use Rattle.journal_runs.specs.declared.runs.JournalRun.{JournalRun}
 use Rattle.journal_runs.specs.Receivers.{IsPlaceOf, IsReceiver}
 use Rattle.journal_runs.proofs.EntryLemmas.{edge_not_in, edge_redone_if, from_nobody, need_not_in, need_past, need_redone_if, refused}

@@ -7,9 +7,9 @@ use Rattle.asp_model.specs.Term.{Tree}
 use Rattle.asp_model.specs.Configuration.{Configuration, start}
 use Rattle.asp_model.specs.Replay.{CountsShape, count_in, steps_from}
 use Rattle.asp_model.specs.Shapes.{counts_shape, lists_shape}
-use Rattle.replay_one.specs.Rows.{list_shape}
+use Rattle.replay_parts.specs.Rows.{list_shape}
 use Rattle.replay_one.proofs.DifferenceLemmas.{in_order, names_of_lists}
-use Rattle.replay_one.specs.declared.bounds.Bounds.TheVariants as bounds
+use Rattle.replay_parts.specs.declared.bounds.Bounds.TheVariants as bounds
 use Rattle.replay_offers.proofs.RunLemmas.{free_both}
 use Rattle.replay_population.specs.Reached.{IsReachedPopulation}
 use Rattle.replay_offers.specs.Programs.{tree_in}

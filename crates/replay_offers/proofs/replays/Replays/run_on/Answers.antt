@@ -8,7 +8,7 @@ use Rattle.asp_model.specs.Outcome.{outcome_of}
 use Rattle.asp_model.specs.Shapes.{outcome_shape}
 use Rattle.asp_model.specs.Term.{Tree}
 use Rattle.asp_model.specs.Replay.{CountsShape}
-use Rattle.replay_one.specs.Rows.{list_shape}
+use Rattle.replay_parts.specs.Rows.{list_shape}
 use Rattle.replay_one.proofs.DifferenceLemmas.{in_order, names_of_lists}
 use Rattle.replay_offers.specs.Programs.{tree_in}
 use Rattle.replay_offers.specs.Replays.{IsFreeRun}

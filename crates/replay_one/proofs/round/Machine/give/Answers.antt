@@ -12,16 +12,16 @@ use Rattle.step_activity.specs.declared.act.Given.TheVariants as given
 use Rattle.law_schedules.specs.Schedules.{IsNextIn}
 use Rattle.replay_population.specs.declared.population.Population.{Population}
 use Rattle.replay_one.specs.declared.schedule.Schedule.{Schedule}
-use Rattle.replay_one.specs.Bounds.{lists_within}
+use Rattle.replay_parts.specs.Bounds.{lists_within}
 use Rattle.replay_population.specs.Population.{AreActorsOf, IsPopulation, with_activity, with_poll, with_request}
 use Rattle.replay_population.specs.Giving.{IsGiving}
-use Rattle.replay_population.specs.Roster.{IsEntered}
+use Rattle.replay_parts.specs.Roster.{IsEntered}
 use Rattle.replay_one.specs.Schedule.{IsMoreReady, Seen, asks_in, noted_in, ready_in, seen, sends_in}
-use Rattle.replay_population.proofs.RosterLemmas.{number_within}
+use Rattle.replay_parts.proofs.RosterLemmas.{number_within}
 use Rattle.replay_one.proofs.ScheduleLemmas.{handed_by, more_names, more_twice}
 use Rattle.replay_one.proofs.GiveLemmas.{filled_handed, made_handed, no_target, nothing_handed, polled_handed, sent_handed, target_number}
 use Rattle.replay_population.proofs.GivingLemmas.{filled_is, filled_new, filled_root, made_alone, made_given, made_population, made_unlogged, nothing_population, polled_is, polled_there, sent_is, sent_there}
-use Rattle.replay_population.proofs.PopulationLemmas.{any_way, on_ok}
+use Rattle.replay_parts.proofs.ResultLemmas.{any_way, on_ok}
 use Rattle.replay_one.proofs.round.Machine.give.Goals as goal
 
 pub returns-in-Nothing : goal.returns-in-Nothing

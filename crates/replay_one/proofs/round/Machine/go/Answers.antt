@@ -1,5 +1,5 @@
 use Rattle.std.proofs.Common.{◌≤◌, arith}
-use Rattle.replay_one.specs.declared.bounds.Bounds.{Bounds}
+use Rattle.replay_parts.specs.declared.bounds.Bounds.{Bounds}
 use Rattle.replay_one.specs.declared.round.Machine.{Machine}
 use Rattle.replay_population.specs.declared.population.Population.{Population}
 use Rattle.replay_one.proofs.RunLemmas.{known_after, ran_on, told_run}

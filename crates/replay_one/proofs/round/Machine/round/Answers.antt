@@ -3,14 +3,14 @@ use Rattle.law_schedules.proofs.LeastLemmas.{none_is_ready}
 use Rattle.asp_model.specs.Names.{Name}
 use Rattle.asp_model.specs.Configuration.{Configuration}
 use Rattle.asp_model.specs.Term.{Tree}
-use Rattle.replay_one.specs.declared.bounds.Bounds.{Bounds}
+use Rattle.replay_parts.specs.declared.bounds.Bounds.{Bounds}
 use Rattle.replay_population.specs.declared.population.Population.{Population}
 use Rattle.replay_one.specs.declared.round.Machine.{Machine}
 use Rattle.replay_one.specs.declared.schedule.Schedule.{Schedule}
-use Rattle.replay_one.specs.Bounds.{count_within, lists_within}
+use Rattle.replay_parts.specs.Bounds.{count_within, lists_within}
 use Rattle.replay_one.specs.Round.{IsRunAt, IsRunLess, IsTried, seen_in}
 use Rattle.replay_one.specs.Schedule.{Seen, noted_in, ready_in, seen}
-use Rattle.replay_population.proofs.RosterLemmas.{number_within}
+use Rattle.replay_parts.proofs.RosterLemmas.{number_within}
 use Rattle.replay_one.proofs.RunLemmas.{leads_nowhere, leads_on, told_next, unknown_round, woken_run}
 use Rattle.replay_one.specs.Told.{AreToldIf, notes_by}
 use Rattle.replay_one.proofs.round.Machine.round.Goals as goal

@@ -3,10 +3,10 @@ use Rattle.std.proofs.lemmas.Bool.{cases_lt}
 use Rattle.asp_model.specs.Names.{Name}
 use Rattle.def_journals.specs.Journals.{number_of}
 use Rattle.replay_population.specs.declared.population.Population.{Population}
-use Rattle.replay_population.proofs.RosterLemmas.{number_within}
+use Rattle.replay_parts.proofs.RosterLemmas.{number_within}
 use Rattle.replay_one.specs.declared.schedule.Schedule.{Schedule}
 use Rattle.replay_one.specs.Schedule.{IsMoreReady, ready_in, seen}
-use Rattle.replay_one.specs.Ready.{Ascend}
+use Rattle.replay_parts.specs.Ready.{Ascend}
 use Rattle.replay_one.proofs.RunLemmas.{roused}
 use Rattle.replay_one.proofs.round.Machine.rouse.Goals as goal
 

@@ -1,10 +1,11 @@
 use Rattle.std.proofs.Common.{◌≡◌, ◌+◌, ◌-◌, ◌++◌, [], zero, refl, sym, subst, ap, ◌∙◌, arith}
 use Rattle.asp_model.specs.Replay.{steps_from}
-use Rattle.replay_one.specs.Bounds.{count_within, lists_within}
+use Rattle.replay_parts.specs.Bounds.{count_within, lists_within}
 use Rattle.replay_population.specs.Reached.{IsReachedPopulation}
 use Rattle.replay_one.specs.Round.{IsStepped, seen_in}
 use Rattle.replay_one.specs.Told.{AreToldInStep, notes_by}
-use Rattle.replay_one.proofs.NoteLemmas.{none_noted, told_all, told_more, told_quiet}
+use Rattle.replay_one.proofs.NoteLemmas.{none_noted, told_all, told_more}
+use Rattle.replay_parts.proofs.NoteLemmas.{told_quiet}
 use Rattle.replay_one.proofs.RunLemmas.{has_ended, noted_on, reached_population}
 use Rattle.replay_one.proofs.round.Machine.run.Goals as goal
 

@@ -2,8 +2,8 @@ use Rattle.std.proofs.Common.{◌≡◌, ◌++◌, List}
 use Rattle.asp_model.specs.Term.{Tree}
 use Rattle.asp_model.specs.Configuration.{Configuration}
 use Rattle.asp_model.specs.Replay.{steps_from}
-use Rattle.replay_one.specs.Bounds.{count_within, lists_within}
-use Rattle.replay_one.specs.Notes.{NoteShape}
+use Rattle.replay_parts.specs.Bounds.{count_within, lists_within}
+use Rattle.replay_parts.specs.Notes.{NoteShape}
 use Rattle.replay_one.specs.Told.{notes_by}
 use Rattle.replay_one.specs.Round.{IsInOrder, IsRunAt}
 use Rattle.replay_one.proofs.round.Machine.run.Given as goal

@@ -1,7 +1,7 @@
 use Rattle.std.proofs.Common.{◌≡◌, ◌∙◌, List, length, arith}
 use Rattle.asp_model.specs.Names.{Name, main_name}
-use Rattle.replay_one.proofs.ReadyLemmas.{ascend_on}
-use Rattle.replay_population.proofs.RosterLemmas.{number_within}
+use Rattle.replay_parts.proofs.ReadyLemmas.{ascend_on}
+use Rattle.replay_parts.proofs.RosterLemmas.{number_within}
 use Rattle.replay_one.proofs.round.Machine.start.Goals as goal
 
 pub wake-requires : goal.wake-requires

@@ -1,9 +1,9 @@
 use Rattle.std.proofs.Common.{List}
 use Rattle.asp_model.specs.Term.{Tree}
 use Rattle.asp_model.specs.Configuration.{Configuration}
-use Rattle.replay_one.specs.Notes.{NoteShape}
+use Rattle.replay_parts.specs.Notes.{NoteShape}
 use Rattle.replay_one.specs.Round.{IsInOrder, IsRunAt}
-use Rattle.replay_one.specs.Ready.{size}
+use Rattle.replay_parts.specs.Ready.{size}
 use Rattle.replay_one.proofs.round.Machine.step.Given as goal
 
 abbrev pub invariant-loop-taken : goal.invariant-loop-taken

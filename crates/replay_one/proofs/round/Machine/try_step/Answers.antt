@@ -4,22 +4,22 @@ use Rattle.asp_model.specs.declared.name.FutureName.{FutureName}
 use Rattle.asp_model.specs.Names.{Name}
 use Rattle.asp_model.specs.Shapes.{future_shape}
 use Rattle.def_journals.specs.Journals.{number_of}
-use Rattle.replay_one.specs.declared.bounds.Bounds.{Bounds}
+use Rattle.replay_parts.specs.declared.bounds.Bounds.{Bounds}
 use Rattle.replay_one.specs.declared.schedule.Schedule.{Schedule}
 use Rattle.replay_one.specs.declared.round.Machine.{Machine}
-use Rattle.replay_one.specs.Bounds.{count_within, lists_within}
+use Rattle.replay_parts.specs.Bounds.{count_within, lists_within}
 use Rattle.replay_population.specs.declared.population.Population.{Population}
 use Rattle.replay_population.specs.Population.{IsPassing, with_activity, with_poll}
 use Rattle.replay_population.specs.Giving.{IsGiving}
 use Rattle.replay_one.specs.Schedule.{IsNoted, IsTaken, seen}
 use Rattle.law_steps.specs.Waking.{labels_wanted}
 use Rattle.serve_rules.specs.Wanted.{wanted_labels}
-use Rattle.replay_one.specs.Notes.{noted_as, served_by}
+use Rattle.replay_parts.specs.Notes.{noted_as, served_by}
 use Rattle.replay_one.specs.Round.{CanStep, IsLook, IsRunWith, IsTargetOf, seen_in}
-use Rattle.replay_population.proofs.RosterLemmas.{number_named, number_within}
+use Rattle.replay_parts.proofs.RosterLemmas.{number_named, number_within}
 use Rattle.replay_one.proofs.TellLemmas.{acted_at, told_step}
 use Rattle.replay_one.proofs.LookLemmas.{awaits_there}
-use Rattle.replay_one.proofs.ReadyLemmas.{ascend_on}
+use Rattle.replay_parts.proofs.ReadyLemmas.{ascend_on}
 use Rattle.replay_population.proofs.GivingLemmas.{reached_hand_on}
 use Rattle.replay_population.proofs.EndLemmas.{reached_closed}
 use Rattle.replay_one.proofs.RunLemmas.{awaits_round, but_reached, holds_round, leaves_round, numbered_on, passing_run, serves_round, step_noted, steps_round}

@@ -1,6 +1,6 @@
 use Rattle.replay_one.specs.declared.schedule.Schedule.{Schedule}
 use Rattle.replay_one.specs.declared.schedule.Watch.TheVariants as watch
-use Rattle.replay_population.proofs.PopulationLemmas.{on_ok}
+use Rattle.replay_parts.proofs.ResultLemmas.{on_ok}
 use Rattle.replay_one.proofs.ScheduleLemmas.{holds_now, watch_ready, watching}
 use Rattle.replay_one.proofs.schedule.Schedule.hold.Goals as goal
 

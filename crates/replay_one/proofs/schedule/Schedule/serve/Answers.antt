@@ -3,7 +3,7 @@ use Rattle.asp_model.specs.Term.{has_text}
 use Rattle.asp_model.specs.declared.services.Labels.{Labels}
 use Rattle.replay_one.specs.declared.schedule.Schedule.{Schedule}
 use Rattle.replay_one.specs.declared.schedule.Watch.TheVariants as watch
-use Rattle.replay_population.proofs.PopulationLemmas.{on_ok}
+use Rattle.replay_parts.proofs.ResultLemmas.{on_ok}
 use Rattle.replay_one.proofs.ScheduleLemmas.{serves_now, watch_ready, watching}
 use Rattle.replay_one.proofs.schedule.Schedule.serve.Goals as goal
 

@@ -1,7 +1,7 @@
 use Rattle.std.proofs.Common.{refl}
 use Rattle.replay_one.specs.declared.schedule.Schedule.{Schedule}
 use Rattle.replay_one.proofs.ScheduleLemmas.{woken_more}
-use Rattle.replay_population.proofs.PopulationLemmas.{on_ok}
+use Rattle.replay_parts.proofs.ResultLemmas.{on_ok}
 use Rattle.replay_one.proofs.schedule.Schedule.wake.Goals as goal
 
 pub returns : goal.returns

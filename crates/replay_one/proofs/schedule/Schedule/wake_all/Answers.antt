@@ -1,7 +1,7 @@
 use Rattle.std.proofs.Common.{◌∙◌, Some, List, ap, inl, inr, ⊎_elim, arith}
 use Rattle.asp_model.specs.Names.{Name}
 use Rattle.replay_one.specs.Schedule.{seen}
-use Rattle.replay_population.proofs.RosterLemmas.{number_within}
+use Rattle.replay_parts.proofs.RosterLemmas.{number_within}
 use Rattle.replay_one.proofs.ScheduleLemmas.{more_twice, still_numbered}
 use Rattle.replay_one.proofs.schedule.Schedule.wake_all.Goals as goal
 

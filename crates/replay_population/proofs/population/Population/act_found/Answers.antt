@@ -8,7 +8,7 @@ use Rattle.step_activity.specs.Actors.{IsClosedFor, code_of}
 use Rattle.step_activity.specs.Found.{IsFoundFor}
 use Rattle.replay_population.specs.declared.population.Population.{Population}
 use Rattle.replay_population.specs.Population.{seat_at, seated}
-use Rattle.replay_population.proofs.RosterLemmas.{number_named, number_within}
+use Rattle.replay_parts.proofs.RosterLemmas.{number_named, number_within}
 use Rattle.replay_population.proofs.PopulationLemmas.{acted, actor_closed, found_at, nobody_acts, seat_set, values_closed, values_coded}
 use Rattle.replay_population.proofs.population.Population.act_found.Goals as goal
 

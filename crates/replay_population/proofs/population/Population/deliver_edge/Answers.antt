@@ -9,7 +9,7 @@ use Rattle.step_reads.specs.Values.{AreClosedValues}
 use Rattle.replay_population.specs.declared.population.Population.{Population}
 use Rattle.replay_population.specs.Deliveries.{IsDelivered, IsStored, store_with}
 use Rattle.replay_population.specs.Population.{found_in}
-use Rattle.replay_population.specs.Roster.{IsRoster}
+use Rattle.replay_parts.specs.Roster.{IsRoster}
 use Rattle.replay_population.proofs.DeliveryLemmas.{delivered_there, edge_is, edge_nowhere}
 use Rattle.replay_population.proofs.PopulationLemmas.{absent_there, found_at, found_stands, futures_back, passed_back, passed_same, put_back, roster_back, seats_kept, values_closed, values_coded}
 use Rattle.replay_population.proofs.population.Population.deliver_edge.Goals as goal

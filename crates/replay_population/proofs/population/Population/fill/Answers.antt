@@ -2,7 +2,8 @@ use Rattle.std.proofs.Common.{refl}
 use Rattle.code_table.specs.Cells.{held_future}
 use Rattle.code_table.specs.Shapes.{parcel_shape}
 use Rattle.replay_population.specs.declared.population.Population.{Population}
-use Rattle.replay_population.proofs.PopulationLemmas.{any_way, if_ok_with, value_filled}
+use Rattle.replay_population.proofs.PopulationLemmas.{if_ok_with, value_filled}
+use Rattle.replay_parts.proofs.ResultLemmas.{any_way}
 use Rattle.replay_population.proofs.population.Population.fill.Goals as goal
 
 pub returns : goal.returns

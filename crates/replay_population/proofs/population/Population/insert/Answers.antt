@@ -1,6 +1,6 @@
 use Rattle.std.proofs.Common.{◌∙◌, sym, ap, refl, subst, Some}
 use Rattle.step_activity.specs.Actors.{Stands}
-use Rattle.replay_population.specs.Roster.{IsRoster}
+use Rattle.replay_parts.specs.Roster.{IsRoster}
 use Rattle.replay_population.specs.declared.population.Population.{Population}
 use Rattle.replay_population.proofs.PopulationLemmas.{changed, passed_new, put_new}
 use Rattle.replay_population.proofs.population.Population.insert.Goals as goal

@@ -5,7 +5,7 @@ use Rattle.step_activity.specs.Actors.{Stands, code_of, log_in}
 use Rattle.step_activity.specs.Running.{IsRunBy}
 use Rattle.replay_population.specs.declared.population.Population.{Population}
 use Rattle.replay_population.specs.Population.{found_in}
-use Rattle.replay_population.specs.Roster.{IsRoster}
+use Rattle.replay_parts.specs.Roster.{IsRoster}
 use Rattle.replay_population.proofs.PopulationLemmas.{changed, found_at, found_stands, futures_back, passed_back, passed_same, put_back, roster_back, seats_kept}
 use Rattle.replay_population.proofs.population.Population.run.Goals as goal
 

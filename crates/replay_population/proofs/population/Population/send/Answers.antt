@@ -5,8 +5,9 @@ use Rattle.step_activity.specs.declared.actor.Actor.{Actor}
 use Rattle.step_activity.specs.Actors.{Stands, code_of, log_in}
 use Rattle.replay_population.specs.declared.population.Population.{Population}
 use Rattle.replay_population.specs.Population.{found_in}
-use Rattle.replay_population.specs.Roster.{IsRoster}
-use Rattle.replay_population.proofs.PopulationLemmas.{found_at, found_stands, futures_back, nobody_there, on_ok, passed_back, passed_same, put_back, received, roster_back}
+use Rattle.replay_parts.specs.Roster.{IsRoster}
+use Rattle.replay_population.proofs.PopulationLemmas.{found_at, found_stands, futures_back, nobody_there, passed_back, passed_same, put_back, received, roster_back}
+use Rattle.replay_parts.proofs.ResultLemmas.{on_ok}
 use Rattle.replay_population.proofs.population.Population.send.Goals as goal
 
 pub receive-requires : goal.receive-requires

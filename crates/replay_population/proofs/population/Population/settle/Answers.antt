@@ -4,8 +4,9 @@ use Rattle.step_activity.specs.declared.actor.Actor.{Actor}
 use Rattle.step_activity.specs.Actors.{Stands, code_of, log_in}
 use Rattle.replay_population.specs.declared.population.Population.{Population}
 use Rattle.replay_population.specs.Population.{found_in}
-use Rattle.replay_population.specs.Roster.{IsRoster}
-use Rattle.replay_population.proofs.PopulationLemmas.{found_at, found_stands, futures_back, on_ok, passed_back, passed_same, put_back, roster_back, seats_kept, set_at}
+use Rattle.replay_parts.specs.Roster.{IsRoster}
+use Rattle.replay_population.proofs.PopulationLemmas.{found_at, found_stands, futures_back, passed_back, passed_same, put_back, roster_back, seats_kept, set_at}
+use Rattle.replay_parts.proofs.ResultLemmas.{on_ok}
 use Rattle.replay_population.proofs.population.Population.settle.Goals as goal
 
 pub returns-in_default-clause-same : goal.returns-in_default-clause-same

@@ -4,7 +4,7 @@ use Rattle.asp_model.specs.Names.{Name}
 use Rattle.asp_model.specs.Configuration.{begun}
 use Rattle.asp_model.specs.Store.{Object}
 use Rattle.step_activity.specs.Actors.{Stands, code_of, log_in}
-use Rattle.replay_population.specs.Roster.{IsRoster}
+use Rattle.replay_parts.specs.Roster.{IsRoster}
 use Rattle.replay_population.specs.declared.population.Population.{Population}
 use Rattle.replay_population.specs.Population.{IsPopulation, term_of, with_activity}
 use Rattle.replay_population.proofs.PopulationLemmas.{nobody_yet, nothing_there, still_none}

@@ -4,7 +4,7 @@ use Rattle.std.proofs.lemmas.Result.{IfOk-weaker}
 use Rattle.asp_model.specs.Names.{Name}
 use Rattle.def_journals.specs.Journals.{number_of}
 use Rattle.replay_population.specs.Population.{unboxed}
-use Rattle.replay_population.specs.Roster.{IsRoster}
+use Rattle.replay_parts.specs.Roster.{IsRoster}
 use Rattle.replay_population.specs.declared.population.Population.{Population}
 use Rattle.replay_population.proofs.PopulationLemmas.{AreTaken, Named, all_taken, none_more, one_more, paired_in}
 use Rattle.replay_population.proofs.population.Population.take_all.Goals as goal

@@ -1,8 +1,8 @@
 use Rattle.std.proofs.Common.{◌∙◌, subst}
 use Rattle.std.proofs.lemmas.Result.{on_ok_weaker}
-use Rattle.replay_one.specs.Listening.{IsEvent}
-use Rattle.replay_one.specs.declared.notes.Event.{Event}
-use Rattle.replay_one.specs.declared.notes.Event.TheVariants as event
+use Rattle.replay_parts.specs.Listening.{IsEvent}
+use Rattle.replay_parts.specs.declared.notes.Event.{Event}
+use Rattle.replay_parts.specs.declared.notes.Event.TheVariants as event
 use Rattle.run_waits.specs.Books.{book_of}
 use Rattle.run_waits.proofs.BookLemmas.{tell_answered, tell_other, tell_sent, tell_served}
 use Rattle.run_waits.proofs.book.Book.tell.Goals as goal

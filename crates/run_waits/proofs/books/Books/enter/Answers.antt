@@ -2,8 +2,8 @@ use Rattle.std.proofs.Common.{OnOk, subst}
 use Rattle.std.specs.BTreeMap.{BTreeMap}
 use Rattle.std.proofs.lemmas.Result.{on_ok_weaker}
 use Rattle.asp_model.specs.Names.{Name}
-use Rattle.replay_one.specs.Listening.{IsEvent}
-use Rattle.replay_one.specs.Notes.{EventShape}
+use Rattle.replay_parts.specs.Listening.{IsEvent}
+use Rattle.replay_parts.specs.Notes.{EventShape}
 use Rattle.run_waits.specs.declared.book.Book.{Book}
 use Rattle.run_waits.specs.Books.{IsNoted}
 use Rattle.run_waits.proofs.BookLemmas.{written_book}

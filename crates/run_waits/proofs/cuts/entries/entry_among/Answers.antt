@@ -1,5 +1,5 @@
 use Rattle.std.proofs.Common.{sym}
-use Rattle.replay_one.proofs.EntryLemmas.{reception_past, reception_there}
+use Rattle.replay_parts.proofs.EntryLemmas.{reception_past, reception_there}
 use Rattle.run_waits.proofs.cuts.entries.entry_among.Goals as goal
 
 pub returns-in-Some : goal.returns-in-Some

@@ -6,7 +6,7 @@ use Rattle.asp_model.specs.Configuration.{ReceptionShape}
 use Rattle.asp_model.specs.Names.{Name, name_cmp}
 use Rattle.asp_model.specs.Shapes.{reception_shape}
 use Rattle.asp_model.specs.Step.{reception_at}
-use Rattle.replay_one.proofs.EntryLemmas.{entry_numbered, log_found, no_log, none_numbered}
+use Rattle.replay_parts.proofs.EntryLemmas.{entry_numbered, log_found, no_log, none_numbered}
 use Rattle.run_waits.proofs.cuts.entries.entry_at.Goals as goal
 
 pub returns-in-Some : goal.returns-in-Some

@@ -3,7 +3,7 @@ use Rattle.asp_model.specs.Names.{Name}
 use Rattle.def_journals.specs.Journals.{number_of}
 use Rattle.law_chases.proofs.FutureLemmas.{some_is}
 use Rattle.law_cuts.specs.Wants.{creator_of}
-use Rattle.replay_population.proofs.RosterLemmas.{number_named}
+use Rattle.replay_parts.proofs.RosterLemmas.{number_named}
 use Rattle.run_waits.proofs.cuts.turns.creator.Goals as goal
 
 pub returns : goal.returns

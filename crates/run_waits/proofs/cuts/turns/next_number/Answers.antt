@@ -1,7 +1,7 @@
 use Rattle.std.proofs.Common.{◌∙◌, sym, subst}
 use Rattle.law_chases.proofs.FutureLemmas.{some_is}
 use Rattle.law_cuts.specs.Wants.{enterer_of}
-use Rattle.replay_population.proofs.RosterLemmas.{number_named, number_within}
+use Rattle.replay_parts.proofs.RosterLemmas.{number_named, number_within}
 use Rattle.run_waits.specs.Turns.{IsWanted}
 use Rattle.run_waits.proofs.cuts.turns.next_number.Goals as goal
 

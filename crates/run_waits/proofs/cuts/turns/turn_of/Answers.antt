@@ -12,7 +12,7 @@ use Rattle.replay_one.proofs.LookLemmas.{awaits_intent, target_there}
 use Rattle.replay_population.specs.declared.population.Population.{Population}
 use Rattle.replay_population.proofs.EndLemmas.{reached_closed}
 use Rattle.replay_population.proofs.PopulationLemmas.{absent_nowhere, absent_there, found_at, found_stands}
-use Rattle.replay_population.proofs.RosterLemmas.{number_named, number_within}
+use Rattle.replay_parts.proofs.RosterLemmas.{number_named, number_within}
 use Rattle.step_activity.specs.Outlook.{IsOutlook}
 use Rattle.run_waits.proofs.TurnLemmas.{absent_turn, awaits_turn, polls_enter, sends_enter, steps_turn}
 use Rattle.run_waits.proofs.cuts.turns.turn_of.Goals as goal

@@ -1,5 +1,5 @@
 use Rattle.std.proofs.lemmas.Result.{on_ok_weaker}
-use Rattle.replay_one.specs.declared.notes.Event.TheVariants as event
+use Rattle.replay_parts.specs.declared.notes.Event.TheVariants as event
 use Rattle.run_waits.proofs.ListenLemmas.{other_kept, sent_kept}
 use Rattle.run_waits.proofs.receipts.ReceiptsNotes.note.Goals as goal
 

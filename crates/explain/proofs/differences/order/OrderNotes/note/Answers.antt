@@ -1,7 +1,7 @@
 use Rattle.std.proofs.Common.{sym}
 use Rattle.std.proofs.lemmas.List.{append-nil}
 use Rattle.std.proofs.lemmas.Result.{on_ok_weaker}
-use Rattle.replay_one.specs.declared.notes.Event.TheVariants as event
+use Rattle.replay_parts.specs.declared.notes.Event.TheVariants as event
 use Rattle.explain.proofs.OrderLemmas.{note_kept}
 use Rattle.explain.proofs.differences.order.OrderNotes.note.Goals as goal
 

@@ -2,7 +2,7 @@ use Rattle.std.proofs.Common.{◌≡◌, refl, sym, subst, arith}
 use Rattle.asp_model.specs.Shapes.{lists_shape}
 use Rattle.law_cuts.specs.Searches.{Goal}
 use Rattle.replay_population.specs.declared.population.Population.{Population}
-use Rattle.replay_population.specs.Roster.{Leads}
+use Rattle.replay_parts.specs.Roster.{Leads}
 use Rattle.run_waits.specs.Searches.{goal_of}
 use Rattle.run_waits.specs.declared.cuts.search.Search.{Search}
 use Rattle.run_waits.proofs.SearchLemmas.{reached_point, run_none, run_one, same_search, stepped}

@@ -1,0 +1,6 @@
+mod MapLemmas
+mod CountLemmas
+mod QueueLemmas
+mod ActorLemmas
+mod ValueLemmas
+mod PartLemmas

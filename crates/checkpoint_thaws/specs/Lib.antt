@@ -1,0 +1,1 @@
+-- none: all that the contracts cite stands in the crates below

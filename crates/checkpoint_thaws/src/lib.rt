@@ -1,0 +1,6 @@
+//! What goes on from a checkpoint that was read.
+#![tactic(auto)]
+
+mod thaws;
+
+pub use thaws::make_frozen;

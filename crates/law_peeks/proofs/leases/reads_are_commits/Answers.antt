@@ -1,0 +1,5 @@
+use Rattle.law_peeks.proofs.LeaseLemmas.{reads_are_commits}
+use Rattle.law_peeks.proofs.leases.reads_are_commits.Goals as goal
+
+pub returns : goal.returns
+returns c = reads_are_commits

@@ -1,0 +1,9 @@
+pub mod ResultLemmas
+pub mod ColumnLemmas
+pub mod RosterLemmas
+pub mod EntryLemmas
+pub mod NumberLemmas
+pub mod ReadyLemmas
+pub mod NoteLemmas
+pub mod TellLemmas
+pub mod DifferenceLemmas

@@ -1,0 +1,4 @@
+-- in reading order
+pub mod CountLemmas
+pub mod StopLemmas
+pub mod RunLemmas

@@ -1,0 +1,5 @@
+-- in reading order
+pub mod Stops
+pub mod Files
+pub mod Made
+pub mod Resumed
