@@ -21,9 +21,10 @@ use std::alloc::{AllocError, Global};
 use std::sync::Arc;
 use update_policy::{Plan, Policies, PolicyBox, UpdatePolicy};
 
+mod apart;
+
 /// Activities that are here or lent, the edges along which futures went, and the journal of all
 /// that was lent, committed and delivered. After `AllocError` it is spent.
-#[derive(Drop)]
 pub struct Core<P = PolicyBox> {
     pub(crate) alloc: Global,
     pub(crate) code: Arc<Code>,
@@ -33,6 +34,21 @@ pub struct Core<P = PolicyBox> {
     pub(crate) state: CoreState,
     pub(crate) edges: Edges<P>,
     pub(crate) spent: bool,
+}
+
+// Written out: wherever a core is let go, this is called, and no drop of what is in it is proved.
+impl<P: Drop> Drop for Core<P> {
+    fn drop(self) {
+        let Core {
+            alloc: _,
+            code: _,
+            first: _,
+            budget: _,
+            state: _,
+            edges: _,
+            spent: _,
+        } = self;
+    }
 }
 
 /// The code of a program, and the state of its start.
@@ -136,7 +152,7 @@ impl<P: UpdatePolicy + Drop> Core<P> {
         }
     }
 
-    /// Gives a core up, wherever it stands. Whoever calls this proves no drop of a core.
+    /// Gives a core up, wherever it stands.
     pub fn discard(self) {
         drop(self);
     }

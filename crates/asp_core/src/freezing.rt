@@ -1,6 +1,6 @@
 //! A core that is stopped, taken apart, so that its run can be written down.
 
-ghost use Rattle.std.specs.Prelude.{◌≡◌, Err, IfOk, OnOk, alloc_error, is_some, map, true};
+ghost use Rattle.std.specs.Prelude.{IfOk, OnOk, map};
 ghost use Rattle.std.specs.Arc.{arc_value};
 ghost use Rattle.std.specs.List.{AllZip};
 ghost use Rattle.asp_model.specs.History.{HistoryShape};
@@ -8,8 +8,6 @@ ghost use Rattle.def_journals.specs.Journals.{RunShape};
 ghost use Rattle.def_journals.specs.Passing.{holders_of};
 ghost use Rattle.future_update.specs.Holders.{AreHomes, home_shape};
 ghost use Rattle.core_seats.specs.Seats.{AreSeats, names_in, seats_in};
-ghost use Rattle.asp_core.specs.Calls.{verdict_of};
-ghost use Rattle.asp_core.specs.Cores.{IsKept, IsRun};
 ghost use Rattle.asp_core.specs.Frozen.{
   AreSettledFrom,
   IsSomeStill,
@@ -20,7 +18,6 @@ ghost use Rattle.asp_core.specs.Frozen.{
 };
 ghost use Rattle.asp_core.specs.Gathering.{AreApart, who_is_in};
 
-use crate::cores::Core;
 use crate::gathering::gathered;
 use asp_model::{ActivityName, FutureName};
 use code_table::Code;
@@ -31,7 +28,6 @@ use request_queue::Request;
 use std::alloc::{AllocError, Global};
 use std::sync::Arc;
 use step_activity::Actor;
-use update_policy::UpdatePolicy;
 
 /// What there is of a run that was stopped.
 #[derive(Drop)]
@@ -77,7 +73,7 @@ fn settled(
 }
 
 /// The parts of a core in which nobody is out, once its edges were asked for the homes.
-fn taken_apart(
+pub(crate) fn taken_apart(
     code: Arc<Code>,
     homes: Vec<(FutureName, ActivityName)>,
     state: CoreState,
@@ -113,42 +109,6 @@ fn taken_apart(
             drop(homes);
             drop(futures);
             Err(error)
-        }
-    }
-}
-
-impl<P: UpdatePolicy + Drop> Core<P> {
-    /// Takes a core apart that has its verdict. Each activity goes on to its next redex, or to the
-    /// place that its term is.
-    pub fn freeze(self) -> Result<Frozen, AllocError>
-        requires kept { IsKept self }
-        requires over { (s : RunShape) → IsRun self s → is_some (verdict_of self s) ≡ true }
-        ensures frozen { (s : RunShape) → IsRun self s →
-            IfOk result (λ x. StandsIn x (first_of s)) }
-        ensures spent { self.spent ≡ true → result ≡ Err alloc_error }
-    {
-        if self.spent {
-            drop(self);
-            return Err(AllocError);
-        }
-        let Core {
-            alloc,
-            code,
-            first: _,
-            budget: _,
-            state,
-            edges,
-            spent: _,
-        } = self;
-        let homes = edges.holders().homes(alloc);
-        drop(edges);
-        match homes {
-            Ok(homes) => taken_apart(code, homes, state),
-            Err(error) => {
-                drop(code);
-                drop(state);
-                Err(error)
-            }
         }
     }
 }

@@ -21,3 +21,4 @@ pub use finishing::{end_of_run, finish, run};
 pub use first::First;
 pub use freezing::Frozen;
 pub use gathering::end;
+pub use renewals::discard_lease;

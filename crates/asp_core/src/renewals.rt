@@ -55,3 +55,8 @@ impl<P: UpdatePolicy> Core<P> {
         Ok(())
     }
 }
+
+/// Gives a lease up, wherever it stands. Whoever calls this proves no drop of an activity.
+pub fn discard_lease(long: LongLease) {
+    drop(long);
+}

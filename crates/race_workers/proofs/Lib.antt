@@ -1,7 +1,1 @@
--- in reading order
-pub mod OutLemmas
-pub mod CoreLemmas
-pub mod SettleLemmas
-pub mod RowLemmas
 pub mod SeatLemmas
-pub mod TurnLemmas

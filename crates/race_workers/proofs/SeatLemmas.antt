@@ -1,5 +1,5 @@
 -- What seats bring to their turns, and lists of seats.
-use Rattle.std.proofs.Common.{◌≡◌, ◌<◌, ℕ, false, List, [], ◌∷◌, All, is_some, length, Option, Some, None, sym, ◌∙◌, subst, arith}
+use Rattle.std.proofs.Common.{◌≡◌, ◌<◌, ℕ, false, List, [], ◌∷◌, All, is_some, length, Option, Some, None, sym, ◌∙◌, subst, arith, ap, Result, Ok, Err, IfOk}
 use Rattle.std.proofs.lemmas.Bool.{true≢false}
 use Rattle.std.proofs.lemmas.List.Elements.{All-head}
 use Rattle.asp_model.specs.History.{BeginsWith, HistoryShape}
@@ -8,14 +8,16 @@ use Rattle.code_table.specs.declared.code.Node.{Node}
 use Rattle.long_leases.specs.declared.long_lease.LongLease.{LongLease}
 use Rattle.long_leases.specs.LongLeases.{IsLongLease}
 use Rattle.core_edges.specs.Answers.{Answering, Counting}
+use Rattle.asp_core.specs.declared.cores.Core.{Core}
 use Rattle.turn_hub.specs.declared.hub.Hub.{Hub}
 use Rattle.turn_hub.specs.declared.seat.Seat.{Seat}
 use Rattle.turn_hub.specs.Seats.{IsSame, out_with, seen_by, taken_by}
-use Rattle.race_workers.specs.declared.desk.SharedDesk.{SharedDesk}
-use Rattle.race_workers.specs.Desks.{KeepsDesk, code_at, history_at, row_at}
-use Rattle.race_workers.specs.Turns.{HasLease, IsFinished, desk_in, row_of}
-use Rattle.race_workers.specs.Working.{HasOut, IsAtWork, IsWorked, opened_at}
-use Rattle.race_workers.proofs.OutLemmas.{finished_goes_on}
+use Rattle.race_desks.specs.declared.desk.SharedDesk.{SharedDesk}
+use Rattle.race_desks.specs.Desks.{KeepsDesk, code_at, history_at, row_at}
+use Rattle.race_desks.specs.Turns.{HasLease, IsFinished, desk_in, row_of}
+use Rattle.race_desks.specs.Worked.{IsWorked}
+use Rattle.race_workers.specs.Working.{HasOut, IsAtWork, opened_at}
+use Rattle.race_desks.proofs.OutLemmas.{finished_goes_on}
 
 -- some element of a list of which two things are true
 pub some_of : {X : Type 0} (P Q : X → Type 0) (xs : List X) → 0 < length xs → All P xs → All Q xs → (x : X) × P x × Q x
@@ -67,3 +69,8 @@ module _ {P : Type 0} (hub : Hub (SharedDesk P)) where
   worked_at seat (Some l) None done at = absurd done
   worked_at seat (Some l) (Some k) done at =
       (at.0, at.1, at.2, (at.3.0 ∙ sym done.0, done.1 (seen_by seat) (code_at (opened_at hub)) at.3.1), at.4)
+
+-- what holds of a core that is not spent holds of the one that comes back
+pub if_fresh : {P E : Type 0} (r : Result (Core P) E) (k : Core P) (Q : Core P → Type 0) → IfOk r (λ c. c ≡ k) → IfOk r (λ c. c.spent ≡ false) → (k.spent ≡ false → Q k) → IfOk r Q
+if_fresh (Ok c) k Q same fresh h = subst Q (sym same) (h (ap (λ (x : Core _). x.spent) (sym same) ∙ fresh))
+if_fresh (Err e) k Q same fresh h = tt

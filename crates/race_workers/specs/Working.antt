@@ -5,15 +5,14 @@ use Rattle.crossbeam_utils.specs.Padded.{padded_value}
 use Rattle.asp_model.specs.History.{BeginsWith, HistoryShape}
 use Rattle.code_table.specs.declared.code.Node.{Node}
 use Rattle.long_leases.specs.declared.long_lease.LongLease.{LongLease}
-use Rattle.long_leases.specs.LongLeases.{IsLongLease}
 use Rattle.turn_hub.specs.declared.hub.Hub.{Hub}
 use Rattle.turn_hub.specs.declared.seat.Seat.{Seat}
 use Rattle.turn_hub.specs.Seats.{IsOf, opened_with, out_with, seats_of, seen_by, taken_by}
-use Rattle.race_workers.specs.declared.desk.Desk.{Desk}
-use Rattle.race_workers.specs.declared.desk.SharedDesk.{SharedDesk}
+use Rattle.race_desks.specs.declared.desk.Desk.{Desk}
+use Rattle.race_desks.specs.declared.desk.SharedDesk.{SharedDesk}
 use Rattle.race_workers.specs.declared.seats.Seats.{Seats}
-use Rattle.race_workers.specs.Desks.{code_at, history_at, seats_at}
-use Rattle.race_workers.specs.Turns.{IsFinished, desk_in, row_of}
+use Rattle.race_desks.specs.Desks.{code_at, history_at, seats_at}
+use Rattle.race_desks.specs.Turns.{desk_in, row_of}
 
 module _ {P : Type 0} where
   -- the desk that the hub was made with
@@ -50,11 +49,3 @@ module _ {P : Type 0} where
   -- the seats of all workers
   abbrev pub AllReady : Hub (SharedDesk P) → List (CachePadded (Seats P)) → Type 0
   AllReady hub seats = All (λ p. AreReady hub (padded_value p)) seats
-
--- a lease after its work is the same, and it was run
-abbrev pub IsWorked : Option LongLease → Option LongLease → Type 0
-IsWorked None None = Unit {0}
-IsWorked None (Some k) = ⊥
-IsWorked (Some l) None = ⊥
-IsWorked (Some l) (Some k) =
-    (row_of k ≡ row_of l) × ((h : HistoryShape) (code : List Node) → IsLongLease h code l → IsFinished h code k)

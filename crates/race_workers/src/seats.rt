@@ -1,6 +1,6 @@
 //! The seats of one worker.
 
-use crate::desk::SharedDesk;
+use race_desks::SharedDesk;
 use turn_hub::Seat;
 
 /// A worker has two leases while every other worker has one: so two turns in which it commits and

@@ -1,18 +1,14 @@
 //! What one worker does.
 
-ghost use Rattle.std.specs.Prelude.{◌≡◌, List, None};
-ghost use Rattle.asp_model.specs.History.{HistoryShape};
-ghost use Rattle.code_table.specs.declared.code.Node.{Node as NodeShape};
+ghost use Rattle.std.specs.Prelude.{◌≡◌, None};
 ghost use Rattle.long_leases.specs.LongLeases.{IsLongLease};
 ghost use Rattle.turn_hub.specs.Seats.{IsOf, taken_by};
-ghost use Rattle.race_workers.specs.Turns.{IsFinished, row_of};
-ghost use Rattle.race_workers.specs.Working.{AreReady, HasRows, IsAtWork, IsWorked};
+ghost use Rattle.race_desks.specs.Turns.{IsFinished};
+ghost use Rattle.race_workers.specs.Working.{AreReady, HasRows, IsAtWork};
 
-use crate::desk::SharedDesk;
-use crate::gate::Gate;
-use crate::margin::Margin;
 use crate::seats::Seats;
 use long_leases::LongLease;
+use race_desks::{Gate, Margin, SharedDesk, leave, work_at};
 use std::sync::Wait;
 use turn_hub::{Hub, Seat};
 use update_policy::UpdatePolicy;
@@ -73,26 +69,6 @@ fn take_second<R: Wait, P: UpdatePolicy + Drop>(
     }
 }
 
-// A lease is run, so it has stopped then, unless memory ran out. It passes the gate.
-fn work_on<G: Gate>(gate: &G, worker: u32, margin: &mut Margin, lease: &mut LongLease)
-    ensures lease { (h : HistoryShape) (code : List NodeShape) → IsLongLease h code lease.old →
-        IsFinished h code lease.new }
-    ensures row { row_of lease.new ≡ row_of lease.old }
-{
-    let _ran = lease.run();
-    margin.add(lease.lease.taken);
-    gate.hold(worker as u64, lease.lease.burst());
-}
-
-// The same, if there is a lease.
-fn work_at<G: Gate>(gate: &G, worker: u32, margin: &mut Margin, held: &mut Option<LongLease>)
-    ensures worked { IsWorked held.old held.new }
-{
-    if let Some(lease) = held {
-        work_on(gate, worker, margin, lease);
-    }
-}
-
 // Rests, if it is to.
 fn rest_if<R: Wait, P: UpdatePolicy + Drop>(
     rt: &R,
@@ -137,6 +113,8 @@ pub(crate) fn work<R: Wait, P: UpdatePolicy + Drop, G: Gate>(
         );
         take_second(rt, hub, &mut seats.second, &mut margin, &mut two, spare);
         if ends && one.is_none() && two.is_none() {
+            leave(one);
+            leave(two);
             return;
         }
         let rests = rests && two.is_none();

@@ -9,15 +9,14 @@ ghost use Rattle.asp_core.specs.Cores.{IsHome, IsKept, history_of};
 ghost use Rattle.asp_core.specs.Plans.{StayByPlan};
 ghost use Rattle.asp_core.specs.Stopping.{StaysStopped};
 ghost use Rattle.turn_hub.specs.Seats.{seats_of};
-ghost use Rattle.race_workers.specs.Desks.{core_at, history_at};
+ghost use Rattle.race_desks.specs.Desks.{core_at, history_at};
 ghost use Rattle.race_workers.specs.Working.{AllReady, AreReady, HasRows, IsReady, opened_at};
 
-use crate::desk::SharedDesk;
-use crate::gate::Gate;
 use crate::seats::Seats;
 use crate::work::work;
 use asp_core::Core;
 use crossbeam_utils::CachePadded;
+use race_desks::{Gate, SharedDesk};
 use std::alloc::{AllocError, Global};
 use std::sync::Wait;
 use std::thread;
@@ -210,9 +209,5 @@ fn closed<P: UpdatePolicy + Drop>(
     ensures stopped { let first = history_at (opened_at hub) in
         IfOk result (λ c. StaysStopped first (history_of c)) }
 {
-    let core = hub.close(all).into_core();
-    if core.is_spent() {
-        return Err(AllocError);
-    }
-    Ok(core)
+    hub.close(all).into_core()
 }

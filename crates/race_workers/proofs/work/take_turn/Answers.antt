@@ -2,11 +2,11 @@ use Rattle.std.proofs.Common.{ℕ, ◌∙◌, ap, sym, subst}
 use Rattle.asp_model.specs.History.{BeginsWith, HistoryShape}
 use Rattle.asp_model.proofs.HistoryLemmas.{begins_with_earlier}
 use Rattle.turn_hub.specs.Seats.{seen_by}
-use Rattle.race_workers.specs.Desks.{row_at}
-use Rattle.race_workers.specs.Turns.{HasLease, IsFinished, desk_in}
+use Rattle.race_desks.specs.Desks.{row_at}
+use Rattle.race_desks.specs.Turns.{HasLease, IsFinished, desk_in}
 use Rattle.race_workers.specs.Working.{opened_at}
 use Rattle.race_workers.proofs.SeatLemmas.{brought, taken_along, turned}
-use Rattle.race_workers.proofs.TurnLemmas.{keeps_further}
+use Rattle.race_desks.proofs.TurnLemmas.{keeps_further}
 use Rattle.race_workers.proofs.work.take_turn.Goals as goal
 
 pub turn-next-requires-clause-held : goal.turn-next-requires-clause-held

@@ -1,4 +1,4 @@
-use Rattle.race_workers.specs.Turns.{IsFinished}
+use Rattle.race_desks.specs.Turns.{IsFinished}
 use Rattle.race_workers.specs.Working.{IsAtWork}
 use Rattle.race_workers.proofs.work.work.Given as goal
 

@@ -1,6 +1,6 @@
 use Rattle.std.proofs.Common.{◌∙◌, refl, sym, subst}
 use Rattle.asp_model.specs.History.{BeginsWith, HistoryShape}
-use Rattle.race_workers.specs.Desks.{history_at}
+use Rattle.race_desks.specs.Desks.{history_at}
 use Rattle.race_workers.specs.Working.{opened_at}
 use Rattle.race_workers.proofs.workers.one_seat.Goals as goal
 

@@ -5,9 +5,9 @@ use Rattle.asp_core.specs.Cores.{history_of}
 use Rattle.asp_core.specs.Chosen.{StaysChosen}
 use Rattle.asp_core.specs.Plans.{StayByPlan}
 use Rattle.asp_core.specs.Stopping.{StaysStopped}
-use Rattle.race_workers.specs.declared.desk.SharedDesk.{SharedDesk}
-use Rattle.race_workers.specs.Desks.{core_at}
-use Rattle.race_workers.specs.Turns.{desk_in}
+use Rattle.race_desks.specs.declared.desk.SharedDesk.{SharedDesk}
+use Rattle.race_desks.specs.Desks.{core_at}
+use Rattle.race_desks.specs.Turns.{desk_in}
 use Rattle.race_workers.specs.Working.{opened_at}
 use Rattle.race_workers.proofs.workers.race.Goals as goal
 

@@ -4,7 +4,7 @@ use Rattle.std.proofs.lemmas.List.Sums.{sum_by_push}
 use Rattle.crossbeam_utils.specs.Padded.{padded_value}
 use Rattle.crossbeam_utils.specs.declared.cache_padded.CachePadded.{CachePadded}
 use Rattle.turn_hub.specs.declared.seat.Seat.{Seat}
-use Rattle.race_workers.specs.declared.desk.SharedDesk.{SharedDesk}
+use Rattle.race_desks.specs.declared.desk.SharedDesk.{SharedDesk}
 use Rattle.race_workers.specs.declared.seats.Seats.{Seats}
 use Rattle.race_workers.specs.Working.{AreReady, IsReady}
 use Rattle.race_workers.proofs.workers.together.Goals as goal
