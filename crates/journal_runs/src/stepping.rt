@@ -24,7 +24,7 @@ ghost use Rattle.journal_runs.specs.Stepping.{
   gives,
 };
 
-use replay_population::Population;
+use replay_population::{Population, discard_given};
 use std::alloc::{AllocError, Global};
 use step_activity::Given;
 use step_parts::{Outlook, Stance};
@@ -155,6 +155,7 @@ fn take(
     let given = population.act(alloc, number)?;
     let stops = stops(&given, more);
     if stops {
+        discard_given(given);
         return Ok(false);
     }
     hand_on(alloc, population, given)?;

@@ -19,7 +19,7 @@ use crate::classes::Classes;
 use crate::looks::{Look, look_at};
 use asp_model::ActivityName;
 use class_search::Sending;
-use replay_population::Population;
+use replay_population::{Population, discard_given};
 use request_queue::Request;
 use std::alloc::{AllocError, Global};
 use step_activity::Given;
@@ -63,9 +63,16 @@ pub fn send(
     let Given::Sent(to, request) = given else {
         unreachable!()
     };
-    let sending = sending_of(alloc, classes, &to, &request)?;
-    population.give(alloc, Given::Sent(to, request))?;
-    Ok(sending)
+    match sending_of(alloc, classes, &to, &request) {
+        Ok(sending) => {
+            population.give(alloc, Given::Sent(to, request))?;
+            Ok(sending)
+        }
+        Err(error) => {
+            discard_given(Given::Sent(to, request));
+            Err(error)
+        }
+    }
 }
 
 /// For each number whether its activity sends next; none where some activity has another step.

@@ -23,8 +23,7 @@ use asp_model::{Lists, MOST_REDUCTIONS, Services};
 use class_search::{ClassLog, Cuts, FoundEnd, Offer, all_offers, begin_with, log_at};
 use end_search::{Ends, Found as FoundEnds, Progress, ProgressBox, Stop as EndStop, all_ends};
 use outcome_search::{EndedRun, Found, Stop};
-use replay_offers::Replays;
-use replay_one::lists_in;
+use replay_offers::{Replays, logs_of};
 use std::alloc::{AllocError, Global};
 
 /// How often labels may be learned: each time one has a class, or two classes are one.
@@ -118,8 +117,8 @@ impl Ends for ClassRuns<'_> {
     fn end_from(&self, alloc: Global, offer: &Offer) -> Result<Result<FoundEnd, Halt>, AllocError> {
         let guide = copies_of(alloc, &offer.sendings)?;
         let walk = walk_by(alloc, self.program, self.classes, guide, self.budget)?;
-        let run = walk.population.end(alloc)?;
-        match self.end_under(alloc, lists_in(alloc, &run.outcome)?)? {
+        let lists = logs_of(alloc, walk.population)?;
+        match self.end_under(alloc, lists)? {
             Ok(end) if begin_with(&end.logs, &offer.logs) => Ok(Ok(end)),
             Ok(_) => Ok(Err(Halt::Untold)),
             Err(halt) => Ok(Err(halt)),

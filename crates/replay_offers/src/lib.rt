@@ -8,4 +8,4 @@ mod offers;
 mod replays;
 
 pub use logs::total_of;
-pub use replays::Replays;
+pub use replays::{Replays, logs_of};

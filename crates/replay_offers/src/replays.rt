@@ -27,17 +27,24 @@ use code_compiler::compile;
 use code_table::Code;
 use outcome_search::EndedRun;
 use replay_one::{Bounds, Machine, NoNotes, are_replayable, counts_in, lists_in};
-use replay_population::Population;
+use replay_population::{Population, drop_code, outcome_in, share_code};
 use run_ends::RunEnd;
 use std::alloc::{AllocError, Global};
 use std::marker::Model;
 use std::sync::Arc;
 
 /// Runs one program, each time within the same budget.
-#[derive(Drop)]
 pub struct Replays {
     code: Arc<Code>,
     budget: u64,
+}
+
+// Written out, so that nobody who drops these proves the drop of a code.
+impl Drop for Replays {
+    fn drop(self) {
+        let Replays { code, budget: _ } = self;
+        drop_code(code);
+    }
 }
 
 impl Model for Replays {
@@ -76,11 +83,11 @@ fn shown_by(alloc: Global, population: Population) -> Result<Outcome, AllocError
         IfOk result (λ o. outcome_shape o ≡ outcome_of c) }
 {
     let end = population.end(alloc)?;
-    Ok(end.outcome)
+    Ok(outcome_in(end))
 }
 
-// The logs of a population.
-fn logs_of(alloc: Global, population: Population) -> Result<Lists, AllocError>
+/// The logs of a population.
+pub fn logs_of(alloc: Global, population: Population) -> Result<Lists, AllocError>
     requires reached { IsReachedBySome population }
     ensures lists { (program : Tree) (c : Configuration) →
         IsReachedPopulation population program c →
@@ -107,7 +114,7 @@ impl Replays {
         ensures program { IfOk result (λ r. tree_in r ≡ tree_of program.now.program.root) }
         ensures budget { IfOk result (λ r. r.budget ≡ budget) }
     {
-        let code = Arc::new(alloc, compile(alloc, program)?)?;
+        let code = share_code(alloc, compile(alloc, program)?)?;
         Ok(Replays { code, budget })
     }
 

@@ -15,8 +15,8 @@ use Rattle.replay_population.specs.declared.population.Population.{Population}
 use Rattle.replay_population.specs.Population.{AreNamed, IsClosedPopulation}
 use Rattle.replay_population.specs.Reached.{IsReachedPopulation}
 
-pub named_stand : (p q : Population) (program : Tree) (c : Configuration) (xs : List (Name × Box Actor)) → IsReachedPopulation p program c → AreNamed p xs → q.futures ≡ p.futures → StandForSound xs q.futures c
-named_stand p q program c xs h named same = subst (λ (fs : List (FutureName × Parcel)). StandForSound xs fs c) (sym same) (record {
+pub named_stand : (p : Population) (futures : List (FutureName × Parcel)) (program : Tree) (c : Configuration) (xs : List (Name × Box Actor)) → IsReachedPopulation p program c → AreNamed p xs → futures ≡ p.futures → StandForSound xs futures c
+named_stand p futures program c xs h named same = subst (λ (fs : List (FutureName × Parcel)). StandForSound xs fs c) (sym same) (record {
   sound = reached_are_sound program c h.reached;
   closed = reached_are_closed program c h.bare h.reached;
   population = record {

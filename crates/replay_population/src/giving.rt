@@ -14,6 +14,11 @@ use crate::population::Population;
 use std::alloc::{AllocError, Global};
 use step_activity::Given;
 
+/// It is given to nobody: who calls this need not prove its drop.
+pub fn discard_given(given: Given) {
+    drop(given);
+}
+
 impl Population {
     /// What a reduction gives to others is handed on.
     pub fn give(&mut self, alloc: Global, given: Given) -> Result<(), AllocError>

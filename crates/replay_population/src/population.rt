@@ -37,12 +37,24 @@ use step_activity::{Actor, Given};
 /// The activities by their numbers, and the filled futures. A name may have a number before an
 /// activity has the name. Of who waits for the members of a group: how many of them are known to
 /// have values.
-#[derive(Drop)]
 pub struct Population {
     pub roster: Roster,
     pub activities: Vec<Option<Box<Actor>>>,
     pub futures: FutureTable,
     pub passed: BTreeMap<u32, usize>,
+}
+
+// Written out, so that crates above drop a population by one call, and need not prove the drop of
+// what is in one.
+impl Drop for Population {
+    fn drop(self) {
+        let Population {
+            roster: _,
+            activities: _,
+            futures: _,
+            passed: _,
+        } = self;
+    }
 }
 
 impl Population {
@@ -74,12 +86,25 @@ impl Population {
         ensures number { IfOk result (λ p. IsEntered main_name p.1 roster p.0.roster) }
         ensures passed { (n : Name) → IfOk result (λ p. passed_in p.0 n ≡ None) }
     {
-        let mut population = Population::of_names(alloc, roster);
         let main = Actor::main(alloc, code)?;
         let boxed = Box::new(alloc, main)?;
         let name = ActivityName::main(alloc)?;
+        let mut population = Population::of_names(alloc, roster);
         let number = population.insert(name, boxed)?;
         Ok((population, number))
+    }
+
+    /// The filled futures alone.
+    pub(crate) fn into_futures(self) -> FutureTable
+        ensures futures { result ≡ self.futures }
+    {
+        let Population {
+            roster: _,
+            activities: _,
+            futures,
+            passed: _,
+        } = self;
+        futures
     }
 
     /// Takes out who has a number.

@@ -16,16 +16,14 @@ ghost use Rattle.run_waits.specs.Searches.{IsStart};
 ghost use Rattle.run_waits.specs.Cuts.{IsCutBack, IsCutStop, IsStopOf};
 
 use crate::cuts::search::population_at;
-use crate::ends::drop_end;
 use crate::receipts::Receipts;
 use asp_check::Checked;
 use asp_model::{ActivityName, Counts, Lists};
 use code_compiler::compile;
 use replay_one::{Bounds, ReplayStop, replay_noting};
-use replay_population::{Population, Roster};
+use replay_population::{Population, Roster, drop_end, share_code};
 use run_ends::RunEnd;
 use std::alloc::{AllocError, Global};
-use std::sync::Arc;
 
 mod entries;
 mod reports;
@@ -109,7 +107,7 @@ fn start(alloc: Global, program: &Checked, roster: Roster) -> Result<Population,
         number_of n roster ≡ Some number →
         IfOk result (IsStart (tree_of program.now.program.root) lists n number) }
 {
-    let code = Arc::new(alloc, compile(alloc, program)?)?;
+    let code = share_code(alloc, compile(alloc, program)?)?;
     let (population, _) = Population::start(alloc, code, roster)?;
     Ok(population)
 }

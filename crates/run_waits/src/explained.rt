@@ -16,13 +16,13 @@ ghost use Rattle.run_waits.specs.Books.{KeepsBooks};
 ghost use Rattle.run_waits.specs.Explains.{IsEndTold, IsExplained};
 
 use crate::books::Books;
-use crate::ends::drop_end;
 use crate::kept::Kept;
 use crate::receipts::Receipts;
 use crate::waits::waits_in;
 use asp_check::Checked;
 use asp_model::{Counts, Lists};
 use replay_one::{ReplayStop, replay_noting};
+use replay_population::drop_end;
 use run_ends::RunEnd;
 use std::alloc::{AllocError, Global};
 use wait_circles::{End, Ways, Why, ways_of, why_of};
@@ -114,7 +114,14 @@ fn end_at(ends: &[End], number: usize) -> Option<End>
 impl Explained {
     /// It is not needed any more: who calls this need not prove its drop.
     pub fn discard(self) {
-        drop(self);
+        let Explained {
+            end,
+            receipts: _,
+            books: _,
+            next: _,
+            ways: _,
+        } = self;
+        drop_end(end);
     }
 
     /// Why an activity rests, by its number. In a run in which nobody can go on, the cause is told

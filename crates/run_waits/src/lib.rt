@@ -7,7 +7,6 @@
 mod book;
 mod books;
 mod cuts;
-mod ends;
 mod explained;
 mod kept;
 mod receipts;
@@ -16,6 +15,6 @@ mod waits;
 pub use book::{Asked, Book};
 pub use books::Books;
 pub use cuts::{CutReportStop, CutStop, cut_back, cut_report};
-pub use ends::{drop_end, outcome_in};
 pub use explained::{Explained, explain_run};
 pub use receipts::Receipts;
+pub use replay_population::{drop_end, outcome_in};

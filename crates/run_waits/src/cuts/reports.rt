@@ -11,9 +11,9 @@ ghost use Rattle.run_waits.specs.declared.cuts.reports.CutReportStop.TheVariants
 ghost use Rattle.run_waits.specs.Reports.{IsCutReport, IsReportStop};
 
 use crate::cuts::{CutStop, cut_back};
-use crate::ends::drop_end;
 use asp_check::Checked;
 use asp_model::{Counts, Lists, Word};
+use replay_population::drop_end;
 use run_ends::RunEnd;
 use run_report::render;
 use std::alloc::{AllocError, Global};

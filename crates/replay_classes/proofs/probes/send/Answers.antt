@@ -39,15 +39,15 @@ give-requires c =
       );
     }
 
-pub returns-clause-sent : goal.returns-clause-sent
-returns-clause-sent c = λ program k e n h is intends.
+pub returns-in_ok-give-in-Ok-clause-sent : goal.returns-in_ok-give-in-Ok-clause-sent
+returns-in_ok-give-in-Ok-clause-sent c = λ program k e n h is intends.
     let acts = c.in_ok-given.ensures.acts k e n h.population is intends in
-    sent_entry (class_in c.args.classes.now) k n e c.in-Sent.to c.in-Sent.request c.in_ok-sending.sending (subst (IsGiven n e) c.in-Sent.is acts.0) c.in_ok-sending.ensures.by c.in_ok-sending.ensures.to c.in_ok-sending.ensures.class
+    sent_entry (class_in c.args.classes.now) k n e c.in-Sent.to c.in-Sent.request c.in-Ok.sending (subst (IsGiven n e) c.in-Sent.is acts.0) c.in-Ok.ensures.by c.in-Ok.ensures.to c.in-Ok.ensures.class
 
-pub returns-clause-reached : goal.returns-clause-reached
-returns-clause-reached c = λ program k e n h is intends.
+pub returns-in_ok-give-in-Ok-clause-reached : goal.returns-in_ok-give-in-Ok-clause-reached
+returns-in_ok-give-in-Ok-clause-reached c = λ program k e n h is intends.
     let acts = c.in_ok-given.ensures.acts k e n h.population is intends in
-    reached_on c.args.population.now c.give.new.self program k n e h intends (c.in_ok-give.ensures.given k e n (record {
+    reached_on c.args.population.now c.give.new.self program k n e h intends (c.in_ok-give-in-Ok.ensures.given k e n (record {
       free = reached_hand_on program k n e h.bare h.reached intends;
       given = subst (IsGiven n e) c.in-Sent.is acts.0;
       here = subst (λ g. IsGivenIn c.act.new.self (with_poll n g (with_activity n e.own k)) g) c.in-Sent.is acts.1;
