@@ -2,10 +2,10 @@
 use Rattle.std.specs.Prelude.{◌≡◌, ℕ, ◌+◌, ◌≤◌, ◌<◌, Bool, true, false, cond, List, [], ◌∷◌, ◌++◌, Option, Some, map, length, unwrap_or}
 use Rattle.std.proofs.Common.{zero, suc, refl, sym, ap, ◌∙◌, arith, take, get_or, inl, inr}
 use Rattle.std.proofs.lemmas.List.{take_more}
-use Rattle.std.specs.BTreeMap.{BTreeMap, IsEmpty, Updates, get_by, is_at}
+use Rattle.std.specs.HashMap.{HashMap, IsEmpty, Updates, get_by}
 use Rattle.std.specs.Map.{lookup}
 use denote.Ref.{Bor}
-use Rattle.asp_model.specs.Names.{Name, FutureShape, name_cmp, same_name}
+use Rattle.asp_model.specs.Names.{Name, FutureShape, same_name}
 use Rattle.law_steps.specs.Kept.{one_where}
 use Rattle.law_frozen.specs.Frozen.{FrozenActivity, FrozenShape}
 use Rattle.law_steps.proofs.EntryLemmas.{In}
@@ -13,24 +13,24 @@ use Rattle.law_steps.proofs.NameLemmas.{names_tied}
 use Rattle.checkpoint_makes.proofs.MadeLemmas.{map_more}
 use Rattle.checkpoint_actors.specs.Counts.{Counts, answered_count, count_in, counts_of, no_counts, with_one}
 
-abbrev Map : Type 0
-Map = BTreeMap (Bor (List ℕ)) ℕ
+abbrev Map : Type 0 → Type 0
+Map S = HashMap (Bor (List ℕ)) ℕ S
 
 abbrev name_key : Name → Bor (List ℕ)
 name_key n = record { ref_ptr = (0, 0); now = n }
 
-pub count_in-empty : (m : Map) → IsEmpty m → count_in m ≡ no_counts
+pub count_in-empty : {S : Type 0} (m : Map S) → IsEmpty m → count_in m ≡ no_counts
 unfolding count_in
-count_in-empty m e = λ i n. unwrap_or (lookup (is_at (λ (k : Bor (List ℕ)). name_cmp n k.now)) (e i)) 0
+count_in-empty m e = λ i n. unwrap_or (lookup (λ (k : Bor (List ℕ)). same_name n k.now) (e i)) 0
 
 raised : (b : Bool) (v : ℕ) (o : Option ℕ) → (b ≡ true → v ≡ unwrap_or o 0 + 1) → unwrap_or (cond b (Some v) o) 0 ≡ one_where b + unwrap_or o 0
 raised true v o h = let e : v ≡ unwrap_or o 0 + 1 = h refl in omega (arith, e)
 raised false v o h = omega arith
 
-pub count_in-insert : (m n : Map) (k : Bor (List ℕ)) (v : ℕ) → Updates (λ x y. name_cmp x.now y.now) m n k (Some v) → v ≡ count_in m k.now + 1 → count_in n ≡ with_one (count_in m) k.now
+pub count_in-insert : {S : Type 0} (m n : Map S) (k : Bor (List ℕ)) (v : ℕ) → Updates (λ x y. same_name x.now y.now) m n k (Some v) → v ≡ count_in m k.now + 1 → count_in n ≡ with_one (count_in m) k.now
 unfolding count_in
 count_in-insert m n k v u e = λ i q. (ap (λ o. unwrap_or o 0) (u.0 (name_key q))
-    ∙ raised (same_name k.now q) v (get_by (λ (x : Bor (List ℕ)). name_cmp q x.now) m) (λ tied. e ∙ ap (λ p. count_in m p + 1) (names_tied k.now q tied))) i
+    ∙ raised (same_name k.now q) v (get_by (λ (x : Bor (List ℕ)). same_name q x.now) m) (λ tied. e ∙ ap (λ p. count_in m p + 1) (names_tied k.now q tied))) i
 
 counts_last : (hs : List (FutureShape × Name)) (h : FutureShape × Name) → counts_of (hs ++ h ∷ []) ≡ with_one (counts_of hs) h.1
 counts_last [] h = refl

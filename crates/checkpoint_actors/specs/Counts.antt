@@ -1,8 +1,8 @@
 -- How many requests activities have received and served.
 use Rattle.std.specs.Prelude.{ℕ, ◌+◌, List, [], ◌∷◌, length, unwrap_or}
-use Rattle.std.specs.BTreeMap.{BTreeMap, get_by}
+use Rattle.std.specs.HashMap.{HashMap, get_by}
 use denote.Ref.{Bor}
-use Rattle.asp_model.specs.Names.{FutureShape, Name, name_cmp, same_name}
+use Rattle.asp_model.specs.Names.{FutureShape, Name, same_name}
 use Rattle.law_frozen.specs.Frozen.{FrozenActivity, FrozenShape, answered}
 use Rattle.law_steps.specs.Kept.{one_where}
 
@@ -10,8 +10,8 @@ abbrev pub Counts : Type 0
 Counts = Name → ℕ
 
 -- the number at a name, and 0 where there is none
-unfoldable pub count_in : BTreeMap (Bor (List ℕ)) ℕ → Counts
-count_in m n = unwrap_or (get_by (λ k. name_cmp n k.now) m) 0
+unfoldable pub count_in : {S : Type 0} → HashMap (Bor (List ℕ)) ℕ S → Counts
+count_in m n = unwrap_or (get_by (λ k. same_name n k.now) m) 0
 
 abbrev pub no_counts : Counts
 no_counts n = 0

@@ -15,23 +15,23 @@ ghost use Rattle.checkpoint_actors.specs.Counts.{
 use asp_model::{ActivityName, FutureName};
 use checkpoint_parts::{ActivityText, CheckpointText};
 use std::alloc::{AllocError, Global};
-use std::collections::BTreeMap;
+use std::collections::HashMap;
 
-fn empty<'a>(alloc: Global) -> BTreeMap<&'a ActivityName, u64>
+fn empty<'a>(alloc: Global) -> HashMap<&'a ActivityName, u64>
     ensures empty { count_in result ≡ no_counts }
 {
-    BTreeMap::new(alloc)
+    HashMap::new(alloc)
 }
 
 #[tactic(auto, unfolding(crate::specs::Counts::count_in))]
-fn count_of<'a>(counts: &BTreeMap<&'a ActivityName, u64>, name: &'a ActivityName) -> u64
+fn count_of<'a>(counts: &HashMap<&'a ActivityName, u64>, name: &'a ActivityName) -> u64
     ensures count { result ≡ count_in counts.now name.entry.now }
 {
     counts.get(&name).copied().unwrap_or(0)
 }
 
 fn add<'a>(
-    counts: &mut BTreeMap<&'a ActivityName, u64>,
+    counts: &mut HashMap<&'a ActivityName, u64>,
     name: &'a ActivityName,
 ) -> Result<(), AllocError>
     requires small { count_in counts.old name.now < 2 ^ 63 }
@@ -47,7 +47,7 @@ fn add<'a>(
 fn count_homes<'a>(
     alloc: Global,
     homes: &'a [(FutureName, ActivityName)],
-) -> Result<BTreeMap<&'a ActivityName, u64>, AllocError>
+) -> Result<HashMap<&'a ActivityName, u64>, AllocError>
     requires small { length homes.now < 2 ^ 63 }
     ensures counts { let hs = map home_shape homes.entry.now in
         IfOk result (λ m. count_in m ≡ counts_of hs) }
@@ -60,7 +60,7 @@ fn count_homes<'a>(
 }
 
 // All that an activity received, but for what is pending.
-fn served<'a>(counts: &BTreeMap<&'a ActivityName, u64>, activity: &'a ActivityText) -> u64
+fn served<'a>(counts: &HashMap<&'a ActivityName, u64>, activity: &'a ActivityText) -> u64
     requires pending { let a = activity.now in
         length a.parts.queue.items ≤ count_in counts.now a.name }
     ensures served { let a = activity.entry.now in

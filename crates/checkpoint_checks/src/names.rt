@@ -10,6 +10,7 @@ ghost use Rattle.checkpoint_checks.specs.Names.{all_named, are_created, begin_wi
 
 use crate::world::{creations, has_name};
 use asp_model::ActivityName;
+use checkpoint_items::name_of;
 use checkpoint_parts::ActivityText;
 use proper_terms::Refusal;
 use std::alloc::Global;
@@ -44,7 +45,7 @@ fn check_created(
     let Some((last, front)) = name.path().split_last() else {
         return Err(Refusal::Unsound);
     };
-    let by = ActivityName::of_path(Vec::from_slice(alloc, front)?);
+    let by = name_of(alloc, front)?;
     if 1 <= *last && *last <= creations(names, &by) {
         Ok(())
     } else {

@@ -48,7 +48,7 @@ fn read_parts_of_activity(alloc: Global, items: &mut Items<'_>) -> Result<Activi
     let reductions = read_count(items)?;
     let sends = read_small(items)?;
     let creations = read_small(items)?;
-    let parts = read_parts(alloc, items)?;
+    let parts = read_parts(alloc, items, reductions)?;
     Ok(ActivityText {
         name,
         reductions,
@@ -58,10 +58,11 @@ fn read_parts_of_activity(alloc: Global, items: &mut Items<'_>) -> Result<Activi
     })
 }
 
-fn read_parts(alloc: Global, items: &mut Items<'_>) -> Result<PartsText, ReadError>
+// Of an activity that has counted so many reductions.
+fn read_parts(alloc: Global, items: &mut Items<'_>, reductions: u64) -> Result<PartsText, ReadError>
     ensures read { Finds parts_shape (parts_in items.old) items.new result }
 {
-    let lines = read_outputs(alloc, items)?;
+    let lines = read_outputs(alloc, items, reductions)?;
     let log = read_log(alloc, items)?;
     let queue = read_requests(alloc, items)?;
     let work = read_work(alloc, items)?;
@@ -99,11 +100,15 @@ fn read_state(alloc: Global, items: &mut Items<'_>) -> Result<StateText, ReadErr
     })
 }
 
-fn read_outputs(alloc: Global, items: &mut Items<'_>) -> Result<Vec<Line>, ReadError>
+// A line takes a reduction, so no run has more.
+fn read_outputs(alloc: Global, items: &mut Items<'_>, most: u64) -> Result<Vec<Line>, ReadError>
     ensures read { let reader = list_of output_in in
         Finds (λ v. map line_shape v.items) (reader items.old) items.new result }
 {
     let count = read_count(items)?;
+    if count > most {
+        return Err(ReadError::Memory);
+    }
     let mut lines = Vec::new(alloc);
     for _ in 0..count {
         lines.push(read_output(alloc, items)?)?;

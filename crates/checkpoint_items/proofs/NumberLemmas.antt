@@ -1,9 +1,10 @@
 -- Numbers below a limit that is below another.
-use Rattle.std.proofs.Common.{◌≡◌, ℕ, zero, suc, ℤ, negsuc, ◌-◌, ◌≤◌, Bool, true, false, Option, Some, None, refl, ap, sym, ◌∙◌, arith}
-use Rattle.std.specs.Prelude.{nat_lt}
+use Rattle.std.proofs.Common.{◌≡◌, ℕ, zero, suc, ℤ, negsuc, ◌-◌, ◌<◌, ◌≤◌, Bool, true, false, length, Option, Some, None, refl, ap, sym, ◌∙◌, arith}
+use Rattle.std.specs.Prelude.{IfSome, nat_lt}
+use Rattle.std.proofs.lemmas.Bool.{le-leb}
 use Rattle.std.proofs.lemmas.Bool.Decides.{nat_tests}
 use Rattle.asp_model.specs.Names.{Text}
-use Rattle.asp_model.specs.ReportLines.{number_of}
+use Rattle.asp_model.specs.ReportLines.{count_of, number_of}
 use Rattle.checkpoint_text.specs.Items.{Items}
 use Rattle.checkpoint_text.specs.Reading.{negative_by}
 use Rattle.text_lines.specs.Numbers.{number_below, only_below}
@@ -22,6 +23,20 @@ narrow limit top (Some n) h = narrow_by limit top n (nat_lt n top) h refl
 
 pub narrowed : (limit top : ℕ) (t : Text) (o : Option ℕ) → limit ≤ top → o ≡ number_below top t → only_below limit o ≡ number_below limit t
 narrowed limit top t o h e = ap (only_below limit) e ∙ narrow limit top (number_of t) h
+
+-- of at most eight digits
+
+test_below : (n limit : ℕ) → n < limit → nat_lt n limit ≡ true
+test_below n limit h = grind (arith, nat_tests)
+
+kept_below : (limit : ℕ) (o : Option ℕ) → IfSome o (λ n. n < limit) → o ≡ only_below limit o
+kept_below limit None h = refl
+kept_below limit (Some n) h = sym (ap (λ (b : Bool). elim b [ true ↦ Some n | false ↦ None ]) (test_below n limit h))
+
+pub counted : (limit : ℕ) (t : Text) (o : Option ℕ) → length t ≤ 8 → o ≡ count_of t → IfSome o (λ n. n < limit) → o ≡ number_below limit t
+counted limit t o h e within =
+    kept_below limit o within
+    ∙ ap (only_below limit) (e ∙ ap (λ (b : Bool). elim b [ true ↦ number_of t | false ↦ None ]) (le-leb (length t) 8 h))
 
 -- a number below zero
 pub negated : (ws : Items) (n : ℕ) (z : ℤ) (o : Option ℕ) → Some n ≡ o → (n ≡ 0 → ⊥) → z ≡ negsuc (n - 1) → negative_by ws o ≡ Some (z, ws)

@@ -14,7 +14,9 @@ pub enum ReadError {
     Malformed,
     /// A word or a label is not UTF-8. No checkpoint of a run has such a one.
     NotText,
-    /// There is no memory for what is read, or a term is nested beyond `MOST_READ_NESTED` levels.
+    /// There is no memory for what is read, or it is beyond a limit that no run reaches: a term of
+    /// more than `MOST_READ_NESTED` levels, a list of more than `MOST_PROGRAM_BYTES` terms, or an
+    /// activity that has printed more lines than it has counted reductions.
     Memory,
 }
 

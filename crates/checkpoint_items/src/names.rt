@@ -1,6 +1,6 @@
 //! Texts, names, entries of logs and lines of output.
 
-ghost use Rattle.std.specs.Prelude.{map};
+ghost use Rattle.std.specs.Prelude.{◌≡◌, IfOk, map};
 ghost use Rattle.asp_model.specs.Shapes.{future_shape, line_shape, reception_shape};
 ghost use Rattle.std.specs.Option.{option_map};
 ghost use Rattle.checkpoint_text.specs.Reading.{future as future_in, list_of, name as name_in, option_of, output as output_in, reception as reception_in, text as text_in};
@@ -10,7 +10,7 @@ use crate::error::ReadError;
 use crate::items::Items;
 use crate::numbers::{read_byte, read_count, read_signed, read_small};
 use asp_model::{ActivityName, FutureName, Label, Line, Reception, Word};
-use std::alloc::Global;
+use std::alloc::{AllocError, Global};
 
 /// A text, which is refused if it is not UTF-8.
 pub fn read_text(alloc: Global, items: &mut Items<'_>) -> Result<Word, ReadError>
@@ -84,7 +84,24 @@ pub fn read_name(alloc: Global, items: &mut Items<'_>) -> Result<ActivityName, R
     ensures read { Finds (λ n. n) (name_in items.old) items.new result }
 {
     let path = read_path(alloc, items)?;
-    Ok(ActivityName::of_path(path))
+    let name = name_of(alloc, &path)?;
+    Ok(name)
+}
+
+/// The name of these numbers. One of few numbers takes no memory, nor do its copies.
+pub fn name_of(alloc: Global, numbers: &[u32]) -> Result<ActivityName, AllocError>
+    ensures name { IfOk result (λ n. n ≡ numbers.now) }
+{
+    let main = ActivityName::main(alloc)?;
+    match numbers {
+        [0] => Ok(main),
+        [0, one] => main.created(alloc, *one),
+        [0, one, two] => main.created(alloc, *one)?.created(alloc, *two),
+        _ => {
+            let path = Vec::from_slice(alloc, numbers)?;
+            Ok(ActivityName::of_path(path))
+        }
+    }
 }
 
 fn read_path(alloc: Global, items: &mut Items<'_>) -> Result<Vec<u32>, ReadError>

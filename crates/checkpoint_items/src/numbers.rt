@@ -1,6 +1,6 @@
 //! Numbers, each one item.
 
-ghost use Rattle.std.specs.Prelude.{◌≡◌, ◌+◌, ◌^◌, ◌<◌, IfOk, IfSome};
+ghost use Rattle.std.specs.Prelude.{◌≡◌, ◌+◌, ◌^◌, ◌<◌, ◌≤◌, IfOk, IfSome, length};
 ghost use Rattle.text_lines.specs.Numbers.{number_below, only_below};
 ghost use Rattle.checkpoint_text.specs.Items.{Items as ItemList};
 ghost use Rattle.checkpoint_text.specs.Reading.{number_to, place as place_in, signed as signed_in, signed_by, negative_by, positive_by, small as small_in};
@@ -9,7 +9,7 @@ ghost use Rattle.checkpoint_items.specs.Answers.{Finds, found_with};
 use crate::error::ReadError;
 use crate::items::Items;
 use asp_model::Place;
-use text_lines::place_of;
+use text_lines::{count_of, place_of};
 
 /// A number below a limit.
 pub fn read_number(items: &mut Items<'_>, limit: u128) -> Result<u128, ReadError>
@@ -30,7 +30,36 @@ fn below(text: &[u8], limit: u128) -> Option<u128>
     ensures number { result ≡ number_below limit text.now }
     ensures within { IfSome result (λ n. n < limit) }
 {
-    kept(place_of(text), limit)
+    kept(written(text), limit)
+}
+
+// The number that a text writes. Most have few digits.
+fn written(text: &[u8]) -> Option<u128>
+    ensures { result ≡ number_below (2 ^ 128) text.now }
+{
+    if text.len() <= 8 {
+        short(text)
+    } else {
+        place_of(text)
+    }
+}
+
+// The number that at most eight digits write.
+fn short(text: &[u8]) -> Option<u128>
+    requires { length text.now ≤ 8 }
+    ensures { result ≡ number_below (2 ^ 128) text.now }
+{
+    wide(count_of(text))
+}
+
+fn wide(number: Option<u64>) -> Option<u128>
+    ensures same { result ≡ number }
+    ensures within { IfSome result (λ n. n < 2 ^ 128) }
+{
+    match number {
+        Some(number) => Some(u128::from(number)),
+        None => None,
+    }
 }
 
 fn kept(number: Option<u128>, limit: u128) -> Option<u128>

@@ -22,7 +22,7 @@ ghost use Rattle.checkpoint_reading.specs.Terms.{
   two_shape,
 };
 
-use asp_model::{Label, MOST_READ_NESTED, Mark, Method, Sign, Term};
+use asp_model::{Label, MOST_PROGRAM_BYTES, MOST_READ_NESTED, Mark, Method, Sign, Term};
 use checkpoint_items::{
     Items, ReadError, read_count, read_label, read_labels, read_place, read_service, read_signed,
     read_text, read_words,
@@ -331,12 +331,16 @@ fn read_named(
     Ok((first, label, second))
 }
 
+// No program has a list longer than its text, so no run has.
 #[cycle(read)]
 fn read_terms(alloc: Global, items: &mut Items<'_>, depth: u64) -> Result<Vec<Term>, ReadError>
     ensures read { let reader = list_of (level depth) in
         Finds (λ v. map tree_of v.items) (reader items.old) items.new result }
 {
     let count = read_count(items)?;
+    if count > MOST_PROGRAM_BYTES as u64 {
+        return Err(ReadError::Memory);
+    }
     let mut terms = Vec::new(alloc);
     for _ in 0..count {
         terms.push(read_level(alloc, items, depth)?)?;

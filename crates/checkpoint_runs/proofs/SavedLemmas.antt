@@ -1,7 +1,6 @@
 -- The lines of what stands in a configuration.
 use Rattle.std.proofs.Common.{◌≡◌, List, [], ◌∷◌, ◌++◌, Option, Some, None, length, map, refl, sym, ap, arith, ◌∙◌, append_assoc}
 use Rattle.std.proofs.lemmas.List.{append-nil, map-append}
-use Rattle.std.specs.Prelude.{string_bytes}
 use Rattle.std.specs.FinMap.{find}
 use Rattle.std.specs.Global.{Box}
 use Rattle.std.specs.List.{flat_map}
@@ -9,14 +8,15 @@ use Rattle.std.specs.declared.alloc.Global.{Global}
 use Rattle.std.specs.declared.string.String.{String}
 use Rattle.asp_model.specs.Configuration.{Activity, Configuration, ReceptionShape, log_of, requests_of}
 use Rattle.asp_model.specs.Names.{Name, Text, name_cmp}
-use Rattle.asp_model.specs.Report.{with_feed}
+use Rattle.asp_model.specs.Report.{text_of}
 use Rattle.law_frozen.specs.Frozen.{FrozenActivity, freeze, frozen_at}
 use Rattle.law_frozen.specs.Pending.{waiting}
 use Rattle.law_frozen.specs.Same.{served_by}
 use Rattle.law_services.specs.Correct.{bare}
 use Rattle.step_activity.specs.declared.actor.Actor.{Actor}
 use Rattle.frozen_runs.specs.Activities.{frozen_by}
-use Rattle.checkpoint_runs.specs.Saved.{AddsLines, activity_lines, activity_text}
+use Rattle.checkpoint_runs.specs.Saved.{AddsLines, activity_lines, activity_text, text_in}
+use Rattle.checkpoint_runs.proofs.LineLemmas.{lines_then}
 
 -- what is frozen of an activity that is there
 freeze_by : (c : Configuration) (n : Name) (a : Activity) → find name_cmp n c.activities ≡ Some a → freeze c n a ≡ frozen_by n a (log_of c n) (requests_of c n)
@@ -42,18 +42,18 @@ lines_more c n ns =
 
 -- a loop's step: one line more is written, and the others are left
 pub one_written : (c : Configuration) (n : Name) (ns : List Name) (x y : List (String Global)) → AddsLines x (activity_lines c (n ∷ [])) y
-    → map string_bytes y ++ map with_feed (activity_lines c ns) ≡ map string_bytes x ++ map with_feed (activity_lines c (n ∷ ns))
+    → text_in y ++ text_of (activity_lines c ns) ≡ text_in x ++ text_of (activity_lines c (n ∷ ns))
 one_written c n ns x y put =
-    ap (λ (ts : List Text). ts ++ map with_feed (activity_lines c ns)) put
-    ∙ append_assoc (map string_bytes x) (map with_feed (activity_lines c (n ∷ []))) (map with_feed (activity_lines c ns))
-    ∙ ap (λ (ts : List Text). map string_bytes x ++ ts)
-    (sym (map-append with_feed (activity_lines c (n ∷ [])) (activity_lines c ns)) ∙ ap (map with_feed) (sym (lines_more c n ns)))
+    ap (λ (t : Text). t ++ text_of (activity_lines c ns)) put
+    ∙ append_assoc (text_in x) (text_of (activity_lines c (n ∷ []))) (text_of (activity_lines c ns))
+    ∙ ap (λ (t : Text). text_in x ++ t)
+    (sym (lines_then (activity_lines c (n ∷ [])) (activity_lines c ns)) ∙ ap text_of (sym (lines_more c n ns)))
 
 -- and its end
 pub all_written : (c : Configuration) (ns : List Name) (x y : List (String Global)) (left : List (Name × Box Actor)) → left ≡ []
-    → map string_bytes y ++ map with_feed (activity_lines c (map (λ e. e.0) left)) ≡ map string_bytes x ++ map with_feed (activity_lines c ns) → AddsLines x (activity_lines c ns) y
+    → text_in y ++ text_of (activity_lines c (map (λ e. e.0) left)) ≡ text_in x ++ text_of (activity_lines c ns) → AddsLines x (activity_lines c ns) y
 all_written c ns x y left none e =
-    sym (append-nil (map string_bytes y)) ∙ ap (λ (es : List (Name × Box Actor)). map string_bytes y ++ map with_feed (activity_lines c (map (λ e. e.0) es))) (sym none) ∙ e
+    sym (append-nil (text_in y)) ∙ ap (λ (es : List (Name × Box Actor)). text_in y ++ text_of (activity_lines c (map (λ e. e.0) es))) (sym none) ∙ e
 
 pub no_entries : {A : Type 0} (xs : List A) → length xs ≡ 0 → xs ≡ []
 no_entries [] h = refl

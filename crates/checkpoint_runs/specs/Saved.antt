@@ -1,13 +1,13 @@
 -- What is written of a frozen run.
 use Rattle.std.specs.Prelude.{◌≡◌, List, [], ◌∷◌, ◌++◌, codes, map, string_bytes}
-use Rattle.std.specs.List.{flat_map}
+use Rattle.std.specs.List.{concat, flat_map}
 use Rattle.std.specs.declared.alloc.Global.{Global}
 use Rattle.std.specs.declared.string.String.{String}
 use Rattle.asp_model.specs.Configuration.{Configuration}
 use Rattle.asp_model.specs.History.{FirstShape}
 use Rattle.asp_model.specs.Marked.{Marked}
 use Rattle.asp_model.specs.Names.{Name, Text, future_cmp}
-use Rattle.asp_model.specs.Report.{with_feed}
+use Rattle.asp_model.specs.Report.{text_of as lines_text}
 use Rattle.def_journals.specs.Edges.{homes_in}
 use Rattle.syntax_tokens.specs.Texts.{text_of}
 use Rattle.asp_print.specs.Tokens.{tokens_of}
@@ -39,6 +39,10 @@ activity_lines c names = map activity_text (flat_map (frozen_at c) names)
 abbrev pub lines_but_end : Text → FirstShape → List Text
 lines_but_end program x = head_lines program x ++ activity_lines x.configuration x.names
 
--- pieces with these lines more, each with its line feed, a piece each
+-- what pieces are, one after another
+abbrev pub text_in : List (String Global) → Text
+text_in pieces = concat (map string_bytes pieces)
+
+-- pieces with these lines more, each with its line feed
 abbrev pub AddsLines : List (String Global) → List Text → List (String Global) → Type 0
-AddsLines old lines new = map string_bytes new ≡ map string_bytes old ++ map with_feed lines
+AddsLines old lines new = text_in new ≡ text_in old ++ lines_text lines

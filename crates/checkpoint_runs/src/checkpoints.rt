@@ -1,4 +1,4 @@
-//! The text of a checkpoint, a line a piece.
+//! The text of a checkpoint, in pieces.
 #![tactic(auto)]
 
 ghost use Rattle.std.specs.Prelude.{◌≡◌, ◌∷◌, ◌++◌, [], IfOk, OnOk, codes, map, string_bytes};
@@ -15,6 +15,7 @@ ghost use Rattle.checkpoint_runs.specs.Saved.{
   head_lines,
   lines_but_end,
   program_text,
+  text_in,
 };
 
 use asp_core::Frozen;
@@ -26,7 +27,11 @@ use frozen_runs::{activity_line, homes_line, values_line};
 use std::alloc::{AllocError, Global};
 use step_activity::Actor;
 
-/// The text of the checkpoint of a frozen run of this program, a line a piece.
+/// The bytes that a piece has at most, if it has more than one line.
+pub const PIECE_BYTES: usize = 65_536;
+
+/// The text of the checkpoint of a frozen run of this program, in pieces of `PIECE_BYTES`. A longer
+/// line is a piece of its own.
 pub fn write_checkpoint(
     alloc: Global,
     program: &Program,
@@ -37,10 +42,10 @@ pub fn write_checkpoint(
         let saved = checkpoint_text program (frozen_of x.names x.configuration) in
         IfOk result (λ v. concat (map string_bytes v.items) ≡ saved) }
 {
-    let mut lines = Vec::new(alloc);
-    put_frozen(alloc, program, frozen, &mut lines)?;
-    put_text(alloc, "end", &mut lines)?;
-    Ok(lines)
+    let mut pieces = Vec::new(alloc);
+    put_frozen(alloc, program, frozen, &mut pieces)?;
+    put_text(alloc, "end", &mut pieces)?;
+    Ok(pieces)
 }
 
 // The lines of what is frozen, and those before.
@@ -48,15 +53,15 @@ fn put_frozen(
     alloc: Global,
     program: &Program,
     frozen: Frozen,
-    lines: &mut Vec<String>,
+    pieces: &mut Vec<String>,
 ) -> Result<(), DecodeError>
     ensures adds { let program = program_text (marked_of program.now.root) in
         (x : FirstShape) → StandsIn frozen x →
-        OnOk result (AddsLines lines.old.items (lines_but_end program x) lines.new.items) }
+        OnOk result (AddsLines pieces.old.items (lines_but_end program x) pieces.new.items) }
 {
-    match put_head(alloc, program, &frozen, lines) {
+    match put_head(alloc, program, &frozen, pieces) {
         Ok(()) => {
-            put_taken(alloc, frozen, lines)?;
+            put_taken(alloc, frozen, pieces)?;
             Ok(())
         }
         Err(error) => {
@@ -66,10 +71,10 @@ fn put_frozen(
     }
 }
 
-fn put_taken(alloc: Global, frozen: Frozen, lines: &mut Vec<String>) -> Result<(), DecodeError>
+fn put_taken(alloc: Global, frozen: Frozen, pieces: &mut Vec<String>) -> Result<(), DecodeError>
     ensures adds { (x : FirstShape) → StandsIn frozen x →
         let texts = activity_lines x.configuration x.names in
-        OnOk result (AddsLines lines.old.items texts lines.new.items) }
+        OnOk result (AddsLines pieces.old.items texts pieces.new.items) }
 {
     let Frozen {
         code,
@@ -79,7 +84,7 @@ fn put_taken(alloc: Global, frozen: Frozen, lines: &mut Vec<String>) -> Result<(
     } = frozen;
     drop(homes);
     drop(futures);
-    put_activities(alloc, &code, activities, lines)?;
+    put_activities(alloc, &code, activities, pieces)?;
     Ok(())
 }
 
@@ -88,30 +93,30 @@ fn put_head(
     alloc: Global,
     program: &Program,
     frozen: &Frozen,
-    lines: &mut Vec<String>,
+    pieces: &mut Vec<String>,
 ) -> Result<(), DecodeError>
     ensures adds { let program = program_text (marked_of program.now.root) in
         (x : FirstShape) → StandsIn frozen.now x →
-        OnOk result (AddsLines lines.old.items (head_lines program x) lines.new.items) }
+        OnOk result (AddsLines pieces.old.items (head_lines program x) pieces.new.items) }
 {
-    put_text(alloc, "asp checkpoint 1", lines)?;
-    put_program(alloc, program, lines)?;
+    put_text(alloc, "asp checkpoint 1", pieces)?;
+    put_program(alloc, program, pieces)?;
     let homes = homes_line(alloc, &frozen.homes)?;
-    put_line(homes, lines)?;
+    put_line(homes, pieces)?;
     let values = values_line(alloc, &frozen.futures)?;
-    put_line(values, lines)?;
+    put_line(values, pieces)?;
     Ok(())
 }
 
-fn put_program(alloc: Global, program: &Program, lines: &mut Vec<String>) -> Result<(), AllocError>
+fn put_program(alloc: Global, program: &Program, pieces: &mut Vec<String>) -> Result<(), AllocError>
     ensures adds { let program = program_text (marked_of program.now.root) in
         let line = codes "program " ++ program in
-        OnOk result (AddsLines lines.old.items (line ∷ []) lines.new.items) }
+        OnOk result (AddsLines pieces.old.items (line ∷ []) pieces.new.items) }
 {
     let text = print_program(alloc, program)?;
     let mut line = String::from_str(alloc, "program ")?;
     line.push_str(&text)?;
-    put_line(line, lines)
+    put_line(line, pieces)
 }
 
 // The lines of activities, each from its parts.
@@ -119,14 +124,14 @@ fn put_activities(
     alloc: Global,
     code: &Code,
     activities: Vec<(ActivityName, Box<Actor>)>,
-    lines: &mut Vec<String>,
+    pieces: &mut Vec<String>,
 ) -> Result<(), DecodeError>
     ensures adds { (c : Configuration) → AreFrozenIn code.now c activities.items →
         let texts = activity_lines c (map (λ e. e.0) activities.items) in
-        OnOk result (AddsLines lines.old.items texts lines.new.items) }
+        OnOk result (AddsLines pieces.old.items texts pieces.new.items) }
 {
     for (name, actor) in activities {
-        put_activity(alloc, code, &name, Box::into_inner(actor), lines)?;
+        put_activity(alloc, code, &name, Box::into_inner(actor), pieces)?;
     }
     Ok(())
 }
@@ -136,31 +141,50 @@ fn put_activity(
     code: &Code,
     name: &ActivityName,
     actor: Actor,
-    lines: &mut Vec<String>,
+    pieces: &mut Vec<String>,
 ) -> Result<(), DecodeError>
     ensures adds { (c : Configuration) → IsFrozenAt code.now c name.now actor →
         let texts = activity_lines c (name.now ∷ []) in
-        OnOk result (AddsLines lines.old.items texts lines.new.items) }
+        OnOk result (AddsLines pieces.old.items texts pieces.new.items) }
 {
     let parts = actor.into_parts(alloc)?;
     let line = activity_line(alloc, code, name, &parts)?;
-    put_line(line, lines)?;
+    put_line(line, pieces)?;
     Ok(())
 }
 
-fn put_text(alloc: Global, text: &str, lines: &mut Vec<String>) -> Result<(), AllocError>
-    ensures adds { OnOk result (AddsLines lines.old.items (text.now ∷ []) lines.new.items) }
+fn put_text(alloc: Global, text: &str, pieces: &mut Vec<String>) -> Result<(), AllocError>
+    ensures adds { OnOk result (AddsLines pieces.old.items (text.now ∷ []) pieces.new.items) }
 {
-    put_line(String::from_str(alloc, text)?, lines)
+    put_line(String::from_str(alloc, text)?, pieces)
 }
 
 // One line more, with its line feed.
-fn put_line(line: String, lines: &mut Vec<String>) -> Result<(), AllocError>
-    ensures adds { OnOk result
-        (AddsLines lines.old.items (string_bytes line ∷ []) lines.new.items) }
+fn put_line(line: String, pieces: &mut Vec<String>) -> Result<(), AllocError>
+    ensures adds { let lines = string_bytes line ∷ [] in
+        OnOk result (AddsLines pieces.old.items lines pieces.new.items) }
 {
     let mut line = line;
     line.push_str("\n")?;
-    lines.push(line)?;
+    match pieces.pop() {
+        Some(last) => put_behind(last, line, pieces)?,
+        None => pieces.push(line)?,
+    }
+    Ok(())
+}
+
+// A piece, and a text behind it, as one if that is short.
+fn put_behind(last: String, text: String, pieces: &mut Vec<String>) -> Result<(), AllocError>
+    ensures adds { let both = string_bytes last ++ string_bytes text in
+        OnOk result (text_in pieces.new.items ≡ text_in pieces.old.items ++ both) }
+{
+    let mut last = last;
+    if text.len() <= PIECE_BYTES && last.len() <= PIECE_BYTES - text.len() {
+        last.push_str(&text)?;
+        pieces.push(last)?;
+    } else {
+        pieces.push(last)?;
+        pieces.push(text)?;
+    }
     Ok(())
 }

@@ -1,10 +1,10 @@
 use Rattle.std.proofs.Common.{◌∙◌, ◌++◌, ◌∷◌, [], List, map, ap, subst, sym}
-use Rattle.std.specs.Prelude.{string_bytes}
 use Rattle.asp_model.specs.Configuration.{requests_of}
 use Rattle.asp_model.specs.Names.{Text}
-use Rattle.asp_model.specs.Report.{with_feed}
+use Rattle.asp_model.specs.Report.{text_of}
 use Rattle.asp_model.specs.Shapes.{reception_shape}
 use Rattle.step_activity.specs.Parts.{ArePartsOf}
+use Rattle.checkpoint_runs.specs.Saved.{text_in}
 use Rattle.checkpoint_runs.proofs.SavedLemmas.{line_there}
 use Rattle.checkpoint_runs.proofs.checkpoints.put_activity.Goals as goal
 
@@ -19,6 +19,6 @@ returns c = record {
       let line = c.in_ok-line.ensures.line h.activity rs are in
       let there = line_there x n h.activity log h.there (c.in_ok-parts.ensures.log ∙ h.logged) in
       c.in_ok-put_line.ensures.adds
-      ∙ ap (λ (t : Text). map string_bytes c.args.lines.now.items ++ map with_feed (t ∷ [])) line
-      ∙ ap (λ (ts : List Text). map string_bytes c.args.lines.now.items ++ map with_feed ts) (sym there);
+      ∙ ap (λ (t : Text). text_in c.args.pieces.now.items ++ text_of (t ∷ [])) line
+      ∙ ap (λ (ts : List Text). text_in c.args.pieces.now.items ++ text_of ts) (sym there);
 }

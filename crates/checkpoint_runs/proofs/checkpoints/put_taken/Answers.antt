@@ -10,6 +10,6 @@ returns c = record {
   adds = λ x h.
       let activities = c.args.frozen.activities.items in
       let are = subst (λ (code : List Node). AreFrozenIn code x.configuration activities) (sym c.deref.ensures) h.activities in
-      subst (λ (ns : List Name). AddsLines c.args.lines.now.items (activity_lines x.configuration ns) c.put_activities.new.lines.items) h.names
+      subst (λ (ns : List Name). AddsLines c.args.pieces.now.items (activity_lines x.configuration ns) c.put_activities.new.pieces.items) h.names
       (c.in_ok-put_activities.ensures.adds x.configuration are);
 }
