@@ -5,9 +5,8 @@
                            edges turns
 
 Nothing here is a test: figures depend on the machine, and only their ratios within one run mean
-something. The seconds are those of the processor, so that other work on the machine matters less;
-only threads that contend for the turn are measured by the clock. All runs have one worker: bench/race.py
-measures what more of them gain.
+something. The seconds are those of the processor, so that other work on the machine matters less.
+All runs but those of `turns` have one worker: bench/race.py measures what more of them gain.
 A peak is never below that of this script, some 10 MiB, since a child begins as its copy.
 """
 import os
@@ -20,10 +19,8 @@ from typing import NamedTuple
 
 ROOT = os.path.dirname(os.path.dirname(os.path.abspath(__file__)))
 PROGRAM = os.path.join(ROOT, "crates", "asp", "out", "asp")
-TIMING = os.path.join(ROOT, "crates", "timing", "out", "timing")
-BUILD = """measure: build the programs first, at the top of the repository:
-    rt ci, or (cd crates/asp && rt run -- data/one.asp)
-    (cd crates/timing && rt run -- hub 1 10 0 0)"""
+BUILD = """measure: build the program first, at the top of the repository:
+    rt ci, or (cd crates/asp && rt run -- data/one.asp)"""
 MEBIBYTE = 1 << 20
 MOST = ["--budget", "10000000", "--workers", "1"]
 
@@ -355,46 +352,17 @@ def show_edges(folder):
             print(f"{name}: a delivery under {strategy} takes {more / size * 1e6:.2f} us", flush=True)
 
 
-def turns_of(threads, count, inside=0, outside=0, runs=5):
-    """Runs of so many turns of each thread, by kind. The kinds alternate, so that all see the same machine."""
-    words = [str(word) for word in (threads, count, inside, outside)]
-    kinds = ("mutex", "hub", "call")
-    made = [[once(TIMING, [kind, *words]) for kind in kinds] for _ in range(runs)]
-    return {kind: [turn[place] for turn in made] for place, kind in enumerate(kinds)}
-
-
-def seconds_of_a_round():
-    """The seconds of one round of the loop with which threads spend their time."""
-    count, rounds = 2_000, 10_000
-    none, many = (best(TIMING, ["mutex", "1", str(count), str(of), "0"], 5) for of in (0, rounds))
-    return (many.seconds - none.seconds) / (count * rounds)
-
-
-def show_contended(threads, inside, outside):
-    """Threads that hold the turn for a tenth of their time, by the clock."""
-    count = 300_000
-    runs = turns_of(threads, count, inside, outside)
-    least = {kind: min(run.elapsed for run in of_kind) for kind, of_kind in runs.items()}
-    for kind in ("hub", "call"):
-        print(f"{threads} threads, 200 ns of 2 us, {kind}: {least[kind] / count * 1e9:,.0f} ns a turn of each, "
-              f"{least[kind] / least['mutex']:.2f} times a Mutex's {least['mutex'] / count * 1e9:,.0f} "
-              f"(at most 1.2 is wanted)", flush=True)
-
-
-def show_turns(_folder):
-    count = 5_000_000
-    runs = turns_of(1, count)
-    least = {kind: min(run.seconds for run in of_kind) for kind, of_kind in runs.items()}
-    for kind in ("hub", "call"):
-        print(f"a turn alone, {kind}: {least[kind] / count * 1e9:.1f} ns, {least[kind] / least['mutex']:.2f} times a "
-              f"Mutex's {least['mutex'] / count * 1e9:.1f} (at most 2.5 is wanted)", flush=True)
-    spin = seconds_of_a_round()
-    for threads in (2, 4):
-        show_contended(threads, round(200e-9 / spin), round(1_800e-9 / spin))
-    for kind, name in (("wait", "wait for the turn"), ("rest", "rest")):
-        run = once(TIMING, [kind, "4", "3000", "0", "0"])
-        print(f"seats that {name} for {run.elapsed:.1f} s: {run.seconds:.3f} s of the processor "
-              f"(less than 0.1 is wanted)", flush=True)
+def show_turns(folder):
+    """What the turn costs: seats that rest beside one that works, and leases of one contraction or two."""
+    zero = folder.text("repeat(0)")
+    alone, four = (best(PROGRAM, [zero, "--budget", "10000000", "--workers", str(workers)], 3) for workers in (1, 4))
+    print(f"three seats that rest for {four.elapsed:.1f} s: {four.seconds - alone.seconds:.3f} s of the processor "
+          f"beside {alone.seconds:.3f} (less than 0.1 is wanted)", flush=True)
+    program = folder.text(pending(200_000))
+    for workers in (1, 2, 4):
+        run = best(PROGRAM, [program, "--budget", "10000000", "--workers", str(workers)], 3)
+        print(f"200,000 requests to one that serves none, {workers} workers: {run.seconds:.3f} s of the processor, "
+              f"{run.elapsed:.3f} s", flush=True)
 
 
 PARTS = {
@@ -414,7 +382,7 @@ def main():
     wanted = sys.argv[1:] or list(PARTS)
     if not set(wanted) <= set(PARTS):
         sys.exit(f"measure: the parts are {' '.join(PARTS)}")
-    if not all(os.access(program, os.X_OK) for program in (PROGRAM, TIMING)):
+    if not os.access(PROGRAM, os.X_OK):
         sys.exit(BUILD)
     with tempfile.TemporaryDirectory() as path:
         for name in wanted:

@@ -1,5 +1,0 @@
-use Rattle.race_trials.specs.Ready.{IsReady}
-use Rattle.all_tests.proofs.parts.hub.stress.StressWorkTasks.turns.Given as goal
-
-abbrev pub invariant-loop-turn : goal.invariant-loop-turn
-invariant-loop-turn g l = IsReady l.hub 1 l.seat
