@@ -25,7 +25,7 @@ pub const MOST_SAVED_HOMES: usize = 10_000_000;
 pub const MOST_NESTED: u64 = 25_000;
 
 /// How deep a term of a checkpoint may be nested for which there is memory.
-pub const MOST_READ_NESTED: u64 = 600;
+pub const MOST_READ_NESTED: u64 = 200;
 
 /// The nodes of one term of a checkpoint for which there is memory.
 pub const MOST_NODES: usize = 16_777_216;

@@ -23,14 +23,14 @@ found_same : {X Y : Type 0} (f : Y → X) (a b : Option (X × Items)) (us : Item
 found_same {X = X} f a b us r e h = subst (λ (o : Option (X × Items)). Finds f o us r) (sym e) h
 
 -- as many levels as there is memory for make each term
-all_levels : level 600 ≡ term
+all_levels : level 200 ≡ term
 unfolding level term
 all_levels = refl
 
 opened : (depth : ℕ) (ws : Items) → 0 < depth → level depth ws ≡ chosen (number_to (2 ^ 64) ws) (reader_at (kinds (level (depth - 1))))
 unfolding level
 opened depth ws h =
-    let one : depth + 24400 ≡ suc ((depth - 1) + 24400) = omega arith in
+    let one : depth + 24800 ≡ suc ((depth - 1) + 24800) = omega arith in
     ap (λ (k : ℕ). term_to k ws) one
 
 -- behind the number of its kind
@@ -54,8 +54,8 @@ pub read_on : (depth kind : ℕ) (ws us vs : Items) (r : Result Term ReadError) 
     → Finds tree_of (reader_at (kinds (level (depth - 1))) kind us) vs r → Finds tree_of (level depth ws) vs r
 read_on depth kind ws us vs r h e f = found_same tree_of (level depth ws) (reader_at (kinds (level (depth - 1))) kind us) vs r (at_kind depth kind ws us h e) f
 
-pub as_term : (ws us : Items) (r : Result Term ReadError) → Finds tree_of (level 600 ws) us r → Finds tree_of (term ws) us r
-as_term ws us r f = found_same tree_of (term ws) (level 600 ws) us r (ap (λ (p : Reader Tree). p ws) (sym all_levels)) f
+pub as_term : (ws us : Items) (r : Result Term ReadError) → Finds tree_of (level 200 ws) us r → Finds tree_of (term ws) us r
+as_term ws us r f = found_same tree_of (term ws) (level 200 ws) us r (ap (λ (p : Reader Tree). p ws) (sym all_levels)) f
 
 -- Nodes
 

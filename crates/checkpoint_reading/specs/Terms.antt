@@ -10,9 +10,9 @@ use Rattle.asp_model.specs.Shapes.{tree_of}
 use Rattle.code_table.specs.Parts.{method_head}
 use Rattle.checkpoint_text.specs.Reading.{Reader, term_to}
 
--- a term of so many levels more; of 600 levels each term of the definition is one
+-- a term of so many levels more; of 200 levels each term of the definition is one
 unfoldable pub level : ℕ → Reader Tree
-level depth = term_to (depth + 24400)
+level depth = term_to (depth + 24800)
 
 abbrev pub two_shape : Box Term × Box Term → Tree × Tree
 two_shape x = (tree_of x.0.value, tree_of x.1.value)

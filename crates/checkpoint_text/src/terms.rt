@@ -31,7 +31,7 @@ use asp_model::{Label, Method, Place, Sign, Term, Word};
 use std::alloc::AllocError;
 
 /// As many levels of a term are written. No run of a program that was read comes near.
-pub const MOST_NESTED: u32 = 600;
+pub const MOST_NESTED: u32 = 200;
 
 /// Writes a term. It fails beyond `MOST_NESTED` levels, or without memory.
 pub fn put_term(text: &mut String, term: &Term) -> Result<(), AllocError>
