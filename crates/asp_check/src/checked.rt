@@ -9,11 +9,17 @@ ghost use Rattle.asp_check.specs.ReadableProp.{readable_prop as one_proof};
 use asp_model::Program;
 
 /// A program that was read, and has no fault.
-#[derive(Drop)]
 pub struct Checked {
     program: Program,
     ghost readable: { IsReadable (tree_of program.root) } by { one_proof (tree_of program.root) },
     ghost checked: { IsChecked (marked_of program.root) },
+}
+
+// Written out, so that crates above drop it by one call.
+impl Drop for Checked {
+    fn drop(self) {
+        let Checked { program: _ } = self;
+    }
 }
 
 impl Checked {
