@@ -23,9 +23,15 @@ enum Held {
 }
 
 /// The cells of a parcel. One that has no words needs no memory of its own, and many are shared.
-#[derive(Drop)]
 pub struct Cells {
     held: Held,
+}
+
+// Written out, so that crates above drop it by one call.
+impl Drop for Cells {
+    fn drop(self) {
+        let Cells { held: _ } = self;
+    }
 }
 
 impl Model for Cells {
@@ -116,7 +122,8 @@ impl Cells {
     pub fn into_columns(self, alloc: Global, room: usize) -> Result<Columns, AllocError>
         ensures cells { IfOk result (λ c. c.items ≡ self.items) }
     {
-        match self.held {
+        let Cells { held } = self;
+        match held {
             Held::One(cell) => alone(alloc, cell, room),
             Held::Few(columns) => Ok(columns),
             Held::Shared(columns) => columns.copy(alloc, room),

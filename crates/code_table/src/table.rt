@@ -21,9 +21,15 @@ pub const EMPTY_NUMBER: usize = 2;
 
 /// The code of a program, seen as the list of its nodes. Children stand before parents, the program
 /// stands last, and every variable has its slot.
-#[derive(Drop)]
 pub struct Code {
     nodes: Vec<Node>,
+}
+
+// Written out, so that crates above drop it by one call.
+impl Drop for Code {
+    fn drop(self) {
+        let Code { nodes: _ } = self;
+    }
 }
 
 impl Model for Code {
