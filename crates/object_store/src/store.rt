@@ -43,12 +43,23 @@ use std::marker::Model;
 
 /// The cells of one activity, in the order in which they were added. No call ties `AllocError` to
 /// what it asks for.
-#[derive(Drop)]
 pub struct Store {
     alloc: Global,
     columns: Columns,
     spare: usize,
     finder: Finder,
+}
+
+// Written out, so that crates above drop it by one call.
+impl Drop for Store {
+    fn drop(self) {
+        let Store {
+            alloc: _,
+            columns: _,
+            spare: _,
+            finder: _,
+        } = self;
+    }
 }
 
 impl Model for Store {
