@@ -32,7 +32,6 @@ const MOST: usize = 4;
 
 /// The pending requests of one activity with their numbers in order of arrival, oldest first, and
 /// how many requests have arrived.
-#[derive(Drop)]
 pub struct Queue {
     alloc: Global,
     /// How many requests had arrived when the crowd was made, or have arrived where there is none.
@@ -40,6 +39,18 @@ pub struct Queue {
     /// They came while there was no crowd, so they are older than those in it.
     few: Few,
     others: Option<Box<Crowd>>,
+}
+
+// Written out, so that crates above drop it by one call.
+impl Drop for Queue {
+    fn drop(self) {
+        let Queue {
+            alloc: _,
+            arrived: _,
+            few: _,
+            others: _,
+        } = self;
+    }
 }
 
 impl Model for Queue {
