@@ -46,9 +46,15 @@ use std::marker::Model;
 use std::sync::Arc;
 
 /// The filled futures with their values, seen as entries in ascending order of names.
-#[derive(Drop)]
 pub struct FutureTable {
     walks: Walks,
+}
+
+// Written out, so that crates above drop it by one call.
+impl Drop for FutureTable {
+    fn drop(self) {
+        let FutureTable { walks: _ } = self;
+    }
 }
 
 impl Model for FutureTable {
