@@ -46,7 +46,6 @@ use std::sync::Arc;
 pub type Futures = SmallVec<Option<Arc<Future>>, 1>;
 
 /// The term of an activity, as frames, environments and operands.
-#[derive(Drop)]
 pub struct Machine {
     pub frames: Vec<Frame>,
     /// The environments, each behind the one of the frame below.
@@ -60,6 +59,21 @@ pub struct Machine {
     /// Where the environment begins.
     pub base: usize,
     pub focus: Focus,
+}
+
+// Written out, so that crates above drop it by one call.
+impl Drop for Machine {
+    fn drop(self) {
+        let Machine {
+            frames: _,
+            env: _,
+            operands: _,
+            futures: _,
+            asked: _,
+            base: _,
+            focus: _,
+        } = self;
+    }
 }
 
 impl Machine {
