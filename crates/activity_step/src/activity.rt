@@ -24,7 +24,6 @@ use std::alloc::{AllocError, Global};
 use std::sync::Arc;
 
 /// An activity over the code that all activities of a run share.
-#[derive(Drop)]
 pub struct Activity {
     pub(crate) code: Arc<Code>,
     pub(crate) state: State,
@@ -36,6 +35,20 @@ pub struct Activity {
     pub(crate) count: u64,
     /// It gave "no memory" once, and gives nothing else since.
     pub(crate) spent: bool,
+}
+
+// Written out, so that crates above drop it by one call.
+impl Drop for Activity {
+    fn drop(self) {
+        let Activity {
+            code: _,
+            state: _,
+            active: _,
+            present: _,
+            count: _,
+            spent: _,
+        } = self;
+    }
 }
 
 impl Activity {
@@ -80,7 +93,15 @@ impl Activity {
             Stands (code_of self) result.0 a.term (reverse a.services) a.store a.lines }
         ensures active { (a : ActivityShape) → StandsFor self a → result.1 ≡ a.active }
     {
-        (self.state, self.active)
+        let Activity {
+            code: _,
+            state,
+            active,
+            present: _,
+            count: _,
+            spent: _,
+        } = self;
+        (state, active)
     }
 
     /// The future of the service that runs; none where the start term runs.
