@@ -19,7 +19,6 @@ use std::sync::Arc;
 use step_machine::{Focus, Form, Frame, Machine};
 
 /// The state of an activity at the end of a run.
-#[derive(Drop)]
 pub struct EndState {
     /// Its term and its suspended services.
     pub machine: Machine,
@@ -28,8 +27,18 @@ pub struct EndState {
     pub active: Place,
 }
 
+// Written out, so that crates above drop it by one call.
+impl Drop for EndState {
+    fn drop(self) {
+        let EndState {
+            machine: _,
+            store: _,
+            active: _,
+        } = self;
+    }
+}
+
 /// The end of a run.
-#[derive(Drop)]
 pub struct RunEnd {
     /// What a report without states says of it.
     pub outcome: Outcome,
@@ -39,6 +48,18 @@ pub struct RunEnd {
     pub futures: FutureTable,
     /// The code that all its activities run.
     pub code: Arc<Code>,
+}
+
+// Written out, so that crates above drop it by one call.
+impl Drop for RunEnd {
+    fn drop(self) {
+        let RunEnd {
+            outcome: _,
+            states: _,
+            futures: _,
+            code: _,
+        } = self;
+    }
 }
 
 // No frame waits for a term of the service that runs.
@@ -77,6 +98,19 @@ impl RunEnd {
         ensures state { option_copied result ≡ slice_get self.now.states.items number }
     {
         self.states.get(number)
+    }
+
+    /// What a report without states says of it, where the rest is not needed any more.
+    pub fn into_outcome(self) -> Outcome
+        ensures outcome { result ≡ self.outcome }
+    {
+        let RunEnd {
+            outcome,
+            states: _,
+            futures: _,
+            code: _,
+        } = self;
+        outcome
     }
 }
 
