@@ -21,7 +21,9 @@ ghost use Rattle.def_paths.specs.Snapshots.{snapshot_of};
 ghost use Rattle.request_queue.specs.Requests.{request_shape};
 ghost use Rattle.run_ends.specs.Ends.{IsSnapshotOf};
 ghost use Rattle.step_activity.specs.Actors.{HoldsQueue, Stands, code_of, log_in};
+ghost use Rattle.step_activity.specs.Parts.{ArePartsOf};
 
+use crate::parts::{ActorParts, copy_present};
 use activity_step::{Activity, State};
 use asp_model::{ActivityName, ActivityReport, Line, Reception, Status};
 use code_table::Code;
@@ -33,7 +35,6 @@ use std::sync::Arc;
 
 /// An activity with its pending requests, what it received and asked, how many requests and
 /// activities it has made, and how many members of a group that it waits for are known to have come.
-#[derive(Drop)]
 pub struct Actor {
     pub(crate) activity: Activity,
     pub(crate) queue: Queue,
@@ -41,6 +42,20 @@ pub struct Actor {
     pub(crate) sends: u32,
     pub(crate) creations: u32,
     pub(crate) clear: usize,
+}
+
+// Written out, so that crates above drop it by one call.
+impl Drop for Actor {
+    fn drop(self) {
+        let Actor {
+            activity: _,
+            queue: _,
+            log: _,
+            sends: _,
+            creations: _,
+            clear: _,
+        } = self;
+    }
 }
 
 impl Actor {
@@ -172,8 +187,16 @@ impl Actor {
         ensures state { (a : model.Activity) (rs : List RequestShape) → Stands self a rs →
             IsSnapshotOf (code_of self) result.1 (snapshot_of a) }
     {
-        let count = self.activity.count();
-        let (state, active) = self.activity.into_state();
+        let Actor {
+            activity,
+            queue: _,
+            log,
+            sends: _,
+            creations: _,
+            clear: _,
+        } = self;
+        let count = activity.count();
+        let (state, active) = activity.into_state();
         let State {
             machine,
             store,
@@ -183,7 +206,7 @@ impl Actor {
             name,
             count,
             status,
-            senders: self.log,
+            senders: log,
             lines,
         };
         let end = EndState {
@@ -192,6 +215,35 @@ impl Actor {
             active,
         };
         (report, end)
+    }
+
+    /// What it consists of, where it is done with.
+    pub fn into_parts(self, alloc: Global) -> Result<ActorParts, AllocError>
+        ensures parts { (a : model.Activity) (rs : List RequestShape) → Stands self a rs →
+            IfOk result (λ x. ArePartsOf x (code_of self) a rs) }
+        ensures log { IfOk result (λ x. map reception_shape x.log.items ≡ log_in self) }
+    {
+        let Actor {
+            activity,
+            queue,
+            log,
+            sends,
+            creations,
+            clear: _,
+        } = self;
+        let present = copy_present(alloc, &activity)?;
+        let count = activity.count();
+        let (state, active) = activity.into_state();
+        Ok(ActorParts {
+            count,
+            sends,
+            creations,
+            log,
+            queue,
+            present,
+            state,
+            active,
+        })
     }
 }
 

@@ -1,15 +1,11 @@
 //! What an activity consists of, for a reader of the whole.
 
-ghost use Rattle.std.specs.Prelude.{◌≡◌, IfOk, List, map};
+ghost use Rattle.std.specs.Prelude.{◌≡◌, IfOk};
 ghost use Rattle.std.specs.Option.{option_map};
 ghost use Rattle.asp_model.specs.Configuration as model;
-ghost use Rattle.asp_model.specs.Configuration.{RequestShape};
-ghost use Rattle.asp_model.specs.Shapes.{future_shape, reception_shape};
+ghost use Rattle.asp_model.specs.Shapes.{future_shape};
 ghost use Rattle.activity_step.specs.Activities.{StandsFor};
-ghost use Rattle.step_activity.specs.Actors.{Stands, code_of, log_in};
-ghost use Rattle.step_activity.specs.Parts.{ArePartsOf};
 
-use crate::actor::Actor;
 use activity_step::{Activity, State};
 use asp_model::{FutureName, Reception};
 use code_table::Place;
@@ -36,35 +32,15 @@ pub struct ActorParts {
 }
 
 // The future of the service that runs.
-fn copy_present(alloc: Global, activity: &Activity) -> Result<Option<FutureName>, AllocError>
+pub(crate) fn copy_present(
+    alloc: Global,
+    activity: &Activity,
+) -> Result<Option<FutureName>, AllocError>
     ensures present { (a : model.Activity) → StandsFor activity.now a →
         IfOk result (λ f. option_map future_shape f ≡ a.present) }
 {
     match activity.present() {
         Some(name) => Ok(Some(name.copy(alloc)?)),
         None => Ok(None),
-    }
-}
-
-impl Actor {
-    /// What it consists of, where it is done with.
-    pub fn into_parts(self, alloc: Global) -> Result<ActorParts, AllocError>
-        ensures parts { (a : model.Activity) (rs : List RequestShape) → Stands self a rs →
-            IfOk result (λ x. ArePartsOf x (code_of self) a rs) }
-        ensures log { IfOk result (λ x. map reception_shape x.log.items ≡ log_in self) }
-    {
-        let present = copy_present(alloc, &self.activity)?;
-        let count = self.activity.count();
-        let (state, active) = self.activity.into_state();
-        Ok(ActorParts {
-            count,
-            sends: self.sends,
-            creations: self.creations,
-            log: self.log,
-            queue: self.queue,
-            present,
-            state,
-            active,
-        })
     }
 }
