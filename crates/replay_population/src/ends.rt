@@ -20,7 +20,7 @@ use step_ends::run_end_of;
 pub fn outcome_in(end: RunEnd) -> Outcome
     ensures outcome { result ≡ end.outcome }
 {
-    end.outcome
+    end.into_outcome()
 }
 
 /// Drops an end.
