@@ -13,7 +13,6 @@ use crate::events::listener::Listener;
 use asp_check::Checked;
 use asp_model::{Counts, Lists, Outcome};
 use replay_one::{ReplayStop, replay_noting};
-use run_waits::outcome_in;
 use std::alloc::Global;
 
 mod event;
@@ -65,7 +64,7 @@ pub fn events_of(
 {
     let mut listener = Listener::new(alloc, wish);
     let end = replay_noting(alloc, program, lists, counts, &mut listener)?;
-    let outcome = outcome_in(end);
+    let outcome = end.into_outcome();
     Ok(EventsRun {
         outcome,
         events: listener.page.events,

@@ -13,9 +13,10 @@ ghost use Rattle.journal_runs.specs.Runs.{IsRedone, IsRunOf, IsSomeRun};
 use asp_check::Checked;
 use asp_model::Entry;
 use code_compiler::compile;
-use replay_population::{Population, Roster, share_code};
+use replay_population::{Population, Roster};
 use run_ends::RunEnd;
 use std::alloc::{AllocError, Global};
+use std::sync::Arc;
 
 /// A run on one thread that redoes the entries of a journal, one after another.
 #[derive(Drop)]
@@ -33,7 +34,7 @@ impl JournalRun {
         ensures begun { let term = tree_of program.now.program.root in
             IfOk result (λ x. IsRunOf x term budget [] (begun term budget)) }
     {
-        let code = share_code(alloc, compile(alloc, program)?)?;
+        let code = Arc::new(alloc, compile(alloc, program)?)?;
         let roster = Roster::new(alloc);
         let (population, _) = Population::start(alloc, code, roster)?;
         let grants = Vec::new(alloc);

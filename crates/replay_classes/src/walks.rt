@@ -15,8 +15,9 @@ use asp_check::Checked;
 use asp_model::ActivityName;
 use class_search::Sending;
 use code_compiler::compile;
-use replay_population::{Population, Roster, share_code};
+use replay_population::{Population, Roster};
 use std::alloc::{AllocError, Global};
+use std::sync::Arc;
 
 /// A run, what was sent in it, and what is to be sent yet.
 #[derive(Drop)]
@@ -31,7 +32,7 @@ fn start(alloc: Global, program: &Checked, guide: Vec<Sending>) -> Result<Walk, 
     ensures start { (K : Text → ℕ) → let tree = tree_of program.now.program.root in
         IfOk result (λ w. IsWalkTo K tree w (start_of tree)) }
 {
-    let code = share_code(alloc, compile(alloc, program)?)?;
+    let code = Arc::new(alloc, compile(alloc, program)?)?;
     let (population, _) = Population::start(alloc, code, Roster::new(alloc))?;
     Ok(Walk {
         population,

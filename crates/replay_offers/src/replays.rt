@@ -27,7 +27,7 @@ use code_compiler::compile;
 use code_table::Code;
 use outcome_search::EndedRun;
 use replay_one::{Bounds, Machine, NoNotes, are_replayable, counts_in, lists_in};
-use replay_population::{Population, drop_code, outcome_in, share_code};
+use replay_population::Population;
 use run_ends::RunEnd;
 use std::alloc::{AllocError, Global};
 use std::marker::Model;
@@ -39,11 +39,10 @@ pub struct Replays {
     budget: u64,
 }
 
-// Written out, so that nobody who drops these proves the drop of a code.
+// Written out, so that crates above drop it by one call.
 impl Drop for Replays {
     fn drop(self) {
-        let Replays { code, budget: _ } = self;
-        drop_code(code);
+        let Replays { code: _, budget: _ } = self;
     }
 }
 
@@ -83,7 +82,7 @@ fn shown_by(alloc: Global, population: Population) -> Result<Outcome, AllocError
         IfOk result (λ o. outcome_shape o ≡ outcome_of c) }
 {
     let end = population.end(alloc)?;
-    Ok(outcome_in(end))
+    Ok(end.into_outcome())
 }
 
 /// The logs of a population.
@@ -114,7 +113,7 @@ impl Replays {
         ensures program { IfOk result (λ r. tree_in r ≡ tree_of program.now.program.root) }
         ensures budget { IfOk result (λ r. r.budget ≡ budget) }
     {
-        let code = share_code(alloc, compile(alloc, program)?)?;
+        let code = Arc::new(alloc, compile(alloc, program)?)?;
         Ok(Replays { code, budget })
     }
 

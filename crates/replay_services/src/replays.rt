@@ -12,7 +12,6 @@ use crate::listener::Listener;
 use asp_check::Checked;
 use asp_model::{Counts, Lists, Outcome, Services};
 use replay_one::{ReplayStop, replay_noting};
-use replay_population::{drop_end, outcome_in};
 use std::alloc::Global;
 
 /// What a replay leaves, and what its services could take.
@@ -43,14 +42,9 @@ pub fn replay_services(
 {
     let mut listener = Listener::new(alloc, lists)?;
     let end = replay_noting(alloc, program, lists, counts, &mut listener)?;
-    match listener.into_services(alloc) {
-        Ok(services) => Ok(ServicesRun {
-            outcome: outcome_in(end),
-            services,
-        }),
-        Err(error) => {
-            drop_end(end);
-            Err(ReplayStop::from(error))
-        }
-    }
+    let services = listener.into_services(alloc)?;
+    Ok(ServicesRun {
+        outcome: end.into_outcome(),
+        services,
+    })
 }

@@ -21,9 +21,10 @@ use asp_check::Checked;
 use asp_model::{ActivityName, Counts, Lists};
 use code_compiler::compile;
 use replay_one::{Bounds, ReplayStop, replay_noting};
-use replay_population::{Population, Roster, drop_end, share_code};
+use replay_population::{Population, Roster};
 use run_ends::RunEnd;
 use std::alloc::{AllocError, Global};
+use std::sync::Arc;
 
 mod entries;
 mod reports;
@@ -83,7 +84,7 @@ pub fn cut_back(
 {
     let mut receipts = Receipts::new(alloc);
     match replay_noting(alloc, program, lists, counts, &mut receipts) {
-        Ok(end) => drop_end(end),
+        Ok(end) => drop(end),
         Err(stop) => return Err(stop_of(stop)),
     }
     let bounds = Bounds::Listed(lists, counts);
@@ -107,7 +108,7 @@ fn start(alloc: Global, program: &Checked, roster: Roster) -> Result<Population,
         number_of n roster ≡ Some number →
         IfOk result (IsStart (tree_of program.now.program.root) lists n number) }
 {
-    let code = share_code(alloc, compile(alloc, program)?)?;
+    let code = Arc::new(alloc, compile(alloc, program)?)?;
     let (population, _) = Population::start(alloc, code, roster)?;
     Ok(population)
 }

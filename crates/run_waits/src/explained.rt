@@ -22,7 +22,6 @@ use crate::waits::waits_in;
 use asp_check::Checked;
 use asp_model::{Counts, Lists};
 use replay_one::{ReplayStop, replay_noting};
-use replay_population::drop_end;
 use run_ends::RunEnd;
 use std::alloc::{AllocError, Global};
 use wait_circles::{End, Ways, Why, ways_of, why_of};
@@ -74,10 +73,7 @@ pub fn explain_run(
             next,
             ways,
         }),
-        Err(error) => {
-            drop_end(end);
-            Err(ReplayStop::from(error))
-        }
+        Err(error) => Err(ReplayStop::from(error)),
     }
 }
 
@@ -115,13 +111,12 @@ impl Explained {
     /// It is not needed any more: who calls this need not prove its drop.
     pub fn discard(self) {
         let Explained {
-            end,
+            end: _,
             receipts: _,
             books: _,
             next: _,
             ways: _,
         } = self;
-        drop_end(end);
     }
 
     /// Why an activity rests, by its number. In a run in which nobody can go on, the cause is told

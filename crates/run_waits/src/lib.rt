@@ -17,4 +17,3 @@ pub use books::Books;
 pub use cuts::{CutReportStop, CutStop, cut_back, cut_report};
 pub use explained::{Explained, explain_run};
 pub use receipts::Receipts;
-pub use replay_population::{drop_end, outcome_in};

@@ -15,7 +15,6 @@ ghost use Rattle.explain.specs.OrderKept.{Tells, entry_shape, poll_of, request_o
 use asp_check::Checked;
 use asp_model::{ActivityName, Counts, Label, Lists, Outcome, Reception};
 use replay_one::{Event, Note, Notes, ReplayStop, replay_noting};
-use run_waits::outcome_in;
 use std::alloc::{AllocError, Global};
 
 /// An entry of a log.
@@ -148,7 +147,7 @@ pub fn ordered_run(
 {
     let mut order = Order::new(alloc);
     let end = replay_noting(alloc, program, lists, counts, &mut order)?;
-    let outcome = outcome_in(end);
+    let outcome = end.into_outcome();
     Ok(OrderedRun {
         outcome,
         order: order.entries,

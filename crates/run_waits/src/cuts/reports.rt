@@ -13,7 +13,6 @@ ghost use Rattle.run_waits.specs.Reports.{IsCutReport, IsReportStop};
 use crate::cuts::{CutStop, cut_back};
 use asp_check::Checked;
 use asp_model::{Counts, Lists, Word};
-use replay_population::drop_end;
 use run_ends::RunEnd;
 use run_report::render;
 use std::alloc::{AllocError, Global};
@@ -69,9 +68,7 @@ fn text_of_end(alloc: Global, end: RunEnd) -> Result<String, AllocError>
     ensures text { (o : WholeOutcome) → IsEndOf end o →
         IfOk result (λ s. string_bytes s ≡ report_to None o) }
 {
-    let text = report_text(alloc, &end);
-    drop_end(end);
-    text
+    report_text(alloc, &end)
 }
 
 fn report_text(alloc: Global, end: &RunEnd) -> Result<String, AllocError>

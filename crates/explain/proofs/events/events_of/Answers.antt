@@ -7,7 +7,7 @@ use Rattle.explain.proofs.HeardLemmas.{same_wish}
 use Rattle.explain.proofs.events.events_of.Goals as goal
 
 pub returns-clause-outcome : goal.returns-clause-outcome
-returns-clause-outcome c = ap outcome_shape c.outcome_in-outcome.ensures.outcome ∙ c.in_ok-end.ensures.outcome
+returns-clause-outcome c = ap outcome_shape c.into_outcome-outcome.ensures.outcome ∙ c.in_ok-end.ensures.outcome
 
 pub returns-clause-events : goal.returns-clause-events
 returns-clause-events c =

@@ -8,7 +8,7 @@ use Rattle.explain.proofs.OrderLemmas.{order_at_end}
 use Rattle.explain.proofs.differences.order.ordered_run.Goals as goal
 
 pub returns-clause-outcome : goal.returns-clause-outcome
-returns-clause-outcome c = ap outcome_shape c.outcome_in-outcome.ensures.outcome ∙ c.in_ok-end.ensures.outcome
+returns-clause-outcome c = ap outcome_shape c.into_outcome-outcome.ensures.outcome ∙ c.in_ok-end.ensures.outcome
 
 pub returns-clause-order : goal.returns-clause-order
 returns-clause-order c =

@@ -1,4 +1,4 @@
 use Rattle.run_waits.proofs.cuts.reports.text_of_end.Goals as goal
 
 pub returns : goal.returns
-returns c = record { text = λ o e. c.report_text-text.ensures.text o e }
+returns c = record { text = λ o e. c.report_text.ensures.text o e }
