@@ -1,5 +1,4 @@
-//! The end of a run, and ends that are not needed any more. Who drops ends by these calls need not
-//! prove the drop of all that is in one.
+//! The end of a run.
 
 ghost use Rattle.std.specs.Prelude.{◌≡◌, IfOk};
 ghost use Rattle.asp_model.specs.Configuration.{Configuration};
@@ -11,22 +10,9 @@ ghost use Rattle.run_ends.specs.Ends.{IsEndOf};
 ghost use Rattle.replay_population.specs.Reached.{IsReachedBySome, IsReachedPopulation};
 
 use crate::population::Population;
-use asp_model::Outcome;
 use run_ends::RunEnd;
 use std::alloc::{AllocError, Global};
 use step_ends::run_end_of;
-
-/// What an end shows.
-pub fn outcome_in(end: RunEnd) -> Outcome
-    ensures outcome { result ≡ end.outcome }
-{
-    end.into_outcome()
-}
-
-/// Drops an end.
-pub fn drop_end(end: RunEnd) {
-    let _outcome = outcome_in(end);
-}
 
 impl Population {
     /// What the run leaves that led here from the start of a program.
