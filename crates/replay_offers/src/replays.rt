@@ -158,7 +158,7 @@ impl Replays {
             IfOk result (IsHeld c to.now) }
     {
         let machine = self.rest(alloc, lists, counts)?;
-        held_in(alloc, machine.population, to)
+        held_in(alloc, machine.into_population(), to)
     }
 
     /// The end of a run, with the states of its activities.
@@ -172,7 +172,7 @@ impl Replays {
             IfOk result (λ r. outcome_shape r.outcome ≡ outcome_of c) }
     {
         let machine = self.rest(alloc, &run.lists, &run.counts)?;
-        machine.population.end(alloc)
+        machine.into_population().end(alloc)
     }
 
     /// A run under logs as far as it goes, and then without logs.
@@ -183,7 +183,7 @@ impl Replays {
         let bounds = Bounds::Listed(lists, counts);
         let mut machine = self.start(alloc, &bounds)?;
         self.go_on(alloc, &mut machine, lists, counts)?;
-        shown_by(alloc, machine.population)
+        shown_by(alloc, machine.into_population())
     }
 
     // Such a run, from a machine at the start.

@@ -52,10 +52,19 @@ pub struct Gone {
 }
 
 /// The activities, and who of them is ready.
-#[derive(Drop)]
 pub struct Machine {
     pub population: Population,
     pub schedule: Schedule,
+}
+
+// Written out, so that crates above drop it by one call.
+impl Drop for Machine {
+    fn drop(self) {
+        let Machine {
+            population: _,
+            schedule: _,
+        } = self;
+    }
 }
 
 /// How many members one has passed after so many reductions, that had passed so many.
@@ -144,6 +153,17 @@ impl Machine {
             population,
             schedule,
         })
+    }
+
+    /// The activities alone.
+    pub fn into_population(self) -> Population
+        ensures population { result ≡ self.population }
+    {
+        let Machine {
+            population,
+            schedule: _,
+        } = self;
+        population
     }
 
     /// What a reduction gives to others, all but who stepped being ready whom that is for. A request

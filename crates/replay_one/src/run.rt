@@ -82,7 +82,7 @@ pub fn run_within<N: Notes>(
     let mut machine = Machine::start(alloc, bounds, code)?;
     machine.run(alloc, bounds, total, notes)?;
     tell_places(alloc, &mut machine.population, notes)?;
-    machine.population.end(alloc)
+    machine.into_population().end(alloc)
 }
 
 /// Runs a program with at most as many reductions as the budget says.

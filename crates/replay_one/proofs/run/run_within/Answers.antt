@@ -1,4 +1,4 @@
-use Rattle.std.proofs.Common.{◌≡◌, ◌∙◌, ◌++◌, ap}
+use Rattle.std.proofs.Common.{◌≡◌, ◌∙◌, ◌++◌, ap, subst, sym}
 use Rattle.std.specs.Arc.{arc_value}
 use Rattle.asp_model.specs.Term.{Tree}
 use Rattle.asp_model.specs.Configuration.{start}
@@ -6,7 +6,9 @@ use Rattle.asp_model.specs.Replay.{steps_from}
 use Rattle.asp_model.specs.Shapes.{tree_of}
 use Rattle.replay_parts.specs.declared.bounds.Bounds.{Bounds}
 use Rattle.replay_parts.specs.Bounds.{count_within, lists_within}
+use Rattle.replay_population.specs.declared.population.Population.{Population}
 use Rattle.replay_population.specs.Population.{term_of}
+use Rattle.replay_population.specs.Reached.{IsReachedPopulation}
 use Rattle.replay_population.proofs.EndLemmas.{reached_closed}
 use Rattle.replay_parts.proofs.ResultLemmas.{any_way}
 use Rattle.replay_one.specs.Told.{notes_by}
@@ -26,7 +28,8 @@ end-requires g c =
     let same : term_of (arc_value c.in_ok-code.code) ≡ t = ap term_of c.in_ok-code.ensures.ok ∙ c.in_ok-compile.ensures.program in
     let begun = begins_run b c.in_ok-machine.machine t (term_of (arc_value c.in_ok-code.code)) same c.in_ok-compile.ensures.bare c.in_ok-machine.ensures.population c.in_ok-machine.ensures.numbered c.in_ok-machine.ensures.ready c.in_ok-machine.ensures.passed in
     let last = steps_from c.args.total (lists_within b) (count_within b) (start t) in
-    record { reached = (t, last, placed c.run.new.self.population c.tell_places.new.population t last (c.in_ok-run.ensures.runs t (start t) begun) c.in_ok-tell_places.ensures.population) }
+    let after = placed c.run.new.self.population c.tell_places.new.population t last (c.in_ok-run.ensures.runs t (start t) begun) c.in_ok-tell_places.ensures.population in
+    record { reached = (t, last, subst (λ (p : Population). IsReachedPopulation p t last) (sym c.into_population.ensures.population) after) }
 
 pub returns : goal.returns
 returns g c =
@@ -36,7 +39,8 @@ returns g c =
     let begun = begins_run b c.in_ok-machine.machine t (term_of (arc_value c.in_ok-code.code)) same c.in_ok-compile.ensures.bare c.in_ok-machine.ensures.population c.in_ok-machine.ensures.numbered c.in_ok-machine.ensures.ready c.in_ok-machine.ensures.passed in
     let last = steps_from c.args.total (lists_within b) (count_within b) (start t) in
     let ran = c.in_ok-run.ensures.runs t (start t) begun in
-    let after = placed c.run.new.self.population c.tell_places.new.population t last ran c.in_ok-tell_places.ensures.population in
+    let placed_there = placed c.run.new.self.population c.tell_places.new.population t last ran c.in_ok-tell_places.ensures.population in
+    let after = subst (λ (p : Population). IsReachedPopulation p t last) (sym c.into_population.ensures.population) placed_there in
     record {
       end = c.end.ensures.end t last after;
       outcome = c.end.ensures.outcome t last after;
