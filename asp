@@ -1,19 +1,19 @@
 #!/bin/bash
-# Runs the program on the words given: `asp`, or `asp-explain` or `asp-outcomes` under that name, a link to this
-# file. It runs as `rt ci` proved and built it, or without proof where it has not
-# since the sources changed. What was built without proof is kept in out/, and runs at once until a source
-# changes. Ends with the program's status, and with 126 where there is no answer.
+# Runs the program on the words given: as `asp`, or as `asp-explain` or `asp-outcomes` under that name, a link to
+# this file, where its first word is --explain or --outcomes. It runs as `rt ci` proved and built it, or without
+# proof where it has not since the sources changed. What was built without proof is kept in out/, and runs at once
+# until a source changes. Ends with the program's status, and with 126 where there is no answer.
 set -o pipefail
 root=$(dirname "$(readlink -f "$0")")
 case ${0##*/} in
-    asp-explain) name=asp-explain crate=asp_explain known=': no fault' ;;
-    asp-outcomes) name=asp-outcomes crate=asp_outcomes known='> 1' ;;
-    *) name=asp crate=asp known='> 1' ;;
+    asp-explain) name=asp-explain command=(--explain) ;;
+    asp-outcomes) name=asp-outcomes command=(--outcomes) ;;
+    *) name=asp command=() ;;
 esac
-program=$root/crates/$crate/out/$crate
+program=$root/crates/asp/out/asp
 if [[ -x $program && -z $(find "$root/crates" "$root/crates.txt" -name out -prune -o -newer "$program" \
     \( -name '*.rt' -o -name '*.antt' -o -name crates.txt \) -print -quit) ]]; then
-    exec "$program" "$@"
+    exec "$program" "${command[@]}" "$@"
 fi
 
 give_up() {
@@ -26,10 +26,10 @@ sum_of_sources() {
         | xargs -0 sha256sum | sha256sum | cut -d ' ' -f 1)
 }
 sum=$(sum_of_sources) || give_up "the sources cannot be read"
-kept=$root/out/unproved/$crate-$sum
+kept=$root/out/unproved/asp-$sum
 if [[ -x $kept ]]; then
     echo "$name: this answer comes from a build without proof, kept in out/; rt ci proves and builds the program for good" >&2
-    "$kept" "$@"
+    "$kept" "${command[@]}" "$@"
     status=$?
     ((status < 126)) || give_up "the program that was kept ended with status $status"
     exit $status
@@ -49,7 +49,7 @@ is_taken() {
     case /$1/ in
         //*) false ;;
         */program/* | */stdin/* | */stdout/* | */stderr/*) true ;;
-        *) [[ -f $room/crates/$crate/$1 ]] ;;
+        *) [[ -f $room/crates/asp/$1 ]] ;;
     esac
 }
 # A word that names a readable file, itself or behind its =, is given with a copy of that file under the same name.
@@ -72,7 +72,7 @@ done
 # What is written, with the names of files in place of those of their copies.
 named() {
     local text i
-    [[ $crate == asp_explain ]] || { cat "$1"; return; }
+    [[ $name == asp-explain ]] || { cat "$1"; return; }
     text=$(cat "$1" && echo .) || return
     for ((i = 0; i < ${#copies[@]}; i += 2)); do
         text=${text//"${copies[i]}"/"${copies[i + 1]}"}
@@ -91,8 +91,8 @@ catch() {
 }
 catch 2>/dev/null &
 catcher=$!
-cd "$room/crates/$crate" || exit 126
-TMPDIR=$above rt try --seconds 600 "${data[@]}" -- "${words[@]}" >"$room/out" 2>"$room/said" </dev/null
+cd "$room/crates/asp" || exit 126
+TMPDIR=$above rt try --seconds 600 "${data[@]}" -- "${command[@]}" "${words[@]}" >"$room/out" 2>"$room/said" </dev/null
 kill $catcher 2>/dev/null
 if [[ ! $(tail -n 1 "$room/said") =~ ^run=ended\ status=([0-9]+)\ .*proved=no$ ]]; then
     give_up "$(sed -n 's/^checked: no-answer: //p' "$room/said" | grep . || tail -n 3 "$room/said")"
@@ -103,8 +103,8 @@ sed -E '/^(rt|interpreter|checked|races): |^run=/d' "$room/said" >&2
 
 # It is kept if it runs by itself, and if no source has changed since.
 printf 'print(1)' >"$room/one.asp"
-if [[ $("$room/built" "$room/one.asp" 2>/dev/null) == *"$known" && $(sum_of_sources) == "$sum" ]]; then
-    rm -f "$root/out/unproved/$crate-"*
+if [[ $("$room/built" "$room/one.asp" 2>/dev/null) == *'> 1' && $(sum_of_sources) == "$sum" ]]; then
+    rm -f "$root/out/unproved/"*
     mkdir -p "$root/out/unproved" && cp "$room/built" "$kept.new" && mv "$kept.new" "$kept"
 fi
 exit "$status"

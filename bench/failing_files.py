@@ -3,7 +3,7 @@
 
     bench/failing_files.py
 
-It takes the programs that `rt ci` built, or those that ASP, ASP_EXPLAIN and ASP_OUTCOMES name. First the streams and
+It takes the program that `rt ci` built, or the one that ASP names. First the streams and
 files of a call are of a kind that fails: closed, full, a folder, a pipe that nobody reads or that is read late. Then a
 small library, which the C compiler makes here, lets each read and each write of some calls fail in turn by its number,
 also after some bytes of the piece, or takes one byte at a time. A call has to end within 60 seconds, by no signal, with
@@ -19,10 +19,8 @@ import tempfile
 import time
 
 HERE = os.path.dirname(os.path.dirname(os.path.abspath(__file__)))
-ASP, EXPLAIN, OUTCOMES = (
-    os.environ.get(name.upper(), os.path.join(HERE, "crates", name, "out", name))
-    for name in ("asp", "asp_explain", "asp_outcomes")
-)
+ASP = os.environ.get("ASP", os.path.join(HERE, "crates/asp/out/asp"))
+EXPLAIN, OUTCOMES = [ASP, "--explain"], [ASP, "--outcomes"]
 NOBODY = 65534
 MOST_SECONDS = 60
 REPORT = b"asp report 2\nverdict end\nactivity 0 4 done\nsenders\n> 3\n"
@@ -111,8 +109,8 @@ def streams():
         say("full error", call(refused, err=full), (7, b"", b""))
         say("full error, and no message", call(runs, err=full), (0, REPORT, b""))
         say("both full", call(runs, out=full, err=full), (7, b"", b""))
-        say("full output, explained", call([EXPLAIN, "a.asp"], out=full), (7, b"", b"asp-explain: cannot write\n"))
-        say("full output, outcomes", call([OUTCOMES, "a.asp"], out=full), (7, b"", b"asp: cannot write\n"))
+        say("full output, explained", call([*EXPLAIN, "a.asp"], out=full), (7, b"", b"asp-explain: cannot write\n"))
+        say("full output, outcomes", call([*OUTCOMES, "a.asp"], out=full), (7, b"", b"asp: cannot write\n"))
     with open("a.asp", "rb") as only:
         say("output that is read alone", call(runs, out=only), (7, b"", cannot))
 
@@ -151,7 +149,7 @@ def pipes():
 
 def teller(words):
     """The name before a refusal: what asp-outcomes says of a program is what asp says of it."""
-    if words[0] == EXPLAIN:
+    if words[:2] == EXPLAIN:
         return "asp-explain"
     return "asp-outcomes" if "--check-ends" in words else "asp"
 
@@ -164,10 +162,10 @@ def unread(name, before=None):
         [ASP, "a.asp", "--replay", name],
         [ASP, "a.asp", "--replay", "r", "--same", name],
         [ASP, "a.asp", "--trace", name],
-        [EXPLAIN, name],
-        [EXPLAIN, "a.asp", name],
-        [OUTCOMES, name],
-        [OUTCOMES, "a.asp", "--check-ends", "r", name],
+        [*EXPLAIN, name],
+        [*EXPLAIN, "a.asp", name],
+        [*OUTCOMES, name],
+        [*OUTCOMES, "a.asp", "--check-ends", "r", name],
     ):
         told = f"{teller(words)}: cannot read {name}\n"
         say(f"{words}", call(words, before), (6, b"", told.encode()))

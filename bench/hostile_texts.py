@@ -3,7 +3,7 @@
 
     bench/hostile_texts.py [--allowed SECONDS] [NAME ..]     all texts with no NAME
 
-It takes the programs that `rt ci` built, or those that ASP, ASP_EXPLAIN and ASP_OUTCOMES name. A source is read at
+It takes the program that `rt ci` built, or the one that ASP names. A source is read at
 64 KiB and at 1 MiB, the most that it may have, a report and a trace at 1 MiB and at 16 MiB. The seconds are those of
 the processor, the best of two runs. Marked are a text that takes more than 1.5 times as long for each byte when it is
 larger, one that takes more than is allowed (1 s at 1 MiB, 3 s at 16 MiB; --allowed gives the first of the two for a
@@ -18,10 +18,8 @@ import tempfile
 from typing import NamedTuple
 
 HERE = os.path.dirname(os.path.dirname(os.path.abspath(__file__)))
-ASP, EXPLAIN, OUTCOMES = (
-    os.environ.get(name.upper(), os.path.join(HERE, "crates", name, "out", name))
-    for name in ("asp", "asp_explain", "asp_outcomes")
-)
+ASP = os.environ.get("ASP", os.path.join(HERE, "crates/asp/out/asp"))
+EXPLAIN = [ASP, "--explain"]
 MEBIBYTE = 1 << 20
 TIMES = 16
 ALLOWED = 1.5  # as often as the size grows
@@ -178,7 +176,7 @@ def main():
     small, large = (MEBIBYTE // TIMES, MEBIBYTE), (MEBIBYTE, TIMES * MEBIBYTE)
     kinds = [
         ("source", SOURCES, [ASP, "text"], small, 1),
-        ("explain", [explained(text) for text in SOURCES], [EXPLAIN, "text"], small, 1),
+        ("explain", [explained(text) for text in SOURCES], [*EXPLAIN, "text"], small, 1),
         ("report", REPORTS, [ASP, "a.asp", "--replay", "text"], large, 3),
         ("trace", TRACES, [ASP, "a.asp", "--trace", "text"], large, 3),
     ]

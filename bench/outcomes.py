@@ -3,7 +3,7 @@
 
     bench/outcomes.py [--runs N] [--most N] [--cases] [--generated N] [--few N] [--generated-runs N]
 
-It takes the programs that `rt ci` built, or those that ASP and OUTCOMES name. Of each program of the table it prints
+It takes the program that `rt ci` built, or the one that ASP names. Of each program of the table it prints
 the ends by whole orders and by classes of labels, the outcomes and the seconds, and these numbers have to be those
 that are known. It does so for each example, with --cases for each program of cases/, and with --generated for so many
 programs of bench/programs.py that have at most --few ends (200) by whole orders; every second of these has no poll.
@@ -29,7 +29,7 @@ import programs
 
 HERE = os.path.dirname(os.path.dirname(os.path.abspath(__file__)))
 ASP = os.environ.get("ASP", f"{HERE}/crates/asp/out/asp")
-OUTCOMES = os.environ.get("OUTCOMES", f"{HERE}/crates/asp_outcomes/out/asp_outcomes")
+RUN, OUTCOMES = [ASP], [ASP, "--outcomes"]
 MOST_SECONDS = 120
 
 FORK = ("let fork = [; run(self) = repeat(self.turn()), turn(self) = serve(take); serve(put), "
@@ -107,7 +107,7 @@ TABLE = {
 def told(words, program):
     """What a program writes, its status, and the seconds that it took."""
     begun = time.time()
-    ran = subprocess.run([program, *words], stdin=subprocess.DEVNULL, capture_output=True, text=True,
+    ran = subprocess.run([*program, *words], stdin=subprocess.DEVNULL, capture_output=True, text=True,
                          timeout=MOST_SECONDS)
     return ran.stdout, ran.returncode, time.time() - begun
 
@@ -156,7 +156,7 @@ def replayed(name, file, it, words, room):
         with open(kept, "w", encoding="utf-8") as out:
             out.write(report)
         reports[kept] = report
-        if told([file, "--replay", kept], ASP)[:2] != (report, one):
+        if told([file, "--replay", kept], RUN)[:2] != (report, one):
             failed.append(f"{name}: the report of end {number} is not replayed to its own bytes {words}")
         if seen(report)[:-1] not in it.parts:
             failed.append(f"{name}: the report of end {number} is none of the outcomes {words}")
@@ -183,7 +183,7 @@ def raced(name, file, reports, parts, runs):
     for _ in range(runs):
         words = [file, "--workers", str(chance.randint(1, 64)), "--strategy",
                  chance.choice(["lazy", "forward", "message"])]
-        report, _, _ = told(words, ASP)
+        report, _, _ = told(words, RUN)
         met.add(report)
         if reports and report not in reports:
             failed.append(f"{name}: {' '.join(words[1:])} printed what is none of the ends")
@@ -245,7 +245,7 @@ def cases():
 
 def is_checked(file):
     """asp finds no error in the program, and it is short enough to be searched."""
-    return os.path.getsize(file) < 20_000 and told([file, "--check"], ASP)[1] == 0
+    return os.path.getsize(file) < 20_000 and told([file, "--check"], RUN)[1] == 0
 
 
 def main():

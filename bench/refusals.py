@@ -3,7 +3,7 @@
 
     bench/refusals.py [MOST]     at most so many requests of each run; all with no MOST
 
-It takes the programs that `rt ci` built, or those that ASP, ASP_EXPLAIN and ASP_OUTCOMES name. A small library, which
+It takes the program that `rt ci` built, or the one that ASP names. A small library, which
 the C compiler makes here, counts what the program asks of malloc and its kin and of pthread_create, from the first
 request of its `main` on, and refuses the one whose number is asked for: alone, or with all after it. A run has
 to end within 60 seconds, with its own status and output, or with status 8, nothing on standard output, and on standard
@@ -20,10 +20,8 @@ from concurrent.futures import ThreadPoolExecutor
 from typing import NamedTuple
 
 HERE = os.path.dirname(os.path.dirname(os.path.abspath(__file__)))
-PROGRAMS = {
-    name: os.environ.get(name.upper(), os.path.join(HERE, "crates", name, "out", name))
-    for name in ("asp", "asp_explain", "asp_outcomes")
-}
+ASP = os.environ.get("ASP", os.path.join(HERE, "crates/asp/out/asp"))
+PROGRAMS = {"asp": [ASP], "asp-explain": [ASP, "--explain"], "asp-outcomes": [ASP, "--outcomes"]}
 MOST_SECONDS = 60
 MEGABYTE = 1 << 20
 
@@ -113,11 +111,11 @@ RUNS = [
     Run("a journal", PASSES, ["--journal"], workers=(1,)),
     Run("a trace", PASSES, ["--trace", "t"]),
     Run("a checkpoint", GROUPS, ["--budget", "20", "--save"], workers=(1, 4)),
-    Run("a fault explained", "print(1 + y)", [], "asp_explain"),
-    Run("a run explained", BLOCKED, ["r"], "asp_explain"),
-    Run("events", ANSWER, ["r", "--events"], "asp_explain"),
-    Run("a picture", ANSWER, ["r", "--picture"], "asp_explain"),
-    Run("outcomes", ANSWER, [], "asp_outcomes"),
+    Run("a fault explained", "print(1 + y)", [], "asp-explain"),
+    Run("a run explained", BLOCKED, ["r"], "asp-explain"),
+    Run("events", ANSWER, ["r", "--events"], "asp-explain"),
+    Run("a picture", ANSWER, ["r", "--picture"], "asp-explain"),
+    Run("outcomes", ANSWER, [], "asp-outcomes"),
 ]
 
 
@@ -130,7 +128,7 @@ def run(folder, program, words, env=None, limit=None):
 
     try:
         ended = subprocess.run(
-            [PROGRAMS[program], *words],
+            [*PROGRAMS[program], *words],
             stdin=subprocess.DEVNULL,
             capture_output=True,
             timeout=MOST_SECONDS,
@@ -149,7 +147,7 @@ def is_right(program, got, own):
     if got == own or got == (8, b"", b""):
         return True
     # (what asp-outcomes says of the program's file is what asp says of it)
-    names = ("asp-outcomes", "asp") if program == "asp_outcomes" else (program.replace("_", "-"),)
+    names = ("asp-outcomes", "asp") if program == "asp-outcomes" else (program,)
     return got in [(8, b"", f"{name}: no memory\n".encode()) for name in names]
 
 

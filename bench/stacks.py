@@ -3,7 +3,7 @@
 
     bench/stacks.py [--most KB] [NAME ..]     at most so much is to be taken (512); all kinds with no NAME
 
-It takes the programs that `rt ci` built, or those that ASP, ASP_EXPLAIN and ASP_OUTCOMES name. Each program is checked,
+It takes the program that `rt ci` built, or the one that ASP names. Each program is checked,
 run, replayed and so on under a limit of stack (`ulimit -s`) that is halved and doubled until the least multiple of 8 KB
 is found under which the command ends as it does under the usual limit. Printed are the depth, the least limit of the
 worst command, and that command. Behind them come programs that are not deep but whose runs are: calls, services, lists,
@@ -18,10 +18,8 @@ import tempfile
 from typing import NamedTuple
 
 HERE = os.path.dirname(os.path.dirname(os.path.abspath(__file__)))
-ASP, EXPLAIN, OUTCOMES = (
-    os.environ.get(name.upper(), os.path.join(HERE, "crates", name, "out", name))
-    for name in ("asp", "asp_explain", "asp_outcomes")
-)
+ASP = os.environ.get("ASP", os.path.join(HERE, "crates/asp/out/asp"))
+EXPLAIN, OUTCOMES = [ASP, "--explain"], [ASP, "--outcomes"]
 STEP = 8  # KB
 BUDGET = ["--budget", "2000"]
 
@@ -120,9 +118,9 @@ def commands(budget):
     yield "--replay", [ASP, "a.asp", "--replay", "r"]
     yield "--same", [ASP, "a.asp", "--replay", "r", "--same", "r"]
     yield "--trace", [ASP, "a.asp", "--trace", "t", *budget]
-    yield "asp-explain FILE", [EXPLAIN, "a.asp"]
-    yield "asp-explain FILE REPORT", [EXPLAIN, "a.asp", "r"]
-    yield "asp-outcomes", [OUTCOMES, "a.asp", "--ends", "10", *budget]
+    yield "asp-explain FILE", [*EXPLAIN, "a.asp"]
+    yield "asp-explain FILE REPORT", [*EXPLAIN, "a.asp", "r"]
+    yield "asp-outcomes", [*OUTCOMES, "a.asp", "--ends", "10", *budget]
 
 
 def least(words, floor, most):

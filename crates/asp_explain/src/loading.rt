@@ -11,7 +11,6 @@ use asp_check::{CheckError, Checked, check};
 use asp_edge::{ReadError, Source};
 use asp_model::{Counts, Lists, MOST_PROGRAM_BYTES, MOST_REPORT_BYTES};
 use asp_syntax::{SyntaxError, read_program};
-use explain::drop_program;
 use sender_log::read_report;
 use std::alloc::{AllocError, Global};
 
@@ -29,10 +28,9 @@ pub struct Given<'a> {
 }
 
 impl Given<'_> {
-    /// It is not needed any more: who calls this need not prove the drop of a program.
+    /// It is not needed any more: who calls this need not prove its drop.
     pub fn discard(self) {
-        let Given { program, .. } = self;
-        drop_program(program);
+        drop(self);
     }
 }
 
@@ -125,7 +123,7 @@ pub fn load<'a, S: Source>(
                 counts,
             })),
             Err(stop) => {
-                drop_program(program);
+                drop(program);
                 Err(stop)
             }
         },

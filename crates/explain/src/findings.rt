@@ -10,12 +10,12 @@ ghost use Rattle.explain.specs.declared.remark.Severity.TheVariants.{Error};
 
 use crate::around::{name_at, short_name_at, tokens_round};
 use crate::cures::{check_cure, syntax_cure};
-use crate::other::{Seen, seen_at};
+use crate::other::seen_in;
 use crate::remark::{Remark, Severity};
 use crate::sentences::{check_sentence, other_sentence, syntax_sentence};
 use crate::uses::{LabelUse, uses_in};
 use crate::warnings::warnings_of;
-use asp_check::{CheckError, CheckFault, CheckKind, Checked, check};
+use asp_check::{CheckError, CheckFault, CheckKind, check};
 use asp_model::Program;
 use asp_syntax::{SyntaxError, SyntaxFault, read_program};
 use std::alloc::{AllocError, Global};
@@ -90,37 +90,31 @@ fn one(alloc: Global, remark: Remark) -> Result<Vec<Remark>, AllocError>
     Ok(remarks)
 }
 
-// Of a text that is a program.
+// Of a text that is a program. Its labels are found first: the check drops a program that has a fault.
 fn of_program(alloc: Global, bytes: &[u8], program: Program) -> Result<Findings, AllocError>
     requires program { IsProgramText bytes.now (marked_of program.root) }
     requires only { IsOnlyProgram bytes.now (marked_of program.root) }
     ensures found { IfOk result (λ f. IsFound bytes.now f.fault) }
     ensures first { IfOk result (λ f. IsShownFirst f.fault f.remarks.items) }
 {
+    let uses = uses_in(alloc, &program.root);
     match check(alloc, program) {
         Ok(checked) => {
-            let found = of_checked(alloc, bytes, &checked);
-            drop_program(checked);
-            found
+            drop(checked);
+            of_checked(alloc, bytes, &uses?)
         }
-        Err(CheckError::Fault(fault)) => of_unchecked(alloc, bytes, fault),
+        Err(CheckError::Fault(fault)) => of_check(alloc, bytes, &uses?, fault),
         Err(CheckError::Memory) => Err(AllocError),
     }
 }
 
-/// Drops a program that is not needed any more: who calls this need not prove its drop.
-pub fn drop_program(program: Checked) {
-    drop(program);
-}
-
-// Of a checked program.
-fn of_checked(alloc: Global, bytes: &[u8], checked: &Checked) -> Result<Findings, AllocError>
+// Of a checked program with these labels.
+fn of_checked(alloc: Global, bytes: &[u8], uses: &[LabelUse]) -> Result<Findings, AllocError>
     requires faultless { IsFaultless bytes.now }
     ensures found { IfOk result (λ f. IsFound bytes.now f.fault) }
     ensures first { IfOk result (λ f. IsShownFirst f.fault f.remarks.items) }
 {
-    let uses = uses_in(alloc, &checked.program().root)?;
-    let warnings = warnings_of(alloc, bytes, &uses)?;
+    let warnings = warnings_of(alloc, bytes, uses)?;
     Ok(Findings {
         fault: None,
         remarks: warnings.remarks,
@@ -128,33 +122,18 @@ fn of_checked(alloc: Global, bytes: &[u8], checked: &Checked) -> Result<Findings
     })
 }
 
-// Of a program that is not checked: the check has dropped it, and it is read once more.
-fn of_unchecked(alloc: Global, bytes: &[u8], fault: CheckFault) -> Result<Findings, AllocError>
-    requires fault { IsCheckFault bytes.now fault }
-    ensures found { IfOk result (λ f. IsFound bytes.now f.fault) }
-    ensures first { IfOk result (λ f. IsShownFirst f.fault f.remarks.items) }
-{
-    match read_program(alloc, bytes) {
-        Ok(program) => {
-            let seen = seen_at(alloc, bytes, &program.root, fault);
-            drop(program);
-            of_check(alloc, bytes, fault, seen?)
-        }
-        Err(SyntaxError::Fault(_)) => unreachable!(),
-        Err(SyntaxError::Memory) => Err(AllocError),
-    }
-}
-
+// Of a program with these labels that has a fault.
 fn of_check(
     alloc: Global,
     bytes: &[u8],
+    uses: &[LabelUse],
     fault: CheckFault,
-    seen: Seen,
 ) -> Result<Findings, AllocError>
     requires fault { IsCheckFault bytes.now fault }
     ensures found { IfOk result (λ f. IsFound bytes.now f.fault) }
     ensures first { IfOk result (λ f. IsShownFirst f.fault f.remarks.items) }
 {
+    let seen = seen_in(bytes, uses, fault);
     let name = short_name_at(bytes, fault.at);
     let cure = check_cure(fault.kind, name, seen.is_field);
     let sentence = check_sentence(alloc, fault.kind, name, seen.count)?;

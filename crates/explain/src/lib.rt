@@ -24,7 +24,7 @@ pub use differences::{
     ordered_run, tell_difference,
 };
 pub use events::{EventsRun, RunEvent, What, Wish, events_of, tell_events};
-pub use findings::{Fault, Findings, drop_program, explain};
+pub use findings::{Fault, Findings, explain};
 pub use nearest::Nearest;
 pub use pictures::{MOST_EVENTS, MOST_LANES, draw};
 pub use remark::{Remark, Severity};

@@ -1,10 +1,8 @@
 //! What a program has at the place of a fault, and the other place of the fault.
 
 use crate::around::{name_at, short_name_at};
-use crate::uses::{LabelUse, Role, uses_in};
+use crate::uses::{LabelUse, Role};
 use asp_check::{CheckFault, CheckKind};
-use asp_model::Term;
-use std::alloc::{AllocError, Global};
 
 /// What a program has at the place of a fault.
 #[derive(Clone, Copy)]
@@ -17,18 +15,8 @@ pub struct Seen {
     pub other: Option<LabelUse>,
 }
 
-/// What the program with this term has there.
-pub fn seen_at(
-    alloc: Global,
-    bytes: &[u8],
-    root: &Term,
-    fault: CheckFault,
-) -> Result<Seen, AllocError> {
-    let uses = uses_in(alloc, root)?;
-    Ok(seen_in(bytes, &uses, fault))
-}
-
-fn seen_in(bytes: &[u8], uses: &[LabelUse], fault: CheckFault) -> Seen {
+/// What the program with these labels has there.
+pub fn seen_in(bytes: &[u8], uses: &[LabelUse], fault: CheckFault) -> Seen {
     let is_field = has_field(bytes, uses, short_name_at(bytes, fault.at));
     match faulty(uses, fault) {
         Some(here) => Seen {

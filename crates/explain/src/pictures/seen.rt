@@ -220,8 +220,10 @@ fn add_event(
     stands_out: bool,
 ) -> Result<(), AllocError> {
     let activities = &seen.outcome.activities;
-    let mark = mark_of(alloc, activities, drawn, &event.what)?;
-    if let (Some(lane), Some(mark)) = (lane_at(activities, drawn, &event.by), mark) {
+    let Some(lane) = lane_at(activities, drawn, &event.by) else {
+        return Ok(());
+    };
+    if let Some(mark) = mark_of(alloc, activities, drawn, &event.what)? {
         events.push(Event {
             lane,
             mark,

@@ -5,8 +5,8 @@ use Rattle.explain.proofs.findings.of_program.Goals as goal
 pub check-requires : goal.check-requires
 check-requires c = record { readable = programs_are_readable c.args.bytes.now (marked_of c.args.program.root) c.requires.program }
 
-pub of_checked-found-requires : goal.of_checked-found-requires
-of_checked-found-requires c = record {
+pub of_checked-requires : goal.of_checked-requires
+of_checked-requires c = record {
   faultless = record {
     program = marked_of c.args.program.root;
     is_read = c.requires.program;
@@ -15,8 +15,8 @@ of_checked-found-requires c = record {
   };
 }
 
-pub of_unchecked-requires : goal.of_unchecked-requires
-of_unchecked-requires c = record {
+pub of_check-requires : goal.of_check-requires
+of_check-requires c = record {
   fault = record {
     program = marked_of c.args.program.root;
     is_read = c.requires.program;
