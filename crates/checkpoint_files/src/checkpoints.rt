@@ -17,6 +17,7 @@ ghost use Rattle.checkpoint_files.specs.Files.{
 };
 
 use crate::activities::read_activity;
+use crate::room::{behind_lines, has_few_lines, is_light};
 use checkpoint_items::{ReadError, read_homes};
 use checkpoint_parts::{ActivityText, CheckpointText};
 use checkpoint_reading::read_values;
@@ -31,6 +32,9 @@ pub fn read_checkpoint(
 ) -> Result<CheckpointText, ReadError>
     ensures reading { Tells (reading_of program.now bytes.now) result }
 {
+    if !has_few_lines(bytes) {
+        return Err(ReadError::Memory);
+    }
     let lines = cut(alloc, b'\n', bytes)?;
     read_lines(alloc, program, &lines)
 }
@@ -47,7 +51,7 @@ fn read_lines(alloc: Global, program: &str, lines: &[&[u8]]) -> Result<Checkpoin
             if !is_of(program, shown) {
                 return Err(ReadError::OtherProgram);
             }
-            read_body(alloc, body)
+            read_within(alloc, body)
         }
         [] => Err(ReadError::Malformed),
         [_] => Err(ReadError::Malformed),
@@ -73,6 +77,21 @@ fn is_same(shown: &[u8], program: &str) -> bool
     ensures same { result ≡ same_text shown.now program.now }
 {
     shown == program.as_bytes()
+}
+
+// What weighs too much is refused before it is built, or before it is looked at.
+fn read_within(alloc: Global, lines: &[&[u8]]) -> Result<CheckpointText, ReadError>
+    ensures reading { Tells (body_read (texts lines.now)) result }
+{
+    let Some(weight) = behind_lines(lines) else {
+        return Err(ReadError::Memory);
+    };
+    let file = read_body(alloc, lines)?;
+    if is_light(&file, weight) {
+        Ok(file)
+    } else {
+        Err(ReadError::Memory)
+    }
 }
 
 fn read_body(alloc: Global, lines: &[&[u8]]) -> Result<CheckpointText, ReadError>

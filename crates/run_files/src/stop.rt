@@ -21,9 +21,9 @@ pub enum FileStop {
     /// What it counted and the budget come to more than `MOST_REDUCTIONS`.
     #[error("too many reductions")]
     TooMany,
-    /// There is no memory for the run, or for what is read. So it is too where a term is nested
-    /// beyond the levels that are read, and where a word or a label is not UTF-8 or begins with a
-    /// digit, which none of a run does.
+    /// There is no memory for the run, or for what is read. So it is too where the file weighs more
+    /// than `MOST_READ_WEIGHT`, where a term is nested beyond the levels that are read, and where a
+    /// word or a label is not UTF-8 or begins with a digit, which none of a run does.
     #[error("no memory")]
     Memory,
 }
