@@ -3,12 +3,13 @@
 
     bench/resumes.py [STOPS]     at most 60 stops of a program with no STOPS
 
-It takes the program that `rt ci` built, or the one that ASP names. Each example is stopped after 1 reduction, 2
-reductions and so on, by 1 worker and by 4, and goes on to its end by other workers and under another strategy.
-Then it is stopped again and again, some 200 times if it has as many reductions. Each report is replayed, and the
-replay has to give the same bytes and the same status. Last come 5,000, 20,000 and 80,000 activities that wait:
-the bytes of the checkpoint, and the seconds to save it and to go on from it. It prints what failed; its status is
-then 1.
+It takes the program that `rt ci` built, or the one that ASP names. Each example, and each program of the cases on
+captures, services and groups, is stopped after 1 reduction, 2 reductions and so on, by 1 worker and by 4, and goes
+on to its end by other workers and under another strategy. Then it is stopped again and again, some 200 times if it
+has as many reductions. Each report is replayed, and the replay has to give the same bytes and the same status; of a
+program that `--determinate` finds to have one end, it has to be the report of a run that is not stopped. Last come
+5,000, 20,000 and 80,000 activities that wait: the bytes of the checkpoint, and the seconds to save it and to go on
+from it. It prints what failed; its status is then 1.
 """
 import os
 import random
@@ -17,9 +18,13 @@ import sys
 import tempfile
 import time
 
+from outcomes import cases
+
 HERE = os.path.dirname(os.path.dirname(os.path.abspath(__file__)))
 PROGRAM = os.environ.get("ASP", os.path.join(HERE, "crates/asp/out/asp"))
 STRATEGIES = ["lazy", "forward", "message"]
+CASES = ["captures", "services", "groups"]
+RULED = b". determinate\n"
 USED_UP, ENDED = 5, (0, 1, 4)
 
 # so many activities that answered a request each and wait for the next
@@ -34,6 +39,7 @@ class Resumes:
     def __init__(self, folder):
         self.checkpoint = os.path.join(folder, "checkpoint")
         self.report = os.path.join(folder, "report")
+        self.known = None
         self.failed = 0
 
     def run(self, *words):
@@ -58,6 +64,8 @@ class Resumes:
         self.keep(self.report, text)
         if self.run(file, "--replay", self.report) != (status, text):
             self.fail(file, *words, "the replay differs")
+        if self.known not in (None, text):
+            self.fail(file, *words, "it is not the report of a run that is not stopped")
 
     def stop_each(self, file, reductions, stops):
         """Stops it after each number of reductions, or after each so many, and goes on to its end."""
@@ -81,11 +89,21 @@ class Resumes:
         return times
 
     def play(self, file, stops):
-        _, whole = self.run(file, "--workers", 1)
+        _, whole = self.run(file, "--determinate")
+        self.known = whole.removesuffix(RULED) if whole.endswith(RULED) else None
         reductions = sum(int(line.split()[2]) for line in whole.decode().splitlines() if line.startswith("activity "))
         self.stop_each(file, reductions, stops)
         print(f"{os.path.basename(file)}: {reductions} reductions, {self.stop_often(file, reductions)} stops in a row",
               flush=True)
+
+    def play_cases(self, folder, stops):
+        """Plays each program of these cases that runs, and comes to its end."""
+        for name, text in cases():
+            if name.split(".")[0] in CASES:
+                file = os.path.join(folder, name.replace(".txt ", "-"))
+                self.keep(file, text.encode())
+                if self.run(file)[0] in ENDED:
+                    self.play(file, stops)
 
     def measure(self, folder, activities):
         file = os.path.join(folder, "waiting.asp")
@@ -113,6 +131,7 @@ def main():
         for name in sorted(os.listdir(examples)):
             if name.endswith(".asp"):
                 resumes.play(os.path.join(examples, name), stops)
+        resumes.play_cases(folder, stops)
         for activities in (5_000, 20_000, 80_000):
             resumes.measure(folder, activities)
     sys.exit(1 if resumes.failed else 0)
