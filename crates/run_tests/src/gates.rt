@@ -10,7 +10,7 @@ const HELD_BURST: u64 = 100;
 /// How long the others have for what is left.
 const MORE_LOOKS: u64 = 100;
 
-const MOST_LOOKS: u64 = 50_000_000;
+const MOST_LOOKS: u64 = 2_000_000;
 
 /// Holds one worker until another one has come with a late lease, and counts the leases.
 #[derive(Drop)]
