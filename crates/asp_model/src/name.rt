@@ -19,9 +19,16 @@ use std::marker::Model;
 
 /// The name of an activity, seen as a list of numbers that begins with 0. A name of at most four
 /// numbers is made and copied without an allocation.
-#[derive(Debug, Drop)]
+#[derive(Debug)]
 pub struct ActivityName {
     path: CreationPath,
+}
+
+// Written out, so that crates above drop it by one call.
+impl Drop for ActivityName {
+    fn drop(self) {
+        let ActivityName { path: _ } = self;
+    }
 }
 
 impl Model for ActivityName {
@@ -32,10 +39,17 @@ impl Model for ActivityName {
 
 /// The name of a future: who sent the request, and the request's number among those that it sent,
 /// from 1.
-#[derive(Debug, PartialEq, Eq, PartialOrd, Ord, Drop)]
+#[derive(Debug, PartialEq, Eq, PartialOrd, Ord)]
 pub struct FutureName {
     pub by: ActivityName,
     pub index: u32,
+}
+
+// Written out, so that crates above drop it by one call.
+impl Drop for FutureName {
+    fn drop(self) {
+        let FutureName { by: _, index: _ } = self;
+    }
 }
 
 impl ActivityName {

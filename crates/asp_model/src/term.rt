@@ -111,7 +111,13 @@ pub enum Term {
 }
 
 /// A program as it was read: it has neither places nor holes.
-#[derive(Drop)]
 pub struct Program {
     pub root: Term,
+}
+
+// Written out, so that crates above drop it by one call.
+impl Drop for Program {
+    fn drop(self) {
+        let Program { root: _ } = self;
+    }
 }
