@@ -14,15 +14,15 @@ use Rattle.asp_model.specs.Order.{same_future_same, same_name_same}
 use Rattle.code_table.specs.declared.answer.Shown.{Shown}
 use Rattle.code_table.specs.declared.answer.Shown.TheVariants as shown
 use Rattle.code_table.specs.declared.cells.Cell.{Cell}
-use Rattle.code_table.specs.Cells.{CodedCell, CodedStore, all_coded, cell_at, coded_in, end_of, moved_coded, span_of}
+use Rattle.code_table.specs.Cells.{CodedCell, IsPlain, CodedStore, all_coded, cell_at, coded_in, end_of, moved_coded, span_of}
 use Rattle.code_table.specs.Cells as coded
 use Rattle.code_table.specs.Answers.{AnswerView, ShownCell, shown_in}
 use Rattle.code_table.specs.Answers as answers
 use Rattle.code_table.specs.Classes.{class_at}
 use Rattle.code_table.specs.Columns.{AreLaid}
-use Rattle.code_table.specs.Moves.{move_of, raised}
+use Rattle.code_table.specs.Moves.{move_of}
 use Rattle.code_table.specs.Shapes.{answer_shape, class_object, store_of}
-use Rattle.code_table.specs.Shown.{IsPlain, MayBeShown, all_under, answer_items, coded_shown, kept, may_hold, same_coded}
+use Rattle.code_table.specs.Shown.{MayBeShown, all_under, answer_items, coded_shown, kept, may_hold, same_coded}
 use Rattle.code_table.specs.declared.class.Class.{Class}
 use Rattle.code_table.specs.declared.code.Node.{Node}
 use Rattle.code_table.specs.declared.moves.Moves.TheVariants as moves
@@ -172,36 +172,25 @@ taken (c ∷ s) (suc n) le = ap (λ (t : CodedStore). c ∷ t) (taken s n (omega
 pub alike_all : (s t : CodedStore) (n : ℕ) → length s ≤ n → length t ≤ n → take n s ≡ take n t → s ≡ t
 alike_all s t n ls lt is = sym (taken s n ls) ∙ is ∙ taken t n lt
 
--- Places that go nowhere
+-- Places that stay
 
-least : (n top : ℕ) → n ≤ top → min (n + 0) top ≡ n
-least n top le = omega (arith, le)
+all_stay : (ns : List ℕ) → map (move_of moves.Stay) ns ≡ ns
+all_stay [] = refl
+all_stay (n ∷ ns) = ap (λ (ms : List ℕ). n ∷ ms) (all_stay ns)
 
-stays : (n size : ℕ) → n < size → size ≤ 64 → raised n 0 ≡ n
-stays n size lt few = least n (2 ^ 64 - 1) (omega (arith, lt, few))
-
-all_stay : (size : ℕ) (ns : List ℕ) → size ≤ 64 → all_under size ns ≡ true → map (λ (n : ℕ). raised n 0) ns ≡ ns
-all_stay size [] few h = refl
-all_stay size (n ∷ ns) few h =
-    let under = first (nat_lt n size) (all_under size ns) h in
-    let lt : n < size = grind (arith, nat_tests, under) in
-    λ i. stays n size lt few i ∷ all_stay size ns few (second (nat_lt n size) (all_under size ns) h) i
-
-pub cell_stays : (size : ℕ) (c : CodedCell) → size ≤ 64 → may_hold size c ≡ true
-    → moved_coded (move_of (moves.Up 0)) c ≡ c
-cell_stays size (coded.Number n) few h = refl
-cell_stays size (coded.Object k ns) few h = ap (coded.Object k) (all_stay size ns few h)
-cell_stays size (coded.Reference n) few h = refl
-cell_stays size (coded.Future f) few h = refl
-cell_stays size (coded.Group ns) few h = ap coded.Group (all_stay size ns few h)
+cell_stays : (c : CodedCell) → moved_coded (move_of moves.Stay) c ≡ c
+cell_stays (coded.Number n) = refl
+cell_stays (coded.Object k ns) = ap (coded.Object k) (all_stay ns)
+cell_stays (coded.Reference n) = refl
+cell_stays (coded.Future f) = refl
+cell_stays (coded.Group ns) = ap coded.Group (all_stay ns)
 
 -- one more cell is copied
-pub copied_more : (s : CodedStore) (p : ℕ) (now : CodedStore) (c : CodedCell) → MayBeShown s → p < length s
-    → now ≡ take p s → c ≡ cell_at s p → now ++ moved_coded (move_of (moves.Up 0)) c ∷ [] ≡ take (p + 1) s
-copied_more s p now c m lt e is =
-    let here : may_hold (length s) (cell_at s p) ≡ true = each_holds (may_hold (length s)) s p m.cells lt in
-    (λ i. e i ++ moved_coded (move_of (moves.Up 0)) (is i) ∷ [])
-    ∙ ap (λ (d : CodedCell). take p s ++ d ∷ []) (cell_stays (length s) (cell_at s p) m.few here)
+pub copied_more : (s : CodedStore) (p : ℕ) (now : CodedStore) (c : CodedCell) → p < length s
+    → now ≡ take p s → c ≡ cell_at s p → now ++ moved_coded (move_of moves.Stay) c ∷ [] ≡ take (p + 1) s
+copied_more s p now c lt e is =
+    (λ i. e i ++ moved_coded (move_of moves.Stay) (is i) ∷ [])
+    ∙ ap (λ (d : CodedCell). take p s ++ d ∷ []) (cell_stays (cell_at s p))
     ∙ sym (take_cell s p lt)
 
 -- The root is no future

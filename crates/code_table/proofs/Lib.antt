@@ -10,4 +10,5 @@ pub mod CodedLemmas
 pub mod ColumnLemmas
 pub mod AnswerLemmas
 pub mod OrderLemmas
+pub mod PlacesLemmas
 pub mod FitsLemmas

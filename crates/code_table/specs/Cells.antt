@@ -1,6 +1,7 @@
 -- What contracts see of a cell whatever code its objects are of: an object is the number of its class and its places.
 use Rattle.std.specs.Prelude.{◌≡◌, ℕ, ℤ, ◌+◌, pos, zero, suc, cond, nat_lt, List, [], ◌∷◌, ◌++◌}
 use Rattle.std.specs.Prelude.{Option, Some, None, map, take, drop, slice_set}
+use Rattle.std.specs.List.{AllByRecursion}
 use Rattle.std.specs.Arc.{arc_value}
 use Rattle.std.specs.declared.alloc.Global.{Global}
 use Rattle.std.specs.declared.sync.Arc.{Arc}
@@ -12,6 +13,9 @@ use Rattle.code_table.specs.declared.cells.Cell.TheVariants as cells
 use Rattle.code_table.specs.declared.cells.Object.{Object as Read}
 use Rattle.code_table.specs.declared.cells.View.{View}
 use Rattle.code_table.specs.declared.cells.View.TheVariants as views
+use Rattle.std.specs.Borrow.{Bor}
+use Rattle.code_table.specs.declared.places.Shift.{Shift}
+use Rattle.code_table.specs.Places.{placed, shifted}
 
 pub data CodedCell : Type 0 where
   Number : (n : ℤ) → CodedCell
@@ -26,14 +30,14 @@ held_future f = future_shape (arc_value f).name
 
 -- a cell as it is read
 abbrev pub object_coded : Read → CodedCell
-object_coded o = Object o.class o.places.now
+object_coded o = Object o.class (placed o.places)
 
 abbrev pub coded : View → CodedCell
 coded (views.Number n) = Number n
 coded (views.Object o) = object_coded o
 coded (views.Reference n) = Reference (arc_value n.now)
 coded (views.Future f) = Future (held_future f.now)
-coded (views.Group ns) = Group ns.now
+coded (views.Group ns) = Group (placed ns)
 
 -- so many words from one on
 abbrev pub span_places : List ℕ → (start count : ℕ) → List ℕ
@@ -78,6 +82,14 @@ CodedStore = List CodedCell
 abbrev pub all_coded : List ℕ → List Cell → CodedStore
 all_coded ws cs = map (coded_in ws) cs
 
+-- no cell is a future
+abbrev pub IsPlain : CodedCell → Type 0
+IsPlain (Future f) = ⊥
+IsPlain c = Unit {0}
+
+abbrev pub ArePlain : CodedStore → Type 0
+ArePlain = AllByRecursion IsPlain
+
 -- the cell at a place; no call asks past the end
 abbrev pub cell_at : CodedStore → ℕ → CodedCell
 cell_at [] n = Number (pos 0)
@@ -99,6 +111,12 @@ abbrev pub moved_coded : (ℕ → ℕ) → CodedCell → CodedCell
 moved_coded f (Object k ns) = Object k (map f ns)
 moved_coded f (Group ns) = Group (map f ns)
 moved_coded f c = c
+
+-- the cell as it is read where its places go elsewhere, if they do
+abbrev pub read_coded : Option (Bor Shift) → CodedCell → CodedCell
+read_coded shift (Object k ns) = Object k (shifted shift ns)
+read_coded shift (Group ns) = Group (shifted shift ns)
+read_coded shift c = c
 
 -- the store with the first of these cells at a place, and the others behind its own
 abbrev pub with_coded_at : CodedStore → ℕ → List CodedCell → CodedStore

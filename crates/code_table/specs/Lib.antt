@@ -20,5 +20,6 @@ pub mod Shown
 pub mod Seen
 pub mod Carried
 pub mod Moves
+pub mod Places
 pub mod Shapes
 pub mod Fits

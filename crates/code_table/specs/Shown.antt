@@ -28,11 +28,6 @@ answer_items a = map coded_shown a.cells
 
 -- Which cells may be shown
 
--- no future
-abbrev pub IsPlain : CodedCell → Type 0
-IsPlain (coded.Future f) = ⊥
-IsPlain c = Unit {0}
-
 -- places that are numbers of so many cells
 abbrev pub all_under : ℕ → List ℕ → Bool
 all_under size ns = list_all (λ n. nat_lt n size) ns

@@ -15,14 +15,12 @@ ghost use Rattle.std.specs.Prelude.{
 };
 ghost use Rattle.std.specs.List.{list_all};
 ghost use Rattle.code_table.specs.Answers.{answer_view};
-ghost use Rattle.code_table.specs.Cells.{cell_at, coded, coded_in, end_of, object_coded};
+ghost use Rattle.code_table.specs.Cells.{IsPlain, cell_at, coded, coded_in, end_of, object_coded};
 ghost use Rattle.code_table.specs.Columns.{Grows, IsFresh};
 ghost use Rattle.code_table.specs.Shown.{
   AreShownLaid,
   IsAnswer,
-  IsPlain,
   MayBeShown,
-  all_under,
   answer_items,
   kept,
   may_hold,
@@ -34,6 +32,7 @@ use crate::carried::Cells;
 use crate::cells::{Cell, Object, Place, View, short, span};
 use crate::columns::{Columns, span_behind};
 use crate::moves::Moves;
+use crate::places::Places;
 use asp_model::ActivityName;
 use std::alloc::{AllocError, Global};
 use std::marker::Model;
@@ -160,9 +159,9 @@ impl Shown {
                 count,
             } => View::Object(Object {
                 class: *class as usize,
-                places: span(words, *start, *count),
+                places: Places::of(span(words, *start, *count)),
             }),
-            Shown::Group { start, count } => View::Group(span(words, *start, *count)),
+            Shown::Group { start, count } => View::Group(Places::of(span(words, *start, *count))),
             Shown::Reference(name) => View::Reference(name),
         }
     }
@@ -174,7 +173,7 @@ fn columns_of(alloc: Global, answer: &Answer) -> Result<Columns, AllocError>
     let mut columns = Columns::with_room(alloc, answer.len(), 0)?;
     let mut at = 0;
     while at < answer.len() {
-        columns.push_moved(answer.view(at), &Moves::Up(0))?;
+        columns.push_moved(answer.view(at), &Moves::Stay)?;
         at += 1;
     }
     Ok(columns)
@@ -204,7 +203,7 @@ fn is_same(one: View, other: View) -> bool
         (View::Object(object), View::Object(other)) => is_same_object(object, other),
         (View::Reference(name), View::Reference(other)) => **name == **other,
         (View::Future(future), View::Future(other)) => future.name == other.name,
-        (View::Group(members), View::Group(others)) => members == others,
+        (View::Group(members), View::Group(others)) => members.is_same(&others),
         _ => false,
     }
 }
@@ -212,7 +211,7 @@ fn is_same(one: View, other: View) -> bool
 fn is_same_object(one: Object, other: Object) -> bool
     ensures { result ≡ same_coded (object_coded one.entry) (object_coded other.entry) }
 {
-    one.class == other.class && one.places == other.places
+    one.class == other.class && one.places.is_same(&other.places)
 }
 
 // Whether cells may be shown.
@@ -244,16 +243,10 @@ fn may_hold(size: usize, cell: View) -> bool
 {
     match cell {
         View::Number(_) | View::Reference(_) => true,
-        View::Object(object) => are_under(size, object.places),
-        View::Group(members) => are_under(size, members),
+        View::Object(object) => object.places.are_under(size),
+        View::Group(members) => members.are_under(size),
         View::Future(_) => false,
     }
-}
-
-fn are_under(size: usize, places: &[Place]) -> bool
-    ensures { result ≡ all_under size places.now }
-{
-    places.iter().all(|place| *place < size)
 }
 
 fn held_of(alloc: Global, cells: &Cells) -> Result<Held, AllocError>
@@ -313,7 +306,7 @@ fn shown_cell(words: &mut Vec<Place>, cell: View) -> Result<Shown, AllocError>
         View::Object(object) => shown_object(words, object),
         View::Group(members) => {
             let (start, count) = span_behind(words, members.len())?;
-            words.extend_from_slice(members)?;
+            members.push_to(words)?;
             Ok(Shown::Group { start, count })
         }
         View::Reference(name) => Ok(Shown::Reference(Arc::try_clone(name)?)),
@@ -328,7 +321,7 @@ fn shown_object(words: &mut Vec<Place>, object: Object) -> Result<Shown, AllocEr
 {
     let class = short(object.class)?;
     let (start, count) = span_behind(words, object.places.len())?;
-    words.extend_from_slice(object.places)?;
+    object.places.push_to(words)?;
     Ok(Shown::Object {
         class,
         start,

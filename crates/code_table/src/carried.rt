@@ -1,7 +1,8 @@
 //! The cells of a parcel.
 
-ghost use Rattle.std.specs.Prelude.{◌≡◌, ◌<◌, ◌∷◌, [], IfOk, length};
-ghost use Rattle.code_table.specs.Cells.{IsBare, bare, cell_at, coded};
+ghost use Rattle.std.specs.Prelude.{◌≡◌, ◌<◌, ◌∷◌, [], IfOk, IfSome, length};
+ghost use Rattle.std.specs.Arc.{arc_value};
+ghost use Rattle.code_table.specs.Cells.{ArePlain, IsBare, bare, cell_at, coded};
 ghost use Rattle.code_table.specs.Carried.{IsGot};
 
 use crate::cells::{Cell, Place, View};
@@ -20,6 +21,8 @@ enum Held {
     One(Cell),
     Few(Columns),
     Shared(Arc<Columns>),
+    /// None of them is a future.
+    Plain(Arc<Columns>),
 }
 
 /// The cells of a parcel. One that has no words needs no memory of its own, and many are shared.
@@ -64,9 +67,29 @@ impl Cells {
                 held: Held::Few(columns),
             });
         }
+        let is_plain = columns.are_plain();
+        let columns = Arc::new(alloc, columns)?;
+        if is_plain {
+            return Ok(Cells {
+                held: Held::Plain(columns),
+            });
+        }
         Ok(Cells {
-            held: Held::Shared(Arc::new(alloc, columns)?),
+            held: Held::Shared(columns),
         })
+    }
+
+    /// The columns in which they are, where they are shared and none of them is a future.
+    pub fn plain(&self) -> Option<&Arc<Columns>>
+        ensures cells { IfSome result (λ c. (arc_value c.now).items ≡ self.now.items) }
+        ensures plain { IfSome result (λ c. ArePlain (arc_value c.now).items) }
+    {
+        match &self.held {
+            Held::One(_) => None,
+            Held::Few(_) => None,
+            Held::Shared(_) => None,
+            Held::Plain(columns) => Some(columns),
+        }
     }
 
     pub fn len(&self) -> usize
@@ -76,6 +99,7 @@ impl Cells {
             Held::One(_) => 1,
             Held::Few(columns) => columns.len(),
             Held::Shared(columns) => columns.len(),
+            Held::Plain(columns) => columns.len(),
         }
     }
 
@@ -88,6 +112,7 @@ impl Cells {
             Held::One(cell) => cell.view(&[]),
             Held::Few(columns) => columns.view(at),
             Held::Shared(columns) => columns.view(at),
+            Held::Plain(columns) => columns.view(at),
         }
     }
 
@@ -114,6 +139,9 @@ impl Cells {
             Held::Shared(columns) => Ok(Cells {
                 held: Held::Shared(Arc::try_clone(columns)?),
             }),
+            Held::Plain(columns) => Ok(Cells {
+                held: Held::Plain(Arc::try_clone(columns)?),
+            }),
         }
     }
 
@@ -127,6 +155,7 @@ impl Cells {
             Held::One(cell) => alone(alloc, cell, room),
             Held::Few(columns) => Ok(columns),
             Held::Shared(columns) => columns.copy(alloc, room),
+            Held::Plain(columns) => columns.copy(alloc, room),
         }
     }
 }

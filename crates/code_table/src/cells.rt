@@ -9,14 +9,18 @@ ghost use Rattle.code_table.specs.Cells.{
   coded,
   coded_in,
   end_of,
+  moved_coded,
+  read_coded,
   span_of,
   span_places,
   word_at,
 };
+ghost use Rattle.code_table.specs.Moves.{shift_of};
 ghost use Rattle.code_table.specs.Shapes.{parcel_shape};
 
 use crate::carried::Cells;
 use crate::future::Future;
+use crate::places::{Places, Shift};
 use crate::roots::Roots;
 use crate::table::Code;
 use asp_model::ActivityName;
@@ -46,7 +50,7 @@ const _: () = prove!(size_of::<Cell>() == 16);
 #[derive(Clone, Copy)]
 pub struct Object<'a> {
     pub class: usize,
-    pub places: &'a [Place],
+    pub places: Places<'a>,
 }
 
 /// A cell as it is read.
@@ -57,7 +61,7 @@ pub enum View<'a> {
     Reference(&'a Arc<ActivityName>),
     Future(&'a Arc<Future>),
     /// The members of a group, in order.
-    Group(&'a [Place]),
+    Group(Places<'a>),
 }
 
 impl Cell {
@@ -131,6 +135,23 @@ impl Cell {
         requires within { end_of self.now ≤ length words.now }
         ensures view { coded result ≡ coded_in words.now self.now }
     {
+        self.read(words, None)
+    }
+
+    /// The cell as it is read where its places, among these words, go elsewhere.
+    pub(crate) fn view_by<'a>(&'a self, words: &'a [Place], shift: &'a Shift) -> View<'a>
+        requires within { end_of self.now ≤ length words.now }
+        ensures view { let cell = coded_in words.now self.now in
+            coded result ≡ moved_coded (shift_of shift.now) cell }
+    {
+        self.read(words, Some(shift))
+    }
+
+    #[inline(always)]
+    fn read<'a>(&'a self, words: &'a [Place], shift: Option<&'a Shift>) -> View<'a>
+        requires within { end_of self.now ≤ length words.now }
+        ensures view { coded result ≡ read_coded shift.entry (coded_in words.now self.now) }
+    {
         match self {
             Cell::Number(n) => View::Number(*n),
             Cell::Object {
@@ -139,9 +160,15 @@ impl Cell {
                 count,
             } => View::Object(Object {
                 class: *class as usize,
-                places: span(words, *start, *count),
+                places: Places {
+                    words: span(words, *start, *count),
+                    shift,
+                },
             }),
-            Cell::Group { start, count } => View::Group(span(words, *start, *count)),
+            Cell::Group { start, count } => View::Group(Places {
+                words: span(words, *start, *count),
+                shift,
+            }),
             Cell::Reference(name) => View::Reference(name),
             Cell::Future(future) => View::Future(future),
         }

@@ -6,11 +6,13 @@ ghost use Rattle.std.specs.Prelude.{
   ◌≤◌,
   ◌+◌,
   ◌-◌,
+  ◌^◌,
   ◌++◌,
   ◌∷◌,
   [],
   IfOk,
   IsOk,
+  IsTrue,
   OnErr,
   OnOk,
   length,
@@ -18,8 +20,10 @@ ghost use Rattle.std.specs.Prelude.{
   take,
 };
 ghost use Rattle.code_table.specs.Cells.{
+  ArePlain,
   Group as group_of,
   IsBare,
+  IsPlain,
   Object as object_with,
   bare,
   cell_at,
@@ -33,10 +37,12 @@ ghost use Rattle.code_table.specs.Cells.{
   with_place_at,
 };
 ghost use Rattle.code_table.specs.Columns.{AreCopies, Grows, IsFresh};
-ghost use Rattle.code_table.specs.Moves.{move_of};
+ghost use Rattle.code_table.specs.Moves.{move_of, shift_of};
+ghost use Rattle.code_table.specs.Places.{placed};
 
 use crate::cells::{Cell, Object, Place, View, short};
 use crate::moves::Moves;
+use crate::places::{Places, Shift, shifted};
 use std::alloc::{AllocError, Global};
 use std::marker::Model;
 use std::sync::Arc;
@@ -85,6 +91,7 @@ impl Columns {
     pub fn with_room(alloc: Global, cells: usize, words: usize) -> Result<Columns, AllocError>
         ensures items { IfOk result (λ c. c.items ≡ []) }
         ensures free { IfOk result (λ c. cells ≤ c.free) }
+        ensures exact { IfOk result (λ c. c.free ≡ cells) }
     {
         Ok(Columns {
             cells: Vec::with_capacity(alloc, cells)?,
@@ -99,6 +106,15 @@ impl Columns {
         self.cells.len()
     }
 
+    /// For how many more cells there is room.
+    #[inline(always)]
+    pub fn room(&self) -> usize
+        ensures room { result ≡ self.now.free }
+        ensures bound { length self.now.items + result < 2 ^ 63 }
+    {
+        self.cells.capacity() - self.cells.len()
+    }
+
     /// The cell at a place.
     #[inline(always)]
     pub fn view(&self, at: Place) -> View<'_>
@@ -106,6 +122,15 @@ impl Columns {
         ensures view { coded result ≡ cell_at self.now.items at }
     {
         self.cells[at].view(&self.words)
+    }
+
+    /// The cell at a place, where its places go elsewhere.
+    pub fn view_by<'a>(&'a self, at: Place, shift: &'a Shift) -> View<'a>
+        requires within { at < length self.now.items }
+        ensures view { let cell = cell_at self.now.items at in
+            coded result ≡ moved_coded (shift_of shift.now) cell }
+    {
+        self.cells[at].view_by(&self.words, shift)
     }
 
     /// Makes room for so many more cells, but not for their places.
@@ -219,6 +244,20 @@ impl Columns {
         self.cells.pop();
     }
 
+    /// Whether none of the cells is a future.
+    pub fn are_plain(&self) -> bool
+        ensures plain { IsTrue result → ArePlain self.now.items }
+    {
+        let mut at = 0;
+        while at < self.len() {
+            if !is_plain(self.view(at)) {
+                return false;
+            }
+            at += 1;
+        }
+        true
+    }
+
     /// Equal cells, with room for so many more.
     pub fn copy(&self, alloc: Global, room: usize) -> Result<Columns, AllocError>
         ensures items { IfOk result (λ c. c.items ≡ self.now.items) }
@@ -226,6 +265,18 @@ impl Columns {
         let cells = copies_of(alloc, &self.cells, room)?;
         let words = copy_places(alloc, &self.words)?;
         Ok(Columns { cells, words })
+    }
+}
+
+fn is_plain(cell: View) -> bool
+    ensures plain { IsTrue result → IsPlain (coded cell.entry) }
+{
+    match cell {
+        View::Future(_) => false,
+        View::Number(_) => true,
+        View::Object(_) => true,
+        View::Reference(_) => true,
+        View::Group(_) => true,
     }
 }
 
@@ -294,7 +345,7 @@ fn moved_in(words: &mut Vec<Place>, view: View, moves: &Moves) -> Result<Cell, A
         View::Object(object) => moved_object(words, object, moves),
         View::Group(members) => {
             let (start, count) = span_behind(words, members.len())?;
-            push_moved_places(words, members, moves)?;
+            push_moved_places(words, &members, moves)?;
             Ok(Cell::Group { start, count })
         }
         View::Reference(name) => Ok(Cell::Reference(Arc::try_clone(name)?)),
@@ -309,7 +360,7 @@ fn moved_object(words: &mut Vec<Place>, object: Object, moves: &Moves) -> Result
 {
     let class = short(object.class)?;
     let (start, count) = span_behind(words, object.places.len())?;
-    push_moved_places(words, object.places, moves)?;
+    push_moved_places(words, &object.places, moves)?;
     Ok(Cell::Object {
         class,
         start,
@@ -319,16 +370,16 @@ fn moved_object(words: &mut Vec<Place>, object: Object, moves: &Moves) -> Result
 
 fn push_moved_places(
     words: &mut Vec<Place>,
-    places: &[Place],
+    places: &Places,
     moves: &Moves,
 ) -> Result<(), AllocError>
-    ensures places { let moved = map (move_of moves.now) places.now in
+    ensures places { let moved = map (move_of moves.now) (placed places.now) in
         OnOk result (words.new.items ≡ words.old.items ++ moved) }
     ensures err { OnErr result (words.new.items ≡ words.old.items) }
 {
     words.reserve(places.len())?;
-    for place in places {
-        words.push_reserved(moves.moved(*place));
+    for word in places.words {
+        words.push_reserved(moves.moved(shifted(places.shift, *word)));
     }
     Ok(())
 }

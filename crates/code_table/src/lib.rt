@@ -15,6 +15,7 @@ mod laws;
 mod lookup;
 mod moves;
 mod numbers;
+mod places;
 mod roots;
 mod table;
 
@@ -29,5 +30,6 @@ pub use keys::{KeyedLabel, text_key};
 pub use labels::SharedLabel;
 pub use laws::locations_are_uses;
 pub use moves::{Moves, number_in_few};
+pub use places::{Places, Shift};
 pub use roots::Roots;
 pub use table::{Code, EMPTY_NUMBER, SERVE_NUMBER, SERVICE_NUMBER};

@@ -2,9 +2,10 @@
 
 ghost use Rattle.std.specs.Prelude.{◌≡◌};
 ghost use Rattle.asp_model.specs.Parcel.{number_in};
-ghost use Rattle.code_table.specs.Moves.{move_of, raised_at as raised_place};
+ghost use Rattle.code_table.specs.Moves.{move_of};
 
 use crate::cells::Place;
+use crate::places::Shift;
 use indexmap::IndexSet;
 
 /// Where places go.
@@ -14,10 +15,10 @@ pub enum Moves<'a> {
     ToFew(&'a [Place]),
     /// Each one to its number in this order.
     ToNumber(&'a IndexSet<Place>),
-    /// Each one up by so many.
-    Up(Place),
-    /// The place 0 to a root, and each other one up by one less than `size`.
-    RootTo { root: Place, size: Place },
+    /// Each one where it goes in a store.
+    By(Shift),
+    /// Each one stays.
+    Stay,
 }
 
 impl Moves<'_> {
@@ -28,8 +29,8 @@ impl Moves<'_> {
         match self {
             Moves::ToFew(order) => number_in_few(order, place),
             Moves::ToNumber(order) => order.get_index_of(&place).unwrap_or(order.len()),
-            Moves::Up(size) => place.saturating_add(*size),
-            Moves::RootTo { root, size } => raised_at(*size, *root, place),
+            Moves::By(shift) => shift.moved(place),
+            Moves::Stay => place,
         }
     }
 }
@@ -46,14 +47,4 @@ pub fn number_in_few(order: &[Place], place: Place) -> Place
         number += 1;
     }
     number
-}
-
-fn raised_at(size: Place, root: Place, place: Place) -> Place
-    ensures { result ≡ raised_place size root place }
-{
-    if place == 0 {
-        root
-    } else {
-        (place - 1).saturating_add(size)
-    }
 }

@@ -9,4 +9,4 @@ loop-at-preserved c =
     let s = answer_items c.args.answer.now in
     let lt : c.loop-at.at < length s = omega (arith, c.len-in-loop-at.ensures.length, c.loop-at-test.true) in
     c.in_ok-push_moved.ensures.items ∙ copied_more s c.loop-at.at c.loop-at.columns.items
-    (coded c.view.result) c.len.ensures.shown lt c.loop-at.invariant c.view.ensures.view
+    (coded c.view.result) lt c.loop-at.invariant c.view.ensures.view

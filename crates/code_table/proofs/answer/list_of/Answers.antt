@@ -2,9 +2,9 @@ use Rattle.std.proofs.Common.{◌≡◌, ◌<◌, ◌++◌, ◌∷◌, [], ◌�
 use Rattle.std.proofs.lemmas.List.{map-append}
 use Rattle.code_table.specs.declared.answer.Shown.{Shown}
 use Rattle.code_table.specs.declared.cells.Cell.{Cell}
-use Rattle.code_table.specs.Cells.{CodedCell, all_coded, coded, span_of}
+use Rattle.code_table.specs.Cells.{CodedCell, IsPlain, all_coded, coded, span_of}
 use Rattle.code_table.specs.Columns.{AreLaid}
-use Rattle.code_table.specs.Shown.{IsPlain, kept}
+use Rattle.code_table.specs.Shown.{kept}
 use Rattle.code_table.proofs.AnswerLemmas.{plain_at}
 use Rattle.code_table.proofs.CodedLemmas.{take_cell}
 use Rattle.code_table.proofs.ColumnLemmas.{coded_push, laid_push}
