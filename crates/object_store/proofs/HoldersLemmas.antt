@@ -1,7 +1,7 @@
 -- How the holders of a future change with the cells.
-use Rattle.std.proofs.Common.{◌≡◌, ℕ, zero, suc, ◌+◌, ◌<◌, Bool, true, false, List, [], ◌∷◌, ◌++◌, length, drop, refl, sym, ap, ◌∙◌, arith, append_assoc, append-nil}
+use Rattle.std.proofs.Common.{◌≡◌, ℕ, zero, suc, ◌+◌, ◌<◌, Bool, true, false, List, [], ◌∷◌, ◌++◌, length, drop, map, refl, sym, ap, ◌∙◌, arith, append_assoc, append-nil}
 use Rattle.asp_model.specs.Names.{FutureShape}
-use Rattle.code_table.specs.Cells.{CodedCell, CodedStore, cell_at, with_cell_at}
+use Rattle.code_table.specs.Cells.{ArePlain, CodedCell, CodedStore, Future, Group, IsPlain, Number, Object, Reference, cell_at, moved_coded, with_cell_at}
 use Rattle.code_table.proofs.CodedLemmas.{drop_cell}
 use Rattle.std.specs.List.{AllByRecursion}
 use Rattle.object_store.specs.Places.{with_place, without_place}
@@ -117,3 +117,42 @@ walked f s p b xs ys lt e is =
     joined : (here : Bool) (rest : List ℕ) → (xs ++ front here p []) ++ rest ≡ xs ++ front here p rest
     joined true rest = append_assoc xs (p ∷ []) rest
     joined false rest = ap (λ (l : List ℕ). l ++ rest) (append-nil xs)
+
+-- Cells that are no futures
+
+not_held : (f : FutureShape) (c : CodedCell) → IsPlain c → is_future f c ≡ false
+not_held f (Number n) h = refl
+not_held f (Object k ns) h = refl
+not_held f (Reference a) h = refl
+not_held f (Future g) h = absurd h
+not_held f (Group ns) h = refl
+
+none_held : (n : ℕ) (f : FutureShape) (cs : CodedStore) → ArePlain cs → holders_from n f cs ≡ []
+none_held n f [] h = refl
+none_held n f (c ∷ cs) h = ap (λ b. front b n (holders_from (suc n) f cs)) (not_held f c h.0) ∙ none_held (suc n) f cs h.1
+
+plain_from : (n : ℕ) (f : FutureShape) (s cs : CodedStore) → ArePlain cs → holders_from n f (s ++ cs) ≡ holders_from n f s
+plain_from n f [] cs h = none_held n f cs h
+plain_from n f (d ∷ s) cs h = ap (front (is_future f d) n) (plain_from (suc n) f s cs h)
+
+pub plain_behind : (f : FutureShape) (s cs : CodedStore) → ArePlain cs → holders f (s ++ cs) ≡ holders f s
+plain_behind = plain_from 0
+
+plain_drop : (k : ℕ) (cs : CodedStore) → ArePlain cs → ArePlain (drop k cs)
+plain_drop zero cs h = h
+plain_drop (suc k) [] h = tt
+plain_drop (suc k) (c ∷ cs) h = plain_drop k cs h.1
+
+moved_plain : (g : ℕ → ℕ) (c : CodedCell) → IsPlain c → IsPlain (moved_coded g c)
+moved_plain g (Number n) h = tt
+moved_plain g (Object k ns) h = tt
+moved_plain g (Reference a) h = tt
+moved_plain g (Future f) h = h
+moved_plain g (Group ns) h = tt
+
+all_moved_plain : (g : ℕ → ℕ) (cs : CodedStore) → ArePlain cs → ArePlain (map (moved_coded g) cs)
+all_moved_plain g [] h = tt
+all_moved_plain g (c ∷ cs) h = (moved_plain g c h.0, all_moved_plain g cs h.1)
+
+pub attached_plain : (g : ℕ → ℕ) (k : ℕ) (cs : CodedStore) → ArePlain cs → ArePlain (map (moved_coded g) (drop k cs))
+attached_plain g k cs h = all_moved_plain g (drop k cs) (plain_drop k cs h)

@@ -3,4 +3,7 @@ pub mod IndexLemmas
 pub mod HoldersLemmas
 pub mod CellLemmas
 pub mod StoredLemmas
+pub mod AttachedLemmas
+pub mod PartLemmas
+pub mod StockLemmas
 pub mod FieldLemmas

@@ -1,5 +1,5 @@
 -- The index of a store, after each change of its cells.
-use Rattle.std.proofs.Common.{◌≡◌, ℕ, ◌-◌, ◌<◌, Bool, true, false, not, List, [], ◌∷◌, ◌++◌, length, refl, sym, ap, subst, ◌∙◌, T, arith, length-take-le}
+use Rattle.std.proofs.Common.{◌≡◌, ℕ, zero, suc, ◌-◌, ◌<◌, Bool, true, false, not, List, [], ◌∷◌, ◌++◌, length, refl, sym, ap, subst, ◌∙◌, T, arith, length-take-le}
 use Rattle.std.specs.Prelude.{◌&&◌}
 use Rattle.std.proofs.lemmas.Cmp.{eq_by_cmp_equiv, then_total, on_total, nat_cmp_total}
 use Rattle.std.specs.Cmp.{IsTotalOrder}
@@ -7,7 +7,7 @@ use Rattle.std.specs.Cmp.Lexicographic.{nat_list_cmp_total}
 use Rattle.asp_model.specs.declared.name.FutureName.{FutureName}
 use Rattle.asp_model.specs.Names.{FutureShape, same_future, future_cmp}
 use Rattle.asp_model.specs.Order.{same_future_same}
-use Rattle.code_table.specs.Cells.{CodedCell, CodedStore, Number, Object, Reference, Future, Group, cell_at, with_cell_at, with_place_at}
+use Rattle.code_table.specs.Cells.{ArePlain, CodedCell, CodedStore, Number, Object, Reference, Future, Group, cell_at, moved_coded, with_cell_at, with_place_at}
 use Rattle.asp_model.specs.Shapes.{future_shape}
 use Rattle.object_store.specs.Holders.{is_future, is_one_future, holders}
 use Rattle.object_store.specs.Index.{ChangesWhere, IsAlike, IsIndexed, is_given_up, is_in_cell, places_in}
@@ -18,7 +18,8 @@ use Rattle.object_store.specs.declared.finder.Finder.TheVariants as finders
 use Rattle.object_store.specs.Finder.{Follows, IsFitting, but_last, last_cell}
 use Rattle.object_store.proofs.CellLemmas.{before_last, but_one, last_at, last_count, whole}
 use Rattle.object_store.proofs.IndexLemmas.{changed_so}
-use Rattle.object_store.proofs.HoldersLemmas.{added, left, replaced, exchanged, held_alike}
+use Rattle.object_store.specs.Exchanges.{Exchanges}
+use Rattle.object_store.proofs.HoldersLemmas.{added, left, replaced, exchanged, held_alike, plain_behind}
 
 pub alike : (old new : Index) (s : CodedStore) → IsIndexed old s → IsAlike old new → IsIndexed new s
 alike old new s h e = λ f. e f ∙ h f
@@ -163,3 +164,50 @@ fitting_put old mid new s t p c e lt h first second =
     let held = subst (λ (x : CodedCell). Follows (ChangesWhere (is_in_cell x) (with_place p)) old mid) last first in
     let given = subst (λ (x : CodedCell). Follows (ChangesWhere (is_given_up x c) (without_place p)) mid new) here (subst (λ (x : CodedCell). Follows (ChangesWhere (is_given_up (cell_at t p) x) (without_place p)) mid new) last second) in
     subst (IsFitting new) (sym (put_cells s t p c e)) (fitting_replaced old mid new s p c (cell_at s p) lt refl h held given)
+
+-- cells that hold each future as others do
+fitting_like : (finder : Finder) (s t : CodedStore) → ((f : FutureShape) → holders f t ≡ holders f s) → IsFitting finder s → IsFitting finder t
+fitting_like finders.Look s t e h = tt
+fitting_like (finders.Indexed index) s t e h = λ f. h f ∙ sym (e (future_shape f))
+
+pub moved_alike : (g : ℕ → ℕ) (c : CodedCell) (f : FutureShape) → is_future f (moved_coded g c) ≡ is_future f c
+moved_alike g (Number n) f = refl
+moved_alike g (Object k ns) f = refl
+moved_alike g (Reference a) f = refl
+moved_alike g (Future h) f = refl
+moved_alike g (Group ns) f = refl
+
+pub follows_itself : (finder : Finder) → Follows IsAlike finder finder
+follows_itself finders.Look = tt
+follows_itself (finders.Indexed index) = λ f. refl
+
+-- a cell appended that holds what another does, which was noted
+pub fitting_added : (old new : Finder) (s : CodedStore) (c x : CodedCell) → ((f : FutureShape) → is_future f x ≡ is_future f c) → IsFitting old s → Follows (ChangesWhere (is_in_cell c) (with_place (length s))) old new → IsFitting new (s ++ x ∷ [])
+fitting_added old new s c x e h r =
+    let alike = λ (f : FutureShape). added f s x ∙ ap (λ b. changed_so (with_place (length s)) b (holders f s)) (e f) ∙ sym (added f s c) in
+    fitting_like new (s ++ c ∷ []) (s ++ x ∷ []) alike (fitting_more old new s c h r)
+
+-- noted, and forgotten again
+pub fitting_undone : (old mid new : Finder) (s : CodedStore) (c : CodedCell) → IsFitting old s → Follows (ChangesWhere (is_in_cell c) (with_place (length s))) old mid → Follows (ChangesWhere (is_in_cell c) (without_place (length s))) mid new → IsFitting new s
+fitting_undone old mid new s c h noted forgotten = fitting_less mid new s c (fitting_more old mid s c h noted) forgotten
+
+with_twice : (s : CodedStore) (p : ℕ) (c d : CodedCell) → with_cell_at (with_cell_at s p c) p d ≡ with_cell_at s p d
+with_twice [] p c d = refl
+with_twice (x ∷ s) zero c d = refl
+with_twice (x ∷ s) (suc p) c d = ap (λ (t : CodedStore). x ∷ t) (with_twice s p c d)
+
+with_there : (s : CodedStore) (p : ℕ) (c : CodedCell) → p < length s → cell_at (with_cell_at s p c) p ≡ c
+with_there [] p c lt = absurd (omega arith)
+with_there (x ∷ s) zero c lt = refl
+with_there (x ∷ s) (suc p) c lt = with_there s p c (omega arith)
+
+-- a cell put in the place of another, which holds what the one does that was noted
+pub fitting_exchanged : (old new : Finder) (s : CodedStore) (p : ℕ) (c d x : CodedCell) → ((f : FutureShape) → is_future f x ≡ is_future f c) → p < length s → cell_at s p ≡ d → IsFitting old s → Exchanges d c p old new → IsFitting new (with_cell_at s p x)
+fitting_exchanged old new s p c d x e lt here h change =
+    let t = with_cell_at s p c in
+    let alike = λ (f : FutureShape). ap (holders f) (sym (with_twice s p c x)) ∙ held_alike 0 f t p x (e f ∙ sym (ap (is_future f) (with_there s p c lt))) in
+    fitting_like new t (with_cell_at s p x) alike (fitting_replaced old change.between new s p c d lt here h change.noted change.forgotten)
+
+-- cells appended that are no futures
+pub fitting_plain : (finder : Finder) (s cs : CodedStore) → ArePlain cs → IsFitting finder s → IsFitting finder (s ++ cs)
+fitting_plain finder s cs plain h = fitting_like finder s (s ++ cs) (λ f. plain_behind f s cs plain) h

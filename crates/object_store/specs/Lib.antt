@@ -4,4 +4,10 @@ pub mod Places
 pub mod Index
 pub mod Finder
 pub mod Stored
+pub mod AttachedView
+pub mod Attached
+pub mod Parts
+pub mod StockView
+pub mod Stock
+pub mod Exchanges
 pub mod Fields

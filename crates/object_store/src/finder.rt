@@ -9,8 +9,9 @@ ghost use Rattle.object_store.specs.Index.{ChangesWhere, IsAlike, is_given_up, i
 ghost use Rattle.object_store.specs.Places.{with_place, without_place};
 
 use crate::index::Index;
+use crate::stock::Stock;
 use asp_model::FutureName;
-use code_table::{Columns, Place, View};
+use code_table::{Place, View};
 use std::alloc::{AllocError, Global};
 
 // So many cells are looked through, one after the other.
@@ -27,7 +28,7 @@ pub enum Finder {
 impl Finder {
     /// Makes the index where these cells and so many more are no longer few.
     #[inline(always)]
-    pub fn fit(&mut self, alloc: Global, cells: &Columns, more: usize) -> Result<(), AllocError>
+    pub fn fit(&mut self, alloc: Global, cells: &Stock, more: usize) -> Result<(), AllocError>
         ensures { let s = cells.now.items in IsFitting self.old s → IsFitting self.new s }
     {
         match self {
@@ -38,12 +39,7 @@ impl Finder {
 
     /// Makes the index where one more cell is one too many, unless there is room to spare for it.
     #[inline(always)]
-    pub fn fit_one(
-        &mut self,
-        alloc: Global,
-        cells: &Columns,
-        spare: usize,
-    ) -> Result<(), AllocError>
+    pub fn fit_one(&mut self, alloc: Global, cells: &Stock, spare: usize) -> Result<(), AllocError>
         ensures fits { let s = cells.now.items in IsFitting self.old s → IsFitting self.new s }
         ensures room { 0 < spare → IsOk result }
     {
@@ -55,7 +51,7 @@ impl Finder {
     }
 
     #[inline(never)]
-    fn make(&mut self, alloc: Global, cells: &Columns) -> Result<(), AllocError>
+    fn make(&mut self, alloc: Global, cells: &Stock) -> Result<(), AllocError>
         ensures { let s = cells.now.items in IsFitting self.old s → IsFitting self.new s }
     {
         let index = Index::of(alloc, cells)?;
@@ -67,7 +63,7 @@ impl Finder {
     pub fn places(
         &self,
         alloc: Global,
-        cells: &Columns,
+        cells: &Stock,
         future: &FutureName,
     ) -> Result<Vec<Place>, AllocError>
         requires { IsFitting self.now cells.now.items }
@@ -117,11 +113,7 @@ impl Finder {
     }
 }
 
-fn look_through(
-    alloc: Global,
-    cells: &Columns,
-    future: &FutureName,
-) -> Result<Vec<Place>, AllocError>
+fn look_through(alloc: Global, cells: &Stock, future: &FutureName) -> Result<Vec<Place>, AllocError>
     ensures places { let places = holders (future_shape future.now) cells.now.items in
         IfOk result (λ v. v.items ≡ places) }
 {

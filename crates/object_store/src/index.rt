@@ -17,8 +17,9 @@ ghost use Rattle.object_store.specs.Index.{
 ghost use Rattle.object_store.specs.Places.{places_of, with_place, without_place};
 
 use crate::places::Places;
+use crate::stock::Stock;
 use asp_model::FutureName;
-use code_table::{Columns, Place, View};
+use code_table::{Place, View};
 use indexmap::IndexMap;
 use std::alloc::{AllocError, Global};
 
@@ -40,7 +41,7 @@ impl Index {
     }
 
     /// The index of a store with these cells.
-    pub fn of(alloc: Global, cells: &Columns) -> Result<Index, AllocError>
+    pub fn of(alloc: Global, cells: &Stock) -> Result<Index, AllocError>
         ensures indexed { IfOk result (λ index. IsIndexed index cells.now.items) }
     {
         let mut index = Index::new(alloc);

@@ -9,16 +9,24 @@ ghost use Rattle.std.specs.Prelude.{
   ◌∷◌,
   ◌++◌,
   [],
+  IfNone,
   IfOk,
+  IfSome,
+  IsFalse,
   IsOk,
+  IsTrue,
   OnErr,
   OnOk,
+  drop,
   false,
   length,
+  map,
   take,
 };
+ghost use Rattle.std.specs.Arc.{arc_value};
 ghost use Rattle.asp_model.specs.Shapes.{future_shape};
 ghost use Rattle.code_table.specs.Cells.{
+  ArePlain,
   Group,
   IsBare,
   Object,
@@ -29,23 +37,22 @@ ghost use Rattle.code_table.specs.Cells.{
   with_cell_at,
   with_place_at,
 };
-ghost use Rattle.code_table.specs.Moves.{move_of};
-ghost use Rattle.object_store.specs.Finder.{Follows, but_last, last_cell};
+ghost use Rattle.code_table.specs.Moves.{move_of, shift_of};
 ghost use Rattle.object_store.specs.Holders.{holders, is_some_future};
-ghost use Rattle.object_store.specs.Index.{ChangesWhere, IsAlike, is_in_cell};
-ghost use Rattle.object_store.specs.Places.{with_place};
 
 use crate::finder::Finder;
+use crate::stock::Stock;
 use asp_model::FutureName;
-use code_table::{Cell, Columns, Moves, Place, View};
+use code_table::{Cell, Columns, Moves, Place, Shift, View};
 use std::alloc::{AllocError, Global};
 use std::marker::Model;
+use std::sync::Arc;
 
 /// The cells of one activity, in the order in which they were added. No call ties `AllocError` to
 /// what it asks for.
 pub struct Store {
     alloc: Global,
-    columns: Columns,
+    cells: Stock,
     spare: usize,
     finder: Finder,
 }
@@ -55,7 +62,7 @@ impl Drop for Store {
     fn drop(self) {
         let Store {
             alloc: _,
-            columns: _,
+            cells: _,
             spare: _,
             finder: _,
         } = self;
@@ -86,7 +93,7 @@ impl Store {
     {
         Store {
             alloc,
-            columns: Columns::new(alloc),
+            cells: Stock::of(alloc, Columns::new(alloc)),
             spare: 0,
             finder: Finder::Look,
         }
@@ -98,7 +105,7 @@ impl Store {
     {
         let mut store = Store {
             alloc,
-            columns,
+            cells: Stock::of(alloc, columns),
             spare: 0,
             finder: Finder::Look,
         };
@@ -109,7 +116,7 @@ impl Store {
     pub fn len(&self) -> Place
         ensures { result ≡ length self.now.cells }
     {
-        self.columns.len()
+        self.cells.len()
     }
 
     /// Appends a cell that has no words, and answers its place.
@@ -122,9 +129,15 @@ impl Store {
         ensures room { 0 < self.old.spare → is_some_future (bare cell) ≡ false → IsOk result }
         ensures err { OnErr result (self.new ≡ self.old) }
     {
-        let place = self.len();
-        self.append(cell)?;
-        Ok(place)
+        if self.cells.at_hand() > 0 {
+            let place = self.cells.near_len();
+            self.finder.fit_one(self.alloc, &self.cells, self.spare)?;
+            self.finder.hold(cell.lone(), place)?;
+            self.cells.push_near(cell);
+            self.spare = self.spare.saturating_sub(1);
+            return Ok(place);
+        }
+        self.add_far(cell)
     }
 
     /// Makes room for so many more cells.
@@ -134,8 +147,8 @@ impl Store {
         ensures err { OnErr result (self.new ≡ self.old) }
     {
         let spare = self.spare.max(more as usize);
-        self.finder.fit(self.alloc, &self.columns, spare)?;
-        self.columns.reserve(spare)?;
+        self.finder.fit(self.alloc, &self.cells, spare)?;
+        self.cells.reserve(spare)?;
         self.spare = spare;
         Ok(())
     }
@@ -149,9 +162,28 @@ impl Store {
         ensures spare { OnOk result (self.new.spare ≡ self.old.spare - 1) }
         ensures err { OnErr result (self.new ≡ self.old) }
     {
+        if self.cells.at_hand() > 0 {
+            let place = self.cells.near_len();
+            self.finder.fit_one(self.alloc, &self.cells, self.spare)?;
+            self.cells.push_object_near(class, places)?;
+            self.spare = self.spare.saturating_sub(1);
+            return Ok(place);
+        }
+        self.add_object_far(class, places)
+    }
+
+    // The same where there may be no room at hand.
+    #[inline(never)]
+    fn add_object_far(&mut self, class: usize, places: &[Place]) -> Result<Place, AllocError>
+        ensures place { IfOk result (λ place. place ≡ length self.old.cells) }
+        ensures cells { let object = Object class places.now in
+            OnOk result (self.new.cells ≡ self.old.cells ++ object ∷ []) }
+        ensures spare { OnOk result (self.new.spare ≡ self.old.spare - 1) }
+        ensures err { OnErr result (self.new ≡ self.old) }
+    {
         let place = self.len();
-        self.finder.fit_one(self.alloc, &self.columns, self.spare)?;
-        self.columns.push_object(class, places)?;
+        self.finder.fit_one(self.alloc, &self.cells, self.spare)?;
+        self.cells.push_object(class, places)?;
         self.spare = self.spare.saturating_sub(1);
         Ok(place)
     }
@@ -164,8 +196,8 @@ impl Store {
         ensures err { OnErr result (self.new ≡ self.old) }
     {
         let place = self.len();
-        self.finder.fit_one(self.alloc, &self.columns, self.spare)?;
-        self.columns.push_group(members)?;
+        self.finder.fit_one(self.alloc, &self.cells, self.spare)?;
+        self.cells.push_group(members)?;
         self.spare = self.spare.saturating_sub(1);
         Ok(place)
     }
@@ -179,9 +211,12 @@ impl Store {
         ensures err { OnErr result (self.new ≡ self.old) }
     {
         let place = self.len();
-        self.finder.fit_one(self.alloc, &self.columns, self.spare)?;
-        self.columns.push_equal(loc)?;
-        note_last(&mut self.finder, &mut self.columns, place)?;
+        self.finder.fit_one(self.alloc, &self.cells, self.spare)?;
+        self.finder.hold(self.cells.view(loc), place)?;
+        if let Err(refused) = self.cells.push_equal(loc) {
+            self.finder.release(self.cells.view(loc), place);
+            return Err(refused);
+        }
         self.spare = self.spare.saturating_sub(1);
         Ok(place)
     }
@@ -194,9 +229,12 @@ impl Store {
         ensures err { OnErr result (self.new ≡ self.old) }
     {
         let place = self.len();
-        self.finder.fit_one(self.alloc, &self.columns, self.spare)?;
-        self.columns.push_moved(cell, moves)?;
-        note_last(&mut self.finder, &mut self.columns, place)?;
+        self.finder.fit_one(self.alloc, &self.cells, self.spare)?;
+        self.finder.hold(cell, place)?;
+        if let Err(refused) = self.cells.push_moved(cell, moves) {
+            self.finder.release(cell, place);
+            return Err(refused);
+        }
         self.spare = self.spare.saturating_sub(1);
         Ok(())
     }
@@ -209,12 +247,7 @@ impl Store {
         ensures spare { self.new.spare ≡ self.old.spare }
         ensures err { OnErr result (self.new ≡ self.old) }
     {
-        self.columns.push_moved(cell, moves)?;
-        note_last(&mut self.finder, &mut self.columns, loc)?;
-        let last = self.columns.len() - 1;
-        self.finder
-            .give_up(self.columns.view(loc), self.columns.view(last), loc);
-        self.columns.move_last_to(loc);
+        self.cells.put_moved(&mut self.finder, loc, cell, moves)?;
         Ok(())
     }
 
@@ -224,18 +257,81 @@ impl Store {
         requires within { loc < length self.now.cells }
         ensures cell { coded result ≡ cell_at self.now.cells loc }
     {
-        self.columns.view(loc)
+        self.cells.view(loc)
     }
 
-    /// Sets one of the places of an object, where it has that many.
+    /// The cell at a place, where there is one.
     #[inline(always)]
-    pub fn set_place(&mut self, loc: Place, index: usize, to: Place)
+    pub fn get(&self, loc: Place) -> Option<View<'_>>
+        ensures cell { IfSome result (λ c. coded c ≡ cell_at self.now.cells loc) }
+        ensures within { IfSome result (λ c. loc < length self.now.cells) }
+        ensures none { IfNone result (length self.now.cells ≤ loc) }
+    {
+        self.cells.get(loc)
+    }
+
+    /// The cell at a place, where it is near: all are that where none is shared.
+    #[inline(always)]
+    pub fn near(&self, loc: Place) -> Option<View<'_>>
+        ensures cell { IfSome result (λ c. coded c ≡ cell_at self.now.cells loc) }
+        ensures within { IfSome result (λ c. loc < length self.now.cells) }
+    {
+        self.cells.near_view(loc)
+    }
+
+    /// Sets one of the places of a near object, where it has that many. It answers whether it is near.
+    #[inline(always)]
+    pub fn set_near(&mut self, loc: Place, index: usize, to: Place) -> bool
+        ensures cells { let s = self.old.cells in
+            let set = with_cell_at s loc (with_place_at index to (cell_at s loc)) in
+            IsTrue result → self.new.cells ≡ set }
+        ensures spare { self.new.spare ≡ self.old.spare }
+        ensures far { IsFalse result → self.new ≡ self.old }
+    {
+        if self.cells.set_near(loc, index, to) {
+            return true;
+        }
+        false
+    }
+
+    /// Sets one of the places of an object, where it has that many. It takes memory only where the
+    /// cell is a shared one.
+    #[inline(always)]
+    pub fn set_place(&mut self, loc: Place, index: usize, to: Place) -> Result<(), AllocError>
         requires within { loc < length self.old.cells }
         ensures cells { let s = self.old.cells in
-            self.new.cells ≡ with_cell_at s loc (with_place_at index to (cell_at s loc)) }
+            let set = with_cell_at s loc (with_place_at index to (cell_at s loc)) in
+            OnOk result (self.new.cells ≡ set) }
         ensures spare { self.new.spare ≡ self.old.spare }
+        ensures err { OnErr result (self.new ≡ self.old) }
     {
-        self.columns.set_place(loc, index, to);
+        self.cells.set_place(loc, index, to)?;
+        Ok(())
+    }
+
+    /// Whether so many cells are better shared than copied.
+    pub fn shares(&self, count: usize) -> bool {
+        self.cells.shares(count)
+    }
+
+    /// Appends the shared cells from one on, each with its places where they go. They are not copied.
+    pub fn attach(
+        &mut self,
+        shared: &Arc<Columns>,
+        from: usize,
+        shift: Shift,
+    ) -> Result<(), AllocError>
+        requires within { from ≤ length (arc_value shared.now).items }
+        requires plain { ArePlain (arc_value shared.now).items }
+        ensures cells { let shared = drop from (arc_value shared.now).items in
+            let moved = map (moved_coded (shift_of shift)) shared in
+            OnOk result (self.new.cells ≡ self.old.cells ++ moved) }
+        ensures err { OnErr result (self.new ≡ self.old) }
+    {
+        self.finder.fit(self.alloc, &self.cells, shared.len())?;
+        self.cells.attach(shared, from, shift)?;
+        self.spare = 0;
+        Ok(())
     }
 
     /// The places whose cell is this future, ascending.
@@ -243,23 +339,26 @@ impl Store {
         ensures holders { let places = holders (future_shape future.now) self.now.cells in
             IfOk result (λ v. v.items ≡ places) }
     {
-        self.finder.places(self.alloc, &self.columns, future)
+        self.finder.places(self.alloc, &self.cells, future)
     }
 
-    #[inline(always)]
-    fn append(&mut self, cell: Cell) -> Result<(), AllocError>
+    // The same where there may be no room at hand.
+    #[inline(never)]
+    fn add_far(&mut self, cell: Cell) -> Result<Place, AllocError>
         requires bare { IsBare cell }
+        ensures place { IfOk result (λ place. place ≡ length self.old.cells) }
         ensures cells { OnOk result (self.new.cells ≡ self.old.cells ++ bare cell ∷ []) }
         ensures spare { OnOk result (self.new.spare ≡ self.old.spare - 1) }
         ensures room { 0 < self.old.spare → is_some_future (bare cell) ≡ false → IsOk result }
         ensures err { OnErr result (self.new ≡ self.old) }
     {
-        self.columns.reserve(1)?;
-        self.finder.fit_one(self.alloc, &self.columns, self.spare)?;
-        self.finder.hold(cell.lone(), self.columns.len())?;
-        self.columns.push_reserved(cell);
+        let place = self.len();
+        self.cells.reserve(1)?;
+        self.finder.fit_one(self.alloc, &self.cells, self.spare)?;
+        self.finder.hold(cell.lone(), place)?;
+        self.cells.push_reserved(cell);
         self.spare = self.spare.saturating_sub(1);
-        Ok(())
+        Ok(place)
     }
 
     // Takes the last cell out again.
@@ -268,9 +367,9 @@ impl Store {
         ensures cells { self.new.cells ≡ take (length self.old.cells - 1) self.old.cells }
         ensures spare { self.new.spare ≡ self.old.spare }
     {
-        let last = self.columns.len() - 1;
-        self.finder.release(self.columns.view(last), last);
-        self.columns.pop();
+        let last = self.cells.len() - 1;
+        self.finder.release(self.cells.view(last), last);
+        self.cells.pop();
     }
 
     /// Takes cells out at the end, down to so many.
@@ -279,28 +378,8 @@ impl Store {
         ensures cells { self.new.cells ≡ take count self.old.cells }
         ensures spare { self.new.spare ≡ self.old.spare }
     {
-        while count < self.columns.len() {
+        while count < self.cells.len() {
             self.unappend();
-        }
-    }
-}
-
-// Notes the last cell at a place, or takes it out again.
-fn note_last(finder: &mut Finder, columns: &mut Columns, at: Place) -> Result<(), AllocError>
-    requires some { 0 < length columns.old.items }
-    ensures cells { OnOk result (columns.new ≡ columns.old) }
-    ensures noted { let here = is_in_cell (last_cell columns.old.items) in
-        OnOk result (Follows (ChangesWhere here (with_place at)) finder.old finder.new) }
-    ensures err { OnErr result (columns.new.items ≡ but_last columns.old.items) }
-    ensures free { OnErr result (columns.old.free + 1 ≤ columns.new.free) }
-    ensures kept { OnErr result (Follows IsAlike finder.old finder.new) }
-{
-    let last = columns.len() - 1;
-    match finder.hold(columns.view(last), at) {
-        Ok(()) => Ok(()),
-        Err(refused) => {
-            columns.pop();
-            Err(refused)
         }
     }
 }

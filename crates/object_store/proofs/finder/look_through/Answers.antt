@@ -1,4 +1,4 @@
-use Rattle.std.proofs.Common.{◌≡◌, ◌∙◌, ◌<◌, ◌+◌, ℕ, List, true, false, length, sym, ap, arith, append-nil}
+use Rattle.std.proofs.Common.{◌≡◌, ◌∙◌, ◌<◌, ℕ, List, true, false, length, sym, ap, arith, append-nil}
 use Rattle.asp_model.specs.Names.{FutureShape}
 use Rattle.asp_model.specs.Shapes.{future_shape}
 use Rattle.code_table.specs.Cells.{CodedStore, cell_at}

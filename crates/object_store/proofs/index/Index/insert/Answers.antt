@@ -1,4 +1,4 @@
-use Rattle.std.proofs.Common.{◌≡◌, ◌∙◌, ◌∷◌, [], Result, Ok, Err, IsSome, Option, Some, None, List, ℕ, true, cond, refl, sym, ap, subst}
+use Rattle.std.proofs.Common.{◌≡◌, ◌∙◌, ◌∷◌, [], Result, Ok, Err, IsSome, Some, None, ℕ, true, cond, refl, sym, ap, subst}
 use Rattle.std.specs.Prelude.{OnErr, OnOk}
 use Rattle.asp_model.specs.declared.name.FutureName.{FutureName}
 use Rattle.asp_model.specs.FutureOrder.{eq_shape}
@@ -6,7 +6,6 @@ use Rattle.asp_model.specs.Shapes.{future_shape}
 use Rattle.indexmap.specs.IndexMap.{get}
 use Rattle.object_store.specs.Index.{is_same, or_none, places_in}
 use Rattle.object_store.specs.Places.{places_of, with_place}
-use Rattle.object_store.specs.declared.places.Places.{Places}
 use Rattle.object_store.specs.declared.places.Places.TheVariants.{At}
 use Rattle.object_store.proofs.IndexLemmas.{Held, again, changed, same_so}
 use Rattle.object_store.proofs.StoredLemmas.{same_future_itself}

@@ -6,7 +6,7 @@ use Rattle.object_store.proofs.store.Store.add_group.Goals as goal
 
 pub invariant_of-self-2 : goal.invariant_of-self-2
 invariant_of-self-2 c =
-    let s = c.self.inside.columns.items in
+    let s = c.self.inside.cells.items in
     let x : CodedCell = Group c.args.members.now in
     let now = c.fit_one.new.self in
     let fits = c.in_ok-fit_one.ensures.fits c.self.invariant.fitting in

@@ -1,55 +1,43 @@
-use Rattle.std.proofs.Common.{◌≡◌, ◌+◌, length, sym, ap, subst, ◌∙◌, arith}
+use Rattle.std.proofs.Common.{length, sym, ap, subst, ◌∙◌, arith}
 use Rattle.code_table.specs.Cells.{CodedCell, CodedStore, coded, moved_coded}
 use Rattle.code_table.specs.Moves.{move_of}
-use Rattle.code_table.proofs.ColumnLemmas.{on_error}
-use Rattle.object_store.specs.Finder.{IsFitting, but_last}
+use Rattle.object_store.specs.Finder.{Follows, IsFitting}
+use Rattle.object_store.specs.Index.{ChangesWhere, is_in_cell}
+use Rattle.object_store.specs.Places.{with_place, without_place}
 use Rattle.object_store.specs.View.{StoreView}
-use Rattle.object_store.proofs.CellLemmas.{but_one, one_longer}
-use Rattle.object_store.proofs.StoredLemmas.{fitting_alike, fitting_noted}
+use Rattle.object_store.proofs.StoredLemmas.{fitting_added, fitting_alike, fitting_undone, moved_alike}
 use Rattle.object_store.proofs.store.Store.add_moved.Goals as goal
 
-pub invariant_of-self-in_err-push_moved : goal.invariant_of-self-in_err-push_moved
-invariant_of-self-in_err-push_moved c =
+pub invariant_of-self-in_err-hold : goal.invariant_of-self-in_err-hold
+invariant_of-self-in_err-hold c =
     let fits = c.in_ok-fit_one.ensures.fits c.self.invariant.fitting in
     record {
-      fitting = subst (IsFitting c.fit_one.new.self) (sym c.in_err-push_moved.ensures.err) fits;
-      room = omega (arith, c.in_err-push_moved.ensures.kept, c.self.invariant.room);
+      fitting = fitting_alike c.fit_one.new.self c.hold.new.self c.self.inside.cells.items fits c.in_err-hold.ensures.err;
+      room = c.self.invariant.room;
     }
 
-pub note_last-requires : goal.note_last-requires
-note_last-requires c =
-    let s : CodedStore = c.self.inside.columns.items in
-    let x : CodedCell = moved_coded (move_of c.args.moves.now) (coded c.args.cell) in
-    let n : length c.push_moved.new.self.items ≡ length s + 1 = one_longer s c.push_moved.new.self.items x c.in_ok-push_moved.ensures.items in
-    record { some = omega (arith, n) }
-
-pub invariant_of-self-in_err-note_last : goal.invariant_of-self-in_err-note_last
-invariant_of-self-in_err-note_last c =
-    let s : CodedStore = c.self.inside.columns.items in
-    let x : CodedCell = moved_coded (move_of c.args.moves.now) (coded c.args.cell) in
+pub invariant_of-self-in-Err : goal.invariant_of-self-in-Err
+invariant_of-self-in-Err c =
+    let s : CodedStore = c.self.inside.cells.items in
+    let x : CodedCell = coded c.args.cell in
     let fits = c.in_ok-fit_one.ensures.fits c.self.invariant.fitting in
-    let back = c.in_err-note_last.ensures.err ∙ ap but_last c.in_ok-push_moved.ensures.items ∙ but_one s x in
+    let count = c.len-place.ensures ∙ sym (ap (λ (v : StoreView). length v.cells) c.self.view_is) in
+    let noted = subst (λ n. Follows (ChangesWhere (is_in_cell x) (with_place n)) c.fit_one.new.self c.hold.new.self) count c.in_ok-hold.ensures.places in
+    let forgotten = subst (λ n. Follows (ChangesWhere (is_in_cell x) (without_place n)) c.hold.new.self c.release.new.self) count c.release.ensures.places in
     record {
-      fitting = subst (IsFitting c.note_last.new.finder) (sym back) (fitting_alike c.fit_one.new.self c.note_last.new.finder s fits c.in_err-note_last.ensures.kept);
-      room = omega (arith, c.push_moved.ensures.free, c.in_err-note_last.ensures.free, c.self.invariant.room);
+      fitting = subst (IsFitting c.release.new.self) (sym c.in-Err.ensures.err) (fitting_undone c.fit_one.new.self c.hold.new.self c.release.new.self s x fits noted forgotten);
+      room = omega (arith, c.in-Err.ensures.kept, c.self.invariant.room);
     }
-
-pub returns-in_err-note_last-clause-err : goal.returns-in_err-note_last-clause-err
-returns-in_err-note_last-clause-err c =
-    let s : CodedStore = c.self.inside.columns.items in
-    let x : CodedCell = moved_coded (move_of c.args.moves.now) (coded c.args.cell) in
-    let back = c.in_err-note_last.ensures.err ∙ ap but_last c.in_ok-push_moved.ensures.items ∙ but_one s x in
-    let same = ap (λ (q : CodedStore). (let v : StoreView = record { cells = q; spare = c.self.inside.spare } in v)) back in
-    on_error c.from_residual-in_err-note_last.result (same ∙ c.self.view_is)
 
 pub invariant_of-self-2 : goal.invariant_of-self-2
 invariant_of-self-2 c =
-    let s : CodedStore = c.self.inside.columns.items in
-    let x : CodedCell = moved_coded (move_of c.args.moves.now) (coded c.args.cell) in
+    let s : CodedStore = c.self.inside.cells.items in
+    let f = move_of c.args.moves.now in
+    let x : CodedCell = coded c.args.cell in
     let fits = c.in_ok-fit_one.ensures.fits c.self.invariant.fitting in
-    let t = c.push_moved.new.self.items in
-    let noted = fitting_noted c.fit_one.new.self c.note_last.new.finder s t c.len-place.result x c.in_ok-push_moved.ensures.items (c.len-place.ensures ∙ sym (ap (λ (v : StoreView). length v.cells) c.self.view_is)) fits c.in_ok-note_last.ensures.noted in
+    let count = c.len-place.ensures ∙ sym (ap (λ (v : StoreView). length v.cells) c.self.view_is) in
+    let noted = subst (λ n. Follows (ChangesWhere (is_in_cell x) (with_place n)) c.fit_one.new.self c.hold.new.self) count c.in_ok-hold.ensures.places in
     record {
-      fitting = subst (IsFitting c.note_last.new.finder) (sym (ap (λ v. v.items) c.in_ok-note_last.ensures.cells)) noted;
-      room = omega (arith, c.push_moved.ensures.free, c.self.invariant.room, ap (λ v. v.free) c.in_ok-note_last.ensures.cells);
+      fitting = subst (IsFitting c.hold.new.self) (sym c.in_default.ensures.items) (fitting_added c.fit_one.new.self c.hold.new.self s x (moved_coded f x) (moved_alike f x) fits noted);
+      room = omega (arith, c.push_moved.ensures.free, c.self.invariant.room);
     }

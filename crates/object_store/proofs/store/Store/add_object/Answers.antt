@@ -1,24 +1,16 @@
 use Rattle.std.proofs.Common.{refl, sym, subst, arith}
-use Rattle.code_table.specs.Cells.{CodedCell, Object}
+use Rattle.code_table.specs.Cells.{CodedCell, CodedStore, Object}
 use Rattle.object_store.specs.Finder.{IsFitting}
 use Rattle.object_store.proofs.StoredLemmas.{fitting_unheld}
 use Rattle.object_store.proofs.store.Store.add_object.Goals as goal
 
-pub invariant_of-self-2 : goal.invariant_of-self-2
-invariant_of-self-2 c =
-    let s = c.self.inside.columns.items in
+pub invariant_of-self-then-at_hand-gt0 : goal.invariant_of-self-then-at_hand-gt0
+invariant_of-self-then-at_hand-gt0 c =
+    let s : CodedStore = c.self.inside.cells.items in
     let x : CodedCell = Object c.args.class c.args.places.now in
     let now = c.fit_one.new.self in
     let fits = c.in_ok-fit_one.ensures.fits c.self.invariant.fitting in
     record {
-      fitting = subst (IsFitting now) (sym c.in_ok-push_object.ensures.items) (fitting_unheld now s x (λ f. refl) fits);
-      room = omega (arith, c.push_object.ensures.free, c.self.invariant.room);
-    }
-
-pub invariant_of-self-in_err-push_object : goal.invariant_of-self-in_err-push_object
-invariant_of-self-in_err-push_object c =
-    let fits = c.in_ok-fit_one.ensures.fits c.self.invariant.fitting in
-    record {
-      fitting = subst (IsFitting c.fit_one.new.self) (sym c.in_err-push_object.ensures.err) fits;
-      room = omega (arith, c.in_err-push_object.ensures.kept, c.self.invariant.room);
+      fitting = subst (IsFitting now) (sym c.in_ok-push_object_near.ensures.items) (fitting_unheld now s x (λ f. refl) fits);
+      room = omega (arith, c.push_object_near.ensures.free, c.self.invariant.room);
     }

@@ -9,7 +9,7 @@ use Rattle.object_store.proofs.store.Store.unappend.Goals as goal
 
 pub invariant_of-self : goal.invariant_of-self
 invariant_of-self c =
-    let s = c.self.inside.columns.items in
+    let s = c.self.inside.cells.items in
     let old = c.self.inside.finder in
     let new = c.release.new.self in
     let some : 0 < length s = subst (λ (v : StoreView). 0 < length v.cells) (sym c.self.view_is) c.requires in
