@@ -8,6 +8,7 @@ use Rattle.code_table.specs.declared.class.Class.{Class}
 use Rattle.code_table.specs.declared.code.MethodCode.{MethodCode}
 use Rattle.code_table.specs.Classes.{class_at}
 use Rattle.code_table.specs.declared.cells.Object.{Object}
+use Rattle.code_table.specs.Places.{placed}
 use Rattle.code_table.specs.Shapes.{class_object}
 
 -- the places in these slots
@@ -23,4 +24,4 @@ class_places k ns = take (length k.fields.items) ns ++ captured_places k.methods
 
 -- what an object stands for
 abbrev pub object_shape : List Node → Object → CellShape
-object_shape code o = class_object code o.places.now (class_at code o.class)
+object_shape code o = class_object code (placed o.places) (class_at code o.class)

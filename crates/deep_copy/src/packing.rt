@@ -9,6 +9,7 @@ ghost use Rattle.code_table.specs.Shapes.{parcel_shape, store_of};
 ghost use Rattle.deep_copy.specs.Copied.{copied_cell};
 ghost use Rattle.deep_copy.specs.Leaves.{IsLeaf, IsLoneLeaf};
 ghost use Rattle.code_table.specs.Moves.{move_of};
+ghost use Rattle.code_table.specs.Places.{placed};
 ghost use Rattle.law_steps.specs.Closed.{AreBelow, IsClosedParcel, IsClosedStore};
 ghost use Rattle.code_table.specs.Sound.{IsSound};
 
@@ -131,7 +132,7 @@ fn leaf(cell: View<'_>) -> Option<View<'_>>
 // An object that holds no places reaches nothing.
 fn bare_object<'a>(cell: View<'a>, object: Object) -> Option<View<'a>>
     ensures same { IfSome result (λ c. coded c ≡ coded cell.entry) }
-    ensures bare { IfSome result (λ c. object.entry.places.now ≡ []) }
+    ensures bare { IfSome result (λ c. placed object.entry.places ≡ []) }
 {
     if object.places.is_empty() {
         Some(cell)

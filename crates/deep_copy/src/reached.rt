@@ -11,68 +11,75 @@ ghost use Rattle.deep_copy.specs.Reached.{
   object_shape,
   used_places,
 };
+ghost use Rattle.code_table.specs.Places.{placed};
 
-use code_table::{Class, Code, MethodCode, Object, Place, View};
+use code_table::{Class, Code, MethodCode, Object, Place, Places, View};
 use smallvec::SmallVec;
 use std::alloc::AllocError;
 
 /// Places that are gathered. A few take no memory of their own.
-pub type Places = SmallVec<Place, 8>;
+pub type Gathered = SmallVec<Place, 8>;
 
 /// Appends the places that a cell reaches.
-pub fn note_reached(places: &mut Places, code: &Code, cell: View) -> Result<(), AllocError>
+pub fn note_reached(places: &mut Gathered, code: &Code, cell: View) -> Result<(), AllocError>
     ensures noted { OnOk result
         (places.new.items ≡ places.old.items ++ reached (cell_shape code.now cell.entry)) }
 {
     match cell {
         View::Object(object) => note_object(places, code, object),
-        View::Group(members) => {
-            places.extend_from_slice(members)?;
-            Ok(())
-        }
+        View::Group(members) => note_all(places, &members),
         View::Number(_) | View::Reference(_) | View::Future(_) => Ok(()),
     }
 }
 
-fn note_object(places: &mut Places, code: &Code, object: Object) -> Result<(), AllocError>
+fn note_object(places: &mut Gathered, code: &Code, object: Object) -> Result<(), AllocError>
     ensures { let noted = reached (object_shape code.now object.entry) in
         OnOk result (places.new.items ≡ places.old.items ++ noted) }
 {
     match code.class(object.class) {
-        Some(class) => note_places(places, class, object.places),
+        Some(class) => note_places(places, class, &object.places),
         None => Ok(()),
     }
 }
 
-fn note_places(places: &mut Places, class: &Class, held: &[Place]) -> Result<(), AllocError>
-    ensures { let noted = class_places class.now held.now in
+fn note_places(places: &mut Gathered, class: &Class, held: &Places) -> Result<(), AllocError>
+    ensures { let noted = class_places class.now (placed held.now) in
         OnOk result (places.new.items ≡ places.old.items ++ noted) }
 {
     let count = held.len().min(class.fields.len());
-    places.extend_from_slice(&held[..count])?;
-    note_captured(places, &class.methods, &held[count..])
+    note_all(places, &held.first(count))?;
+    note_captured(places, &class.methods, &held.behind(count))
+}
+
+fn note_all(places: &mut Gathered, held: &Places) -> Result<(), AllocError>
+    ensures { OnOk result (places.new.items ≡ places.old.items ++ placed held.now) }
+{
+    for at in 0..held.len() {
+        places.push(held.at(at))?;
+    }
+    Ok(())
 }
 
 // What the methods captured stands behind each other.
 fn note_captured(
-    places: &mut Places,
+    places: &mut Gathered,
     methods: &[MethodCode],
-    held: &[Place],
+    held: &Places,
 ) -> Result<(), AllocError>
-    ensures { let noted = captured_places methods.now held.now in
+    ensures { let noted = captured_places methods.now (placed held.now) in
         OnOk result (places.new.items ≡ places.old.items ++ noted) }
 {
     let mut start = 0;
     for method in methods {
         let count = (held.len() - start).min(method.captured.len());
-        note_used(places, &method.uses, &held[start..start + count])?;
+        note_used(places, &method.uses, &held.behind(start).first(count))?;
         start += count;
     }
     Ok(())
 }
 
-fn note_used(places: &mut Places, uses: &[usize], captured: &[Place]) -> Result<(), AllocError>
-    ensures { let noted = used_places captured.now uses.now in
+fn note_used(places: &mut Gathered, uses: &[usize], captured: &Places) -> Result<(), AllocError>
+    ensures { let noted = used_places (placed captured.now) uses.now in
         OnOk result (places.new.items ≡ places.old.items ++ noted) }
 {
     for slot in uses {
@@ -81,12 +88,12 @@ fn note_used(places: &mut Places, uses: &[usize], captured: &[Place]) -> Result<
     Ok(())
 }
 
-fn note_slot(places: &mut Places, captured: &[Place], slot: usize) -> Result<(), AllocError>
-    ensures { let noted = option_to_list (slice_get captured.now slot) in
+fn note_slot(places: &mut Gathered, captured: &Places, slot: usize) -> Result<(), AllocError>
+    ensures { let noted = option_to_list (slice_get (placed captured.now) slot) in
         OnOk result (places.new.items ≡ places.old.items ++ noted) }
 {
     match captured.get(slot) {
-        Some(place) => Ok(places.push(*place)?),
+        Some(place) => Ok(places.push(place)?),
         None => Ok(()),
     }
 }

@@ -1,6 +1,6 @@
 //! A parcel's cells in a store.
 
-ghost use Rattle.std.specs.Prelude.{◌≡◌, ◌<◌, ◌^◌, ◌++◌, [], IfOk, OnErr, OnOk, drop, length, map};
+ghost use Rattle.std.specs.Prelude.{◌≡◌, ◌<◌, ◌≤◌, ◌^◌, ◌++◌, [], IfOk, OnErr, OnOk, drop, length, map};
 ghost use Rattle.std.specs.Arc.{arc_value};
 ghost use Rattle.asp_model.specs.Parcel.{
   unpack as unpacked_in,
@@ -10,12 +10,12 @@ ghost use Rattle.asp_model.specs.Parcel.{
 ghost use Rattle.code_table.specs.Cells.{moved_coded, with_coded_at};
 ghost use Rattle.code_table.specs.Shapes.{parcel_shape, store_of};
 ghost use Rattle.deep_copy.specs.Copied.{IsClosedWith, KeepsFit};
-ghost use Rattle.code_table.specs.Moves.{move_of};
+ghost use Rattle.code_table.specs.Moves.{move_of, shift_of};
 ghost use Rattle.law_steps.specs.Closed.{IsClosedParcel, IsClosedValue};
 
 use crate::copied::{code_is_sound, moved_roots};
 use crate::packing::ROOM;
-use code_table::{Cells, Code, Moves, Parcel, Place, Roots};
+use code_table::{Cells, Code, Moves, Parcel, Place, Roots, Shift};
 use object_store::Store;
 use std::alloc::{AllocError, Global};
 use std::sync::Arc;
@@ -46,9 +46,9 @@ pub fn unpack(alloc: Global, store: &mut Store, parcel: Parcel) -> Result<Roots,
     ensures fits { OnOk result (KeepsFit parcel store.old.cells store.new.cells) }
 {
     code_is_sound(&parcel.code);
-    let moves = Moves::Up(store.len());
-    let roots = moved_roots(alloc, &moves, parcel.roots.as_slice())?;
-    append_moved(store, &moves, &parcel.cells, 0)?;
+    let shift = Shift::Up(store.len());
+    let roots = moved_roots(alloc, &Moves::By(shift), parcel.roots.as_slice())?;
+    append(store, shift, &parcel.cells, 0)?;
     Ok(roots)
 }
 
@@ -70,31 +70,26 @@ pub fn unpack_at(
     ensures fits { OnOk result (KeepsFit parcel.now store.old.cells store.new.cells) }
 {
     code_is_sound(&parcel.code);
-    let moves = Moves::RootTo {
+    let shift = Shift::RootTo {
         root: loc,
         size: store.len(),
     };
-    graft_moved(store, loc, &moves, &parcel.cells)?;
+    graft(store, loc, shift, &parcel.cells)?;
     Ok(())
 }
 
 // Puts the first of the cells at a place and appends the others, each with its places moved.
-fn graft_moved(
-    store: &mut Store,
-    loc: Place,
-    moves: &Moves,
-    cells: &Cells,
-) -> Result<(), AllocError>
+fn graft(store: &mut Store, loc: Place, shift: Shift, cells: &Cells) -> Result<(), AllocError>
     requires within { loc < length store.old.cells }
     requires some { 0 < length cells.now.items }
-    ensures cells { let copied = map (moved_coded (move_of moves.now)) cells.now.items in
+    ensures cells { let copied = map (moved_coded (shift_of shift)) cells.now.items in
         OnOk result (store.new.cells ≡ with_coded_at store.old.cells loc copied) }
     ensures fits { OnOk result (length store.new.cells < 2 ^ 64) }
     ensures err { OnErr result (store.new.cells ≡ store.old.cells) }
 {
     let before = store.len();
-    append_moved(store, moves, cells, 1)?;
-    if let Err(refused) = store.put_moved(loc, cells.view(0), moves) {
+    append(store, shift, cells, 1)?;
+    if let Err(refused) = store.put_moved(loc, cells.view(0), &Moves::By(shift)) {
         store.shorten_to(before);
         return Err(refused);
     }
@@ -103,7 +98,26 @@ fn graft_moved(
     Ok(())
 }
 
-// Appends the cells from one on with their places moved, all or none.
+// Appends the cells from one on, each with its places moved, all or none. Many of which none is a
+// future are shared, and not copied.
+fn append(store: &mut Store, shift: Shift, cells: &Cells, from: usize) -> Result<(), AllocError>
+    requires within { from ≤ length cells.now.items }
+    ensures cells { let copied = map (moved_coded (shift_of shift)) (drop from cells.now.items) in
+        OnOk result (store.new.cells ≡ store.old.cells ++ copied) }
+    ensures fits { OnOk result (length store.new.cells < 2 ^ 64) }
+    ensures err { OnErr result (store.new.cells ≡ store.old.cells) }
+{
+    match cells.plain() {
+        Some(shared) if store.shares(shared.len()) => {
+            store.attach(shared, from, shift)?;
+            // Read for `fits`: the number of cells is a place.
+            let _after = store.len();
+            Ok(())
+        }
+        _ => append_moved(store, &Moves::By(shift), cells, from),
+    }
+}
+
 fn append_moved(
     store: &mut Store,
     moves: &Moves,

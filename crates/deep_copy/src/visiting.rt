@@ -6,7 +6,7 @@ ghost use Rattle.asp_model.specs.Store.{reached};
 ghost use Rattle.code_table.specs.Shapes.{cell_shape, store_of};
 ghost use Rattle.law_steps.specs.Closed.{AreBelow, IsClosedStore};
 
-use crate::reached::{Places, note_reached};
+use crate::reached::{Gathered, note_reached};
 use code_table::{Code, Place, View, number_in_few};
 use indexmap::IndexSet;
 use object_store::Store;
@@ -19,7 +19,7 @@ pub fn visit_few(
     code: &Code,
     store: &Store,
     roots: &[Place],
-) -> Result<Option<Places>, AllocError>
+) -> Result<Option<Gathered>, AllocError>
     requires closed { IsClosedStore (store_of code.now store.now.cells) }
     requires within { AreBelow (length store.now.cells) roots.now }
     ensures order { let s = store_of code.now store.now.cells in
@@ -27,8 +27,8 @@ pub fn visit_few(
     ensures within { let below = AreBelow (length store.now.cells) in
         IfOk result (λ r. IfSome r (λ seen. below seen.items)) }
 {
-    let mut seen = Places::new(alloc);
-    let mut stack = Places::from_slice(alloc, roots)?;
+    let mut seen = Gathered::new(alloc);
+    let mut stack = Gathered::from_slice(alloc, roots)?;
     stack.reverse();
     while let Some(place) = stack.pop() {
         if is_new(&seen, place) {
@@ -62,7 +62,7 @@ pub fn visit_order(
     ensures within { IfOk result (λ seen. AreBelow (length store.now.cells) seen.keys) }
 {
     let mut seen = IndexSet::new(alloc);
-    let mut stack = Places::from_slice(alloc, roots)?;
+    let mut stack = Gathered::from_slice(alloc, roots)?;
     stack.reverse();
     while let Some(place) = stack.pop() {
         let (_, is_new) = seen.insert_full(place)?;
@@ -74,7 +74,7 @@ pub fn visit_order(
 }
 
 // The last place comes to lie lowest, so that the first is taken first.
-fn push_reached(stack: &mut Places, code: &Code, cell: View) -> Result<(), AllocError>
+fn push_reached(stack: &mut Gathered, code: &Code, cell: View) -> Result<(), AllocError>
     ensures { let pushed = reverse (reached (cell_shape code.now cell.entry)) in
         OnOk result (stack.new.items ≡ stack.old.items ++ pushed) }
 {

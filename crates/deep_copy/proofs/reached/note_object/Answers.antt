@@ -1,6 +1,7 @@
 use Rattle.std.proofs.Common.{◌≡◌, ◌++◌, List, ℕ, Option, Some, OnOk, sym, ap, subst, ◌∙◌}
 use Rattle.asp_model.specs.Store.{reached}
 use Rattle.code_table.specs.declared.class.Class.{Class}
+use Rattle.code_table.specs.Places.{placed}
 use Rattle.code_table.specs.Classes.{class_at}
 use Rattle.code_table.specs.Shapes.{class_object}
 use Rattle.code_table.specs.declared.cells.Object.{Object}
@@ -14,7 +15,7 @@ returns-in-Some c =
     let o : Object = c.args.object in
     let k = c.in-Some.class.now in
     let class : class_at code o.class ≡ Some k = sym c.in-Some.ensures.class in
-    let noted : class_places k o.places.now ≡ reached (object_shape code o) =
-    object_reached code k o.places.now c.in-Some.ensures.sound
-    ∙ ap (λ (x : Option Class). reached (class_object code o.places.now x)) (sym class) in
+    let noted : class_places k (placed o.places) ≡ reached (object_shape code o) =
+    object_reached code k (placed o.places) c.in-Some.ensures.sound
+    ∙ ap (λ (x : Option Class). reached (class_object code (placed o.places) x)) (sym class) in
     subst (λ (xs : List ℕ). OnOk c.note_places.result (c.note_places.new.places.items ≡ c.args.places.now.items ++ xs)) noted c.note_places.ensures
