@@ -7,7 +7,9 @@ use Rattle.asp_model.specs.Configuration.{ServiceShape}
 use Rattle.asp_model.specs.Contraction.{Communicates, Sends, call_row, contract}
 use Rattle.code_table.specs.declared.code.MethodCode.{MethodCode}
 use Rattle.code_table.specs.declared.code.Node.{Node}
+use Rattle.code_table.specs.declared.places.Places.{Places}
 use Rattle.code_table.specs.Cells.{CodedStore, cell_at}
+use Rattle.code_table.specs.Places.{placed}
 use Rattle.code_table.specs.Shapes.{cell_of, store_of}
 use Rattle.code_table.proofs.CodedLemmas.{cell-store_of}
 use Rattle.step_rows.specs.declared.calls.Callee.{Callee}
@@ -27,17 +29,17 @@ use Rattle.step_machine.proofs.RowLemmas.{AtAsked, asked, call_enters}
 use Rattle.asp_model.specs.Split.{Splits}
 use Rattle.activity_step.specs.Called.{IsCalled}
 
-pub method_contracts : (k : List Node) (v : View) (number n : ℕ) (l : Text) (t : Tree) (vs : List ServiceShape) (q : CodedStore) (m : Bor MethodCode) (cs : Bor (List ℕ)) → IsAtCall k v number n l t vs → IsCalled k q l (last n v.operands) (callee.Method m cs)
-    → Contracts k t vs (store_of k q) (store_of k q) [] (called_view n cs.now m.now.body v)
+pub method_contracts : (k : List Node) (v : View) (number n : ℕ) (l : Text) (t : Tree) (vs : List ServiceShape) (q : CodedStore) (m : Bor MethodCode) (cs : Places) → IsAtCall k v number n l t vs → IsCalled k q l (last n v.operands) (callee.Method m cs)
+    → Contracts k t vs (store_of k q) (store_of k q) [] (called_view n (placed cs) m.now.body v)
 method_contracts k v number n l t vs q m cs a w =
-    let leads : Leads k (cell_at q w.at) l (length w.arguments) m.now cs.now = w.callee in
+    let leads : Leads k (cell_at q w.at) l (length w.arguments) m.now (placed cs) = w.callee in
     call_enters k v n w.at w.arguments l t vs (store_of k q) a.below (a.splits ∙ ap (λ (ns : List ℕ). Splits (contexts_of a.below.items) (value_redex (Call l) ns)) w.operands_are)
-    w.operands_are leads.fields leads.methods (cell-store_of k q w.at ∙ leads.cell_is) m.now cs.now leads.found leads.sound leads.size leads.arity
+    w.operands_are leads.fields leads.methods (cell-store_of k q w.at ∙ leads.cell_is) m.now (placed cs) leads.found leads.sound leads.size leads.arity
 
 -- a call on a group becomes a call of each member
-pub members_contract : (k : List Node) (v : View) (number n : ℕ) (l : Text) (t : Tree) (vs : List ServiceShape) (q : CodedStore) (ns : Bor (List ℕ)) → IsAtCall k v number n l t vs → IsCalled k q l (last n v.operands) (callee.Members ns)
-    → Contracts k t vs (store_of k q) (store_of k q) [] (spread_view spread.Same number n ns.now [] v)
-members_contract k v number n l t vs q ns a w = group_call k v number n w.at w.arguments ns.now l t vs (store_of k q) a w.operands_are (cell-store_of k q w.at ∙ w.callee)
+pub members_contract : (k : List Node) (v : View) (number n : ℕ) (l : Text) (t : Tree) (vs : List ServiceShape) (q : CodedStore) (ns : Places) → IsAtCall k v number n l t vs → IsCalled k q l (last n v.operands) (callee.Members ns)
+    → Contracts k t vs (store_of k q) (store_of k q) [] (spread_view spread.Same number n (placed ns) [] v)
+members_contract k v number n l t vs q ns a w = group_call k v number n w.at w.arguments (placed ns) l t vs (store_of k q) a w.operands_are (cell-store_of k q w.at ∙ w.callee)
 
 reads : (k : List Node) (q : CodedStore) (l : Text) (ops : List ℕ) (c : Callee) (w : IsCalled k q l ops c) → contract (store_of k q) (value_redex (Call l) ops) ≡ read w.at (call_row (store_of k q) l w.at w.arguments) (cell_of k (cell_at q w.at))
 reads k q l ops c w =
@@ -52,11 +54,11 @@ sends k q l ops n w = (n.now, l, w.arguments, reads k q l ops (callee.Activity n
 
 -- The call that a service begins with
 
-pub asked_contracts : (k : List Node) (v : View) (n : ℕ) (t : Tree) (vs : List ServiceShape) (q : CodedStore) (m : Bor MethodCode) (cs : Bor (List ℕ)) → Standing k v t vs → v.focus ≡ focus.Asked n
-    → IsCalled k q v.asked (last n v.operands) (callee.Method m cs) → Contracts k t vs (store_of k q) (store_of k q) [] (called_view n cs.now m.now.body v)
+pub asked_contracts : (k : List Node) (v : View) (n : ℕ) (t : Tree) (vs : List ServiceShape) (q : CodedStore) (m : Bor MethodCode) (cs : Places) → Standing k v t vs → v.focus ≡ focus.Asked n
+    → IsCalled k q v.asked (last n v.operands) (callee.Method m cs) → Contracts k t vs (store_of k q) (store_of k q) [] (called_view n (placed cs) m.now.body v)
 asked_contracts k v n t vs q m cs h at w =
-    let leads : Leads k (cell_at q w.at) v.asked (length w.arguments) m.now cs.now = w.callee in
+    let leads : Leads k (cell_at q w.at) v.asked (length w.arguments) m.now (placed cs) = w.callee in
     let a : AtAsked k v n t vs = asked k v n t vs h at in
     call_enters k v n w.at w.arguments v.asked t vs (store_of k q) a.below
     (a.splits ∙ ap (λ (ns : List ℕ). Splits (contexts_of a.below.items) (value_redex (Call v.asked) ns)) w.operands_are)
-    w.operands_are leads.fields leads.methods (cell-store_of k q w.at ∙ leads.cell_is) m.now cs.now leads.found leads.sound leads.size leads.arity
+    w.operands_are leads.fields leads.methods (cell-store_of k q w.at ∙ leads.cell_is) m.now (placed cs) leads.found leads.sound leads.size leads.arity

@@ -19,7 +19,7 @@ ghost use Rattle.activity_step.specs.Advances.{IsAdvance, Stands};
 
 use crate::advance::Advance;
 use crate::state::State;
-use code_table::{Code, KeyedLabel, Place};
+use code_table::{Code, KeyedLabel, Place, Places};
 use object_store::Store;
 use std::alloc::{AllocError, Global};
 use step_machine::{Machine, Spread};
@@ -55,6 +55,29 @@ pub fn call_of<'a>(
     };
     let callee = callee_of(code, cell, label, at, arguments)?;
     Ok(callee)
+}
+
+/// The same where the receiver is near.
+#[inline(always)]
+pub fn near_call_of<'a>(
+    code: &'a Code,
+    store: &'a Store,
+    label: &KeyedLabel,
+    operands: &[Place],
+) -> Option<Callee<'a>>
+    ensures called { IfSome result
+        (IsCalled code.now store.now.cells label.now.label.text operands.now) }
+{
+    let Some((at, arguments)) = first_and_others(operands) else {
+        return None;
+    };
+    let Some(cell) = store.near(at) else {
+        return None;
+    };
+    match callee_of(code, cell, label, at, arguments) {
+        Ok(callee) => Some(callee),
+        Err(_) => None,
+    }
 }
 
 /// What the call of a service leads to.
@@ -94,14 +117,14 @@ impl State {
         match callee {
             Callee::Method(method, captured) => {
                 if go {
-                    self.machine.enter_body(count, captured, &method.body)?;
+                    self.machine.enter_body(count, &captured, &method.body)?;
                 }
                 Ok(Advance::Reduces)
             }
             Callee::Members(members) => {
                 if go {
                     self.machine
-                        .spread(Spread::Same, number, count, members, &[])?;
+                        .spread(Spread::Same, number, count, &members, &Places::of(&[]))?;
                 }
                 Ok(Advance::Reduces)
             }
@@ -127,7 +150,7 @@ impl State {
         match callee {
             Callee::Method(method, captured) => {
                 if go {
-                    self.machine.enter_body(count, captured, &method.body)?;
+                    self.machine.enter_body(count, &captured, &method.body)?;
                 }
                 Ok(Advance::Reduces)
             }

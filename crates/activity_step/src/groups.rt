@@ -42,7 +42,7 @@ impl State {
             Scattering::Members(members, others) => {
                 if go {
                     self.machine
-                        .spread(Spread::Own, number, count, members, others)?;
+                        .spread(Spread::Own, number, count, &members, &others)?;
                 }
                 Ok(Advance::Reduces)
             }

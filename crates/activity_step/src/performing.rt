@@ -47,10 +47,29 @@ fn put_place(
         (IsPerformed k store.old.cells store.new.cells lines.now lines.now
         (decision.Puts object field to)) }
 {
+    if store.set_near(object, field, to) {
+        return Ok(object);
+    }
+    put_far(store, lines, object, field, to)
+}
+
+/// The same where the object may not be near.
+#[inline(never)]
+fn put_far(
+    store: &mut Store,
+    lines: &[Line],
+    object: Place,
+    field: usize,
+    to: Place,
+) -> Result<Place, AllocError>
+    ensures performed { (k : List NodeShape) → IfOk result
+        (IsPerformed k store.old.cells store.new.cells lines.now lines.now
+        (decision.Puts object field to)) }
+{
     if object >= store.len() {
         return Err(AllocError);
     }
-    store.set_place(object, field, to);
+    store.set_place(object, field, to)?;
     Ok(object)
 }
 

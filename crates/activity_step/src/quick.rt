@@ -18,6 +18,7 @@ ghost use Rattle.step_machine.specs.declared.frames.Focus.TheVariants as focus;
 ghost use Rattle.step_machine.specs.Rows.{AtNode, IsAtRedex};
 ghost use Rattle.step_machine.specs.declared.frames.Nested.TheVariants as nested;
 ghost use Rattle.step_machine.specs.Sites.{Gives, IsNested, IsNodeAt, number_redex};
+ghost use Rattle.step_machine.specs.Spreads.{IsAtCall};
 ghost use Rattle.step_machine.specs.Stacks.{last, piece_from};
 ghost use Rattle.step_machine.specs.Standing.{view_of};
 ghost use Rattle.activity_step.specs.declared.state.State.{State as StateShape};
@@ -25,13 +26,14 @@ ghost use Rattle.activity_step.specs.Advances.{AreTaken, IsAdvance, IsTaken, Red
 
 use crate::activity::is_reduction;
 use crate::advance::{Advance, stop_of};
+use crate::calls::near_call_of;
 use crate::performing::{add_number, perform};
 use crate::state::State;
 use asp_model::Sign;
-use code_table::{Cell, Class, Code, Kind, Node, Place};
+use code_table::{Cell, Class, Code, KeyedLabel, Kind, Node, Place};
 use std::alloc::{AllocError, Global};
 use step_machine::{Focus, Nested, Site};
-use step_rows::{Decision, get_row, operate_next, operate_row};
+use step_rows::{Callee, Decision, near_decide, near_get, near_operate, near_test, operate_next};
 
 /// Whether a contraction was taken.
 #[inline(always)]
@@ -144,7 +146,52 @@ impl State {
             (value_redex (kind_head kind.now) (last count self.old.machine.operands.items)) →
             IfOk result (IsTaken code.now self.new t vs s ls) }
     {
-        taken(self.value_advance(alloc, code, kind, count, true))
+        let operands = self.machine.last_operands(count);
+        let Some(decision) = near_decide(code, &self.store, kind, operands) else {
+            return Ok(false);
+        };
+        taken(self.decided_advance(alloc, decision, count, true))
+    }
+
+    /// `i.m(k ..)`, where the receiver is near and no group.
+    #[inline(always)]
+    fn quick_call(
+        &mut self,
+        code: &Code,
+        label: &KeyedLabel,
+        number: usize,
+        count: usize,
+    ) -> Result<bool, AllocError>
+        ensures taken { (t : Tree) (vs : List ServiceShape) (s : StoreShape) (ls : List LineShape) →
+            Stands code.now self.old t vs s ls →
+            IsAtCall code.now (view_of self.old.machine) number count label.now.label.text t vs →
+            IfOk result (IsTaken code.now self.new t vs s ls) }
+    {
+        let operands = self.machine.last_operands(count);
+        let Some(callee) = near_call_of(code, &self.store, label, operands) else {
+            return Ok(false);
+        };
+        let Callee::Method(method, captured) = callee else {
+            return Ok(false);
+        };
+        self.machine.enter_body(count, &captured, &method.body)?;
+        Ok(true)
+    }
+
+    /// `if (i) {a} else {b}`, where the number is near.
+    #[inline(always)]
+    fn quick_if(&mut self, node: &Node, count: usize) -> Result<bool, AllocError>
+        ensures taken { (k : List NodeShape) (number from : ℕ) (t : Tree) (vs : List ServiceShape)
+            (s : StoreShape) (ls : List LineShape) →
+            Stands k self.old t vs s ls →
+            AtNode k (view_of self.old.machine) number from count node.now →
+            node.now.kind ≡ kind.If → IfOk result (IsTaken k self.new t vs s ls) }
+    {
+        let operands = self.machine.last_operands(count);
+        let Some((_place, number)) = near_test(&self.store, operands) else {
+            return Ok(false);
+        };
+        taken(self.choose(node, number, count, true))
     }
 
     /// The redex of a node whose terms that are reduced in place are done, where its kind is one of
@@ -167,10 +214,10 @@ impl State {
     {
         match &node.kind {
             Kind::Make(class) => self.quick_make(alloc, class, number, count),
-            Kind::Call(label) => taken(self.call_advance(alloc, code, label, number, count, true)),
+            Kind::Call(label) => self.quick_call(code, label, number, count),
             Kind::Let(_) => self.quick_let(node, count),
             Kind::Steps => taken(self.steps_advance(node, number, from, count, true)),
-            Kind::If => taken(self.if_advance(alloc, code, node, count, true)),
+            Kind::If => self.quick_if(node, count),
             Kind::Repeat => taken(self.repeat_advance(number, from, count, true)),
             Kind::Number(n) => {
                 taken(self.decided_advance(alloc, Decision::Number(*n), count, true))
@@ -260,11 +307,15 @@ impl State {
                 Ok(1)
             }
             Nested::Get(label, at) => {
-                let decision = get_row(code, &self.store, label, &[at])?;
+                let Some(decision) = near_get(code, &self.store, label, at) else {
+                    return Ok(0);
+                };
                 self.nested_decided(alloc, decision, number, from, done)
             }
             Nested::Operate(sign, first, second) => {
-                let decision = operate_row(&self.store, sign, &[first, second])?;
+                let Some(decision) = near_operate(&self.store, sign, first, second) else {
+                    return Ok(0);
+                };
                 self.nested_decided(alloc, decision, number, from, done)
             }
             Nested::OperateNumber(sign, first, value) => {

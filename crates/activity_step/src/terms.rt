@@ -196,7 +196,7 @@ impl State {
 
     /// The branch that a number chooses.
     #[inline(always)]
-    fn choose(
+    pub fn choose(
         &mut self,
         node: &Node,
         number: i64,

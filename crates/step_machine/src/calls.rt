@@ -19,11 +19,12 @@ ghost use Rattle.step_machine.specs.Calls.{IsRoundAt, beside_count, round_in};
 ghost use Rattle.step_machine.specs.Spreads.{spread_view};
 ghost use Rattle.step_machine.specs.Standing.{Standing, view_of};
 ghost use Rattle.step_machine.specs.Views.{Settled, all_done, dealt_view};
+ghost use Rattle.code_table.specs.Places.{placed};
 
 use crate::frames::{Focus, Form, Frame, Spread};
 use crate::machine::Machine;
 use crate::nodes::{in_place_count, node_at};
-use code_table::Node;
+use code_table::{Node, Places};
 use std::alloc::AllocError;
 
 /// Where the places of a call stand among the operands: the receiver, and the arguments.
@@ -128,19 +129,19 @@ impl Machine {
         spread: Spread,
         number: usize,
         count: usize,
-        members: &[usize],
-        beside: &[usize],
+        members: &Places,
+        beside: &Places,
     ) -> Result<(), AllocError>
         ensures view { let old = view_of self.old in OnOk result
-            (view_of self.new ≡ spread_view spread number count members.now beside.now old) }
+            (view_of self.new ≡ spread_view spread number count (placed members.now) (placed beside.now) old) }
     {
         let behind = count.checked_add(members.len()).ok_or(AllocError)?;
         let done = behind.checked_add(beside.len()).ok_or(AllocError)?;
         let height = self.top_height();
         self.env.truncate(height);
         self.base = self.env.len();
-        self.operands.extend_from_slice(members)?;
-        self.operands.extend_from_slice(beside)?;
+        members.push_to(&mut self.operands)?;
+        beside.push_to(&mut self.operands)?;
         self.focus = Focus::Calls {
             spread,
             number,

@@ -14,10 +14,11 @@ ghost use Rattle.step_machine.specs.Rows.{
 };
 ghost use Rattle.step_machine.specs.Stacks.{last, top};
 ghost use Rattle.step_machine.specs.Standing.{view_of};
+ghost use Rattle.code_table.specs.Places.{placed};
 
 use crate::frames::Focus;
 use crate::machine::Machine;
-use code_table::{Child, Leaf};
+use code_table::{Child, Leaf, Places};
 use std::alloc::AllocError;
 
 impl Machine {
@@ -134,15 +135,15 @@ impl Machine {
     }
 
     #[inline(always)]
-    fn put_environment(&mut self, count: usize, captured: &[usize]) -> Result<(), AllocError>
+    fn put_environment(&mut self, count: usize, captured: &Places) -> Result<(), AllocError>
         ensures view { OnOk result
-            (view_of self.new ≡ environment_view count captured.now (view_of self.old)) }
+            (view_of self.new ≡ environment_view count (placed captured.now) (view_of self.old)) }
     {
         let height = self.top_height();
         let first = self.operands.len().saturating_sub(count);
         self.env.truncate(height);
         self.base = self.env.len();
-        push_all(&mut self.env, captured)?;
+        captured.push_to(&mut self.env)?;
         push_all(&mut self.env, &self.operands[first..])?;
         Ok(())
     }
@@ -152,11 +153,11 @@ impl Machine {
     pub fn enter_body(
         &mut self,
         count: usize,
-        captured: &[usize],
+        captured: &Places,
         body: &Child,
     ) -> Result<(), AllocError>
         ensures view { OnOk result
-            (view_of self.new ≡ called_view count captured.now body.now (view_of self.old)) }
+            (view_of self.new ≡ called_view count (placed captured.now) body.now (view_of self.old)) }
     {
         self.put_environment(count, captured)?;
         self.become_child(count, body)

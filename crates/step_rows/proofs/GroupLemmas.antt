@@ -8,6 +8,7 @@ use Rattle.asp_model.specs.Contraction.{Contraction, Faults, NotGroup, NotNumber
 use Rattle.code_table.specs.declared.code.Node.{Node}
 use Rattle.code_table.specs.Cells as cells
 use Rattle.code_table.specs.Cells.{CodedStore, cell_at}
+use Rattle.code_table.specs.Places.{placed}
 use Rattle.code_table.specs.Shapes.{store_of}
 use Rattle.code_table.proofs.CodedLemmas.{cell-store_of}
 use Rattle.step_rows.specs.declared.groups.SeenGroup.{SeenGroup}
@@ -102,7 +103,7 @@ no_numbers S j c d seen.Future g h = ap (read j (member_row S c)) h.1
 no_numbers S j c d seen.Other g h = other_read j (member_row S c) d h ∙ no_members S c d g
 
 pub chooses : (S : Store) (i j : ℕ) (c d : CellShape) (x : SeenGroup) (y : Seen) → IsSeenGroup c x → IsSeen d y → read i (λ c. read j (member_row S c) d) c ≡ chosen_member S i j x y
-chooses S i j c d (party.Members ns) y h g = ap (read i (λ c. read j (member_row S c) d)) h ∙ numbers S j ns.now d y g
+chooses S i j c d (party.Members ns) y h g = ap (read i (λ c. read j (member_row S c) d)) h ∙ numbers S j (placed ns) d y g
 chooses S i j c d party.Future y h g = ap (read i (λ c. read j (member_row S c) d)) h.1
 chooses S i j c d party.Other y h g = no_group_read i (λ c. read j (member_row S c) d) c h ∙ no_numbers S j c d y h g
 
@@ -112,12 +113,12 @@ deals S l j ns d party.Future h = ap (read j (scatter_row S l (Group ns))) h.1
 deals S l j ns d party.Other h = no_group_read j (scatter_row S l (Group ns)) d h ∙ no_partner S l ns d h
 
 deals_not : (S : Store) (l : Text) (j : ℕ) (c d : CellShape) (y : SeenGroup) → IsNoGroup c → IsSeenGroup d y → read j (scatter_row S l c) d ≡ not_dealt j y
-deals_not S l j c d (party.Members ks) g h = ap (read j (scatter_row S l c)) h ∙ no_scatter S l c (Group ks.now) g
+deals_not S l j c d (party.Members ks) g h = ap (read j (scatter_row S l c)) h ∙ no_scatter S l c (Group (placed ks)) g
 deals_not S l j c d party.Future g h = ap (read j (scatter_row S l c)) h.1
 deals_not S l j c d party.Other g h = no_group_read j (scatter_row S l c) d h ∙ no_scatter S l c d g
 
 pub scattering : (S : Store) (l : Text) (i j : ℕ) (c d : CellShape) (x y : SeenGroup) → IsSeenGroup c x → IsSeenGroup d y → read i (λ c. read j (scatter_row S l c) d) c ≡ scatters S l i j x y
-scattering S l i j c d (party.Members ns) y h g = ap (read i (λ c. read j (scatter_row S l c) d)) h ∙ deals S l j ns.now d y g
+scattering S l i j c d (party.Members ns) y h g = ap (read i (λ c. read j (scatter_row S l c) d)) h ∙ deals S l j (placed ns) d y g
 scattering S l i j c d party.Future y h g = ap (read i (λ c. read j (scatter_row S l c) d)) h.1
 scattering S l i j c d party.Other y h g = no_group_read i (λ c. read j (scatter_row S l c) d) c h ∙ deals_not S l j c d y h g
 

@@ -14,6 +14,7 @@ use Rattle.code_table.specs.Tables.{pieces, with_places}
 use Rattle.code_table.specs.Sound.{IsSoundMethod}
 use Rattle.code_table.specs.Cells.{CodedCell, CodedStore, cell_at, with_cell_at, with_place_at}
 use Rattle.code_table.specs.Shapes.{cell_of, store_of}
+use Rattle.code_table.specs.Places.{placed}
 use Rattle.step_rows.specs.declared.decision.Decision.{Decision}
 use Rattle.step_rows.specs.declared.decision.Decision.TheVariants as decision
 use Rattle.step_rows.specs.declared.calls.Callee.{Callee}
@@ -51,8 +52,8 @@ pub record Leads (k : List Node) (c : CodedCell) (l : Text) (count : ℕ) (m : M
 
 -- what a call with these arguments leads to, where the receiver is this cell
 abbrev pub IsCallee : List Node → CodedCell → Text → ℕ → List ℕ → Callee → Type 0
-IsCallee k c l i ks (callee.Method m captured) = Leads k c l (length ks) m.now captured.now
-IsCallee k c l i ks (callee.Members ns) = cell_of k c ≡ store.Group ns.now
+IsCallee k c l i ks (callee.Method m captured) = Leads k c l (length ks) m.now (placed captured)
+IsCallee k c l i ks (callee.Members ns) = cell_of k c ≡ store.Group (placed ns)
 IsCallee k c l i ks (callee.Activity n) = cell_of k c ≡ store.Reference n.now
 IsCallee k c l i ks (callee.Other d) = (s : CodedStore) → read i (call_row (store_of k s) l i ks) (cell_of k c) ≡ decided k s d
 

@@ -2,38 +2,39 @@
 
 ghost use Rattle.std.specs.Prelude.{◌≡◌, IfOk, IfSome, drop, length, take};
 ghost use Rattle.code_table.specs.Cells.{Object as object_with, coded};
+ghost use Rattle.code_table.specs.Places.{placed};
 ghost use Rattle.step_rows.specs.Decisions.{IsCallee};
 
 use crate::decision::Decision;
 use asp_model::{ActivityName, Fault};
-use code_table::{Code, KeyedLabel, MethodCode, Object, Place, View};
+use code_table::{Code, KeyedLabel, MethodCode, Object, Place, Places, View};
 use std::alloc::AllocError;
 
 /// What a call leads to.
 #[derive(Clone, Copy)]
 pub enum Callee<'a> {
     /// A method, and what it captured.
-    Method(&'a MethodCode, &'a [Place]),
+    Method(&'a MethodCode, Places<'a>),
     /// A call to each of these members.
-    Members(&'a [Place]),
+    Members(Places<'a>),
     /// A request to this activity.
     Activity(&'a ActivityName),
     Other(Decision),
 }
 
 /// What a method captured, among the places of its object.
-fn captured_in<'a>(method: &MethodCode, places: &'a [Place]) -> Option<&'a [Place]>
+fn captured_in<'a>(method: &MethodCode, places: &Places<'a>) -> Option<Places<'a>>
     ensures places { let n = length method.now.captured.items in
-        IfSome result (λ cs. cs.now ≡ take n (drop method.now.start places.now)) }
-    ensures size { IfSome result (λ cs. length cs.now ≡ length method.now.captured.items) }
+        IfSome result (λ cs. placed cs ≡ take n (drop method.now.start (placed places.now))) }
+    ensures size { IfSome result (λ cs. length (placed cs) ≡ length method.now.captured.items) }
 {
     let Some(end) = method.start.checked_add(method.captured.len()) else {
         return None;
     };
-    let Some(captured) = places.get(method.start..end) else {
+    if end > places.len() {
         return None;
-    };
-    Some(captured)
+    }
+    Some(places.behind(method.start).first(method.captured.len()))
 }
 
 #[inline(always)]
@@ -44,7 +45,7 @@ fn method_in<'a>(
     at: Place,
     arguments: &[Place],
 ) -> Result<Callee<'a>, AllocError>
-    ensures callee { let c = object_with object.entry.class object.entry.places.now in
+    ensures callee { let c = object_with object.entry.class (placed object.entry.places) in
         IfOk result (IsCallee code.now c label.now.label.text at arguments.now) }
 {
     let Some(class) = code.class(object.class) else {
@@ -59,7 +60,7 @@ fn method_in<'a>(
     if arguments.len() != method.parameters.len() {
         return Ok(Callee::Other(Decision::Faults(Fault::NoMethod)));
     }
-    let Some(captured) = captured_in(method, object.places) else {
+    let Some(captured) = captured_in(method, &object.places) else {
         return Err(AllocError);
     };
     Ok(Callee::Method(method, captured))

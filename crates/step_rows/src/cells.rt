@@ -12,11 +12,7 @@ pub fn look<'a>(store: &'a Store, loc: Place) -> Option<View<'a>>
     ensures cell { IfSome result (λ c. coded c ≡ cell_at store.now.cells loc) }
     ensures none { IfNone result (length store.now.cells ≤ loc) }
 {
-    if loc < store.len() {
-        Some(store.cell(loc))
-    } else {
-        None
-    }
+    store.get(loc)
 }
 
 /// The one operand.

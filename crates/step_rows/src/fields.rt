@@ -5,11 +5,12 @@ ghost use Rattle.asp_model.specs.Contraction.{get_row, put_row};
 ghost use Rattle.code_table.specs.Classes.{class_at};
 ghost use Rattle.code_table.specs.Cells.{CodedStore, Object as object_with, cell_at, coded};
 ghost use Rattle.code_table.specs.Shapes.{cell_of, cell_shape, class_object, store_of};
+ghost use Rattle.code_table.specs.Places.{placed};
 ghost use Rattle.step_rows.specs.Decisions.{decided, read};
 
 use crate::decision::Decision;
 use asp_model::Fault;
-use code_table::{Code, KeyedLabel, Object, Place, View};
+use code_table::{Code, KeyedLabel, Object, Place, Places, View};
 use std::alloc::AllocError;
 
 /// The place of a field of an object.
@@ -17,7 +18,7 @@ use std::alloc::AllocError;
 fn get_in(code: &Code, object: Object, label: &KeyedLabel) -> Result<Decision, AllocError>
     ensures row { let l = label.now.label.text in
         (s : CodedStore) → IfOk result (λ d. get_row (store_of code.now s) l
-        (class_object code.now object.entry.places.now (class_at code.now object.entry.class))
+        (class_object code.now (placed object.entry.places) (class_at code.now object.entry.class))
         ≡ decided code.now s d) }
 {
     let Some(class) = code.class(object.class) else {
@@ -29,7 +30,7 @@ fn get_in(code: &Code, object: Object, label: &KeyedLabel) -> Result<Decision, A
     let Some(place) = object.places.get(field) else {
         return Err(AllocError);
     };
-    Ok(Decision::Stays(*place))
+    Ok(Decision::Stays(place))
 }
 
 /// An access to a field.
@@ -63,9 +64,9 @@ fn put_in(
     at: Place,
     to: Place,
 ) -> Result<Decision, AllocError>
-    ensures row { (s : CodedStore) → cell_at s at ≡ object_with object.entry.class object.entry.places.now →
+    ensures row { (s : CodedStore) → cell_at s at ≡ object_with object.entry.class (placed object.entry.places) →
         IfOk result (λ d. put_row (store_of code.now s) label.now.label.text at to
-        (class_object code.now object.entry.places.now (class_at code.now object.entry.class))
+        (class_object code.now (placed object.entry.places) (class_at code.now object.entry.class))
         ≡ decided code.now s d) }
 {
     let Some(class) = code.class(object.class) else {

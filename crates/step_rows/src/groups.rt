@@ -18,6 +18,7 @@ ghost use Rattle.asp_model.specs.Term.{
 ghost use Rattle.code_table.specs.declared.code.Node.{Node as NodeShape};
 ghost use Rattle.code_table.specs.Cells.{CodedStore};
 ghost use Rattle.code_table.specs.Shapes.{cell_shape, store_of};
+ghost use Rattle.code_table.specs.Places.{placed};
 ghost use Rattle.step_rows.specs.Decisions.{decided, value_redex};
 ghost use Rattle.step_rows.specs.Groups.{
   IsScattering,
@@ -37,14 +38,14 @@ use crate::decision::Decision;
 use crate::rows::one_operand;
 use crate::seen::{Seen, sight_of};
 use asp_model::Fault;
-use code_table::{Place, View};
+use code_table::{Place, Places, View};
 use object_store::Store;
 use std::alloc::AllocError;
 
 /// A group's members, a future, or neither.
 #[derive(Clone, Copy)]
 pub enum SeenGroup<'a> {
-    Members(&'a [Place]),
+    Members(Places<'a>),
     Future,
     Other,
 }
@@ -87,20 +88,20 @@ pub fn size_row(store: &Store, operands: &[Place]) -> Result<Decision, AllocErro
 }
 
 /// The member with a number, from 0.
-fn member(members: &[Place], number: i64) -> Option<Place>
+fn member(members: &Places, number: i64) -> Option<Place>
     ensures member { (s : StoreShape) →
-        member_row s (GroupCell members.now) (NumberCell number) ≡ member_found s result }
+        member_row s (GroupCell (placed members.now)) (NumberCell number) ≡ member_found s result }
 {
     match usize::try_from(number) {
-        Ok(at) if at < members.len() => Some(members[at]),
-        _ => None,
+        Ok(at) => members.get(at),
+        Err(_) => None,
     }
 }
 
 /// The member of a group with a number.
-fn numbered(members: &[Place], number: Seen, other: Place) -> Decision
+fn numbered(members: &Places, number: Seen, other: Place) -> Decision
     ensures row { (k : List NodeShape) (s : CodedStore) →
-        numbered (store_of k s) other members.now number ≡ decided k s result }
+        numbered (store_of k s) other (placed members.now) number ≡ decided k s result }
 {
     match number {
         Seen::Number(n) => match member(members, n) {
@@ -128,7 +129,7 @@ fn member_at(group: SeenGroup, number: Seen, at: Place, other: Place) -> Decisio
         chosen_member (store_of k s) at other group.entry number ≡ decided k s result }
 {
     match group {
-        SeenGroup::Members(members) => numbered(members, number, other),
+        SeenGroup::Members(members) => numbered(&members, number, other),
         SeenGroup::Future => Decision::Needs(at),
         SeenGroup::Other => no_group(number, other),
     }
@@ -171,13 +172,14 @@ fn is_future_at(store: &Store, place: Place) -> bool
 }
 
 /// The first of these places whose cell is a future.
-pub fn first_future(store: &Store, places: &[Place]) -> Option<Place>
+fn first_future(store: &Store, places: &Places) -> Option<Place>
     ensures first { (k : List NodeShape) →
-        result ≡ first_future (store_of k store.now.cells) places.now }
+        result ≡ first_future (store_of k store.now.cells) (placed places.now) }
 {
-    for place in places {
-        if is_future_at(store, *place) {
-            return Some(*place);
+    for at in 0..places.len() {
+        let place = places.at(at);
+        if is_future_at(store, place) {
+            return Some(place);
         }
     }
     None
@@ -188,7 +190,7 @@ fn wait_at(store: &Store, group: SeenGroup, at: Place) -> Decision
         awaited (store_of k s) at group.entry ≡ decided k s result }
 {
     match group {
-        SeenGroup::Members(members) => match first_future(store, members) {
+        SeenGroup::Members(members) => match first_future(store, &members) {
             Some(place) => Decision::Needs(place),
             None => Decision::Stays(at),
         },
@@ -215,13 +217,13 @@ pub fn wait_row(store: &Store, operands: &[Place]) -> Result<Decision, AllocErro
 #[derive(Clone, Copy)]
 pub enum Scattering<'a> {
     /// A call to each of these members, with the other member beside it.
-    Members(&'a [Place], &'a [Place]),
+    Members(Places<'a>, Places<'a>),
     Other(Decision),
 }
 
-fn dealt<'a>(members: &'a [Place], second: SeenGroup<'a>, other: Place) -> Scattering<'a>
+fn dealt<'a>(members: Places<'a>, second: SeenGroup<'a>, other: Place) -> Scattering<'a>
     ensures row { (k : List NodeShape) (s : CodedStore) (l : Text) →
-        IsScattering k s l (dealt (store_of k s) l other members.now second.entry) result }
+        IsScattering k s l (dealt (store_of k s) l other (placed members.entry) second.entry) result }
 {
     match second {
         SeenGroup::Members(others) => {

@@ -8,6 +8,7 @@ mod deciding;
 mod decision;
 mod fields;
 mod groups;
+mod near;
 mod numbers;
 mod redex;
 mod rows;
@@ -19,9 +20,8 @@ pub use cells::{look, one, two};
 pub use deciding::decide;
 pub use decision::Decision;
 pub use fields::{get, put};
-pub use groups::{
-    Scattering, SeenGroup, first_future, group_of, member_row, scatter_row, size_row, wait_row,
-};
+pub use groups::{Scattering, SeenGroup, group_of, member_row, scatter_row, size_row, wait_row};
+pub use near::{near_decide, near_get, near_operate, near_test};
 pub use numbers::operate;
 pub use redex::Redex;
 pub use rows::{

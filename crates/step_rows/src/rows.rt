@@ -163,7 +163,7 @@ fn second_at(sign: Sign, x: i64, second: Seen, at: Place, other: Place) -> Decis
 }
 
 #[inline(always)]
-fn operate_at(sign: Sign, first: Seen, second: Seen, at: Place, other: Place) -> Decision
+pub(crate) fn operate_at(sign: Sign, first: Seen, second: Seen, at: Place, other: Place) -> Decision
     ensures row { (k : List NodeShape) (s : CodedStore) →
         operated (store_of k s) (sign_shape sign) at other first second ≡ decided k s result }
 {
@@ -208,10 +208,10 @@ pub fn operate_next(store: &Store, sign: Sign, first: Place, second: i64) -> Opt
         cell_at s other ≡ NumberCell second →
         IfSome result (λ n. contract (store_of k s) r ≡ decided k s (decision.Number n)) }
 {
-    if first >= store.len() {
+    let Some(cell) = store.near(first) else {
         return None;
-    }
-    let Seen::Number(x) = sight_of(store.cell(first)) else {
+    };
+    let Seen::Number(x) = sight_of(cell) else {
         return None;
     };
     match answer_of(sign, x, second) {

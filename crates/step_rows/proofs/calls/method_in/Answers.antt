@@ -12,6 +12,7 @@ use Rattle.code_table.specs.Fitting.{head_names}
 use Rattle.code_table.proofs.LookupLemmas as lookup
 use Rattle.code_laws.proofs.BodyLemmas.{unbound}
 use Rattle.code_table.specs.Shapes.{class_object, store_of}
+use Rattle.code_table.specs.Places.{placed}
 use Rattle.step_rows.specs.Decisions.{read}
 use Rattle.step_rows.proofs.calls.method_in.Goals as goal
 
@@ -19,7 +20,7 @@ pub returns-in_default-method_keyed : goal.returns-in_default-method_keyed
 returns-in_default-method_keyed c = record {
   callee = λ s.
       let k : List Node = c.args.code.now in
-      let ns : List ℕ = c.args.object.places.now in
+      let ns : List ℕ = placed c.args.object.places in
       let l : Text = c.args.label.now.label.text in
       let x : Class = c.in-Some.class.now in
       let S : Store = store_of k s in
@@ -35,7 +36,7 @@ pub returns-then-arguments-len : goal.returns-then-arguments-len
 returns-then-arguments-len c = record {
   callee = λ s.
       let k : List Node = c.args.code.now in
-      let ns : List ℕ = c.args.object.places.now in
+      let ns : List ℕ = placed c.args.object.places in
       let l : Text = c.args.label.now.label.text in
       let x : Class = c.in-Some.class.now in
       let S : Store = store_of k s in
@@ -57,7 +58,7 @@ returns-then-arguments-len c = record {
 pub returns : goal.returns
 returns c =
     let k : List Node = c.args.code.now in
-    let ns : List ℕ = c.args.object.places.now in
+    let ns : List ℕ = placed c.args.object.places in
     let l : Text = c.args.label.now.label.text in
     let x : Class = c.in-Some.class.now in
     let ks : List ℕ = c.args.arguments.now in
@@ -70,7 +71,7 @@ returns c =
     let m_is : m ≡ get_or x.methods.items j m = subst (λ (ms : List MethodCode). m ≡ get_or ms j m) c.deref.ensures.value (look.1 m) in
     let found : method_at l (seen_methods (pieces k) x.methods.items (drop (length x.fields.items) ns)) ≡ Some (placed_method (pieces k) m ns) =
     lookup.method_found l (pieces k) x m ns j (c.in-Some.ensures.starts) is ∙ ap (λ (y : MethodCode). Some (placed_method (pieces k) y ns)) (sym m_is) in
-    let cs : List ℕ = c.in-Some-captured_in.captured.now in
+    let cs : List ℕ = placed c.in-Some-captured_in.captured in
     let cs_is : cs ≡ take (length m.captured.items) (drop m.start ns) = c.in-Some-captured_in.ensures.places in
     let sound : IsSoundMethod (pieces k) m = subst (IsSoundMethod (pieces k)) (sym m_is) (lookup.sound_method_at (pieces k) x.methods.items j m lt c.in-Some.ensures.sound) in
     record {

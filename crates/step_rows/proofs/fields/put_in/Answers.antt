@@ -11,13 +11,14 @@ use Rattle.code_table.proofs.LookupLemmas as lookup
 use Rattle.code_table.specs.Shapes.{class_object, cell_of, store_of}
 use Rattle.code_table.proofs.CodedLemmas.{cell-store_of}
 use Rattle.object_store.proofs.FieldLemmas.{places_set}
+use Rattle.code_table.specs.Places.{placed}
 use Rattle.step_rows.proofs.fields.put_in.Goals as goal
 
 pub returns-in_default-field_keyed : goal.returns-in_default-field_keyed
 returns-in_default-field_keyed c = record {
   row = λ s h.
       let k : List Node = c.args.code.now in
-      let ns : List ℕ = c.args.object.places.now in
+      let ns : List ℕ = placed c.args.object.places in
       let l : Text = c.args.label.now.label.text in
       let x : Class = c.in-Some.class.now in
       let S : Store = store_of k s in
@@ -33,7 +34,7 @@ pub returns : goal.returns
 returns c = record {
   row = λ s h.
       let k : List Node = c.args.code.now in
-      let ns : List ℕ = c.args.object.places.now in
+      let ns : List ℕ = placed c.args.object.places in
       let l : Text = c.args.label.now.label.text in
       let x : Class = c.in-Some.class.now in
       let S : Store = store_of k s in
@@ -41,7 +42,7 @@ returns c = record {
       let n : ℕ = c.in-Some-field_keyed.field in
       let here : class_at k c.args.object.class ≡ Some x = sym c.class.ensures.class ∙ ap seen_class c.in-Some.is in
       let is : field_number l x ≡ Some n = sym c.field_keyed.ensures.number ∙ c.in-Some-field_keyed.is in
-      let lt : n < length ns = omega (arith, c.if-field-object.false) in
+      let lt : n < length ns = omega (arith, c.len.ensures, c.if-field-len.false) in
       let ms : List MethodShape = seen_methods (pieces k) x.methods.items (drop (length x.fields.items) ns) in
       let fs : List Field = fields_at (labels_of x) ns in
       let cell_is : cell S i ≡ Object fs ms = cell-store_of k s i ∙ ap (cell_of k) h ∙ ap (class_object k ns) here in

@@ -21,12 +21,12 @@ returns-in-Number-answer_of c = record {
       let S : Store = store_of k s in
       let sign = sign_shape c.args.sign in
       let i : ℕ = c.args.first in
-      let x = c.cell.result in
-      let less : i < length old = omega arith in
+      let x = c.in-Some.cell in
+      let less : i < length old = c.in-Some.ensures.within in
       let same_x : to_z w64 (of_z w64 c.in-Number.x) ≡ c.in-Number.x = search rules in
       let same_y : to_z w64 (of_z w64 c.args.second) ≡ c.args.second = search rules in
       let same_n : to_z w64 (of_z w64 c.in-Number-answer_of.number) ≡ c.in-Number-answer_of.number = search rules in
-      let first : coded x ≡ cell_at s i = c.cell.ensures.cell ∙ sym (cell_kept old added i less) in
+      let first : coded x ≡ cell_at s i = c.in-Some.ensures.cell ∙ sym (cell_kept old added i less) in
       two_row k s (Operate sign) (i ∷ other ∷ []) i other (coded x) (cells.Number c.args.second) (contraction.operate_row S sign) refl first (sym at) (operate_reads S sign i other)
       ∙ operates S sign i other (cell_of k (coded x)) (cell_of k (cells.Number c.args.second)) c.sight_of.result (seen.Number c.args.second) (c.sight_of.ensures.seen k) refl
       ∙ ap (λ y. operated S sign i other y (seen.Number c.args.second)) c.in-Number.is

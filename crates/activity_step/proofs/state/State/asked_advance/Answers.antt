@@ -1,5 +1,6 @@
 use Rattle.std.proofs.Common.{rules, ◌≡◌, ℕ, true, false, List, refl, subst}
 use Rattle.asp_model.specs.Term.{Call}
+use Rattle.code_table.specs.Places.{placed}
 use Rattle.step_rows.specs.declared.calls.Callee.TheVariants as callee
 use Rattle.step_rows.specs.Decisions.{value_redex}
 use Rattle.step_machine.specs.Rows.{called_view}
@@ -25,7 +26,7 @@ returns-in_ok-enter_body-in-Method c = record {
       let cs = c.in-Method.captured in
       let w : IsCalled k q a.machine.asked.label.text ops (callee.Method m cs) = subst (IsCalled k q a.machine.asked.label.text ops) c.in-Method.is called in
       let yes0 : c.args.go ≡ true = search (rules, c.if-go.true) in
-      contracted k a (record { machine = c.enter_body.new.self; store = a.store; lines = a.lines }) t vs s ls c.args.go (called_view c.args.count cs.now m.now.body v) h yes0
+      contracted k a (record { machine = c.enter_body.new.self; store = a.store; lines = a.lines }) t vs s ls c.args.go (called_view c.args.count (placed cs) m.now.body v) h yes0
       (asked_contracts k v c.args.count t vs q m cs h.machine at w) c.in_ok-enter_body-in-Method.ensures.view refl refl;
 }
 
@@ -42,7 +43,7 @@ returns-else-go c = record {
       let cs = c.in-Method.captured in
       let w : IsCalled k q a.machine.asked.label.text ops (callee.Method m cs) = subst (IsCalled k q a.machine.asked.label.text ops) c.in-Method.is called in
       let no0 : c.args.go ≡ false = search (rules, c.if-go.false) in
-      could_contract k a t vs s ls c.args.go (called_view c.args.count cs.now m.now.body v) h no0
+      could_contract k a t vs s ls c.args.go (called_view c.args.count (placed cs) m.now.body v) h no0
       (asked_contracts k v c.args.count t vs q m cs h.machine at w);
 }
 

@@ -1,5 +1,6 @@
-use Rattle.std.proofs.Common.{[], rules, ◌≡◌, ℕ, true, false, List, refl, subst}
+use Rattle.std.proofs.Common.{[], rules, ◌≡◌, ◌∙◌, ℕ, true, false, List, ap, refl, subst}
 use Rattle.asp_model.specs.Term.{Call}
+use Rattle.code_table.specs.Places.{placed}
 use Rattle.step_rows.specs.declared.calls.Callee.TheVariants as callee
 use Rattle.step_rows.specs.Decisions.{value_redex}
 use Rattle.step_machine.specs.Rows.{called_view}
@@ -27,7 +28,7 @@ returns-in_ok-enter_body-in-Method c = record {
       let cs = c.in-Method.captured in
       let w : IsCalled k q c.args.label.now.label.text ops (callee.Method m cs) = subst (IsCalled k q c.args.label.now.label.text ops) c.in-Method.is called in
       let yes0 : c.args.go ≡ true = search (rules, c.if-go.true) in
-      contracted k a (record { machine = c.enter_body.new.self; store = a.store; lines = a.lines }) t vs s ls c.args.go (called_view c.args.count cs.now m.now.body v) h yes0
+      contracted k a (record { machine = c.enter_body.new.self; store = a.store; lines = a.lines }) t vs s ls c.args.go (called_view c.args.count (placed cs) m.now.body v) h yes0
       (method_contracts k v c.args.number c.args.count c.args.label.now.label.text t vs q m cs at w) c.in_ok-enter_body-in-Method.ensures.view refl refl;
 }
 
@@ -44,7 +45,7 @@ returns-else-go c = record {
       let cs = c.in-Method.captured in
       let w : IsCalled k q c.args.label.now.label.text ops (callee.Method m cs) = subst (IsCalled k q c.args.label.now.label.text ops) c.in-Method.is called in
       let no0 : c.args.go ≡ false = search (rules, c.if-go.false) in
-      could_contract k a t vs s ls c.args.go (called_view c.args.count cs.now m.now.body v) h no0
+      could_contract k a t vs s ls c.args.go (called_view c.args.count (placed cs) m.now.body v) h no0
       (method_contracts k v c.args.number c.args.count c.args.label.now.label.text t vs q m cs at w);
 }
 
@@ -86,8 +87,8 @@ returns-in_ok-spread-in-Members c = record {
       let ns = c.in-Members.members in
       let w : IsCalled k q c.args.label.now.label.text ops (callee.Members ns) = subst (IsCalled k q c.args.label.now.label.text ops) c.in-Members.is called in
       let yes0 : c.args.go ≡ true = search (rules, c.if-go-2.true) in
-      contracted k a (record { machine = c.spread.new.self; store = a.store; lines = a.lines }) t vs s ls c.args.go (spread_view spread.Same c.args.number c.args.count ns.now [] v) h yes0
-      (members_contract k v c.args.number c.args.count c.args.label.now.label.text t vs q ns at w) c.in_ok-spread-in-Members.ensures.view refl refl;
+      contracted k a (record { machine = c.spread.new.self; store = a.store; lines = a.lines }) t vs s ls c.args.go (spread_view spread.Same c.args.number c.args.count (placed ns) [] v) h yes0
+      (members_contract k v c.args.number c.args.count c.args.label.now.label.text t vs q ns at w) (c.in_ok-spread-in-Members.ensures.view ∙ ap (λ (xs : List ℕ). spread_view spread.Same c.args.number c.args.count (placed ns) xs v) c.of.ensures.places) refl refl;
 }
 
 pub returns-else-go-2 : goal.returns-else-go-2
@@ -102,6 +103,6 @@ returns-else-go-2 c = record {
       let ns = c.in-Members.members in
       let w : IsCalled k q c.args.label.now.label.text ops (callee.Members ns) = subst (IsCalled k q c.args.label.now.label.text ops) c.in-Members.is called in
       let no0 : c.args.go ≡ false = search (rules, c.if-go-2.false) in
-      could_contract k a t vs s ls c.args.go (spread_view spread.Same c.args.number c.args.count ns.now [] v) h no0
+      could_contract k a t vs s ls c.args.go (spread_view spread.Same c.args.number c.args.count (placed ns) [] v) h no0
       (members_contract k v c.args.number c.args.count c.args.label.now.label.text t vs q ns at w);
 }

@@ -22,21 +22,21 @@ returns-in_ok-quick_number-in-Number-clause-taken c = λ t vs s ls h at.
     one_taken k c.quick_number.new.self t vs s ls
     (c.in_ok-quick_number-in-Number.ensures.reduced k t vs s ls h (as_told k t vs v c.args.number c.args.from c.args.done c.args.redex (nested.Number (to_z w64 (of_z w64 c.in-Number.value))) is at))
 
-pub returns-in_ok-decision-in-Get-clause-taken : goal.returns-in_ok-decision-in-Get-clause-taken
-returns-in_ok-decision-in-Get-clause-taken c = λ t vs s ls h at.
+pub returns-in-Some-clause-taken : goal.returns-in-Some-clause-taken
+returns-in-Some-clause-taken c = λ t vs s ls h at.
     let k : List Node = c.args.code.now in
     let v : View = view_of c.args.self.now.machine in
     let next : Nested = nested.Get c.in-Get.label c.in-Get.at in
     c.nested_decided.ensures.taken k (places_redex (Get c.in-Get.label.now.label.text) (c.in-Get.at ∷ [])) t vs s ls h
-    (as_told k t vs v c.args.number c.args.from c.args.done c.args.redex next c.in-Get.is at) c.in_ok-decision-in-Get.ensures.row
+    (as_told k t vs v c.args.number c.args.from c.args.done c.args.redex next c.in-Get.is at) c.in-Some.ensures.row
 
-pub returns-in_ok-decision-in-Operate-clause-taken : goal.returns-in_ok-decision-in-Operate-clause-taken
-returns-in_ok-decision-in-Operate-clause-taken c = λ t vs s ls h at.
+pub returns-in-Some-near_operate-clause-taken : goal.returns-in-Some-near_operate-clause-taken
+returns-in-Some-near_operate-clause-taken c = λ t vs s ls h at.
     let k : List Node = c.args.code.now in
     let v : View = view_of c.args.self.now.machine in
     let next : Nested = nested.Operate c.in-Operate.sign c.in-Operate.first c.in-Operate.second in
     c.nested_decided-in-Operate.ensures.taken k (places_redex (Operate (sign_shape c.in-Operate.sign)) (c.in-Operate.first ∷ c.in-Operate.second ∷ [])) t vs s ls h
-    (as_told k t vs v c.args.number c.args.from c.args.done c.args.redex next c.in-Operate.is at) (c.in_ok-decision-in-Operate.ensures.row k)
+    (as_told k t vs v c.args.number c.args.from c.args.done c.args.redex next c.in-Operate.is at) (c.in-Some-near_operate.ensures.row k)
 
 pub returns-else-left-lt2-clause-taken : goal.returns-else-left-lt2-clause-taken
 returns-else-left-lt2-clause-taken c = λ t vs s ls h at.

@@ -33,7 +33,7 @@ returns-in-Call c = record {
       let v : View = view_of c.args.self.now.machine in
       let n : Node = c.args.node.now in
       let here : AtNode k v c.args.number c.args.from c.args.count n = record { focus = at; full = full; node = here_is.piece } in
-      c.taken.ensures.taken k c.call_advance.new.self t vs s ls (c.call_advance.ensures.advance t vs s ls h (at_call k v c.args.number c.args.from c.args.count n c.in-Call.label t vs h.machine here c.in-Call.is));
+      c.quick_call.ensures.taken t vs s ls h (at_call k v c.args.number c.args.from c.args.count n c.in-Call.label t vs h.machine here c.in-Call.is);
 }
 
 pub returns-in-Let : goal.returns-in-Let
@@ -53,7 +53,7 @@ returns-in-Steps c = record {
       let v : View = view_of c.args.self.now.machine in
       let n : Node = c.args.node.now in
       let here : AtNode k v c.args.number c.args.from c.args.count n = record { focus = at; full = full; node = here_is.piece } in
-      c.taken-in-Steps.ensures.taken k c.steps_advance.new.self t vs s ls (c.steps_advance.ensures.advance k t vs s ls h here c.in-Steps.is);
+      c.taken.ensures.taken k c.steps_advance.new.self t vs s ls (c.steps_advance.ensures.advance k t vs s ls h here c.in-Steps.is);
 }
 
 pub returns-in-If : goal.returns-in-If
@@ -63,7 +63,7 @@ returns-in-If c = record {
       let v : View = view_of c.args.self.now.machine in
       let n : Node = c.args.node.now in
       let here : AtNode k v c.args.number c.args.from c.args.count n = record { focus = at; full = full; node = here_is.piece } in
-      c.taken-in-If.ensures.taken k c.if_advance.new.self t vs s ls (c.if_advance.ensures.advance c.args.number c.args.from t vs s ls h here c.in-If.is);
+      c.quick_if.ensures.taken k c.args.number c.args.from t vs s ls h here c.in-If.is;
 }
 
 pub returns-in-Repeat : goal.returns-in-Repeat

@@ -15,6 +15,7 @@ use Rattle.step_machine.specs.Standing.{View, view_of}
 use Rattle.step_machine.proofs.RowLemmas.{value_row}
 use Rattle.step_machine.proofs.SpreadLemmas.{scatters}
 use Rattle.activity_step.proofs.AdvanceLemmas.{contracted, could_contract}
+use Rattle.code_table.specs.Places.{placed}
 use Rattle.activity_step.proofs.state.State.scatter_advance.Goals as goal
 
 pub returns-in_ok-spread-in-Members : goal.returns-in_ok-spread-in-Members
@@ -30,8 +31,8 @@ returns-in_ok-spread-in-Members c = record {
       let w : IsScattering k q l.label.text (contract (store_of k q) (value_redex (Scatter l.label.text) ops)) (scattering.Members c.in-Members.members c.in-Members.others) =
       subst (IsScattering k q l.label.text (contract (store_of k q) (value_redex (Scatter l.label.text) ops))) c.in-Members.is row1 in
       let yes0 : c.args.go ≡ true = search (rules, c.if-go.true) in
-      contracted k a (record { machine = c.spread.new.self; store = a.store; lines = a.lines }) t vs s ls c.args.go (spread_view spread.Own c.args.number c.args.count c.in-Members.members.now c.in-Members.others.now v) h yes0
-      (scatters k v c.args.number from c.args.count c.in-Members.members.now c.in-Members.others.now n l t vs (store_of k q) h.machine at is w.0 w.1) c.in_ok-spread-in-Members.ensures.view refl refl;
+      contracted k a (record { machine = c.spread.new.self; store = a.store; lines = a.lines }) t vs s ls c.args.go (spread_view spread.Own c.args.number c.args.count (placed c.in-Members.members) (placed c.in-Members.others) v) h yes0
+      (scatters k v c.args.number from c.args.count (placed c.in-Members.members) (placed c.in-Members.others) n l t vs (store_of k q) h.machine at is w.0 w.1) c.in_ok-spread-in-Members.ensures.view refl refl;
 }
 
 pub returns-else-go : goal.returns-else-go
@@ -47,8 +48,8 @@ returns-else-go c = record {
       let w : IsScattering k q l.label.text (contract (store_of k q) (value_redex (Scatter l.label.text) ops)) (scattering.Members c.in-Members.members c.in-Members.others) =
       subst (IsScattering k q l.label.text (contract (store_of k q) (value_redex (Scatter l.label.text) ops))) c.in-Members.is row1 in
       let no0 : c.args.go ≡ false = search (rules, c.if-go.false) in
-      could_contract k a t vs s ls c.args.go (spread_view spread.Own c.args.number c.args.count c.in-Members.members.now c.in-Members.others.now v) h no0
-      (scatters k v c.args.number from c.args.count c.in-Members.members.now c.in-Members.others.now n l t vs (store_of k q) h.machine at is w.0 w.1);
+      could_contract k a t vs s ls c.args.go (spread_view spread.Own c.args.number c.args.count (placed c.in-Members.members) (placed c.in-Members.others) v) h no0
+      (scatters k v c.args.number from c.args.count (placed c.in-Members.members) (placed c.in-Members.others) n l t vs (store_of k q) h.machine at is w.0 w.1);
 }
 
 pub returns-in-Other : goal.returns-in-Other
