@@ -1,14 +1,14 @@
 #!/usr/bin/env python3
 """Goes on from hostile checkpoints of a size: what is answered, in what time, and in how much memory.
 
-    bench/hostile.py [--size MIB] [--within SECONDS] [--memory MB] [NAME ..]     all kinds with no NAME
+    bench/hostile.py [--size MIB] [--within SECONDS] [--memory MB] [--stack KB] [NAME ..]     all kinds with no NAME
 
 It takes the program that `rt ci` built, or the one that ASP names. Each kind of file is written so large (16 MiB with no
 --size; 256 are the most that is read, but most kinds weigh too much above 100) and gone on from with `--budget 1`, under
-512 KB of stack. Printed are the status, the seconds of the processor, and the memory. Then come terms of 200 levels,
-nested in each place of each kind of node: they are gone on from and saved again; those of 201 levels get status 8. Its
-status is 1 if a file takes more than --within (10) or --memory (8000), ends in another way than a file may, or a term is
-not as it should be.
+512 KB of stack (--stack). Printed are the status, the seconds of the processor, and the memory. Then come terms of 200
+levels, or of 160 methods, nested in each place of each kind of node: they are gone on from and saved again; those of one
+level more get status 8. Its status is 1 if a file takes more than --within (10) or --memory (8000), ends in another way
+than a file may, or a term is not as it should be.
 """
 import argparse
 import os
@@ -19,8 +19,8 @@ import tempfile
 
 HERE = os.path.dirname(os.path.dirname(os.path.abspath(__file__)))
 PROGRAM = os.environ.get("ASP", os.path.join(HERE, "crates/asp/out/asp"))
-STACK = 512 * 1024
 LEVELS = 200
+METHODS = 160
 ANSWERS = (1, 5, 8, 11)  # a fault, the budget, want of memory, refused
 
 SOURCE = "print(1 + 2); repeat(0)\n"
@@ -70,6 +70,47 @@ def capturing(size):
     used = "".join(f" 2 {name}" for name in names)
     nested = "4 0 1 1 109 1 115 0 " * 60
     return cells(size, f" 1 0 1 1 109 1 115 64 {' '.join(names)} {nested}12 64{used}")
+
+
+def inside(size, levels, front, piece, back=""):
+    """Objects of one method in each other, of which the innermost has as many of a piece as the size allows."""
+    count = max(1, min(size // len(piece), 1_000_000))
+    one = "4 0 1 1 109 1 115 0 " * levels
+    text = f" 1 0 1 1 109 1 115 {front} {one}12 {count}" + piece * count + back
+    return cells(max(size, len(text)), text)
+
+
+def named(count, kind=""):
+    """So many different names, each of three letters, as parameters or as variables."""
+    return "".join(f"{kind} 3 {97 + k % 26} {97 + k // 26 % 26} {97 + k // 676}" for k in range(count))
+
+
+def places(size):
+    """A context with a hole in front of as many different places as the size allows."""
+    count = min(size // 16, 1_000_000)
+    store = f" {count + 1} 1 0 0" + " 0 5" * count
+    term = f" 12 {count + 1} 1" + "".join(f" 0 {k}" for k in range(1, count + 1))
+    return TITLE + NONE + main_line(f" 0 0 0 0 0 2 14 3 0{term}{store} 0") + "end\n"
+
+
+def lets(size):
+    """A method of many parameters, with a `let` for each."""
+    count = min(size // 32, 17_000)
+    text = f"{METHOD[:-2]} {count}{named(count)} 12 {count}" + " 11 1 120 3 1 3 1" * count
+    return cells(max(size, len(text)), text)
+
+
+def mentions(size):
+    """A method of many parameters, each of which it mentions."""
+    count = min(size // 32, 17_000)
+    return cells(size, f"{METHOD[:-2]} {count}{named(count)} 12 {count}{named(count, ' 2')}")
+
+
+def long_names(size):
+    """A long name that all methods in each other capture."""
+    count = min(size // 8, 100_000)
+    name = f"{count}" + " 97" * count
+    return cells(size, f" 1 0 1 1 109 1 115 1 {name} " + "4 0 1 1 109 1 115 0 " * (METHODS - 1) + f"2 {name}")
 
 
 def activities(size):
@@ -123,6 +164,14 @@ FILES = {
     "methods with a place": lambda size: methods(size, "0 0"),
     "methods of many places": lambda size: methods(size, "12 4000" + "".join(f" 0 {k}" for k in range(4000)), 4000),
     "objects that capture": capturing,
+    "numbers in 160 methods": lambda size: inside(size, METHODS - 2, "0", " 3 1"),
+    "places in 160 methods": lambda size: inside(size, METHODS - 2, "0", " 0 0"),
+    "names in 160 methods": lambda size: inside(size, METHODS - 2, "1 1 120", " 2 1 120"),
+    "heads in 160 methods": lambda size: inside(size, METHODS - 2, "0", " 4 0 1 1 109 1 115 4 1 97 1 98 1 99 1 100 3 1"),
+    "methods that bind and let": lets,
+    "methods that use all names": mentions,
+    "long names in 160 methods": long_names,
+    "a context of many places": places,
     "methods of many steps": lambda size: methods(size, "12 100000" + " 3 1" * 100_000),
     "methods of 200 levels": lambda size: methods(size, "8 " * (LEVELS - 1) + "3 1"),
     "contexts": lambda size: rows(size - 9, f" 0 0 0 0 0", " 20 1", OBJECT).replace(" 20 1", " 14 3 0", 1),
@@ -170,11 +219,7 @@ def nested(opens, closes, levels):
     return TITLE + NONE + main_line(f" 0 0 0 0 0{WAITS} 1{METHOD} {' '.join(body)} 0") + "end\n"
 
 
-def narrow():
-    resource.setrlimit(resource.RLIMIT_STACK, (STACK, STACK))
-
-
-def go_on(text, *words):
+def go_on(text, stack, *words):
     """The status, what was written, the seconds of the processor, and the memory in MB."""
     with open("checkpoint", "w", encoding="ascii") as file:
         file.write(text)
@@ -183,30 +228,31 @@ def go_on(text, *words):
             [PROGRAM, "a.asp", "--resume", "checkpoint", "--budget", "1", *words],
             stdout=out,
             stderr=subprocess.DEVNULL,
-            preexec_fn=narrow,
+            preexec_fn=lambda: resource.setrlimit(resource.RLIMIT_STACK, (1024 * stack, 1024 * stack)),
         )
         _, status, used = os.wait4(child.pid, 0)
     return os.waitstatus_to_exitcode(status), used.ru_utime + used.ru_stime, used.ru_maxrss / 1000
 
 
 def play(name, size, options):
-    status, seconds, memory = go_on(FILES[name](size))
+    status, seconds, memory = go_on(FILES[name](size), options.stack)
     fits = status in ANSWERS and seconds <= options.within and memory <= options.memory
     told = "" if fits else "   too much, or another end"
     print(f"{name:<26} status {status:>2} {seconds:>6.1f} s {memory:>6.0f} MB{told}", flush=True)
     return 0 if fits else 1
 
 
-def nest(name):
+def nest(name, options):
     """Terms of so many levels are gone on from and saved; with one more there is no memory."""
     opens, closes = NESTS[name]
-    text = nested(opens, closes, LEVELS)
-    status, _, _ = go_on(text, "--save")
+    levels = METHODS if name == "a method" else LEVELS
+    text = nested(opens, closes, levels)
+    status, _, _ = go_on(text, options.stack, "--save")
     with open("shown", encoding="ascii") as file:
         kept = text[text.index(METHOD) : text.rindex(" 0\nend")] in file.read()
-    beyond, _, _ = go_on(nested(opens, closes, LEVELS + 1), "--save")
+    beyond, _, _ = go_on(nested(opens, closes, levels + 1), options.stack, "--save")
     fits = (status, kept, beyond) == (5, True, 8)
-    print(f"{LEVELS} levels, {name:<24} status {status:>2}, then {beyond}" + ("" if fits else "   wrong"), flush=True)
+    print(f"{levels} levels, {name:<24} status {status:>2}, then {beyond}" + ("" if fits else "   wrong"), flush=True)
     return 0 if fits else 1
 
 
@@ -215,6 +261,7 @@ def main():
     parser.add_argument("--size", type=int, default=16)
     parser.add_argument("--within", type=float, default=10)
     parser.add_argument("--memory", type=float, default=8000)
+    parser.add_argument("--stack", type=int, default=512)
     parser.add_argument("names", metavar="NAME", nargs="*")
     options = parser.parse_args()
     wrong = 0
@@ -228,7 +275,7 @@ def main():
                 wrong += play(name, size, options)
         for name in NESTS:
             if not options.names or name in options.names:
-                wrong += nest(name)
+                wrong += nest(name, options)
         os.chdir(HERE)
     sys.exit(1 if wrong else 0)
 

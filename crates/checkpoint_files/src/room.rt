@@ -1,12 +1,13 @@
 //! How much a checkpoint weighs, and for how much there is memory.
 
-use asp_model::FutureName;
+use crate::looks::{behind_methods, behind_term};
+use asp_model::{FutureName, Term};
 use checkpoint_parts::{ActivityText, CheckpointText, ServiceText};
 use checkpoint_reading::{CellText, ParcelText, RequestText};
 
 /// What a checkpoint weighs at most for which there is memory: an item of a line weighs 1, and
-/// besides a line, a home, and an object or a term that runs or waits have weights of their own.
-/// Some 300,000 activities that answered a request each weigh as much.
+/// besides a line, a home, an object or a term that runs or waits, and the names and nodes of these
+/// have weights of their own. Some 300,000 activities that answered a request each weigh as much.
 pub const MOST_READ_WEIGHT: u64 = 58_720_256;
 
 /// What a line weighs besides its items.
@@ -50,16 +51,31 @@ pub fn behind_lines(lines: &[&[u8]]) -> Option<u64> {
     Some(left)
 }
 
+// What is left of a weight behind a cell, of so many.
+fn behind_cell(cell: &CellText, cells: usize, weight: u64) -> Option<u64> {
+    match cell {
+        CellText::Object { methods, .. } => {
+            let left = weight.checked_sub(PART_WEIGHT)?;
+            behind_methods(methods, cells, left)
+        }
+        CellText::Number(_) | CellText::Reference(_) | CellText::Future(_) | CellText::Group(_) =>
+            Some(weight),
+    }
+}
+
 fn behind_cells(cells: &[CellText], weight: u64) -> Option<u64> {
     let mut left = weight;
     for cell in cells {
-        match cell {
-            CellText::Object { .. } => left = left.checked_sub(PART_WEIGHT)?,
-            CellText::Number(_)
-            | CellText::Reference(_)
-            | CellText::Future(_)
-            | CellText::Group(_) => {}
-        }
+        left = behind_cell(cell, cells.len(), left)?;
+    }
+    Some(left)
+}
+
+// What is left of a weight behind terms that run or wait, over so many cells.
+fn behind_terms(terms: &[Term], cells: usize, weight: u64) -> Option<u64> {
+    let mut left = behind(terms.len(), PART_WEIGHT, weight)?;
+    for term in terms {
+        left = behind_term(term, cells, left)?;
     }
     Some(left)
 }
@@ -72,10 +88,10 @@ fn behind_requests(requests: &[RequestText], weight: u64) -> Option<u64> {
     Some(left)
 }
 
-fn behind_services(services: &[ServiceText], weight: u64) -> Option<u64> {
+fn behind_services(services: &[ServiceText], cells: usize, weight: u64) -> Option<u64> {
     let mut left = weight;
     for service in services {
-        left = behind(service.terms.len(), PART_WEIGHT, left)?;
+        left = behind_terms(&service.terms, cells, left)?;
     }
     Some(left)
 }
@@ -83,8 +99,8 @@ fn behind_services(services: &[ServiceText], weight: u64) -> Option<u64> {
 fn behind_activity(activity: &ActivityText, weight: u64) -> Option<u64> {
     let state = &activity.parts.work.state;
     let left = behind_requests(&activity.parts.queue, weight)?;
-    let left = behind_services(&activity.parts.work.services, left)?;
-    let left = behind(state.terms.len(), PART_WEIGHT, left)?;
+    let left = behind_services(&activity.parts.work.services, state.store.len(), left)?;
+    let left = behind_terms(&state.terms, state.store.len(), left)?;
     behind_cells(&state.store, left)
 }
 
