@@ -11,27 +11,24 @@ pub const TOP: u64 = 70;
 /// From one line to the next.
 pub const LANE: u64 = 48;
 
-/// How long a text is.
-pub fn text_width(text: &str) -> u64 {
-    shown_len(text).saturating_mul(7)
-}
-
 /// How far down a line is.
 pub fn lane_at(lane: usize) -> u64 {
     (lane as u64).saturating_mul(LANE).saturating_add(TOP)
 }
 
-// How much room an event needs to its right.
-fn room_of(mark: &Mark) -> u64 {
+// How much room an event needs to its right, beside its text.
+fn least_room(mark: Mark) -> u64 {
     match mark {
-        Mark::Makes(_) => 18,
-        Mark::Sends(_, label) => text_width(label).saturating_add(14),
-        Mark::Serves(label) => text_width(label).saturating_add(12),
-        Mark::Answers => 12,
-        Mark::Polls => 14,
-        Mark::Prints(text) => text_width(text).saturating_add(14),
-        Mark::Fails(text) => text_width(text).saturating_add(18),
+        Mark::Makes(_) | Mark::Fails => 18,
+        Mark::Sends(_) | Mark::Polls | Mark::Prints => 14,
+        Mark::Serves | Mark::Answers => 12,
     }
+}
+
+fn room_of(event: &Event) -> u64 {
+    shown_len(&event.text)
+        .saturating_mul(7)
+        .saturating_add(least_room(event.mark))
 }
 
 /// Where the events stand, from the left, and last where the run ends.
@@ -40,7 +37,7 @@ pub fn places_of(alloc: Global, events: &[Event]) -> Result<Vec<u64>, AllocError
     let mut at: u64 = LEFT.saturating_add(16);
     for event in events {
         places.push(at)?;
-        at = at.saturating_add(room_of(&event.mark));
+        at = at.saturating_add(room_of(event));
     }
     places.push(at.saturating_add(16))?;
     Ok(places)
@@ -60,8 +57,8 @@ pub fn place_at(places: &[u64], number: usize) -> u64 {
 /// Where the line of an activity begins: where it is made, or at the left.
 pub fn begin_of(run: &Run, places: &[u64], lane: usize) -> u64 {
     for number in 0..run.events.len() {
-        if let Mark::Makes(made) = &run.events[number].mark {
-            if *made == lane {
+        if let Mark::Makes(made) = run.events[number].mark {
+            if made == lane {
                 return place_at(places, number);
             }
         }

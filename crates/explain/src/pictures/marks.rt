@@ -1,134 +1,115 @@
 //! What stands at the lines: arrows of requests, who is made, what is printed.
 
-use crate::pictures::layout::{LANE, lane_at, place_at};
+use crate::pictures::layout::{lane_at, place_at};
 use crate::pictures::run::{Event, Mark, Run};
-use crate::pictures::text::push_short;
+use crate::pictures::text::push_form;
 use crate::text_pieces::Telling;
 
-// How an arrow is drawn: the classes of its line and of its head.
-#[derive(Clone, Copy)]
-struct Class {
-    stroke: &'static str,
-    head: &'static str,
-}
-
-fn class_of(stands_out: bool) -> Class {
-    if stands_out {
-        Class {
-            stroke: "other",
-            head: "stop",
-        }
-    } else {
-        Class {
-            stroke: "arrow",
-            head: "head",
-        }
-    }
-}
-
 // An arrow from one line to another, with its label behind it.
-fn push_arrow(out: &mut Telling, class: Class, at: u64, from: usize, to: usize, label: &str) {
-    let Class { stroke, head } = class;
-    let start = lane_at(from);
-    let down = to > from;
-    let end = if down {
-        lane_at(to).saturating_sub(11)
-    } else {
-        lane_at(to).saturating_add(11)
-    };
-    let text_left = at.saturating_add(5);
-    let text_top = if down {
-        start.saturating_add(LANE / 2).saturating_add(2)
-    } else {
-        start.saturating_sub(LANE / 2).saturating_add(6)
-    };
-    let done = write!(
-        out.text,
-        "<line class=\"{stroke}\" x1=\"{at}\" y1=\"{start}\" x2=\"{at}\" y2=\"{end}\" marker-end=\"url(#{head})\"/>\n<text class=\"label\" x=\"{text_left}\" y=\"{text_top}\">"
-    );
-    out.note(done);
-    push_short(out, label);
-    out.push("</text>\n");
-}
+const ARROW: &str =
+    "<line class=\"arrow\" x1=\"@\" y1=\"@\" x2=\"@\" y2=\"@\" marker-end=\"url(#head)\"/>\n<text class=\"label\" x=\"@\" y=\"@\">~</text>\n";
+
+// One that stands out.
+const OTHER_ARROW: &str =
+    "<line class=\"other\" x1=\"@\" y1=\"@\" x2=\"@\" y2=\"@\" marker-end=\"url(#stop)\"/>\n<text class=\"label\" x=\"@\" y=\"@\">~</text>\n";
 
 // A request that an activity sends to itself.
-fn push_loop(out: &mut Telling, class: Class, at: u64, lane: usize, label: &str) {
-    let Class { stroke, head } = class;
-    let y = lane_at(lane);
+const LOOP: &str =
+    "<path class=\"arrow\" d=\"M @ @ C @ @ @ @ @ @\" marker-end=\"url(#head)\"/>\n<text class=\"label\" x=\"@\" y=\"@\">~</text>\n";
+
+// One that stands out.
+const OTHER_LOOP: &str =
+    "<path class=\"other\" d=\"M @ @ C @ @ @ @ @ @\" marker-end=\"url(#stop)\"/>\n<text class=\"label\" x=\"@\" y=\"@\">~</text>\n";
+
+const MADE: &str =
+    "<line class=\"made\" x1=\"@\" y1=\"@\" x2=\"@\" y2=\"@\"/>\n<circle class=\"begin\" cx=\"@\" cy=\"@\" r=\"3\"/>\n";
+
+const POLLED: &str = "<circle class=\"poll ~\" cx=\"@\" cy=\"@\" r=\"4\"/>\n";
+
+const PRINTED: &str =
+    "<circle class=\"printed\" cx=\"@\" cy=\"@\" r=\"3\"/>\n<text class=\"print\" x=\"@\" y=\"@\">~</text>\n";
+
+const FAILED: &str =
+    "<path class=\"fault\" d=\"M @ @ L @ @ M @ @ L @ @\"/>\n<text class=\"bad\" x=\"@\" y=\"@\">~</text>\n";
+
+// From a line to the label of an arrow that leads down, and of one that leads up.
+const DOWN: u64 = 26;
+
+const UP: u64 = 18;
+
+fn push_arrow(out: &mut Telling, event: &Event, at: u64, y: u64, to: usize) {
+    let end = lane_at(to);
+    let (end, top) = if to > event.lane {
+        (end.saturating_sub(11), y.saturating_add(DOWN))
+    } else {
+        (end.saturating_add(11), y.saturating_sub(UP))
+    };
+    let form = if event.stands_out { OTHER_ARROW } else { ARROW };
+    push_form(
+        out,
+        form,
+        &[at, y, at, end, at.saturating_add(5), top],
+        &event.text,
+    );
+}
+
+fn push_loop(out: &mut Telling, event: &Event, at: u64, y: u64) {
     let up = y.saturating_sub(22);
     let end = at.saturating_add(10);
-    let text_left = at.saturating_add(12);
-    let text_top = y.saturating_sub(14);
-    let done = write!(
-        out.text,
-        "<path class=\"{stroke}\" d=\"M {at} {y} C {at} {up} {end} {up} {end} {y}\" marker-end=\"url(#{head})\"/>\n<text class=\"label\" x=\"{text_left}\" y=\"{text_top}\">"
-    );
-    out.note(done);
-    push_short(out, label);
-    out.push("</text>\n");
-}
-
-fn push_made(out: &mut Telling, at: u64, from: usize, to: usize) {
-    let start = lane_at(from);
-    let end = lane_at(to);
-    let done = write!(
-        out.text,
-        "<line class=\"made\" x1=\"{at}\" y1=\"{start}\" x2=\"{at}\" y2=\"{end}\"/>\n<circle class=\"begin\" cx=\"{at}\" cy=\"{end}\" r=\"3\"/>\n"
-    );
-    out.note(done);
-}
-
-fn push_polled(out: &mut Telling, class: Class, at: u64, lane: usize) {
-    let y = lane_at(lane);
-    let stroke = class.stroke;
-    let done = write!(
-        out.text,
-        "<circle class=\"poll {stroke}\" cx=\"{at}\" cy=\"{y}\" r=\"4\"/>\n"
-    );
-    out.note(done);
-}
-
-fn push_printed(out: &mut Telling, at: u64, lane: usize, text: &str) {
-    let y = lane_at(lane);
-    let left = at.saturating_add(6);
+    let left = at.saturating_add(12);
     let top = y.saturating_sub(14);
-    let done = write!(
-        out.text,
-        "<circle class=\"printed\" cx=\"{at}\" cy=\"{y}\" r=\"3\"/>\n<text class=\"print\" x=\"{left}\" y=\"{top}\">"
+    let form = if event.stands_out { OTHER_LOOP } else { LOOP };
+    push_form(
+        out,
+        form,
+        &[at, y, at, up, end, up, end, y, left, top],
+        &event.text,
     );
-    out.note(done);
-    push_short(out, text);
-    out.push("</text>\n");
 }
 
-fn push_failed(out: &mut Telling, at: u64, lane: usize, text: &str) {
-    let y = lane_at(lane);
+fn push_failed(out: &mut Telling, event: &Event, at: u64, y: u64) {
     let left = at.saturating_sub(5);
     let right = at.saturating_add(5);
     let high = y.saturating_sub(5);
     let low = y.saturating_add(5);
     let text_left = at.saturating_add(9);
     let top = y.saturating_sub(14);
-    let done = write!(
-        out.text,
-        "<path class=\"fault\" d=\"M {left} {high} L {right} {low} M {left} {low} L {right} {high}\"/>\n<text class=\"bad\" x=\"{text_left}\" y=\"{top}\">"
+    push_form(
+        out,
+        FAILED,
+        &[
+            left, high, right, low, left, low, right, high, text_left, top,
+        ],
+        &event.text,
     );
-    out.note(done);
-    push_short(out, text);
-    out.push("</text>\n");
 }
 
 fn push_mark(out: &mut Telling, event: &Event, at: u64) {
-    let lane = event.lane;
-    let class = class_of(event.stands_out);
-    match &event.mark {
-        Mark::Makes(to) => push_made(out, at, lane, *to),
-        Mark::Sends(to, label) if *to == lane => push_loop(out, class, at, lane, label),
-        Mark::Sends(to, label) => push_arrow(out, class, at, lane, *to, label),
-        Mark::Serves(_) | Mark::Answers => {}
-        Mark::Polls => push_polled(out, class, at, lane),
-        Mark::Prints(text) => push_printed(out, at, lane, text),
-        Mark::Fails(text) => push_failed(out, at, lane, text),
+    let y = lane_at(event.lane);
+    match event.mark {
+        Mark::Makes(to) => {
+            let end = lane_at(to);
+            push_form(out, MADE, &[at, y, at, end, at, end], "");
+        }
+        Mark::Sends(to) => {
+            if to == event.lane {
+                push_loop(out, event, at, y);
+            } else {
+                push_arrow(out, event, at, y, to);
+            }
+        }
+        Mark::Serves | Mark::Answers => {}
+        Mark::Polls => {
+            let class = if event.stands_out { "other" } else { "arrow" };
+            push_form(out, POLLED, &[at, y], class);
+        }
+        Mark::Prints => push_form(
+            out,
+            PRINTED,
+            &[at, y, at.saturating_add(6), y.saturating_sub(14)],
+            &event.text,
+        ),
+        Mark::Fails => push_failed(out, event, at, y),
     }
 }
 

@@ -1,19 +1,19 @@
 //! What is drawn of a run.
 
 /// What an activity does, drawn on its line. Another activity is told by the place of its line.
-#[derive(Drop)]
+#[derive(Clone, Copy)]
 pub enum Mark {
     Makes(usize),
-    /// A request goes to another line, with this label.
-    Sends(usize, String),
-    /// A service begins: of a request with this label.
-    Serves(String),
+    /// A request goes to another line.
+    Sends(usize),
+    /// A service begins.
+    Serves,
     /// The newest service ends.
     Answers,
     Polls,
-    Prints(String),
-    /// It stops at this fault.
-    Fails(String),
+    Prints,
+    /// It stops at a fault.
+    Fails,
 }
 
 /// What happens, in the order of the run.
@@ -21,6 +21,8 @@ pub enum Mark {
 pub struct Event {
     pub lane: usize,
     pub mark: Mark,
+    /// The label of the request that is sent or served, what is printed, or the fault.
+    pub text: String,
     /// It is drawn in red.
     pub stands_out: bool,
 }
@@ -49,7 +51,6 @@ pub struct Lane {
 /// A run.
 #[derive(Drop)]
 pub struct Run {
-    pub title: String,
     pub lanes: Vec<Lane>,
     pub events: Vec<Event>,
 }
@@ -58,7 +59,7 @@ pub struct Run {
 fn next_of(lanes: &[Lane], lane: usize) -> Option<usize> {
     match lanes.get(lane)?.rest {
         Rest::Awaits(to) => to,
-        Rest::Done | Rest::Serving | Rest::Running | Rest::Further | Rest::Failed => None,
+        _ => None,
     }
 }
 

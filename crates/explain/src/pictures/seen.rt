@@ -4,10 +4,10 @@ ghost use Rattle.std.specs.Prelude.{◌≤◌, IfNone, IfOk, length};
 ghost use Rattle.explain.specs.Large.{IsLarge};
 
 use crate::events::{EventsRun, RunEvent, What, fault_text};
-use crate::pictures::picture::{MOST_LANES, are_many, picture_of};
+use crate::pictures::picture::{MOST_LANES, Title, are_many, picture_of};
 use crate::pictures::run::{Event, Lane, Mark, Rest, Run};
 use crate::text_pieces::{Telling, push_line};
-use asp_model::{ActivityName, ActivityReport, FutureName, Label, Line, Status};
+use asp_model::{ActivityName, ActivityReport, FutureName, Status};
 use state_lines::push_name;
 use std::alloc::{AllocError, Global};
 
@@ -28,37 +28,17 @@ pub fn draw(
     if are_many(drawn.len(), seen.events.len()) {
         return Ok(None);
     }
-    let run = run_of(alloc, file, from, seen, &drawn, entry)?;
-    Ok(Some(picture_of(alloc, &run)?))
-}
-
-fn run_of(
-    alloc: Global,
-    file: &str,
-    from: u64,
-    seen: &EventsRun,
-    drawn: &[usize],
-    entry: Option<usize>,
-) -> Result<Run, AllocError> {
-    let title = title_of(alloc, file, from, seen)?;
-    let lanes = lanes_of(alloc, seen, drawn, goes_on(from, seen))?;
-    let events = marks_in(alloc, seen, drawn, entry)?;
-    Ok(Run {
-        title,
-        lanes,
-        events,
-    })
-}
-
-// Which events these are, of how many.
-fn title_of(alloc: Global, file: &str, from: u64, seen: &EventsRun) -> Result<String, AllocError> {
-    let all = seen.all;
-    let count = seen.events.len() as u64;
-    if count == 0 {
-        return format!(in alloc; "{file}: no events from {from} on, of {all}");
-    }
-    let last = from.saturating_add(count - 1);
-    format!(in alloc; "{file}: events {from} to {last} of {all}")
+    let title = Title {
+        file,
+        from,
+        count: seen.events.len() as u64,
+        all: seen.all,
+    };
+    let run = Run {
+        lanes: lanes_of(alloc, seen, &drawn, goes_on(from, seen))?,
+        events: marks_in(alloc, seen, &drawn, entry)?,
+    };
+    Ok(Some(picture_of(alloc, title, &run)?))
 }
 
 // More happens behind these events.
@@ -223,46 +203,37 @@ fn add_event(
     let Some(lane) = lane_at(activities, drawn, &event.by) else {
         return Ok(());
     };
-    if let Some(mark) = mark_of(alloc, activities, drawn, &event.what)? {
+    if let Some(mark) = mark_of(activities, drawn, &event.what) {
         events.push(Event {
             lane,
             mark,
+            text: text_of(alloc, &event.what)?,
             stands_out,
         })?;
     }
     Ok(())
 }
 
-fn mark_of(
-    alloc: Global,
-    activities: &[ActivityReport],
-    drawn: &[usize],
-    what: &What,
-) -> Result<Option<Mark>, AllocError> {
+fn mark_of(activities: &[ActivityReport], drawn: &[usize], what: &What) -> Option<Mark> {
     match what {
-        What::Creates(name) => Ok(match lane_at(activities, drawn, name) {
-            Some(lane) => Some(Mark::Makes(lane)),
-            None => None,
-        }),
-        What::Sends(to, asked) => match lane_at(activities, drawn, to) {
-            Some(lane) => Ok(Some(Mark::Sends(lane, text_of(alloc, &asked.label)?))),
-            None => Ok(None),
-        },
-        What::Serves(Some(asked)) => Ok(Some(Mark::Serves(text_of(alloc, &asked.label)?))),
-        What::Serves(None) => Ok(None),
-        What::Answers(_, _) => Ok(Some(Mark::Answers)),
-        What::Polls => Ok(Some(Mark::Polls)),
-        What::Prints(line) => Ok(Some(Mark::Prints(line_text(alloc, line)?))),
-        What::Fails(fault) => Ok(Some(Mark::Fails(String::from_str(alloc, fault_text(*fault))?))),
+        What::Creates(made) => Some(Mark::Makes(lane_at(activities, drawn, made)?)),
+        What::Sends(to, _) => Some(Mark::Sends(lane_at(activities, drawn, to)?)),
+        What::Serves(Some(_)) => Some(Mark::Serves),
+        What::Serves(None) => None,
+        What::Answers(_, _) => Some(Mark::Answers),
+        What::Polls => Some(Mark::Polls),
+        What::Prints(_) => Some(Mark::Prints),
+        What::Fails(_) => Some(Mark::Fails),
     }
 }
 
-fn text_of(alloc: Global, label: &Label) -> Result<String, AllocError> {
-    String::from_str(alloc, label.text.as_str())
-}
-
-fn line_text(alloc: Global, line: &Line) -> Result<String, AllocError> {
+fn text_of(alloc: Global, what: &What) -> Result<String, AllocError> {
     let mut text = Telling::new(alloc);
-    push_line(&mut text, line);
+    match what {
+        What::Sends(_, asked) | What::Serves(Some(asked)) => text.push(asked.label.text.as_str()),
+        What::Prints(line) => push_line(&mut text, line),
+        What::Fails(fault) => text.push(fault_text(*fault)),
+        What::Creates(_) | What::Serves(None) | What::Answers(_, _) | What::Polls => {}
+    }
     text.whole()
 }

@@ -1,7 +1,6 @@
 //! Texts in XML.
 
 use crate::text_pieces::Telling;
-use std::alloc::{AllocError, Global};
 
 /// More characters of a text are not shown.
 const MOST_SHOWN: usize = 24;
@@ -48,9 +47,18 @@ pub fn push_short(out: &mut Telling, text: &str) {
     }
 }
 
-/// The text as XML has it, cut off where it is long.
-pub fn escaped(alloc: Global, text: &str) -> Result<String, AllocError> {
-    let mut out = Telling::new(alloc);
-    push_short(&mut out, text);
-    out.whole()
+/// Adds a form: each `@` in it is the next of these numbers, and each `~` the text, as XML has it
+/// and cut off where it is long.
+pub fn push_form(out: &mut Telling, form: &str, numbers: &[u64], text: &str) {
+    let mut next = 0;
+    for c in form.chars() {
+        match c {
+            '~' => push_short(out, text),
+            '@' if next < numbers.len() => {
+                out.push_count(numbers[next]);
+                next += 1;
+            }
+            c => push_char(out, c),
+        }
+    }
 }
