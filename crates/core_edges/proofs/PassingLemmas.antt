@@ -206,3 +206,12 @@ module _ {P : Type 0} (answers : Answering P) (counts : Counting P) where
       let same = same_strategies old mid h.others in
       subst (λ s. AreAnswered answers counts s old new) same
       (answered_then answers counts (strategy_in mid) old mid new (none_answered answers counts (strategy_in mid) old mid (ap (λ x. x.edges) h.holders ∙ noted_edges d old.holders.holders) h.answers h.policies) k)
+
+-- cells of which none is a future hold none
+pub plain_held : (cs : CodedStore) → coded.ArePlain cs → futures_held cs ≡ []
+plain_held [] h = refl
+plain_held (coded.Number n ∷ cs) h = plain_held cs h.1
+plain_held (coded.Object class ns ∷ cs) h = plain_held cs h.1
+plain_held (coded.Reference n ∷ cs) h = plain_held cs h.1
+plain_held (coded.Future f ∷ cs) h = absurd h.0
+plain_held (coded.Group ns ∷ cs) h = plain_held cs h.1

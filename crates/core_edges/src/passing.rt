@@ -33,6 +33,9 @@ use update_policy::{Strategy, UpdatePolicy};
 fn holds_futures(cells: &Cells) -> bool
     ensures none { OnFalse result (futures_held cells.now.items ≡ []) }
 {
+    if let Some(_) = cells.plain() {
+        return false;
+    }
     for place in 0..cells.len() {
         match future_in(cells.view(place)) {
             Some(_) => return true,
@@ -118,6 +121,9 @@ impl<P: UpdatePolicy> Edges<P> {
         ensures passed { let fs = futures_held cells.now.items in
             OnOk result (ArePassed P.answer P.asked fs from.now to.now self.old self.new) }
     {
+        if let Some(_) = cells.plain() {
+            return Ok(());
+        }
         for place in 0..cells.len() {
             self.pass_cell(cells.view(place), from, to)?;
         }

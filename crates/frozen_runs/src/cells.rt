@@ -10,12 +10,13 @@ ghost use Rattle.code_table.specs.Shapes.{cell_shape, class_object, store_of};
 ghost use Rattle.code_table.specs.Sound.{MethodsBelow, MethodsSound};
 ghost use Rattle.code_table.specs.Tables.{object_of, pieces};
 ghost use Rattle.frozen_runs.specs.Pieces.{place_piece};
+ghost use Rattle.code_table.specs.Places.{placed};
 
 use crate::methods::put_methods;
 use asp_model::Label;
 use checkpoint_text::{put_future, put_name, put_number, put_signed, put_text};
 use code_reading::{DecodeError, behind};
-use code_table::{Cells, Class, Code, Object, View};
+use code_table::{Cells, Class, Code, Object, Places, View};
 use std::alloc::{AllocError, Global};
 
 /// Writes cells over this code.
@@ -64,7 +65,7 @@ pub fn put_cell(
         }
         View::Group(members) => {
             put_number(text, 4)?;
-            put_places(text, members)?;
+            put_places(text, &members.listed(alloc)?)?;
             Ok(())
         }
     }
@@ -77,7 +78,7 @@ fn put_object(
     object: Object,
 ) -> Result<(), DecodeError>
     ensures adds { let class = class_at code.now object.entry.class in
-        let shape = class_object code.now object.entry.places.now class in
+        let shape = class_object code.now (placed object.entry.places) class in
         OnOk result (Adds text.old (cell_items shape) text.new) }
 {
     match code.class(object.class) {
@@ -87,7 +88,10 @@ fn put_object(
             put_number(text, 0)?;
             Ok(())
         }
-        Some(class) => put_class(alloc, text, code, class, object.places),
+        Some(class) => {
+            let places = object.places.listed(alloc)?;
+            put_class(alloc, text, code, class, &places)
+        }
     }
 }
 

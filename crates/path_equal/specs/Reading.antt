@@ -9,6 +9,7 @@ use Rattle.asp_model.specs.Term.{locations}
 use Rattle.code_table.specs.declared.code.MethodCode.{MethodCode}
 use Rattle.code_table.specs.Classes.{class_at}
 use Rattle.code_table.specs.Shapes.{class_object}
+use Rattle.code_table.specs.Places.{placed}
 use Rattle.deep_copy.specs.Reached.{used_places}
 use Rattle.def_paths.specs.Places.{Place, Side}
 use Rattle.def_paths.specs.PathLabels.{PathLabel, To_field, To_member, To_captured, number_by}
@@ -52,7 +53,7 @@ blank_found c = found_of (Some (moved_cell (λ n. 0) c))
 
 abbrev pub found_shape : Found → FoundShape
 found_shape (found.Number n) = Number n
-found_shape (found.Object o k) = blank_found (class_object k.now o.places.now (class_at k.now o.class))
+found_shape (found.Object o k) = blank_found (class_object k.now (placed o.places) (class_at k.now o.class))
 found_shape (found.Reference n) = Reference n.now
 found_shape (found.Group size) = Group size
 found_shape (found.Unfilled f) = Unfilled (future_shape f.now)

@@ -23,12 +23,13 @@ ghost use Rattle.path_equal.specs.Reading.{
   child_cell,
   label_shape,
 };
+ghost use Rattle.code_table.specs.Places.{placed};
 ghost use Rattle.state_lines.specs.Sights.{Sees, seen_shape};
 ghost use Rattle.run_ends.specs.Reads.{IsAt, seen_value};
 
 use crate::labels::PathLabel;
 use asp_model::Label;
-use code_table::{MethodCode, Parcel, Place};
+use code_table::{MethodCode, Parcel, Place, Places};
 use run_ends::At;
 use state_lines::{Seen, Sight};
 
@@ -77,7 +78,7 @@ fn field(seen: Seen, label: &Label) -> Option<Place>
     };
     let class = code.class(object.class)?;
     match class.field(label) {
-        Some(number) => place_at(object.places, number),
+        Some(number) => object.places.get(number),
         None => None,
     }
 }
@@ -88,13 +89,7 @@ fn member(seen: Seen, number: usize) -> Option<Place>
     let Seen::Group(members) = seen else {
         return None;
     };
-    place_at(members, number)
-}
-
-fn place_at(places: &[Place], number: usize) -> Option<Place>
-    ensures { result ≡ slice_get places.now number }
-{
-    places.get(number).copied()
+    members.get(number)
 }
 
 fn captured(seen: Seen, method: &Label, nth: usize) -> Option<Place>
@@ -104,26 +99,26 @@ fn captured(seen: Seen, method: &Label, nth: usize) -> Option<Place>
         return None;
     };
     let class = code.class(object.class)?;
-    let held = behind_fields(object.places, class.fields.len());
-    captured_in(&class.methods, held, method, nth)
+    let held = behind_fields(&object.places, class.fields.len());
+    captured_in(&class.methods, &held, method, nth)
 }
 
 // Behind the places of so many fields.
-fn behind_fields(places: &[Place], fields: usize) -> &[Place]
-    ensures { result.now ≡ drop fields places.now }
+fn behind_fields<'a>(places: &Places<'a>, fields: usize) -> Places<'a>
+    ensures { placed result ≡ drop fields (placed places.now) }
 {
-    &places[fields.min(places.len())..]
+    places.behind(fields.min(places.len()))
 }
 
 // What methods captured stands behind each other.
-fn captured_in(methods: &[MethodCode], held: &[Place], label: &Label, nth: usize) -> Option<Place>
-    ensures cell { result ≡ captured_of label.now.text nth methods.now held.now }
+fn captured_in(methods: &[MethodCode], held: &Places, label: &Label, nth: usize) -> Option<Place>
+    ensures cell { result ≡ captured_of label.now.text nth methods.now (placed held.now) }
 {
     let mut start = 0;
     for method in methods {
         let count = (held.len() - start).min(method.captured.len());
         if label.text == method.label.text {
-            return used(&method.uses, &held[start..start + count], nth);
+            return used(&method.uses, &held.behind(start).first(count), nth);
         }
         start += count;
     }
@@ -131,8 +126,8 @@ fn captured_in(methods: &[MethodCode], held: &[Place], label: &Label, nth: usize
 }
 
 #[tactic(auto, using(crate::proofs::ReadLemmas::used_missing, crate::proofs::ReadLemmas::used_here, crate::proofs::ReadLemmas::used_later))]
-fn used(uses: &[usize], captured: &[Place], nth: usize) -> Option<Place>
-    ensures cell { result ≡ slice_get (used_places captured.now uses.now) nth }
+fn used(uses: &[usize], captured: &Places, nth: usize) -> Option<Place>
+    ensures cell { result ≡ slice_get (used_places (placed captured.now) uses.now) nth }
 {
     let mut left = nth;
     for slot in uses {
@@ -140,7 +135,7 @@ fn used(uses: &[usize], captured: &[Place], nth: usize) -> Option<Place>
             continue;
         }
         if left == 0 {
-            return Some(captured[*slot]);
+            return Some(captured.at(*slot));
         }
         left -= 1;
     }

@@ -13,6 +13,7 @@ use Rattle.code_table.specs.declared.code.Node.{Node}
 use Rattle.code_table.specs.Classes.{class_at}
 use Rattle.code_table.specs.Tables.{text_of}
 use Rattle.code_table.specs.declared.cells.Object.{Object}
+use Rattle.code_table.specs.Places.{placed}
 use Rattle.def_paths.specs.Places.{name_by, told}
 
 -- the text has these bytes more, at its end
@@ -49,4 +50,4 @@ text_by_class None places = object_text [] []
 text_by_class (Some k) places = text_of_class k places
 
 abbrev pub text_of_object : List Node → Object → List ℕ
-text_of_object code o = text_by_class (class_at code o.class) (length o.places.now)
+text_of_object code o = text_by_class (class_at code o.class) (length (placed o.places))

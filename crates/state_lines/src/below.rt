@@ -53,10 +53,13 @@ pub fn push_below(
 {
     match seen {
         Seen::Object(object, code) => match code.class(object.class) {
-            Some(class) => push_fields(alloc, due, parent, &class.fields, object.places),
+            Some(class) => {
+                let places = object.places.listed(alloc)?;
+                push_fields(alloc, due, parent, &class.fields, &places)
+            }
             None => Ok(()),
         },
-        Seen::Group(members) => push_members(alloc, due, parent, members),
+        Seen::Group(members) => push_members(alloc, due, parent, &members.listed(alloc)?),
         Seen::Number(_) | Seen::Reference(_) | Seen::Future(_) => Ok(()),
     }
 }

@@ -7,7 +7,7 @@ ghost use Rattle.def_paths.specs.StateLines.{is_compound};
 ghost use Rattle.state_lines.specs.Sights.{seen_shape};
 
 use asp_model::{ActivityName, FutureName};
-use code_table::{Code, Object, Parcel, Place, View};
+use code_table::{Code, Object, Parcel, Place, Places, View};
 use object_store::Store;
 
 /// A cell as it is read. Past the end of a store or a value the number 0 is read.
@@ -19,7 +19,7 @@ pub enum Seen<'a> {
     Reference(&'a ActivityName),
     Future(&'a FutureName),
     /// The members, in order.
-    Group(&'a [Place]),
+    Group(Places<'a>),
 }
 
 impl Seen<'_> {

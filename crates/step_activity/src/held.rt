@@ -5,12 +5,13 @@ ghost use Rattle.asp_model.specs.Contraction.{first_future, is_future, members_o
 ghost use Rattle.asp_model.specs.Store.{cell as cell_in};
 ghost use Rattle.code_table.specs.declared.code.Node.{Node as NodeShape};
 ghost use Rattle.code_table.specs.Shapes.{cell_shape, store_of};
+ghost use Rattle.code_table.specs.Places.{placed};
 ghost use Rattle.law_steps.specs.Linked.{Each};
 ghost use Rattle.step_activity.specs.Clear.{AreClearAt, IsClear};
 ghost use Rattle.step_activity.specs.Stances.{IsFutureOf, IsHeld, held_places};
 
 use asp_model::FutureName;
-use code_table::{Place, View};
+use code_table::{Place, Places, View};
 use object_store::Store;
 use step_reads::Strict;
 
@@ -48,12 +49,12 @@ fn future_at(store: &Store, place: Place) -> Option<Held<'_>>
 
 /// The first of these places that holds a future, where the first so many hold none: these are not
 /// looked at.
-fn first_of<'a>(store: &'a Store, places: &[Place], from: usize) -> Option<Held<'a>>
+fn first_of<'a>(store: &'a Store, places: &Places, from: usize) -> Option<Held<'a>>
     ensures held { (k : List NodeShape) → let s = store_of k store.now.cells in
-        first_future s (take from places.now) ≡ None → IsHeld s places.now result }
+        first_future s (take from (placed places.now)) ≡ None → IsHeld s (placed places.now) result }
 {
     for at in from..places.len() {
-        if let Some(held) = future_at(store, places[at]) {
+        if let Some(held) = future_at(store, places.at(at)) {
             return Some(held);
         }
     }
@@ -61,24 +62,24 @@ fn first_of<'a>(store: &'a Store, places: &[Place], from: usize) -> Option<Held<
 }
 
 /// The members of a group; none of what is no group.
-fn members_of(cell: View<'_>) -> &[Place]
-    ensures members { (k : List NodeShape) → result.now ≡ members_of (cell_shape k cell.entry) }
+fn members_of(cell: View<'_>) -> Places<'_>
+    ensures members { (k : List NodeShape) → placed result ≡ members_of (cell_shape k cell.entry) }
 {
     match cell {
         View::Group(members) => members,
-        View::Number(_) => &[],
-        View::Object(_) => &[],
-        View::Reference(_) => &[],
-        View::Future(_) => &[],
+        View::Number(_) => Places::of(&[]),
+        View::Object(_) => Places::of(&[]),
+        View::Reference(_) => Places::of(&[]),
+        View::Future(_) => Places::of(&[]),
     }
 }
 
-fn members_at(store: &Store, place: Place) -> &[Place]
+fn members_at(store: &Store, place: Place) -> Places<'_>
     ensures members { (k : List NodeShape) →
-        result.now ≡ members_of (cell_in (store_of k store.now.cells) place) }
+        placed result ≡ members_of (cell_in (store_of k store.now.cells) place) }
 {
     if place >= store.len() {
-        return &[];
+        return Places::of(&[]);
     }
     members_of(store.cell(place))
 }
@@ -98,7 +99,7 @@ pub fn first_held<'a>(store: &'a Store, strict: Strict, clear: usize) -> Option<
         },
         Strict::Members(place) => match future_at(store, place) {
             Some(held) => Some(held),
-            None => first_of(store, members_at(store, place), clear),
+            None => first_of(store, &members_at(store, place), clear),
         },
     }
 }
@@ -140,13 +141,13 @@ fn is_clear(store: &Store, place: Place) -> bool
 
 /// How many of these places are clear before the first that is not, where the first so many are:
 /// these are not looked at.
-fn clear_from(store: &Store, places: &[Place], from: usize) -> usize
+fn clear_from(store: &Store, places: &Places, from: usize) -> usize
     ensures clear { (k : List NodeShape) → let s = store_of k store.now.cells in
-        Each (IsClear s) (take from places.now) → Each (IsClear s) (take result places.now) }
-    ensures within { result ≤ length places.now }
+        Each (IsClear s) (take from (placed places.now)) → Each (IsClear s) (take result (placed places.now)) }
+    ensures within { result ≤ length (placed places.now) }
 {
     for at in from..places.len() {
-        if !is_clear(store, places[at]) {
+        if !is_clear(store, places.at(at)) {
             return at;
         }
     }
@@ -160,7 +161,7 @@ pub fn clear_at(store: &Store, strict: Strict, from: usize) -> usize
         AreClearAt s strict from → AreClearAt s strict result }
 {
     match strict {
-        Strict::Members(place) => clear_from(store, members_at(store, place), from),
+        Strict::Members(place) => clear_from(store, &members_at(store, place), from),
         Strict::Nothing => from,
         Strict::One(_) => from,
         Strict::Two(_, _) => from,

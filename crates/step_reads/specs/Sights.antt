@@ -8,6 +8,7 @@ use Rattle.asp_model.specs.Chase.{Chase}
 use Rattle.asp_model.specs.Shapes.{future_shape}
 use Rattle.code_table.specs.Classes.{class_at}
 use Rattle.code_table.specs.Shapes.{class_object}
+use Rattle.code_table.specs.Places.{placed}
 use Rattle.step_reads.specs.declared.seen.Seen.{Seen}
 use Rattle.step_reads.specs.declared.seen.Seen.TheVariants as seen
 use Rattle.step_reads.specs.declared.reading.Operand.{Operand}
@@ -21,10 +22,10 @@ use Rattle.step_reads.specs.Strict.{strict_places}
 
 abbrev pub seen_shape : Seen → CellShape
 seen_shape (seen.Number n) = Number n
-seen_shape (seen.Object o k) = class_object k.now o.places.now (class_at k.now o.class)
+seen_shape (seen.Object o k) = class_object k.now (placed o.places) (class_at k.now o.class)
 seen_shape (seen.Reference n) = Reference n.now
 seen_shape (seen.Future f) = Future (future_shape f.now)
-seen_shape (seen.Group ns) = Group ns.now
+seen_shape (seen.Group ns) = Group (placed ns)
 
 abbrev pub seen_face : Seen → Face
 seen_face x = face (seen_shape x)

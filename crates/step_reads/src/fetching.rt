@@ -53,9 +53,7 @@ fn members_at(alloc: Global, activity: &Activity, place: Place) -> Result<Vec<Pl
     ensures members { (a : ActivityShape) → StandsFor activity.now a →
         IfOk result (λ ns. ns.items ≡ members_of (cell_in a.store place)) }
 {
-    let places = members_of(read(activity.code(), activity.store(), place));
-    let mut members = Vec::with_capacity(alloc, places.len())?;
-    members.extend_from_slice(places)?;
+    let members = members_of(read(activity.code(), activity.store(), place)).listed(alloc)?;
     Ok(members)
 }
 

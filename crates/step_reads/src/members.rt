@@ -8,13 +8,14 @@ ghost use Rattle.asp_model.specs.Shapes.{future_shape};
 ghost use Rattle.asp_model.specs.Store.{cell as cell_in};
 ghost use Rattle.code_table.specs.Shapes.{parcel_shape, store_of};
 ghost use Rattle.future_table.specs.Values.{values_of};
+ghost use Rattle.code_table.specs.Places.{placed};
 ghost use Rattle.step_reads.specs.Passed.{members_passed, value_passed};
 ghost use Rattle.step_reads.specs.Sights.{first_missed, members_missed, value_missed};
 
 use crate::reading::{Operand, cell_of, root_of, through};
 use crate::seen::{Seen, members_of, read};
 use asp_model::FutureName;
-use code_table::{Code, Parcel, Place};
+use code_table::{Code, Parcel, Place, Places};
 use future_table::{Chase, FutureTable};
 use object_store::Store;
 
@@ -30,19 +31,19 @@ fn missed_at<'a>(
     code: &'a Code,
     store: &'a Store,
     futures: &'a FutureTable,
-    places: &[Place],
+    places: &Places,
     from: usize,
 ) -> Missed<'a>
     requires passed { let s = store_of code.now store.now.cells in
-        first_missed (chase (values_of futures.now)) s (take from places.now) ≡ None }
+        first_missed (chase (values_of futures.now)) s (take from (placed places.now)) ≡ None }
     ensures missed { let s = store_of code.now store.now.cells in
         option_map (λ f. future_shape f.now) result.future
-        ≡ first_missed (chase (values_of futures.now)) s places.now }
+        ≡ first_missed (chase (values_of futures.now)) s (placed places.now) }
     ensures passed { let s = store_of code.now store.now.cells in
-        first_missed (chase (values_of futures.now)) s (take result.passed places.now) ≡ None }
+        first_missed (chase (values_of futures.now)) s (take result.passed (placed places.now)) ≡ None }
 {
     for at in from..places.len() {
-        match through(futures, read(code, store, places[at])) {
+        match through(futures, read(code, store, places.at(at))) {
             Operand::Awaits(future) => {
                 return Missed {
                     future: Some(future),
@@ -73,7 +74,7 @@ fn missed_in<'a>(futures: &'a FutureTable, parcel: &'a Parcel, from: usize) -> M
 {
     let places = members_of(root_of(parcel));
     for at in from..places.len() {
-        match through(futures, cell_of(parcel, places[at])) {
+        match through(futures, cell_of(parcel, places.at(at))) {
             Operand::Awaits(future) => {
                 return Missed {
                     future: Some(future),
@@ -127,7 +128,7 @@ pub fn missed_member<'a>(
 {
     match read(code, store, place) {
         Seen::Future(future) => missed_value(futures, future, from),
-        Seen::Group(members) => missed_at(code, store, futures, members, from),
+        Seen::Group(members) => missed_at(code, store, futures, &members, from),
         Seen::Number(_) => none_missed(),
         Seen::Object(_, _) => none_missed(),
         Seen::Reference(_) => none_missed(),

@@ -5,6 +5,7 @@ ghost use Rattle.asp_model.specs.Shapes.{sign_shape};
 ghost use Rattle.asp_model.specs.Term.{has_text};
 ghost use Rattle.code_table.specs.Classes.{class_at};
 ghost use Rattle.code_table.specs.Shapes.{class_object};
+ghost use Rattle.code_table.specs.Places.{placed};
 ghost use Rattle.step_reads.specs.Faces.{
   at_call as call_at,
   at_field as field_at,
@@ -30,11 +31,11 @@ ghost use Rattle.step_reads.specs.Sights.{seen_face};
 use crate::prospect::Prospect;
 use crate::seen::Seen;
 use asp_model::{Fault, Label, Sign};
-use code_table::{Code, Object};
+use code_table::{Code, Object, Places};
 use step_rows::{Redex, operate};
 
 fn has_field(object: Object, code: &Code, label: &Label) -> bool
-    ensures field { let c = class_object code.now object.entry.places.now
+    ensures field { let c = class_object code.now (placed object.entry.places)
         (class_at code.now object.entry.class) in
         result ≡ has_text label.now.text (field_labels (face c)) }
 {
@@ -49,7 +50,7 @@ fn has_field(object: Object, code: &Code, label: &Label) -> bool
 
 /// It has a method with this label, and with so many parameters.
 fn has_method(object: Object, code: &Code, label: &Label, count: usize) -> bool
-    ensures method { let c = class_object code.now object.entry.places.now
+    ensures method { let c = class_object code.now (placed object.entry.places)
         (class_at code.now object.entry.class) in
         result ≡ has_count count (head_at label.now.text (method_heads (face c))) }
 {

@@ -4,10 +4,11 @@ ghost use Rattle.std.specs.Prelude.{◌≡◌};
 ghost use Rattle.asp_model.specs.Contraction.{members_of};
 ghost use Rattle.asp_model.specs.Store.{cell as cell_in};
 ghost use Rattle.code_table.specs.Shapes.{cell_shape, store_of};
+ghost use Rattle.code_table.specs.Places.{placed};
 ghost use Rattle.step_reads.specs.Sights.{seen_shape};
 
 use asp_model::{ActivityName, FutureName};
-use code_table::{Code, Object, Place, View};
+use code_table::{Code, Object, Place, Places, View};
 use object_store::Store;
 
 /// A cell as it is read. Past the end of a store the number 0 is read.
@@ -19,7 +20,7 @@ pub enum Seen<'a> {
     Reference(&'a ActivityName),
     Future(&'a FutureName),
     /// The members, in order.
-    Group(&'a [Place]),
+    Group(Places<'a>),
 }
 
 pub fn see<'a>(code: &'a Code, cell: View<'a>) -> Seen<'a>
@@ -35,15 +36,15 @@ pub fn see<'a>(code: &'a Code, cell: View<'a>) -> Seen<'a>
 }
 
 /// The members of a group; none of what is no group.
-pub fn members_of<'a>(seen: Seen<'a>) -> &'a [Place]
-    ensures members { result.now ≡ members_of (seen_shape seen.entry) }
+pub fn members_of<'a>(seen: Seen<'a>) -> Places<'a>
+    ensures members { placed result ≡ members_of (seen_shape seen.entry) }
 {
     match seen {
         Seen::Group(members) => members,
-        Seen::Number(_) => &[],
-        Seen::Object(_, _) => &[],
-        Seen::Reference(_) => &[],
-        Seen::Future(_) => &[],
+        Seen::Number(_) => Places::of(&[]),
+        Seen::Object(_, _) => Places::of(&[]),
+        Seen::Reference(_) => Places::of(&[]),
+        Seen::Future(_) => Places::of(&[]),
     }
 }
 

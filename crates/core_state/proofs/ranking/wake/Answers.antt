@@ -32,4 +32,4 @@ pub returns-clause-here : goal.returns-clause-here
 returns-clause-here c = λ h code t r.
     let k = c.args.number in
     let told : rank_shape c.in_ok-rank.rank ≡ rank_of_number t k = c.in_ok-rank.ensures.rank h code t r.0 in
-    subst (λ z. OnOk c.rank-2.result (IsRanked c.rank-2.new.self k z)) told c.rank-2.ensures.here
+    subst (λ z. OnOk c.rank.result (IsRanked c.rank.new.self k z)) told c.rank.ensures.here

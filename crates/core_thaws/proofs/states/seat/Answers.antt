@@ -18,8 +18,8 @@ returns c =
         seats = added.seats;
         here = λ b rs stands.
             let told = c.in_ok-rank.ensures.rank b rs c.args.name (subst (λ x. Stands x b rs) (sym c.as_ref.ensures) stands) in
-            subst (λ k. IsRanked c.rank-2.new.self k (rank_of (values_of old.futures) rs c.args.name b)) added.number (subst (IsRanked c.rank-2.new.self c.in_ok-number.number) told c.in_ok-rank-2.ensures.here);
-        others = subst (λ k. OthersStay k old.ranks c.rank-2.new.self) added.number c.in_ok-rank-2.ensures.others;
+            subst (λ k. IsRanked c.rank.new.self k (rank_of (values_of old.futures) rs c.args.name b)) added.number (subst (IsRanked c.rank.new.self c.in_ok-number.number) told c.in_ok-rank-2.ensures.here);
+        others = subst (λ k. OthersStay k old.ranks c.rank.new.self) added.number c.in_ok-rank-2.ensures.others;
         futures = refl;
         journal = refl;
         left = refl;

@@ -6,15 +6,16 @@ use Rattle.state_lines.specs.declared.seen.Seen.{Seen}
 use Rattle.path_equal.specs.Reading.{child_cell, nth_of}
 use Rattle.state_lines.specs.Sights.{seen_shape}
 use Rattle.path_equal.proofs.ReadLemmas.{field_cell}
+use Rattle.code_table.specs.Places.{placed}
 use Rattle.path_equal.proofs.children.field.Goals as goal
 
 pub returns-in-Some : goal.returns-in-Some
 returns-in-Some c =
     let code = c.in-Object.code.now in
-    let ns = c.in-Object.object.places.now in
+    let ns = placed c.in-Object.object.places in
     let l = c.args.label.now.text in
     record {
-      cell = c.place_at.ensures
+      cell = c.get.ensures.place
           ∙ ap (nth_of ns) c.in-Some.ensures.number
           ∙ field_cell code c.in_ok-class.class.now ns l
           ∙ ap (λ (k : Option Class). child_cell (class_object code ns k) (To_field l)) c.in_ok-class.ensures.class
@@ -24,7 +25,7 @@ returns-in-Some c =
 pub returns-in-None : goal.returns-in-None
 returns-in-None c =
     let code = c.in-Object.code.now in
-    let ns = c.in-Object.object.places.now in
+    let ns = placed c.in-Object.object.places in
     let l = c.args.label.now.text in
     record {
       cell = ap (nth_of ns) c.in-None.ensures.number

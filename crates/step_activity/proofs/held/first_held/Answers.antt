@@ -8,6 +8,7 @@ use Rattle.step_activity.specs.Stances.{IsHeld, held_places}
 use Rattle.step_activity.specs.Clear.{AreClear, AreClearAt}
 use Rattle.step_activity.proofs.ClearLemmas.{members_none}
 use Rattle.step_activity.proofs.HeldLemmas.{held_behind, held_more}
+use Rattle.code_table.specs.Places.{placed}
 use Rattle.step_activity.proofs.held.first_held.Goals as goal
 
 pub returns-in-One : goal.returns-in-One
@@ -48,7 +49,7 @@ returns-in-None-future_at c = record {
       let S : Store = store_of k c.args.store.now.cells in
       let i : ℕ = c.in-Members.place in
       let o : Option Held = c.first_of.result in
-      let are : c.members_at.result.now ≡ members_of (cell S i) = c.members_at.ensures.members k in
+      let are : placed c.members_at.result ≡ members_of (cell S i) = c.members_at.ensures.members k in
       let here : AreClear S (cell S i) c.args.clear = subst (λ (z : Strict). AreClearAt S z c.args.clear) c.in-Members.is clear in
       let none : first_future S (take c.args.clear (members_of (cell S i))) ≡ None = members_none S (cell S i) c.args.clear here in
       let members : IsHeld S (members_of (cell S i)) o = subst (λ (ns : List ℕ). IsHeld S ns o) are (c.first_of.ensures.held k (ap (λ (ns : List ℕ). first_future S (take c.args.clear ns)) are ∙ none)) in

@@ -13,7 +13,7 @@ returns-then-place-len c = record {
       let s : CodedStore = c.args.store.now.cells in
       let size : c.len.result ≡ length (store_of k s) = c.len.ensures ∙ sym (length-store_of k s) in
       let past : length (store_of k s) ≤ c.args.place = subst (λ (n : ℕ). n ≤ c.args.place) size c.if-place-len.true in
-      sym (ap members_of (past_end (store_of k s) c.args.place past));
+      c.of.ensures.places ∙ sym (ap members_of (past_end (store_of k s) c.args.place past));
 }
 
 pub returns : goal.returns

@@ -3,9 +3,10 @@ use Rattle.asp_model.specs.Chase.{chase}
 use Rattle.code_table.specs.Shapes.{store_of}
 use Rattle.future_table.specs.Values.{values_of}
 use Rattle.step_reads.specs.Sights.{first_missed}
+use Rattle.code_table.specs.Places.{placed}
 use Rattle.step_reads.proofs.members.missed_at.Given as goal
 
 abbrev pub invariant-loop-at : goal.invariant-loop-at
 invariant-loop-at l =
     let chases = chase (values_of l.futures) in let s = store_of l.code l.store.cells in
-    first_missed chases s (take l.at l.places) ≡ None
+    first_missed chases s (take l.at (placed l.places)) ≡ None

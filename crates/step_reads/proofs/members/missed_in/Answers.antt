@@ -8,13 +8,14 @@ use Rattle.code_table.specs.Shapes.{parcel_shape}
 use Rattle.future_table.specs.Values.{values_of}
 use Rattle.step_reads.specs.Sights.{Misses, Shows, first_missed, seen_face, sight}
 use Rattle.step_reads.proofs.PassedLemmas.{all_passed, passed_all, passed_on, passed_to}
+use Rattle.code_table.specs.Places.{placed}
 use Rattle.step_reads.proofs.members.missed_in.Goals as goal
 
 pub loop-at-init : goal.loop-at-init
 loop-at-init c =
     let chases : FutureShape → Chase = chase (values_of c.args.futures.now) in
     let s : Store = (parcel_shape c.args.parcel.now).cells in
-    let ns : List ℕ = c.members_of-places.result.now in
+    let ns : List ℕ = placed c.members_of-places.result in
     let are : ns ≡ members_of (cell s 0) = c.members_of-places.ensures.members ∙ ap members_of c.root_of.ensures.root in
     ap (λ (l : List ℕ). first_missed chases s (take c.args.from l)) are ∙ c.requires.passed
 
@@ -22,30 +23,32 @@ pub returns-in-Awaits : goal.returns-in-Awaits
 returns-in-Awaits c =
     let chases : FutureShape → Chase = chase (values_of c.args.futures.now) in
     let s : Store = (parcel_shape c.args.parcel.now).cells in
-    let ns : List ℕ = c.members_of-places.result.now in
+    let ns : List ℕ = placed c.members_of-places.result in
     let are : ns ≡ members_of (cell s 0) = c.members_of-places.ensures.members ∙ ap members_of c.root_of.ensures.root in
     let i : ℕ = c.loop-at.at in
-    let lt : i < length ns = omega arith in
-    let here : sight chases (cell s (get_or ns i 0)) ≡ Misses (future_shape c.in-Awaits.future.now) = sym (c.in-Awaits.ensures.sight ∙ ap (sight chases) c.cell_of.ensures.cell) in
+    let lt : i < length ns = omega (arith, c.len-at-end.ensures) in
+    let is : c.at.result ≡ get_or ns i 0 = c.at.ensures.place 0 in
+    let here : sight chases (cell s (get_or ns i 0)) ≡ Misses (future_shape c.in-Awaits.future.now) = sym (c.in-Awaits.ensures.sight ∙ ap (sight chases) (c.cell_of.ensures.cell ∙ ap (cell s) is)) in
     record { missed = sym (passed_to chases s ns i (future_shape c.in-Awaits.future.now) lt c.loop-at.invariant here) ∙ ap (first_missed chases s) are; passed = sym (ap (λ (l : List ℕ). first_missed chases s (take (i) l)) are) ∙ c.loop-at.invariant }
 
 pub loop-at-preserved : goal.loop-at-preserved
 loop-at-preserved c =
     let chases : FutureShape → Chase = chase (values_of c.args.futures.now) in
     let s : Store = (parcel_shape c.args.parcel.now).cells in
-    let ns : List ℕ = c.members_of-places.result.now in
+    let ns : List ℕ = placed c.members_of-places.result in
     let are : ns ≡ members_of (cell s 0) = c.members_of-places.ensures.members ∙ ap members_of c.root_of.ensures.root in
     let i : ℕ = c.loop-at.at in
-    let lt : i < length ns = omega arith in
-    let here : sight chases (cell s (get_or ns i 0)) ≡ Shows (seen_face c.in-Reads._seen) = sym (c.in-Reads.ensures.sight ∙ ap (sight chases) c.cell_of.ensures.cell) in
+    let lt : i < length ns = omega (arith, c.len-at-end.ensures) in
+    let is : c.at.result ≡ get_or ns i 0 = c.at.ensures.place 0 in
+    let here : sight chases (cell s (get_or ns i 0)) ≡ Shows (seen_face c.in-Reads._seen) = sym (c.in-Reads.ensures.sight ∙ ap (sight chases) (c.cell_of.ensures.cell ∙ ap (cell s) is)) in
     passed_on chases s ns i (seen_face c.in-Reads._seen) lt c.loop-at.invariant here
 
 pub returns : goal.returns
 returns c =
     let chases : FutureShape → Chase = chase (values_of c.args.futures.now) in
     let s : Store = (parcel_shape c.args.parcel.now).cells in
-    let ns : List ℕ = c.members_of-places.result.now in
+    let ns : List ℕ = placed c.members_of-places.result in
     let are : ns ≡ members_of (cell s 0) = c.members_of-places.ensures.members ∙ ap members_of c.root_of.ensures.root in
-    let le : length ns ≤ c.loop-at.at = omega arith in
+    let le : length ns ≤ c.loop-at.at = omega (arith, c.len-at-end.ensures) in
     let none : first_missed chases s ns ≡ None = passed_all chases s ns c.loop-at.at le c.loop-at.invariant in
-    record { missed = sym none ∙ ap (first_missed chases s) are; passed = sym (ap (λ (l : List ℕ). first_missed chases s (take (length ns) l)) are) ∙ all_passed chases s ns none }
+    record { missed = sym none ∙ ap (first_missed chases s) are; passed = sym (ap (λ (l : List ℕ). first_missed chases s (take c.len.result l)) are) ∙ ap (λ (n : ℕ). first_missed chases s (take n ns)) c.len.ensures ∙ all_passed chases s ns none }

@@ -16,7 +16,7 @@ use Rattle.step_activity.proofs.actor.Actor.create.Goals as goal
 pub returns-clause-done : goal.returns-clause-done
 returns-clause-done c = λ a rs cs r h e.
     let x : Actor = c.args.self.now in
-    let y = c.created-3.new.self in
+    let y = c.created-2.new.self in
     let n = c.args.name.now in
     let z : Actor = record x { activity = y; creations = c.in_ok-number.number; clear = 0 } in
     let counted : c.in_ok-number.number ≡ suc a.creations = c.in_ok-number.ensures ∙ ap suc h.creations in
