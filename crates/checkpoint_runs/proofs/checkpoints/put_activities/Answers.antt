@@ -29,20 +29,6 @@ loop-name-preserved c = λ x h.
           ∙ all.1,
     )
 
-pub loop-name-preserved-in_ok-put_activity : goal.loop-name-preserved-in_ok-put_activity
-loop-name-preserved-in_ok-put_activity c = λ x h.
-    let all = c.loop-name.invariant x h in
-    let old = c.loop-name.name-iterator.rest.items in
-    let new = c.next.new.self.rest.items in
-    let step : old ≡ (c.in-Some.name, c.in-Some.actor) ∷ new = c.in-Some.ensures.steps.0 in
-    let left = subst (AreFrozenIn c.args.code.now x) step all.0 in
-    let here = subst (IsFrozenAt c.args.code.now x c.in-Some.name) (sym c.into_inner.ensures) left.0 in (
-      left.1,
-      one_written x c.in-Some.name (map (λ e. e.0) new) c.loop-name.pieces.items c.put_activity.new.pieces.items (c.in_ok-put_activity.ensures.adds x here)
-          ∙ ap (λ (es : List (Name × Box Actor)). text_in c.loop-name.pieces.items ++ text_of (activity_lines x (map (λ e. e.0) es))) (sym step)
-          ∙ all.1,
-    )
-
 pub returns : goal.returns
 returns c = record {
   adds = λ x h.
